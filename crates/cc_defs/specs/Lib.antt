@@ -1,0 +1,10 @@
+pub mod Description
+pub mod Events
+pub mod Formulas
+pub mod Histories
+pub mod Limits
+pub mod Paths
+pub mod Rows
+pub mod Rules
+pub mod Texts
+pub mod Theories

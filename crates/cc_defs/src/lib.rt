@@ -1,0 +1,16 @@
+//! Plain data of the causal calculator, and the definitions that every other crate cites: causal theories and
+//! their models, the rules of a horizon, states, transitions, paths, histories of a query and the printed texts.
+//! It has no algorithm. The definitions stand in `specs/`, and docs/definitions.md lists them.
+#![tactic(auto)]
+
+mod event;
+mod lists;
+mod refusal;
+mod rows;
+mod signature;
+
+pub use event::{Ending, Event, Told};
+pub use lists::{Bytes, Key, Name, Nums, Row, Text};
+pub use refusal::{Fault, LimitAt, OutOfMemory, Refusal};
+pub use rows::compare_rows;
+pub use signature::{At, Const, Kind, LawKind, Symbol};

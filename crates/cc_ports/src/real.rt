@@ -1,0 +1,109 @@
+//! The machine's own desk: the trusted edge.
+ghost use Rattle.std.specs.Prelude.{◌≡◌, ◌+◌};
+
+use crate::{Desk, Failed, To};
+use std::fs::File;
+use std::io::{Read, Write};
+
+/// Files and standard streams of the machine. It counts its faults, tells nothing of its contents, and drops what is
+/// given to the log while no log was begun. Any error of the machine counts as a fault, want of memory included.
+#[derive(Drop)]
+pub struct RealDesk {
+    rt: HostRuntime,
+    reading: Option<File>,
+    log: Option<File>,
+    read_faults: u64,
+    write_faults: u64,
+}
+
+impl RealDesk {
+    pub fn new(rt: HostRuntime) -> RealDesk {
+        RealDesk {
+            rt,
+            reading: None,
+            log: None,
+            read_faults: 0,
+            write_faults: 0,
+        }
+    }
+
+    fn read_failed(&mut self) -> Failed {
+        self.read_faults = self.read_faults.saturating_add(1);
+        Failed
+    }
+
+    fn write_failed(&mut self) -> Failed {
+        self.write_faults = self.write_faults.saturating_add(1);
+        Failed
+    }
+}
+
+impl Desk for RealDesk {
+    ghost use Rattle.std.specs.Prelude.{None, is_some};
+
+    ghost told = { λ _. None };
+
+    ghost begun = { λ desk. is_some desk.log };
+
+    ghost read_faults = { λ desk. desk.read_faults };
+
+    ghost write_faults = { λ desk. desk.write_faults };
+
+    fn open_file(&mut self, name: &str) -> Result<(), Failed> {
+        self.reading = None;
+        match std::fs::open(&self.rt, name) {
+            Ok(file) => {
+                self.reading = Some(file);
+                Ok(())
+            }
+            Err(_) => {
+                self.read_faults = self.read_faults.saturating_add(1);
+                Err(Failed)
+            }
+        }
+    }
+
+    fn read(&mut self, buffer: &mut [u8]) -> Result<usize, Failed> {
+        let Some(file) = &mut self.reading else {
+            return Ok(0);
+        };
+        match file.read(buffer) {
+            Ok(n) => Ok(n),
+            Err(_) => {
+                self.read_faults = self.read_faults.saturating_add(1);
+                Err(Failed)
+            }
+        }
+    }
+
+    fn create_file(&mut self, name: &str) -> Result<(), Failed> {
+        match std::fs::create(&self.rt, name) {
+            Ok(file) => {
+                self.log = Some(file);
+                Ok(())
+            }
+            Err(_) => {
+                self.write_faults = self.write_faults.saturating_add(1);
+                Err(Failed)
+            }
+        }
+    }
+
+    fn give(&mut self, to: To, bytes: &[u8]) -> Result<usize, Failed> {
+        let written = match to {
+            To::Out => self.rt.stdout().write(bytes),
+            To::Err => self.rt.stderr().write(bytes),
+            To::Log => match &mut self.log {
+                Some(file) => file.write(bytes),
+                None => Ok(bytes.len()),
+            },
+        };
+        match written {
+            Ok(n) if n > 0 => Ok(n),
+            _ => {
+                self.write_faults = self.write_faults.saturating_add(1);
+                Err(Failed)
+            }
+        }
+    }
+}

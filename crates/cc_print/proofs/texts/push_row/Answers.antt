@@ -1,0 +1,7 @@
+use Rattle.std.proofs.Common.{arith, append_assoc, ◌≡◌, ◌++◌, ◌∷◌, decimal, map, ap, ◌∙◌, sym, OnOk, rules, flat_map}
+use Rattle.std.proofs.lemmas.Grind.{common_steps}
+use Rattle.cc_print.proofs.Joins.{join_with_byte-cons}
+use Rattle.cc_print.proofs.texts.push_row.Goals as goal
+
+pub returns-in_ok-push_number-in-len1-up : goal.returns-in_ok-push_number-in-len1-up
+returns-in_ok-push_number-in-len1-up c = grind (arith, common_steps, join_with_byte-cons)

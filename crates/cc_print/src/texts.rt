@@ -1,0 +1,153 @@
+//! The printed texts of keys, events and refusals.
+ghost use Rattle.std.specs.Prelude.{◌≡◌, ◌++◌, ◌∷◌, IfOk, OnOk, decimal, string_bytes, map, flat_map};
+ghost use Rattle.std.specs.List.{join_with_byte};
+ghost use Rattle.cc_defs.specs.Events as events;
+ghost use Rattle.cc_defs.specs.Texts as texts;
+ghost use Rattle.cc_print.specs.Refusals.{refusal_line, refusal_name, place_text, limit_text};
+
+use cc_defs::{Ending, Event, LimitAt, OutOfMemory, Refusal, Text};
+use std::alloc::Global;
+use std::fmt::Write;
+
+/// A key: the horizon, `:`, and the indexes of the row with `,` between them. It is what `--after` takes.
+pub fn key_text(alloc: Global, horizon: u32, row: &[u32]) -> Result<Text, OutOfMemory>
+    ensures { IfOk result (λ text. text ≡ texts.key_text horizon row.now) }
+{
+    let mut text = format!(in alloc; "{horizon}:")?;
+    push_row(&mut text, row)?;
+    Ok(Text::of(text))
+}
+
+/// The line of an event, its line feed included. For a history it is the line that stands before the history.
+pub fn event_text(alloc: Global, event: &Event) -> Result<Text, OutOfMemory>
+    ensures { IfOk result (λ text. text ≡ events.event_text event.now) }
+{
+    match event {
+        Event::NoHistory { horizon } => {
+            let text = format!(in alloc; "horizon {horizon}: no history\n")?;
+            Ok(Text::of(text))
+        }
+        Event::History { horizon, number } => {
+            let text = format!(in alloc; "horizon {horizon}: history {number}\n")?;
+            Ok(Text::of(text))
+        }
+        Event::Ended(ending) => ending_text(alloc, *ending),
+    }
+}
+
+fn ending_text(alloc: Global, ending: Ending) -> Result<Text, OutOfMemory>
+    ensures { IfOk result (λ text. text ≡ events.ending_text ending) }
+{
+    match ending {
+        Ending::Complete { horizon, listed } => {
+            let text = format!(in alloc; "horizon {horizon}: complete, {listed} listed\n")?;
+            Ok(Text::of(text))
+        }
+        Ending::NoHistory => {
+            let text = String::from_str(alloc, "no history\n")?;
+            Ok(Text::of(text))
+        }
+    }
+}
+
+/// The line of a refusal, its line feed included; `file` is the name of the refusal's file.
+pub fn refusal_text(alloc: Global, refusal: &Refusal, file: &str) -> Result<Text, OutOfMemory>
+    ensures { IfOk result (λ text. text ≡ refusal_line refusal.now file.now) }
+{
+    let mut text = String::from_str(alloc, "ccalc: ")?;
+    push_place(&mut text, refusal, file)?;
+    push_number(&mut text, u32::from(refusal.number))?;
+    text.push_str(" ")?;
+    text.push_str(name_of(refusal.number))?;
+    push_limit(&mut text, refusal.limit)?;
+    text.push_str("\n")?;
+    Ok(Text::of(text))
+}
+
+/// Writes the indexes of a row with `,` between them.
+fn push_row(text: &mut String, row: &[u32]) -> Result<(), OutOfMemory>
+    ensures { OnOk result (string_bytes text.new ≡ string_bytes text.old ++ join_with_byte 44 (map decimal row.now)) }
+{
+    match row {
+        [] => Ok(()),
+        [first, others @ ..] => {
+            push_number(text, *first)?;
+            push_others(text, others)
+        }
+    }
+}
+
+/// Writes a `,` and an index, for each index.
+fn push_others(text: &mut String, others: &[u32]) -> Result<(), OutOfMemory>
+    ensures { OnOk result (string_bytes text.new ≡ string_bytes text.old ++ flat_map (λ digits. 44 ∷ digits) (map decimal others.now)) }
+{
+    for index in others {
+        text.push_str(",")?;
+        push_number(text, *index)?;
+    }
+    Ok(())
+}
+
+/// Writes the file and the line of a refusal that has a place.
+fn push_place(text: &mut String, refusal: &Refusal, file: &str) -> Result<(), OutOfMemory>
+    ensures { OnOk result (string_bytes text.new ≡ string_bytes text.old ++ place_text refusal.now file.now) }
+{
+    if refusal.line == 0 {
+        return Ok(());
+    }
+    text.push_str(file)?;
+    text.push_str(":")?;
+    push_number(text, refusal.line)?;
+    text.push_str(": ")?;
+    Ok(())
+}
+
+/// Writes the limit of a refusal that has one, and its number.
+fn push_limit(text: &mut String, limit: Option<LimitAt>) -> Result<(), OutOfMemory>
+    ensures { OnOk result (string_bytes text.new ≡ string_bytes text.old ++ limit_text limit) }
+{
+    match limit {
+        None => Ok(()),
+        Some(limit) => {
+            text.push_str(" ")?;
+            text.push_str(limit.name())?;
+            text.push_str(" ")?;
+            push_number(text, limit.number())
+        }
+    }
+}
+
+/// Writes a number in decimal at the end of a text.
+fn push_number(text: &mut String, number: u32) -> Result<(), OutOfMemory>
+    ensures { OnOk result (string_bytes text.new ≡ string_bytes text.old ++ decimal number) }
+{
+    write!(text, "{number}")?;
+    Ok(())
+}
+
+/// The name of a refusal; empty for a number that none has.
+fn name_of(number: u8) -> &'static str
+    ensures { result.now ≡ refusal_name number }
+{
+    match number {
+        1 => "Words",
+        2 => "Byte",
+        3 => "Syntax",
+        4 => "TwiceDeclared",
+        5 => "UnknownName",
+        6 => "Arity",
+        7 => "Sort",
+        8 => "Unbound",
+        9 => "LawForm",
+        10 => "SdInDynamicHead",
+        11 => "NotDefinite",
+        12 => "EmptyDomain",
+        13 => "NotYet",
+        14 => "Limit",
+        15 => "NoQuery",
+        16 => "Step",
+        17 => "Include",
+        18 => "Key",
+        _ => "",
+    }
+}

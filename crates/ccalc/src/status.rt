@@ -1,0 +1,42 @@
+//! How a run ends.
+ghost use Rattle.std.specs.Prelude.{◌≡◌};
+ghost use Rattle.ccalc.specs.Codes.{code_of};
+
+/// How a run ends.
+#[derive(Clone, Copy, Debug, PartialEq, Eq)]
+pub enum Status {
+    /// The listing is complete.
+    Right,
+    /// No horizon of the range has a history.
+    Not,
+    /// The words, the text or the query were refused.
+    Refused,
+    /// The budget of conflicts is spent.
+    Spent,
+    /// A file is not there, or could not be read.
+    ReadFault,
+    /// An output could not be written.
+    WriteFault,
+    /// Memory was wanting.
+    OutOfMemory,
+    /// As many histories as were asked for were printed.
+    Asked,
+}
+
+impl Status {
+    /// The exit code of the program.
+    pub fn code(self) -> u8
+        ensures { result ≡ code_of self }
+    {
+        match self {
+            Status::Right => 0,
+            Status::Not => 1,
+            Status::Refused => 2,
+            Status::Spent => 3,
+            Status::ReadFault => 4,
+            Status::WriteFault => 5,
+            Status::OutOfMemory => 6,
+            Status::Asked => 7,
+        }
+    }
+}
