@@ -2,6 +2,7 @@ pub mod Description
 pub mod Events
 pub mod Formulas
 pub mod Histories
+pub mod Laws
 pub mod Limits
 pub mod Paths
 pub mod Rows

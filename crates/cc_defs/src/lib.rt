@@ -4,6 +4,7 @@
 #![tactic(auto)]
 
 mod event;
+pub mod laws;
 mod lists;
 mod refusal;
 mod rows;

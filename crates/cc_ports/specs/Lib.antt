@@ -1,2 +1,5 @@
 pub mod Contents
 pub mod Memory
+pub mod MemoryFields
+pub mod Sheet
+pub mod Still

@@ -3,13 +3,18 @@
 #![tactic(auto)]
 
 mod desk;
+mod files;
 mod memory;
 mod real;
+mod sheet;
 mod still;
+#[cfg(test)]
+mod tests;
 mod whole;
 
 pub use desk::{Desk, Failed, To};
-pub use memory::{Files, MemoryDesk};
+pub use files::Files;
+pub use memory::MemoryDesk;
 pub use real::RealDesk;
 pub use still::StillDesk;
 pub use whole::{ReadStop, give_all, read_all};

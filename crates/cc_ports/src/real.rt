@@ -1,5 +1,6 @@
 //! The machine's own desk: the trusted edge.
-ghost use Rattle.std.specs.Prelude.{◌≡◌, ◌+◌};
+ghost use Rattle.std.specs.Prelude.{◌≡◌, ◌≤◌, false, is_some};
+ghost use Rattle.cc_ports.specs.Contents.{Rose};
 
 use crate::{Desk, Failed, To};
 use std::fs::File;
@@ -17,7 +18,12 @@ pub struct RealDesk {
 }
 
 impl RealDesk {
-    pub fn new(rt: HostRuntime) -> RealDesk {
+    /// A desk of the machine, with no log and no faults.
+    pub fn new(rt: HostRuntime) -> RealDesk
+        ensures begun { is_some result.log ≡ false }
+        ensures read_faults { result.read_faults ≡ 0 }
+        ensures write_faults { result.write_faults ≡ 0 }
+    {
         RealDesk {
             rt,
             reading: None,
@@ -26,16 +32,15 @@ impl RealDesk {
             write_faults: 0,
         }
     }
+}
 
-    fn read_failed(&mut self) -> Failed {
-        self.read_faults = self.read_faults.saturating_add(1);
-        Failed
-    }
-
-    fn write_failed(&mut self) -> Failed {
-        self.write_faults = self.write_faults.saturating_add(1);
-        Failed
-    }
+/// Counts a fault.
+fn fault(count: &mut u64) -> Failed
+    ensures rose { Rose count.old count.new }
+    ensures count { count.old ≤ count.new }
+{
+    *count = count.saturating_add(1);
+    Failed
 }
 
 impl Desk for RealDesk {
@@ -56,10 +61,7 @@ impl Desk for RealDesk {
                 self.reading = Some(file);
                 Ok(())
             }
-            Err(_) => {
-                self.read_faults = self.read_faults.saturating_add(1);
-                Err(Failed)
-            }
+            Err(_) => Err(fault(&mut self.read_faults)),
         }
     }
 
@@ -69,10 +71,7 @@ impl Desk for RealDesk {
         };
         match file.read(buffer) {
             Ok(n) => Ok(n),
-            Err(_) => {
-                self.read_faults = self.read_faults.saturating_add(1);
-                Err(Failed)
-            }
+            Err(_) => Err(fault(&mut self.read_faults)),
         }
     }
 
@@ -82,10 +81,7 @@ impl Desk for RealDesk {
                 self.log = Some(file);
                 Ok(())
             }
-            Err(_) => {
-                self.write_faults = self.write_faults.saturating_add(1);
-                Err(Failed)
-            }
+            Err(_) => Err(fault(&mut self.write_faults)),
         }
     }
 
@@ -100,10 +96,7 @@ impl Desk for RealDesk {
         };
         match written {
             Ok(n) if n > 0 => Ok(n),
-            _ => {
-                self.write_faults = self.write_faults.saturating_add(1);
-                Err(Failed)
-            }
+            _ => Err(fault(&mut self.write_faults)),
         }
     }
 }

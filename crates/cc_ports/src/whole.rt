@@ -1,9 +1,9 @@
 //! Reading a file whole, and giving bytes whole.
-ghost use Rattle.std.specs.Prelude.{◌≡◌, ℕ, ◌<◌, ◌≤◌, ◌^◌, ◌+◌, List, [], length, Some, option_map, IfOk, OnOk, OnErr, IfSome, IsErrOf};
+ghost use Rattle.std.specs.Prelude.{◌≡◌, ℕ, ◌<◌, ◌≤◌, List, [], length, Some, option_map, IfOk, OnOk, OnErr, IfSome, IsErrOf};
 ghost use Rattle.cc_ports.specs.Contents.{Contents, with_rest, appended, IsPrefix, Rose};
 
 use crate::{Desk, Failed, To};
-use cc_defs::{Bytes, OutOfMemory};
+use cc_defs::Bytes;
 use std::alloc::{AllocError, Global};
 use thiserror::Error;
 
@@ -23,6 +23,28 @@ pub enum ReadStop {
     OutOfMemory,
 }
 
+impl From<Failed> for ReadStop {
+    ghost use Rattle.std.specs.Prelude.{◌≡◌};
+    ghost use Rattle.cc_ports.specs.declared.whole.ReadStop.TheVariants as stops;
+
+    ghost from_gives = { λ _ stop. stop ≡ stops.Failed };
+
+    fn from(_: Failed) -> Self {
+        ReadStop::Failed
+    }
+}
+
+impl From<AllocError> for ReadStop {
+    ghost use Rattle.std.specs.Prelude.{◌≡◌};
+    ghost use Rattle.cc_ports.specs.declared.whole.ReadStop.TheVariants as stops;
+
+    ghost from_gives = { λ _ stop. stop ≡ stops.OutOfMemory };
+
+    fn from(_: AllocError) -> Self {
+        ReadStop::OutOfMemory
+    }
+}
+
 /// Opens a file and reads it to its end. It takes at most one turn more than `most`, since each turn but the last takes
 /// at least one byte.
 pub fn read_all<D: Desk>(
@@ -31,7 +53,6 @@ pub fn read_all<D: Desk>(
     name: &str,
     most: usize,
 ) -> Result<Bytes, ReadStop>
-    requires { most < 2 ^ 62 }
     ensures bytes { IfOk result (λ bytes. IfSome (D.told desk.old) (λ c. c.files name.now ≡ Some bytes)) }
     ensures within { IfOk result (λ bytes. length bytes ≤ most) }
     ensures limit { IsErrOf result ReadStop.Limit →
@@ -42,24 +63,18 @@ pub fn read_all<D: Desk>(
     ensures reads_count { D.read_faults desk.old ≤ D.read_faults desk.new }
     ensures writes_count { D.write_faults desk.old ≤ D.write_faults desk.new }
 {
-    if desk.open_file(name).is_err() {
-        return Err(ReadStop::Failed);
-    }
+    desk.open_file(name)?;
     let mut bytes = Vec::new(alloc);
     let mut piece = [0u8; PIECE];
     loop {
-        let Ok(n) = desk.read(&mut piece) else {
-            return Err(ReadStop::Failed);
-        };
+        let n = desk.read(&mut piece)?;
         if n == 0 {
             return Ok(Bytes::of(bytes));
         }
         if n > most - bytes.len() {
             return Err(ReadStop::Limit);
         }
-        if bytes.extend_from_slice(&piece[..n]).is_err() {
-            return Err(ReadStop::OutOfMemory);
-        }
+        bytes.extend_from_slice(&piece[..n])?;
     }
 }
 

@@ -1,0 +1,38 @@
+use Rattle.std.proofs.Common.{refl, arith}
+use Rattle.std.proofs.lemmas.List.{length-take}
+use Rattle.cc_ports.proofs.Told.{opened, was_read}
+use Rattle.cc_ports.proofs.whole.read_all.Goals as goal
+
+pub loop-bytes-init : goal.loop-bytes-init
+loop-bytes-init g c = record {
+  within = omega arith;
+  piece = refl;
+  told = opened c.args.name.now c.new-bytes.result.items _ _ c.new-bytes.ensures.items
+      c.in_ok-open_file.ensures.opened c.in_ok-open_file.ensures.there;
+  begun = cc (c.in_ok-open_file.ensures.begun);
+  reads_count = omega (arith, c.in_ok-open_file.ensures.reads_count);
+  writes_count = omega (arith, c.in_ok-open_file.ensures.writes_count);
+}
+
+pub returns-then-n-most-clause-after : goal.returns-then-n-most-clause-after
+returns-then-n-most-clause-after g c =
+    let read = was_read c.args.name.now _ _ _ c.in_ok-n.n (g.D.Desk.told c.args.desk.now) _ _
+    c.loop-bytes.invariant.told c.in_ok-n.ensures.after c.in_ok-n.ensures.bytes refl in
+    (read.0, read.1)
+
+pub returns-in_err-extend_from_slice-clause-after : goal.returns-in_err-extend_from_slice-clause-after
+returns-in_err-extend_from_slice-clause-after g c =
+    let read = was_read c.args.name.now _ _ _ c.in_ok-n.n (g.D.Desk.told c.args.desk.now) _ _
+    c.loop-bytes.invariant.told c.in_ok-n.ensures.after c.in_ok-n.ensures.bytes refl in
+    (read.0, read.1)
+
+pub loop-bytes-preserved : goal.loop-bytes-preserved
+loop-bytes-preserved g c = record {
+  within = omega (arith, length-take c.in_ok-n.n c.read.new.buffer, c.in_ok-extend_from_slice.ensures.len, c.in_ok-n.ensures.count);
+  piece = cc;
+  told = was_read c.args.name.now _ _ _ c.in_ok-n.n (g.D.Desk.told c.args.desk.now) _ _
+      c.loop-bytes.invariant.told c.in_ok-n.ensures.after c.in_ok-n.ensures.bytes c.in_ok-extend_from_slice.ensures.items;
+  begun = cc (c.in_ok-n.ensures.begun);
+  reads_count = omega (arith, c.in_ok-n.ensures.reads_count);
+  writes_count = omega (arith, c.in_ok-n.ensures.writes_count);
+}
