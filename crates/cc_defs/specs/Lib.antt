@@ -1,5 +1,6 @@
 pub mod Description
 pub mod Events
+pub mod Examples
 pub mod Formulas
 pub mod Histories
 pub mod Laws

@@ -4,11 +4,15 @@
 #![tactic(auto)]
 
 mod event;
+#[cfg(test)]
+mod examples;
 pub mod laws;
 mod lists;
 mod refusal;
 mod rows;
 mod signature;
+#[cfg(test)]
+mod tests;
 
 pub use event::{Ending, Event, Told};
 pub use lists::{Bytes, Key, Name, Nums, Row, Text};

@@ -37,6 +37,11 @@ passes small row = list_all (law_met small.names row) small.laws
 abbrev pub rows_listed : Small → List (List ℕ)
 rows_listed small = filter (passes small) (all_rows small.names)
 
+-- how the listing ends
+abbrev pub ending_of_rows : List (List ℕ) → Ending
+ending_of_rows [] = endings.NoHistory
+ending_of_rows (row ∷ rows) = endings.Complete 0 (length (row ∷ rows))
+
 -- all of them, or the report that there is none
 abbrev pub listing_of_rows : List (List ℕ) → Listing
 listing_of_rows [] = record { empty = 1; rows = []; ending = Some endings.NoHistory }

@@ -1,0 +1,128 @@
+-- Small descriptions whose states and transitions are known beforehand: they show what the definitions say.
+use Rattle.std.specs.Prelude.{◌≡◌, ℕ, List, [], ◌∷◌, ◌++◌, length, Option, Some, None, codes}
+use Rattle.cc_defs.specs.declared.signature.Const.{Const}
+use Rattle.cc_defs.specs.declared.signature.Symbol.{Symbol}
+use Rattle.cc_defs.specs.declared.signature.Kind.{Kind}
+use Rattle.cc_defs.specs.declared.signature.Kind.TheVariants as kinds
+use Rattle.cc_defs.specs.declared.signature.LawKind.{LawKind}
+use Rattle.cc_defs.specs.declared.signature.LawKind.TheVariants as laws
+use Rattle.cc_defs.specs.Description.{Description, Law}
+use Rattle.cc_defs.specs.Formulas.{Formula, Truth, Equal, Not, Both, Constant, Object, Atom}
+use Rattle.cc_defs.specs.Paths.{IsState, IsPath}
+use Rattle.cc_defs.specs.Rules.{rules_at}
+use Rattle.cc_defs.specs.Texts.{none_value, key_text, history_text, shown}
+
+-- a constant without arguments, of the values `false` and `true`
+abbrev pub boolean : ℕ → Kind → Const
+boolean symbol kind = record { symbol = symbol; args = []; kind = kind; domain = 0 ∷ 1 ∷ [] }
+
+abbrev pub boolean_symbol : List ℕ → Kind → Symbol
+boolean_symbol name kind = record { name = name; sorts = []; kind = kind; domain = 0; attribute = None }
+
+-- the constant of a symbol has a value
+abbrev pub has : ℕ → ℕ → Formula
+has symbol value = Equal (Constant symbol []) (Object value)
+
+abbrev pub law : LawKind → ℕ → ℕ → Formula → Option Formula → Law
+law kind symbol value body after = record { head = Atom symbol [] (Object value); body = body; after = after; kind = kind }
+
+-- `caused` a value `if` a formula
+abbrev pub caused : ℕ → ℕ → Formula → Law
+caused symbol value body = law laws.Static symbol value body None
+
+abbrev pub fluents_with_laws : List Const → List Law → Description
+fluents_with_laws fluents given = record { objects = codes "false" ∷ codes "true" ∷ []; symbols = []; fluents = fluents; actions = []; laws = given }
+
+-- With no constants there is one interpretation, and it is a state.
+abbrev pub EmptyRowIsState : Type 0
+EmptyRowIsState = IsState (fluents_with_laws [] []) []
+
+-- Simple fluents without laws are free.
+abbrev pub two_simple : Description
+two_simple = fluents_with_laws (boolean 0 kinds.Simple ∷ boolean 1 kinds.Simple ∷ []) []
+
+abbrev pub SimpleFluentsAreFree : Type 0
+SimpleFluentsAreFree = IsState two_simple (0 ∷ 0 ∷ []) × IsState two_simple (0 ∷ 1 ∷ []) × IsState two_simple (1 ∷ 0 ∷ []) × IsState two_simple (1 ∷ 1 ∷ [])
+
+-- Without a law a statically determined fluent of two values has no cause for either.
+abbrev pub DeterminedNeedsCause : Type 0
+DeterminedNeedsCause = (row : List ℕ) → IsState (fluents_with_laws (boolean 0 kinds.Determined ∷ []) []) row → ⊥
+
+-- A statically determined fluent of one value needs no cause, since there is nothing else that it could be.
+abbrev pub one_value : Const
+one_value = record { symbol = 0; args = []; kind = kinds.Determined; domain = 0 ∷ [] }
+
+abbrev pub OneValueNeedsNoCause : Type 0
+OneValueNeedsNoCause = IsState (fluents_with_laws (one_value ∷ []) []) (0 ∷ [])
+
+-- Causes that differ leave no state.
+abbrev pub clash : Description
+clash = fluents_with_laws (boolean 0 kinds.Simple ∷ []) (caused 0 1 Truth ∷ caused 0 0 Truth ∷ [])
+
+abbrev pub CausesThatDifferClash : Type 0
+CausesThatDifferClash = (row : List ℕ) → IsState clash row → ⊥
+
+-- Two fluents that cause each other may both be so.
+abbrev pub circle : Description
+circle = fluents_with_laws (boolean 0 kinds.Determined ∷ boolean 1 kinds.Determined ∷ [])
+    (caused 0 1 (has 1 1) ∷ caused 1 1 (has 0 1) ∷ caused 0 0 (Not (has 0 1)) ∷ caused 1 0 (Not (has 1 1)) ∷ [])
+
+abbrev pub CausesMayStandInCircle : Type 0
+CausesMayStandInCircle = IsState circle (0 ∷ 0 ∷ []) × IsState circle (1 ∷ 1 ∷ []) × (IsState circle (0 ∷ 1 ∷ []) → ⊥) × (IsState circle (1 ∷ 0 ∷ []) → ⊥)
+
+-- A lamp: `on` keeps its value unless `flip` is done, which turns it.
+abbrev pub lamp_laws : List Law
+lamp_laws =
+    law laws.FluentDynamic 0 0 (has 0 0) (Some (has 0 0)) ∷ law laws.FluentDynamic 0 1 (has 0 1) (Some (has 0 1))
+    ∷ law laws.ActionDynamic 1 0 (has 1 0) None ∷ law laws.ActionDynamic 1 1 (has 1 1) None
+    ∷ law laws.FluentDynamic 0 1 Truth (Some (Both (has 1 1) (Not (has 0 1))))
+    ∷ law laws.FluentDynamic 0 0 Truth (Some (Both (has 1 1) (has 0 1))) ∷ []
+
+abbrev pub lamp : Description
+lamp = record {
+  objects = codes "false" ∷ codes "true" ∷ [];
+  symbols = boolean_symbol (codes "on") kinds.Simple ∷ boolean_symbol (codes "flip") kinds.Action ∷ [];
+  fluents = boolean 0 kinds.Simple ∷ [];
+  actions = boolean 1 kinds.Action ∷ [];
+  laws = lamp_laws;
+}
+
+-- the initial rules, and six more for each step
+abbrev pub LampHasSoManyRules : Type 0
+LampHasSoManyRules = (length (rules_at lamp 0) ≡ 2) × (length (rules_at lamp 1) ≡ 8) × (length (rules_at lamp 2) ≡ 14)
+
+abbrev pub LampTurns : Type 0
+LampTurns = IsPath lamp 1 (0 ∷ 1 ∷ 1 ∷ []) × IsPath lamp 1 (1 ∷ 1 ∷ 0 ∷ [])
+
+abbrev pub LampStays : Type 0
+LampStays = IsPath lamp 1 (0 ∷ 0 ∷ 0 ∷ []) × IsPath lamp 1 (1 ∷ 0 ∷ 1 ∷ [])
+
+abbrev pub LampDoesNothingElse : Type 0
+LampDoesNothingElse = (IsPath lamp 1 (0 ∷ 1 ∷ 0 ∷ []) → ⊥) × (IsPath lamp 1 (0 ∷ 0 ∷ 1 ∷ []) → ⊥)
+
+-- two steps share the state between them
+abbrev pub LampTurnsTwice : Type 0
+LampTurnsTwice = IsPath lamp 2 (0 ∷ 1 ∷ 1 ∷ 1 ∷ 0 ∷ [])
+
+abbrev pub KeysAreWritten : Type 0
+KeysAreWritten = (key_text 0 [] ≡ codes "0:") × (key_text 1 (0 ∷ 1 ∷ 1 ∷ []) ≡ codes "1:0,1,1")
+
+abbrev pub LampHistoryIsWritten : Type 0
+LampHistoryIsWritten = history_text lamp 1 (0 ∷ 1 ∷ 1 ∷ []) ≡ codes "0:\nACTIONS:  flip\n1:  on\n"
+
+-- an attribute of the first symbol, which has no value or an object
+abbrev pub with_attribute : Description
+with_attribute = record {
+  objects = codes "false" ∷ codes "true" ∷ codes "a" ∷ [];
+  symbols = boolean_symbol (codes "act") kinds.Action
+    ∷ record { name = codes "c"; sorts = []; kind = kinds.Action; domain = 1; attribute = Some 0 } ∷ [];
+  fluents = [];
+  actions = [];
+  laws = [];
+}
+
+abbrev pub attribute : Const
+attribute = record { symbol = 1; args = []; kind = kinds.Action; domain = none_value ∷ 2 ∷ [] }
+
+abbrev pub AttributeShowsNone : Type 0
+AttributeShowsNone = (shown with_attribute attribute none_value ≡ codes "  c=none") × (shown with_attribute attribute 2 ≡ codes "  c=a")

@@ -1,0 +1,90 @@
+//! Examples whose answers are known beforehand, each the contract of a function with no body.
+ghost use Rattle.cc_defs.specs.Examples.{EmptyRowIsState, SimpleFluentsAreFree, DeterminedNeedsCause, OneValueNeedsNoCause, CausesThatDifferClash, CausesMayStandInCircle, LampHasSoManyRules, LampTurns, LampStays, LampDoesNothingElse, LampTurnsTwice, KeysAreWritten, LampHistoryIsWritten, AttributeShowsNone};
+
+fn empty_row_is_state()
+    ensures { EmptyRowIsState }
+{
+}
+
+fn simple_fluents_are_free()
+    ensures { SimpleFluentsAreFree }
+{
+}
+
+fn determined_needs_cause()
+    ensures { DeterminedNeedsCause }
+{
+}
+
+fn one_value_needs_no_cause()
+    ensures { OneValueNeedsNoCause }
+{
+}
+
+fn causes_that_differ_clash()
+    ensures { CausesThatDifferClash }
+{
+}
+
+fn causes_may_stand_in_circle()
+    ensures { CausesMayStandInCircle }
+{
+}
+
+fn lamp_has_so_many_rules()
+    ensures { LampHasSoManyRules }
+{
+}
+
+fn lamp_turns()
+    ensures { LampTurns }
+{
+}
+
+fn lamp_stays()
+    ensures { LampStays }
+{
+}
+
+fn lamp_does_nothing_else()
+    ensures { LampDoesNothingElse }
+{
+}
+
+fn lamp_turns_twice()
+    ensures { LampTurnsTwice }
+{
+}
+
+fn keys_are_written()
+    ensures { KeysAreWritten }
+{
+}
+
+fn lamp_history_is_written()
+    ensures { LampHistoryIsWritten }
+{
+}
+
+fn attribute_shows_none()
+    ensures { AttributeShowsNone }
+{
+}
+
+#[test]
+fn examples_hold() {
+    empty_row_is_state();
+    simple_fluents_are_free();
+    determined_needs_cause();
+    one_value_needs_no_cause();
+    causes_that_differ_clash();
+    causes_may_stand_in_circle();
+    lamp_has_so_many_rules();
+    lamp_turns();
+    lamp_stays();
+    lamp_does_nothing_else();
+    lamp_turns_twice();
+    keys_are_written();
+    lamp_history_is_written();
+    attribute_shows_none();
+}

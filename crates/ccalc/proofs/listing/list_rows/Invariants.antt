@@ -1,0 +1,21 @@
+use Rattle.std.proofs.Common.{◌≡◌, ℕ, ◌+◌, ◌≤◌, List, ◌++◌, length, map, filter, Ok}
+use Rattle.cc_ports.specs.declared.desk.To.TheVariants as outputs
+use Rattle.ccalc.specs.Lister.{rows_from}
+use Rattle.ccalc.specs.ListerViews.{rules_pass, rules_view, AllBits}
+use Rattle.ccalc.specs.Printing.{histories_lines}
+use Rattle.ccalc.specs.Stops.{Step, moment}
+use Rattle.ccalc.proofs.Histories.{ListedSoFar}
+use Rattle.ccalc.proofs.listing.list_rows.Given as goal
+
+abbrev pub invariant-loop-number : goal.invariant-loop-number
+invariant-loop-number g l =
+    let desk = g.D.Desk in
+    record {
+      bits : AllBits l.row;
+      length : length l.row ≡ length l.names;
+      listed : ListedSoFar (map (λ name. name.now) l.names) (rules_pass (rules_view l.rules)) l.fn.row l.row l.number
+        (moment desk.told desk.begun desk.read_faults desk.write_faults l.initial.desk) (moment desk.told desk.begun desk.read_faults desk.write_faults l.desk);
+    }
+
+abbrev pub decreases-loop-number : goal.decreases-loop-number
+decreases-loop-number g l = length (rows_from l.row)
