@@ -1,5 +1,5 @@
 -- What a listing tells, in order, and which lists of events are fair.
-use Rattle.std.specs.Prelude.{◌≡◌, ℕ, ◌+◌, ◌-◌, ◌<◌, ◌≤◌, ◌⊎◌, List, [], ◌∷◌, ◌++◌, length, map, flat_map, zero, suc, Option, Some, None, IsSome, IsNone, IfSome, codes, decimal, option_map}
+use Rattle.std.specs.Prelude.{◌≡◌, ℕ, ◌+◌, ◌<◌, ◌≤◌, ◌⊎◌, List, [], ◌∷◌, ◌++◌, length, flat_map, zero, suc, Option, Some, None, IsSome, IsNone, IfSome, codes, decimal, option_map}
 use Rattle.cc_defs.specs.declared.event.Ending.{Ending}
 use Rattle.cc_defs.specs.declared.event.Ending.TheVariants as endings
 use Rattle.cc_defs.specs.declared.event.Event.{Event}
@@ -8,7 +8,6 @@ use Rattle.cc_defs.specs.declared.event.Told.{Told}
 use Rattle.cc_defs.specs.declared.lists.Key.{Key}
 use Rattle.cc_defs.specs.Description.{Description, Query}
 use Rattle.cc_defs.specs.Histories.{IsListing, AreFirst}
-use Rattle.cc_defs.specs.Rules.{upto}
 use Rattle.cc_defs.specs.Texts.{history_text, key_line}
 
 -- what is asked for: at most so many histories, and those after a key

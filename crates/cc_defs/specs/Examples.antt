@@ -1,13 +1,15 @@
 -- Small descriptions whose states and transitions are known beforehand: they show what the definitions say.
-use Rattle.std.specs.Prelude.{◌≡◌, ℕ, List, [], ◌∷◌, ◌++◌, length, Option, Some, None, codes}
+use Rattle.std.specs.Prelude.{◌≡◌, ℕ, List, [], ◌∷◌, length, Option, Some, None, codes}
+use Rattle.cc_defs.specs.declared.signature.At.TheVariants.{Last}
 use Rattle.cc_defs.specs.declared.signature.Const.{Const}
 use Rattle.cc_defs.specs.declared.signature.Symbol.{Symbol}
 use Rattle.cc_defs.specs.declared.signature.Kind.{Kind}
 use Rattle.cc_defs.specs.declared.signature.Kind.TheVariants as kinds
 use Rattle.cc_defs.specs.declared.signature.LawKind.{LawKind}
 use Rattle.cc_defs.specs.declared.signature.LawKind.TheVariants as laws
-use Rattle.cc_defs.specs.Description.{Description, Law}
-use Rattle.cc_defs.specs.Formulas.{Formula, Truth, Equal, Not, Both, Constant, Object, Atom}
+use Rattle.cc_defs.specs.Description.{Description, Law, Query}
+use Rattle.cc_defs.specs.Histories.{IsListing}
+use Rattle.cc_defs.specs.Formulas.{Formula, Truth, Equal, Not, Both, Constant, Object, Atom, Falsity}
 use Rattle.cc_defs.specs.Paths.{IsState, IsPath}
 use Rattle.cc_defs.specs.Rules.{rules_at}
 use Rattle.cc_defs.specs.Texts.{none_value, key_text, history_text, shown}
@@ -62,6 +64,13 @@ clash = fluents_with_laws (boolean 0 kinds.Simple ∷ []) (caused 0 1 Truth ∷ 
 abbrev pub CausesThatDifferClash : Type 0
 CausesThatDifferClash = (row : List ℕ) → IsState clash row → ⊥
 
+-- A law with falsity for its head forbids its body, and is a cause of nothing.
+abbrev pub forbidden : Description
+forbidden = fluents_with_laws (boolean 0 kinds.Simple ∷ []) (record { head = Falsity; body = has 0 1; after = None; kind = laws.Static } ∷ [])
+
+abbrev pub FalsityForbids : Type 0
+FalsityForbids = IsState forbidden (0 ∷ []) × (IsState forbidden (1 ∷ []) → ⊥)
+
 -- Two fluents that cause each other may both be so.
 abbrev pub circle : Description
 circle = fluents_with_laws (boolean 0 kinds.Determined ∷ boolean 1 kinds.Determined ∷ [])
@@ -104,6 +113,13 @@ LampDoesNothingElse = (IsPath lamp 1 (0 ∷ 1 ∷ 0 ∷ []) → ⊥) × (IsPath 
 abbrev pub LampTurnsTwice : Type 0
 LampTurnsTwice = IsPath lamp 2 (0 ∷ 1 ∷ 1 ∷ 1 ∷ 0 ∷ [])
 
+-- the histories of one step after which the lamp is on
+abbrev pub lamp_ends_on : Query
+lamp_ends_on = record { lo = 1; hi = 1; conditions = record { at = Last; formula = has 0 1 } ∷ []; claim = None }
+
+abbrev pub LampEndsOnInTwoWays : Type 0
+LampEndsOnInTwoWays = IsListing lamp lamp_ends_on 1 None ((0 ∷ 1 ∷ 1 ∷ []) ∷ (1 ∷ 0 ∷ 1 ∷ []) ∷ [])
+
 abbrev pub KeysAreWritten : Type 0
 KeysAreWritten = (key_text 0 [] ≡ codes "0:") × (key_text 1 (0 ∷ 1 ∷ 1 ∷ []) ≡ codes "1:0,1,1")
 
@@ -115,7 +131,7 @@ abbrev pub with_attribute : Description
 with_attribute = record {
   objects = codes "false" ∷ codes "true" ∷ codes "a" ∷ [];
   symbols = boolean_symbol (codes "act") kinds.Action
-    ∷ record { name = codes "c"; sorts = []; kind = kinds.Action; domain = 1; attribute = Some 0 } ∷ [];
+      ∷ record { name = codes "c"; sorts = []; kind = kinds.Action; domain = 1; attribute = Some 0 } ∷ [];
   fluents = [];
   actions = [];
   laws = [];

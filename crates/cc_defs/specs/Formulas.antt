@@ -1,5 +1,5 @@
 -- Formulas of ground constants, and their truth. A valuation is the value index that each ground constant has at a step.
-use Rattle.std.specs.Prelude.{ℕ, Bool, true, false, not, ◌&&◌, ◌||◌, ◌==◌, List, Option, Some, None, option_and_then, slice_get, position, map, ◌++◌, nat_eq}
+use Rattle.std.specs.Prelude.{ℕ, Bool, true, false, not, ◌&&◌, ◌||◌, ◌==◌, List, Option, Some, None, option_and_then, slice_get, position, nat_eq}
 use Rattle.std.specs.Bool.{beq}
 use Rattle.std.specs.Cmp.Lexicographic.{pointwise}
 use Rattle.cc_defs.specs.declared.signature.Const.{Const}

@@ -1,8 +1,7 @@
 -- The printed texts.
-use Rattle.std.specs.Prelude.{ℕ, ◌+◌, ◌==◌, ◌&&◌, if◌then◌else◌, Bool, false, List, [], ◌∷◌, ◌++◌, length, drop, zero, suc, Option, Some, None, is_none, unwrap_or, slice_get, slice_index, option_map, codes, decimal, map}
+use Rattle.std.specs.Prelude.{ℕ, ◌+◌, ◌==◌, ◌&&◌, if◌then◌else◌, Bool, false, List, [], ◌∷◌, ◌++◌, length, zero, suc, is_none, unwrap_or, slice_get, slice_index, option_map, codes, decimal, map}
 use Rattle.std.specs.List.{join_with_byte}
 use Rattle.cc_defs.specs.declared.signature.Const.{Const}
-use Rattle.cc_defs.specs.declared.signature.Symbol.{Symbol}
 use Rattle.cc_defs.specs.Description.{Description, values_at}
 
 -- the number that stands for the value `none`

@@ -1,75 +1,69 @@
 //! Examples whose answers are known beforehand, each the contract of a function with no body.
-ghost use Rattle.cc_defs.specs.Examples.{EmptyRowIsState, SimpleFluentsAreFree, DeterminedNeedsCause, OneValueNeedsNoCause, CausesThatDifferClash, CausesMayStandInCircle, LampHasSoManyRules, LampTurns, LampStays, LampDoesNothingElse, LampTurnsTwice, KeysAreWritten, LampHistoryIsWritten, AttributeShowsNone};
+ghost use Rattle.cc_defs.specs.Examples.{EmptyRowIsState, SimpleFluentsAreFree, DeterminedNeedsCause, OneValueNeedsNoCause, CausesThatDifferClash, CausesMayStandInCircle, FalsityForbids, LampHasSoManyRules, LampTurns, LampStays, LampDoesNothingElse, LampTurnsTwice, LampEndsOnInTwoWays, KeysAreWritten, LampHistoryIsWritten, AttributeShowsNone};
 
 fn empty_row_is_state()
     ensures { EmptyRowIsState }
-{
-}
+{}
 
 fn simple_fluents_are_free()
     ensures { SimpleFluentsAreFree }
-{
-}
+{}
 
 fn determined_needs_cause()
     ensures { DeterminedNeedsCause }
-{
-}
+{}
 
 fn one_value_needs_no_cause()
     ensures { OneValueNeedsNoCause }
-{
-}
+{}
 
 fn causes_that_differ_clash()
     ensures { CausesThatDifferClash }
-{
-}
+{}
 
 fn causes_may_stand_in_circle()
     ensures { CausesMayStandInCircle }
-{
-}
+{}
+
+fn falsity_forbids()
+    ensures { FalsityForbids }
+{}
 
 fn lamp_has_so_many_rules()
     ensures { LampHasSoManyRules }
-{
-}
+{}
 
 fn lamp_turns()
     ensures { LampTurns }
-{
-}
+{}
 
 fn lamp_stays()
     ensures { LampStays }
-{
-}
+{}
 
 fn lamp_does_nothing_else()
     ensures { LampDoesNothingElse }
-{
-}
+{}
 
 fn lamp_turns_twice()
     ensures { LampTurnsTwice }
-{
-}
+{}
+
+fn lamp_ends_on_in_two_ways()
+    ensures { LampEndsOnInTwoWays }
+{}
 
 fn keys_are_written()
     ensures { KeysAreWritten }
-{
-}
+{}
 
 fn lamp_history_is_written()
     ensures { LampHistoryIsWritten }
-{
-}
+{}
 
 fn attribute_shows_none()
     ensures { AttributeShowsNone }
-{
-}
+{}
 
 #[test]
 fn examples_hold() {
@@ -79,11 +73,13 @@ fn examples_hold() {
     one_value_needs_no_cause();
     causes_that_differ_clash();
     causes_may_stand_in_circle();
+    falsity_forbids();
     lamp_has_so_many_rules();
     lamp_turns();
     lamp_stays();
     lamp_does_nothing_else();
     lamp_turns_twice();
+    lamp_ends_on_in_two_ways();
     keys_are_written();
     lamp_history_is_written();
     attribute_shows_none();

@@ -77,11 +77,11 @@ listed_last names pass first row number count old now new r so_far rows step is 
     let lines = lines_of_row names pass number row [] (pass row) refl in
     let counted_row = count_of_row pass number row [] (pass row) refl in
     let text : so_far.done ++ row_lines names number row (pass row) ≡ histories_lines names 1 (filter pass (rows_from first))
-          = ap (λ w. so_far.done ++ w) (sym (append-nil _) ∙ sym lines) ∙ (ap (λ w. so_far.done ++ histories_lines names (number + 1) (filter pass w)) (sym rows) ∙ so_far.text)
-    in
-    ( subst (λ w. Step outputs.Out w old new (counted count)) text
-        (step_then outputs.Out so_far.done (row_lines names number row (pass row)) old now new (counted number) number (counted count) so_far.step refl (step_done outputs.Out (row_lines names number row (pass row)) now new r count count step is))
-    , rw counts (omega (arith, counted_row, ap (λ w. number + length (filter pass w)) rows, so_far.count))
+    = ap (λ w. so_far.done ++ w) (sym (append-nil _) ∙ sym lines) ∙ (ap (λ w. so_far.done ++ histories_lines names (number + 1) (filter pass w)) (sym rows) ∙ so_far.text)
+    in (
+      subst (λ w. Step outputs.Out w old new (counted count)) text
+          (step_then outputs.Out so_far.done (row_lines names number row (pass row)) old now new (counted number) number (counted count) so_far.step refl (step_done outputs.Out (row_lines names number row (pass row)) now new r count count step is)),
+      rw counts (omega (arith, counted_row, ap (λ w. number + length (filter pass w)) rows, so_far.count)),
     )
 
 -- telling a row stopped
@@ -93,7 +93,7 @@ listed_stop names pass first row number old now new r s e rows so_far same step 
     let lines = lines_of_row names pass number row rows (pass row) refl in
     let rest = histories_lines names (row_count number (pass row) + 1) (filter pass rows) in
     let text : so_far.done ++ (row_lines names number row (pass row) ++ rest) ≡ histories_lines names 1 (filter pass (rows_from first))
-          = ap (λ w. so_far.done ++ w) (sym lines) ∙ (ap (λ w. so_far.done ++ histories_lines names (number + 1) (filter pass w)) (sym same) ∙ so_far.text)
+    = ap (λ w. so_far.done ++ w) (sym lines) ∙ (ap (λ w. so_far.done ++ histories_lines names (number + 1) (filter pass w)) (sym same) ∙ so_far.text)
     in subst (λ w. Step outputs.Out w old new s) text
-        (step_then outputs.Out so_far.done (row_lines names number row (pass row) ++ rest) old now new (counted number) number s so_far.step refl
-          (step_cut outputs.Out (row_lines names number row (pass row)) rest now new r e s step is stopped))
+    (step_then outputs.Out so_far.done (row_lines names number row (pass row) ++ rest) old now new (counted number) number s so_far.step refl
+    (step_cut outputs.Out (row_lines names number row (pass row)) rest now new r e s step is stopped))

@@ -39,8 +39,8 @@ rows_from-first (value ∷ values) bits =
     let more = rows_from-first values (rest_of_bits value values bits) in
     let Begins : ℕ → Type 0 = λ v. (rest : List (List ℕ)) × (rows_from (v ∷ values) ≡ (v ∷ values) ∷ rest) in
     elim (bit_cases value (bits 0 0 (omega arith))) as (λ _. Begins value) [
-      inl is ↦ subst Begins (sym is) (map (λ row. 0 ∷ row) more.0 ++ map (λ row. 1 ∷ row) (all_rows values), ap (λ rows. map (λ row. 0 ∷ row) rows ++ map (λ row. 1 ∷ row) (all_rows values)) more.1)
-    | inr is ↦ subst Begins (sym is) (map (λ row. 1 ∷ row) more.0, ap (λ rows. map (λ row. 1 ∷ row) rows) more.1)
+      | inl is ↦ subst Begins (sym is) (map (λ row. 0 ∷ row) more.0 ++ map (λ row. 1 ∷ row) (all_rows values), ap (λ rows. map (λ row. 0 ∷ row) rows ++ map (λ row. 1 ∷ row) (all_rows values)) more.1)
+      | inr is ↦ subst Begins (sym is) (map (λ row. 1 ∷ row) more.0, ap (λ rows. map (λ row. 1 ∷ row) rows) more.1)
     ]
 
 one_below_power : (n : ℕ) → 1 ≤ 2 ^ n

@@ -110,8 +110,8 @@ pub prints_refusal : (words : List (List ℕ)) (refusal : Refusal) (name : List 
     Prints words x z r
 prints_refusal words refusal name x z r refused step is = record {
   told = told_err words (refusal_text refusal name) step.given statuses.Refused x.told z.told r
-    (if_some x.told (λ c. Refuses c.files words refusal name) (λ c. IsPlan c.files words (refusal_plan refusal name)) (λ c. refusal_planned c.files words refusal name) refused)
-    step.told step.how is;
+      (if_some x.told (λ c. Refuses c.files words refusal name) (λ c. IsPlan c.files words (refusal_plan refusal name)) (λ c. refusal_planned c.files words refusal name) refused)
+      step.told step.how is;
   ends = ends_with r statuses.Refused tt is;
   begun = step.begun;
   reads = step.reads;
@@ -130,8 +130,8 @@ pub prints_listing : (words : List (List ℕ)) (small : Small) (x z : Moment) (r
     IfOk r (λ s. s ≡ status_of (ending_of_rows (rows_listed small))) → Prints words x z r
 prints_listing words small x z r lists declared step is = record {
   told = told_out words (listing_text small) step.given (status_of (ending_of_rows (rows_listed small))) x.told z.told r
-    (if_some x.told (λ c. Lists c.files words small) (λ c. IsPlan c.files words (listing_plan small)) (λ c lists. listing_planned c.files words small lists declared) lists)
-    step.told step.how is;
+      (if_some x.told (λ c. Lists c.files words small) (λ c. IsPlan c.files words (listing_plan small)) (λ c lists. listing_planned c.files words small lists declared) lists)
+      step.told step.how is;
   ends = ends_with r (status_of (ending_of_rows (rows_listed small))) (listing_ends (rows_listed small)) is;
   begun = step.begun;
   reads = step.reads;
@@ -260,7 +260,7 @@ over_ended words status c before (Some after) ends fresh over = record {
   files = over.files;
   log = over.log ∙ fresh.log;
   answer = answers_ended before.files words status c after.out after.err ends
-    (ended_as before.files words status over.out over.err after.out after.err (fresh_out after.out before.out over.out fresh.out over.out_is) (fresh_out after.err before.err over.err fresh.err over.err_is) over.how);
+      (ended_as before.files words status over.out over.err after.out after.err (fresh_out after.out before.out over.out fresh.out over.out_is) (fresh_out after.err before.err over.err fresh.err over.err_is) over.how);
 }
 
 -- a run that came to its end
@@ -268,7 +268,7 @@ pub run_ended : (words : List (List ℕ)) (status : Status) (c : Counts) (x z : 
     IfSome x.told (λ before. IsFresh before → IsSomeAnd z.told (λ after. Answered before after words status c))
 run_ended words status c x z prints =
     if_some x.told (λ before. IsSomeAnd z.told (λ after. PrintsOver words before after (Ok status))) (λ before. IsFresh before → IsSomeAnd z.told (λ after. Answered before after words status c))
-      (λ before over fresh. over_ended words status c before z.told prints.ends fresh over) prints.told
+    (λ before over fresh. over_ended words status c before z.told prints.ends fresh over) prints.told
 
 -- ---- a run that was cut short
 
@@ -287,24 +287,24 @@ line_given : (stop : Stop) (status : Status) (x y z : Moment) (line : List ℕ) 
 line_given stops.ReadFault status x y z line reads writes later_reads later_writes read_fault write_fault (inl whole) files words out front err printed behind =
     subst (λ s. Answers files words s (counts x.reads z.reads x.writes z.writes) out err) (sym whole.1) (line, whole.0, record { front = front; printed = printed; behind = behind })
 line_given stops.ReadFault status x y z line reads writes later_reads later_writes read_fault write_fault (inr cut) files words out front err printed behind =
-    subst (λ s. Answers files words s (counts x.reads z.reads x.writes z.writes) out err) (sym cut.1)
-      ( line
-      , inr (inr (cut.0, rose_earlier x.reads y.reads z.reads (read_fault refl) later_reads, rose_later x.writes y.writes z.writes writes cut.2))
-      , record { front = front; printed = printed; behind = behind }
-      )
+    subst (λ s. Answers files words s (counts x.reads z.reads x.writes z.writes) out err) (sym cut.1) (
+      line,
+      inr (inr (cut.0, rose_earlier x.reads y.reads z.reads (read_fault refl) later_reads, rose_later x.writes y.writes z.writes writes cut.2)),
+      record { front = front; printed = printed; behind = behind },
+    )
 line_given stops.WriteFault status x y z line reads writes later_reads later_writes read_fault write_fault (inl whole) files words out front err printed behind =
     subst (λ s. Answers files words s (counts x.reads z.reads x.writes z.writes) out err) (sym whole.1) (line, inl whole.0, record { front = front; printed = printed; behind = behind })
 line_given stops.WriteFault status x y z line reads writes later_reads later_writes read_fault write_fault (inr cut) files words out front err printed behind =
-    subst (λ s. Answers files words s (counts x.reads z.reads x.writes z.writes) out err) (sym cut.1)
-      ( line
-      , inr (inl (cut.0, rose_twice x.writes y.writes z.writes (write_fault refl) cut.2))
-      , record { front = front; printed = printed; behind = behind }
-      )
+    subst (λ s. Answers files words s (counts x.reads z.reads x.writes z.writes) out err) (sym cut.1) (
+      line,
+      inr (inl (cut.0, rose_twice x.writes y.writes z.writes (write_fault refl) cut.2)),
+      record { front = front; printed = printed; behind = behind },
+    )
 line_given stops.OutOfMemory status x y z line reads writes later_reads later_writes read_fault write_fault (inl whole) files words out front err printed behind =
     subst (λ s. Answers files words s (counts x.reads z.reads x.writes z.writes) out err) (sym whole.1) (line, inl whole.0, record { front = front; printed = printed; behind = behind })
 line_given stops.OutOfMemory status x y z line reads writes later_reads later_writes read_fault write_fault (inr cut) files words out front err printed behind =
     subst (λ s. Answers files words s (counts x.reads z.reads x.writes z.writes) out err) (sym cut.1)
-      (line, inr (cut.0, rose_later x.writes y.writes z.writes writes cut.2), record { front = front; printed = printed; behind = behind })
+    (line, inr (cut.0, rose_later x.writes y.writes z.writes writes cut.2), record { front = front; printed = printed; behind = behind })
 
 printed_as : (files : List ℕ → Option (List ℕ)) (words : List (List ℕ)) (out err o : List ℕ) → o ≡ out → PrintedSoFar files words out err → PrintedSoFar files words o err
 printed_as files words out err o is printed = subst (λ w. PrintedSoFar files words w err) (sym is) printed
@@ -319,10 +319,10 @@ over_stopped words stop status x y z before (Some m) is fresh prints tells over 
       files = over.files;
       log = over.log ∙ fresh.log;
       answer = line_given stop status x y z tells.line prints.reads prints.writes tells.reads tells.writes
-        (λ same. prints.read_fault (ap Err same)) (λ same. prints.write_fault (ap Err same)) tells.how
-        before.files words m.out over.err (m.err ++ tells.line)
-        (printed_as before.files words over.out over.err m.out (fresh_out m.out before.out over.out fresh.out over.out_is) over.how)
-        (ap (λ w. w ++ tells.line) (fresh_out m.err before.err over.err fresh.err over.err_is));
+          (λ same. prints.read_fault (ap Err same)) (λ same. prints.write_fault (ap Err same)) tells.how
+          before.files words m.out over.err (m.err ++ tells.line)
+          (printed_as before.files words over.out over.err m.out (fresh_out m.out before.out over.out fresh.out over.out_is) over.how)
+          (ap (λ w. w ++ tells.line) (fresh_out m.err before.err over.err fresh.err over.err_is));
     })
 
 -- a run that stopped, and told why
@@ -330,8 +330,8 @@ pub run_stopped : (words : List (List ℕ)) (stop : Stop) (status : Status) (x y
     IfSome x.told (λ before. IsFresh before → IsSomeAnd z.told (λ after. Answered before after words status (counts x.reads z.reads x.writes z.writes)))
 run_stopped words stop status x y z prints tells =
     if_some x.told (λ before. IsSomeAnd y.told (λ after. PrintsOver words before after (Err stop)))
-      (λ before. IsFresh before → IsSomeAnd z.told (λ after. Answered before after words status (counts x.reads z.reads x.writes z.writes)))
-      (λ before over fresh. over_stopped words stop status x y z before y.told refl fresh prints tells over) prints.told
+    (λ before. IsFresh before → IsSomeAnd z.told (λ after. Answered before after words status (counts x.reads z.reads x.writes z.writes)))
+    (λ before over fresh. over_stopped words stop status x y z before y.told refl fresh prints tells over) prints.told
 
 -- ---- faults are counted
 

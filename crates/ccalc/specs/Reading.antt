@@ -37,7 +37,7 @@ RefusesText bytes refusal =
     ((limit_number FileBytes < length bytes) × (refusal ≡ too_long))
     ⊎ (((length bytes ≤ limit_number FileBytes) × IsNotSmall bytes × (refusal ≡ refusal_without_place 13))
     ⊎ ((length bytes ≤ limit_number FileBytes) × (small : Small) × IsSmall bytes small
-        × (law : Law) × (first_undeclared small ≡ Some law) × (refusal ≡ refusal_at 5 law.line)))
+    × (law : Law) × (first_undeclared small ≡ Some law) × (refusal ≡ refusal_at 5 law.line)))
 
 -- what a text that is not refused declares
 abbrev pub Declares : List ℕ → Small → Type 0

@@ -1,4 +1,4 @@
-//! The causal calculator.
+//! The causal calculator: reads a description of actions and change, and lists its histories.
 #![tactic(auto)]
 
 pub mod laws;
@@ -11,9 +11,41 @@ mod run;
 mod scanner;
 mod small;
 mod status;
+#[cfg(test)]
+mod tests;
 mod words;
 
-pub use run::run;
+use cc_ports::RealDesk;
+pub use run::{run, run_still};
 pub use status::Status;
+use std::io;
+use std::process::ExitCode;
 
-fn main() {}
+/// The code where the machine does not hand the words over as texts. It is no answer of `run`.
+const NO_WORDS: u8 = 8;
+
+/// The words behind the program's own name, or the code to end with where there are none to be had.
+fn words_of(rt: &HostRuntime) -> Result<Vec<String>, u8> {
+    let args = std::env::args(rt).map_err(code_of)?;
+    args.skip(1)
+        .collect(rt.alloc())
+        .map_err(|_| Status::OutOfMemory.code())
+}
+
+fn code_of(error: io::Error) -> u8 {
+    match error.kind() {
+        io::ErrorKind::OutOfMemory => Status::OutOfMemory.code(),
+        _ => NO_WORDS,
+    }
+}
+
+fn main(rt: HostRuntime) -> ExitCode {
+    let alloc = rt.alloc();
+    match words_of(&rt) {
+        Ok(words) => {
+            let mut desk = RealDesk::new(rt);
+            ExitCode::from(run(alloc, &words, &mut desk).code())
+        }
+        Err(code) => ExitCode::from(code),
+    }
+}

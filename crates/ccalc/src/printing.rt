@@ -15,7 +15,8 @@ use cc_print::{event_text, key_text, refusal_text};
 use std::alloc::Global;
 
 /// The second line of a refusal of the words.
-const USAGE: &str = "usage: ccalc [--mode list|check|make] [--query LABEL] [--count N] [--budget B] [--after KEY] [--log NAME] [--size N] [FILE]\n";
+const USAGE: &str =
+    "usage: ccalc [--mode list|check|make] [--query LABEL] [--count N] [--budget B] [--after KEY] [--log NAME] [--size N] [FILE]\n";
 
 /// Gives bytes to an output.
 pub(crate) fn give<D: Desk>(desk: &mut D, to: To, bytes: &[u8]) -> Result<(), Stop>
@@ -51,7 +52,12 @@ pub(crate) fn tell_history<D: Desk>(
     tell_key(alloc, desk, row)
 }
 
-fn tell_state<D: Desk>(alloc: Global, desk: &mut D, names: &[&[u8]], row: &[u32]) -> Result<(), Stop>
+fn tell_state<D: Desk>(
+    alloc: Global,
+    desk: &mut D,
+    names: &[&[u8]],
+    row: &[u32],
+) -> Result<(), Stop>
     requires { length row.now ≡ length names.now }
     ensures { Step outputs.Out (state_line_of (map (λ name. name.now) names.now) row.now) (moment D.told D.begun D.read_faults D.write_faults desk.old) (moment D.told D.begun D.read_faults D.write_faults desk.new) result }
 {

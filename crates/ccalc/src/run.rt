@@ -1,5 +1,5 @@
 //! The top call.
-ghost use Rattle.std.specs.Prelude.{◌≡◌, ℕ, List, ◌≤◌, ◌<◌, ◌^◌, length, map, Some, None, IfSome, IsSomeAnd, string_bytes, option_copied};
+ghost use Rattle.std.specs.Prelude.{◌≡◌, ◌≢◌, ℕ, List, ◌≤◌, ◌<◌, ◌^◌, length, map, Some, None, IfSome, IsSomeAnd, string_bytes, option_copied};
 ghost use Rattle.cc_ports.specs.Contents.{Rose};
 ghost use Rattle.cc_defs.specs.Limits.{limit_number};
 ghost use Rattle.cc_defs.specs.declared.refusal.LimitAt.TheVariants.{FileBytes};
@@ -9,14 +9,14 @@ ghost use Rattle.ccalc.specs.Small.{IsSmall};
 ghost use Rattle.ccalc.specs.SmallViews.{small_view};
 ghost use Rattle.ccalc.specs.Stops.{Prints, moment};
 
-use crate::listing::list;
 use crate::lister::resolve;
+use crate::listing::list;
 use crate::printing::{refuse, tell_stop};
 use crate::reader::read_small;
 use crate::small::Small;
 use crate::status::{Status, Stop};
 use cc_defs::{LimitAt, OutOfMemory, Refusal};
-use cc_ports::{Desk, ReadStop, read_all};
+use cc_ports::{Desk, Files, ReadStop, StillDesk, read_all};
 use std::alloc::Global;
 
 /// The most bytes of a file.
@@ -32,7 +32,7 @@ pub fn run<D: Desk>(alloc: Global, words: &[String], desk: &mut D) -> Status
     // they are all of them, and `no history` only where there is none; or, after a fault, a front of either.
     ensures answer { IfSome (D.told desk.old) (λ before. IsFresh before →
         IsSomeAnd (D.told desk.new) (λ after. Answered before after (map string_bytes words.now) result
-            (counts (D.read_faults desk.old) (D.read_faults desk.new) (D.write_faults desk.old) (D.write_faults desk.new)))) }
+        (counts (D.read_faults desk.old) (D.read_faults desk.new) (D.write_faults desk.old) (D.write_faults desk.new)))) }
     ensures no_log { D.begun desk.new ≡ D.begun desk.old }
 
     // A fault is answered only where the desk counted one.
@@ -80,7 +80,12 @@ fn answer_file<D: Desk>(alloc: Global, desk: &mut D, name: &str) -> Result<Statu
     }
 }
 
-fn answer_text<D: Desk>(alloc: Global, desk: &mut D, name: &str, bytes: &[u8]) -> Result<Status, Stop>
+fn answer_text<D: Desk>(
+    alloc: Global,
+    desk: &mut D,
+    name: &str,
+    bytes: &[u8],
+) -> Result<Status, Stop>
     requires { length bytes.now ≤ limit_number FileBytes }
     ensures { (words : List (List ℕ)) → file_named words ≡ Some name.now →
         IfSome (D.told desk.old) (λ before. before.files name.now ≡ Some bytes.now) →
@@ -93,7 +98,12 @@ fn answer_text<D: Desk>(alloc: Global, desk: &mut D, name: &str, bytes: &[u8]) -
     }
 }
 
-fn answer_small<D: Desk>(alloc: Global, desk: &mut D, name: &str, small: &Small<'_>) -> Result<Status, Stop>
+fn answer_small<D: Desk>(
+    alloc: Global,
+    desk: &mut D,
+    name: &str,
+    small: &Small<'_>,
+) -> Result<Status, Stop>
     requires { length small.now.names.items ≤ 12 }
     ensures { (words : List (List ℕ)) (bytes : List ℕ) → file_named words ≡ Some name.now →
         length bytes ≤ limit_number FileBytes → IsSmall bytes (small_view small.now) →
@@ -127,4 +137,13 @@ fn too_long() -> Refusal
         line: 1,
         limit: Some(LimitAt::FileBytes),
     }
+}
+
+/// Runs over a desk that never fails: neither fault is answered, since its counts of faults stay 0.
+pub fn run_still(alloc: Global, words: &[String], files: Files) -> Status
+    ensures no_read_fault { result ≢ Status.ReadFault }
+    ensures no_write_fault { result ≢ Status.WriteFault }
+{
+    let mut desk = StillDesk::new(files);
+    run(alloc, words, &mut desk)
 }

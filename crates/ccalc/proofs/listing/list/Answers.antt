@@ -28,7 +28,7 @@ returns-in_err-number-clause-told g c =
     let all : rows_from c.deref_mut.result.now ≡ all_rows names = rw c.deref_mut.ensures.value (c.in_ok-row.ensures.all names (length-map _ _ ∙ (sym (ap length c.deref.ensures.value) ∙ (c.deref.ensures.len ∙ sym c.len.ensures)))) in
     let text = listed (small_view c.args.small.now) (map (λ name. name.now) c.deref.result.now) (rules_view c.args.rules.now) c.deref_mut.result.now (ap (map (λ name. name.now)) c.deref.ensures.value) c.requires.rules all in
     step_as _ _ _ _ _ c.from_residual-in_err-number.result text
-      (step_cut _ _ _ _ _ c.list_rows.result c.in_err-number.field-0.0 c.from_residual-in_err-number.result c.list_rows.ensures.told c.in_err-number.was c.from_residual-in_err-number.ensures.1)
+    (step_cut _ _ _ _ _ c.list_rows.result c.in_err-number.field-0.0 c.from_residual-in_err-number.result c.list_rows.ensures.told c.in_err-number.was c.from_residual-in_err-number.ensures.1)
 
 pub returns-clause-told : goal.returns-clause-told
 returns-clause-told g c =
@@ -37,7 +37,7 @@ returns-clause-told g c =
     let text = listed (small_view c.args.small.now) (map (λ name. name.now) c.deref.result.now) (rules_view c.args.rules.now) c.deref_mut.result.now (ap (map (λ name. name.now)) c.deref.ensures.value) c.requires.rules all in
     let ends = rw c.in_ok-number.ensures.number at c.tell_ending.ensures.told in
     step_as _ _ _ _ _ c.tell_ending.result text
-      (step_then _ _ _ _ _ _ c.list_rows.result c.in_ok-number.number c.tell_ending.result c.list_rows.ensures.told c.in_ok-number.was ends)
+    (step_then _ _ _ _ _ _ c.list_rows.result c.in_ok-number.number c.tell_ending.result c.list_rows.ensures.told c.in_ok-number.was ends)
 
 pub returns-clause-status : goal.returns-clause-status
 returns-clause-status g c =

@@ -14,7 +14,7 @@ invariant-loop-number g l =
       bits : AllBits l.row;
       length : length l.row ≡ length l.names;
       listed : ListedSoFar (map (λ name. name.now) l.names) (rules_pass (rules_view l.rules)) l.fn.row l.row l.number
-        (moment desk.told desk.begun desk.read_faults desk.write_faults l.initial.desk) (moment desk.told desk.begun desk.read_faults desk.write_faults l.desk);
+          (moment desk.told desk.begun desk.read_faults desk.write_faults l.initial.desk) (moment desk.told desk.begun desk.read_faults desk.write_faults l.desk);
     }
 
 abbrev pub decreases-loop-number : goal.decreases-loop-number

@@ -10,4 +10,4 @@ returns-in-None g c =
     let refused = refuses_words (g.D.Desk.told c.args.desk.now) words (sym c.in-None.ensures) in
     let nameless : List ℕ = [] in
     prints_refusal words c.refusal_without_place.result nameless _ _ c.refuse.result (rw c.refusal_without_place.ensures refused)
-      c.refuse.ensures.told c.refuse.ensures.status
+    c.refuse.ensures.told c.refuse.ensures.status

@@ -1,0 +1,1 @@
+:- constants p :: simpleFluent. caused p. caused -p. :- query maxstep :: 0.
