@@ -1,3 +1,4 @@
+pub mod Clauses
 pub mod Description
 pub mod Events
 pub mod Examples
@@ -5,8 +6,10 @@ pub mod Formulas
 pub mod Histories
 pub mod Laws
 pub mod Limits
+pub mod LitCodes
 pub mod Paths
 pub mod Rows
 pub mod Rules
 pub mod Texts
 pub mod Theories
+pub mod Tokens

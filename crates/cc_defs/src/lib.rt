@@ -8,14 +8,20 @@ mod event;
 mod examples;
 pub mod laws;
 mod lists;
+mod literal;
+mod node;
 mod refusal;
 mod rows;
 mod signature;
 #[cfg(test)]
 mod tests;
+mod token;
 
 pub use event::{Ending, Event, Told};
-pub use lists::{Bytes, Key, Name, Nums, Row, Text};
+pub use lists::{Bytes, Key, Lits, Name, Nums, Row, Text};
+pub use literal::Lit;
+pub use node::Node;
 pub use refusal::{Fault, LimitAt, OutOfMemory, Refusal};
 pub use rows::compare_rows;
 pub use signature::{At, Const, Kind, LawKind, Symbol};
+pub use token::{Mark, Token, TokenKind};

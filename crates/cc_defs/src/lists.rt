@@ -1,7 +1,7 @@
 //! Small types over `Vec` and `String` that contracts see as lists.
 ghost use Rattle.std.specs.Prelude.{◌≡◌, IfOk, string_bytes};
 
-use crate::OutOfMemory;
+use crate::{Lit, OutOfMemory};
 use std::alloc::Global;
 use std::marker::Model;
 
@@ -171,5 +171,34 @@ impl Text {
         ensures { result.now ≡ self.now }
     {
         self.bytes.as_str()
+    }
+}
+
+/// A list of literals.
+#[derive(Drop)]
+pub struct Lits {
+    literals: Vec<Lit>,
+}
+
+impl Model for Lits {
+    ghost use Rattle.std.specs.Prelude.{List};
+    ghost use Rattle.cc_defs.specs.Clauses.{Literal};
+
+    ghost Value = { List Literal };
+
+    ghost view = { λ value. value.literals.items };
+}
+
+impl Lits {
+    pub fn of(items: Vec<Lit>) -> Self
+        ensures { result ≡ items.items }
+    {
+        Lits { literals: items }
+    }
+
+    pub fn items(&self) -> &[Lit]
+        ensures { result.now ≡ self.now }
+    {
+        self.literals.as_slice()
     }
 }

@@ -1,5 +1,7 @@
 //! What no clause says: that calls succeed while there is memory, and that names and numbers are those that were meant.
-use crate::{Bytes, Key, LimitAt, Name, Nums, Row, Text, compare_rows};
+use crate::{
+    Bytes, Key, LimitAt, Lit, Lits, Mark, Name, Nums, Row, Text, Token, TokenKind, compare_rows,
+};
 use std::cmp::Ordering;
 use std::test::Fail;
 
@@ -67,4 +69,23 @@ fn limits_are_those_of_the_table(rt: HostRuntime) {
         assert_eq!(rt; limit.name(), name);
         assert_eq!(rt; limit.number(), number, "{name}");
     }
+}
+
+#[test]
+fn literals_and_tokens(rt: HostRuntime) -> Result<(), Fail> {
+    let literal = Lit::positive(7);
+    assert_eq!(rt; literal.variable(), 7);
+    assert!(rt; literal.is_positive());
+    assert_eq!(rt; literal.opposite(), Lit::negative(7));
+    assert!(rt; Lit::negative(7) < literal && literal < Lit::negative(8));
+    let literals = Lits::of([literal].to_vec(rt.alloc())?);
+    assert_eq!(rt; literals.items().len(), 1);
+    let token = Token {
+        kind: TokenKind::Mark(Mark::Arrow),
+        text: "->>",
+        line: 3,
+    };
+    assert_eq!(rt; token.text(), "->>");
+    assert_eq!(rt; token.kind(), TokenKind::Mark(Mark::Arrow));
+    Ok(())
 }
