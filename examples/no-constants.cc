@@ -1,0 +1,1 @@
+:- query maxstep :: 0.

@@ -1,0 +1,1 @@
+:- constants p, q :: simpleFluent. :- query maxstep :: 0.
