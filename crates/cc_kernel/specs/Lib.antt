@@ -1,0 +1,4 @@
+pub mod Kernels
+pub mod Laws
+pub mod Parts
+pub mod Resolving

@@ -1,0 +1,7 @@
+pub mod Ascii
+pub mod Cuts
+pub mod Ends
+pub mod Gaps
+pub mod MarkFronts
+pub mod Stepping
+pub mod Words
