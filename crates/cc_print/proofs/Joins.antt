@@ -1,5 +1,5 @@
 -- Lists joined with a byte between them.
-use Rattle.std.proofs.Common.{◌≡◌, ℕ, List, [], ◌∷◌, ◌++◌, refl, ap, append-nil, sym}
+use Rattle.std.proofs.Common.{◌≡◌, ℕ, List, [], ◌∷◌, ◌++◌, ap, append-nil, sym}
 use Rattle.std.specs.List.{join_with_byte, flat_map}
 
 -- the first, and the byte and another for each of the others

@@ -1,5 +1,5 @@
 -- What the scan of a text gives are its tokens, and no others are.
-use Rattle.std.proofs.Common.{◌≡◌, ℕ, zero, suc, ◌+◌, Bool, true, false, ◌||◌, ◌&&◌, cond, eqb, List, [], ◌∷◌, ◌++◌, Option, Some, None, refl, sym, ap, subst, ◌∙◌, append_assoc, arith, inl, inr, ◌⊎◌}
+use Rattle.std.proofs.Common.{◌≡◌, ℕ, ◌+◌, Bool, true, false, ◌||◌, ◌&&◌, cond, eqb, List, [], ◌∷◌, ◌++◌, Option, Some, None, refl, sym, ap, subst, ◌∙◌, append_assoc, arith, inl, inr, ◌⊎◌}
 use Rattle.std.specs.Prelude.{codes}
 use Rattle.std.specs.List.{list_all, list_any}
 use Rattle.std.specs.Cmp.Lexicographic.{same_text}
@@ -8,7 +8,7 @@ use Rattle.std.proofs.lemmas.List.{append-nil}
 use Rattle.std.proofs.lemmas.List.Folds.{list_all-append}
 use Rattle.std.proofs.lemmas.List.Sums.{sum_by-cons}
 use Rattle.ccalc.specs.Pieces.{Token, is_space, is_letter, is_word_byte, is_word, same_bytes, marks, is_piece, IsLongest, line_feeds, IsCut}
-use Rattle.ccalc.specs.Scanner.{given, ◌>>=◌, joins, begins_mark, opened, closed, next_line, scan}
+use Rattle.ccalc.specs.Scanner.{◌>>=◌, joins, begins_mark, opened, closed, next_line, scan}
 use Rattle.ccalc.proofs.Scanning.{scan_joins, scan_other}
 
 -- ---- tests

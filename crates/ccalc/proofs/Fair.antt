@@ -1,10 +1,10 @@
 -- The listing of the rows that pass is fair.
-use Rattle.std.proofs.Common.{◌≡◌, ℕ, ◌+◌, ◌<◌, ◌≤◌, ◌↔◌, List, [], ◌∷◌, length, map, filter, Contains, None, inl, inr, refl, sym, subst, arith}
+use Rattle.std.proofs.Common.{◌≡◌, ℕ, ◌+◌, List, [], ◌∷◌, None, inl, inr, refl, sym, subst, arith}
 use Rattle.std.specs.List.Sorted.{IsStrictlySortedBy}
 use Rattle.std.proofs.lemmas.List.Kept.{IsStrictlySortedBy-filter}
 use Rattle.cc_defs.specs.Rows.{IsRow, row_cmp}
-use Rattle.cc_defs.specs.Description.{Description, sizes_at}
-use Rattle.cc_defs.specs.Histories.{IsListing, IsHistory, AreFirst}
+use Rattle.cc_defs.specs.Description.{Description}
+use Rattle.cc_defs.specs.Histories.{IsListing}
 use Rattle.cc_defs.specs.Events.{IsFairListing}
 use Rattle.ccalc.specs.Small.{Small, description_of, states_query}
 use Rattle.ccalc.specs.Reading.{first_undeclared}

@@ -1,15 +1,14 @@
 -- Tokens that begin with given texts, and the steps of the parser on them.
-use Rattle.std.proofs.Common.{◌≡◌, ℕ, zero, suc, ◌+◌, ◌<◌, ◌≤◌, Bool, true, false, ◌&&◌, cond, List, [], ◌∷◌, ◌++◌, length, map, Option, Some, None, refl, sym, ap, subst, ◌∙◌, append_assoc, arith, inl, inr, ◌⊎◌}
-use Rattle.std.specs.Prelude.{codes}
+use Rattle.std.proofs.Common.{◌≡◌, ℕ, zero, suc, ◌+◌, ◌<◌, ◌≤◌, Bool, true, false, cond, List, [], ◌∷◌, ◌++◌, length, Option, Some, None, refl, sym, ap, subst, ◌∙◌, append_assoc, arith, inl, inr, ◌⊎◌}
 use Rattle.std.specs.List.{list_all, flat_map}
 use Rattle.std.proofs.lemmas.Bool.{eq-eqb}
 use Rattle.std.proofs.lemmas.List.{append-nil}
 use Rattle.std.proofs.lemmas.List.Concat.{flat_map-cons}
 use Rattle.ccalc.specs.Pieces.{Token, same_bytes}
 use Rattle.ccalc.specs.Small.{texts, is_name}
-use Rattle.ccalc.specs.Scanner.{given, ◌>>=◌}
+use Rattle.ccalc.specs.Scanner.{given}
 use Rattle.ccalc.specs.Parser.{expect, expect_all, name_at, many}
-use Rattle.ccalc.proofs.Cuts.{bool_cases, both, is_same, bind_some}
+use Rattle.ccalc.proofs.Cuts.{both, is_same, bind_some}
 
 -- the tokens begin with tokens of these texts, and rest is what follows
 abbrev pub Front : List Token → List (List ℕ) → List Token → Type 0

@@ -1,16 +1,16 @@
 -- What the parser gives is spelled by the tokens, and what they spell it gives.
-use Rattle.std.proofs.Common.{◌≡◌, ℕ, zero, suc, ◌+◌, ◌<◌, ◌≤◌, Bool, true, false, ◌&&◌, cond, List, [], ◌∷◌, ◌++◌, length, map, Option, Some, None, refl, sym, ap, subst, ◌∙◌, append_assoc, arith, inl, inr, ◌⊎◌}
+use Rattle.std.proofs.Common.{◌≡◌, ℕ, ◌≤◌, Bool, true, false, cond, List, [], ◌∷◌, ◌++◌, length, Option, Some, None, refl, sym, ap, subst, ◌∙◌, append_assoc, arith, inl, inr, ◌⊎◌}
 use Rattle.std.specs.Prelude.{codes}
-use Rattle.std.specs.List.{list_all, flat_map}
+use Rattle.std.specs.List.{list_all}
 use Rattle.std.proofs.lemmas.Bool.{leb-true, le-leb}
 use Rattle.std.proofs.lemmas.List.{append-nil}
 use Rattle.std.proofs.lemmas.List.Folds.{list_all-append}
 use Rattle.ccalc.specs.Pieces.{Token}
 use Rattle.ccalc.specs.Small.{Literal, Law, Small, literal_texts, head_texts, body_texts, law_texts, constants_texts, query_texts, texts, SpellsLaws, Spells, is_name, head_literals, has_names, are_different}
-use Rattle.ccalc.specs.Scanner.{given, ◌>>=◌}
-use Rattle.ccalc.specs.Parser.{expect, expect_all, name_at, signed, literal_at, head_at, many, name_item, literal_item, body_at, names_at, law_at, laws_at, kind_texts, declared_from, constants_at, may_be_declared, ended, finished_at, small_at}
-use Rattle.ccalc.proofs.Cuts.{bool_cases, both, bind_some}
-use Rattle.ccalc.proofs.Fronts.{Front, front-then, front-split, front-length, front-parts, front-of, given_cases, if_some, some_is, expect_takes, expect_front, expect_first, expect_again, expect_none, all_takes, all_again, name_takes, name_again, name_none, IsReader, Led, many_takes, many_again, led-length, led_texts, flat_map-led, led_front, front_led}
+use Rattle.ccalc.specs.Scanner.{◌>>=◌}
+use Rattle.ccalc.specs.Parser.{expect, expect_all, name_at, signed, literal_at, head_at, name_item, literal_item, body_at, names_at, law_at, laws_at, kind_texts, declared_from, constants_at, may_be_declared, ended, finished_at, small_at}
+use Rattle.ccalc.proofs.Cuts.{both, bind_some}
+use Rattle.ccalc.proofs.Fronts.{Front, front-then, front-split, front-length, front-parts, front-of, given_cases, some_is, expect_front, expect_again, expect_none, all_takes, all_again, name_takes, name_again, name_none, IsReader, Led, many_takes, many_again, led-length, led_texts, flat_map-led, led_front, front_led}
 
 -- ---- literals and heads
 

@@ -1,9 +1,9 @@
 -- The lister's functions: the laws by number test what the laws test, and the rows come in order.
-use Rattle.std.proofs.Common.{filter, ◌≡◌, ℕ, ◌+◌, ◌-◌, ◌<◌, ◌≤◌, ◌≢◌, ltb, position, find, IfSome, unwrap_or, Bool, true, false, not, cond, ◌&&◌, ◌||◌, ◌==◌, List, [], ◌∷◌, ◌++◌, length, map, get_or, set, take, drop, replicate, zero, suc, Option, Some, None, option_map, All, inl, inr, refl, sym, ◌∙◌, subst, subst₂, ap, ap₂, arith}
+use Rattle.std.proofs.Common.{filter, ◌≡◌, ℕ, ◌+◌, ◌<◌, ◌≤◌, ◌≢◌, ltb, position, find, IfSome, unwrap_or, Bool, true, false, not, cond, ◌&&◌, ◌||◌, List, [], ◌∷◌, ◌++◌, length, map, get_or, set, take, drop, replicate, zero, suc, Option, Some, None, option_map, All, refl, sym, ◌∙◌, subst, subst₂, ap, ap₂, arith}
 use Rattle.std.specs.List.{list_all, list_any, position_or_len}
 use denote.Ref.{Bor}
-use Rattle.std.proofs.lemmas.List.{length-set, length-append, length-take, take-append-drop, take-take, get_or-take, drop_more, set_split, drop-set, take-set, length-map, length-drop, map_more, take_all, get_or-map, map_push, length-replicate}
-use Rattle.std.proofs.lemmas.List.Elements.{filter_agree, All-head, All-tail, All-take, All-set, All-get_or, All-nil, All-cons, All-push}
+use Rattle.std.proofs.lemmas.List.{length-set, length-append, take-append-drop, take-take, get_or-take, drop_more, set_split, drop-set, take-set, length-map, length-drop, map_more, take_all, get_or-map, length-replicate}
+use Rattle.std.proofs.lemmas.List.Elements.{filter_agree, All-head, All-tail, All-take, All-set, All-get_or, All-nil, All-cons}
 use Rattle.std.proofs.lemmas.List.Folds.{list_all-map, list_all_more, list_all_at, list_all-append}
 use Rattle.std.proofs.lemmas.Bool.{lt-ltb, and_from, and_parts, cond-true, cond-false}
 use Rattle.std.proofs.lemmas.Bool.Decides.{nat_tests}
@@ -11,8 +11,8 @@ use Rattle.ccalc.specs.declared.lister.Rule.{Rule}
 use Rattle.ccalc.specs.declared.lister.Test.{Test}
 use Rattle.ccalc.specs.Pieces.{same_bytes}
 use Rattle.ccalc.specs.Small.{Law, Small, Literal, head_literals, is_declared}
-use Rattle.ccalc.specs.Lister.{rows_listed, all_rows, rows_from, head_met, law_met, literal_holds, passes}
-use Rattle.ccalc.specs.ListerViews.{names_view, RuleView, AllBits, test_of, rule_of, resolved, rules_pass, rule_met, optional_test_met, test_met, test_found, body_found, rule_found, is_known, rule_view, rules_view, IsRuleWithin, AreTestsWithin, AreWithin}
+use Rattle.ccalc.specs.Lister.{rows_listed, all_rows, rows_from, head_met, law_met, passes}
+use Rattle.ccalc.specs.ListerViews.{names_view, RuleView, AllBits, test_of, rule_of, resolved, rules_pass, rule_met, optional_test_met, test_met, test_found, is_known, rule_view, rules_view, IsRuleWithin, AreTestsWithin, AreWithin}
 use Rattle.ccalc.proofs.Literals.{number_below}
 
 -- ---- the test of a row

@@ -1,8 +1,8 @@
 -- The meaning of literals, bodies, heads and laws is what the lister tests, at a row of bits.
-use Rattle.std.proofs.Common.{◌≡◌, ℕ, ◌+◌, ◌*◌, ◌<◌, ◌≤◌, Bool, true, false, not, cond, ◌&&◌, ◌||◌, ◌==◌, nat_eq, List, [], ◌∷◌, ◌++◌, Option, Some, None, length, map, flat_map, get_or, position, unwrap_or, option_and_then, slice_get, fold, zero, suc, refl, sym, ◌∙◌, subst, ap, ap₂, arith, append-nil, find}
+use Rattle.std.proofs.Common.{◌≡◌, ℕ, ◌+◌, ◌<◌, Bool, true, false, not, cond, ◌&&◌, ◌||◌, ◌==◌, nat_eq, List, [], ◌∷◌, ◌++◌, Option, Some, None, length, map, flat_map, get_or, position, unwrap_or, slice_get, fold, zero, suc, refl, sym, ◌∙◌, subst, ap, ap₂, arith, append-nil}
 use Rattle.std.specs.List.{list_all, list_any, position_or_len}
 use Rattle.std.specs.Cmp.Lexicographic.{pointwise}
-use Rattle.std.proofs.lemmas.Bool.{cases_Bool, cond-true, lt-ltb, and_parts, eq-eqb, ne_eqb, and_left, and_from}
+use Rattle.std.proofs.lemmas.Bool.{cond-true, lt-ltb, and_parts, eq-eqb, ne_eqb, and_left, and_from}
 use Rattle.std.proofs.lemmas.List.{get_or-map, length-map}
 use Rattle.std.proofs.lemmas.List.Folds.{list_all-append}
 use Rattle.std.proofs.lemmas.List.Sums.{position_or_len_is}
@@ -12,7 +12,7 @@ use Rattle.cc_defs.specs.Formulas as formulas
 use Rattle.cc_defs.specs.Description as descriptions
 use Rattle.cc_defs.specs.Rules.{upto, rule_at, rules_of_kind}
 use Rattle.ccalc.specs.Pieces.{same_bytes}
-use Rattle.ccalc.specs.Small.{Literal, Law, number_of, literal_formula, body_formula, literal_head, law_of, fluent_of, head_literals, law_literals, is_declared}
+use Rattle.ccalc.specs.Small.{Literal, Law, number_of, literal_formula, body_formula, literal_head, law_of, fluent_of, head_literals, is_declared}
 use Rattle.ccalc.specs.Lister.{literal_holds, head_met, law_met}
 use Rattle.ccalc.proofs.Reducts.{is_kept}
 use Rattle.ccalc.proofs.BooleanRows.{length-upto, get_or-upto}

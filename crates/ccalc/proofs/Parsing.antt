@@ -7,7 +7,6 @@ use Rattle.ccalc.specs.declared.scanner.Token.{Token as TokenRead}
 use Rattle.ccalc.specs.Pieces.{Token, same_bytes}
 use Rattle.std.specs.List.{list_any}
 use Rattle.ccalc.specs.Small.{Small, Law, is_name, are_different, query_texts}
-use Rattle.ccalc.specs.Scanner.{given, ◌>>=◌}
 use Rattle.ccalc.specs.Parser.{expect, expect_all, name_at, many, may_be_declared, ended, finished_at}
 use Rattle.ccalc.specs.ReaderViews.{token_view, token_views}
 

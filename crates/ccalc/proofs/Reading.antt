@@ -1,9 +1,9 @@
 -- The reader's two laws, and that a text declares one thing.
-use Rattle.std.proofs.Common.{◌≡◌, ℕ, List, [], Option, Some, None, Result, Ok, Err, false, refl, sym, ap, ◌∙◌}
+use Rattle.std.proofs.Common.{◌≡◌, ℕ, List, [], Option, Some, None, Result, Ok, Err, false, sym, ◌∙◌}
 use Rattle.std.specs.Prelude.{IfOk, IfSome, IfNone, option_map}
-use Rattle.ccalc.specs.Pieces.{Token, blanked}
+use Rattle.ccalc.specs.Pieces.{blanked}
 use Rattle.ccalc.specs.Small.{Small, IsSmall, IsNotSmall}
-use Rattle.ccalc.specs.Scanner.{given, ◌>>=◌, scan}
+use Rattle.ccalc.specs.Scanner.{scan}
 use Rattle.ccalc.specs.Parser.{small_at, small_of}
 use Rattle.ccalc.proofs.Cuts.{bind_some, scan_cuts, cut_scans}
 use Rattle.ccalc.proofs.Fronts.{some_is}

@@ -1,19 +1,17 @@
 -- A run from its steps.
-use Rattle.std.proofs.Common.{◌≡◌, ℕ, ◌+◌, ◌≤◌, ◌<◌, List, [], ◌∷◌, ◌++◌, Option, Some, None, Result, Ok, Err, refl, sym, ◌∙◌, ap, subst, append_assoc, append-nil, arith, inl, inr, option_map, length}
-use Rattle.std.specs.Prelude.{MatchResult, IfSome, IfOk, IsSomeAnd, IsErrOf, IsErrAnd, ◌⊎◌}
+use Rattle.std.proofs.Common.{◌≡◌, ℕ, ◌≤◌, ◌<◌, List, [], ◌∷◌, ◌++◌, Option, Some, None, Result, Ok, Err, refl, sym, ◌∙◌, ap, subst, append-nil, arith, inl, inr, option_map, length}
+use Rattle.std.specs.Prelude.{MatchResult, IfSome, IfOk, IsSomeAnd, ◌⊎◌}
 use Rattle.cc_defs.specs.declared.refusal.Refusal.{Refusal}
-use Rattle.cc_defs.specs.Events.{Listing, out_text, events_of}
 use Rattle.cc_ports.specs.Contents.{Contents, appended, with_rest, IsPrefix, Rose}
-use Rattle.cc_ports.specs.declared.desk.To.{To}
 use Rattle.cc_ports.specs.declared.desk.To.TheVariants as outputs
 use Rattle.ccalc.specs.declared.status.Status.{Status}
 use Rattle.ccalc.specs.declared.status.Status.TheVariants as statuses
 use Rattle.ccalc.specs.declared.status.Stop.{Stop}
 use Rattle.ccalc.specs.declared.status.Stop.TheVariants as stops
-use Rattle.ccalc.specs.Answers.{Plan, IsPlan, RefusedPlan, ListedPlan, Ended, IsFront, PrintedSoFar, CutShort, CutShortBy, IsFaultLine, Answers, Answered, IsFresh, Counts, counts, RoseTwice, refusal_text, status_of}
+use Rattle.ccalc.specs.Answers.{Plan, IsPlan, Ended, PrintedSoFar, Answers, Answered, IsFresh, Counts, counts, RoseTwice, refusal_text, status_of}
 use Rattle.ccalc.specs.Lister.{listing_text, listing_of, listing_of_rows, rows_listed, ending_of_rows}
 use Rattle.ccalc.specs.Reading.{Refuses, RefusesText, Lists, Declares, first_undeclared, file_of, refusal_without_place, too_long}
-use Rattle.ccalc.specs.Small.{Small, description_of}
+use Rattle.ccalc.specs.Small.{Small}
 use Rattle.ccalc.specs.Stops.{Moment, Step, Prints, PrintsOver, IsEndStatus, TellsStop, stop_line, stop_status, cut_status}
 use Rattle.ccalc.proofs.Fair.{listing_is_fair}
 use Rattle.ccalc.proofs.Steps.{rose_later, rose_earlier}
@@ -53,14 +51,14 @@ err_comes : (files : List ℕ → Option (List ℕ)) (words : List (List ℕ)) (
     MatchResult r (λ _. given ≡ text) (λ _. IsPrefix given text) → IfOk r (λ s. s ≡ status) →
     MatchResult r (λ s. Ended files words s [] given) (λ _. PrintedSoFar files words [] given)
 err_comes files words text given status (Ok s) planned how is = record { plan = record { out = []; err = text; status = status }; planned = planned; out_whole = refl; err_whole = how; status_planned = is }
-err_comes files words text given status (Err e) planned how is = inr (record { plan = (record { out = []; err = text; status = status }, planned, ([], refl), how) })
+err_comes files words text given status (Err e) planned how is = inr (record { plan = record { out = []; err = text; status = status }; planned = planned; out_front = ([], refl); err_front = how })
 
 out_comes : (files : List ℕ → Option (List ℕ)) (words : List (List ℕ)) (text given : List ℕ) (status : Status) (r : Result Status Stop) →
     IsPlan files words (record { out = text; err = []; status = status }) →
     MatchResult r (λ _. given ≡ text) (λ _. IsPrefix given text) → IfOk r (λ s. s ≡ status) →
     MatchResult r (λ s. Ended files words s given []) (λ _. PrintedSoFar files words given [])
 out_comes files words text given status (Ok s) planned how is = record { plan = record { out = text; err = []; status = status }; planned = planned; out_whole = how; err_whole = refl; status_planned = is }
-out_comes files words text given status (Err e) planned how is = inr (record { plan = (record { out = text; err = []; status = status }, planned, how, ([], refl)) })
+out_comes files words text given status (Err e) planned how is = inr (record { plan = record { out = text; err = []; status = status }; planned = planned; out_front = how; err_front = ([], refl) })
 
 told_err : (words : List (List ℕ)) (text given : List ℕ) (status : Status) (old new : Option Contents) (r : Result Status Stop) →
     IfSome old (λ c. IsPlan c.files words (record { out = []; err = text; status = status })) → new ≡ option_map (appended outputs.Err given) old →

@@ -1,17 +1,16 @@
 -- The rows that pass are the states.
-use Rattle.std.proofs.Common.{◌≡◌, ℕ, ◌+◌, ◌*◌, ◌<◌, ◌↔◌, Bool, true, false, not, cond, ◌&&◌, Some, List, [], ◌∷◌, ◌++◌, length, map, flat_map, get_or, None, find, IsTrue, refl, sym, ◌∙◌, subst, ap, arith, append-nil}
+use Rattle.std.proofs.Common.{◌≡◌, ℕ, Bool, true, false, not, cond, ◌&&◌, Some, List, [], ◌∷◌, ◌++◌, length, map, get_or, None, find, refl, sym, ◌∙◌, subst, ap, arith, append-nil}
 use Rattle.std.specs.List.{list_all}
 use Rattle.std.proofs.lemmas.Bool.{and_parts, and_from}
 use Rattle.std.proofs.lemmas.List.{ext_get_or}
 use Rattle.std.proofs.lemmas.List.Folds.{list_all-append}
 use Rattle.cc_defs.specs.Rows.{IsRow}
-use Rattle.cc_defs.specs.Theories.{Rule, IsModel, reduct, satisfies}
-use Rattle.cc_defs.specs.Description.{sizes_at, constants_of, values_at, stride}
-use Rattle.cc_defs.specs.Rules.{upto, initial_rules, rules_at, rules_at_step, rules_of_kind}
-use Rattle.cc_defs.specs.Paths.{IsState}
-use Rattle.ccalc.specs.Small.{Small, Law, description_of, fluent_of, law_of, is_declared}
+use Rattle.cc_defs.specs.Theories.{Rule, reduct, satisfies}
+use Rattle.cc_defs.specs.Description.{sizes_at, constants_of, values_at}
+use Rattle.cc_defs.specs.Rules.{upto, initial_rules, rules_at, rules_at_step}
+use Rattle.ccalc.specs.Small.{Small, description_of, fluent_of, is_declared}
 use Rattle.ccalc.specs.Reading.{first_undeclared}
-use Rattle.ccalc.specs.Lister.{passes, law_met}
+use Rattle.ccalc.specs.Lister.{passes}
 use Rattle.ccalc.specs.Laws.{RowsThatPassAreTheStates}
 use Rattle.ccalc.proofs.Reducts.{is_kept, satisfies-reduct, initial_rules_kept, same_at}
 use Rattle.ccalc.proofs.BooleanRows.{length-upto, sizes_are, length_of_row, bit_of_row}

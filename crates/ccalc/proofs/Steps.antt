@@ -1,6 +1,6 @@
 -- Steps that give texts, one after another.
-use Rattle.std.proofs.Common.{◌≡◌, ℕ, ◌+◌, ◌<◌, ◌≤◌, List, [], ◌∷◌, ◌++◌, Option, Some, None, Result, Ok, Err, refl, sym, ◌∙◌, ap, subst, append_assoc, append-nil, arith, inl, inr, option_map, MatchResult}
-use Rattle.std.specs.Prelude.{IsErrAnd, IsErrOf, ◌⊎◌}
+use Rattle.std.proofs.Common.{◌≡◌, ℕ, ◌≤◌, List, [], ◌++◌, Option, Some, None, Result, Ok, Err, refl, sym, ◌∙◌, ap, subst, append_assoc, append-nil, arith, inl, inr, option_map, MatchResult}
+use Rattle.std.specs.Prelude.{IsErrAnd}
 use Rattle.cc_ports.specs.Contents.{Contents, appended, IsPrefix, Rose}
 use Rattle.cc_ports.specs.declared.desk.To.{To}
 use Rattle.cc_ports.specs.declared.desk.To.TheVariants as outputs

@@ -1,5 +1,5 @@
 -- What a run may leave behind.
-use Rattle.std.specs.Prelude.{◌≡◌, ℕ, ◌+◌, ◌<◌, ◌≤◌, ◌⊎◌, Bool, false, List, [], ◌∷◌, ◌++◌, Option, Some, None, codes, if◌then◌else◌, ◌==◌}
+use Rattle.std.specs.Prelude.{◌≡◌, ℕ, ◌+◌, ◌≤◌, ◌⊎◌, List, [], ◌∷◌, ◌++◌, Option, Some, codes, if◌then◌else◌, ◌==◌}
 use Rattle.cc_defs.specs.declared.event.Ending.{Ending}
 use Rattle.cc_defs.specs.declared.event.Ending.TheVariants as endings
 use Rattle.cc_defs.specs.declared.refusal.Refusal.{Refusal}
@@ -70,10 +70,14 @@ pub record Ended (files : List ℕ → Option (List ℕ)) (words : List (List �
   pub err_whole : err ≡ plan.err
   pub status_planned : status ≡ plan.status
 
--- What was printed is a front of what was to be printed; nothing, where the run ended before that was known.
+-- What was printed is a front of what was to be printed.
 pub record IsFront (files : List ℕ → Option (List ℕ)) (words : List (List ℕ)) (out err : List ℕ) : Type 0 where
-  pub plan : (plan : Plan) × IsPlan files words plan × IsPrefix out plan.out × IsPrefix err plan.err
+  pub plan : Plan
+  pub planned : IsPlan files words plan
+  pub out_front : IsPrefix out plan.out
+  pub err_front : IsPrefix err plan.err
 
+-- what was printed before the run stopped: nothing, where it stopped before that was known
 abbrev pub PrintedSoFar : (List ℕ → Option (List ℕ)) → List (List ℕ) → List ℕ → List ℕ → Type 0
 PrintedSoFar files words out err = ((out ≡ []) × (err ≡ [])) ⊎ IsFront files words out err
 

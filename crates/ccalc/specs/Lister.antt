@@ -1,11 +1,10 @@
 -- The states of a text of the small form, by a plain slow program: every row, kept where each law whose test holds has
 -- its head met. That these are the states is proved.
-use Rattle.std.specs.Prelude.{ℕ, Bool, true, false, not, ◌&&◌, ◌||◌, ◌==◌, if◌then◌else◌, List, [], ◌∷◌, ◌++◌, length, map, flat_map, filter, slice_index, Option, Some, None}
+use Rattle.std.specs.Prelude.{ℕ, Bool, false, not, ◌||◌, ◌==◌, if◌then◌else◌, List, [], ◌∷◌, ◌++◌, length, map, filter, slice_index, Option, Some, None}
 use Rattle.std.specs.List.{list_all}
 use Rattle.cc_defs.specs.declared.event.Ending.{Ending}
 use Rattle.cc_defs.specs.declared.event.Ending.TheVariants as endings
 use Rattle.cc_defs.specs.Events.{Ask, Listing, out_text, events_of}
-use Rattle.cc_defs.specs.Rules.{upto}
 use Rattle.ccalc.specs.Small.{Literal, Law, Small, number_of, description_of}
 
 -- every row of as many Boolean fluents as the list has members, in ascending order

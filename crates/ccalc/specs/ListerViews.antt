@@ -1,5 +1,5 @@
 -- The lister's laws by number, apart from where they lie in memory, and the test of a row by them.
-use Rattle.std.specs.Prelude.{ℕ, ◌<◌, Bool, true, false, not, ◌||◌, ◌==◌, if◌then◌else◌, List, map, slice_index, Option, Some, None, option_map, All, IfSome}
+use Rattle.std.specs.Prelude.{ℕ, ◌<◌, Bool, false, not, ◌||◌, ◌==◌, if◌then◌else◌, List, map, slice_index, Option, Some, None, option_map, All, IfSome}
 use Rattle.std.specs.List.{list_all, list_any}
 use denote.Ref.{Bor}
 use Rattle.ccalc.specs.declared.lister.Test.{Test}

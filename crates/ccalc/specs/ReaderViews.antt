@@ -1,5 +1,5 @@
 -- What the reader of a text has read, apart from where the texts lie in memory.
-use Rattle.std.specs.Prelude.{List, ℕ, map, option_map, Option}
+use Rattle.std.specs.Prelude.{List, map}
 use Rattle.std.specs.Global.{Vec}
 use Rattle.ccalc.specs.declared.scanner.Token.{Token as TokenRead}
 use Rattle.ccalc.specs.Pieces.{Token}

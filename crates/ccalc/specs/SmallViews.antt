@@ -1,5 +1,5 @@
 -- What a text of the small form declares, apart from where its names lie in memory.
-use Rattle.std.specs.Prelude.{List, ℕ, map, option_map}
+use Rattle.std.specs.Prelude.{map, option_map}
 use Rattle.ccalc.specs.declared.small.Literal.{Literal as LiteralRead}
 use Rattle.ccalc.specs.declared.small.Law.{Law as LawRead}
 use Rattle.ccalc.specs.declared.small.Small.{Small as SmallRead}

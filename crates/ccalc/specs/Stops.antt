@@ -1,5 +1,5 @@
 -- Why a run stops before its end, and what each step of a run prints.
-use Rattle.std.specs.Prelude.{◌≡◌, ℕ, ◌⊎◌, ◌≤◌, Bool, List, [], ◌++◌, Option, option_map, Result, Ok, Err, MatchResult, IfSome, IfOk, IsSomeAnd, IsErrOf}
+use Rattle.std.specs.Prelude.{◌≡◌, ℕ, ◌⊎◌, ◌≤◌, Bool, List, ◌++◌, Option, option_map, Result, MatchResult, IfSome, IfOk, IsSomeAnd, IsErrOf}
 use Rattle.cc_ports.specs.Contents.{Contents, appended, IsPrefix, Rose}
 use Rattle.cc_ports.specs.declared.desk.To.{To}
 use Rattle.cc_ports.specs.declared.desk.To.TheVariants as outputs

@@ -19,9 +19,6 @@ use cc_defs::{LimitAt, OutOfMemory, Refusal};
 use cc_ports::{Desk, Files, ReadStop, StillDesk, read_all};
 use std::alloc::Global;
 
-/// The most bytes of a file.
-const MOST_BYTES: usize = 1_048_576;
-
 /// Reads the words, which name a file; reads the file, which is of the small form; and lists its states.
 ///
 /// `words` are the program's words without its name. Each line of an output is given by one `give_all`. After a fault
@@ -72,7 +69,8 @@ fn answer_file<D: Desk>(alloc: Global, desk: &mut D, name: &str) -> Result<Statu
     ensures { (words : List (List ℕ)) → file_named words ≡ Some name.now →
         Prints words (moment D.told D.begun D.read_faults D.write_faults desk.old) (moment D.told D.begun D.read_faults D.write_faults desk.new) result }
 {
-    match read_all(alloc, desk, name, MOST_BYTES) {
+    let most = LimitAt::FileBytes.number() as usize;
+    match read_all(alloc, desk, name, most) {
         Ok(bytes) => answer_text(alloc, desk, name, bytes.items()),
         Err(ReadStop::Limit) => refuse(alloc, desk, &too_long(), name),
         Err(ReadStop::Failed) => Err(Stop::ReadFault),

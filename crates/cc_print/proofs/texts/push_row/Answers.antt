@@ -1,4 +1,4 @@
-use Rattle.std.proofs.Common.{arith, append_assoc, ◌≡◌, ◌++◌, ◌∷◌, decimal, map, ap, ◌∙◌, sym, OnOk, rules, flat_map}
+use Rattle.std.proofs.Common.{arith}
 use Rattle.std.proofs.lemmas.Grind.{common_steps}
 use Rattle.cc_print.proofs.Joins.{join_with_byte-cons}
 use Rattle.cc_print.proofs.texts.push_row.Goals as goal

@@ -1,14 +1,10 @@
-use Rattle.std.proofs.Common.{◌≡◌, ℕ, List, length, map, ap, sym, ◌∙◌, subst, refl, arith, filter, Result}
+use Rattle.std.proofs.Common.{◌≡◌, length, map, ap, sym, ◌∙◌}
 use Rattle.std.proofs.lemmas.List.{length-map}
 use Rattle.std.proofs.lemmas.Result.{IfOk-weaker}
-use Rattle.cc_ports.specs.declared.desk.To.TheVariants as outputs
-use Rattle.ccalc.specs.declared.status.Status.{Status}
-use Rattle.ccalc.specs.declared.status.Stop.{Stop}
-use Rattle.ccalc.specs.Lister.{rows_from, all_rows, rows_listed, ending_of_rows}
-use Rattle.ccalc.specs.ListerViews.{rules_pass, rules_view}
-use Rattle.ccalc.specs.Printing.{ending_lines, status_after}
+use Rattle.ccalc.specs.Lister.{rows_from, all_rows, rows_listed}
+use Rattle.ccalc.specs.ListerViews.{rules_view}
+use Rattle.ccalc.specs.Printing.{status_after}
 use Rattle.ccalc.specs.SmallViews.{small_view}
-use Rattle.ccalc.specs.Stops.{Step}
 use Rattle.ccalc.proofs.ListingTexts.{all_rows-few, listed, rows_found, status_after-length}
 use Rattle.ccalc.proofs.Steps.{step_as, step_nothing, step_cut, step_then}
 use Rattle.ccalc.proofs.listing.list.Goals as goal

@@ -1,5 +1,5 @@
 use Rattle.std.proofs.Common.{arith, length, ap}
-use Rattle.ccalc.proofs.Histories.{listed_none, listed_more, listed_last, listed_stop}
+use Rattle.ccalc.proofs.Histories.{listed_none, listed_more, listed_stop}
 use Rattle.ccalc.proofs.ListingTexts.{rows_from-first}
 use Rattle.ccalc.proofs.listing.list_rows.Goals as goal
 

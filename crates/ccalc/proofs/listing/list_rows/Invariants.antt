@@ -1,9 +1,7 @@
-use Rattle.std.proofs.Common.{◌≡◌, ℕ, ◌+◌, ◌≤◌, List, ◌++◌, length, map, filter, Ok}
-use Rattle.cc_ports.specs.declared.desk.To.TheVariants as outputs
+use Rattle.std.proofs.Common.{◌≡◌, length, map}
 use Rattle.ccalc.specs.Lister.{rows_from}
 use Rattle.ccalc.specs.ListerViews.{rules_pass, rules_view, AllBits}
-use Rattle.ccalc.specs.Printing.{histories_lines}
-use Rattle.ccalc.specs.Stops.{Step, moment}
+use Rattle.ccalc.specs.Stops.{moment}
 use Rattle.ccalc.proofs.Histories.{ListedSoFar}
 use Rattle.ccalc.proofs.listing.list_rows.Given as goal
 

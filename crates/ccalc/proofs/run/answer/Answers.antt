@@ -1,6 +1,4 @@
-use Rattle.std.proofs.Common.{◌≡◌, List, ℕ, [], sym, map, string_bytes}
-use Rattle.std.specs.Prelude.{IfSome}
-use Rattle.ccalc.specs.Reading.{Refuses, refusal_without_place}
+use Rattle.std.proofs.Common.{List, ℕ, [], sym, map, string_bytes}
 use Rattle.ccalc.proofs.Runs.{prints_refusal, refuses_words}
 use Rattle.ccalc.proofs.run.answer.Goals as goal
 

@@ -1,4 +1,4 @@
-use Rattle.std.proofs.Common.{◌≡◌, Some, Err, ap, sym}
+use Rattle.std.proofs.Common.{◌≡◌, Some, Err, ap}
 use Rattle.ccalc.specs.Reading.{Refuses, too_long}
 use Rattle.ccalc.proofs.Runs.{prints_after_read, prints_refusal, prints_stop, files_stay, refuses_long}
 use Rattle.ccalc.proofs.run.answer_file.Goals as goal
@@ -7,7 +7,7 @@ pub returns-in-Err-Limit : goal.returns-in-Err-Limit
 returns-in-Err-Limit g c words named =
     let read = c.read_all.ensures in
     let refused = files_stay read.after.0 (λ files. Refuses files words too_long c.args.name.now) _ _ read.after.1
-    (refuses_long _ words c.args.name.now named (c.in-Err-Limit.ensures.limit (ap Err c.in-Err-Limit.field-0-is))) in
+    (refuses_long _ words c.args.name.now named (rw c.number-most.ensures at (c.in-Err-Limit.ensures.limit (ap Err c.in-Err-Limit.field-0-is)))) in
     prints_after_read words read.after.0 _ _ _ c.refuse.result read.after.1 read.begun read.reads_count read.writes_count
     (prints_refusal words c.too_long.result c.args.name.now _ _ c.refuse.result (rw c.too_long.ensures refused) c.refuse.ensures.told c.refuse.ensures.status)
 

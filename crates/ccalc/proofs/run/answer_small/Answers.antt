@@ -1,4 +1,4 @@
-use Rattle.std.proofs.Common.{inl, inr}
+use Rattle.std.proofs.Common.{inr}
 use Rattle.ccalc.specs.SmallViews.{small_view}
 use Rattle.ccalc.proofs.Runs.{prints_refusal, prints_listing, prints_nothing, refuses_text, lists_text}
 use Rattle.ccalc.proofs.run.answer_small.Goals as goal

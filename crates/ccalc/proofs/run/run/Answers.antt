@@ -1,4 +1,4 @@
-use Rattle.ccalc.proofs.Runs.{run_ended, run_stopped}
+use Rattle.ccalc.proofs.Runs.{run_stopped}
 use Rattle.ccalc.proofs.run.run.Goals as goal
 
 pub returns-in-Err-clause-answer : goal.returns-in-Err-clause-answer
