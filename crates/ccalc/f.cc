@@ -1,1 +1,0 @@
-:- constants p :: simpleFluent. caused p. caused -p. :- query maxstep :: 0.
