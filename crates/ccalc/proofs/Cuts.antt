@@ -7,7 +7,8 @@ use Rattle.std.proofs.lemmas.Bool.{or_cases, eqb-true}
 use Rattle.std.proofs.lemmas.List.{append-nil}
 use Rattle.std.proofs.lemmas.List.Folds.{list_all-append}
 use Rattle.std.proofs.lemmas.List.Sums.{sum_by-cons}
-use Rattle.ccalc.specs.Pieces.{Token, is_space, is_letter, is_word_byte, is_word, same_bytes, marks, is_piece, IsLongest, line_feeds, IsCut}
+use Rattle.cc_defs.specs.Tokens.{is_space, is_letter, is_word_byte, is_word, line_feeds}
+use Rattle.ccalc.specs.Pieces.{Token, same_bytes, marks, is_piece, IsLongest, IsCut}
 use Rattle.ccalc.specs.Scanner.{◌>>=◌, joins, begins_mark, opened, closed, next_line, scan}
 use Rattle.ccalc.proofs.Scanning.{scan_joins, scan_other}
 

@@ -2,7 +2,8 @@
 use Rattle.std.proofs.Common.{◌≡◌, ℕ, suc, ◌+◌, ◌-◌, ◌<◌, ◌≤◌, Bool, true, false, ◌||◌, ◌&&◌, cond, eqb, List, [], ◌∷◌, ◌++◌, length, get_or, take, drop, Option, Some, None, refl, sym, ap, ◌∙◌, add-one, arith, inl, inr}
 use Rattle.std.proofs.lemmas.List.{get_or-drop, length-drop}
 use Rattle.std.proofs.Math.Seq.{take-suc, drop-cons, drop-length}
-use Rattle.ccalc.specs.Pieces.{Token, is_letter, same_bytes, blanked}
+use Rattle.cc_defs.specs.Tokens.{is_letter}
+use Rattle.ccalc.specs.Pieces.{Token, same_bytes, blanked}
 use Rattle.ccalc.specs.Scanner.{seen, stays, ◌>>=◌, joins, opened, Starts, closed, next_line, scan}
 
 -- ---- blanking

@@ -1,6 +1,7 @@
 -- The tokens of a text whose comments are blanked, by a plain walk from byte to byte that holds the piece it is in.
 use Rattle.std.specs.Prelude.{◌≡◌, ◌⊎◌, ℕ, ◌+◌, Bool, false, ◌&&◌, ◌||◌, ◌==◌, if◌then◌else◌, List, [], ◌∷◌, ◌++◌, codes, Option, Some, None}
-use Rattle.ccalc.specs.Pieces.{Token, is_letter, is_word_byte, is_space, same_bytes}
+use Rattle.cc_defs.specs.Tokens.{is_letter, is_word_byte, is_space}
+use Rattle.ccalc.specs.Pieces.{Token, same_bytes}
 
 -- the byte at its place once comments are blanked, and whether the comment goes on behind it
 abbrev pub seen : Bool → ℕ → ℕ

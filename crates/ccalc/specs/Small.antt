@@ -8,7 +8,8 @@ use Rattle.cc_defs.specs.declared.signature.Symbol.{Symbol}
 use Rattle.cc_defs.specs.Formulas as formulas
 use Rattle.cc_defs.specs.Description as descriptions
 use Rattle.cc_defs.specs.Rules.{upto}
-use Rattle.ccalc.specs.Pieces.{Token, AreTokens, is_word, same_bytes}
+use Rattle.cc_defs.specs.Tokens.{is_word}
+use Rattle.ccalc.specs.Pieces.{Token, AreTokens, same_bytes}
 
 -- a fluent, or the negation of one
 pub record Literal : Type 0 where

@@ -1,6 +1,7 @@
 //! Cuts a text into its tokens.
 ghost use Rattle.std.specs.Prelude.{◌≡◌, ◌<◌, ◌≤◌, ◌^◌, ◌∷◌, [], length, codes, IfOk, MatchOption, Some, None, false, if◌then◌else◌, option_map};
-ghost use Rattle.ccalc.specs.Pieces.{is_space, is_letter, is_word_byte, blanked};
+ghost use Rattle.cc_defs.specs.Tokens.{is_space, is_letter, is_word_byte};
+ghost use Rattle.ccalc.specs.Pieces.{blanked};
 ghost use Rattle.ccalc.specs.Scanner.{seen, stays, joins, begins_mark, closed, opened, Starts, next_line, scan};
 ghost use Rattle.ccalc.specs.ReaderViews.{token_views, items_view};
 

@@ -1,7 +1,8 @@
 //! Which words are names.
 ghost use Rattle.std.specs.Prelude.{◌≡◌, take, drop, map};
 ghost use Rattle.std.specs.List.{list_all, list_any};
-ghost use Rattle.ccalc.specs.Pieces.{is_word, is_word_byte, same_bytes};
+ghost use Rattle.cc_defs.specs.Tokens.{is_word, is_word_byte};
+ghost use Rattle.ccalc.specs.Pieces.{same_bytes};
 ghost use Rattle.ccalc.specs.Small.{is_name, reserved_words, are_different};
 ghost use Rattle.ccalc.specs.Parser.{may_be_declared};
 
