@@ -3,6 +3,7 @@ pub mod Description
 pub mod Events
 pub mod Examples
 pub mod Formulas
+pub mod Grammar
 pub mod Histories
 pub mod Laws
 pub mod Limits
@@ -10,6 +11,8 @@ pub mod LitCodes
 pub mod Paths
 pub mod Rows
 pub mod Rules
+pub mod Statements
 pub mod Texts
 pub mod Theories
 pub mod Tokens
+pub mod Trees

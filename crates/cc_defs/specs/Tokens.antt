@@ -1,6 +1,6 @@
 -- Tokens: the cut of a text, as a condition on the whole text.
 use Rattle.std.specs.Prelude.{◌≡◌, ◌≢◌, ℕ, ◌+◌, ◌-◌, ◌<◌, ◌≤◌, ◌⊎◌, Bool, true, false, not, ◌&&◌, ◌||◌, ◌==◌, nat_le, nat_eq, if◌then◌else◌, IsTrue, IsFalse, List, [], ◌∷◌, ◌++◌, length, codes, count_by, Option, Some, None, map}
-use Rattle.std.specs.List.{list_all, find}
+use Rattle.std.specs.List.{AllByRecursion, list_all, find}
 use Rattle.std.specs.Option.{option_map}
 use Rattle.std.specs.Cmp.Lexicographic.{pointwise}
 use Rattle.cc_defs.specs.declared.refusal.LimitAt.{LimitAt}
@@ -165,6 +165,15 @@ PassesLimit token limit = (limit_of token.kind ≡ Some limit) × (limit_number 
 
 abbrev pub IsShort : TokenView → Type 0
 IsShort token = (limit : LimitAt) → PassesLimit token limit → ⊥
+
+-- each is of its kind, and none passes a limit
+abbrev pub AreTokens : List TokenView → Type 0
+AreTokens tokens = AllByRecursion (λ token. (kind_of token.text ≡ Some token.kind) × IsShort token) tokens
+
+-- the line of the first token
+abbrev pub first_line : List TokenView → ℕ
+first_line [] = 0
+first_line (token ∷ tokens) = token.line
 
 -- What stops the reading: behind these tokens, all of them short, no token begins, or one that passes its limit.
 abbrev pub StopsAt : ℕ → ℕ → List ℕ → List TokenView → Refusal → Type 0

@@ -7,6 +7,7 @@ mod event;
 #[cfg(test)]
 mod examples;
 pub mod laws;
+mod list;
 mod lists;
 mod literal;
 mod node;
@@ -16,8 +17,10 @@ mod signature;
 #[cfg(test)]
 mod tests;
 mod token;
+mod tree;
 
 pub use event::{Ending, Event, Told};
+pub use list::List;
 pub use lists::{Bytes, Key, Lits, Name, Nums, Row, Text};
 pub use literal::Lit;
 pub use node::Node;
@@ -25,3 +28,7 @@ pub use refusal::{Fault, LimitAt, OutOfMemory, Refusal};
 pub use rows::compare_rows;
 pub use signature::{At, Const, Kind, LawKind, Symbol};
 pub use token::{Mark, Token, TokenKind};
+pub use tree::{
+    ConstItem, KindTree, KindWord, LawTree, ListItem, Part, QueryItem, Shape, SortItem, Statement,
+    TermTree, Tree,
+};

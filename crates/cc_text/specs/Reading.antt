@@ -17,8 +17,3 @@ HasTokens text tokens = IsCut 1 text tokens × AllByRecursion IsShort tokens × 
 abbrev pub HasStopped : ℕ → List ℕ → Fault → Type 0
 HasStopped file text faults.OutOfMemory = Unit {0}
 HasStopped file text (faults.Refused refusal) = (tokens : List TokenView) × StopsAt file 1 text tokens refusal
-
--- the line of a statement's first token
-abbrev pub first_line : List TokenView → ℕ
-first_line [] = 0
-first_line (token ∷ tokens) = token.line

@@ -1,8 +1,8 @@
 //! The tokens of a text, cut into statements.
 ghost use Rattle.std.specs.Prelude.{◌≡◌, ◌≤◌, ◌<◌, [], ◌∷◌, ◌-◌, length, take, drop, slice_index, map, IfOk, IfErr, slice_index_or};
-ghost use Rattle.cc_defs.specs.Tokens.{is_dot, IsCut, IsShort, statements};
+ghost use Rattle.cc_defs.specs.Tokens.{is_dot, first_line, AreTokens, IsCut, IsShort, statements};
 ghost use Rattle.cc_text.specs.Views.{token_view, token_views, cut_at, AreEnds};
-ghost use Rattle.cc_text.specs.Reading.{HasRead, HasStopped, HasTokens, first_line};
+ghost use Rattle.cc_text.specs.Reading.{HasRead, HasStopped, HasTokens};
 
 use crate::scanner::{Step, behind, step_of};
 use cc_defs::{Fault, Token};

@@ -1,0 +1,155 @@
+//! The tree of a statement, as the grammar has it. Names are slices of the source.
+use crate::{At, List};
+
+/// A constant, an object or a variable, with arguments or without; also `true`, `false` and `none`.
+#[derive(Drop)]
+pub struct TermTree<'s> {
+    pub name: &'s str,
+    pub args: Vec<TermTree<'s>>,
+}
+
+/// A formula.
+#[derive(Drop)]
+pub enum Tree<'s> {
+    /// A term alone.
+    Bare(TermTree<'s>),
+    /// `s=t`
+    Equal(TermTree<'s>, TermTree<'s>),
+    /// `s\=t`
+    Differ(TermTree<'s>, TermTree<'s>),
+    /// `(F)`
+    Paren(Box<Tree<'s>>),
+    /// `-F`
+    Not(Box<Tree<'s>>),
+    /// `F & G`
+    Both(Box<Tree<'s>>, Box<Tree<'s>>),
+    /// `F ++ G`
+    Either(Box<Tree<'s>>, Box<Tree<'s>>),
+    /// `F ->> G`
+    Implies(Box<Tree<'s>>, Box<Tree<'s>>),
+    /// `F <-> G`
+    Same(Box<Tree<'s>>, Box<Tree<'s>>),
+    /// `[/\X | F]`
+    ForAll(&'s str, Box<Tree<'s>>),
+    /// `[\/X | F]`
+    Exists(&'s str, Box<Tree<'s>>),
+}
+
+/// A declared constant and the sorts of its arguments.
+#[derive(Drop)]
+pub struct Shape<'s> {
+    pub name: &'s str,
+    pub sorts: List<&'s str>,
+}
+
+/// Sorts beside each other, or each a subsort of the one before it.
+#[derive(Drop)]
+pub enum SortItem<'s> {
+    Names(List<&'s str>),
+    Chain(List<&'s str>),
+}
+
+/// Objects or variables of a sort.
+#[derive(Drop)]
+pub struct ListItem<'s> {
+    pub names: List<&'s str>,
+    pub sort: &'s str,
+}
+
+/// The kind of a constant, with the sort of its values where one is written; or an attribute of an action, with the
+/// sort of its values and the action's shape.
+#[derive(Drop)]
+pub enum KindTree<'s> {
+    Plain(KindWord, Option<&'s str>),
+    Attribute(&'s str, Shape<'s>),
+}
+
+/// The words for kinds.
+#[derive(Clone, Copy, Debug, PartialEq, Eq)]
+pub enum KindWord {
+    /// `simpleFluent`
+    Simple,
+    /// `inertialFluent`
+    Inertial,
+    /// `sdFluent`
+    Determined,
+    /// `rigid`
+    Rigid,
+    /// `action`
+    Action,
+    /// `exogenousAction`
+    ExogenousAction,
+}
+
+/// Constants of one kind.
+#[derive(Drop)]
+pub struct ConstItem<'s> {
+    pub shapes: List<Shape<'s>>,
+    pub kind: KindTree<'s>,
+}
+
+/// A part of a query.
+#[derive(Drop)]
+pub enum QueryItem<'s> {
+    /// `label :: NAME`, a word or a number
+    Label(&'s str),
+    /// `maxstep :: lo..hi`
+    Range(u32, u32),
+    /// `at: F, G, ..`, behind `claim ::` or not
+    Condition {
+        claim: bool,
+        at: At,
+        parts: List<Tree<'s>>,
+    },
+}
+
+/// A law without its `where` test. The optional parts are those behind `if` and `after`, in this order.
+#[derive(Drop)]
+pub enum LawTree<'s> {
+    /// `caused F if G after H`
+    Caused(Tree<'s>, Option<Tree<'s>>, Option<Tree<'s>>),
+    /// `constraint F`
+    Constraint(Tree<'s>),
+    /// `always F`
+    Always(Tree<'s>),
+    /// `nonexecutable F if G`
+    Nonexecutable(Tree<'s>, Option<Tree<'s>>),
+    /// `default F if G after H`
+    Default(Tree<'s>, Option<Tree<'s>>, Option<Tree<'s>>),
+    /// `exogenous c`
+    Exogenous(TermTree<'s>),
+    /// `inertial c`
+    Inertial(TermTree<'s>),
+    /// `A causes F if G`
+    Causes(Tree<'s>, Tree<'s>, Option<Tree<'s>>),
+    /// `A may cause F if G`
+    MayCause(Tree<'s>, Tree<'s>, Option<Tree<'s>>),
+    /// `noconcurrency`
+    NoConcurrency,
+}
+
+/// What a statement says.
+#[derive(Drop)]
+pub enum Part<'s> {
+    /// `:- sorts ..`
+    Sorts(List<SortItem<'s>>),
+    /// `:- objects ..`
+    Objects(List<ListItem<'s>>),
+    /// `:- variables ..`
+    Variables(List<ListItem<'s>>),
+    /// `:- constants ..`
+    Constants(List<ConstItem<'s>>),
+    /// `:- query ..`
+    Query(List<QueryItem<'s>>),
+    /// `:- include '..'`, the file's name without its quotes
+    Include(&'s str),
+    /// A law, with its `where` test.
+    Law(LawTree<'s>, Option<Tree<'s>>),
+}
+
+/// A statement, and the line of its first token, from 1.
+#[derive(Drop)]
+pub struct Statement<'s> {
+    pub part: Part<'s>,
+    pub line: u32,
+}

@@ -1,0 +1,2 @@
+pub mod IsReader
+pub mod Marks

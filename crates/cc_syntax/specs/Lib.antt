@@ -1,0 +1,10 @@
+pub mod Declarations
+pub mod Formulas
+pub mod Laws
+pub mod Marks
+pub mod Operators
+pub mod Parsing
+pub mod Queries
+pub mod Readers
+pub mod Terms
+pub mod Views

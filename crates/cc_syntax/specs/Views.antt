@@ -1,0 +1,29 @@
+-- What a reader answers, in terms of what the grammar sees.
+use Rattle.std.specs.Prelude.{◌≡◌, ℕ, ◌+◌, List, [], ◌∷◌, drop, Option, Some, None, Result, Ok, Err}
+use Rattle.cc_defs.specs.declared.token.Token.{Token}
+use Rattle.cc_defs.specs.Grammar.{Terminal, terminal, terminals}
+use Rattle.cc_text.specs.Views.{token_view, token_views}
+use Rattle.cc_syntax.specs.declared.stop.Stop.{Stop}
+use Rattle.cc_syntax.specs.declared.stop.Stop.TheVariants as stops
+
+-- what the grammar sees of the tokens
+abbrev pub seen : List Token → List Terminal
+seen tokens = terminals (token_views tokens)
+
+-- the token at the place, if there is one
+abbrev pub Stands : List Token → ℕ → Option Token → Type 0
+Stands tokens at None = drop at (seen tokens) ≡ []
+Stands tokens at (Some token) = drop at (seen tokens) ≡ terminal (token_view token) ∷ drop (at + 1) (seen tokens)
+
+-- a reader gives what is read and the place behind it, as the definition has it; nothing only where the definition has
+-- nothing, or where memory was wanting
+abbrev pub Reads : {X Y : Type 0} → (X → Y) → List Token → Result (X × ℕ) Stop → Option (Y × List Terminal) → Type 0
+Reads view tokens (Ok read) found = found ≡ Some (view read.0, drop read.1 (seen tokens))
+Reads view tokens (Err stops.NoTree) found = found ≡ None
+Reads view tokens (Err stops.OutOfMemory) found = Unit {0}
+
+-- the same of what has no value
+abbrev pub Passes : List Token → Result ℕ Stop → Option (List Terminal) → Type 0
+Passes tokens (Ok next) found = found ≡ Some (drop next (seen tokens))
+Passes tokens (Err stops.NoTree) found = found ≡ None
+Passes tokens (Err stops.OutOfMemory) found = ⊥

@@ -1,0 +1,13 @@
+//! The grammar: the tree of a statement.
+#![tactic(auto)]
+
+mod declarations;
+mod formulas;
+mod frames;
+mod operators;
+mod parse;
+mod stop;
+mod terms;
+mod tokens;
+
+pub use parse::parse;

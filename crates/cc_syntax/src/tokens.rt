@@ -1,0 +1,98 @@
+//! Readers of single tokens. A reader is passed the tokens and the place where it begins, and answers the place behind
+//! what it read.
+ghost use Rattle.std.specs.Prelude.{◌≡◌, drop, ◌<◌};
+ghost use Rattle.cc_defs.specs.Grammar.{is_reserved, is_value_word, number_of};
+ghost use Rattle.cc_defs.specs.Tokens.{AreTokens};
+ghost use Rattle.cc_text.specs.Views.{token_views};
+ghost use Rattle.cc_syntax.specs.Marks.{same_mark};
+ghost use Rattle.cc_syntax.specs.Readers.{sign_at, word_at, name_at, numeral_at, label_at, quoted_at};
+ghost use Rattle.cc_syntax.specs.Views.{seen, Stands, Reads, Passes};
+
+use crate::stop::Stop;
+use cc_defs::{Mark, Token, TokenKind};
+
+fn is_mark(mark: Mark, other: Mark) -> bool
+    ensures { result ≡ same_mark mark other }
+{
+    mark == other
+}
+
+/// The token at the place, if there is one.
+pub(crate) fn token_at<'s>(tokens: &[Token<'s>], at: usize) -> Option<Token<'s>>
+    ensures { Stands tokens.now at result }
+{
+    if at < tokens.len() {
+        Some(tokens[at])
+    } else {
+        None
+    }
+}
+
+/// The mark.
+pub(crate) fn sign(tokens: &[Token], at: usize, mark: Mark) -> Result<usize, Stop>
+    ensures { Passes tokens.now result (sign_at mark (drop at (seen tokens.now))) }
+{
+    let Some(token) = token_at(tokens, at) else {
+        return Err(Stop::NoTree);
+    };
+    match token.kind {
+        TokenKind::Mark(other) if is_mark(mark, other) => Ok(at + 1),
+        _ => Err(Stop::NoTree),
+    }
+}
+
+/// The word.
+pub(crate) fn word(tokens: &[Token], at: usize, text: &str) -> Result<usize, Stop>
+    ensures { Passes tokens.now result (word_at text.now (drop at (seen tokens.now))) }
+{
+    let Some(token) = token_at(tokens, at) else {
+        return Err(Stop::NoTree);
+    };
+    match token.kind {
+        TokenKind::Word if token.text == text => Ok(at + 1),
+        _ => Err(Stop::NoTree),
+    }
+}
+
+/// Whether no declaration may use the word as a name.
+pub(crate) fn is_reserved_word(text: &str) -> bool
+    ensures { result ≡ is_reserved text.now }
+{
+    text == "caused"
+}
+
+/// A name.
+pub(crate) fn name<'s>(tokens: &[Token<'s>], at: usize) -> Result<(&'s str, usize), Stop>
+    ensures { Reads (λ text. text.now) tokens.now result (name_at (drop at (seen tokens.now))) }
+{
+    let Some(token) = token_at(tokens, at) else {
+        return Err(Stop::NoTree);
+    };
+    match token.kind {
+        TokenKind::Word if !is_reserved_word(token.text) => Ok((token.text, at + 1)),
+        _ => Err(Stop::NoTree),
+    }
+}
+
+/// A number.
+pub(crate) fn numeral(tokens: &[Token], at: usize) -> Result<(u32, usize), Stop>
+    requires { AreTokens (token_views tokens.now) }
+    ensures { Reads (λ n. n) tokens.now result (numeral_at (drop at (seen tokens.now))) }
+{
+    Err(Stop::OutOfMemory)
+}
+
+/// A label: a name or a number.
+pub(crate) fn label<'s>(tokens: &[Token<'s>], at: usize) -> Result<(&'s str, usize), Stop>
+    ensures { Reads (λ text. text.now) tokens.now result (label_at (drop at (seen tokens.now))) }
+{
+    Err(Stop::OutOfMemory)
+}
+
+/// A name in quotes, without them.
+pub(crate) fn quoted<'s>(tokens: &[Token<'s>], at: usize) -> Result<(&'s str, usize), Stop>
+    requires { AreTokens (token_views tokens.now) }
+    ensures { Reads (λ text. text.now) tokens.now result (quoted_at (drop at (seen tokens.now))) }
+{
+    Err(Stop::OutOfMemory)
+}
