@@ -5,9 +5,9 @@ mod declarations;
 mod formulas;
 mod frames;
 mod operators;
-mod parse;
+mod statement;
 mod stop;
 mod terms;
 mod tokens;
 
-pub use parse::parse;
+pub use statement::parse;
