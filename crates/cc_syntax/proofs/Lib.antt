@@ -1,2 +1,3 @@
 pub mod IsReader
 pub mod Marks
+pub mod Singles
