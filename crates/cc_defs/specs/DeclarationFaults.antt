@@ -1,14 +1,16 @@
--- The faults of declarations, each judged by what is declared to its left.
-use Rattle.std.specs.Prelude.{ℕ, ◌-◌, Bool, true, false, ◌&&◌, ◌||◌, ◌==◌, not, nat_lt, if◌then◌else◌, List, [], ◌∷◌, ◌++◌, length, Option, Some, None}
+-- The faults of declarations, each judged by what is declared to its left, and of all of them together.
+use Rattle.std.specs.Prelude.{ℕ, ◌-◌, Bool, true, false, ◌&&◌, ◌||◌, ◌==◌, not, nat_lt, if◌then◌else◌, List, [], ◌∷◌, ◌++◌, length, slice_get, Option, Some, None}
 use Rattle.std.specs.List.{list_any, list_all, find}
 use Rattle.std.specs.Cmp.Lexicographic.{pointwise}
+use Rattle.cc_defs.specs.declared.refusal.LimitAt.{LimitAt}
 use Rattle.cc_defs.specs.declared.refusal.LimitAt.TheVariants as limits
 use Rattle.cc_defs.specs.declared.refusal.Refusal.{Refusal}
+use Rattle.cc_defs.specs.declared.signature.Const.{Const}
 use Rattle.cc_defs.specs.Limits.{limit_number}
 use Rattle.cc_defs.specs.Trees.{PlainShape, PlainKind, PlainStatement}
 use Rattle.cc_defs.specs.Trees as trees
 use Rattle.cc_defs.specs.Grammar.{same_text}
-use Rattle.cc_defs.specs.Declarations.{Declaration, Sort, Link, Subsort, Object, Variable, Constant, Kinds, Declared, Pair, declarations_of, boolean, sort_names, pairs, is_below, objects, variables, constants, constant_names, value_sort, kind_of_constant, is_action}
+use Rattle.cc_defs.specs.Declarations.{Declaration, Sort, Link, Subsort, Object, Variable, Constant, Kinds, Declared, Pair, declarations_of, boolean, sort_names, pairs, is_below, objects, variables, constants, constant_names, value_sort, kind_of_constant, is_action, ground_fluents, ground_actions}
 
 abbrev pub is_sort : List Declaration → List ℕ → Bool
 is_sort left name = list_any (same_text name) (sort_names left)
@@ -28,7 +30,7 @@ is_twice left (Link name) = false
 is_twice left (Subsort upper lower) = list_any (same_pair (upper, lower)) (pairs left)
 is_twice left (Object name sort) = is_taken left name
 is_twice left (Variable name sort) = is_taken left name
-is_twice left (Constant shape kind) = is_taken left shape.name
+is_twice left (Constant shape kind file line) = is_taken left shape.name
 is_twice left (Kinds shapes kind) = false
 
 abbrev pub are_sorts : List Declaration → List (List ℕ) → Bool
@@ -42,7 +44,7 @@ has_unknown left (trees.Attribute sort action) = not (is_sort left sort && (are_
 abbrev pub is_unknown : List Declaration → Declaration → Bool
 is_unknown left (Object name sort) = not (is_sort left sort)
 is_unknown left (Variable name sort) = not (is_sort left sort)
-is_unknown left (Constant shape kind) = not (are_sorts left shape.sorts)
+is_unknown left (Constant shape kind file line) = not (are_sorts left shape.sorts)
 is_unknown left (Kinds shapes kind) = has_unknown left kind
 is_unknown left declaration = false
 
@@ -119,5 +121,39 @@ refusal_for file line false None = None
 -- the refusal of a statement of declarations behind others, if there is one
 abbrev pub declaration_refusal : ℕ → List Declaration → PlainStatement → Option Refusal
 declaration_refusal file left statement =
-    let new = declarations_of statement.part
+    let new = declarations_of file statement
     in refusal_for file statement.line (nat_lt (limit_number limits.Objects) (object_count (left ++ new))) (declaration_fault left new)
+
+-- ---- the whole description
+
+abbrev pub ground_constants_of : List Declaration → List Const
+ground_constants_of declarations = ground_fluents declarations ++ ground_actions declarations
+
+abbrev pub is_empty : Const → Bool
+is_empty constant = length constant.domain == 0
+
+-- 12: a ground constant has no value; the place is that of its declaration
+abbrev pub empty_refusal : Option Declared → Refusal
+empty_refusal (Some constant) = record { number = 12; file = constant.file; line = constant.line; limit = None }
+empty_refusal None = record { number = 12; file = 0; line = 0; limit = None }
+
+abbrev pub limit_refusal : LimitAt → Refusal
+limit_refusal limit = record { number = 14; file = 0; line = 0; limit = Some limit }
+
+abbrev pub passes_domain_values : List Const → Bool
+passes_domain_values ground = list_any (λ constant. nat_lt (limit_number limits.DomainValues) (length constant.domain)) ground
+
+abbrev pub count_refusal : List Const → Option Refusal
+count_refusal ground =
+    if passes_domain_values ground then Some (limit_refusal limits.DomainValues)
+    else (if nat_lt (limit_number limits.GroundConstants) (length ground) then Some (limit_refusal limits.GroundConstants) else None)
+
+abbrev pub refusal_of_first : List Declaration → List Const → Option Const → Option Refusal
+refusal_of_first declarations ground (Some constant) = Some (empty_refusal (slice_get (constants declarations) constant.symbol))
+refusal_of_first declarations ground None = count_refusal ground
+
+-- the refusal of all declarations together, if there is one: the first ground constant without a value, or a limit
+abbrev pub signature_refusal : List Declaration → Option Refusal
+signature_refusal declarations =
+    let ground = ground_constants_of declarations
+    in refusal_of_first declarations ground (find is_empty ground)

@@ -7,19 +7,20 @@ use Rattle.cc_defs.specs.declared.signature.Kind.TheVariants as kinds
 use Rattle.cc_defs.specs.declared.signature.Symbol.{Symbol}
 use Rattle.cc_defs.specs.declared.tree.KindWord.{KindWord}
 use Rattle.cc_defs.specs.declared.tree.KindWord.TheVariants as kind_words
-use Rattle.cc_defs.specs.Trees.{PlainShape, PlainSortItem, PlainListItem, PlainKind, PlainConstItem, PlainPart}
+use Rattle.cc_defs.specs.Trees.{PlainShape, PlainSortItem, PlainListItem, PlainKind, PlainConstItem, PlainPart, PlainStatement}
 use Rattle.cc_defs.specs.Trees as trees
 use Rattle.cc_defs.specs.Grammar.{same_text}
 use Rattle.cc_defs.specs.Texts.{none_value}
 
--- one declaration. The kind of constants stands behind their shapes, so that their names are to its left.
+-- one declaration, a constant's with the place of its statement. The kind of constants stands behind their shapes, so that
+-- their names are to its left.
 pub data Declaration : Type 0 where
   Sort : (name : List ℕ) → Declaration
   Link : (name : List ℕ) → Declaration
   Subsort : (upper lower : List ℕ) → Declaration
   Object : (name sort : List ℕ) → Declaration
   Variable : (name sort : List ℕ) → Declaration
-  Constant : PlainShape → PlainKind → Declaration
+  Constant : PlainShape → PlainKind → (file line : ℕ) → Declaration
   Kinds : List PlainShape → PlainKind → Declaration
 
 -- ---- the declarations of a statement, in the order of its text
@@ -39,15 +40,19 @@ object_declarations item = map (λ name. Object name item.sort) item.names
 abbrev pub variable_declarations : PlainListItem → List Declaration
 variable_declarations item = map (λ name. Variable name item.sort) item.names
 
-abbrev pub constant_declarations : PlainConstItem → List Declaration
-constant_declarations item = map (λ shape. Constant shape item.kind) item.shapes ++ Kinds item.shapes item.kind ∷ []
+abbrev pub constant_declarations : ℕ → ℕ → PlainConstItem → List Declaration
+constant_declarations file line item = map (λ shape. Constant shape item.kind file line) item.shapes ++ Kinds item.shapes item.kind ∷ []
 
-abbrev pub declarations_of : PlainPart → List Declaration
-declarations_of (trees.Sorts items) = flat_map sort_declarations items
-declarations_of (trees.Objects items) = flat_map object_declarations items
-declarations_of (trees.Variables items) = flat_map variable_declarations items
-declarations_of (trees.Constants items) = flat_map constant_declarations items
-declarations_of part = []
+abbrev pub part_declarations : ℕ → ℕ → PlainPart → List Declaration
+part_declarations file line (trees.Sorts items) = flat_map sort_declarations items
+part_declarations file line (trees.Objects items) = flat_map object_declarations items
+part_declarations file line (trees.Variables items) = flat_map variable_declarations items
+part_declarations file line (trees.Constants items) = flat_map (constant_declarations file line) items
+part_declarations file line part = []
+
+-- the declarations of a statement of a file
+abbrev pub declarations_of : ℕ → PlainStatement → List Declaration
+declarations_of file statement = part_declarations file statement.line statement.part
 
 -- ---- sorts
 
@@ -111,9 +116,11 @@ variables declarations = flat_map variable_declared declarations
 pub record Declared : Type 0 where
   pub shape : PlainShape
   pub kind : PlainKind
+  pub file : ℕ
+  pub line : ℕ
 
 abbrev pub constant_declared : Declaration → List Declared
-constant_declared (Constant shape kind) = record { shape = shape; kind = kind } ∷ []
+constant_declared (Constant shape kind file line) = record { shape = shape; kind = kind; file = file; line = line } ∷ []
 constant_declared declaration = []
 
 abbrev pub constants : List Declaration → List Declared

@@ -1,5 +1,5 @@
 //! Examples whose answers are known beforehand, each the contract of a function with no body.
-ghost use Rattle.cc_defs.specs.Examples.{EmptyRowIsState, SimpleFluentsAreFree, DeterminedNeedsCause, OneValueNeedsNoCause, CausesThatDifferClash, CausesMayStandInCircle, FalsityForbids, LampHasSoManyRules, LampTurns, LampStays, LampDoesNothingElse, LampTurnsTwice, LampEndsOnInTwoWays, KeysAreWritten, LampHistoryIsWritten, AttributeShowsNone, SortsHaveObjects, DeclarationsAreRefused, ConstantsAreGround, AttributesAreRefused};
+ghost use Rattle.cc_defs.specs.Examples.{EmptyRowIsState, SimpleFluentsAreFree, DeterminedNeedsCause, OneValueNeedsNoCause, CausesThatDifferClash, CausesMayStandInCircle, FalsityForbids, LampHasSoManyRules, LampTurns, LampStays, LampDoesNothingElse, LampTurnsTwice, LampEndsOnInTwoWays, KeysAreWritten, LampHistoryIsWritten, AttributeShowsNone, SortsHaveObjects, DeclarationsAreRefused, ConstantsAreGround, AttributesAreRefused, EmptyDomainsAreRefused};
 
 fn empty_row_is_state()
     ensures { EmptyRowIsState }
@@ -77,6 +77,10 @@ fn constants_are_ground()
     ensures { ConstantsAreGround }
 {}
 
+fn empty_domains_are_refused()
+    ensures { EmptyDomainsAreRefused }
+{}
+
 fn attributes_are_refused()
     ensures { AttributesAreRefused }
 {}
@@ -103,4 +107,5 @@ fn examples_hold() {
     declarations_are_refused();
     constants_are_ground();
     attributes_are_refused();
+    empty_domains_are_refused();
 }
