@@ -121,6 +121,50 @@ made {X = X} {Z = Z} {reader = reader} {spelling = spelling} make r = record {
   shorter = λ z tokens rest p. r.shorter p.0 tokens rest p.2;
 }
 
+pub made_part : {X Z : Type 0} {reader : Reader X} {spelling : X → Spelling} {stops : List Terminal → Bool} (make : X → Z) → IsPart reader spelling stops
+    → IsPart (λ tokens. reader tokens >>= λ read. Some (make read.0, read.1)) (made_by make spelling) stops
+made_part {X = X} {Z = Z} {reader = reader} {spelling = spelling} make r = record {
+  takes = λ tokens read e.
+      let first = bind_some (reader tokens) (λ found. Some (make found.0, found.1)) read e in
+      subst (λ (z : Z × List Terminal). made_by make spelling z.0 tokens z.1) (some-is (make first.0.0, first.0.1) read first.2)
+      (first.0.0, refl, r.takes tokens first.0 first.1);
+  again = λ z tokens rest p s.
+      let first : reader tokens ≡ Some (p.0, rest) = r.again p.0 tokens rest p.2 s in
+      rw first (ap (λ (y : Z). Some (y, rest)) p.1);
+  not_longer = λ z tokens rest p. r.not_longer p.0 tokens rest p.2;
+}
+
+-- one value, and another that depends on it
+abbrev pub led_by : {X Y : Type 0} → (X → Spelling) → (X → Y → Spelling) → Y → Spelling
+led_by {X = X} one two y tokens rest = (x : X) × (one x ▸ two x y) tokens rest
+
+-- the first may end before the second
+pub leading_part : {X Y : Type 0} {first : Reader X} {second : X → Reader Y} {one : X → Spelling} {two : X → Y → Spelling} {ends stops : List Terminal → Bool}
+    → IsPart first one ends → ((x : X) → IsPart (second x) (two x) stops)
+    → ((x : X) (y : Y) (tokens rest : List Terminal) → two x y tokens rest → stops rest ≡ true → ends tokens ≡ true)
+    → IsPart (λ tokens. first tokens >>= λ x. second x.0 x.1) (led_by one two) stops
+leading_part {X = X} {Y = Y} {first = first} {second = second} {one = one} {two = two} r q before = record {
+  takes = λ tokens read e.
+      let x = bind_some (first tokens) (λ x. second x.0 x.1) read e in
+      (x.0.0, (x.0.1, r.takes tokens x.0 x.1, (q x.0.0).takes x.0.1 read x.2));
+  again = λ y tokens rest p s.
+      let x : first tokens ≡ Some (p.0, p.1.0) = r.again p.0 tokens p.1.0 p.1.1 (before p.0 y p.1.0 rest p.1.2 s) in
+      rw x ((q p.0).again y p.1.0 rest p.1.2 s);
+  not_longer = λ y tokens rest p. let a = r.not_longer p.0 tokens p.1.0 p.1.1 in let b = (q p.0).not_longer y p.1.0 rest p.1.2 in omega arith;
+}
+
+pub leading : {X Y : Type 0} {first : Reader X} {second : X → Reader Y} {one : X → Spelling} {two : X → Y → Spelling} {ends stops : List Terminal → Bool}
+    → IsReader first one ends → ((x : X) → IsPart (second x) (two x) stops)
+    → ((x : X) (y : Y) (tokens rest : List Terminal) → two x y tokens rest → stops rest ≡ true → ends tokens ≡ true)
+    → IsReader (λ tokens. first tokens >>= λ x. second x.0 x.1) (led_by one two) stops
+leading {X = X} {Y = Y} {first = first} {second = second} {one = one} {two = two} r q before =
+    let whole = leading_part (as_part r) q before in
+    record {
+      takes = whole.takes;
+      again = whole.again;
+      shorter = λ y tokens rest p. let a = r.shorter p.0 tokens p.1.0 p.1.1 in let b = (q p.0).not_longer y p.1.0 rest p.1.2 in omega arith;
+    }
+
 -- a value that is made of two
 abbrev pub paired_by : {X Y Z : Type 0} → (X → Y → Z) → (X → Spelling) → (Y → Spelling) → Z → Spelling
 paired_by {X = X} {Y = Y} make one two z tokens rest = (x : X) × (y : Y) × (make x y ≡ z) × (one x ▸ two y) tokens rest
@@ -190,6 +234,36 @@ nothing {X = X} x = record {
   again = λ y tokens rest p s. ap (λ (w : X). Some (w, tokens)) p.0 ∙ ap (λ (l : List Terminal). Some (y, l)) p.1;
   not_longer = λ y tokens rest p. let e = ap length p.1 in omega arith;
 }
+
+-- behind something without a value, or this value where it does not stand
+abbrev pub or_nothing : {X : Type 0} → Spelling → X → (X → Spelling) → X → Spelling
+or_nothing mark y one x tokens rest = (mark ▸ one x) tokens rest ⊎ nothing_for y x tokens rest
+
+pub or_else : {X : Type 0} {literal : Literal} {mark : Spelling} {inner : Reader X} {one : X → Spelling} {stops : List Terminal → Bool} (y : X)
+    → IsLiteral literal mark → IsPart inner one stops
+    → IsPart (λ tokens. given (literal tokens) (Some (y, tokens)) inner) (or_nothing mark y one) (λ rest. stops rest && lacks literal rest)
+or_else {X = X} {literal = literal} {mark = mark} {inner = inner} {one = one} {stops = stops} y l r = record {
+  takes = λ tokens read e. elim (given_cases (literal tokens) (Some (y, tokens)) inner (Some read) e) [
+      | inl p ↦ inl (p.0, l.takes tokens p.0 p.1, r.takes p.0 read p.2)
+      | inr p ↦ inr ((nothing y).takes tokens read p.1)
+  ];
+  again = or_again;
+  not_longer = or_longer;
+}
+  where
+    or_again : (x : X) (tokens rest : List Terminal) → or_nothing mark y one x tokens rest → (stops rest && lacks literal rest) ≡ true → given (literal tokens) (Some (y, tokens)) inner ≡ Some (x, rest)
+    or_again x tokens rest (inl p) s =
+        let ends = and_parts (stops rest) (lacks literal rest) s in
+        let first : literal tokens ≡ Some p.0 = l.again tokens p.0 p.1 in
+        rw first (r.again x p.0 rest p.2 ends.0)
+    or_again x tokens rest (inr p) s =
+        let ends = and_parts (stops rest) (lacks literal rest) s in
+        let none : literal tokens ≡ None = ap literal p.1 ∙ lacks-none literal rest ends.1 in
+        rw none ((nothing y).again x tokens rest p refl)
+
+    or_longer : (x : X) (tokens rest : List Terminal) → or_nothing mark y one x tokens rest → length rest ≤ length tokens
+    or_longer x tokens rest (inl p) = let a = l.shorter tokens p.0 p.1 in let b = r.not_longer x p.0 rest p.2 in omega arith
+    or_longer x tokens rest (inr p) = (nothing y).not_longer x tokens rest p
 
 -- no value is read
 abbrev pub none_for : {X : Type 0} → X → Spelling

@@ -1,4 +1,7 @@
+pub mod Combined
+pub mod DeclarationReaders
+pub mod Given
 pub mod IsReader
 pub mod Marks
+pub mod QueryReaders
 pub mod Singles
-pub mod Combined
