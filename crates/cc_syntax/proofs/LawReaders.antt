@@ -282,7 +282,7 @@ law-reader = record { takes = takes; again = again; shorter = shorter; }
     shorter l tokens rest (inl p) = acting-reader.shorter l tokens rest p
     shorter l tokens rest (inr p) = worded-reader.shorter l tokens rest p
 
-is-none : {A : Type 0} (o : Option A) → ((x : A) → o ≡ Some x → ⊥) → o ≡ None
+pub is-none : {A : Type 0} (o : Option A) → ((x : A) → o ≡ Some x → ⊥) → o ≡ None
 is-none None f = refl
 is-none (Some x) f = absurd (f x refl)
 

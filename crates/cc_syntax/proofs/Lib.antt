@@ -4,5 +4,7 @@ pub mod Given
 pub mod IsReader
 pub mod LawReaders
 pub mod Marks
+pub mod Parsing
 pub mod QueryReaders
+pub mod Quotes
 pub mod Singles
