@@ -1,5 +1,5 @@
 -- What larger readers do, of what the smaller ones do.
-use Rattle.std.proofs.Common.{◌≡◌, ◌⊎◌, ℕ, zero, suc, ◌<◌, ◌≤◌, Bool, true, false, ◌&&◌, List, [], ◌∷◌, ◌++◌, length, Option, Some, None, is_none, refl, sym, ap, subst, ◌∙◌, append_assoc, arith, inl, inr}
+use Rattle.std.proofs.Common.{◌≡◌, ◌⊎◌, ℕ, zero, suc, ◌<◌, ◌≤◌, Bool, true, ◌&&◌, List, [], ◌∷◌, ◌++◌, length, Option, Some, None, is_none, refl, sym, ap, subst, ◌∙◌, append_assoc, arith, inl, inr}
 use Rattle.std.proofs.lemmas.Bool.{and_parts}
 use Rattle.cc_defs.specs.declared.token.Mark.{Mark}
 use Rattle.cc_defs.specs.declared.token.Mark.TheVariants as marks
@@ -198,8 +198,8 @@ pub choice_part : {X : Type 0} {literal : Literal} {mark : Spelling} {inner othe
     → IsPart (λ tokens. given (literal tokens) (other tokens) inner) (by_choice literal mark one two) stops
 choice_part {X = X} {literal = literal} {mark = mark} {inner = inner} {other = other} {one = one} {two = two} {stops = stops} l r q = record {
   takes = λ tokens read e. elim (given_cases (literal tokens) (other tokens) inner (Some read) e) [
-      | inl p ↦ inl (p.0, l.takes tokens p.0 p.1, r.takes p.0 read p.2)
-      | inr p ↦ inr (p.0, q.takes tokens read p.1)
+    | inl p ↦ inl (p.0, l.takes tokens p.0 p.1, r.takes p.0 read p.2)
+    | inr p ↦ inr (p.0, q.takes tokens read p.1)
   ];
   again = choice_again;
   not_longer = choice_longer;
@@ -218,7 +218,7 @@ pub choice : {X : Type 0} {literal : Literal} {mark : Spelling} {inner other : R
     → IsReader (λ tokens. given (literal tokens) (other tokens) inner) (by_choice literal mark one two) stops
 choice {X = X} {literal = literal} {mark = mark} {inner = inner} {other = other} {one = one} {two = two} {stops = stops} l r q =
     let whole = choice_part l r (as_part q) in
-    record { takes = whole.takes; again = whole.again; shorter = choice_shorter; }
+    record { takes = whole.takes; again = whole.again; shorter = choice_shorter }
   where
     choice_shorter : (x : X) (tokens rest : List Terminal) → by_choice literal mark one two x tokens rest → length rest < length tokens
     choice_shorter x tokens rest (inl p) = let a = l.shorter tokens p.0 p.1 in let b = r.not_longer x p.0 rest p.2 in omega arith
@@ -244,8 +244,8 @@ pub or_else : {X : Type 0} {literal : Literal} {mark : Spelling} {inner : Reader
     → IsPart (λ tokens. given (literal tokens) (Some (y, tokens)) inner) (or_nothing mark y one) (λ rest. stops rest && lacks literal rest)
 or_else {X = X} {literal = literal} {mark = mark} {inner = inner} {one = one} {stops = stops} y l r = record {
   takes = λ tokens read e. elim (given_cases (literal tokens) (Some (y, tokens)) inner (Some read) e) [
-      | inl p ↦ inl (p.0, l.takes tokens p.0 p.1, r.takes p.0 read p.2)
-      | inr p ↦ inr ((nothing y).takes tokens read p.1)
+    | inl p ↦ inl (p.0, l.takes tokens p.0 p.1, r.takes p.0 read p.2)
+    | inr p ↦ inr ((nothing y).takes tokens read p.1)
   ];
   again = or_again;
   not_longer = or_longer;
@@ -283,31 +283,16 @@ refusing {X = X} = record {
 
 pub option : {X : Type 0} {item : Reader X} {spelling : X → Spelling} {stops : List Terminal → Bool} (text : List ℕ) → IsReader item spelling stops
     → IsPart (optional_at item text) (optional spelling text) (λ rest. stops rest && lacks (word_at text) rest)
-option {X = X} {item = item} {spelling = spelling} {stops = stops} text r = record { takes = takes; again = again; not_longer = not_longer; }
+option {X = X} {item = item} {spelling = spelling} {stops = stops} text r =
+    part_respelled (or_else None (word-literal text) (as_part (made (λ x. Some x) r))) to from
   where
-    takes : (tokens : List Terminal) (read : Option X × List Terminal) → optional_at item text tokens ≡ Some read → optional spelling text read.0 tokens read.1
-    takes tokens read e = elim (given_cases (word_at text tokens) (Some (None, tokens)) (λ rest. item rest >>= λ found. Some (Some found.0, found.1)) (Some read) e) [
-      | inl p ↦
-          let q = bind_some (item p.0) (λ found. Some (Some found.0, found.1)) read p.2 in
-          subst (λ (z : Option X × List Terminal). optional spelling text z.0 tokens z.1) (some-is (Some q.0.0, q.0.1) read q.2)
-          (p.0, (word-literal text).takes tokens p.0 p.1, r.takes p.0 q.0 q.1)
-      | inr p ↦ subst (λ (z : Option X × List Terminal). optional spelling text z.0 tokens z.1) (some-is (None, tokens) read p.1) refl
-    ]
+    to : (x : Option X) (tokens rest : List Terminal) → or_nothing (word text) None (made_by (λ y. Some y) spelling) x tokens rest → optional spelling text x tokens rest
+    to x tokens rest (inl p) = subst (λ (z : Option X). optional spelling text z tokens rest) p.2.1 (p.0, p.1, p.2.2)
+    to x tokens rest (inr p) = subst (λ (z : Option X). optional spelling text z tokens rest) p.0 p.1
 
-    again : (x : Option X) (tokens rest : List Terminal) → optional spelling text x tokens rest → (stops rest && lacks (word_at text) rest) ≡ true → optional_at item text tokens ≡ Some (x, rest)
-    again None tokens rest p s =
-        let ends = and_parts (stops rest) (lacks (word_at text) rest) s in
-        let lacking : word_at text tokens ≡ None = ap (word_at text) p ∙ lacks-none (word_at text) rest ends.1 in
-        rw lacking (ap (λ (l : List Terminal). Some (None, l)) p)
-    again (Some x) tokens rest p s =
-        let ends = and_parts (stops rest) (lacks (word_at text) rest) s in
-        let first : word_at text tokens ≡ Some p.0 = (word-literal text).again tokens p.0 p.1 in
-        let second : item p.0 ≡ Some (x, rest) = r.again x p.0 rest p.2 ends.0 in
-        rw (first, second) refl
-
-    not_longer : (x : Option X) (tokens rest : List Terminal) → optional spelling text x tokens rest → length rest ≤ length tokens
-    not_longer None tokens rest p = let e = ap length p in omega arith
-    not_longer (Some x) tokens rest p = let a = (word-literal text).shorter tokens p.0 p.1 in let b = r.shorter x p.0 rest p.2 in omega arith
+    from : (x : Option X) (tokens rest : List Terminal) → optional spelling text x tokens rest → or_nothing (word text) None (made_by (λ y. Some y) spelling) x tokens rest
+    from None tokens rest p = inr (refl, p)
+    from (Some x) tokens rest p = inl (p.0, p.1, (x, refl, p.2))
 
 -- ---- one item or more, with a mark between them
 
@@ -357,7 +342,7 @@ module _ {X : Type 0} {item : Reader X} {spelling : X → Spelling} {stops : Lis
 
   pub items : ((rest : List Terminal) → stops (Sign mark ∷ rest) ≡ true)
       → IsReader (listed_at item mark) (listed spelling mark) (λ rest. stops rest && lacks (sign_at mark) rest)
-  items ends = record { takes = takes; again = again; shorter = shorter; }
+  items ends = record { takes = takes; again = again; shorter = shorter }
     where
       takes : (tokens : List Terminal) (read : List X × List Terminal) → listed_at item mark tokens ≡ Some read → listed spelling mark read.0 tokens read.1
       takes tokens read e =

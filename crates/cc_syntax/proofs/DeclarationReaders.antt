@@ -1,15 +1,15 @@
 -- The readers of declarations.
-use Rattle.std.proofs.Common.{◌≡◌, ◌⊎◌, ℕ, ◌<◌, Bool, true, false, ◌&&◌, List, [], ◌∷◌, length, Option, Some, None, is_none, refl, sym, ap, subst, ◌∙◌, arith, inl, inr}
+use Rattle.std.proofs.Common.{◌≡◌, ℕ, ◌<◌, Bool, true, ◌&&◌, List, [], ◌∷◌, length, Option, Some, None, refl, ap, subst, arith, inl, inr}
 use Rattle.std.specs.Prelude.{codes}
 use Rattle.std.proofs.lemmas.Bool.{and_parts}
 use Rattle.cc_defs.specs.declared.token.Mark.TheVariants as marks
 use Rattle.cc_defs.specs.declared.tree.KindWord.{KindWord}
 use Rattle.cc_defs.specs.declared.tree.KindWord.TheVariants as kind_words
 use Rattle.cc_defs.specs.Trees.{PlainShape, PlainSortItem, Names, Chain, PlainListItem, PlainKind, Plain, Attribute, PlainConstItem}
-use Rattle.cc_defs.specs.Grammar.{Terminal, Word, Sign, Spelling, ◌▸◌, sign, word, name, in_parentheses, chained, listed, sort_item, list_item, sorts_of, shape, kind_word, kind, const_item}
-use Rattle.cc_syntax.specs.Readers.{Reader, given, ◌>>=◌, name_at, sign_at, word_at, listed_at, parenthesized_at, paired, ◌▷◌, ◌◁◌}
+use Rattle.cc_defs.specs.Grammar.{Terminal, Spelling, ◌▸◌, sign, word, name, in_parentheses, chained, listed, sort_item, list_item, sorts_of, shape, kind_word, kind, const_item}
+use Rattle.cc_syntax.specs.Readers.{given, ◌>>=◌, name_at, sign_at, word_at, listed_at, paired}
 use Rattle.cc_syntax.specs.Declarations.{names_at, sort_item_at, list_item_of, list_item_at, shape_of, sorts_at, shape_at, kind_word_at, sort_at, attribute_at, kind_at, const_item_of, const_item_at}
-use Rattle.cc_syntax.proofs.IsReader.{IsReader, IsLiteral, anywhere}
+use Rattle.cc_syntax.proofs.IsReader.{IsReader, anywhere}
 use Rattle.cc_syntax.proofs.Singles.{bind_some, given_cases, some-is, sign-literal, word-literal, name-reader}
 use Rattle.cc_syntax.proofs.Combined.{IsPart, as_part, respelled, part_respelled, lacks, lacks-none, regroup, group, behind, before, made_by, made, paired_by, pair, by_choice, choice, nothing_for, nothing, or_nothing, or_else, none_for, refusing, items, parenthesized}
 
@@ -72,7 +72,7 @@ sort_item_shorter (Chain (x ∷ xs)) tokens rest p =
     omega arith
 
 pub sort_item-reader : IsReader sort_item_at sort_item ends_sorts
-sort_item-reader = record { takes = sort_item_takes; again = sort_item_again; shorter = sort_item_shorter; }
+sort_item-reader = record { takes = sort_item_takes; again = sort_item_again; shorter = sort_item_shorter }
 
 -- ---- objects and variables
 

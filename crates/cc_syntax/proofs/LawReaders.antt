@@ -1,16 +1,16 @@
 -- The readers of laws.
-use Rattle.std.proofs.Common.{◌≡◌, ◌⊎◌, ℕ, ◌<◌, Bool, true, false, cond, ◌&&◌, ◌||◌, List, [], ◌∷◌, length, Option, Some, None, is_none, refl, sym, ap, subst, ◌∙◌, arith, inl, inr}
+use Rattle.std.proofs.Common.{◌≡◌, ◌⊎◌, ℕ, ◌<◌, Bool, true, false, cond, ◌&&◌, ◌||◌, List, ◌∷◌, length, Option, Some, None, refl, ap, subst, ◌∙◌, inl, inr}
 use Rattle.std.specs.Prelude.{codes}
+use Rattle.std.specs.Cmp.Derive.{both_true}
 use Rattle.std.proofs.lemmas.Bool.{and_parts}
 use Rattle.cc_defs.specs.declared.token.Mark.TheVariants as marks
 use Rattle.cc_defs.specs.Trees.{PlainTerm, Applied, NoTerms, MoreTerms, PlainTree, PlainLaw, Caused, Constraint, Always, Nonexecutable, Default, Exogenous, Inertial, Causes, MayCause, NoConcurrency, PlainPart, Law}
 use Rattle.cc_defs.specs.Trees as trees
 use Rattle.cc_defs.specs.Grammar.{Terminal, Word, Sign, Spelling, ◌▸◌, never, word, optional, is_name, is_value_word, term, formula_of, formula, law, tested_law}
-use Rattle.cc_syntax.specs.Readers.{Reader, given, ◌>>=◌, word_at, optional_at, paired, ◌▷◌}
-use Rattle.cc_syntax.specs.Terms.{term_at}
+use Rattle.cc_syntax.specs.Readers.{Literal, word_at, optional_at}
 use Rattle.cc_syntax.specs.Formulas.{formula_at}
 use Rattle.cc_syntax.specs.Laws.{if_at, caused_at, effect_at, alone_at, of_term_at, worded_at, acting_at, opens_formula, law_at, tested_law_at}
-use Rattle.cc_syntax.proofs.IsReader.{IsReader, anywhere, ends_term, ends_formula}
+use Rattle.cc_syntax.proofs.IsReader.{IsReader, IsLiteral, ends_term, ends_formula}
 use Rattle.cc_syntax.proofs.Singles.{word-literal}
 use Rattle.cc_syntax.proofs.Combined.{IsPart, as_part, respelled, stopped, part_stopped, lacks, behind, made_by, made, made_part, paired_by, pair, led_by, leading, leading_part, by_choice, choice, nothing_for, nothing, none_for, refusing, option}
 use Rattle.cc_syntax.proofs.Given.{term-reader, formula-reader}
@@ -32,13 +32,9 @@ law-if rest s = (and_parts (ends_if rest) (lacks (word_at (codes "after")) rest)
 law-formula : (rest : List Terminal) → ends_law rest ≡ true → ends_formula rest ≡ true
 law-formula rest s = (and_parts (ends_formula rest) (lacks (word_at (codes "if")) rest) (law-if rest s)).0
 
-both_true : (a b : Bool) → a ≡ true → b ≡ true → (a && b) ≡ true
-both_true true b e f = f
-both_true false b e f = absurd cc
-
 law-after : (rest : List Terminal) → ends_law rest ≡ true → ends_after rest ≡ true
 law-after rest s =
-    both_true (ends_formula rest) (lacks (word_at (codes "after")) rest) (law-formula rest s)
+    both_true (law-formula rest s)
     (and_parts (ends_if rest) (lacks (word_at (codes "after")) rest) s).1
 
 formula-term : (rest : List Terminal) → ends_formula rest ≡ true → ends_term rest ≡ true
@@ -265,7 +261,7 @@ abbrev pub other_law : PlainLaw → Spelling
 other_law l tokens rest = acting l tokens rest ⊎ worded l tokens rest
 
 pub law-reader : IsReader law_at other_law ends_law
-law-reader = record { takes = takes; again = again; shorter = shorter; }
+law-reader = record { takes = takes; again = again; shorter = shorter }
   where
     by_test : (t : Bool) (tokens : List Terminal) (read : PlainLaw × List Terminal) → cond t (acting_at tokens) (worded_at tokens) ≡ Some read → other_law read.0 tokens read.1
     by_test true tokens read e = inl (acting-reader.takes tokens read e)
@@ -282,21 +278,21 @@ law-reader = record { takes = takes; again = again; shorter = shorter; }
     shorter l tokens rest (inl p) = acting-reader.shorter l tokens rest p
     shorter l tokens rest (inr p) = worded-reader.shorter l tokens rest p
 
-pub is-none : {A : Type 0} (o : Option A) → ((x : A) → o ≡ Some x → ⊥) → o ≡ None
+is-none : {A : Type 0} (o : Option A) → ((x : A) → o ≡ Some x → ⊥) → o ≡ None
 is-none None f = refl
 is-none (Some x) f = absurd (f x refl)
 
--- where a formula begins, `noconcurrency` does not stand
-opening-other : (tokens : List Terminal) → opens_formula tokens ≡ true → word_at (codes "noconcurrency") tokens ≡ None
-opening-other tokens e =
-    is-none (word_at (codes "noconcurrency") tokens)
-    (λ rest p. differ (opens_formula tokens) e (ap opens_formula ((word-literal (codes "noconcurrency")).takes tokens rest p)))
+-- where a formula begins, nothing stands that begins none
+pub opening-lacks : {literal : Literal} {mark : Spelling} → IsLiteral literal mark → ((tokens rest : List Terminal) → mark tokens rest → opens_formula tokens ≡ false)
+    → (tokens : List Terminal) → opens_formula tokens ≡ true → literal tokens ≡ None
+opening-lacks {literal = literal} l shut tokens e =
+    is-none (literal tokens) (λ rest p. differ (opens_formula tokens) e (shut tokens rest (l.takes tokens rest p)))
   where
     differ : (b : Bool) → b ≡ true → b ≡ false → ⊥
     differ b e f = cc
 
 other_law-other : (l : PlainLaw) (tokens rest : List Terminal) → other_law l tokens rest → word_at (codes "noconcurrency") tokens ≡ None
-other_law-other l tokens rest (inl p) = opening-other tokens (acting-opens l tokens rest p)
+other_law-other l tokens rest (inl p) = opening-lacks (word-literal (codes "noconcurrency")) (λ more after w. ap opens_formula w) tokens (acting-opens l tokens rest p)
 other_law-other l tokens rest (inr p) = worded-other l tokens rest p
 
 -- ---- laws with their tests
@@ -328,7 +324,7 @@ tested_law-reader =
     test-where : (rest : List Terminal) → ends_test rest ≡ true → (ends_formula rest && lacks (word_at (codes "where")) rest) ≡ true
     test-where rest s =
         let both = and_parts (ends_law rest) (lacks (word_at (codes "where")) rest) s in
-        both_true (ends_formula rest) (lacks (word_at (codes "where")) rest) (law-formula rest both.0) both.1
+        both_true (law-formula rest both.0) both.1
 
     before_test : (test : Option PlainTree) (tokens rest : List Terminal) → optional formula (codes "where") test tokens rest → ends_test rest ≡ true → ends_law tokens ≡ true
     before_test test tokens rest p s = ends-before ends_law (codes "where") (λ more. refl) test tokens rest p (test-law rest s)

@@ -1,19 +1,19 @@
 -- The reader of statements.
-use Rattle.std.proofs.Common.{◌≡◌, ◌⊎◌, ℕ, Bool, true, false, ◌&&◌, List, [], ◌∷◌, ◌++◌, Option, Some, None, is_some, is_none, refl, sym, ap, subst, ◌∙◌, inl, inr}
+use Rattle.std.proofs.Common.{◌≡◌, ℕ, Bool, true, ◌&&◌, List, [], ◌∷◌, Option, Some, None, is_some, refl, sym, ap, subst, ◌∙◌, inl, inr}
 use Rattle.std.specs.Prelude.{codes}
 use Rattle.cc_defs.specs.declared.token.Mark.TheVariants as marks
 use Rattle.cc_defs.specs.Tokens.{TokenView, AreTokens}
-use Rattle.cc_defs.specs.Trees.{PlainTree, PlainLaw, PlainSortItem, PlainListItem, PlainConstItem, PlainQueryItem, PlainPart, PlainStatement, Sorts, Objects, Variables, Constants, Query, Include, Law, Caused, Constraint, Always, Nonexecutable, Default, Exogenous, Inertial, Causes, MayCause, NoConcurrency}
-use Rattle.cc_defs.specs.Grammar.{Terminal, Word, Quoted, Sign, Spelling, ◌▸◌, sign, word, listed, terminals, sort_item, list_item, const_item, query_item, tested_law, directive, quoted, part, Spells}
-use Rattle.cc_syntax.specs.Readers.{Reader, given, ◌>>=◌, quoted_at, sign_at, word_at, listed_at, ◌▷◌, ◌◁◌}
+use Rattle.cc_defs.specs.Trees.{PlainTree, PlainLaw, PlainPart, PlainStatement, Sorts, Objects, Variables, Constants, Query, Include, Law, Caused, Constraint, Always, Nonexecutable, Default, Exogenous, Inertial, Causes, MayCause, NoConcurrency}
+use Rattle.cc_defs.specs.Grammar.{Terminal, Word, Quoted, Sign, Spelling, ◌▸◌, sign, word, listed, terminals, sort_item, list_item, const_item, query_item, tested_law, directive, part}
+use Rattle.cc_syntax.specs.Readers.{Reader, ◌>>=◌, sign_at, word_at, ◌◁◌}
 use Rattle.cc_syntax.specs.Laws.{opens_formula}
 use Rattle.cc_syntax.specs.Parsing.{items_at, include_at, directive_at, part_at, nothing_left, statement_at, OneTree}
 use Rattle.cc_syntax.proofs.IsReader.{IsReader, anywhere}
 use Rattle.cc_syntax.proofs.Singles.{bind_some, some-is, sign-literal, word-literal}
-use Rattle.cc_syntax.proofs.Combined.{IsPart, as_part, respelled, stopped, lacks, before, made_by, made, by_choice, choice, none_for, refusing, items}
+use Rattle.cc_syntax.proofs.Combined.{as_part, respelled, stopped, lacks, before, made_by, made, by_choice, choice, none_for, refusing, items}
 use Rattle.cc_syntax.proofs.DeclarationReaders.{sort_item-reader, list_item-reader, const_item-reader}
 use Rattle.cc_syntax.proofs.QueryReaders.{query_item-reader}
-use Rattle.cc_syntax.proofs.LawReaders.{formula-opens, tested_part, tested_law-reader, is-none}
+use Rattle.cc_syntax.proofs.LawReaders.{formula-opens, tested_part, tested_law-reader, opening-lacks}
 use Rattle.cc_syntax.proofs.Quotes.{in_quotes, unquoted-is, quoted-among, quoted_token, quoted-reader}
 
 -- ---- the dot
@@ -76,11 +76,7 @@ directive-reader =
 -- ---- laws do not begin with `:-`
 
 opening-turn : (tokens : List Terminal) → opens_formula tokens ≡ true → sign_at marks.Turn tokens ≡ None
-opening-turn tokens e =
-    is-none (sign_at marks.Turn tokens) (λ rest p. differ (opens_formula tokens) e (ap opens_formula ((sign-literal marks.Turn).takes tokens rest p)))
-  where
-    differ : (b : Bool) → b ≡ true → b ≡ false → ⊥
-    differ b e f = cc
+opening-turn = opening-lacks (sign-literal marks.Turn) (λ tokens rest t. ap opens_formula t)
 
 law-turn : (l : PlainLaw) (test : Option PlainTree) (tokens rest : List Terminal) → tested_law l test tokens rest → sign_at marks.Turn tokens ≡ None
 law-turn (Caused f g h) test tokens rest p = ap (sign_at marks.Turn) p.1.1
@@ -121,7 +117,7 @@ part-reader =
     to p tokens rest (inl (b, t, inr (n0, inr (n1, inr (n2, inl (c, w, (list, e, q))))))) = subst (λ (z : PlainPart). read_part z tokens rest) e (b, t, (c, w, q))
     to p tokens rest (inl (b, t, inr (n0, inr (n1, inr (n2, inr (n3, inl (c, w, (list, e, q)))))))) = subst (λ (z : PlainPart). read_part z tokens rest) e (b, t, (c, w, q))
     to p tokens rest (inl (b, t, inr (n0, inr (n1, inr (n2, inr (n3, inr (n4, inl (c, w, (file, e, q))))))))) = subst (λ (z : PlainPart). read_part z tokens rest) e (b, t, (c, w, q))
-    to p tokens rest (inl (b, t, inr (n0, inr (n1, inr (n2, inr (n3, inr (n4, inr (n5, q))))))))  = absurd q
+    to p tokens rest (inl (b, t, inr (n0, inr (n1, inr (n2, inr (n3, inr (n4, inr (n5, q)))))))) = absurd q
     to p tokens rest (inr (none, q)) = to_law p tokens rest q
 
     from : (p : PlainPart) (tokens rest : List Terminal) → read_part p tokens rest → some_part p tokens rest

@@ -1,18 +1,18 @@
 -- The readers of the parts of a query.
-use Rattle.std.proofs.Common.{◌≡◌, ◌⊎◌, ℕ, Bool, true, false, ◌&&◌, List, [], ◌∷◌, Option, Some, None, is_none, refl, sym, ap, subst, ◌∙◌, inl, inr}
+use Rattle.std.proofs.Common.{◌≡◌, ℕ, Bool, true, false, ◌&&◌, List, ◌∷◌, refl, ap, subst, ◌∙◌, inl, inr}
 use Rattle.std.specs.Prelude.{codes}
 use Rattle.std.proofs.lemmas.Bool.{and_parts}
 use Rattle.cc_defs.specs.declared.signature.At.{At}
 use Rattle.cc_defs.specs.declared.signature.At.TheVariants as ats
 use Rattle.cc_defs.specs.declared.token.Mark.TheVariants as marks
-use Rattle.cc_defs.specs.Trees.{PlainTree, PlainQueryItem, Label, Range, Condition}
-use Rattle.cc_defs.specs.Grammar.{Terminal, Word, Number, Sign, Spelling, ◌▸◌, sign, word, numeral, listed, formula, label, step, query_item}
-use Rattle.cc_syntax.specs.Readers.{Reader, given, ◌>>=◌, numeral_at, label_at, sign_at, word_at, listed_at, ◌▷◌, ◌◁◌}
+use Rattle.cc_defs.specs.Trees.{PlainQueryItem, Label, Range, Condition}
+use Rattle.cc_defs.specs.Grammar.{Terminal, Word, Number, Spelling, ◌▸◌, sign, word, numeral, listed, formula, label, step, query_item}
+use Rattle.cc_syntax.specs.Readers.{sign_at, word_at, listed_at}
 use Rattle.cc_syntax.specs.Formulas.{formula_at}
 use Rattle.cc_syntax.specs.Queries.{condition_at, step_at, stepped_at, range_at, last_at, labelled_at, query_item_at}
 use Rattle.cc_syntax.proofs.IsReader.{IsReader, anywhere, ends_formula}
 use Rattle.cc_syntax.proofs.Singles.{sign-literal, word-literal, numeral-reader, label-reader}
-use Rattle.cc_syntax.proofs.Combined.{IsPart, as_part, respelled, stopped, lacks, behind, made_by, made, led_by, leading, by_choice, choice, nothing_for, nothing, or_nothing, or_else, items}
+use Rattle.cc_syntax.proofs.Combined.{as_part, respelled, stopped, lacks, behind, made_by, made, led_by, leading, by_choice, choice, nothing_for, nothing, or_nothing, or_else, items}
 use Rattle.cc_syntax.proofs.Given.{formula-reader}
 
 -- ---- a condition
