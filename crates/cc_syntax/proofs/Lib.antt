@@ -6,5 +6,5 @@ pub mod LawReaders
 pub mod Marks
 pub mod Parsing
 pub mod QueryReaders
-pub mod Quotes
+pub mod QuotedNames
 pub mod Singles

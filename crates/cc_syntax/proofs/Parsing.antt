@@ -14,7 +14,7 @@ use Rattle.cc_syntax.proofs.Combined.{as_part, respelled, stopped, lacks, before
 use Rattle.cc_syntax.proofs.DeclarationReaders.{sort_item-reader, list_item-reader, const_item-reader}
 use Rattle.cc_syntax.proofs.QueryReaders.{query_item-reader}
 use Rattle.cc_syntax.proofs.LawReaders.{formula-opens, tested_part, tested_law-reader, opening-lacks}
-use Rattle.cc_syntax.proofs.Quotes.{in_quotes, unquoted-is, quoted-among, quoted_token, quoted-reader}
+use Rattle.cc_syntax.proofs.QuotedNames.{in_quotes, unquoted-is, quoted-among, quoted_token, quoted-reader}
 
 -- ---- the dot
 
