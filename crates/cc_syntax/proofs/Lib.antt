@@ -1,3 +1,4 @@
 pub mod IsReader
 pub mod Marks
 pub mod Singles
+pub mod TermReader
