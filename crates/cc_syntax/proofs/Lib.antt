@@ -2,3 +2,4 @@ pub mod IsReader
 pub mod Marks
 pub mod Singles
 pub mod TermReader
+pub mod Strengths
