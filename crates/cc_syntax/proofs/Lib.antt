@@ -3,3 +3,4 @@ pub mod Marks
 pub mod Singles
 pub mod TermReader
 pub mod Strengths
+pub mod FormulaTakes
