@@ -4,3 +4,5 @@ pub mod Singles
 pub mod TermReader
 pub mod Strengths
 pub mod FormulaTakes
+pub mod FormulaAgain
+pub mod FormulaReader
