@@ -1,20 +1,18 @@
 -- What is spelled as a formula is read, backwards over the turns of the reader: what follows from the formula that was
 -- read follows from the place where it was wanted.
-use Rattle.std.proofs.Common.{◌≡◌, ◌⊎◌, ℕ, zero, suc, ◌<◌, ◌≤◌, Bool, true, false, cond, List, [], ◌∷◌, length, Option, Some, None, refl, sym, ap, subst, ◌∙◌, arith, inl, inr}
-use Rattle.std.specs.Prelude.{nat_le}
+use Rattle.std.proofs.Common.{◌≡◌, ℕ, zero, suc, ◌<◌, ◌≤◌, true, List, ◌∷◌, length, Option, Some, None, refl, sym, ap, subst, ◌∙◌, arith}
 use Rattle.std.proofs.lemmas.Bool.{le-leb}
 use Rattle.cc_defs.specs.declared.token.Mark.{Mark}
 use Rattle.cc_defs.specs.declared.token.Mark.TheVariants as marks
 use Rattle.cc_defs.specs.Trees.{PlainTerm, PlainTree, Applied, NoTerms, MoreTerms}
 use Rattle.cc_defs.specs.Trees as trees
-use Rattle.cc_defs.specs.Grammar.{Terminal, Word, Sign, sign, name, term, ◌▸◌, formula_of}
+use Rattle.cc_defs.specs.Grammar.{Terminal, Sign, sign, name, term, ◌▸◌, formula_of}
 use Rattle.cc_syntax.specs.declared.operators.Operator.{Operator}
 use Rattle.cc_syntax.specs.declared.operators.Operator.TheVariants as operators
-use Rattle.cc_syntax.specs.Readers.{Reader, given, ◌>>=◌, name_at, sign_at, ◌◁◌}
-use Rattle.cc_syntax.specs.Terms.{term_at}
+use Rattle.cc_syntax.specs.Readers.{given, ◌>>=◌, sign_at}
 use Rattle.cc_syntax.specs.Operators.{operator_at, strength, left_strength, right_strength, joined}
-use Rattle.cc_syntax.specs.Formulas.{PlainFrame, Not, Paren, ForAll, Exists, Left, filled, ends_before, closed, PlainTurn, Wants, Has, Ends, variable_at, quantifier_at, bracket_at, frame_at, side_at, atom_at, Held, begun, shut, pushed, gone_on, run_from}
-use Rattle.cc_syntax.proofs.IsReader.{IsReader, IsLiteral, ends_term}
+use Rattle.cc_syntax.specs.Formulas.{PlainFrame, Not, Paren, ForAll, Exists, Left, filled, ends_before, closed, PlainTurn, Wants, Has, Ends, variable_at, frame_at, side_at, atom_at, Held, begun, gone_on, run_from}
+use Rattle.cc_syntax.proofs.IsReader.{ends_term}
 use Rattle.cc_syntax.proofs.Singles.{some-is, sign-literal, name-reader}
 use Rattle.cc_syntax.proofs.TermReader.{term-reader}
 use Rattle.cc_syntax.proofs.Strengths.{mark_of, operator-here, strength-most, left-least, right-least, joined-parts, room, stays, formula-shorter}

@@ -1,14 +1,12 @@
 -- The reader of formulas reads what the grammar spells.
-use Rattle.std.proofs.Common.{◌≡◌, ℕ, zero, suc, ◌<◌, ◌≤◌, Bool, true, false, List, [], ◌∷◌, length, Option, Some, None, refl, sym, ap, ◌∙◌, arith}
-use Rattle.cc_defs.specs.declared.token.Mark.{Mark}
+use Rattle.std.proofs.Common.{◌≡◌, zero, suc, true, false, List, [], ◌∷◌, length, Some, None, refl, ap, arith}
 use Rattle.cc_defs.specs.declared.token.Mark.TheVariants as marks
 use Rattle.cc_defs.specs.Trees.{PlainTree}
-use Rattle.cc_defs.specs.Grammar.{Terminal, Sign, formula_of, formula}
+use Rattle.cc_defs.specs.Grammar.{Terminal, Sign, formula}
 use Rattle.cc_syntax.specs.declared.operators.Operator.{Operator}
 use Rattle.cc_syntax.specs.declared.operators.Operator.TheVariants as operators
-use Rattle.cc_syntax.specs.Readers.{given, ◌>>=◌, sign_at}
 use Rattle.cc_syntax.specs.Operators.{operator_at}
-use Rattle.cc_syntax.specs.Formulas.{PlainFrame, PlainTurn, Wants, Has, Ends, Held, gone_on, run_from, formula_at}
+use Rattle.cc_syntax.specs.Formulas.{Wants, Has, gone_on, run_from, formula_at}
 use Rattle.cc_syntax.proofs.IsReader.{IsReader, ends_term, ends_formula}
 use Rattle.cc_syntax.proofs.TermReader.{none-of, sign-none}
 use Rattle.cc_syntax.proofs.Strengths.{mark_of, operator-takes, formula-shorter}

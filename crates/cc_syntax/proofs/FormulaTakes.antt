@@ -1,6 +1,5 @@
 -- What the reader of formulas reads is spelled so: the open frames lead from the first token to the place where it is.
-use Rattle.std.proofs.Common.{◌≡◌, ◌⊎◌, ℕ, zero, suc, ◌<◌, ◌≤◌, Bool, true, false, cond, List, [], ◌∷◌, length, Option, Some, None, refl, sym, ap, subst, ◌∙◌, arith, inl, inr}
-use Rattle.std.specs.Prelude.{nat_le}
+use Rattle.std.proofs.Common.{◌≡◌, ◌⊎◌, ℕ, zero, suc, ◌≤◌, Bool, true, false, cond, List, [], ◌∷◌, Some, refl, sym, ap, subst, ◌∙◌, arith, inl, inr}
 use Rattle.std.proofs.lemmas.Bool.{leb-true, leb-false}
 use Rattle.cc_defs.specs.declared.token.Mark.{Mark}
 use Rattle.cc_defs.specs.declared.token.Mark.TheVariants as marks
@@ -8,11 +7,10 @@ use Rattle.cc_defs.specs.Trees.{PlainTerm, PlainTree}
 use Rattle.cc_defs.specs.Trees as trees
 use Rattle.cc_defs.specs.Grammar.{Terminal, Sign, Spelling, sign, name, term, ◌▸◌, where_it, formula_of}
 use Rattle.cc_syntax.specs.declared.operators.Operator.{Operator}
-use Rattle.cc_syntax.specs.Readers.{Reader, given, ◌>>=◌, name_at, sign_at, ◌◁◌}
+use Rattle.cc_syntax.specs.Readers.{◌>>=◌, name_at, sign_at, ◌◁◌}
 use Rattle.cc_syntax.specs.Terms.{term_at}
-use Rattle.cc_syntax.specs.Operators.{operator_at, strength, left_strength, right_strength, joined}
-use Rattle.cc_syntax.specs.Formulas.{PlainFrame, Not, Paren, ForAll, Exists, Left, filled, ends_before, closed, closing, PlainTurn, Wants, Has, Ends, variable_at, quantifier_at, bracket_at, frame_at, side_at, atom_at, Held, begun, shut, pushed, gone_on, run_from}
-use Rattle.cc_syntax.proofs.IsReader.{IsReader, IsLiteral}
+use Rattle.cc_syntax.specs.Operators.{operator_at, strength, left_strength, right_strength}
+use Rattle.cc_syntax.specs.Formulas.{PlainFrame, Not, Paren, ForAll, Exists, Left, filled, ends_before, closed, closing, Wants, Has, Ends, variable_at, quantifier_at, bracket_at, frame_at, side_at, atom_at, Held, begun, shut, pushed, gone_on, run_from}
 use Rattle.cc_syntax.proofs.Singles.{bind_some, given_cases, some-is, sign-literal, name-reader}
 use Rattle.cc_syntax.proofs.TermReader.{term-reader}
 use Rattle.cc_syntax.proofs.Strengths.{mark_of, operator-takes, strength-most, parts-joined, room_of, room, frame-tells, weaker}

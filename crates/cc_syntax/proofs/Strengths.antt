@@ -1,16 +1,15 @@
 -- How strong an operand may be where it stands, and that a formula of less strength may stand there too.
-use Rattle.std.proofs.Common.{◌≡◌, ◌⊎◌, ℕ, zero, suc, ◌<◌, ◌≤◌, Bool, true, false, List, [], ◌∷◌, length, Option, Some, None, refl, sym, ap, subst, ◌∙◌, arith, inl, inr}
+use Rattle.std.proofs.Common.{◌≡◌, ◌⊎◌, ℕ, ◌<◌, ◌≤◌, Bool, true, false, List, [], ◌∷◌, length, Some, refl, ap, arith, inl, inr}
 use Rattle.std.specs.Prelude.{nat_le}
 use Rattle.cc_defs.specs.declared.token.Mark.{Mark}
 use Rattle.cc_defs.specs.declared.token.Mark.TheVariants as marks
-use Rattle.cc_defs.specs.Trees.{PlainTerm, PlainTree}
+use Rattle.cc_defs.specs.Trees.{PlainTree}
 use Rattle.cc_defs.specs.Trees as trees
-use Rattle.cc_defs.specs.Grammar.{Terminal, Word, Number, Quoted, Sign, Spelling, sign, name, term, ◌▸◌, formula_of}
+use Rattle.cc_defs.specs.Grammar.{Terminal, Sign, Spelling, sign, name, term, ◌▸◌, formula_of}
 use Rattle.cc_syntax.specs.declared.operators.Operator.{Operator}
 use Rattle.cc_syntax.specs.declared.operators.Operator.TheVariants as operators
 use Rattle.cc_syntax.specs.Operators.{operator_at, strength, left_strength, right_strength, joined}
 use Rattle.cc_syntax.specs.Formulas.{PlainFrame, Not, Paren, ForAll, Exists, Left, ends_before, closed}
-use Rattle.cc_syntax.proofs.IsReader.{IsReader, IsLiteral}
 use Rattle.cc_syntax.proofs.Singles.{some-is, sign-literal, name-reader}
 use Rattle.cc_syntax.proofs.TermReader.{term-shorter}
 

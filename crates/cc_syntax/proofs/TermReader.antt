@@ -1,12 +1,12 @@
 -- The reader of terms reads what the grammar spells.
-use Rattle.std.proofs.Common.{◌≡◌, ◌⊎◌, ℕ, zero, suc, ◌<◌, ◌≤◌, Bool, true, false, ◌||◌, cond, List, [], ◌∷◌, ◌++◌, length, Option, Some, None, refl, sym, ap, subst, ◌∙◌, append_assoc, arith, inl, inr}
+use Rattle.std.proofs.Common.{◌≡◌, ℕ, zero, suc, ◌<◌, ◌≤◌, Bool, true, false, ◌||◌, List, [], ◌∷◌, ◌++◌, length, Option, Some, None, refl, sym, ap, subst, ◌∙◌, append_assoc, arith, inl, inr}
 use Rattle.cc_defs.specs.declared.token.Mark.{Mark}
 use Rattle.cc_defs.specs.declared.token.Mark.TheVariants as marks
 use Rattle.cc_defs.specs.Trees.{PlainTerm, PlainTerms, Applied, NoTerms, MoreTerms}
 use Rattle.cc_defs.specs.Grammar.{Terminal, Word, Number, Quoted, Sign, is_name, is_value_word, sign, name, term, other_terms, ◌▸◌}
-use Rattle.cc_syntax.specs.Readers.{Reader, given, ◌>>=◌, name_at, sign_at, ◌◁◌}
+use Rattle.cc_syntax.specs.Readers.{name_at, sign_at}
 use Rattle.cc_syntax.specs.Terms.{terms_of, call_at, leaf_at, term_from, args_from, term_at}
-use Rattle.cc_syntax.proofs.IsReader.{IsReader, IsLiteral, anywhere, ends_term}
+use Rattle.cc_syntax.proofs.IsReader.{IsReader, ends_term}
 use Rattle.cc_syntax.proofs.Singles.{bind_some, given_cases, if_some, some-is, sign-literal, name-reader}
 
 -- ---- nothing is read
