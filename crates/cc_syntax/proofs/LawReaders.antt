@@ -13,7 +13,8 @@ use Rattle.cc_syntax.specs.Laws.{if_at, caused_at, effect_at, alone_at, of_term_
 use Rattle.cc_syntax.proofs.IsReader.{IsReader, IsLiteral, ends_term, ends_formula}
 use Rattle.cc_syntax.proofs.Singles.{word-literal}
 use Rattle.cc_syntax.proofs.Combined.{IsPart, as_part, respelled, stopped, part_stopped, lacks, behind, made_by, made, made_part, paired_by, pair, led_by, leading, leading_part, by_choice, choice, nothing_for, nothing, none_for, refusing, option}
-use Rattle.cc_syntax.proofs.Given.{term-reader, formula-reader}
+use Rattle.cc_syntax.proofs.FormulaReader.{formula-reader}
+use Rattle.cc_syntax.proofs.TermReader.{term-reader}
 
 -- ---- where laws end
 

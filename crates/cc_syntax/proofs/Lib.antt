@@ -1,6 +1,8 @@
 pub mod Combined
 pub mod DeclarationReaders
-pub mod Given
+pub mod FormulaAgain
+pub mod FormulaReader
+pub mod FormulaTakes
 pub mod IsReader
 pub mod LawReaders
 pub mod Marks
@@ -8,3 +10,5 @@ pub mod Parsing
 pub mod QueryReaders
 pub mod QuotedNames
 pub mod Singles
+pub mod Strengths
+pub mod TermReader

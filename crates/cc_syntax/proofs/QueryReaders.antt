@@ -13,7 +13,7 @@ use Rattle.cc_syntax.specs.Queries.{condition_at, step_at, stepped_at, range_at,
 use Rattle.cc_syntax.proofs.IsReader.{IsReader, anywhere, ends_formula}
 use Rattle.cc_syntax.proofs.Singles.{sign-literal, word-literal, numeral-reader, label-reader}
 use Rattle.cc_syntax.proofs.Combined.{as_part, respelled, stopped, lacks, behind, made_by, made, led_by, leading, by_choice, choice, nothing_for, nothing, or_nothing, or_else, items}
-use Rattle.cc_syntax.proofs.Given.{formula-reader}
+use Rattle.cc_syntax.proofs.FormulaReader.{formula-reader}
 
 -- ---- a condition
 
