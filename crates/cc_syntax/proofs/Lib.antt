@@ -1,3 +1,14 @@
+pub mod Combined
+pub mod DeclarationReaders
+pub mod FormulaAgain
+pub mod FormulaReader
+pub mod FormulaTakes
 pub mod IsReader
+pub mod LawReaders
 pub mod Marks
+pub mod Parsing
+pub mod QueryReaders
+pub mod QuotedNames
 pub mod Singles
+pub mod Strengths
+pub mod TermReader

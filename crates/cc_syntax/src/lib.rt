@@ -4,6 +4,7 @@
 mod declarations;
 mod formulas;
 mod frames;
+pub mod laws;
 mod operators;
 mod statement;
 mod stop;
