@@ -141,19 +141,19 @@ abbrev pub limit_refusal : LimitAt → Refusal
 limit_refusal limit = record { number = 14; file = 0; line = 0; limit = Some limit }
 
 abbrev pub passes_domain_values : List Const → Bool
-passes_domain_values ground = list_any (λ constant. nat_lt (limit_number limits.DomainValues) (length constant.domain)) ground
+passes_domain_values instances = list_any (λ constant. nat_lt (limit_number limits.DomainValues) (length constant.domain)) instances
 
 abbrev pub count_refusal : List Const → Option Refusal
-count_refusal ground =
-    if passes_domain_values ground then Some (limit_refusal limits.DomainValues)
-    else (if nat_lt (limit_number limits.GroundConstants) (length ground) then Some (limit_refusal limits.GroundConstants) else None)
+count_refusal instances =
+    if passes_domain_values instances then Some (limit_refusal limits.DomainValues)
+    else (if nat_lt (limit_number limits.GroundConstants) (length instances) then Some (limit_refusal limits.GroundConstants) else None)
 
 abbrev pub refusal_of_first : List Declaration → List Const → Option Const → Option Refusal
-refusal_of_first declarations ground (Some constant) = Some (empty_refusal (slice_get (constants declarations) constant.symbol))
-refusal_of_first declarations ground None = count_refusal ground
+refusal_of_first declarations instances (Some constant) = Some (empty_refusal (slice_get (constants declarations) constant.symbol))
+refusal_of_first declarations instances None = count_refusal instances
 
 -- the refusal of all declarations together, if there is one: the first ground constant without a value, or a limit
 abbrev pub signature_refusal : List Declaration → Option Refusal
 signature_refusal declarations =
-    let ground = ground_constants_of declarations
-    in refusal_of_first declarations ground (find is_empty ground)
+    let instances = ground_constants_of declarations
+    in refusal_of_first declarations instances (find is_empty instances)
