@@ -1,5 +1,5 @@
 //! Sorts by number, which of them stand below which, and the objects of each.
-ghost use Rattle.std.specs.Prelude.{◌≡◌, ◌<◌, ◌++◌, ◌∷◌, [], None, length, IfOk, OnOk, OnErr};
+ghost use Rattle.std.specs.Prelude.{◌≡◌, ◌<◌, false, None, length, IfOk, OnOk, OnErr};
 ghost use Rattle.std.specs.List.{list_any};
 ghost use Rattle.cc_defs.specs.DeclarationFaults.{same_pair};
 ghost use Rattle.cc_defs.specs.Declarations.{is_below};
@@ -19,6 +19,7 @@ pub(crate) struct Sorts {
 }
 
 impl Model for Sorts {
+    ghost use Rattle.std.specs.Prelude.{[]};
     ghost use Rattle.cc_sorts.specs.Dictionaries.{names_of, values_of};
     ghost use Rattle.cc_sorts.specs.SortViews.{SortsView};
 
