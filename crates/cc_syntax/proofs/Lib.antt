@@ -1,2 +1,5 @@
 pub mod IsReader
 pub mod Marks
+pub mod Numbers
+pub mod Places
+pub mod Quotes

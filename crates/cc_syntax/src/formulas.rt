@@ -9,7 +9,11 @@ use cc_defs::{Token, Tree};
 use std::alloc::Global;
 
 /// A formula.
-pub(crate) fn formula<'s>(alloc: Global, tokens: &[Token<'s>], at: usize) -> Result<(Tree<'s>, usize), Stop>
+pub(crate) fn formula<'s>(
+    alloc: Global,
+    tokens: &[Token<'s>],
+    at: usize,
+) -> Result<(Tree<'s>, usize), Stop>
     ensures { Reads plain_tree tokens.now result (formula_at (drop at (seen tokens.now))) }
 {
     Err(Stop::OutOfMemory)

@@ -9,5 +9,6 @@ mod statement;
 mod stop;
 mod terms;
 mod tokens;
+mod words;
 
 pub use statement::parse;

@@ -9,7 +9,11 @@ use cc_defs::{TermTree, Token};
 use std::alloc::Global;
 
 /// A term. An argument's brackets cost two nested calls.
-pub(crate) fn term<'s>(alloc: Global, tokens: &[Token<'s>], at: usize) -> Result<(TermTree<'s>, usize), Stop>
+pub(crate) fn term<'s>(
+    alloc: Global,
+    tokens: &[Token<'s>],
+    at: usize,
+) -> Result<(TermTree<'s>, usize), Stop>
     ensures { Reads plain_term tokens.now result (term_at (drop at (seen tokens.now))) }
 {
     Err(Stop::OutOfMemory)
