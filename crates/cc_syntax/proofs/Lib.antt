@@ -1,5 +1,8 @@
+pub mod Arguments
 pub mod IsReader
 pub mod Marks
 pub mod Numbers
 pub mod Places
 pub mod Quotes
+pub mod Stops
+pub mod Trees
