@@ -4,5 +4,6 @@ pub mod Marks
 pub mod Numbers
 pub mod Places
 pub mod Quotes
+pub mod Stacks
 pub mod Stops
 pub mod Trees
