@@ -7,3 +7,4 @@ pub mod Quotes
 pub mod Stacks
 pub mod Stops
 pub mod Trees
+pub mod Turning

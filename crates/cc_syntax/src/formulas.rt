@@ -153,7 +153,8 @@ pub(crate) fn formula<'s>(
 {
     let mut frames = SmallVec::new(alloc);
     let mut turn = Turn::Wants(at);
-    for _ in 0..=tokens.len().saturating_sub(at) {
+    let turns = tokens.len().saturating_sub(at) + 1;
+    for _ in 0..turns {
         turn = match turn {
             Turn::Wants(next) => begin(alloc, tokens, &mut frames, next)?,
             Turn::Has(tree, next) => go_on(alloc, tokens, &mut frames, tree, next)?,
