@@ -14,21 +14,21 @@ use Rattle.cc_defs.specs.Tokens.{TokenView, AreTokens, IsShort, kind_of, is_word
 use Rattle.cc_text.specs.Views.{token_view, token_views}
 use Rattle.cc_syntax.specs.Views.{seen}
 
-seen_there : (tokens : List Token) (at : ℕ) (other : Token) → at < length tokens
+seen_behind : (tokens : List Token) (at : ℕ) (other : Token) → at < length tokens
     → drop at (seen tokens) ≡ terminal (token_view (get_or tokens at other)) ∷ drop (suc at) (seen tokens)
-seen_there [] at other lt = absurd (omega arith)
-seen_there (token ∷ tokens) zero other lt = refl
-seen_there (token ∷ tokens) (suc at) other lt = seen_there tokens at other (omega arith)
+seen_behind [] at other lt = absurd (omega arith)
+seen_behind (token ∷ tokens) zero other lt = refl
+seen_behind (token ∷ tokens) (suc at) other lt = seen_behind tokens at other (omega arith)
 
-pub token-seen : (tokens : List Token) (at : ℕ) (other : Token) → at < length tokens
+pub token_seen : (tokens : List Token) (at : ℕ) (other : Token) → at < length tokens
     → drop at (seen tokens) ≡ terminal (token_view (get_or tokens at other)) ∷ drop (at + 1) (seen tokens)
-token-seen tokens at other lt = rw add-one (seen_there tokens at other lt)
+token_seen tokens at other lt = rw add-one (seen_behind tokens at other lt)
 
-pub nothing-seen : (tokens : List Token) (at : ℕ) → length tokens ≤ at → drop at (seen tokens) ≡ []
-nothing-seen [] zero le = refl
-nothing-seen [] (suc at) le = refl
-nothing-seen (token ∷ tokens) zero le = absurd (omega arith)
-nothing-seen (token ∷ tokens) (suc at) le = nothing-seen tokens at (omega arith)
+pub nothing_seen : (tokens : List Token) (at : ℕ) → length tokens ≤ at → drop at (seen tokens) ≡ []
+nothing_seen [] zero le = refl
+nothing_seen [] (suc at) le = refl
+nothing_seen (token ∷ tokens) zero le = absurd (omega arith)
+nothing_seen (token ∷ tokens) (suc at) le = nothing_seen tokens at (omega arith)
 
 -- ---- what is known of a token by its kind
 
@@ -81,5 +81,3 @@ pub quoted-known : (tokens : List TokenView) (at : ℕ) (token : TokenView) (res
     → drop at (terminals tokens) ≡ terminal token ∷ rest → token.kind ≡ kinds.Quoted → IsTrue (is_quoted token.text)
 quoted-known tokens at token rest are e kind =
     subst (λ (k : TokenKind). KnownSeen (terminal (record { kind = k; text = token.text; line = token.line }))) kind (known_at tokens at (terminal token) rest are e)
-
-pub ruleset at_places = (token-seen, nothing-seen)

@@ -8,12 +8,9 @@ use Rattle.cc_syntax.specs.declared.frames.Frame.{Frame}
 use Rattle.cc_syntax.specs.Formulas.{PlainFrame, plain_frame, stack, ends_before, closed, filled}
 use Rattle.cc_syntax.specs.Turns.{Popped, goes_on}
 
-pub stack-pushed : (frames pushed : List Frame) (frame : Frame) → pushed ≡ frames ++ frame ∷ [] → stack pushed ≡ plain_frame frame ∷ stack frames
+stack-pushed : (frames pushed : List Frame) (frame : Frame) → pushed ≡ frames ++ frame ∷ [] → stack pushed ≡ plain_frame frame ∷ stack frames
 stack-pushed frames pushed frame e =
     ap stack e ∙ ap reverse (map-append plain_frame frames (frame ∷ [])) ∙ reverse-append (map plain_frame frames) (plain_frame frame ∷ [])
-
-pub length-stack : (frames : List Frame) → length (stack frames) ≡ length frames
-length-stack frames = length-reverse (map plain_frame frames) ∙ length-map frames plain_frame
 
 -- the last was taken off where its operand ends
 pub popped-last : (bound : ℕ) (frames rest : List Frame) (last : Option Frame) (frame : Frame) → frames ≡ rest ++ option_to_list last → IsSome last
@@ -23,22 +20,3 @@ popped-last bound frames rest (Some last) frame e some is ends =
     let size : length frames - 1 ≡ length rest = omega (arith, ap length e, length-append rest (last ∷ [])) in
     let same : frame ≡ last = is ∙ ap (λ (i : ℕ). get_or frames i frame) size ∙ ap (λ (l : List Frame). get_or l (length rest) frame) e ∙ get_or-append_seam rest last [] frame in
     (stack-pushed rest frames last e, subst (λ (f : Frame). ends_before bound (plain_frame f) ≡ true) same ends)
-
-pub popped-shorter : (bound : ℕ) (frames rest : List Frame) (frame : Frame) → Popped bound (stack frames) (Some frame) (stack rest) → length rest < length frames
-popped-shorter bound frames rest frame popped = omega (arith, ap length popped.0, length-stack frames, length-stack rest)
-
-pub closed-more : (bound : ℕ) (frames rest : List Frame) (frame : Frame) (tree : PlainTree) → Popped bound (stack frames) (Some frame) (stack rest)
-    → closed bound (stack frames) tree ≡ closed bound (stack rest) (filled (plain_frame frame) tree)
-closed-more bound frames rest frame tree popped = rw popped.0 (rw popped.1 refl)
-
-stays : (ends : Bool) → IsTrue (not ends) → ends ≡ false
-stays true e = absurd cc
-stays false e = refl
-
-closed-all : (bound : ℕ) (frames : List PlainFrame) (tree : PlainTree) → IsTrue (goes_on bound frames) → closed bound frames tree ≡ (frames, tree)
-closed-all bound [] tree goes = refl
-closed-all bound (frame ∷ frames) tree goes = rw (stays (ends_before bound frame) goes) refl
-
-pub closed-last : (bound : ℕ) (frames rest : List Frame) (tree : PlainTree) → Popped bound (stack frames) None (stack rest)
-    → closed bound (stack frames) tree ≡ (stack rest, tree)
-closed-last bound frames rest tree popped = closed-all bound (stack frames) tree popped.1 ∙ ap (λ (l : List PlainFrame). (l, tree)) popped.0

@@ -153,6 +153,7 @@ pub(crate) fn formula<'s>(
 {
     let mut frames = SmallVec::new(alloc);
     let mut turn = Turn::Wants(at);
+    // A turn takes a token, but for the last, which finds that the formula ends.
     let turns = tokens.len().saturating_sub(at) + 1;
     for _ in 0..turns {
         turn = match turn {

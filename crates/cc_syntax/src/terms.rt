@@ -20,7 +20,7 @@ fn call<'s>(tokens: &[Token<'s>], at: usize) -> Result<(&'s str, usize), Stop>
 }
 
 /// A term without arguments.
-#[tactic(auto, using(crate::proofs::Trees::leaves))]
+#[tactic(auto, using(crate::proofs::Trees::plain_made))]
 fn leaf<'s>(alloc: Global, tokens: &[Token<'s>], at: usize) -> Result<(TermTree<'s>, usize), Stop>
     ensures { Reads plain_term tokens.now result (leaf_at (drop at (seen tokens.now))) }
 {
@@ -39,26 +39,27 @@ fn leaf<'s>(alloc: Global, tokens: &[Token<'s>], at: usize) -> Result<(TermTree<
     }
 }
 
-/// A term with at most so many brackets and commas in it.
-#[tactic(auto, using(crate::proofs::Trees::leaves), unfolding(crate::specs::Terms::term_from, crate::specs::Terms::args_from))]
+/// A term, in at most so many steps down into its arguments and on to the next one. A step takes a token, so that as many
+/// as there are tokens always do.
+#[tactic(auto, unfolding(crate::specs::Terms::term_from, crate::specs::Terms::args_from))]
 fn term_within<'s>(
     alloc: Global,
     tokens: &[Token<'s>],
     at: usize,
-    count: usize,
+    steps: usize,
 ) -> Result<(TermTree<'s>, usize), Stop>
-    ensures { Reads plain_term tokens.now result (term_from count (drop at (seen tokens.now))) }
+    ensures { Reads plain_term tokens.now result (term_from steps (drop at (seen tokens.now))) }
 {
-    if count == 0 {
+    if steps == 0 {
         return Err(Stop::NoTree);
     }
     let (name, mut next) = match call(tokens, at) {
-        Ok((name, next)) => (name, next),
+        Ok(call) => call,
         Err(Stop::NoTree) => return leaf(alloc, tokens, at),
         Err(Stop::OutOfMemory) => return Err(Stop::OutOfMemory),
     };
     let mut args = Vec::new(alloc);
-    for left in (0..count - 1).rev() {
+    for left in (0..steps - 1).rev() {
         let (arg, after) = term_within(alloc, tokens, next, left)?;
         args.push(arg)?;
         match sign(tokens, after, Mark::Comma) {

@@ -19,7 +19,7 @@ fn is_mark(mark: Mark, other: Mark) -> bool
 }
 
 /// The token at the place, if there is one.
-#[tactic(auto, using(crate::proofs::Places::at_places))]
+#[tactic(auto, using(crate::proofs::Places::token_seen, crate::proofs::Places::nothing_seen))]
 pub(crate) fn token_at<'s>(tokens: &[Token<'s>], at: usize) -> Option<Token<'s>>
     ensures { Stands tokens.now at result }
 {

@@ -1,4 +1,4 @@
-use Rattle.std.proofs.Common.{◌≡◌, ◌∙◌, arith}
+use Rattle.std.proofs.Common.{◌∙◌, arith}
 use Rattle.cc_syntax.proofs.Turning.{turned-wants, turned-has, turned-out}
 use Rattle.cc_syntax.proofs.formulas.formula.Goals.{in-Wants+in_ok-turn-in-Wants, in-Has+in_ok-turn-in-Has}
 use Rattle.cc_syntax.proofs.formulas.formula.Goals as goal

@@ -1,5 +1,3 @@
-use Rattle.std.proofs.Common.{◌≡◌, Ok, Err}
-use Rattle.cc_defs.specs.Grammar.{number_of}
 use Rattle.cc_syntax.proofs.Numbers.{digits-parse}
 use Rattle.cc_syntax.proofs.tokens.number.Goals as goal
 
