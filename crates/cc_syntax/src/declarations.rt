@@ -11,12 +11,7 @@ use cc_defs::{List, ListItem, Mark, Token};
 use std::alloc::Global;
 
 /// Names with the mark between them.
-pub(crate) fn names<'s>(
-    alloc: Global,
-    tokens: &[Token<'s>],
-    at: usize,
-    mark: Mark,
-) -> Result<(Vec<&'s str>, usize), Stop>
+pub(crate) fn names<'s>(alloc: Global, tokens: &[Token<'s>], at: usize, mark: Mark) -> Result<(Vec<&'s str>, usize), Stop>
     ensures { Reads (λ names. map (λ text. text.now) names.items) tokens.now result (listed_at name_at mark (drop at (seen tokens.now))) }
 {
     let mut names = Vec::new(alloc);
@@ -34,11 +29,7 @@ pub(crate) fn names<'s>(
 
 /// Names of a sort.
 #[tactic(auto, unfolding(crate::specs::Declarations::list_item_at))]
-pub(crate) fn list_item<'s>(
-    alloc: Global,
-    tokens: &[Token<'s>],
-    at: usize,
-) -> Result<(ListItem<'s>, usize), Stop>
+pub(crate) fn list_item<'s>(alloc: Global, tokens: &[Token<'s>], at: usize) -> Result<(ListItem<'s>, usize), Stop>
     ensures { Reads plain_list_item tokens.now result (list_item_at (drop at (seen tokens.now))) }
 {
     let (names, next) = names(alloc, tokens, at, Mark::Comma)?;
