@@ -1,3 +1,4 @@
+pub mod Arguments
 pub mod Combined
 pub mod DeclarationReaders
 pub mod FormulaAgain
@@ -6,9 +7,16 @@ pub mod FormulaTakes
 pub mod IsReader
 pub mod LawReaders
 pub mod Marks
+pub mod Numbers
 pub mod Parsing
+pub mod Places
 pub mod QueryReaders
 pub mod QuotedNames
+pub mod Quotes
 pub mod Singles
+pub mod Stacks
+pub mod Stops
 pub mod Strengths
 pub mod TermReader
+pub mod Trees
+pub mod Turning
