@@ -1,2 +1,3 @@
 pub mod IsReader
+pub mod Lists
 pub mod Marks

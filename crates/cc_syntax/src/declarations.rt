@@ -11,6 +11,7 @@ use cc_defs::{List, ListItem, Mark, Token};
 use std::alloc::Global;
 
 /// Names with the mark between them.
+#[tactic(auto, using(crate::proofs::Lists::listed_steps))]
 pub(crate) fn names<'s>(alloc: Global, tokens: &[Token<'s>], at: usize, mark: Mark) -> Result<(Vec<&'s str>, usize), Stop>
     ensures { Reads (λ names. map (λ text. text.now) names.items) tokens.now result (listed_at name_at mark (drop at (seen tokens.now))) }
 {
