@@ -1,10 +1,12 @@
 //! The grammar: the tree of a statement.
 #![tactic(auto)]
 
+mod causal_laws;
 mod declarations;
 mod formulas;
 mod frames;
 mod operators;
+mod queries;
 mod statement;
 mod stop;
 mod terms;
