@@ -1,3 +1,6 @@
+pub mod Given
 pub mod IsReader
 pub mod Lists
 pub mod Marks
+pub mod Seen
+pub mod Statements

@@ -1,13 +1,14 @@
 //! A statement's tree.
-ghost use Rattle.std.specs.Prelude.{◌≡◌, ◌<◌, ℕ, List as Items, Some, None, Err, drop, false, length, IfOk, IfErr};
+ghost use Rattle.std.specs.Prelude.{◌≡◌, ◌<◌, ℕ, List as Items, Some, None, Err, drop, false, if◌then◌else◌, length, IfOk, IfErr};
 ghost use Rattle.std.specs.List.{list_any};
 ghost use Rattle.cc_defs.specs.declared.refusal.Fault.TheVariants as faults;
+ghost use Rattle.cc_defs.specs.declared.token.Mark.TheVariants as marks;
 ghost use Rattle.cc_defs.specs.Grammar.{same_text, terminal};
 ghost use Rattle.cc_defs.specs.Statements.{IsParsed, begins_directive, is_query as IsQuery, token_limit as limit_of, is_not_yet_in_query as IsNotYetInQuery, is_not_yet as IsNotYet, has_not_yet as HasNotYet, refusal_at};
 ghost use Rattle.cc_defs.specs.Tokens.{AreTokens};
-ghost use Rattle.cc_defs.specs.Trees.{plain_part, plain_statement};
-ghost use Rattle.cc_syntax.specs.Parsing.{HasRefused, directive_at, part_at, statement_at};
-ghost use Rattle.cc_syntax.specs.Readers.{given};
+ghost use Rattle.cc_defs.specs.Trees.{PlainPart, plain_part, plain_statement};
+ghost use Rattle.cc_syntax.specs.Parsing.{HasRefused, directive_at, part_at, nothing_left, statement_at};
+ghost use Rattle.cc_syntax.specs.Readers.{given, sign_at};
 ghost use Rattle.cc_syntax.specs.Views.{seen, Reads};
 ghost use Rattle.cc_syntax.specs.declared.stop.Stop.TheVariants as stops;
 ghost use Rattle.cc_text.specs.Views.{token_view, token_views};
@@ -63,6 +64,19 @@ fn part<'s>(alloc: Global, tokens: &[Token<'s>], at: usize) -> Result<(Part<'s>,
     tested_law(alloc, tokens, at)
 }
 
+/// Whether only the dot of a statement is left.
+fn ends(tokens: &[Token], at: usize) -> bool
+    ensures {
+        (part : PlainPart) →
+        given (given (sign_at marks.Dot (drop at (seen tokens.now))) None (λ rest. Some (part, rest))) None nothing_left ≡ (if result then Some part else None)
+    }
+{
+    let Ok(next) = sign(tokens, at, Mark::Dot) else {
+        return false;
+    };
+    token_at(tokens, next).is_none()
+}
+
 /// What a whole statement says.
 fn whole<'s>(alloc: Global, tokens: &[Token<'s>]) -> Result<Part<'s>, Stop>
     requires { AreTokens (token_views tokens.now) }
@@ -70,10 +84,10 @@ fn whole<'s>(alloc: Global, tokens: &[Token<'s>]) -> Result<Part<'s>, Stop>
     ensures none { result ≡ Err stops.NoTree → statement_at (seen tokens.now) ≡ None }
 {
     let (part, next) = part(alloc, tokens, 0)?;
-    let next = sign(tokens, next, Mark::Dot)?;
-    match token_at(tokens, next) {
-        None => Ok(part),
-        Some(_) => Err(Stop::NoTree),
+    if ends(tokens, next) {
+        Ok(part)
+    } else {
+        Err(Stop::NoTree)
     }
 }
 
@@ -134,13 +148,28 @@ fn is_not_yet(token: &Token) -> bool
     }
 }
 
+fn any_not_yet_in_query(tokens: &[Token]) -> bool
+    ensures { result ≡ list_any (λ token. IsNotYetInQuery (terminal (token_view token))) tokens.now }
+{
+    tokens.iter().any(|token| is_not_yet_in_query(token))
+}
+
+fn any_not_yet(tokens: &[Token]) -> bool
+    ensures { result ≡ list_any (λ token. IsNotYet (terminal (token_view token))) tokens.now }
+{
+    tokens.iter().any(|token| is_not_yet(token))
+}
+
+/// Whether a token is one that the language does not have yet, in such a statement.
+#[tactic(auto, using(crate::proofs::Seen::any_seen))]
 fn has_not_yet(tokens: &[Token]) -> bool
     ensures { result ≡ HasNotYet (seen tokens.now) }
 {
     if is_query(tokens) {
-        return tokens.iter().any(|token| is_not_yet_in_query(token));
+        any_not_yet_in_query(tokens)
+    } else {
+        any_not_yet(tokens)
     }
-    tokens.iter().any(|token| is_not_yet(token))
 }
 
 /// A refusal at the line of the first token.
