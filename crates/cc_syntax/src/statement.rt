@@ -1,5 +1,6 @@
 //! A statement's tree.
-ghost use Rattle.std.specs.Prelude.{◌≡◌, ◌<◌, ℕ, List as Items, Some, None, Err, drop, false, if◌then◌else◌, length, IfOk, IfErr};
+ghost use Rattle.std.specs.Prelude.{◌≡◌, ◌<◌, ℕ, List as Items, Some, None, Err, drop, false, length, IfOk, IfErr};
+ghost use Rattle.std.specs.Bool.{then_some};
 ghost use Rattle.std.specs.List.{list_any};
 ghost use Rattle.cc_defs.specs.declared.refusal.Fault.TheVariants as faults;
 ghost use Rattle.cc_defs.specs.declared.token.Mark.TheVariants as marks;
@@ -68,7 +69,7 @@ fn part<'s>(alloc: Global, tokens: &[Token<'s>], at: usize) -> Result<(Part<'s>,
 fn ends(tokens: &[Token], at: usize) -> bool
     ensures {
         (part : PlainPart) →
-        given (given (sign_at marks.Dot (drop at (seen tokens.now))) None (λ rest. Some (part, rest))) None nothing_left ≡ (if result then Some part else None)
+        given (given (sign_at marks.Dot (drop at (seen tokens.now))) None (λ rest. Some (part, rest))) None nothing_left ≡ then_some result part
     }
 {
     let Ok(next) = sign(tokens, at, Mark::Dot) else {
@@ -84,11 +85,7 @@ fn whole<'s>(alloc: Global, tokens: &[Token<'s>]) -> Result<Part<'s>, Stop>
     ensures none { result ≡ Err stops.NoTree → statement_at (seen tokens.now) ≡ None }
 {
     let (part, next) = part(alloc, tokens, 0)?;
-    if ends(tokens, next) {
-        Ok(part)
-    } else {
-        Err(Stop::NoTree)
-    }
+    ends(tokens, next).then_some(part).ok_or(Stop::NoTree)
 }
 
 /// The word of a directive.
