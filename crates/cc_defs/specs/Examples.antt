@@ -1,5 +1,5 @@
 -- Small descriptions whose states and transitions are known beforehand: they show what the definitions say.
-use Rattle.std.specs.Prelude.{◌≡◌, ℕ, List, [], ◌∷◌, length, Option, Some, None, codes}
+use Rattle.std.specs.Prelude.{◌≡◌, ℕ, List, [], ◌∷◌, ◌++◌, length, Option, Some, None, codes}
 use Rattle.cc_defs.specs.declared.signature.At.TheVariants.{Last}
 use Rattle.cc_defs.specs.declared.signature.Const.{Const}
 use Rattle.cc_defs.specs.declared.signature.Symbol.{Symbol}
@@ -7,12 +7,16 @@ use Rattle.cc_defs.specs.declared.signature.Kind.{Kind}
 use Rattle.cc_defs.specs.declared.signature.Kind.TheVariants as kinds
 use Rattle.cc_defs.specs.declared.signature.LawKind.{LawKind}
 use Rattle.cc_defs.specs.declared.signature.LawKind.TheVariants as laws
+use Rattle.cc_defs.specs.declared.tree.KindWord.TheVariants as words
+use Rattle.cc_defs.specs.DeclarationFaults.{declaration_fault, signature_refusal}
+use Rattle.cc_defs.specs.Declarations.{Declaration, part_declarations, members, sort_names, ground_fluents, ground_actions}
 use Rattle.cc_defs.specs.Description.{Description, Law, Query}
 use Rattle.cc_defs.specs.Histories.{IsListing}
 use Rattle.cc_defs.specs.Formulas.{Formula, Truth, Equal, Not, Both, Constant, Object, Atom, Falsity}
 use Rattle.cc_defs.specs.Paths.{IsState, IsPath}
 use Rattle.cc_defs.specs.Rules.{rules_at}
 use Rattle.cc_defs.specs.Texts.{none_value, key_text, history_text, shown}
+use Rattle.cc_defs.specs.Trees.{Sorts, Objects, Constants, Names, Chain, Plain, Attribute}
 
 -- a constant without arguments, of the values `false` and `true`
 abbrev pub boolean : ℕ → Kind → Const
@@ -142,3 +146,68 @@ attribute = record { symbol = 1; args = []; kind = kinds.Action; domain = none_v
 
 abbrev pub AttributeShowsNone : Type 0
 AttributeShowsNone = (shown with_attribute attribute none_value ≡ codes "  c=none") × (shown with_attribute attribute 2 ≡ codes "  c=a")
+
+-- ---- declarations
+
+-- `:- sorts s >> t; s >> u. :- objects a :: t; b :: u; c :: s; d :: t.`
+abbrev pub sorts_and_objects : List Declaration
+sorts_and_objects =
+    part_declarations 0 1 (Sorts (Chain (codes "s" ∷ codes "t" ∷ []) ∷ Chain (codes "s" ∷ codes "u" ∷ []) ∷ []))
+    ++ part_declarations 0 1 (Objects (
+    record { names = codes "a" ∷ []; sort = codes "t" } ∷ record { names = codes "b" ∷ []; sort = codes "u" }
+    ∷ record { names = codes "c" ∷ []; sort = codes "s" } ∷ record { names = codes "d" ∷ []; sort = codes "t" } ∷ []))
+
+-- A sort has its own objects and those of the sorts below it, in declared order; `false` and `true` are 0 and 1.
+abbrev pub SortsHaveObjects : Type 0
+SortsHaveObjects =
+    (members sorts_and_objects (codes "s") ≡ 2 ∷ 3 ∷ 4 ∷ 5 ∷ []) × (members sorts_and_objects (codes "t") ≡ 2 ∷ 5 ∷ [])
+    × (members sorts_and_objects (codes "boolean") ≡ 0 ∷ 1 ∷ []) × (sort_names sorts_and_objects ≡ codes "boolean" ∷ codes "s" ∷ codes "t" ∷ codes "u" ∷ [])
+
+-- A circle is refused as 7, a name that is taken as 4, and of two faults the least.
+abbrev pub DeclarationsAreRefused : Type 0
+DeclarationsAreRefused =
+    (declaration_fault sorts_and_objects (part_declarations 0 1 (Sorts (Chain (codes "t" ∷ codes "s" ∷ []) ∷ []))) ≡ Some 7)
+    × (declaration_fault sorts_and_objects (part_declarations 0 1 (Objects (
+    record { names = codes "e" ∷ []; sort = codes "v" } ∷ record { names = codes "a" ∷ []; sort = codes "u" } ∷ []))) ≡ Some 4)
+    × (declaration_fault [] (part_declarations 0 1 (Sorts (Names (codes "s" ∷ []) ∷ Names (codes "s" ∷ []) ∷ []))) ≡ Some 4)
+    × (declaration_fault sorts_and_objects (part_declarations 0 1 (Sorts (Chain (codes "u" ∷ codes "v" ∷ []) ∷ []))) ≡ None)
+
+-- `:- constants at :: inertialFluent(s); go :: exogenousAction; to :: attribute(s) of go; p(t) :: simpleFluent.`
+abbrev pub moving : List Declaration
+moving = sorts_and_objects ++ part_declarations 0 1 (Constants (
+    record { shapes = record { name = codes "at"; sorts = [] } ∷ []; kind = Plain words.Inertial (Some (codes "s")) }
+    ∷ record { shapes = record { name = codes "go"; sorts = [] } ∷ []; kind = Plain words.ExogenousAction None }
+    ∷ record { shapes = record { name = codes "to"; sorts = [] } ∷ []; kind = Attribute (codes "s") (record { name = codes "go"; sorts = [] }) }
+    ∷ record { shapes = record { name = codes "p"; sorts = codes "t" ∷ [] } ∷ []; kind = Plain words.Simple None } ∷ []))
+
+-- Fluents stand before actions, instances in the order of their arguments; an attribute has `none` before its objects.
+abbrev pub ConstantsAreGround : Type 0
+ConstantsAreGround =
+    (ground_fluents moving ≡
+    record { symbol = 0; args = []; kind = kinds.Simple; domain = 2 ∷ 3 ∷ 4 ∷ 5 ∷ [] }
+    ∷ record { symbol = 3; args = 2 ∷ []; kind = kinds.Simple; domain = 0 ∷ 1 ∷ [] }
+    ∷ record { symbol = 3; args = 5 ∷ []; kind = kinds.Simple; domain = 0 ∷ 1 ∷ [] } ∷ [])
+    × (ground_actions moving ≡
+    record { symbol = 1; args = []; kind = kinds.Action; domain = 0 ∷ 1 ∷ [] }
+    ∷ record { symbol = 2; args = []; kind = kinds.Action; domain = none_value ∷ 2 ∷ 3 ∷ 4 ∷ 5 ∷ [] } ∷ [])
+
+-- An attribute's action is a Boolean action with the attribute's arguments: a fluent is refused as 7, more arguments as 6,
+-- an unknown one as 5, itself as 7.
+abbrev pub attribute_of : List ℕ → List (List ℕ) → List Declaration
+attribute_of action sorts = part_declarations 0 1 (Constants (
+    record { shapes = record { name = codes "by"; sorts = [] } ∷ []; kind = Attribute (codes "s") (record { name = action; sorts = sorts }) } ∷ []))
+
+abbrev pub AttributesAreRefused : Type 0
+AttributesAreRefused =
+    (declaration_fault moving (attribute_of (codes "at") []) ≡ Some 7) × (declaration_fault moving (attribute_of (codes "to") []) ≡ Some 7)
+    × (declaration_fault moving (attribute_of (codes "go") (codes "t" ∷ [])) ≡ Some 6) × (declaration_fault moving (attribute_of (codes "went") []) ≡ Some 5)
+    × (declaration_fault moving (attribute_of (codes "by") []) ≡ Some 7) × (declaration_fault moving (attribute_of (codes "go") []) ≡ None)
+
+-- `:- sorts s. :- constants c :: simpleFluent(s).`, the second of them in line 2: a constant without a value is refused as
+-- 12, at its declaration; without it nothing is.
+abbrev pub EmptyDomainsAreRefused : Type 0
+EmptyDomainsAreRefused =
+    (signature_refusal (part_declarations 0 1 (Sorts (Names (codes "s" ∷ []) ∷ [])) ++ part_declarations 0 2 (Constants (
+    record { shapes = record { name = codes "c"; sorts = [] } ∷ []; kind = Plain words.Simple (Some (codes "s")) } ∷ []))) ≡
+    Some (record { number = 12; file = 0; line = 2; limit = None }))
+    × (signature_refusal moving ≡ None)

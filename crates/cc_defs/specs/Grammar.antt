@@ -69,7 +69,6 @@ abbrev pub Spelling : Type 1
 Spelling = List Terminal → List Terminal → Type 0
 
 infixr 20 ◌▸◌
-
 -- one behind the other
 abbrev pub ◌▸◌ : Spelling → Spelling → Spelling
 (first ▸ second) tokens rest = (between : List Terminal) × first tokens between × second between rest

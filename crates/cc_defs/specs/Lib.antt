@@ -1,4 +1,6 @@
 pub mod Clauses
+pub mod DeclarationFaults
+pub mod Declarations
 pub mod Description
 pub mod Events
 pub mod Examples
@@ -11,6 +13,7 @@ pub mod LitCodes
 pub mod Paths
 pub mod Rows
 pub mod Rules
+pub mod Signatures
 pub mod Statements
 pub mod Texts
 pub mod Theories

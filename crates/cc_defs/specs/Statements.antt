@@ -10,7 +10,7 @@ use Rattle.cc_defs.specs.declared.token.Mark.TheVariants as marks
 use Rattle.cc_defs.specs.Limits.{limit_number}
 use Rattle.cc_defs.specs.Tokens.{TokenView, first_line}
 use Rattle.cc_defs.specs.Trees.{PlainStatement}
-use Rattle.cc_defs.specs.Grammar.{Terminal, Word, Number, Quoted, Sign, terminals, same_text, Spells}
+use Rattle.cc_defs.specs.Grammar.{Terminal, Word, Number, Sign, terminals, same_text, Spells}
 
 -- the tokens begin with `:-` and one of these words
 abbrev pub begins_directive : List (List ℕ) → List Terminal → Bool

@@ -1,5 +1,5 @@
 //! Examples whose answers are known beforehand, each the contract of a function with no body.
-ghost use Rattle.cc_defs.specs.Examples.{EmptyRowIsState, SimpleFluentsAreFree, DeterminedNeedsCause, OneValueNeedsNoCause, CausesThatDifferClash, CausesMayStandInCircle, FalsityForbids, LampHasSoManyRules, LampTurns, LampStays, LampDoesNothingElse, LampTurnsTwice, LampEndsOnInTwoWays, KeysAreWritten, LampHistoryIsWritten, AttributeShowsNone};
+ghost use Rattle.cc_defs.specs.Examples.{EmptyRowIsState, SimpleFluentsAreFree, DeterminedNeedsCause, OneValueNeedsNoCause, CausesThatDifferClash, CausesMayStandInCircle, FalsityForbids, LampHasSoManyRules, LampTurns, LampStays, LampDoesNothingElse, LampTurnsTwice, LampEndsOnInTwoWays, KeysAreWritten, LampHistoryIsWritten, AttributeShowsNone, SortsHaveObjects, DeclarationsAreRefused, ConstantsAreGround, AttributesAreRefused, EmptyDomainsAreRefused};
 
 fn empty_row_is_state()
     ensures { EmptyRowIsState }
@@ -65,6 +65,26 @@ fn attribute_shows_none()
     ensures { AttributeShowsNone }
 {}
 
+fn sorts_have_objects()
+    ensures { SortsHaveObjects }
+{}
+
+fn declarations_are_refused()
+    ensures { DeclarationsAreRefused }
+{}
+
+fn constants_are_ground()
+    ensures { ConstantsAreGround }
+{}
+
+fn empty_domains_are_refused()
+    ensures { EmptyDomainsAreRefused }
+{}
+
+fn attributes_are_refused()
+    ensures { AttributesAreRefused }
+{}
+
 #[test]
 fn examples_hold() {
     empty_row_is_state();
@@ -83,4 +103,9 @@ fn examples_hold() {
     keys_are_written();
     lamp_history_is_written();
     attribute_shows_none();
+    sorts_have_objects();
+    declarations_are_refused();
+    constants_are_ground();
+    attributes_are_refused();
+    empty_domains_are_refused();
 }

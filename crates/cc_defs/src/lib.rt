@@ -13,6 +13,7 @@ mod literal;
 mod node;
 mod refusal;
 mod rows;
+mod sig;
 mod signature;
 #[cfg(test)]
 mod tests;
@@ -26,6 +27,7 @@ pub use literal::Lit;
 pub use node::Node;
 pub use refusal::{Fault, LimitAt, OutOfMemory, Refusal};
 pub use rows::compare_rows;
+pub use sig::Sig;
 pub use signature::{At, Const, Kind, LawKind, Symbol};
 pub use token::{Mark, Token, TokenKind};
 pub use tree::{

@@ -1,7 +1,11 @@
 //! What no clause says: that calls succeed while there is memory, and that names and numbers are those that were meant.
+ghost use Rattle.std.specs.Prelude.{◌<◌, ◌^◌, length, IfOk};
+
 use crate::{
-    Bytes, Key, LimitAt, Lit, Lits, Mark, Name, Nums, Row, Text, Token, TokenKind, compare_rows,
+    Bytes, Const, Key, Kind, LimitAt, List, Lit, Lits, Mark, Name, Nums, OutOfMemory, Row, Sig,
+    Text, Token, TokenKind, compare_rows,
 };
+use std::alloc::Global;
 use std::cmp::Ordering;
 use std::test::Fail;
 
@@ -87,5 +91,42 @@ fn literals_and_tokens(rt: HostRuntime) -> Result<(), Fail> {
     };
     assert_eq!(rt; token.text(), "->>");
     assert_eq!(rt; token.kind(), TokenKind::Mark(Mark::Arrow));
+    Ok(())
+}
+
+#[test]
+fn lists_of_any_items_are_kept(rt: HostRuntime) -> Result<(), Fail> {
+    let names = List::of(vec![in rt.alloc(); "on", "flip"]?);
+    assert_eq!(rt; names.items(), ["on", "flip"].as_slice());
+    Ok(())
+}
+
+fn constant(alloc: Global, symbol: u32, kind: Kind, domain: &[u32]) -> Result<Const, OutOfMemory>
+    requires { length domain.now < 2 ^ 32 }
+    ensures { IfOk result (λ made. length made.domain < 2 ^ 32) }
+{
+    Ok(Const {
+        symbol,
+        args: Nums::of(Vec::new(alloc)),
+        kind,
+        domain: Nums::of(Vec::from_slice(alloc, domain)?),
+    })
+}
+
+#[test]
+fn constants_have_numbers_and_positions(rt: HostRuntime) -> Result<(), Fail> {
+    let alloc = rt.alloc();
+    let place = constant(alloc, 0, Kind::Simple, [5, 6, 7].as_slice())?;
+    let go = constant(alloc, 1, Kind::Action, [0, 1].as_slice())?;
+    let sig = Sig::of(vec![in alloc; place]?, vec![in alloc; go]?);
+    assert_eq!(rt; sig.fluents(), 1);
+    assert_eq!(rt; sig.actions(), 1);
+    assert_eq!(rt; sig.positions(0), 1);
+    assert_eq!(rt; sig.positions(2), 5);
+    assert_eq!(rt; sig.domain_size(4), 3);
+    assert_eq!(rt; sig.domain_size(3), 2);
+    assert_eq!(rt; sig.ground_number(0, [].as_slice()), Some(0));
+    assert_eq!(rt; sig.ground_number(1, [].as_slice()), Some(1));
+    assert_eq!(rt; sig.ground_number(1, [6].as_slice()), None);
     Ok(())
 }

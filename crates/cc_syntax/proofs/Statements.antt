@@ -21,7 +21,7 @@ use Rattle.cc_syntax.specs.Parsing.{part_at, nothing_left, statement_at, HasRefu
 use Rattle.cc_syntax.specs.Readers.{given, sign_at}
 use Rattle.cc_syntax.specs.Views.{seen}
 use Rattle.cc_text.specs.Views.{token_view, token_views}
-use Rattle.cc_syntax.proofs.Given.{statement-takes, statement-again}
+use Rattle.cc_syntax.proofs.Parsing.{statement-takes, statement-again}
 
 pub nothing_spells : (tokens : List TokenView) → statement_at (terminals tokens) ≡ None → NoTree tokens
 nothing_spells tokens nothing tree spelled = let e : None ≡ Some tree.part = sym nothing ∙ statement-again tokens tree.part spelled.whole in cc

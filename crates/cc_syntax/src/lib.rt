@@ -5,6 +5,7 @@ mod causal_laws;
 mod declarations;
 mod formulas;
 mod frames;
+pub mod laws;
 mod operators;
 mod queries;
 mod statement;

@@ -3,5 +3,6 @@ pub mod Cuts
 pub mod Ends
 pub mod Gaps
 pub mod MarkFronts
+pub mod Statements
 pub mod Stepping
 pub mod Words

@@ -1,5 +1,5 @@
 //! The tokens of a text, cut into statements.
-ghost use Rattle.std.specs.Prelude.{◌≡◌, ◌≤◌, ◌<◌, [], ◌∷◌, ◌-◌, length, take, drop, slice_index, map, IfOk, IfErr, slice_index_or};
+ghost use Rattle.std.specs.Prelude.{◌≡◌, List, ℕ, ◌≤◌, ◌<◌, [], ◌∷◌, ◌-◌, length, take, drop, slice_index, map, IfOk, IfErr, slice_index_or};
 ghost use Rattle.cc_defs.specs.Tokens.{is_dot, first_line, AreTokens, IsCut, IsShort, statements};
 ghost use Rattle.cc_text.specs.Views.{token_view, token_views, cut_at, AreEnds};
 ghost use Rattle.cc_text.specs.Reading.{HasRead, HasStopped, HasTokens};
@@ -132,11 +132,12 @@ impl<'s> Tokens<'s> {
         ends.len()
     }
 
-    /// The tokens of a statement. Each has one at least.
+    /// The tokens of a statement. Each has one at least, and those of a text that was read are of their kinds and short.
     pub fn statement(&self, i: usize) -> &[Token<'s>]
         requires { i < length self.now }
         ensures tokens { token_views result.now ≡ slice_index_or self.now i [] }
         ensures some { 0 < length result.now }
+        ensures are { (text : List ℕ) → HasRead text self.now → AreTokens (token_views result.now) }
     {
         part(&self.tokens, &self.ends, i)
     }

@@ -1,0 +1,37 @@
+-- Signatures: the ground constants of a description, and where they stand at a horizon.
+use Rattle.std.specs.Prelude.{ℕ, ◌+◌, ◌*◌, ◌^◌, ◌<◌, List, ◌∷◌, ◌++◌, length, map}
+use Rattle.std.specs.Ordering.{nat_cmp}
+use Rattle.std.specs.Cmp.Lexicographic.{slice_cmp}
+use Rattle.std.specs.List.{AllByRecursion}
+use Rattle.std.specs.List.Sorted.{IsStrictlySortedBy}
+use Rattle.cc_defs.specs.declared.signature.Const.{Const}
+
+pub record Signature : Type 0 where
+  pub fluents : List Const
+  pub actions : List Const
+
+-- by number: the fluents, then the actions
+abbrev pub ground_constants : Signature → List Const
+ground_constants signature = signature.fluents ++ signature.actions
+
+-- how many positions a horizon has
+abbrev pub position_count : Signature → ℕ → ℕ
+position_count signature horizon = length signature.fluents * (horizon + 1) + length signature.actions * horizon
+
+-- where a constant stands in the order of its kind: by its symbol, then by its arguments
+abbrev pub place : Const → List ℕ
+place constant = constant.symbol ∷ constant.args
+
+abbrev pub AreOrdered : List Const → Type 0
+AreOrdered constants = IsStrictlySortedBy (slice_cmp nat_cmp) (map place constants)
+
+abbrev pub AreShort : List Const → Type 0
+AreShort constants = AllByRecursion (λ constant. length constant.domain < 2 ^ 32) constants
+
+-- the constants are in order, and their numbers and value indexes fit in 32 bits
+pub record IsSignature (signature : Signature) : Type 0 where
+  pub fluents_ordered : AreOrdered signature.fluents
+  pub actions_ordered : AreOrdered signature.actions
+  pub few : length signature.fluents + length signature.actions < 2 ^ 32
+  pub fluents_short : AreShort signature.fluents
+  pub actions_short : AreShort signature.actions

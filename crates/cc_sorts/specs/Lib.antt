@@ -1,0 +1,4 @@
+pub mod Dictionaries
+pub mod Numbers
+pub mod SortViews
+pub mod Tables

@@ -1,0 +1,6 @@
+//! Tables of names.
+#![tactic(auto)]
+
+mod dictionary;
+mod numbers;
+mod sorts;
