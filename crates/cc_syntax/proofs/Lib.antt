@@ -6,6 +6,7 @@ pub mod FormulaReader
 pub mod FormulaTakes
 pub mod IsReader
 pub mod LawReaders
+pub mod Lists
 pub mod Marks
 pub mod Numbers
 pub mod Parsing
@@ -13,8 +14,10 @@ pub mod Places
 pub mod QueryReaders
 pub mod QuotedNames
 pub mod Quotes
+pub mod Seen
 pub mod Singles
 pub mod Stacks
+pub mod Statements
 pub mod Stops
 pub mod Strengths
 pub mod TermReader

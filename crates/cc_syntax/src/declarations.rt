@@ -1,16 +1,19 @@
 //! Readers of declarations.
 ghost use Rattle.std.specs.Prelude.{◌≡◌, drop, map};
-ghost use Rattle.cc_defs.specs.Trees.{plain_list_item};
-ghost use Rattle.cc_syntax.specs.Declarations.{names_at, list_item_at};
+ghost use Rattle.std.specs.Option.{option_map};
+ghost use Rattle.cc_defs.specs.declared.token.Mark.TheVariants as marks;
+ghost use Rattle.cc_defs.specs.Trees.{plain_shape, plain_sort_item, plain_list_item, plain_kind, plain_const_item};
+ghost use Rattle.cc_syntax.specs.Declarations.{names_at, sort_item_at, list_item_at, sorts_at, shape_at, kind_word_at, sort_at, attribute_at, kind_at, const_item_at};
 ghost use Rattle.cc_syntax.specs.Readers.{name_at, listed_at};
 ghost use Rattle.cc_syntax.specs.Views.{seen, Reads};
 
 use crate::stop::Stop;
-use crate::tokens::{name, sign};
-use cc_defs::{List, ListItem, Mark, Token};
+use crate::tokens::{name, sign, word};
+use cc_defs::{ConstItem, KindTree, KindWord, List, ListItem, Mark, Shape, SortItem, Token};
 use std::alloc::Global;
 
 /// Names with the mark between them.
+#[tactic(auto, using(crate::proofs::Lists::listed_steps))]
 pub(crate) fn names<'s>(alloc: Global, tokens: &[Token<'s>], at: usize, mark: Mark) -> Result<(Vec<&'s str>, usize), Stop>
     ensures { Reads (λ names. map (λ text. text.now) names.items) tokens.now result (listed_at name_at mark (drop at (seen tokens.now))) }
 {
@@ -25,6 +28,21 @@ pub(crate) fn names<'s>(alloc: Global, tokens: &[Token<'s>], at: usize, mark: Ma
         }
     }
     Err(Stop::NoTree)
+}
+
+/// Sorts beside each other, or each above the next.
+#[tactic(auto, unfolding(crate::specs::Declarations::sort_item_at))]
+pub(crate) fn sort_item<'s>(alloc: Global, tokens: &[Token<'s>], at: usize) -> Result<(SortItem<'s>, usize), Stop>
+    ensures { Reads plain_sort_item tokens.now result (sort_item_at (drop at (seen tokens.now))) }
+{
+    let (first, next) = name(tokens, at)?;
+    if let Ok(behind) = sign(tokens, next, Mark::Above) {
+        let (mut names, next) = names(alloc, tokens, behind, Mark::Above)?;
+        names.insert(0, first)?;
+        return Ok((SortItem::Chain(List::of(names)), next));
+    }
+    let (names, next) = names(alloc, tokens, at, Mark::Comma)?;
+    Ok((SortItem::Names(List::of(names)), next))
 }
 
 /// Names of a sort.
@@ -42,4 +60,184 @@ pub(crate) fn list_item<'s>(alloc: Global, tokens: &[Token<'s>], at: usize) -> R
         },
         next,
     ))
+}
+
+/// The sorts of a shape's arguments, none without a bracket.
+fn sorts<'s>(alloc: Global, tokens: &[Token<'s>], at: usize) -> Result<(Vec<&'s str>, usize), Stop>
+    ensures { Reads (λ sorts. map (λ sort. sort.now) sorts.items) tokens.now result (sorts_at (drop at (seen tokens.now))) }
+{
+    let Ok(next) = sign(tokens, at, Mark::LeftParen) else {
+        return Ok((Vec::new(alloc), at));
+    };
+    let (sorts, next) = names(alloc, tokens, next, Mark::Comma)?;
+    let next = sign(tokens, next, Mark::RightParen)?;
+    Ok((sorts, next))
+}
+
+/// A constant's name and the sorts of its arguments.
+#[tactic(auto, unfolding(crate::specs::Declarations::shape_at))]
+fn shape<'s>(alloc: Global, tokens: &[Token<'s>], at: usize) -> Result<(Shape<'s>, usize), Stop>
+    ensures { Reads plain_shape tokens.now result (shape_at (drop at (seen tokens.now))) }
+{
+    let (name, next) = name(tokens, at)?;
+    let (sorts, next) = sorts(alloc, tokens, next)?;
+    Ok((
+        Shape {
+            name,
+            sorts: List::of(sorts),
+        },
+        next,
+    ))
+}
+
+/// Shapes with commas between them.
+#[tactic(auto, using(crate::proofs::Lists::listed_steps))]
+fn shapes<'s>(alloc: Global, tokens: &[Token<'s>], at: usize) -> Result<(Vec<Shape<'s>>, usize), Stop>
+    ensures { Reads (λ shapes. map plain_shape shapes.items) tokens.now result (listed_at shape_at marks.Comma (drop at (seen tokens.now))) }
+{
+    let mut shapes = Vec::new(alloc);
+    let mut next = at;
+    for _ in at..tokens.len() {
+        let (item, after) = shape(alloc, tokens, next)?;
+        shapes.push(item)?;
+        match sign(tokens, after, Mark::Comma) {
+            Ok(behind) => next = behind,
+            Err(_) => return Ok((shapes, after)),
+        }
+    }
+    Err(Stop::NoTree)
+}
+
+/// A word for a kind.
+fn kind_word(tokens: &[Token], at: usize) -> Result<(KindWord, usize), Stop>
+    ensures { Reads (λ word. word) tokens.now result (kind_word_at (drop at (seen tokens.now))) }
+{
+    if let Ok(next) = word(tokens, at, "simpleFluent") {
+        return Ok((KindWord::Simple, next));
+    }
+    if let Ok(next) = word(tokens, at, "inertialFluent") {
+        return Ok((KindWord::Inertial, next));
+    }
+    if let Ok(next) = word(tokens, at, "sdFluent") {
+        return Ok((KindWord::Determined, next));
+    }
+    if let Ok(next) = word(tokens, at, "rigid") {
+        return Ok((KindWord::Rigid, next));
+    }
+    if let Ok(next) = word(tokens, at, "action") {
+        return Ok((KindWord::Action, next));
+    }
+    if let Ok(next) = word(tokens, at, "exogenousAction") {
+        return Ok((KindWord::ExogenousAction, next));
+    }
+    Err(Stop::NoTree)
+}
+
+/// The sort of a constant's values, none without a bracket.
+fn value_sort<'s>(tokens: &[Token<'s>], at: usize) -> Result<(Option<&'s str>, usize), Stop>
+    ensures { Reads (λ sort. option_map (λ name. name.now) sort) tokens.now result (sort_at (drop at (seen tokens.now))) }
+{
+    let Ok(next) = sign(tokens, at, Mark::LeftParen) else {
+        return Ok((None, at));
+    };
+    let (sort, next) = name(tokens, next)?;
+    let next = sign(tokens, next, Mark::RightParen)?;
+    Ok((Some(sort), next))
+}
+
+/// The sort of an attribute's values, and the shape of its action.
+#[tactic(auto, unfolding(crate::specs::Declarations::attribute_at))]
+fn attribute<'s>(alloc: Global, tokens: &[Token<'s>], at: usize) -> Result<(KindTree<'s>, usize), Stop>
+    ensures { Reads plain_kind tokens.now result (attribute_at (drop at (seen tokens.now))) }
+{
+    let next = sign(tokens, at, Mark::LeftParen)?;
+    let (sort, next) = name(tokens, next)?;
+    let next = sign(tokens, next, Mark::RightParen)?;
+    let next = word(tokens, next, "of")?;
+    let (action, next) = shape(alloc, tokens, next)?;
+    Ok((KindTree::Attribute(sort, action), next))
+}
+
+/// The kind of constants.
+#[tactic(auto, unfolding(crate::specs::Declarations::kind_at))]
+fn kind<'s>(alloc: Global, tokens: &[Token<'s>], at: usize) -> Result<(KindTree<'s>, usize), Stop>
+    ensures { Reads plain_kind tokens.now result (kind_at (drop at (seen tokens.now))) }
+{
+    if let Ok(next) = word(tokens, at, "attribute") {
+        return attribute(alloc, tokens, next);
+    }
+    let (kind, next) = kind_word(tokens, at)?;
+    let (sort, next) = value_sort(tokens, next)?;
+    Ok((KindTree::Plain(kind, sort), next))
+}
+
+/// Constants of a kind.
+#[tactic(auto, unfolding(crate::specs::Declarations::const_item_at))]
+pub(crate) fn const_item<'s>(alloc: Global, tokens: &[Token<'s>], at: usize) -> Result<(ConstItem<'s>, usize), Stop>
+    ensures { Reads plain_const_item tokens.now result (const_item_at (drop at (seen tokens.now))) }
+{
+    let (shapes, next) = shapes(alloc, tokens, at)?;
+    let next = sign(tokens, next, Mark::DoubleColon)?;
+    let (kind, next) = kind(alloc, tokens, next)?;
+    Ok((
+        ConstItem {
+            shapes: List::of(shapes),
+            kind,
+        },
+        next,
+    ))
+}
+
+/// Sorts with semicolons between the items.
+#[tactic(auto, using(crate::proofs::Lists::listed_steps))]
+pub(crate) fn sort_items<'s>(alloc: Global, tokens: &[Token<'s>], at: usize) -> Result<(Vec<SortItem<'s>>, usize), Stop>
+    ensures { Reads (λ items. map plain_sort_item items.items) tokens.now result (listed_at sort_item_at marks.Semicolon (drop at (seen tokens.now))) }
+{
+    let mut items = Vec::new(alloc);
+    let mut next = at;
+    for _ in at..tokens.len() {
+        let (item, after) = sort_item(alloc, tokens, next)?;
+        items.push(item)?;
+        match sign(tokens, after, Mark::Semicolon) {
+            Ok(behind) => next = behind,
+            Err(_) => return Ok((items, after)),
+        }
+    }
+    Err(Stop::NoTree)
+}
+
+/// Objects or variables with semicolons between the items.
+#[tactic(auto, using(crate::proofs::Lists::listed_steps))]
+pub(crate) fn list_items<'s>(alloc: Global, tokens: &[Token<'s>], at: usize) -> Result<(Vec<ListItem<'s>>, usize), Stop>
+    ensures { Reads (λ items. map plain_list_item items.items) tokens.now result (listed_at list_item_at marks.Semicolon (drop at (seen tokens.now))) }
+{
+    let mut items = Vec::new(alloc);
+    let mut next = at;
+    for _ in at..tokens.len() {
+        let (item, after) = list_item(alloc, tokens, next)?;
+        items.push(item)?;
+        match sign(tokens, after, Mark::Semicolon) {
+            Ok(behind) => next = behind,
+            Err(_) => return Ok((items, after)),
+        }
+    }
+    Err(Stop::NoTree)
+}
+
+/// Constants with semicolons between the items.
+#[tactic(auto, using(crate::proofs::Lists::listed_steps))]
+pub(crate) fn const_items<'s>(alloc: Global, tokens: &[Token<'s>], at: usize) -> Result<(Vec<ConstItem<'s>>, usize), Stop>
+    ensures { Reads (λ items. map plain_const_item items.items) tokens.now result (listed_at const_item_at marks.Semicolon (drop at (seen tokens.now))) }
+{
+    let mut items = Vec::new(alloc);
+    let mut next = at;
+    for _ in at..tokens.len() {
+        let (item, after) = const_item(alloc, tokens, next)?;
+        items.push(item)?;
+        match sign(tokens, after, Mark::Semicolon) {
+            Ok(behind) => next = behind,
+            Err(_) => return Ok((items, after)),
+        }
+    }
+    Err(Stop::NoTree)
 }

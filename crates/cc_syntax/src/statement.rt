@@ -1,13 +1,186 @@
 //! A statement's tree.
-ghost use Rattle.std.specs.Prelude.{◌≡◌, ◌<◌, length, IfOk, IfErr};
-ghost use Rattle.cc_defs.specs.Statements.{IsParsed};
+ghost use Rattle.std.specs.Prelude.{◌≡◌, ◌<◌, ℕ, List as Items, Some, None, Err, drop, false, length, IfOk, IfErr};
+ghost use Rattle.std.specs.Bool.{then_some};
+ghost use Rattle.std.specs.List.{list_any};
+ghost use Rattle.cc_defs.specs.declared.refusal.Fault.TheVariants as faults;
+ghost use Rattle.cc_defs.specs.declared.token.Mark.TheVariants as marks;
+ghost use Rattle.cc_defs.specs.Grammar.{same_text, terminal};
+ghost use Rattle.cc_defs.specs.Statements.{IsParsed, begins_directive, is_query as IsQuery, token_limit as limit_of, is_not_yet_in_query as IsNotYetInQuery, is_not_yet as IsNotYet, has_not_yet as HasNotYet, refusal_at};
 ghost use Rattle.cc_defs.specs.Tokens.{AreTokens};
-ghost use Rattle.cc_defs.specs.Trees.{plain_statement};
-ghost use Rattle.cc_text.specs.Views.{token_views};
-ghost use Rattle.cc_syntax.specs.Parsing.{HasRefused};
+ghost use Rattle.cc_defs.specs.Trees.{PlainPart, plain_part, plain_statement};
+ghost use Rattle.cc_syntax.specs.Parsing.{HasRefused, directive_at, part_at, nothing_left, statement_at};
+ghost use Rattle.cc_syntax.specs.Readers.{given, sign_at};
+ghost use Rattle.cc_syntax.specs.Views.{seen, Reads};
+ghost use Rattle.cc_syntax.specs.declared.stop.Stop.TheVariants as stops;
+ghost use Rattle.cc_text.specs.Views.{token_view, token_views};
 
-use cc_defs::{Fault, Statement, Token};
+use crate::causal_laws::tested_law;
+use crate::declarations::{const_items, list_items, sort_items};
+use crate::queries::query_items;
+use crate::stop::Stop;
+use crate::tokens::{quoted, sign, token_at, word};
+use cc_defs::{Fault, LimitAt, List, Mark, Part, Refusal, Statement, Token, TokenKind};
 use std::alloc::Global;
+
+/// What a directive says, behind its `:-`.
+#[tactic(auto, unfolding(crate::specs::Parsing::directive_at))]
+fn directive<'s>(alloc: Global, tokens: &[Token<'s>], at: usize) -> Result<(Part<'s>, usize), Stop>
+    requires { AreTokens (token_views tokens.now) }
+    ensures { Reads plain_part tokens.now result (directive_at (drop at (seen tokens.now))) }
+{
+    if let Ok(next) = word(tokens, at, "sorts") {
+        let (items, next) = sort_items(alloc, tokens, next)?;
+        return Ok((Part::Sorts(List::of(items)), next));
+    }
+    if let Ok(next) = word(tokens, at, "objects") {
+        let (items, next) = list_items(alloc, tokens, next)?;
+        return Ok((Part::Objects(List::of(items)), next));
+    }
+    if let Ok(next) = word(tokens, at, "variables") {
+        let (items, next) = list_items(alloc, tokens, next)?;
+        return Ok((Part::Variables(List::of(items)), next));
+    }
+    if let Ok(next) = word(tokens, at, "constants") {
+        let (items, next) = const_items(alloc, tokens, next)?;
+        return Ok((Part::Constants(List::of(items)), next));
+    }
+    if let Ok(next) = word(tokens, at, "query") {
+        let (items, next) = query_items(alloc, tokens, next)?;
+        return Ok((Part::Query(List::of(items)), next));
+    }
+    let next = word(tokens, at, "include")?;
+    let (file, next) = quoted(tokens, next)?;
+    Ok((Part::Include(file), next))
+}
+
+/// What a statement says, before its dot.
+#[tactic(auto, unfolding(crate::specs::Parsing::part_at))]
+fn part<'s>(alloc: Global, tokens: &[Token<'s>], at: usize) -> Result<(Part<'s>, usize), Stop>
+    requires { AreTokens (token_views tokens.now) }
+    ensures { Reads plain_part tokens.now result (part_at (drop at (seen tokens.now))) }
+{
+    if let Ok(next) = sign(tokens, at, Mark::Turn) {
+        return directive(alloc, tokens, next);
+    }
+    tested_law(alloc, tokens, at)
+}
+
+/// Whether only the dot of a statement is left.
+fn ends(tokens: &[Token], at: usize) -> bool
+    ensures {
+        (part : PlainPart) →
+        given (given (sign_at marks.Dot (drop at (seen tokens.now))) None (λ rest. Some (part, rest))) None nothing_left ≡ then_some result part
+    }
+{
+    let Ok(next) = sign(tokens, at, Mark::Dot) else {
+        return false;
+    };
+    token_at(tokens, next).is_none()
+}
+
+/// What a whole statement says.
+fn whole<'s>(alloc: Global, tokens: &[Token<'s>]) -> Result<Part<'s>, Stop>
+    requires { AreTokens (token_views tokens.now) }
+    ensures read { IfOk result (λ part. statement_at (seen tokens.now) ≡ Some (plain_part part)) }
+    ensures none { result ≡ Err stops.NoTree → statement_at (seen tokens.now) ≡ None }
+{
+    let (part, next) = part(alloc, tokens, 0)?;
+    ends(tokens, next).then_some(part).ok_or(Stop::NoTree)
+}
+
+/// The word of a directive.
+fn directive_word<'s>(tokens: &[Token<'s>]) -> Option<&'s str>
+    ensures {
+        (words : Items (Items ℕ)) →
+        begins_directive words (seen tokens.now) ≡ given result false (λ text. list_any (same_text text.now) words)
+    }
+{
+    let Ok(next) = sign(tokens, 0, Mark::Turn) else {
+        return None;
+    };
+    let Some(token) = token_at(tokens, next) else {
+        return None;
+    };
+    match token.kind {
+        TokenKind::Word => Some(token.text),
+        _ => None,
+    }
+}
+
+fn token_limit(tokens: &[Token]) -> LimitAt
+    ensures { result ≡ limit_of (seen tokens.now) }
+{
+    match directive_word(tokens) {
+        Some("sorts" | "objects" | "variables" | "constants") => LimitAt::DeclarationTokens,
+        _ => LimitAt::StatementTokens,
+    }
+}
+
+fn is_query(tokens: &[Token]) -> bool
+    ensures { result ≡ IsQuery (seen tokens.now) }
+{
+    match directive_word(tokens) {
+        Some(text) => text == "query",
+        None => false,
+    }
+}
+
+/// Whether the language does not have the token yet, in a query.
+fn is_not_yet_in_query(token: &Token) -> bool
+    ensures { result ≡ IsNotYetInQuery (terminal (token_view token.now)) }
+{
+    matches!(
+        token.kind,
+        TokenKind::Mark(Mark::Plus | Mark::Less | Mark::AtMost | Mark::More | Mark::AtLeast)
+    )
+}
+
+/// Whether the language does not have the token yet, outside of queries.
+fn is_not_yet(token: &Token) -> bool
+    ensures { result ≡ IsNotYet (terminal (token_view token.now)) }
+{
+    match token.kind {
+        TokenKind::Number | TokenKind::Mark(Mark::DotDot) => true,
+        _ => is_not_yet_in_query(token),
+    }
+}
+
+fn any_not_yet_in_query(tokens: &[Token]) -> bool
+    ensures { result ≡ list_any (λ token. IsNotYetInQuery (terminal (token_view token))) tokens.now }
+{
+    tokens.iter().any(|token| is_not_yet_in_query(token))
+}
+
+fn any_not_yet(tokens: &[Token]) -> bool
+    ensures { result ≡ list_any (λ token. IsNotYet (terminal (token_view token))) tokens.now }
+{
+    tokens.iter().any(|token| is_not_yet(token))
+}
+
+/// Whether a token is one that the language does not have yet, in such a statement.
+#[tactic(auto, using(crate::proofs::Seen::any_seen))]
+fn has_not_yet(tokens: &[Token]) -> bool
+    ensures { result ≡ HasNotYet (seen tokens.now) }
+{
+    if is_query(tokens) {
+        any_not_yet_in_query(tokens)
+    } else {
+        any_not_yet(tokens)
+    }
+}
+
+/// A refusal at the line of the first token.
+fn refusal(number: u8, file: u32, limit: Option<LimitAt>, tokens: &[Token]) -> Fault
+    requires { 0 < length tokens.now }
+    ensures { result ≡ faults.Refused (refusal_at number file limit (token_views tokens.now)) }
+{
+    Fault::Refused(Refusal {
+        number,
+        file,
+        line: tokens[0].line,
+        limit,
+    })
+}
 
 /// The one tree that spells the tokens of a statement, its dot among them; its names are slices of the source. Refuses, at
 /// the statement's first line and in this order, what has too many tokens (14, with the limit declaration tokens or
@@ -23,5 +196,19 @@ pub fn parse<'s>(
     ensures parsed { IfOk result (λ tree. IsParsed (token_views tokens.now) (plain_statement tree)) }
     ensures refused { IfErr result (HasRefused file (token_views tokens.now)) }
 {
-    Err(Fault::OutOfMemory)
+    let limit = token_limit(tokens);
+    if tokens.len() > limit.number() as usize {
+        return Err(refusal(14, file, Some(limit), tokens));
+    }
+    if has_not_yet(tokens) {
+        return Err(refusal(13, file, None, tokens));
+    }
+    match whole(alloc, tokens) {
+        Ok(part) => Ok(Statement {
+            part,
+            line: tokens[0].line,
+        }),
+        Err(Stop::NoTree) => Err(refusal(3, file, None, tokens)),
+        Err(Stop::OutOfMemory) => Err(Fault::OutOfMemory),
+    }
 }

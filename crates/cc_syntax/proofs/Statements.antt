@@ -1,0 +1,71 @@
+-- What the reader of statements finds is the tree of a statement, and where it finds nothing there is none.
+use Rattle.std.proofs.Common.{◌≡◌, ℕ, ◌<◌, ◌≤◌, List, [], ◌∷◌, length, slice_index_or, Option, Some, None, Result, Ok, Err, IfOk, Bool, true, false, IsFalse, refl, ap, subst, sym, ◌∙◌, inr, arith}
+use Rattle.std.specs.Bool.{then_some}
+use Rattle.std.specs.Option.{ok_or}
+use Rattle.std.proofs.lemmas.Bool.{le-ltb}
+use Rattle.std.proofs.lemmas.List.{length-map}
+use Rattle.cc_defs.specs.declared.refusal.Fault.{Fault}
+use Rattle.cc_defs.specs.declared.refusal.Fault.TheVariants as faults
+use Rattle.cc_defs.specs.declared.refusal.LimitAt.{LimitAt}
+use Rattle.cc_defs.specs.declared.token.Mark.TheVariants as marks
+use Rattle.cc_defs.specs.declared.token.Token.{Token}
+use Rattle.cc_defs.specs.declared.tree.Part.{Part}
+use Rattle.cc_defs.specs.Grammar.{Terminal, terminal, terminals}
+use Rattle.cc_defs.specs.Limits.{limit_number}
+use Rattle.cc_defs.specs.Statements.{token_limit, is_too_long, has_not_yet, refusal_at, NoTree, IsParsed}
+use Rattle.cc_defs.specs.Tokens.{TokenView, AreTokens, first_line}
+use Rattle.cc_defs.specs.Trees.{PlainPart, plain_part, plain_statement}
+use Rattle.cc_syntax.specs.declared.stop.Stop.{Stop}
+use Rattle.cc_syntax.specs.declared.stop.Stop.TheVariants as stops
+use Rattle.cc_syntax.specs.Parsing.{part_at, nothing_left, statement_at, HasRefused}
+use Rattle.cc_syntax.specs.Readers.{given, sign_at}
+use Rattle.cc_syntax.specs.Views.{seen}
+use Rattle.cc_text.specs.Views.{token_view, token_views}
+use Rattle.cc_syntax.proofs.Parsing.{statement-takes, statement-again}
+
+pub nothing_spells : (tokens : List TokenView) → statement_at (terminals tokens) ≡ None → NoTree tokens
+nothing_spells tokens nothing tree spelled = let e : None ≡ Some tree.part = sym nothing ∙ statement-again tokens tree.part spelled.whole in cc
+
+-- a part, and what follows it, make the statement
+pub statement-ended : (tokens rest : List Terminal) (part : PlainPart) (ends : Option PlainPart) → part_at tokens ≡ Some (part, rest) →
+    given (given (sign_at marks.Dot rest) None (λ left. Some (part, left))) None nothing_left ≡ ends → statement_at tokens ≡ ends
+statement-ended tokens rest part ends is_part is_ends = rw is_part is_ends
+
+-- the part of a statement, where it is the whole of it
+abbrev pub IsWhole : List Terminal → Result Part Stop → Type 0
+IsWhole tokens result = (IfOk result (λ part. statement_at tokens ≡ Some (plain_part part))) × (result ≡ Err stops.NoTree → statement_at tokens ≡ None)
+
+pub whole-ended : (tokens rest : List Terminal) (part : Part) (ends : Bool) (ended : Option Part) (result : Result Part Stop) →
+    part_at tokens ≡ Some (plain_part part, rest) →
+    given (given (sign_at marks.Dot rest) None (λ left. Some (plain_part part, left))) None nothing_left ≡ then_some ends (plain_part part) →
+    ended ≡ then_some ends part → result ≡ ok_or ended stops.NoTree → IsWhole tokens result
+whole-ended tokens rest part true ended result is_part is_end is_ended is_result =
+    subst (λ w. IsWhole tokens w) (sym (is_result ∙ ap (λ o. ok_or o stops.NoTree) is_ended)) (statement-ended tokens rest (plain_part part) _ is_part is_end, λ e. cc)
+whole-ended tokens rest part false ended result is_part is_end is_ended is_result =
+    subst (λ w. IsWhole tokens w) (sym (is_result ∙ ap (λ o. ok_or o stops.NoTree) is_ended)) (tt, λ e. statement-ended tokens rest (plain_part part) _ is_part is_end)
+
+-- ---- what `parse` answers
+
+pub is_short : (tokens : List Token) (limit : LimitAt) (number : ℕ) → limit ≡ token_limit (seen tokens) → number ≡ limit_number limit →
+    length tokens ≤ number → IsFalse (is_too_long (seen tokens))
+is_short tokens limit number is_limit is_number fits =
+    le-ltb _ _ (subst (λ n. length (seen tokens) ≤ n) (is_number ∙ ap limit_number is_limit) (simp length-map fits))
+
+line_of : (tokens : List Token) (other : Token) → 0 < length tokens → first_line (token_views tokens) ≡ (slice_index_or tokens 0 other).line
+line_of [] other some = absurd (omega (arith, some))
+line_of (token ∷ tokens) other some = refl
+
+pub is_parsed : (tokens : List Token) (part : Part) (other : Token) → 0 < length tokens → AreTokens (token_views tokens) →
+    IsFalse (is_too_long (seen tokens)) → IsFalse (has_not_yet (seen tokens)) → statement_at (seen tokens) ≡ Some (plain_part part) →
+    IsParsed (token_views tokens) (plain_statement record { part = part; line = (slice_index_or tokens 0 other).line })
+is_parsed tokens part other some are short known found = record {
+  short = short;
+  known = known;
+  spelled = record { whole = statement-takes (token_views tokens) are (plain_part part) found; line = sym (line_of tokens other some) }
+}
+
+pub is_refused : (tokens : List Token) (file : ℕ) (fault : Fault) → IsFalse (is_too_long (seen tokens)) → IsFalse (has_not_yet (seen tokens)) →
+    statement_at (seen tokens) ≡ None → fault ≡ faults.Refused (refusal_at 3 file None (token_views tokens)) →
+    HasRefused file (token_views tokens) fault
+is_refused tokens file fault short known nothing is_fault =
+    subst (HasRefused file (token_views tokens)) (sym is_fault) (inr (inr (short, known, nothing_spells (token_views tokens) nothing, refl)))

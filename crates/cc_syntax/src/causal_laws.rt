@@ -1,0 +1,170 @@
+//! Readers of laws.
+ghost use Rattle.std.specs.Prelude.{◌≡◌, drop, Option};
+ghost use Rattle.std.specs.Option.{option_map};
+ghost use Rattle.cc_defs.specs.Grammar.{is_value_word as IsValueWord};
+ghost use Rattle.cc_defs.specs.Trees.{PlainTree, PlainLaw, plain_tree, plain_law, plain_part};
+ghost use Rattle.cc_syntax.specs.Formulas.{formula_at};
+ghost use Rattle.cc_syntax.specs.Laws.{caused_at, effect_at, worded_at, acting_at, opens_formula as opening, law_at, tested_law_at};
+ghost use Rattle.cc_syntax.specs.Readers.{optional_at};
+ghost use Rattle.cc_syntax.specs.Views.{seen, Reads};
+
+use crate::formulas::formula;
+use crate::stop::Stop;
+use crate::terms::term;
+use crate::tokens::{is_reserved_word, token_at, word};
+use cc_defs::{LawTree, Mark, Part, Token, TokenKind, Tree};
+use std::alloc::Global;
+
+/// `F if G`
+#[derive(Drop)]
+struct EffectParts<'s> {
+    formula: Tree<'s>,
+    condition: Option<Tree<'s>>,
+}
+
+/// `F if G after H`
+#[derive(Drop)]
+struct CausedParts<'s> {
+    formula: Tree<'s>,
+    condition: Option<Tree<'s>>,
+    before: Option<Tree<'s>>,
+}
+
+/// A formula behind the word, if the word is there.
+fn optional<'s>(alloc: Global, tokens: &[Token<'s>], at: usize, text: &str) -> Result<(Option<Tree<'s>>, usize), Stop>
+    ensures { Reads (λ read. option_map plain_tree read) tokens.now result (optional_at formula_at text.now (drop at (seen tokens.now))) }
+{
+    let Ok(next) = word(tokens, at, text) else {
+        return Ok((None, at));
+    };
+    let (read, next) = formula(alloc, tokens, next)?;
+    Ok((Some(read), next))
+}
+
+/// `F if G`, for any law that has it behind its word.
+#[tactic(auto, unfolding(crate::specs::Laws::effect_at))]
+fn effect<'s>(alloc: Global, tokens: &[Token<'s>], at: usize) -> Result<(EffectParts<'s>, usize), Stop>
+    ensures {
+        (make : PlainTree → Option PlainTree → PlainLaw) →
+        Reads (λ read. make (plain_tree read.formula) (option_map plain_tree read.condition)) tokens.now result (effect_at make (drop at (seen tokens.now)))
+    }
+{
+    let (formula, next) = formula(alloc, tokens, at)?;
+    let (condition, next) = optional(alloc, tokens, next, "if")?;
+    Ok((EffectParts { formula, condition }, next))
+}
+
+/// `F if G after H`, for any law that has it behind its word.
+#[tactic(auto, unfolding(crate::specs::Laws::caused_at))]
+fn caused<'s>(alloc: Global, tokens: &[Token<'s>], at: usize) -> Result<(CausedParts<'s>, usize), Stop>
+    ensures {
+        (make : PlainTree → Option PlainTree → Option PlainTree → PlainLaw) →
+        Reads (λ read. make (plain_tree read.formula) (option_map plain_tree read.condition) (option_map plain_tree read.before)) tokens.now result (caused_at make (drop at (seen tokens.now)))
+    }
+{
+    let (formula, next) = formula(alloc, tokens, at)?;
+    let (condition, next) = optional(alloc, tokens, next, "if")?;
+    let (before, next) = optional(alloc, tokens, next, "after")?;
+    Ok((
+        CausedParts {
+            formula,
+            condition,
+            before,
+        },
+        next,
+    ))
+}
+
+/// A law that begins with its word.
+#[tactic(auto, unfolding(crate::specs::Laws::worded_at, crate::specs::Laws::alone_at, crate::specs::Laws::of_term_at))]
+fn worded<'s>(alloc: Global, tokens: &[Token<'s>], at: usize) -> Result<(LawTree<'s>, usize), Stop>
+    ensures { Reads plain_law tokens.now result (worded_at (drop at (seen tokens.now))) }
+{
+    if let Ok(next) = word(tokens, at, "caused") {
+        let (read, next) = caused(alloc, tokens, next)?;
+        return Ok((LawTree::Caused(read.formula, read.condition, read.before), next));
+    }
+    if let Ok(next) = word(tokens, at, "constraint") {
+        let (formula, next) = formula(alloc, tokens, next)?;
+        return Ok((LawTree::Constraint(formula), next));
+    }
+    if let Ok(next) = word(tokens, at, "always") {
+        let (formula, next) = formula(alloc, tokens, next)?;
+        return Ok((LawTree::Always(formula), next));
+    }
+    if let Ok(next) = word(tokens, at, "nonexecutable") {
+        let (read, next) = effect(alloc, tokens, next)?;
+        return Ok((LawTree::Nonexecutable(read.formula, read.condition), next));
+    }
+    if let Ok(next) = word(tokens, at, "default") {
+        let (read, next) = caused(alloc, tokens, next)?;
+        return Ok((LawTree::Default(read.formula, read.condition, read.before), next));
+    }
+    if let Ok(next) = word(tokens, at, "exogenous") {
+        let (constant, next) = term(alloc, tokens, next)?;
+        return Ok((LawTree::Exogenous(constant), next));
+    }
+    let next = word(tokens, at, "inertial")?;
+    let (constant, next) = term(alloc, tokens, next)?;
+    Ok((LawTree::Inertial(constant), next))
+}
+
+/// A law that begins with a formula.
+#[tactic(auto, unfolding(crate::specs::Laws::acting_at))]
+fn acting<'s>(alloc: Global, tokens: &[Token<'s>], at: usize) -> Result<(LawTree<'s>, usize), Stop>
+    ensures { Reads plain_law tokens.now result (acting_at (drop at (seen tokens.now))) }
+{
+    let (action, next) = formula(alloc, tokens, at)?;
+    if let Ok(next) = word(tokens, next, "causes") {
+        let (read, next) = effect(alloc, tokens, next)?;
+        return Ok((LawTree::Causes(action, read.formula, read.condition), next));
+    }
+    let next = word(tokens, next, "may")?;
+    let next = word(tokens, next, "cause")?;
+    let (read, next) = effect(alloc, tokens, next)?;
+    Ok((LawTree::MayCause(action, read.formula, read.condition), next))
+}
+
+/// Whether the reserved word is a term.
+fn is_value_word(text: &str) -> bool
+    ensures { result ≡ IsValueWord text.now }
+{
+    matches!(text, "true" | "false" | "none")
+}
+
+/// Whether a formula may begin here: no law's own word is a name.
+fn opens_formula(tokens: &[Token], at: usize) -> bool
+    ensures { result ≡ opening (drop at (seen tokens.now)) }
+{
+    let Some(token) = token_at(tokens, at) else {
+        return false;
+    };
+    match token.kind {
+        TokenKind::Mark(Mark::Minus | Mark::LeftParen | Mark::LeftBracket) => true,
+        TokenKind::Word => !is_reserved_word(token.text) || is_value_word(token.text),
+        _ => false,
+    }
+}
+
+/// A law, apart from its test; not `noconcurrency`.
+fn law<'s>(alloc: Global, tokens: &[Token<'s>], at: usize) -> Result<(LawTree<'s>, usize), Stop>
+    ensures { Reads plain_law tokens.now result (law_at (drop at (seen tokens.now))) }
+{
+    if opens_formula(tokens, at) {
+        return acting(alloc, tokens, at);
+    }
+    worded(alloc, tokens, at)
+}
+
+/// A law with its test.
+#[tactic(auto, unfolding(crate::specs::Laws::tested_law_at))]
+pub(crate) fn tested_law<'s>(alloc: Global, tokens: &[Token<'s>], at: usize) -> Result<(Part<'s>, usize), Stop>
+    ensures { Reads plain_part tokens.now result (tested_law_at (drop at (seen tokens.now))) }
+{
+    if let Ok(next) = word(tokens, at, "noconcurrency") {
+        return Ok((Part::Law(LawTree::NoConcurrency, None), next));
+    }
+    let (law, next) = law(alloc, tokens, at)?;
+    let (test, next) = optional(alloc, tokens, next, "where")?;
+    Ok((Part::Law(law, test), next))
+}
