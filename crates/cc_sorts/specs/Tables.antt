@@ -1,11 +1,11 @@
 -- What a table holds, and that it is the table of a list of declarations.
-use Rattle.std.specs.Prelude.{◌≡◌, ℕ, ◌+◌, ◌<◌, List, [], ◌∷◌, ◌++◌, length, map, codes, Option, Some, None}
+use Rattle.std.specs.Prelude.{◌≡◌, ℕ, ◌+◌, ◌<◌, List, [], ◌∷◌, ◌++◌, length, map, codes, IsTrue, Option, Some, None}
 use Rattle.std.specs.List.{AllByRecursion}
 use Rattle.cc_defs.specs.declared.refusal.Fault.{Fault}
 use Rattle.cc_defs.specs.declared.refusal.Fault.TheVariants as faults
 use Rattle.cc_defs.specs.declared.signature.Symbol.{Symbol}
-use Rattle.cc_defs.specs.DeclarationFaults.{declaration_refusal, signature_refusal}
-use Rattle.cc_defs.specs.Declarations.{Declaration, Declared, Named, boolean, sort_names, pairs, objects, variables, constants, symbols, members, number_in, declarations_of, ground_fluents, ground_actions}
+use Rattle.cc_defs.specs.DeclarationFaults.{is_sort, are_sorts, declaration_refusal, signature_refusal}
+use Rattle.cc_defs.specs.Declarations.{Declaration, Declared, Named, boolean, sort_names, pairs, objects, variables, constants, symbols, members, number_in, value_sort, declarations_of, ground_fluents, ground_actions}
 use Rattle.cc_defs.specs.Signatures.{Signature}
 use Rattle.cc_defs.specs.Trees.{PlainStatement}
 use Rattle.cc_sorts.specs.declared.table.Placed.{Placed}
@@ -40,6 +40,13 @@ placed_from [] constants = []
 placed_from symbols [] = []
 placed_from (symbol ∷ symbols) (constant ∷ constants) = place_symbol symbol constant ∷ placed_from symbols constants
 
+-- each sort that is named is declared
+pub record AreKnown (declarations : List Declaration) : Type 0 where
+  pub of_objects : AllByRecursion (λ object. IsTrue (is_sort declarations object.1)) (objects declarations)
+  pub of_variables : AllByRecursion (λ variable. IsTrue (is_sort declarations variable.1)) (variables declarations)
+  pub of_arguments : AllByRecursion (λ constant. IsTrue (are_sorts declarations constant.shape.sorts)) (constants declarations)
+  pub of_values : AllByRecursion (λ constant. IsTrue (is_sort declarations (value_sort constant.kind))) (constants declarations)
+
 -- the table is that of these declarations
 pub record IsTable (table : TableView) (declarations : List Declaration) : Type 0 where
   pub names : table.sorts.names ≡ sort_names declarations
@@ -48,6 +55,7 @@ pub record IsTable (table : TableView) (declarations : List Declaration) : Type 
   pub objects_are : table.objects ≡ numbered declarations (objects declarations)
   pub variables_are : table.variables ≡ numbered declarations (variables declarations)
   pub symbols_are : table.symbols ≡ placed_from (symbols declarations) (constants declarations)
+  pub known : AreKnown declarations
 
 abbrev pub symbol_names : TableView → List (List ℕ)
 symbol_names table = map (λ placed. placed.symbol.name) table.symbols

@@ -1,7 +1,6 @@
 //! Readers of laws.
 ghost use Rattle.std.specs.Prelude.{◌≡◌, drop, Option};
 ghost use Rattle.std.specs.Option.{option_map};
-ghost use Rattle.cc_defs.specs.Grammar.{is_value_word as IsValueWord};
 ghost use Rattle.cc_defs.specs.Trees.{PlainTree, PlainLaw, plain_tree, plain_law, plain_part};
 ghost use Rattle.cc_syntax.specs.Formulas.{formula_at};
 ghost use Rattle.cc_syntax.specs.Laws.{caused_at, effect_at, worded_at, acting_at, opens_formula as opening, law_at, tested_law_at};
@@ -11,7 +10,8 @@ ghost use Rattle.cc_syntax.specs.Views.{seen, Reads};
 use crate::formulas::formula;
 use crate::stop::Stop;
 use crate::terms::term;
-use crate::tokens::{is_reserved_word, token_at, word};
+use crate::tokens::{token_at, word};
+use crate::words::{is_reserved_word, is_word_of_value};
 use cc_defs::{LawTree, Mark, Part, Token, TokenKind, Tree};
 use std::alloc::Global;
 
@@ -125,13 +125,6 @@ fn acting<'s>(alloc: Global, tokens: &[Token<'s>], at: usize) -> Result<(LawTree
     Ok((LawTree::MayCause(action, read.formula, read.condition), next))
 }
 
-/// Whether the reserved word is a term.
-fn is_value_word(text: &str) -> bool
-    ensures { result ≡ IsValueWord text.now }
-{
-    matches!(text, "true" | "false" | "none")
-}
-
 /// Whether a formula may begin here: no law's own word is a name.
 fn opens_formula(tokens: &[Token], at: usize) -> bool
     ensures { result ≡ opening (drop at (seen tokens.now)) }
@@ -141,7 +134,7 @@ fn opens_formula(tokens: &[Token], at: usize) -> bool
     };
     match token.kind {
         TokenKind::Mark(Mark::Minus | Mark::LeftParen | Mark::LeftBracket) => true,
-        TokenKind::Word => !is_reserved_word(token.text) || is_value_word(token.text),
+        TokenKind::Word => !is_reserved_word(token.text) || is_word_of_value(token.text),
         _ => false,
     }
 }
