@@ -1,3 +1,4 @@
+pub mod Arguments
 pub mod Combined
 pub mod DeclarationReaders
 pub mod FormulaAgain
@@ -7,11 +8,18 @@ pub mod IsReader
 pub mod LawReaders
 pub mod Lists
 pub mod Marks
+pub mod Numbers
 pub mod Parsing
+pub mod Places
 pub mod QueryReaders
 pub mod QuotedNames
+pub mod Quotes
 pub mod Seen
 pub mod Singles
+pub mod Stacks
 pub mod Statements
+pub mod Stops
 pub mod Strengths
 pub mod TermReader
+pub mod Trees
+pub mod Turning

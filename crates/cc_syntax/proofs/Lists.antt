@@ -63,7 +63,7 @@ module _ {T X : Type 0} {view : T → X} {item : Reader X} {mark : Mark} {tokens
       IsListedFrom view item mark tokens at fewer pushed behind
   listed-continued after behind so_far more is_fewer is_pushed is_item is_mark = record {
     whole =
-      so_far.whole
-      ∙ listed-more item mark left (map view items) (drop next (seen tokens)) (drop after (seen tokens)) (drop behind (seen tokens)) (view x) more is_item is_mark
-      ∙ rw (is_pushed, map-append, is_fewer)
+        so_far.whole
+        ∙ listed-more item mark left (map view items) (drop next (seen tokens)) (drop after (seen tokens)) (drop behind (seen tokens)) (view x) more is_item is_mark
+        ∙ rw (is_pushed, map-append, is_fewer);
   }

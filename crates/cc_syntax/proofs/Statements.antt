@@ -61,7 +61,7 @@ pub is_parsed : (tokens : List Token) (part : Part) (other : Token) → 0 < leng
 is_parsed tokens part other some are short known found = record {
   short = short;
   known = known;
-  spelled = record { whole = statement-takes (token_views tokens) are (plain_part part) found; line = sym (line_of tokens other some) }
+  spelled = record { whole = statement-takes (token_views tokens) are (plain_part part) found; line = sym (line_of tokens other some) };
 }
 
 pub is_refused : (tokens : List Token) (file : ℕ) (fault : Fault) → IsFalse (is_too_long (seen tokens)) → IsFalse (has_not_yet (seen tokens)) →

@@ -7,4 +7,5 @@ pub mod Parsing
 pub mod Queries
 pub mod Readers
 pub mod Terms
+pub mod Turns
 pub mod Views

@@ -1,7 +1,6 @@
 //! Readers of laws.
 ghost use Rattle.std.specs.Prelude.{◌≡◌, drop, Option};
 ghost use Rattle.std.specs.Option.{option_map};
-ghost use Rattle.cc_defs.specs.Grammar.{is_value_word as IsValueWord};
 ghost use Rattle.cc_defs.specs.Trees.{PlainTree, PlainLaw, plain_tree, plain_law, plain_part};
 ghost use Rattle.cc_syntax.specs.Formulas.{formula_at};
 ghost use Rattle.cc_syntax.specs.Laws.{caused_at, effect_at, worded_at, acting_at, opens_formula as opening, law_at, tested_law_at};
@@ -11,7 +10,8 @@ ghost use Rattle.cc_syntax.specs.Views.{seen, Reads};
 use crate::formulas::formula;
 use crate::stop::Stop;
 use crate::terms::term;
-use crate::tokens::{is_reserved_word, token_at, word};
+use crate::tokens::{token_at, word};
+use crate::words::{is_reserved_word, is_word_of_value};
 use cc_defs::{LawTree, Mark, Part, Token, TokenKind, Tree};
 use std::alloc::Global;
 
@@ -31,7 +31,12 @@ struct CausedParts<'s> {
 }
 
 /// A formula behind the word, if the word is there.
-fn optional<'s>(alloc: Global, tokens: &[Token<'s>], at: usize, text: &str) -> Result<(Option<Tree<'s>>, usize), Stop>
+fn optional<'s>(
+    alloc: Global,
+    tokens: &[Token<'s>],
+    at: usize,
+    text: &str,
+) -> Result<(Option<Tree<'s>>, usize), Stop>
     ensures { Reads (λ read. option_map plain_tree read) tokens.now result (optional_at formula_at text.now (drop at (seen tokens.now))) }
 {
     let Ok(next) = word(tokens, at, text) else {
@@ -43,11 +48,13 @@ fn optional<'s>(alloc: Global, tokens: &[Token<'s>], at: usize, text: &str) -> R
 
 /// `F if G`, for any law that has it behind its word.
 #[tactic(auto, unfolding(crate::specs::Laws::effect_at))]
-fn effect<'s>(alloc: Global, tokens: &[Token<'s>], at: usize) -> Result<(EffectParts<'s>, usize), Stop>
-    ensures {
-        (make : PlainTree → Option PlainTree → PlainLaw) →
-        Reads (λ read. make (plain_tree read.formula) (option_map plain_tree read.condition)) tokens.now result (effect_at make (drop at (seen tokens.now)))
-    }
+fn effect<'s>(
+    alloc: Global,
+    tokens: &[Token<'s>],
+    at: usize,
+) -> Result<(EffectParts<'s>, usize), Stop>
+    ensures { (make : PlainTree → Option PlainTree → PlainLaw) →
+        Reads (λ read. make (plain_tree read.formula) (option_map plain_tree read.condition)) tokens.now result (effect_at make (drop at (seen tokens.now))) }
 {
     let (formula, next) = formula(alloc, tokens, at)?;
     let (condition, next) = optional(alloc, tokens, next, "if")?;
@@ -56,11 +63,13 @@ fn effect<'s>(alloc: Global, tokens: &[Token<'s>], at: usize) -> Result<(EffectP
 
 /// `F if G after H`, for any law that has it behind its word.
 #[tactic(auto, unfolding(crate::specs::Laws::caused_at))]
-fn caused<'s>(alloc: Global, tokens: &[Token<'s>], at: usize) -> Result<(CausedParts<'s>, usize), Stop>
-    ensures {
-        (make : PlainTree → Option PlainTree → Option PlainTree → PlainLaw) →
-        Reads (λ read. make (plain_tree read.formula) (option_map plain_tree read.condition) (option_map plain_tree read.before)) tokens.now result (caused_at make (drop at (seen tokens.now)))
-    }
+fn caused<'s>(
+    alloc: Global,
+    tokens: &[Token<'s>],
+    at: usize,
+) -> Result<(CausedParts<'s>, usize), Stop>
+    ensures { (make : PlainTree → Option PlainTree → Option PlainTree → PlainLaw) →
+        Reads (λ read. make (plain_tree read.formula) (option_map plain_tree read.condition) (option_map plain_tree read.before)) tokens.now result (caused_at make (drop at (seen tokens.now))) }
 {
     let (formula, next) = formula(alloc, tokens, at)?;
     let (condition, next) = optional(alloc, tokens, next, "if")?;
@@ -82,7 +91,10 @@ fn worded<'s>(alloc: Global, tokens: &[Token<'s>], at: usize) -> Result<(LawTree
 {
     if let Ok(next) = word(tokens, at, "caused") {
         let (read, next) = caused(alloc, tokens, next)?;
-        return Ok((LawTree::Caused(read.formula, read.condition, read.before), next));
+        return Ok((
+            LawTree::Caused(read.formula, read.condition, read.before),
+            next,
+        ));
     }
     if let Ok(next) = word(tokens, at, "constraint") {
         let (formula, next) = formula(alloc, tokens, next)?;
@@ -98,7 +110,10 @@ fn worded<'s>(alloc: Global, tokens: &[Token<'s>], at: usize) -> Result<(LawTree
     }
     if let Ok(next) = word(tokens, at, "default") {
         let (read, next) = caused(alloc, tokens, next)?;
-        return Ok((LawTree::Default(read.formula, read.condition, read.before), next));
+        return Ok((
+            LawTree::Default(read.formula, read.condition, read.before),
+            next,
+        ));
     }
     if let Ok(next) = word(tokens, at, "exogenous") {
         let (constant, next) = term(alloc, tokens, next)?;
@@ -122,14 +137,10 @@ fn acting<'s>(alloc: Global, tokens: &[Token<'s>], at: usize) -> Result<(LawTree
     let next = word(tokens, next, "may")?;
     let next = word(tokens, next, "cause")?;
     let (read, next) = effect(alloc, tokens, next)?;
-    Ok((LawTree::MayCause(action, read.formula, read.condition), next))
-}
-
-/// Whether the reserved word is a term.
-fn is_value_word(text: &str) -> bool
-    ensures { result ≡ IsValueWord text.now }
-{
-    matches!(text, "true" | "false" | "none")
+    Ok((
+        LawTree::MayCause(action, read.formula, read.condition),
+        next,
+    ))
 }
 
 /// Whether a formula may begin here: no law's own word is a name.
@@ -141,7 +152,7 @@ fn opens_formula(tokens: &[Token], at: usize) -> bool
     };
     match token.kind {
         TokenKind::Mark(Mark::Minus | Mark::LeftParen | Mark::LeftBracket) => true,
-        TokenKind::Word => !is_reserved_word(token.text) || is_value_word(token.text),
+        TokenKind::Word => !is_reserved_word(token.text) || is_word_of_value(token.text),
         _ => false,
     }
 }
@@ -158,7 +169,11 @@ fn law<'s>(alloc: Global, tokens: &[Token<'s>], at: usize) -> Result<(LawTree<'s
 
 /// A law with its test.
 #[tactic(auto, unfolding(crate::specs::Laws::tested_law_at))]
-pub(crate) fn tested_law<'s>(alloc: Global, tokens: &[Token<'s>], at: usize) -> Result<(Part<'s>, usize), Stop>
+pub(crate) fn tested_law<'s>(
+    alloc: Global,
+    tokens: &[Token<'s>],
+    at: usize,
+) -> Result<(Part<'s>, usize), Stop>
     ensures { Reads plain_part tokens.now result (tested_law_at (drop at (seen tokens.now))) }
 {
     if let Ok(next) = word(tokens, at, "noconcurrency") {

@@ -1,16 +1,169 @@
 //! Readers of formulas. What is open is held in a list, so that no sign, bracket or operator costs a nested call.
 ghost use Rattle.std.specs.Prelude.{◌≡◌, drop};
 ghost use Rattle.cc_defs.specs.Trees.{plain_tree};
-ghost use Rattle.cc_syntax.specs.Formulas.{formula_at};
+ghost use Rattle.cc_defs.specs.declared.token.Mark.TheVariants as marks;
+ghost use Rattle.cc_syntax.specs.Formulas.{plain_frame, stack, closed, frame_at, atom_at, begun, shut, gone_on, formula_at};
+ghost use Rattle.cc_syntax.specs.Readers.{name_at, sign_at, ◌◁◌};
+ghost use Rattle.cc_syntax.specs.Turns.{Turns};
 ghost use Rattle.cc_syntax.specs.Views.{seen, Reads};
 
+use crate::frames::{Frame, Frames, close};
+use crate::operators::next_operator;
 use crate::stop::Stop;
-use cc_defs::{Token, Tree};
+use crate::terms::term;
+use crate::tokens::{name, sign};
+use cc_defs::{Mark, Token, Tree};
+use smallvec::SmallVec;
 use std::alloc::Global;
 
+/// The strength of a whole formula: no operator's is greater.
+const WHOLE: u8 = 4;
+
+/// Where the reading of a formula is.
+#[derive(Drop)]
+enum Turn<'s> {
+    /// An operand is wanted at the place.
+    Wants(usize),
+    /// An operand was read up to the place.
+    Has(Tree<'s>, usize),
+    /// The formula was read up to the place.
+    Ends(Tree<'s>, usize),
+}
+
+/// A variable and the bar behind it.
+fn variable<'s>(tokens: &[Token<'s>], at: usize) -> Result<(&'s str, usize), Stop>
+    ensures { Reads (λ text. text.now) tokens.now result ((name_at ◁ sign_at marks.Bar) (drop at (seen tokens.now))) }
+{
+    let (name, next) = name(tokens, at)?;
+    let next = sign(tokens, next, Mark::Bar)?;
+    Ok((name, next))
+}
+
+/// A sign or a bracket that waits for its operand.
+fn opening<'s>(tokens: &[Token<'s>], at: usize) -> Result<(Frame<'s>, usize), Stop>
+    ensures { Reads plain_frame tokens.now result (frame_at (drop at (seen tokens.now))) }
+{
+    if let Ok(next) = sign(tokens, at, Mark::Minus) {
+        return Ok((Frame::Not, next));
+    }
+    if let Ok(next) = sign(tokens, at, Mark::LeftParen) {
+        return Ok((Frame::Paren, next));
+    }
+    let next = sign(tokens, at, Mark::LeftBracket)?;
+    if let Ok(next) = sign(tokens, next, Mark::AllSign) {
+        let (variable, next) = variable(tokens, next)?;
+        return Ok((Frame::ForAll(variable), next));
+    }
+    let next = sign(tokens, next, Mark::AnySign)?;
+    let (variable, next) = variable(tokens, next)?;
+    Ok((Frame::Exists(variable), next))
+}
+
+/// A term, or two with a sign between them.
+#[tactic(auto, unfolding(crate::specs::Formulas::atom_at))]
+fn atom<'s>(alloc: Global, tokens: &[Token<'s>], at: usize) -> Result<(Tree<'s>, usize), Stop>
+    ensures { Reads plain_tree tokens.now result (atom_at (drop at (seen tokens.now))) }
+{
+    let (left, next) = term(alloc, tokens, at)?;
+    if let Ok(next) = sign(tokens, next, Mark::Equal) {
+        let (right, next) = term(alloc, tokens, next)?;
+        return Ok((Tree::Equal(left, right), next));
+    }
+    if let Ok(next) = sign(tokens, next, Mark::NotEqual) {
+        let (right, next) = term(alloc, tokens, next)?;
+        return Ok((Tree::Differ(left, right), next));
+    }
+    Ok((Tree::Bare(left), next))
+}
+
+/// An operand is wanted: opens a frame, or reads an atom.
+#[tactic(auto, unfolding(crate::specs::Formulas::begun))]
+fn begin<'s>(
+    alloc: Global,
+    tokens: &[Token<'s>],
+    frames: &mut Frames<'s>,
+    at: usize,
+) -> Result<Turn<'s>, Stop>
+    ensures { Turns tokens.now frames.new.items result (begun (stack frames.old.items) (drop at (seen tokens.now))) }
+{
+    match opening(tokens, at) {
+        Ok((frame, next)) => {
+            frames.push(frame)?;
+            Ok(Turn::Wants(next))
+        }
+        Err(Stop::NoTree) => {
+            let (tree, next) = atom(alloc, tokens, at)?;
+            Ok(Turn::Has(tree, next))
+        }
+        Err(Stop::OutOfMemory) => Err(Stop::OutOfMemory),
+    }
+}
+
+/// No operator follows an operand: it is the formula, or its bracket closes the innermost frame.
+fn shut_innermost<'s>(
+    alloc: Global,
+    tokens: &[Token<'s>],
+    frames: &mut Frames<'s>,
+    tree: Tree<'s>,
+    at: usize,
+) -> Result<Turn<'s>, Stop>
+    ensures { Turns tokens.now frames.new.items result (shut (stack frames.old.items, plain_tree tree.entry) (drop at (seen tokens.now))) }
+{
+    match frames.pop() {
+        None => Ok(Turn::Ends(tree, at)),
+        Some(frame) => {
+            let next = sign(tokens, at, frame.closing())?;
+            Ok(Turn::Has(frame.filled(alloc, tree)?, next))
+        }
+    }
+}
+
+/// An operand was read: it is the left operand of the operator that follows, or no operator follows.
+#[tactic(auto, unfolding(crate::specs::Formulas::gone_on))]
+fn go_on<'s>(
+    alloc: Global,
+    tokens: &[Token<'s>],
+    frames: &mut Frames<'s>,
+    tree: Tree<'s>,
+    at: usize,
+) -> Result<Turn<'s>, Stop>
+    ensures { Turns tokens.now frames.new.items result (gone_on (stack frames.old.items) (plain_tree tree.entry) (drop at (seen tokens.now))) }
+{
+    match next_operator(tokens, at) {
+        Some((operator, next)) => {
+            let left = close(alloc, frames, tree, operator.left_strength())?;
+            frames.push(Frame::Left(operator, left))?;
+            Ok(Turn::Wants(next))
+        }
+        None => {
+            let whole = close(alloc, frames, tree, WHOLE)?;
+            shut_innermost(alloc, tokens, frames, whole, at)
+        }
+    }
+}
+
 /// A formula.
-pub(crate) fn formula<'s>(alloc: Global, tokens: &[Token<'s>], at: usize) -> Result<(Tree<'s>, usize), Stop>
+#[tactic(auto, unfolding(crate::specs::Formulas::run_from))]
+pub(crate) fn formula<'s>(
+    alloc: Global,
+    tokens: &[Token<'s>],
+    at: usize,
+) -> Result<(Tree<'s>, usize), Stop>
     ensures { Reads plain_tree tokens.now result (formula_at (drop at (seen tokens.now))) }
 {
-    Err(Stop::OutOfMemory)
+    let mut frames = SmallVec::new(alloc);
+    let mut turn = Turn::Wants(at);
+    // A turn takes a token, but for the last, which finds that the formula ends.
+    let turns = tokens.len().saturating_sub(at) + 1;
+    for _ in 0..turns {
+        turn = match turn {
+            Turn::Wants(next) => begin(alloc, tokens, &mut frames, next)?,
+            Turn::Has(tree, next) => go_on(alloc, tokens, &mut frames, tree, next)?,
+            Turn::Ends(tree, next) => return Ok((tree, next)),
+        };
+    }
+    match turn {
+        Turn::Ends(tree, next) => Ok((tree, next)),
+        _ => Err(Stop::NoTree),
+    }
 }

@@ -1,11 +1,20 @@
 //! What is open while a formula is read.
-use crate::operators::Operator;
-use cc_defs::Tree;
+ghost use Rattle.std.specs.Prelude.{◌≡◌, IfOk};
+ghost use Rattle.cc_defs.specs.Trees.{plain_tree};
+ghost use Rattle.cc_syntax.specs.Formulas.{plain_frame, stack, filled, ends_before, closed, closing};
+ghost use Rattle.cc_syntax.specs.Turns.{Popped};
 
-/// A sign or a bracket that waits for its operand, or an operator with its left operand.
-#[derive(Drop)]
+use crate::operators::Operator;
+use cc_defs::{Mark, Tree};
+use smallvec::SmallVec;
+use std::alloc::{AllocError, Global};
+
+/// A sign or a bracket that waits for its operand, or an operator with its left operand. The default stands in the free
+/// places of a list.
+#[derive(Default, Drop)]
 pub(crate) enum Frame<'s> {
     /// `-`
+    #[default]
     Not,
     /// `(`
     Paren,
@@ -14,4 +23,69 @@ pub(crate) enum Frame<'s> {
     /// `[\/X |`
     Exists(&'s str),
     Left(Operator, Tree<'s>),
+}
+
+/// What is open, the innermost last. Few formulas are nested deeper than fits without an allocation.
+pub(crate) type Frames<'s> = SmallVec<Frame<'s>, 8>;
+
+impl<'s> Frame<'s> {
+    /// The frame with its operand.
+    pub(crate) fn filled(self, alloc: Global, tree: Tree<'s>) -> Result<Tree<'s>, AllocError>
+        ensures { IfOk result (λ whole. plain_tree whole ≡ filled (plain_frame self.entry) (plain_tree tree.entry)) }
+    {
+        match self {
+            Frame::Not => Ok(Tree::Not(Box::new(alloc, tree)?)),
+            Frame::Paren => Ok(Tree::Paren(Box::new(alloc, tree)?)),
+            Frame::ForAll(variable) => Ok(Tree::ForAll(variable, Box::new(alloc, tree)?)),
+            Frame::Exists(variable) => Ok(Tree::Exists(variable, Box::new(alloc, tree)?)),
+            Frame::Left(operator, left) => operator.joined(alloc, left, tree),
+        }
+    }
+
+    /// Whether its operand ends before an operator whose left operand has at most the strength.
+    fn ends_before(&self, bound: u8) -> bool
+        ensures { result ≡ ends_before bound (plain_frame self.now) }
+    {
+        match self {
+            Frame::Not => true,
+            Frame::Paren | Frame::ForAll(_) | Frame::Exists(_) => false,
+            Frame::Left(operator, _) => operator.strength() <= bound,
+        }
+    }
+
+    /// The bracket that closes it.
+    pub(crate) fn closing(&self) -> Mark
+        ensures { result ≡ closing (plain_frame self.now) }
+    {
+        match self {
+            Frame::Paren => Mark::RightParen,
+            _ => Mark::RightBracket,
+        }
+    }
+}
+
+/// Takes the innermost frame off where its operand ends before such an operator.
+fn pop_ending<'s>(frames: &mut Frames<'s>, bound: u8) -> Option<Frame<'s>>
+    ensures { Popped bound (stack frames.old.items) result (stack frames.new.items) }
+{
+    match frames.as_slice() {
+        [.., frame] if frame.ends_before(bound) => frames.pop(),
+        _ => None,
+    }
+}
+
+/// Takes off the frames whose operand ends before such an operator, and gives what they make of the operand.
+pub(crate) fn close<'s>(
+    alloc: Global,
+    frames: &mut Frames<'s>,
+    tree: Tree<'s>,
+    bound: u8,
+) -> Result<Tree<'s>, AllocError>
+    ensures { IfOk result (λ whole. closed bound (stack frames.old.items) (plain_tree tree.entry) ≡ (stack frames.new.items, plain_tree whole)) }
+{
+    let mut whole = tree;
+    while let Some(frame) = pop_ending(frames, bound) {
+        whole = frame.filled(alloc, whole)?;
+    }
+    Ok(whole)
 }

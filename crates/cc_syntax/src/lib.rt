@@ -12,5 +12,6 @@ mod statement;
 mod stop;
 mod terms;
 mod tokens;
+mod words;
 
 pub use statement::parse;

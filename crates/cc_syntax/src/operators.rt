@@ -1,6 +1,12 @@
 //! The operators of formulas, and a table of their strengths.
-ghost use Rattle.std.specs.Prelude.{◌≡◌};
-ghost use Rattle.cc_syntax.specs.Operators.{strength, left_strength};
+ghost use Rattle.std.specs.Prelude.{◌≡◌, drop, option_map, IfOk};
+ghost use Rattle.cc_defs.specs.Trees.{plain_tree};
+ghost use Rattle.cc_syntax.specs.Operators.{operator_at, strength, left_strength, joined};
+ghost use Rattle.cc_syntax.specs.Views.{seen};
+
+use crate::tokens::token_at;
+use cc_defs::{Mark, Token, TokenKind, Tree};
+use std::alloc::{AllocError, Global};
 
 /// An operator between two formulas. The strength of one that binds less is greater: `&` groups first, `<->` last.
 #[derive(Clone, Copy, Debug, PartialEq, Eq)]
@@ -38,5 +44,37 @@ impl Operator {
             Operator::Implies => 2,
             Operator::Same => 4,
         }
+    }
+
+    /// The formula that it makes of its operands.
+    pub(crate) fn joined<'s>(
+        self,
+        alloc: Global,
+        left: Tree<'s>,
+        right: Tree<'s>,
+    ) -> Result<Tree<'s>, AllocError>
+        ensures { IfOk result (λ whole. plain_tree whole ≡ joined self (plain_tree left.entry) (plain_tree right.entry)) }
+    {
+        let left = Box::new(alloc, left)?;
+        let right = Box::new(alloc, right)?;
+        Ok(match self {
+            Operator::Both => Tree::Both(left, right),
+            Operator::Either => Tree::Either(left, right),
+            Operator::Implies => Tree::Implies(left, right),
+            Operator::Same => Tree::Same(left, right),
+        })
+    }
+}
+
+/// The operator at the place, and the place behind it.
+pub(crate) fn next_operator(tokens: &[Token], at: usize) -> Option<(Operator, usize)>
+    ensures { option_map (λ read. (read.0, drop read.1 (seen tokens.now))) result ≡ operator_at (drop at (seen tokens.now)) }
+{
+    match token_at(tokens, at)?.kind {
+        TokenKind::Mark(Mark::And) => Some((Operator::Both, at + 1)),
+        TokenKind::Mark(Mark::Or) => Some((Operator::Either, at + 1)),
+        TokenKind::Mark(Mark::Arrow) => Some((Operator::Implies, at + 1)),
+        TokenKind::Mark(Mark::DoubleArrow) => Some((Operator::Same, at + 1)),
+        _ => None,
     }
 }

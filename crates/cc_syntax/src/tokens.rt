@@ -1,14 +1,15 @@
 //! Readers of single tokens. A reader is passed the tokens and the place where it begins, and answers the place behind
 //! what it read.
-ghost use Rattle.std.specs.Prelude.{◌≡◌, drop, ◌<◌};
-ghost use Rattle.cc_defs.specs.Grammar.{is_reserved, is_value_word, number_of};
-ghost use Rattle.cc_defs.specs.Tokens.{AreTokens};
+ghost use Rattle.std.specs.Prelude.{◌≡◌, ◌≤◌, IsTrue, drop, length};
+ghost use Rattle.cc_defs.specs.Grammar.{number_of};
+ghost use Rattle.cc_defs.specs.Tokens.{AreTokens, is_number, is_quoted};
 ghost use Rattle.cc_text.specs.Views.{token_views};
 ghost use Rattle.cc_syntax.specs.Marks.{same_mark};
-ghost use Rattle.cc_syntax.specs.Readers.{sign_at, word_at, name_at, numeral_at, label_at, quoted_at};
+ghost use Rattle.cc_syntax.specs.Readers.{sign_at, word_at, name_at, numeral_at, label_at, quoted_at, unquoted};
 ghost use Rattle.cc_syntax.specs.Views.{seen, Stands, Reads, Passes};
 
 use crate::stop::Stop;
+use crate::words::is_reserved_word;
 use cc_defs::{Mark, Token, TokenKind};
 
 fn is_mark(mark: Mark, other: Mark) -> bool
@@ -18,6 +19,7 @@ fn is_mark(mark: Mark, other: Mark) -> bool
 }
 
 /// The token at the place, if there is one.
+#[tactic(auto, using(crate::proofs::Places::token_seen, crate::proofs::Places::nothing_seen))]
 pub(crate) fn token_at<'s>(tokens: &[Token<'s>], at: usize) -> Option<Token<'s>>
     ensures { Stands tokens.now at result }
 {
@@ -54,13 +56,6 @@ pub(crate) fn word(tokens: &[Token], at: usize, text: &str) -> Result<usize, Sto
     }
 }
 
-/// Whether no declaration may use the word as a name.
-pub(crate) fn is_reserved_word(text: &str) -> bool
-    ensures { result ≡ is_reserved text.now }
-{
-    text == "caused"
-}
-
 /// A name.
 pub(crate) fn name<'s>(tokens: &[Token<'s>], at: usize) -> Result<(&'s str, usize), Stop>
     ensures { Reads (λ text. text.now) tokens.now result (name_at (drop at (seen tokens.now))) }
@@ -74,19 +69,52 @@ pub(crate) fn name<'s>(tokens: &[Token<'s>], at: usize) -> Result<(&'s str, usiz
     }
 }
 
+/// The number that a number's digits spell. With so few of them it is less than a billion.
+fn number(digits: &str) -> u32
+    requires digits { IsTrue (is_number digits.now) }
+    requires few { length digits.now ≤ 9 }
+    ensures { result ≡ number_of digits.now }
+{
+    match digits.parse::<u32>() {
+        Ok(number) => number,
+        Err(_) => unreachable!(),
+    }
+}
+
 /// A number.
 pub(crate) fn numeral(tokens: &[Token], at: usize) -> Result<(u32, usize), Stop>
     requires { AreTokens (token_views tokens.now) }
     ensures { Reads (λ n. n) tokens.now result (numeral_at (drop at (seen tokens.now))) }
 {
-    Err(Stop::OutOfMemory)
+    let Some(token) = token_at(tokens, at) else {
+        return Err(Stop::NoTree);
+    };
+    match token.kind {
+        TokenKind::Number => Ok((number(token.text), at + 1)),
+        _ => Err(Stop::NoTree),
+    }
 }
 
 /// A label: a name or a number.
 pub(crate) fn label<'s>(tokens: &[Token<'s>], at: usize) -> Result<(&'s str, usize), Stop>
     ensures { Reads (λ text. text.now) tokens.now result (label_at (drop at (seen tokens.now))) }
 {
-    Err(Stop::OutOfMemory)
+    let Some(token) = token_at(tokens, at) else {
+        return Err(Stop::NoTree);
+    };
+    match token.kind {
+        TokenKind::Word if !is_reserved_word(token.text) => Ok((token.text, at + 1)),
+        TokenKind::Number => Ok((token.text, at + 1)),
+        _ => Err(Stop::NoTree),
+    }
+}
+
+/// What stands between the quotes.
+fn between_quotes<'s>(text: &'s str) -> &'s str
+    requires { IsTrue (is_quoted text.now) }
+    ensures { result.now ≡ unquoted text.now }
+{
+    &text[1..text.len() - 1]
 }
 
 /// A name in quotes, without them.
@@ -94,5 +122,11 @@ pub(crate) fn quoted<'s>(tokens: &[Token<'s>], at: usize) -> Result<(&'s str, us
     requires { AreTokens (token_views tokens.now) }
     ensures { Reads (λ text. text.now) tokens.now result (quoted_at (drop at (seen tokens.now))) }
 {
-    Err(Stop::OutOfMemory)
+    let Some(token) = token_at(tokens, at) else {
+        return Err(Stop::NoTree);
+    };
+    match token.kind {
+        TokenKind::Quoted => Ok((between_quotes(token.text), at + 1)),
+        _ => Err(Stop::NoTree),
+    }
 }
