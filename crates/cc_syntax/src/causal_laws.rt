@@ -90,9 +90,9 @@ fn worded<'s>(alloc: Global, tokens: &[Token<'s>], at: usize) -> Result<(LawTree
     ensures { Reads plain_law tokens.now result (worded_at (drop at (seen tokens.now))) }
 {
     if let Ok(next) = word(tokens, at, "caused") {
-        let (read, next) = caused(alloc, tokens, next)?;
+        let (parts, next) = caused(alloc, tokens, next)?;
         return Ok((
-            LawTree::Caused(read.formula, read.condition, read.before),
+            LawTree::Caused(parts.formula, parts.condition, parts.before),
             next,
         ));
     }
@@ -105,13 +105,13 @@ fn worded<'s>(alloc: Global, tokens: &[Token<'s>], at: usize) -> Result<(LawTree
         return Ok((LawTree::Always(formula), next));
     }
     if let Ok(next) = word(tokens, at, "nonexecutable") {
-        let (read, next) = effect(alloc, tokens, next)?;
-        return Ok((LawTree::Nonexecutable(read.formula, read.condition), next));
+        let (parts, next) = effect(alloc, tokens, next)?;
+        return Ok((LawTree::Nonexecutable(parts.formula, parts.condition), next));
     }
     if let Ok(next) = word(tokens, at, "default") {
-        let (read, next) = caused(alloc, tokens, next)?;
+        let (parts, next) = caused(alloc, tokens, next)?;
         return Ok((
-            LawTree::Default(read.formula, read.condition, read.before),
+            LawTree::Default(parts.formula, parts.condition, parts.before),
             next,
         ));
     }
@@ -131,14 +131,14 @@ fn acting<'s>(alloc: Global, tokens: &[Token<'s>], at: usize) -> Result<(LawTree
 {
     let (action, next) = formula(alloc, tokens, at)?;
     if let Ok(next) = word(tokens, next, "causes") {
-        let (read, next) = effect(alloc, tokens, next)?;
-        return Ok((LawTree::Causes(action, read.formula, read.condition), next));
+        let (parts, next) = effect(alloc, tokens, next)?;
+        return Ok((LawTree::Causes(action, parts.formula, parts.condition), next));
     }
     let next = word(tokens, next, "may")?;
     let next = word(tokens, next, "cause")?;
-    let (read, next) = effect(alloc, tokens, next)?;
+    let (parts, next) = effect(alloc, tokens, next)?;
     Ok((
-        LawTree::MayCause(action, read.formula, read.condition),
+        LawTree::MayCause(action, parts.formula, parts.condition),
         next,
     ))
 }
