@@ -1,11 +1,11 @@
 -- Lists of items with a mark between them: the steps of a loop that reads them.
-use Rattle.std.proofs.Common.{◌≡◌, ℕ, zero, suc, ◌-◌, ◌<◌, List, [], ◌∷◌, ◌++◌, drop, map, Option, Some, None, Err, refl, ap, ◌∙◌, arith}
+use Rattle.std.proofs.Common.{◌≡◌, ℕ, zero, suc, ◌-◌, ◌<◌, List, [], ◌∷◌, ◌++◌, drop, map, Some, None, Err, refl, ap, ◌∙◌, arith}
 use Rattle.std.proofs.lemmas.List.{map-append}
 use Rattle.cc_defs.specs.declared.token.Mark.{Mark}
 use Rattle.cc_defs.specs.declared.token.Token.{Token}
 use Rattle.cc_defs.specs.Grammar.{Terminal}
 use Rattle.cc_syntax.specs.declared.stop.Stop.{Stop}
-use Rattle.cc_syntax.specs.Readers.{Reader, given, sign_at, listed_from, listed_at}
+use Rattle.cc_syntax.specs.Readers.{Reader, sign_at, listed_from, listed_at}
 use Rattle.cc_syntax.specs.Views.{seen, Passes}
 use Rattle.cc_syntax.proofs.Stops.{not-passed}
 

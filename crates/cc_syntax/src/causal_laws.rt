@@ -132,7 +132,10 @@ fn acting<'s>(alloc: Global, tokens: &[Token<'s>], at: usize) -> Result<(LawTree
     let (action, next) = formula(alloc, tokens, at)?;
     if let Ok(next) = word(tokens, next, "causes") {
         let (parts, next) = effect(alloc, tokens, next)?;
-        return Ok((LawTree::Causes(action, parts.formula, parts.condition), next));
+        return Ok((
+            LawTree::Causes(action, parts.formula, parts.condition),
+            next,
+        ));
     }
     let next = word(tokens, next, "may")?;
     let next = word(tokens, next, "cause")?;
