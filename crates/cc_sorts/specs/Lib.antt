@@ -1,3 +1,4 @@
+pub mod Declaring
 pub mod Dictionaries
 pub mod Numbers
 pub mod SortViews

@@ -1,25 +1,25 @@
 -- What a table holds, and that it is the table of a list of declarations.
-use Rattle.std.specs.Prelude.{◌≡◌, ℕ, ◌<◌, List, [], ◌∷◌, ◌++◌, length, map, codes, Option, Some, None}
+use Rattle.std.specs.Prelude.{◌≡◌, ℕ, ◌+◌, ◌<◌, List, [], ◌∷◌, ◌++◌, length, map, codes, Option, Some, None}
 use Rattle.std.specs.List.{AllByRecursion}
+use Rattle.cc_defs.specs.declared.refusal.Fault.{Fault}
+use Rattle.cc_defs.specs.declared.refusal.Fault.TheVariants as faults
 use Rattle.cc_defs.specs.declared.signature.Symbol.{Symbol}
-use Rattle.cc_defs.specs.Declarations.{Declaration, Declared, Named, boolean, sort_names, pairs, objects, variables, constants, symbols, members, number_in}
+use Rattle.cc_defs.specs.DeclarationFaults.{declaration_refusal, signature_refusal}
+use Rattle.cc_defs.specs.Declarations.{Declaration, Declared, Named, boolean, sort_names, pairs, objects, variables, constants, symbols, members, number_in, declarations_of, ground_fluents, ground_actions}
+use Rattle.cc_defs.specs.Signatures.{Signature}
+use Rattle.cc_defs.specs.Trees.{PlainStatement}
+use Rattle.cc_sorts.specs.declared.table.Placed.{Placed}
 use Rattle.cc_sorts.specs.SortViews.{SortsView, first_sorts}
 
 -- the name of an object or a variable, and the number of its sort
 abbrev pub Numbered : Type 0
 Numbered = List ℕ × ℕ
 
--- a symbol, and the place of its declaration
-pub record PlacedSymbol : Type 0 where
-  pub symbol : Symbol
-  pub file : ℕ
-  pub line : ℕ
-
 pub record TableView : Type 0 where
   pub sorts : SortsView
   pub objects : List Numbered
   pub variables : List Numbered
-  pub symbols : List PlacedSymbol
+  pub symbols : List Placed
 
 abbrev pub first_table : TableView
 first_table = record {
@@ -32,10 +32,10 @@ first_table = record {
 abbrev pub numbered : List Declaration → List Named → List Numbered
 numbered declarations named = map (λ entry. (entry.0, number_in (sort_names declarations) entry.1)) named
 
-abbrev pub place_symbol : Symbol → Declared → PlacedSymbol
+abbrev pub place_symbol : Symbol → Declared → Placed
 place_symbol symbol constant = record { symbol = symbol; file = constant.file; line = constant.line }
 
-abbrev pub placed_from : List Symbol → List Declared → List PlacedSymbol
+abbrev pub placed_from : List Symbol → List Declared → List Placed
 placed_from [] constants = []
 placed_from symbols [] = []
 placed_from (symbol ∷ symbols) (constant ∷ constants) = place_symbol symbol constant ∷ placed_from symbols constants
@@ -48,3 +48,37 @@ pub record IsTable (table : TableView) (declarations : List Declaration) : Type 
   pub objects_are : table.objects ≡ numbered declarations (objects declarations)
   pub variables_are : table.variables ≡ numbered declarations (variables declarations)
   pub symbols_are : table.symbols ≡ placed_from (symbols declarations) (constants declarations)
+
+abbrev pub symbol_names : TableView → List (List ℕ)
+symbol_names table = map (λ placed. placed.symbol.name) table.symbols
+
+-- the numbers of a table with the names of the statement fit
+abbrev pub IsSmall : TableView → PlainStatement → Type 0
+IsSmall table statement =
+    let new = length (declarations_of 0 statement)
+    in (length table.sorts.names + new < 4000000000) × (length table.variables + new < 4000000000) × (length table.symbols + new < 4000000000)
+
+-- the statement has no fault, and the table is that of all declarations with its own
+abbrev pub Declares : ℕ → List Declaration → PlainStatement → TableView → Type 0
+Declares file left statement new =
+    (declaration_refusal file left statement ≡ None) × IsTable new (left ++ declarations_of file statement)
+
+-- a front of the statement's declarations is there
+abbrev pub HasFront : ℕ → List Declaration → PlainStatement → TableView → Type 0
+HasFront file left statement new =
+    (front : List Declaration) × (rest : List Declaration) × (declarations_of file statement ≡ front ++ rest) × IsTable new (left ++ front)
+
+-- the statement is refused so, and nothing was changed; or memory was wanting
+abbrev pub HasRefused : ℕ → List Declaration → PlainStatement → TableView → TableView → Fault → Type 0
+HasRefused file left statement old new faults.OutOfMemory = HasFront file left statement new
+HasRefused file left statement old new (faults.Refused refusal) = (declaration_refusal file left statement ≡ Some refusal) × (new ≡ old)
+
+-- the signature of these declarations, which are not refused
+abbrev pub IsSignatureOf : List Declaration → Signature → Type 0
+IsSignatureOf declarations signature =
+    (signature_refusal declarations ≡ None)
+    × (signature ≡ record { fluents = ground_fluents declarations; actions = ground_actions declarations })
+
+abbrev pub IsRefusedSignature : List Declaration → Fault → Type 0
+IsRefusedSignature declarations faults.OutOfMemory = Unit {0}
+IsRefusedSignature declarations (faults.Refused refusal) = signature_refusal declarations ≡ Some refusal

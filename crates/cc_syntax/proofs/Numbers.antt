@@ -1,11 +1,10 @@
 -- What the digits of a number spell.
-use Rattle.std.proofs.Common.{◌≡◌, ℕ, ◌+◌, ◌-◌, ◌*◌, ◌^◌, ◌<◌, ◌≤◌, Bool, true, false, IsTrue, List, [], ◌∷◌, length, fold, Result, Ok, Err, refl, arith, rules}
-use Rattle.std.proofs.lemmas.Str.Parse.{IsDigitsTest, FoldsDigits, IsNumeralModel, numerals_by_fold, parse_gives, digits_value_short}
+use Rattle.std.proofs.Common.{◌≡◌, ℕ, ◌+◌, ◌-◌, ◌*◌, ◌<◌, ◌≤◌, true, IsTrue, List, [], ◌∷◌, length, fold, Result, Ok, arith, rules}
+use Rattle.std.proofs.lemmas.Str.Parse.{IsNumeralModel, numerals_by_fold, parse_gives, digits_value_short}
 use Rattle.std.specs.List.{list_all}
 use Rattle.std.specs.Str.Parse.{ParsesUnsigned}
 use Rattle.cc_defs.specs.Grammar.{number_of}
 use Rattle.cc_defs.specs.Tokens.{is_digit, is_number}
-use Rattle.cc_text.proofs.Gaps.{both}
 
 abbrev AreDigits : List ℕ → Type 0
 AreDigits digits = list_all is_digit digits ≡ true

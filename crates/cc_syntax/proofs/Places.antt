@@ -1,9 +1,6 @@
 -- The token at a place, and what is known of it where the tokens are those of a text.
-use Rattle.std.proofs.Common.{◌≡◌, ℕ, zero, suc, ◌+◌, ◌-◌, ◌<◌, ◌≤◌, ◌≢◌, Bool, true, false, cond, IsTrue, List, [], ◌∷◌, ◌++◌, length, get_or, drop, take, Option, Some, None, refl, ap, sym, ◌∙◌, subst, arith, add-one, zero-add}
-use Rattle.std.proofs.lemmas.List.{drop_all}
-use Rattle.std.specs.List.{list_all}
+use Rattle.std.proofs.Common.{◌≡◌, ℕ, zero, suc, ◌+◌, ◌<◌, ◌≤◌, Bool, true, false, cond, IsTrue, List, [], ◌∷◌, length, get_or, drop, Option, Some, None, refl, subst, arith, add-one}
 use Rattle.std.specs.Option.{option_map}
-use Rattle.cc_defs.specs.declared.refusal.LimitAt.{LimitAt}
 use Rattle.cc_defs.specs.declared.refusal.LimitAt.TheVariants as limits
 use Rattle.cc_defs.specs.declared.token.Mark.{Mark}
 use Rattle.cc_defs.specs.declared.token.Token.{Token}
@@ -11,7 +8,7 @@ use Rattle.cc_defs.specs.declared.token.TokenKind.{TokenKind}
 use Rattle.cc_defs.specs.declared.token.TokenKind.TheVariants as kinds
 use Rattle.cc_defs.specs.Grammar.{Terminal, Number, Quoted, terminal, terminals}
 use Rattle.cc_defs.specs.Tokens.{TokenView, AreTokens, IsShort, kind_of, is_word, is_number, is_quoted, mark_of}
-use Rattle.cc_text.specs.Views.{token_view, token_views}
+use Rattle.cc_text.specs.Views.{token_view}
 use Rattle.cc_syntax.specs.Views.{seen}
 
 seen_behind : (tokens : List Token) (at : ℕ) (other : Token) → at < length tokens

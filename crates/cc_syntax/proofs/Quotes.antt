@@ -1,5 +1,5 @@
 -- A quoted name may be cut behind its first quote and before its last.
-use Rattle.std.proofs.Common.{◌≡◌, ℕ, ◌+◌, ◌-◌, ◌<◌, ◌≤◌, Bool, true, IsTrue, eqb, List, [], ◌∷◌, ◌++◌, length, get_or, ap, ◌∙◌, length-append, arith}
+use Rattle.std.proofs.Common.{◌≡◌, ℕ, ◌+◌, ◌-◌, ◌≤◌, IsTrue, eqb, List, [], ◌∷◌, length, get_or, ap, ◌∙◌, length-append, arith}
 use Rattle.std.proofs.Math.Seq.{get_or-append_seam}
 use Rattle.cc_defs.specs.Tokens.{is_quoted, ends_quoted}
 use Rattle.cc_text.proofs.Gaps.{both}

@@ -1,12 +1,11 @@
 -- What is open: a list of frames whose innermost is its last.
-use Rattle.std.proofs.Common.{◌≡◌, ℕ, suc, ◌+◌, ◌-◌, ◌<◌, ◌≤◌, Bool, true, false, not, IsTrue, IsSome, List, [], ◌∷◌, ◌++◌, length, get_or, map, reverse, Option, Some, None, refl, ap, sym, subst, ◌∙◌, length-append, arith}
+use Rattle.std.proofs.Common.{◌≡◌, ℕ, ◌-◌, true, IsSome, List, [], ◌∷◌, ◌++◌, length, get_or, map, reverse, Option, Some, None, ap, subst, ◌∙◌, length-append, arith}
 use Rattle.std.proofs.Math.Seq.{get_or-append_seam}
-use Rattle.std.proofs.lemmas.List.{map-append, reverse-append, length-map, length-reverse}
+use Rattle.std.proofs.lemmas.List.{map-append, reverse-append}
 use Rattle.std.specs.Option.{option_to_list}
-use Rattle.cc_defs.specs.Trees.{PlainTree}
 use Rattle.cc_syntax.specs.declared.frames.Frame.{Frame}
-use Rattle.cc_syntax.specs.Formulas.{PlainFrame, plain_frame, stack, ends_before, closed, filled}
-use Rattle.cc_syntax.specs.Turns.{Popped, goes_on}
+use Rattle.cc_syntax.specs.Formulas.{plain_frame, stack, ends_before}
+use Rattle.cc_syntax.specs.Turns.{Popped}
 
 stack-pushed : (frames pushed : List Frame) (frame : Frame) → pushed ≡ frames ++ frame ∷ [] → stack pushed ≡ plain_frame frame ∷ stack frames
 stack-pushed frames pushed frame e =

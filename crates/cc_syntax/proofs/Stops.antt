@@ -1,5 +1,5 @@
 -- What a reader answers where one that it calls stops.
-use Rattle.std.proofs.Common.{◌≡◌, ℕ, List, Option, Some, None, Result, Ok, Err}
+use Rattle.std.proofs.Common.{◌≡◌, ℕ, List, Option, None, Result, Ok, Err}
 use Rattle.std.specs.Result.{IsErrAnd}
 use Rattle.cc_defs.specs.declared.token.Token.{Token}
 use Rattle.cc_defs.specs.Grammar.{Terminal}

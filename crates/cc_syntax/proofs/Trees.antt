@@ -1,8 +1,8 @@
 -- The plain form of a term that is made of a name and its arguments.
-use Rattle.std.proofs.Common.{◌≡◌, ℕ, List, [], ◌∷◌, ◌++◌, map, rules, refl, ap, sym, ◌∙◌}
+use Rattle.std.proofs.Common.{◌≡◌, List, [], ◌∷◌, ◌++◌, map, rules, refl, ap, sym, ◌∙◌}
 use Rattle.std.proofs.lemmas.List.{map-append}
 use Rattle.cc_defs.specs.declared.tree.TermTree.{TermTree, TermTree-F, roll-TermTree, rolls-TermTree', Row_of-TermTree, end_of-TermTree, more_of-TermTree, items-the_row-TermTree, items_hidden-the_row-TermTree-0}
-use Rattle.cc_defs.specs.Trees.{PlainTerm, PlainTerms, Applied, NoTerms, MoreTerms, plain_term, plain_row}
+use Rattle.cc_defs.specs.Trees.{PlainTerm, Applied, MoreTerms, plain_term, plain_row}
 use Rattle.cc_syntax.specs.Terms.{terms_of}
 
 row_terms : (n : _) (row : Row_of-TermTree n) → plain_row row ≡ terms_of (map plain_term (items-the_row-TermTree n row))

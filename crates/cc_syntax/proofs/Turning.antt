@@ -1,12 +1,12 @@
 -- A turn of the reader of formulas is a step of what defines it.
-use Rattle.std.proofs.Common.{◌≡◌, ◌≢◌, ℕ, zero, suc, ◌-◌, ◌<◌, List, [], drop, Option, Some, None, refl, ap, sym, subst, ◌∙◌, arith}
+use Rattle.std.proofs.Common.{◌≡◌, ◌≢◌, ℕ, suc, ◌-◌, ◌<◌, List, drop, Some, None, refl, subst, arith}
 use Rattle.cc_defs.specs.declared.token.Token.{Token}
 use Rattle.cc_defs.specs.declared.tree.Tree.{Tree}
 use Rattle.cc_defs.specs.Trees.{PlainTree, plain_tree}
 use Rattle.cc_defs.specs.Grammar.{Terminal}
 use Rattle.cc_syntax.specs.declared.formulas.Turn.{Turn}
 use Rattle.cc_syntax.specs.declared.formulas.Turn.TheVariants as turns
-use Rattle.cc_syntax.specs.Formulas.{PlainFrame, PlainTurn, Wants, Has, Ends, Held, begun, gone_on, run_from}
+use Rattle.cc_syntax.specs.Formulas.{PlainFrame, Wants, Has, Held, begun, gone_on, run_from}
 use Rattle.cc_syntax.specs.Turns.{plain_turn}
 use Rattle.cc_syntax.specs.Views.{seen}
 

@@ -182,7 +182,11 @@ fn refusal(number: u8, file: u32, limit: Option<LimitAt>, tokens: &[Token]) -> F
 /// the statement's first line and in this order, what has too many tokens (14, with the limit declaration tokens or
 /// statement tokens), what has a sign that the language does not have yet (13), and what no tree spells (3). `file` is the
 /// number of the file in refusals.
-pub fn parse<'s>(alloc: Global, file: u32, tokens: &[Token<'s>]) -> Result<Statement<'s>, Fault>
+pub fn parse<'s>(
+    alloc: Global,
+    file: u32,
+    tokens: &[Token<'s>],
+) -> Result<Statement<'s>, Fault>
     requires some { 0 < length tokens.now }
     requires are { AreTokens (token_views tokens.now) }
     ensures parsed { IfOk result (λ tree. IsParsed (token_views tokens.now) (plain_statement tree)) }
