@@ -1,13 +1,13 @@
 -- Lists of items with a mark between them: the steps of a loop that reads them.
-use Rattle.std.proofs.Common.{◌≡◌, ℕ, zero, suc, ◌-◌, ◌<◌, List, [], ◌∷◌, ◌++◌, drop, map, Option, Some, None, Err, refl, ap, ◌∙◌, arith}
+use Rattle.std.proofs.Common.{◌≡◌, ℕ, zero, suc, ◌-◌, ◌<◌, List, [], ◌∷◌, ◌++◌, drop, map, Some, None, Err, refl, ap, ◌∙◌, arith}
 use Rattle.std.proofs.lemmas.List.{map-append}
 use Rattle.cc_defs.specs.declared.token.Mark.{Mark}
 use Rattle.cc_defs.specs.declared.token.Token.{Token}
 use Rattle.cc_defs.specs.Grammar.{Terminal}
 use Rattle.cc_syntax.specs.declared.stop.Stop.{Stop}
-use Rattle.cc_syntax.specs.declared.stop.Stop.TheVariants as stops
-use Rattle.cc_syntax.specs.Readers.{Reader, given, sign_at, listed_from, listed_at}
+use Rattle.cc_syntax.specs.Readers.{Reader, sign_at, listed_from, listed_at}
 use Rattle.cc_syntax.specs.Views.{seen, Passes}
+use Rattle.cc_syntax.proofs.Stops.{not-passed}
 
 -- the list behind the place is what was found, and what is left to read of it: so many items at most
 pub record IsListedFrom {T X : Type 0} (view : T → X) (item : Reader X) (mark : Mark) (tokens : List Token) (at left : ℕ) (items : List T) (next : ℕ) : Type 0 where
@@ -39,10 +39,6 @@ unfolding listed_from
 listed-more item mark zero found tokens rest behind x h e f = absurd (omega (arith, h))
 listed-more item mark (suc n) found tokens rest behind x h e f = rw (e, f) (ap (λ m. listed_from item mark m (found ++ x ∷ []) behind) (omega arith))
 
-passes-none : (tokens : List Token) (stop : Stop) (found : Option (List Terminal)) → Passes tokens (Err stop) found → found ≡ None
-passes-none tokens stops.NoTree found e = e
-passes-none tokens stops.OutOfMemory found e = absurd e
-
 module _ {T X : Type 0} {view : T → X} {item : Reader X} {mark : Mark} {tokens : List Token} {at left next : ℕ} {items pushed : List T} {x : T} where
   -- an item without the mark behind it ends the list
   pub listed-ended : (after : ℕ) (stop : Stop) →
@@ -52,7 +48,7 @@ module _ {T X : Type 0} {view : T → X} {item : Reader X} {mark : Mark} {tokens
       listed_at item mark (drop at (seen tokens)) ≡ Some (map view pushed, drop after (seen tokens))
   listed-ended after stop so_far more is_pushed is_item no_mark =
       so_far.whole
-      ∙ listed-last item mark left (map view items) (drop next (seen tokens)) (drop after (seen tokens)) (view x) more is_item (passes-none tokens stop _ no_mark)
+      ∙ listed-last item mark left (map view items) (drop next (seen tokens)) (drop after (seen tokens)) (view x) more is_item (not-passed tokens stop _ no_mark)
       ∙ rw (is_pushed, map-append)
 
   -- an item with the mark behind it goes on with the list
@@ -63,7 +59,7 @@ module _ {T X : Type 0} {view : T → X} {item : Reader X} {mark : Mark} {tokens
       IsListedFrom view item mark tokens at fewer pushed behind
   listed-continued after behind so_far more is_fewer is_pushed is_item is_mark = record {
     whole =
-      so_far.whole
-      ∙ listed-more item mark left (map view items) (drop next (seen tokens)) (drop after (seen tokens)) (drop behind (seen tokens)) (view x) more is_item is_mark
-      ∙ rw (is_pushed, map-append, is_fewer)
+        so_far.whole
+        ∙ listed-more item mark left (map view items) (drop next (seen tokens)) (drop after (seen tokens)) (drop behind (seen tokens)) (view x) more is_item is_mark
+        ∙ rw (is_pushed, map-append, is_fewer);
   }

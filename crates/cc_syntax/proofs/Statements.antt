@@ -1,5 +1,5 @@
 -- What the reader of statements finds is the tree of a statement, and where it finds nothing there is none.
-use Rattle.std.proofs.Common.{◌≡◌, ℕ, ◌<◌, ◌≤◌, List, [], ◌∷◌, length, slice_index_or, Option, Some, None, Result, Ok, Err, IfOk, Bool, true, false, IsFalse, refl, ap, subst, sym, ◌∙◌, inr, arith}
+use Rattle.std.proofs.Common.{◌≡◌, ℕ, ◌<◌, ◌≤◌, List, [], ◌∷◌, length, slice_index_or, Option, Some, None, Result, Err, IfOk, Bool, true, false, IsFalse, refl, ap, subst, sym, ◌∙◌, inr, arith}
 use Rattle.std.specs.Bool.{then_some}
 use Rattle.std.specs.Option.{ok_or}
 use Rattle.std.proofs.lemmas.Bool.{le-ltb}
@@ -10,7 +10,7 @@ use Rattle.cc_defs.specs.declared.refusal.LimitAt.{LimitAt}
 use Rattle.cc_defs.specs.declared.token.Mark.TheVariants as marks
 use Rattle.cc_defs.specs.declared.token.Token.{Token}
 use Rattle.cc_defs.specs.declared.tree.Part.{Part}
-use Rattle.cc_defs.specs.Grammar.{Terminal, terminal, terminals}
+use Rattle.cc_defs.specs.Grammar.{Terminal, terminals}
 use Rattle.cc_defs.specs.Limits.{limit_number}
 use Rattle.cc_defs.specs.Statements.{token_limit, is_too_long, has_not_yet, refusal_at, NoTree, IsParsed}
 use Rattle.cc_defs.specs.Tokens.{TokenView, AreTokens, first_line}
@@ -20,7 +20,7 @@ use Rattle.cc_syntax.specs.declared.stop.Stop.TheVariants as stops
 use Rattle.cc_syntax.specs.Parsing.{part_at, nothing_left, statement_at, HasRefused}
 use Rattle.cc_syntax.specs.Readers.{given, sign_at}
 use Rattle.cc_syntax.specs.Views.{seen}
-use Rattle.cc_text.specs.Views.{token_view, token_views}
+use Rattle.cc_text.specs.Views.{token_views}
 use Rattle.cc_syntax.proofs.Parsing.{statement-takes, statement-again}
 
 pub nothing_spells : (tokens : List TokenView) → statement_at (terminals tokens) ≡ None → NoTree tokens
@@ -61,7 +61,7 @@ pub is_parsed : (tokens : List Token) (part : Part) (other : Token) → 0 < leng
 is_parsed tokens part other some are short known found = record {
   short = short;
   known = known;
-  spelled = record { whole = statement-takes (token_views tokens) are (plain_part part) found; line = sym (line_of tokens other some) }
+  spelled = record { whole = statement-takes (token_views tokens) are (plain_part part) found; line = sym (line_of tokens other some) };
 }
 
 pub is_refused : (tokens : List Token) (file : ℕ) (fault : Fault) → IsFalse (is_too_long (seen tokens)) → IsFalse (has_not_yet (seen tokens)) →

@@ -31,7 +31,12 @@ struct CausedParts<'s> {
 }
 
 /// A formula behind the word, if the word is there.
-fn optional<'s>(alloc: Global, tokens: &[Token<'s>], at: usize, text: &str) -> Result<(Option<Tree<'s>>, usize), Stop>
+fn optional<'s>(
+    alloc: Global,
+    tokens: &[Token<'s>],
+    at: usize,
+    text: &str,
+) -> Result<(Option<Tree<'s>>, usize), Stop>
     ensures { Reads (λ read. option_map plain_tree read) tokens.now result (optional_at formula_at text.now (drop at (seen tokens.now))) }
 {
     let Ok(next) = word(tokens, at, text) else {
@@ -43,11 +48,13 @@ fn optional<'s>(alloc: Global, tokens: &[Token<'s>], at: usize, text: &str) -> R
 
 /// `F if G`, for any law that has it behind its word.
 #[tactic(auto, unfolding(crate::specs::Laws::effect_at))]
-fn effect<'s>(alloc: Global, tokens: &[Token<'s>], at: usize) -> Result<(EffectParts<'s>, usize), Stop>
-    ensures {
-        (make : PlainTree → Option PlainTree → PlainLaw) →
-        Reads (λ read. make (plain_tree read.formula) (option_map plain_tree read.condition)) tokens.now result (effect_at make (drop at (seen tokens.now)))
-    }
+fn effect<'s>(
+    alloc: Global,
+    tokens: &[Token<'s>],
+    at: usize,
+) -> Result<(EffectParts<'s>, usize), Stop>
+    ensures { (make : PlainTree → Option PlainTree → PlainLaw) →
+        Reads (λ read. make (plain_tree read.formula) (option_map plain_tree read.condition)) tokens.now result (effect_at make (drop at (seen tokens.now))) }
 {
     let (formula, next) = formula(alloc, tokens, at)?;
     let (condition, next) = optional(alloc, tokens, next, "if")?;
@@ -56,11 +63,13 @@ fn effect<'s>(alloc: Global, tokens: &[Token<'s>], at: usize) -> Result<(EffectP
 
 /// `F if G after H`, for any law that has it behind its word.
 #[tactic(auto, unfolding(crate::specs::Laws::caused_at))]
-fn caused<'s>(alloc: Global, tokens: &[Token<'s>], at: usize) -> Result<(CausedParts<'s>, usize), Stop>
-    ensures {
-        (make : PlainTree → Option PlainTree → Option PlainTree → PlainLaw) →
-        Reads (λ read. make (plain_tree read.formula) (option_map plain_tree read.condition) (option_map plain_tree read.before)) tokens.now result (caused_at make (drop at (seen tokens.now)))
-    }
+fn caused<'s>(
+    alloc: Global,
+    tokens: &[Token<'s>],
+    at: usize,
+) -> Result<(CausedParts<'s>, usize), Stop>
+    ensures { (make : PlainTree → Option PlainTree → Option PlainTree → PlainLaw) →
+        Reads (λ read. make (plain_tree read.formula) (option_map plain_tree read.condition) (option_map plain_tree read.before)) tokens.now result (caused_at make (drop at (seen tokens.now))) }
 {
     let (formula, next) = formula(alloc, tokens, at)?;
     let (condition, next) = optional(alloc, tokens, next, "if")?;
@@ -81,8 +90,11 @@ fn worded<'s>(alloc: Global, tokens: &[Token<'s>], at: usize) -> Result<(LawTree
     ensures { Reads plain_law tokens.now result (worded_at (drop at (seen tokens.now))) }
 {
     if let Ok(next) = word(tokens, at, "caused") {
-        let (read, next) = caused(alloc, tokens, next)?;
-        return Ok((LawTree::Caused(read.formula, read.condition, read.before), next));
+        let (parts, next) = caused(alloc, tokens, next)?;
+        return Ok((
+            LawTree::Caused(parts.formula, parts.condition, parts.before),
+            next,
+        ));
     }
     if let Ok(next) = word(tokens, at, "constraint") {
         let (formula, next) = formula(alloc, tokens, next)?;
@@ -93,12 +105,15 @@ fn worded<'s>(alloc: Global, tokens: &[Token<'s>], at: usize) -> Result<(LawTree
         return Ok((LawTree::Always(formula), next));
     }
     if let Ok(next) = word(tokens, at, "nonexecutable") {
-        let (read, next) = effect(alloc, tokens, next)?;
-        return Ok((LawTree::Nonexecutable(read.formula, read.condition), next));
+        let (parts, next) = effect(alloc, tokens, next)?;
+        return Ok((LawTree::Nonexecutable(parts.formula, parts.condition), next));
     }
     if let Ok(next) = word(tokens, at, "default") {
-        let (read, next) = caused(alloc, tokens, next)?;
-        return Ok((LawTree::Default(read.formula, read.condition, read.before), next));
+        let (parts, next) = caused(alloc, tokens, next)?;
+        return Ok((
+            LawTree::Default(parts.formula, parts.condition, parts.before),
+            next,
+        ));
     }
     if let Ok(next) = word(tokens, at, "exogenous") {
         let (constant, next) = term(alloc, tokens, next)?;
@@ -116,13 +131,19 @@ fn acting<'s>(alloc: Global, tokens: &[Token<'s>], at: usize) -> Result<(LawTree
 {
     let (action, next) = formula(alloc, tokens, at)?;
     if let Ok(next) = word(tokens, next, "causes") {
-        let (read, next) = effect(alloc, tokens, next)?;
-        return Ok((LawTree::Causes(action, read.formula, read.condition), next));
+        let (parts, next) = effect(alloc, tokens, next)?;
+        return Ok((
+            LawTree::Causes(action, parts.formula, parts.condition),
+            next,
+        ));
     }
     let next = word(tokens, next, "may")?;
     let next = word(tokens, next, "cause")?;
-    let (read, next) = effect(alloc, tokens, next)?;
-    Ok((LawTree::MayCause(action, read.formula, read.condition), next))
+    let (parts, next) = effect(alloc, tokens, next)?;
+    Ok((
+        LawTree::MayCause(action, parts.formula, parts.condition),
+        next,
+    ))
 }
 
 /// Whether a formula may begin here: no law's own word is a name.
@@ -151,7 +172,11 @@ fn law<'s>(alloc: Global, tokens: &[Token<'s>], at: usize) -> Result<(LawTree<'s
 
 /// A law with its test.
 #[tactic(auto, unfolding(crate::specs::Laws::tested_law_at))]
-pub(crate) fn tested_law<'s>(alloc: Global, tokens: &[Token<'s>], at: usize) -> Result<(Part<'s>, usize), Stop>
+pub(crate) fn tested_law<'s>(
+    alloc: Global,
+    tokens: &[Token<'s>],
+    at: usize,
+) -> Result<(Part<'s>, usize), Stop>
     ensures { Reads plain_part tokens.now result (tested_law_at (drop at (seen tokens.now))) }
 {
     if let Ok(next) = word(tokens, at, "noconcurrency") {

@@ -14,7 +14,12 @@ use std::alloc::Global;
 
 /// Names with the mark between them.
 #[tactic(auto, using(crate::proofs::Lists::listed_steps))]
-pub(crate) fn names<'s>(alloc: Global, tokens: &[Token<'s>], at: usize, mark: Mark) -> Result<(Vec<&'s str>, usize), Stop>
+pub(crate) fn names<'s>(
+    alloc: Global,
+    tokens: &[Token<'s>],
+    at: usize,
+    mark: Mark,
+) -> Result<(Vec<&'s str>, usize), Stop>
     ensures { Reads (λ names. map (λ text. text.now) names.items) tokens.now result (listed_at name_at mark (drop at (seen tokens.now))) }
 {
     let mut names = Vec::new(alloc);
@@ -32,7 +37,11 @@ pub(crate) fn names<'s>(alloc: Global, tokens: &[Token<'s>], at: usize, mark: Ma
 
 /// Sorts beside each other, or each above the next.
 #[tactic(auto, unfolding(crate::specs::Declarations::sort_item_at))]
-pub(crate) fn sort_item<'s>(alloc: Global, tokens: &[Token<'s>], at: usize) -> Result<(SortItem<'s>, usize), Stop>
+pub(crate) fn sort_item<'s>(
+    alloc: Global,
+    tokens: &[Token<'s>],
+    at: usize,
+) -> Result<(SortItem<'s>, usize), Stop>
     ensures { Reads plain_sort_item tokens.now result (sort_item_at (drop at (seen tokens.now))) }
 {
     let (first, next) = name(tokens, at)?;
@@ -47,7 +56,11 @@ pub(crate) fn sort_item<'s>(alloc: Global, tokens: &[Token<'s>], at: usize) -> R
 
 /// Names of a sort.
 #[tactic(auto, unfolding(crate::specs::Declarations::list_item_at))]
-pub(crate) fn list_item<'s>(alloc: Global, tokens: &[Token<'s>], at: usize) -> Result<(ListItem<'s>, usize), Stop>
+pub(crate) fn list_item<'s>(
+    alloc: Global,
+    tokens: &[Token<'s>],
+    at: usize,
+) -> Result<(ListItem<'s>, usize), Stop>
     ensures { Reads plain_list_item tokens.now result (list_item_at (drop at (seen tokens.now))) }
 {
     let (names, next) = names(alloc, tokens, at, Mark::Comma)?;
@@ -92,7 +105,11 @@ fn shape<'s>(alloc: Global, tokens: &[Token<'s>], at: usize) -> Result<(Shape<'s
 
 /// Shapes with commas between them.
 #[tactic(auto, using(crate::proofs::Lists::listed_steps))]
-fn shapes<'s>(alloc: Global, tokens: &[Token<'s>], at: usize) -> Result<(Vec<Shape<'s>>, usize), Stop>
+fn shapes<'s>(
+    alloc: Global,
+    tokens: &[Token<'s>],
+    at: usize,
+) -> Result<(Vec<Shape<'s>>, usize), Stop>
     ensures { Reads (λ shapes. map plain_shape shapes.items) tokens.now result (listed_at shape_at marks.Comma (drop at (seen tokens.now))) }
 {
     let mut shapes = Vec::new(alloc);
@@ -147,7 +164,11 @@ fn value_sort<'s>(tokens: &[Token<'s>], at: usize) -> Result<(Option<&'s str>, u
 
 /// The sort of an attribute's values, and the shape of its action.
 #[tactic(auto, unfolding(crate::specs::Declarations::attribute_at))]
-fn attribute<'s>(alloc: Global, tokens: &[Token<'s>], at: usize) -> Result<(KindTree<'s>, usize), Stop>
+fn attribute<'s>(
+    alloc: Global,
+    tokens: &[Token<'s>],
+    at: usize,
+) -> Result<(KindTree<'s>, usize), Stop>
     ensures { Reads plain_kind tokens.now result (attribute_at (drop at (seen tokens.now))) }
 {
     let next = sign(tokens, at, Mark::LeftParen)?;
@@ -173,7 +194,11 @@ fn kind<'s>(alloc: Global, tokens: &[Token<'s>], at: usize) -> Result<(KindTree<
 
 /// Constants of a kind.
 #[tactic(auto, unfolding(crate::specs::Declarations::const_item_at))]
-pub(crate) fn const_item<'s>(alloc: Global, tokens: &[Token<'s>], at: usize) -> Result<(ConstItem<'s>, usize), Stop>
+pub(crate) fn const_item<'s>(
+    alloc: Global,
+    tokens: &[Token<'s>],
+    at: usize,
+) -> Result<(ConstItem<'s>, usize), Stop>
     ensures { Reads plain_const_item tokens.now result (const_item_at (drop at (seen tokens.now))) }
 {
     let (shapes, next) = shapes(alloc, tokens, at)?;
@@ -190,7 +215,11 @@ pub(crate) fn const_item<'s>(alloc: Global, tokens: &[Token<'s>], at: usize) -> 
 
 /// Sorts with semicolons between the items.
 #[tactic(auto, using(crate::proofs::Lists::listed_steps))]
-pub(crate) fn sort_items<'s>(alloc: Global, tokens: &[Token<'s>], at: usize) -> Result<(Vec<SortItem<'s>>, usize), Stop>
+pub(crate) fn sort_items<'s>(
+    alloc: Global,
+    tokens: &[Token<'s>],
+    at: usize,
+) -> Result<(Vec<SortItem<'s>>, usize), Stop>
     ensures { Reads (λ items. map plain_sort_item items.items) tokens.now result (listed_at sort_item_at marks.Semicolon (drop at (seen tokens.now))) }
 {
     let mut items = Vec::new(alloc);
@@ -208,7 +237,11 @@ pub(crate) fn sort_items<'s>(alloc: Global, tokens: &[Token<'s>], at: usize) -> 
 
 /// Objects or variables with semicolons between the items.
 #[tactic(auto, using(crate::proofs::Lists::listed_steps))]
-pub(crate) fn list_items<'s>(alloc: Global, tokens: &[Token<'s>], at: usize) -> Result<(Vec<ListItem<'s>>, usize), Stop>
+pub(crate) fn list_items<'s>(
+    alloc: Global,
+    tokens: &[Token<'s>],
+    at: usize,
+) -> Result<(Vec<ListItem<'s>>, usize), Stop>
     ensures { Reads (λ items. map plain_list_item items.items) tokens.now result (listed_at list_item_at marks.Semicolon (drop at (seen tokens.now))) }
 {
     let mut items = Vec::new(alloc);
@@ -226,7 +259,11 @@ pub(crate) fn list_items<'s>(alloc: Global, tokens: &[Token<'s>], at: usize) -> 
 
 /// Constants with semicolons between the items.
 #[tactic(auto, using(crate::proofs::Lists::listed_steps))]
-pub(crate) fn const_items<'s>(alloc: Global, tokens: &[Token<'s>], at: usize) -> Result<(Vec<ConstItem<'s>>, usize), Stop>
+pub(crate) fn const_items<'s>(
+    alloc: Global,
+    tokens: &[Token<'s>],
+    at: usize,
+) -> Result<(Vec<ConstItem<'s>>, usize), Stop>
     ensures { Reads (λ items. map plain_const_item items.items) tokens.now result (listed_at const_item_at marks.Semicolon (drop at (seen tokens.now))) }
 {
     let mut items = Vec::new(alloc);

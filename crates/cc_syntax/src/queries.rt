@@ -17,7 +17,11 @@ use std::alloc::Global;
 
 /// Formulas with commas between them.
 #[tactic(auto, using(crate::proofs::Lists::listed_steps))]
-fn formulas<'s>(alloc: Global, tokens: &[Token<'s>], at: usize) -> Result<(Vec<Tree<'s>>, usize), Stop>
+fn formulas<'s>(
+    alloc: Global,
+    tokens: &[Token<'s>],
+    at: usize,
+) -> Result<(Vec<Tree<'s>>, usize), Stop>
     ensures { Reads (λ formulas. map plain_tree formulas.items) tokens.now result (listed_at formula_at marks.Comma (drop at (seen tokens.now))) }
 {
     let mut formulas = Vec::new(alloc);
@@ -34,7 +38,13 @@ fn formulas<'s>(alloc: Global, tokens: &[Token<'s>], at: usize) -> Result<(Vec<T
 }
 
 /// What holds at the step, behind it.
-fn condition<'s>(alloc: Global, tokens: &[Token<'s>], at: usize, claim: bool, step: At) -> Result<(QueryItem<'s>, usize), Stop>
+fn condition<'s>(
+    alloc: Global,
+    tokens: &[Token<'s>],
+    at: usize,
+    claim: bool,
+    step: At,
+) -> Result<(QueryItem<'s>, usize), Stop>
     ensures { Reads plain_query_item tokens.now result (condition_at claim step (drop at (seen tokens.now))) }
 {
     let next = sign(tokens, at, Mark::Colon)?;
@@ -63,7 +73,12 @@ fn step(tokens: &[Token], at: usize) -> Result<(At, usize), Stop>
 
 /// A step, and what holds at it.
 #[tactic(auto, unfolding(crate::specs::Queries::stepped_at))]
-fn stepped<'s>(alloc: Global, tokens: &[Token<'s>], at: usize, claim: bool) -> Result<(QueryItem<'s>, usize), Stop>
+fn stepped<'s>(
+    alloc: Global,
+    tokens: &[Token<'s>],
+    at: usize,
+    claim: bool,
+) -> Result<(QueryItem<'s>, usize), Stop>
     requires { AreTokens (token_views tokens.now) }
     ensures { Reads plain_query_item tokens.now result (stepped_at claim (drop at (seen tokens.now))) }
 {
@@ -107,7 +122,11 @@ fn labelled<'s>(tokens: &[Token<'s>], at: usize) -> Result<(QueryItem<'s>, usize
 
 /// A part of a query.
 #[tactic(auto, unfolding(crate::specs::Queries::query_item_at))]
-fn query_item<'s>(alloc: Global, tokens: &[Token<'s>], at: usize) -> Result<(QueryItem<'s>, usize), Stop>
+fn query_item<'s>(
+    alloc: Global,
+    tokens: &[Token<'s>],
+    at: usize,
+) -> Result<(QueryItem<'s>, usize), Stop>
     requires { AreTokens (token_views tokens.now) }
     ensures { Reads plain_query_item tokens.now result (query_item_at (drop at (seen tokens.now))) }
 {
@@ -126,7 +145,11 @@ fn query_item<'s>(alloc: Global, tokens: &[Token<'s>], at: usize) -> Result<(Que
 
 /// The parts of a query, with semicolons between them.
 #[tactic(auto, using(crate::proofs::Lists::listed_steps))]
-pub(crate) fn query_items<'s>(alloc: Global, tokens: &[Token<'s>], at: usize) -> Result<(Vec<QueryItem<'s>>, usize), Stop>
+pub(crate) fn query_items<'s>(
+    alloc: Global,
+    tokens: &[Token<'s>],
+    at: usize,
+) -> Result<(Vec<QueryItem<'s>>, usize), Stop>
     requires { AreTokens (token_views tokens.now) }
     ensures { Reads (λ items. map plain_query_item items.items) tokens.now result (listed_at query_item_at marks.Semicolon (drop at (seen tokens.now))) }
 {

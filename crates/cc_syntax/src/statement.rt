@@ -67,10 +67,8 @@ fn part<'s>(alloc: Global, tokens: &[Token<'s>], at: usize) -> Result<(Part<'s>,
 
 /// Whether only the dot of a statement is left.
 fn ends(tokens: &[Token], at: usize) -> bool
-    ensures {
-        (part : PlainPart) →
-        given (given (sign_at marks.Dot (drop at (seen tokens.now))) None (λ rest. Some (part, rest))) None nothing_left ≡ then_some result part
-    }
+    ensures { (part : PlainPart) →
+        given (given (sign_at marks.Dot (drop at (seen tokens.now))) None (λ rest. Some (part, rest))) None nothing_left ≡ then_some result part }
 {
     let Ok(next) = sign(tokens, at, Mark::Dot) else {
         return false;
@@ -90,10 +88,8 @@ fn whole<'s>(alloc: Global, tokens: &[Token<'s>]) -> Result<Part<'s>, Stop>
 
 /// The word of a directive.
 fn directive_word<'s>(tokens: &[Token<'s>]) -> Option<&'s str>
-    ensures {
-        (words : Items (Items ℕ)) →
-        begins_directive words (seen tokens.now) ≡ given result false (λ text. list_any (same_text text.now) words)
-    }
+    ensures { (words : Items (Items ℕ)) →
+        begins_directive words (seen tokens.now) ≡ given result false (λ text. list_any (same_text text.now) words) }
 {
     let Ok(next) = sign(tokens, 0, Mark::Turn) else {
         return None;
