@@ -143,12 +143,12 @@ bare-claim t s frames tokens rest result p le follows gives =
 equal-claim : (t u : PlainTerm) → Claim (trees.Equal t u)
 equal-claim t u s frames tokens rest result p le follows gives =
     wants-atom (trees.Equal t u) frames tokens rest result (term-begins t tokens p.0 p.1) (equal-again t u s tokens rest p follows)
-        (formula-shorter (trees.Equal t u) s tokens rest p) gives
+    (formula-shorter (trees.Equal t u) s tokens rest p) gives
 
 differ-claim : (t u : PlainTerm) → Claim (trees.Differ t u)
 differ-claim t u s frames tokens rest result p le follows gives =
     wants-atom (trees.Differ t u) frames tokens rest result (term-begins t tokens p.0 p.1) (differ-again t u s tokens rest p follows)
-        (formula-shorter (trees.Differ t u) s tokens rest p) gives
+    (formula-shorter (trees.Differ t u) s tokens rest p) gives
 
 -- a frame that ends before each operator that may follow is closed there
 gone_on-filled : (frame : PlainFrame) (frames : List PlainFrame) (tree : PlainTree) (rest : List Terminal) → ends_before 4 frame ≡ true
@@ -162,8 +162,8 @@ not-claim : (f : PlainTree) → Claim f → Claim (trees.Not f)
 not-claim f inner s frames tokens rest result p le follows gives =
     let begins : frame_at tokens ≡ Some (Not, p.0) = rw p.1 refl in
     wants-frame Not frames tokens p.0 result begins ((sign-literal marks.Minus).shorter tokens p.0 p.1)
-        (inner 0 (Not ∷ frames) p.0 rest result p.2 (omega arith) (follows-less 0 s rest (omega arith) follows)
-            (has-same (Not ∷ frames) frames f (trees.Not f) rest result (gone_on-filled Not frames f rest refl (λ read q. refl)) gives))
+    (inner 0 (Not ∷ frames) p.0 rest result p.2 (omega arith) (follows-less 0 s rest (omega arith) follows)
+    (has-same (Not ∷ frames) frames f (trees.Not f) rest result (gone_on-filled Not frames f rest refl (λ read q. refl)) gives))
 
 gone_on-paren : (frames : List PlainFrame) (f : PlainTree) (rest : List Terminal) → gone_on (Paren ∷ frames) f (Sign marks.RightParen ∷ rest) ≡ Some (frames, Has (trees.Paren f) rest)
 unfolding gone_on
@@ -175,8 +175,8 @@ paren-claim f inner s frames tokens rest result p le follows gives =
     let goes : gone_on (Paren ∷ frames) f p.2.0 ≡ Some (frames, Has (trees.Paren f) rest) = rw p.2.2 (gone_on-paren frames f rest) in
     let may : Follows 4 p.2.0 = subst (Follows 4) (sym p.2.2) (paren-follows rest) in
     wants-frame Paren frames tokens p.0 result begins ((sign-literal marks.LeftParen).shorter tokens p.0 p.1)
-        (inner 4 (Paren ∷ frames) p.0 p.2.0 result p.2.1 (omega arith) may
-            (has-next (Paren ∷ frames) frames f p.2.0 rest (Has (trees.Paren f) rest) result goes ((sign-literal marks.RightParen).shorter p.2.0 rest p.2.2) gives))
+    (inner 4 (Paren ∷ frames) p.0 p.2.0 result p.2.1 (omega arith) may
+    (has-next (Paren ∷ frames) frames f p.2.0 rest (Has (trees.Paren f) rest) result goes ((sign-literal marks.RightParen).shorter p.2.0 rest p.2.2) gives))
 
 variable-again : (make : List ℕ → PlainFrame) (x : List ℕ) (tokens between rest : List Terminal) → name x tokens between → sign marks.Bar between rest
     → variable_at make tokens ≡ Some (make x, rest)
@@ -197,12 +197,12 @@ quantifier-claim frame frames f mark x tokens rest result inner most begins ends
     let four = (sign-literal marks.Bar).shorter named.0 named.2.0 named.2.1 in
     let body = named.2.2 in
     let begun_so : frame_at tokens ≡ Some (frame, named.2.0) =
-        ap frame_at (p.1 ∙ ap (λ (l : List Terminal). Sign marks.LeftBracket ∷ l) p.2.1) ∙ begins p.2.0 named.0 named.2.0 named.1 named.2.1 in
+    ap frame_at (p.1 ∙ ap (λ (l : List Terminal). Sign marks.LeftBracket ∷ l) p.2.1) ∙ begins p.2.0 named.0 named.2.0 named.1 named.2.1 in
     let goes : gone_on (frame ∷ frames) f body.0 ≡ Some (frames, Has (filled frame f) rest) = rw body.2 ends in
     let may : Follows 4 body.0 = subst (Follows 4) (sym body.2) (bracket-follows rest) in
     wants-frame frame frames tokens named.2.0 result begun_so (omega arith)
-        (inner 4 (frame ∷ frames) named.2.0 body.0 result body.1 (omega (arith, most)) may
-            (has-next (frame ∷ frames) frames f body.0 rest (Has (filled frame f) rest) result goes ((sign-literal marks.RightBracket).shorter body.0 rest body.2) gives))
+    (inner 4 (frame ∷ frames) named.2.0 body.0 result body.1 (omega (arith, most)) may
+    (has-next (frame ∷ frames) frames f body.0 rest (Has (filled frame f) rest) result goes ((sign-literal marks.RightBracket).shorter body.0 rest body.2) gives))
 
 for_all-claim : (x : List ℕ) (f : PlainTree) → Claim f → Claim (trees.ForAll x f)
 unfolding gone_on
@@ -228,12 +228,12 @@ binary-claim op f g left right s frames tokens rest result p le follows gives =
     let may : Follows (left_strength op) between = subst (Follows (left_strength op)) (sym at_sign) (operator-follows op after) in
     let goes : gone_on frames f between ≡ Some (Left op f ∷ frames, Wants after) = rw (at_sign, operator-here op after, stays op frames f (omega arith)) refl in
     let same : gone_on (Left op f ∷ frames) g rest ≡ gone_on frames (joined op f g) rest =
-        gone_on-filled (Left op f) frames g rest (le-leb (strength op) 4 (strength-most op))
-            (λ read q. let more = follows.3 read q in le-leb (strength op) (left_strength read.0) (omega arith)) in
+    gone_on-filled (Left op f) frames g rest (le-leb (strength op) 4 (strength-most op))
+    (λ read q. let more = follows.3 read q in le-leb (strength op) (left_strength read.0) (omega arith)) in
     left (left_strength op) frames tokens between result first (omega arith) may
-        (has-next frames (Left op f ∷ frames) f between after (Wants after) result goes ((sign-literal (mark_of op)).shorter between after at_sign)
-            (right (right_strength op) (Left op f ∷ frames) after rest result parts.1.2.2 (omega arith) (follows-less (right_strength op) s rest (omega arith) follows)
-                (has-same (Left op f ∷ frames) frames g (joined op f g) rest result same gives)))
+    (has-next frames (Left op f ∷ frames) f between after (Wants after) result goes ((sign-literal (mark_of op)).shorter between after at_sign)
+    (right (right_strength op) (Left op f ∷ frames) after rest result parts.1.2.2 (omega arith) (follows-less (right_strength op) s rest (omega arith) follows)
+    (has-same (Left op f ∷ frames) frames g (joined op f g) rest result same gives)))
 
 pub claim : (tree : PlainTree) → Claim tree
 claim (trees.Bare t) = bare-claim t

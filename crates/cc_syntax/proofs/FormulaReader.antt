@@ -26,17 +26,17 @@ operator-bars operators.Same rest = refl
 no-operator : (rest : List Terminal) → ends_formula rest ≡ true → operator_at rest ≡ None
 no-operator rest e =
     none-of (operator_at rest) (λ read q.
-        let same = ap ends_formula (operator-takes rest read q) in
-        let bar = operator-bars read.0 read.1 in
-        absurd cc)
+    let same = ap ends_formula (operator-takes rest read q) in
+    let bar = operator-bars read.0 read.1 in
+    absurd cc)
 
 end-follows : (rest : List Terminal) → ends_formula rest ≡ true → Follows 4 rest
 end-follows rest e = (
-    ends-term rest e,
-    sign-none ends_formula marks.Equal rest (λ after. refl) e,
-    sign-none ends_formula marks.NotEqual rest (λ after. refl) e,
-    λ read q. let none = no-operator rest e in absurd cc,
-  )
+  ends-term rest e,
+  sign-none ends_formula marks.Equal rest (λ after. refl) e,
+  sign-none ends_formula marks.NotEqual rest (λ after. refl) e,
+  λ read q. let none = no-operator rest e in absurd cc,
+)
 
 end-gives : (f : PlainTree) (rest : List Terminal) → ends_formula rest ≡ true → Gives [] (Has f rest) (Some (f, rest))
 unfolding run_from gone_on
@@ -51,4 +51,4 @@ formula-again f tokens rest p e =
     claim f 4 [] tokens rest (Some (f, rest)) p (omega arith) (end-follows rest e) (end-gives f rest e) (suc (length tokens)) (omega arith)
 
 pub formula-reader : IsReader formula_at formula ends_formula
-formula-reader = record { takes = formula-takes; again = formula-again; shorter = λ f tokens rest p. formula-shorter f 4 tokens rest p; }
+formula-reader = record { takes = formula-takes; again = formula-again; shorter = λ f tokens rest p. formula-shorter f 4 tokens rest p }

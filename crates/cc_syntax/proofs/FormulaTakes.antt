@@ -48,12 +48,12 @@ quantifier-takes most tokens read e =
       | inl all ↦
           let x = variable-takes ForAll all.0 read all.2 in
           subst (λ (frame : PlainFrame). Led frame most tokens read.1) (sym x.1)
-              (open_it.0, bracket, (all.0, sign-takes marks.AllSign open_it.0 all.0 all.1, x.2))
+          (open_it.0, bracket, (all.0, sign-takes marks.AllSign open_it.0 all.0 all.1, x.2))
       | inr other ↦
           let any = bind_some (sign_at marks.AnySign open_it.0) (variable_at Exists) read other.1 in
           let x = variable-takes Exists any.0 read any.2 in
           subst (λ (frame : PlainFrame). Led frame most tokens read.1) (sym x.1)
-              (open_it.0, bracket, (any.0, sign-takes marks.AnySign open_it.0 any.0 any.1, x.2))
+          (open_it.0, bracket, (any.0, sign-takes marks.AnySign open_it.0 any.0 any.1, x.2))
     ]
 
 frame-takes : (most : ℕ) (tokens : List Terminal) (read : PlainFrame × List Terminal) → frame_at tokens ≡ Some read → Led read.0 most tokens read.1
@@ -73,9 +73,11 @@ side-takes : (left : PlainTerm) (make : PlainTerm → PlainTerm → PlainTree) (
     → (right : PlainTerm) × (read.0 ≡ make left right) × term right tokens read.1
 side-takes left make tokens read e =
     let right = bind_some (term_at tokens) (λ right. Some (make left right.0, right.1)) read e in
-    let same = some-is (make left right.0.0, right.0.1) read right.2 in
-    (right.0.0, sym (ap (λ (r : PlainTree × List Terminal). r.0) same),
-        subst (λ (l : List Terminal). term right.0.0 tokens l) (ap (λ (r : PlainTree × List Terminal). r.1) same) (term-reader.takes tokens right.0 right.1))
+    let same = some-is (make left right.0.0, right.0.1) read right.2 in (
+      right.0.0,
+      sym (ap (λ (r : PlainTree × List Terminal). r.0) same),
+      subst (λ (l : List Terminal). term right.0.0 tokens l) (ap (λ (r : PlainTree × List Terminal). r.1) same) (term-reader.takes tokens right.0 right.1),
+    )
 
 atom-takes : (tokens : List Terminal) (read : PlainTree × List Terminal) → atom_at tokens ≡ Some read → formula_of 0 read.0 tokens read.1
 unfolding atom_at
@@ -86,13 +88,13 @@ atom-takes tokens read e =
       | inl equal ↦
           let right = side-takes left.0.0 trees.Equal equal.0 read equal.2 in
           subst (λ (f : PlainTree). formula_of 0 f tokens read.1) (sym right.1)
-              (left.0.1, spelled, (equal.0, sign-takes marks.Equal left.0.1 equal.0 equal.1, right.2))
+          (left.0.1, spelled, (equal.0, sign-takes marks.Equal left.0.1 equal.0 equal.1, right.2))
       | inr other ↦
           elim (given_cases (sign_at marks.NotEqual left.0.1) _ _ _ other.1) [
             | inl differ ↦
                 let right = side-takes left.0.0 trees.Differ differ.0 read differ.2 in
                 subst (λ (f : PlainTree). formula_of 0 f tokens read.1) (sym right.1)
-                    (left.0.1, spelled, (differ.0, sign-takes marks.NotEqual left.0.1 differ.0 differ.1, right.2))
+                (left.0.1, spelled, (differ.0, sign-takes marks.NotEqual left.0.1 differ.0 differ.1, right.2))
             | inr bare ↦
                 subst (λ (r : PlainTree × List Terminal). formula_of 0 r.0 tokens r.1) (some-is (trees.Bare left.0.0, left.0.1) read bare.1) spelled
           ]
@@ -122,7 +124,7 @@ filled-kept bound most s (ForAll x) tree tokens before now led p le e = absurd c
 filled-kept bound most s (Exists x) tree tokens before now led p le e = absurd cc
 filled-kept bound most s (Left op left) tree tokens before now led p le e =
     let whole = parts-joined op left tree (strength op) tokens now (omega arith)
-        (led.1.0, led.1.1, (before, led.1.2, weaker tree s (right_strength op) before now p le)) in
+    (led.1.0, led.1.1, (before, led.1.2, weaker tree s (right_strength op) before now p le)) in
     (strength op, whole, leb-true (strength op) bound e, led.0)
 
 closed-kept : (bound : ℕ) (frames : List PlainFrame) (tree : PlainTree) (s : ℕ) (tokens before now : List Terminal) → Opens frames tokens before → formula_of s tree before now
@@ -187,7 +189,7 @@ bracket-filled (Left op left) most tree tokens before now rest e led p q =
 shut-good : (tokens now : List Terminal) (frames : List PlainFrame) (tree : PlainTree) (held : Held) → Kept 4 tokens now (frames, tree) → shut (frames, tree) now ≡ Some held → Good tokens held
 shut-good tokens now [] tree held kept e =
     subst (Good tokens) (some-is ([], Ends tree now) held e)
-        (subst (λ (l : List Terminal). formula_of 4 tree l now) (sym kept.2) (weaker tree kept.1 4 kept.0 now kept.3 kept.4))
+    (subst (λ (l : List Terminal). formula_of 4 tree l now) (sym kept.2) (weaker tree kept.1 4 kept.0 now kept.3 kept.4))
 shut-good tokens now (frame ∷ frames) tree held kept e =
     let end = bind_some (sign_at (closing frame) now) (λ rest. Some (frames, Has (filled frame tree) rest)) held e in
     let inner = weaker tree kept.1 4 kept.0 now kept.3 kept.4 in
@@ -201,7 +203,7 @@ gone_on-good frames tree tokens now held good e =
       | inl p ↦
           let kept = closed-kept (left_strength p.0.0) frames tree 0 tokens good.0 now good.1 good.2 (omega arith) (omega arith) in
           subst (Good tokens) (some-is (pushed p.0.0 (closed (left_strength p.0.0) frames tree) p.0.1) held p.2)
-              (pushed-good p.0.0 tokens now p.0.1 (closed (left_strength p.0.0) frames tree) kept (operator-takes now p.0 p.1))
+          (pushed-good p.0.0 tokens now p.0.1 (closed (left_strength p.0.0) frames tree) kept (operator-takes now p.0 p.1))
       | inr p ↦
           let kept = closed-kept 4 frames tree 0 tokens good.0 now good.1 good.2 (omega arith) (omega arith) in
           let all = closed 4 frames tree in

@@ -138,4 +138,4 @@ label-shorter text tokens rest (inl p) = let e = ap length p.1 in omega arith
 label-shorter text tokens rest (inr p) = let e = ap length p in omega arith
 
 pub label-reader : IsReader label_at label anywhere
-label-reader = record { takes = label-takes; again = label-again; shorter = label-shorter; }
+label-reader = record { takes = label-takes; again = label-again; shorter = label-shorter }

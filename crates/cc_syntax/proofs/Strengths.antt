@@ -163,10 +163,10 @@ quantifier-shortens : (inner : Spelling) (mark : Mark) (x : List ℕ) → Shorte
     → Shortens (sign marks.LeftBracket ▸ sign mark ▸ name x ▸ sign marks.Bar ▸ inner ▸ sign marks.RightBracket)
 quantifier-shortens inner mark x one =
     behind (sign marks.LeftBracket) (sign mark ▸ name x ▸ sign marks.Bar ▸ inner ▸ sign marks.RightBracket) (sign-shortens marks.LeftBracket)
-        (behind (sign mark) (name x ▸ sign marks.Bar ▸ inner ▸ sign marks.RightBracket) (sign-shortens mark)
-            (behind (name x) (sign marks.Bar ▸ inner ▸ sign marks.RightBracket) (name-reader.shorter x)
-                (behind (sign marks.Bar) (inner ▸ sign marks.RightBracket) (sign-shortens marks.Bar)
-                    (behind inner (sign marks.RightBracket) one (sign-shortens marks.RightBracket)))))
+    (behind (sign mark) (name x ▸ sign marks.Bar ▸ inner ▸ sign marks.RightBracket) (sign-shortens mark)
+    (behind (name x) (sign marks.Bar ▸ inner ▸ sign marks.RightBracket) (name-reader.shorter x)
+    (behind (sign marks.Bar) (inner ▸ sign marks.RightBracket) (sign-shortens marks.Bar)
+    (behind inner (sign marks.RightBracket) one (sign-shortens marks.RightBracket)))))
 
 pub formula-shorter : (f : PlainTree) (s : ℕ) → Shortens (formula_of s f)
 formula-shorter (trees.Bare x) s = term-shorter x
@@ -174,7 +174,7 @@ formula-shorter (trees.Equal x y) s = binary-shortens (term x) (term y) marks.Eq
 formula-shorter (trees.Differ x y) s = binary-shortens (term x) (term y) marks.NotEqual (term-shorter x) (term-shorter y)
 formula-shorter (trees.Paren f) s =
     behind (sign marks.LeftParen) (formula_of 4 f ▸ sign marks.RightParen) (sign-shortens marks.LeftParen)
-        (behind (formula_of 4 f) (sign marks.RightParen) (formula-shorter f 4) (sign-shortens marks.RightParen))
+    (behind (formula_of 4 f) (sign marks.RightParen) (formula-shorter f 4) (sign-shortens marks.RightParen))
 formula-shorter (trees.Not f) s = behind (sign marks.Minus) (formula_of 0 f) (sign-shortens marks.Minus) (formula-shorter f 0)
 formula-shorter (trees.Both f g) s =
     λ tokens rest p. binary-shortens (formula_of 1 f) (formula_of 0 g) marks.And (formula-shorter f 1) (formula-shorter g 0) tokens rest p.1

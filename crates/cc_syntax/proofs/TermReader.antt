@@ -18,9 +18,9 @@ none-of (Some x) no_value = absurd (no_value x refl)
 pub sign-none : (stops : List Terminal → Bool) (mark : Mark) (rest : List Terminal) → ((after : List Terminal) → stops (Sign mark ∷ after) ≡ false) → stops rest ≡ true → sign_at mark rest ≡ None
 sign-none stops mark rest bars e =
     none-of (sign_at mark rest) (λ after q.
-        let same = ap stops ((sign-literal mark).takes rest after q) in
-        let bar = bars after in
-        absurd cc)
+    let same = ap stops ((sign-literal mark).takes rest after q) in
+    let bar = bars after in
+    absurd cc)
 
 -- ---- a term has a token at least
 
@@ -49,7 +49,7 @@ call-takes tokens read e =
     let named = bind_some (name_at tokens) _ read e in
     let opened = bind_some (sign_at marks.LeftParen named.0.1) (λ rest. Some (named.0.0, rest)) read named.2 in
     subst (λ (r : List ℕ × List Terminal). (name r.0 ▸ sign marks.LeftParen) tokens r.1) (some-is (named.0.0, opened.0) read opened.2)
-        (named.0.1, name-reader.takes tokens named.0 named.1, (sign-literal marks.LeftParen).takes named.0.1 opened.0 opened.1)
+    (named.0.1, name-reader.takes tokens named.0 named.1, (sign-literal marks.LeftParen).takes named.0.1 opened.0 opened.1)
 
 leaf-takes : (tokens : List Terminal) (read : PlainTerm × List Terminal) → leaf_at tokens ≡ Some read → term read.0 tokens read.1
 leaf-takes [] read e = absurd cc
@@ -82,10 +82,10 @@ applied-takes n args_take tokens read e =
           let args = bind_some (args_from n [] call.0.1) (λ args. Some (Applied call.0.0 (terms_of args.0), args.1)) read call.2 in
           let all = args_take [] call.0.1 args.0 args.1 in
           let whole : term (Applied call.0.0 (MoreTerms all.0 (terms_of all.1))) tokens args.0.1 =
-              (opened.0, opened.1, (call.0.1, opened.2, (all.2, all.4, all.5))) in
+          (opened.0, opened.1, (call.0.1, opened.2, (all.2, all.4, all.5))) in
           let same : args.0.0 ≡ all.0 ∷ all.1 = all.3 in
           let named : term (Applied call.0.0 (terms_of args.0.0)) tokens args.0.1 =
-              subst (λ (l : List PlainTerm). term (Applied call.0.0 (terms_of l)) tokens args.0.1) (sym same) whole in
+          subst (λ (l : List PlainTerm). term (Applied call.0.0 (terms_of l)) tokens args.0.1) (sym same) whole in
           subst (λ (r : PlainTerm × List Terminal). term r.0 tokens r.1) (some-is (Applied call.0.0 (terms_of args.0.0), args.0.1) read args.2) named
     ]
 
@@ -96,9 +96,14 @@ more-take n term_takes args_take found tokens read e =
     let first = term_takes tokens one.0 one.1 in
     elim (given_cases (sign_at marks.Comma one.0.1) _ _ _ one.2) [
       | inl comma ↦
-          let all = args_take (found ++ one.0.0 ∷ []) comma.0 read comma.2 in
-          (one.0.0, all.0 ∷ all.1, one.0.1, all.3 ∙ append_assoc found (one.0.0 ∷ []) (all.0 ∷ all.1), first,
-              (comma.0, (sign-literal marks.Comma).takes one.0.1 comma.0 comma.1, (all.2, all.4, all.5)))
+          let all = args_take (found ++ one.0.0 ∷ []) comma.0 read comma.2 in (
+            one.0.0,
+            all.0 ∷ all.1,
+            one.0.1,
+            all.3 ∙ append_assoc found (one.0.0 ∷ []) (all.0 ∷ all.1),
+            first,
+            (comma.0, (sign-literal marks.Comma).takes one.0.1 comma.0 comma.1, (all.2, all.4, all.5)),
+          )
       | inr last ↦
           let shut = bind_some (sign_at marks.RightParen one.0.1) (λ rest. Some (found ++ one.0.0 ∷ [], rest)) read last.1 in
           let same = some-is (found ++ one.0.0 ∷ [], shut.0) read shut.2 in
@@ -108,6 +113,7 @@ more-take n term_takes args_take found tokens read e =
 
 mutual
   unfolding term_from args_from
+
   term-takes : (n : ℕ) → TermTakes n
   term-takes zero tokens read e = absurd cc
   term-takes (suc n) tokens read e = applied-takes n (args-take n) tokens read e
@@ -138,10 +144,10 @@ ArgsAgain (MoreTerms first others) =
 no-call : (text : List ℕ) (rest : List Terminal) → ends_term rest ≡ true → call_at (Word text ∷ rest) ≡ None
 no-call text rest e =
     none-of (call_at (Word text ∷ rest)) (λ read q.
-        let call = call-takes (Word text ∷ rest) read q in
-        let same : rest ≡ call.0 = tail-is (Word text) (Word read.0) rest call.0 call.1.1 in
-        let bar = ap ends_term (same ∙ call.2) in
-        absurd cc)
+    let call = call-takes (Word text ∷ rest) read q in
+    let same : rest ≡ call.0 = tail-is (Word text) (Word read.0) rest call.0 call.1.1 in
+    let bar = ap ends_term (same ∙ call.2) in
+    absurd cc)
   where
     tail-is : (one other : Terminal) (a b : List Terminal) → one ∷ a ≡ other ∷ b → a ≡ b
     tail-is one other a b e = cc
@@ -151,7 +157,7 @@ unfolding term_from
 leaf-again text zero tokens rest le p e = let same = ap length p.1 in absurd (omega arith)
 leaf-again text (suc n) tokens rest le p e =
     subst (λ (l : List Terminal). term_from (suc n) l ≡ Some (Applied text NoTerms, rest)) (sym p.1)
-        (rw (no-call text rest e, p.0) refl)
+    (rw (no-call text rest e, p.0) refl)
 
 applied-again : (text : List ℕ) (first : PlainTerm) (others : PlainTerms) → ArgsAgain (MoreTerms first others) → TermAgain (Applied text (MoreTerms first others))
 unfolding term_from

@@ -57,7 +57,6 @@ quoted_at tokens = None
 
 infixr 30 ◌▷◌
 infixl 25 ◌◁◌
-
 -- a reader behind something without a value
 abbrev pub ◌▷◌ : {X : Type 0} → Literal → Reader X → Reader X
 (literal ▷ reader) tokens = literal tokens >>= reader

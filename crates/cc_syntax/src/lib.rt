@@ -1,4 +1,6 @@
-//! The grammar: the tree of a statement.
+//! The grammar: `parse` gives the one tree of a statement, or refuses it exactly where there is none. Readers of single
+//! tokens (`tokens`), terms, formulas, declarations, queries and laws are each proved equal to a plain function on lists
+//! (specs/), and these are proved to meet the grammar of cc_defs in both directions (proofs/).
 #![tactic(auto)]
 
 mod causal_laws;
@@ -11,6 +13,8 @@ mod queries;
 mod statement;
 mod stop;
 mod terms;
+#[cfg(test)]
+mod tests;
 mod tokens;
 mod words;
 

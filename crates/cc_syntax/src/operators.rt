@@ -40,8 +40,7 @@ impl Operator {
     {
         match self {
             Operator::Both => 1,
-            Operator::Either => 2,
-            Operator::Implies => 2,
+            Operator::Either | Operator::Implies => 2,
             Operator::Same => 4,
         }
     }

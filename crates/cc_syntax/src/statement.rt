@@ -4,10 +4,10 @@ ghost use Rattle.std.specs.Bool.{then_some};
 ghost use Rattle.std.specs.List.{list_any};
 ghost use Rattle.cc_defs.specs.declared.refusal.Fault.TheVariants as faults;
 ghost use Rattle.cc_defs.specs.declared.token.Mark.TheVariants as marks;
-ghost use Rattle.cc_defs.specs.Grammar.{same_text, terminal};
+ghost use Rattle.cc_defs.specs.Grammar.{same_text, terminal, Spells};
 ghost use Rattle.cc_defs.specs.Statements.{IsParsed, begins_directive, is_query as IsQuery, token_limit as limit_of, is_not_yet_in_query as IsNotYetInQuery, is_not_yet as IsNotYet, has_not_yet as HasNotYet, refusal_at};
 ghost use Rattle.cc_defs.specs.Tokens.{AreTokens};
-ghost use Rattle.cc_defs.specs.Trees.{PlainPart, plain_part, plain_statement};
+ghost use Rattle.cc_defs.specs.Trees.{PlainPart, PlainStatement, plain_part, plain_statement};
 ghost use Rattle.cc_syntax.specs.Parsing.{HasRefused, directive_at, part_at, nothing_left, statement_at};
 ghost use Rattle.cc_syntax.specs.Readers.{given, sign_at};
 ghost use Rattle.cc_syntax.specs.Views.{seen, Reads};
@@ -182,14 +182,11 @@ fn refusal(number: u8, file: u32, limit: Option<LimitAt>, tokens: &[Token]) -> F
 /// the statement's first line and in this order, what has too many tokens (14, with the limit declaration tokens or
 /// statement tokens), what has a sign that the language does not have yet (13), and what no tree spells (3). `file` is the
 /// number of the file in refusals.
-pub fn parse<'s>(
-    alloc: Global,
-    file: u32,
-    tokens: &[Token<'s>],
-) -> Result<Statement<'s>, Fault>
+pub fn parse<'s>(alloc: Global, file: u32, tokens: &[Token<'s>]) -> Result<Statement<'s>, Fault>
     requires some { 0 < length tokens.now }
     requires are { AreTokens (token_views tokens.now) }
     ensures parsed { IfOk result (λ tree. IsParsed (token_views tokens.now) (plain_statement tree)) }
+    ensures one { (other : PlainStatement) → Spells other (token_views tokens.now) → IfOk result (λ tree. plain_statement tree ≡ other) }
     ensures refused { IfErr result (HasRefused file (token_views tokens.now)) }
 {
     let limit = token_limit(tokens);
