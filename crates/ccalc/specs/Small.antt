@@ -7,6 +7,7 @@ use Rattle.cc_defs.specs.declared.signature.LawKind.TheVariants as law_kinds
 use Rattle.cc_defs.specs.declared.signature.Symbol.{Symbol}
 use Rattle.cc_defs.specs.Formulas as formulas
 use Rattle.cc_defs.specs.Description as descriptions
+use Rattle.cc_defs.specs.Grammar.{reserved_words}
 use Rattle.cc_defs.specs.Rules.{upto}
 use Rattle.cc_defs.specs.Tokens.{is_word}
 use Rattle.ccalc.specs.Pieces.{Token, AreTokens, same_bytes}
@@ -67,15 +68,6 @@ Spells tokens small =
     × (texts constants ≡ constants_texts small.names) × SpellsLaws laws small.laws × (texts query ≡ query_texts)
 
 -- ---- which names there may be
-
-abbrev pub reserved_words : List (List ℕ)
-reserved_words =
-    codes "caused" ∷ codes "if" ∷ codes "after" ∷ codes "default" ∷ codes "inertial" ∷ codes "exogenous" ∷ codes "constraint"
-    ∷ codes "always" ∷ codes "nonexecutable" ∷ codes "causes" ∷ codes "may" ∷ codes "cause" ∷ codes "where"
-    ∷ codes "noconcurrency" ∷ codes "true" ∷ codes "false" ∷ codes "none" ∷ codes "maxstep" ∷ codes "label" ∷ codes "claim"
-    ∷ codes "sorts" ∷ codes "objects" ∷ codes "variables" ∷ codes "constants" ∷ codes "query" ∷ codes "include" ∷ codes "of"
-    ∷ codes "simpleFluent" ∷ codes "inertialFluent" ∷ codes "sdFluent" ∷ codes "rigid" ∷ codes "action"
-    ∷ codes "exogenousAction" ∷ codes "attribute" ∷ []
 
 -- a word of at most 255 bytes that is not reserved
 abbrev pub is_name : List ℕ → Bool

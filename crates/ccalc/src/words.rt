@@ -1,9 +1,10 @@
 //! Which words are names.
 ghost use Rattle.std.specs.Prelude.{◌≡◌, take, drop, map};
 ghost use Rattle.std.specs.List.{list_all, list_any};
+ghost use Rattle.cc_defs.specs.Grammar.{reserved_words};
 ghost use Rattle.cc_defs.specs.Tokens.{is_word, is_word_byte};
 ghost use Rattle.ccalc.specs.Pieces.{same_bytes};
-ghost use Rattle.ccalc.specs.Small.{is_name, reserved_words, are_different};
+ghost use Rattle.ccalc.specs.Small.{is_name, are_different};
 ghost use Rattle.ccalc.specs.Parser.{may_be_declared};
 
 use crate::scanner::{is_byte_of_word, is_letter_byte};
