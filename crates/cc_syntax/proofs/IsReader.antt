@@ -1,6 +1,6 @@
 -- What a reader is to do for a spelling: what it reads is spelled so, and what is spelled so it reads, where the rest does
 -- not go on with it. Each value has one token at least.
-use Rattle.std.proofs.Common.{◌≡◌, ℕ, ◌<◌, Bool, true, false, List, [], ◌∷◌, length, Option, Some, None}
+use Rattle.std.proofs.Common.{◌≡◌, ◌<◌, Bool, true, false, List, ◌∷◌, length, Some}
 use Rattle.cc_defs.specs.declared.token.Mark.TheVariants as marks
 use Rattle.cc_defs.specs.Grammar.{Terminal, Sign, Spelling}
 use Rattle.cc_syntax.specs.Readers.{Reader, Literal}

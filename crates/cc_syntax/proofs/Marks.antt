@@ -1,5 +1,5 @@
 -- Two marks with one number are one.
-use Rattle.std.proofs.Common.{◌≡◌, ℕ, Bool, true, List, [], ◌∷◌, slice_index_or, refl, ap, sym, ◌∙◌}
+use Rattle.std.proofs.Common.{◌≡◌, ℕ, true, List, [], ◌∷◌, slice_index_or, refl, ap, sym, ◌∙◌}
 use Rattle.std.proofs.lemmas.Bool.{eqb-true}
 use Rattle.cc_defs.specs.declared.token.Mark.{Mark}
 use Rattle.cc_defs.specs.declared.token.Mark.TheVariants as marks

@@ -1,11 +1,11 @@
 -- The readers of single tokens.
-use Rattle.std.proofs.Common.{◌≡◌, ◌⊎◌, ℕ, ◌<◌, Bool, true, false, cond, List, [], ◌∷◌, length, Option, Some, None, refl, sym, ap, subst, ◌∙◌, arith, inl, inr}
+use Rattle.std.proofs.Common.{◌≡◌, ◌⊎◌, ℕ, ◌<◌, Bool, true, false, cond, List, [], ◌∷◌, length, Option, Some, None, refl, sym, ap, subst, arith, inl, inr}
 use Rattle.std.specs.Cmp.Lexicographic.{same_text as std_same}
 use Rattle.std.proofs.lemmas.Bool.{eq-eqb}
 use Rattle.cc_defs.specs.declared.token.Mark.{Mark}
 use Rattle.cc_defs.specs.Grammar.{Terminal, Word, Number, Quoted, Sign, is_name, same_text, number_of, sign, word, name, numeral, label}
 use Rattle.cc_syntax.specs.Marks.{same_mark}
-use Rattle.cc_syntax.specs.Readers.{Reader, Literal, given, ◌>>=◌, sign_at, word_at, name_at, numeral_at, label_at}
+use Rattle.cc_syntax.specs.Readers.{given, ◌>>=◌, sign_at, word_at, name_at, numeral_at, label_at}
 use Rattle.cc_syntax.proofs.IsReader.{IsReader, IsLiteral, anywhere}
 use Rattle.cc_syntax.proofs.Marks.{same-mark, mark-same}
 

@@ -4,7 +4,6 @@ use Rattle.cc_defs.specs.declared.token.Mark.TheVariants as marks
 use Rattle.cc_defs.specs.declared.tree.KindWord.{KindWord}
 use Rattle.cc_defs.specs.declared.tree.KindWord.TheVariants as kind_words
 use Rattle.cc_defs.specs.Trees.{PlainShape, PlainSortItem, Names, Chain, PlainListItem, PlainKind, Plain, Attribute, PlainConstItem}
-use Rattle.cc_defs.specs.Grammar.{Terminal, kind_word}
 use Rattle.cc_syntax.specs.Readers.{Reader, given, ◌>>=◌, name_at, sign_at, word_at, listed_at, parenthesized_at, paired, ◌▷◌, ◌◁◌}
 
 abbrev pub names_at : Reader (List (List ℕ))

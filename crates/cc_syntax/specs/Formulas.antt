@@ -9,7 +9,7 @@ use Rattle.cc_defs.specs.Grammar.{Terminal}
 use Rattle.cc_syntax.specs.declared.operators.Operator.{Operator}
 use Rattle.cc_syntax.specs.declared.frames.Frame.{Frame}
 use Rattle.cc_syntax.specs.declared.frames.Frame.TheVariants as frames
-use Rattle.cc_syntax.specs.Readers.{Reader, given, ◌>>=◌, name_at, sign_at, ◌▷◌, ◌◁◌}
+use Rattle.cc_syntax.specs.Readers.{Reader, given, ◌>>=◌, name_at, sign_at, ◌◁◌}
 use Rattle.cc_syntax.specs.Terms.{term_at}
 use Rattle.cc_syntax.specs.Operators.{operator_at, strength, left_strength, joined}
 

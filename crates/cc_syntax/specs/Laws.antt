@@ -1,5 +1,5 @@
 -- Readers of laws.
-use Rattle.std.specs.Prelude.{ℕ, Bool, true, false, ◌||◌, if◌then◌else◌, List, ◌∷◌, Option, Some, None, codes}
+use Rattle.std.specs.Prelude.{Bool, true, false, ◌||◌, if◌then◌else◌, List, ◌∷◌, Option, Some, None, codes}
 use Rattle.cc_defs.specs.declared.token.Mark.TheVariants as marks
 use Rattle.cc_defs.specs.Trees.{PlainTerm, PlainTree, PlainLaw, PlainPart, Caused, Constraint, Always, Nonexecutable, Default, Exogenous, Inertial, Causes, MayCause, NoConcurrency, Law}
 use Rattle.cc_defs.specs.Grammar.{Terminal, Word, Sign, is_name, is_value_word}

@@ -1,8 +1,8 @@
 -- The operators, and their strengths.
-use Rattle.std.specs.Prelude.{ℕ, List, ◌∷◌, Option, Some, None}
+use Rattle.std.specs.Prelude.{ℕ, ◌∷◌, Some, None}
 use Rattle.cc_defs.specs.declared.token.Mark.TheVariants as marks
 use Rattle.cc_defs.specs.Trees.{PlainTree, Both, Either, Implies, Same}
-use Rattle.cc_defs.specs.Grammar.{Terminal, Sign}
+use Rattle.cc_defs.specs.Grammar.{Sign}
 use Rattle.cc_syntax.specs.declared.operators.Operator.{Operator}
 use Rattle.cc_syntax.specs.declared.operators.Operator.TheVariants as operators
 use Rattle.cc_syntax.specs.Readers.{Reader}

@@ -7,7 +7,7 @@ use Rattle.cc_defs.specs.Tokens.{TokenView}
 use Rattle.cc_defs.specs.Trees.{PlainPart, PlainStatement, Sorts, Objects, Variables, Constants, Query, Include}
 use Rattle.cc_defs.specs.Grammar.{Terminal, Spells}
 use Rattle.cc_defs.specs.Statements.{IsRefused}
-use Rattle.cc_syntax.specs.Readers.{Reader, given, ◌>>=◌, quoted_at, sign_at, word_at, listed_at, ◌▷◌, ◌◁◌}
+use Rattle.cc_syntax.specs.Readers.{Reader, given, ◌>>=◌, quoted_at, sign_at, word_at, listed_at, ◌◁◌}
 use Rattle.cc_syntax.specs.Declarations.{sort_item_at, list_item_at, const_item_at}
 use Rattle.cc_syntax.specs.Queries.{query_item_at}
 use Rattle.cc_syntax.specs.Laws.{tested_law_at}

@@ -1,11 +1,10 @@
 -- Readers of the parts of a query.
-use Rattle.std.specs.Prelude.{ℕ, Bool, true, false, List, Option, Some, None, codes}
+use Rattle.std.specs.Prelude.{Bool, true, false, Some, codes}
 use Rattle.cc_defs.specs.declared.signature.At.{At}
 use Rattle.cc_defs.specs.declared.signature.At.TheVariants as ats
 use Rattle.cc_defs.specs.declared.token.Mark.TheVariants as marks
 use Rattle.cc_defs.specs.Trees.{PlainQueryItem, Label, Range, Condition}
-use Rattle.cc_defs.specs.Grammar.{Terminal}
-use Rattle.cc_syntax.specs.Readers.{Reader, given, ◌>>=◌, numeral_at, label_at, sign_at, word_at, listed_at, ◌▷◌, ◌◁◌}
+use Rattle.cc_syntax.specs.Readers.{Reader, given, ◌>>=◌, numeral_at, label_at, sign_at, word_at, listed_at, ◌▷◌}
 use Rattle.cc_syntax.specs.Formulas.{formula_at}
 
 -- the formulas of a condition

@@ -1,5 +1,5 @@
 -- Readers: plain functions that read a value at the front of a list of tokens, and how larger ones are made of smaller.
-use Rattle.std.specs.Prelude.{◌≡◌, ℕ, zero, suc, ◌-◌, Bool, true, false, if◌then◌else◌, List, [], ◌∷◌, ◌++◌, length, take, drop, Option, Some, None}
+use Rattle.std.specs.Prelude.{ℕ, zero, suc, ◌-◌, if◌then◌else◌, List, [], ◌∷◌, ◌++◌, length, take, drop, Option, Some, None}
 use Rattle.cc_defs.specs.declared.token.Mark.{Mark}
 use Rattle.cc_defs.specs.declared.token.Mark.TheVariants as marks
 use Rattle.cc_defs.specs.Grammar.{Terminal, Word, Number, Quoted, Sign, is_name, same_text, number_of}

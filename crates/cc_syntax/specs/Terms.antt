@@ -1,8 +1,8 @@
 -- Readers of terms.
-use Rattle.std.specs.Prelude.{ℕ, zero, suc, ◌||◌, if◌then◌else◌, List, [], ◌∷◌, ◌++◌, length, Option, Some, None}
+use Rattle.std.specs.Prelude.{ℕ, zero, suc, ◌||◌, if◌then◌else◌, List, [], ◌∷◌, ◌++◌, length, Some, None}
 use Rattle.cc_defs.specs.declared.token.Mark.TheVariants as marks
 use Rattle.cc_defs.specs.Trees.{PlainTerm, PlainTerms, Applied, NoTerms, MoreTerms}
-use Rattle.cc_defs.specs.Grammar.{Terminal, Word, is_name, is_value_word}
+use Rattle.cc_defs.specs.Grammar.{Word, is_name, is_value_word}
 use Rattle.cc_syntax.specs.Readers.{Reader, given, ◌>>=◌, name_at, sign_at, ◌◁◌}
 
 abbrev pub terms_of : List PlainTerm → PlainTerms
