@@ -1,0 +1,123 @@
+-- What a statement's declarations make of a table.
+use Rattle.std.proofs.Common.{◌≡◌, ◌∙◌, ℕ, ◌+◌, ◌-◌, ◌*◌, ◌<◌, ◌≤◌, ◌^◌, Bool, true, false, nat_lt, List, [], ◌∷◌, ◌++◌, length, map, flat_map, Option, Some, None, Result, Ok, Err, IfErr, IsErrAnd, refl, sym, ap, subst, arith, length-append}
+use Rattle.std.proofs.lemmas.Bool.{lt-ltb, le-ltb}
+use Rattle.cc_defs.specs.declared.refusal.Fault.{Fault}
+use Rattle.cc_defs.specs.declared.refusal.Fault.TheVariants as faults
+use Rattle.std.proofs.lemmas.List.{append-nil, length-map}
+use Rattle.std.proofs.lemmas.Grind.{flat_map-append}
+use Rattle.cc_defs.specs.declared.refusal.LimitAt.TheVariants as limits
+use Rattle.cc_defs.specs.declared.refusal.Refusal.{Refusal}
+use Rattle.cc_defs.specs.DeclarationFaults.{refusal_for, object_count, declaration_fault, declaration_refusal}
+use Rattle.cc_defs.specs.Declarations.{Declaration, Named, object_declared, objects, number_in, sort_names, declarations_of}
+use Rattle.cc_defs.specs.Limits.{limit_number}
+use Rattle.cc_defs.specs.Trees.{PlainStatement}
+use Rattle.cc_sorts.specs.Declaring.{plain_declarations, plain_declaration}
+use Rattle.cc_sorts.specs.declared.declaration.Declaration as declarations
+use Rattle.cc_sorts.specs.Steps.{HasRoom, IsFrontOf, behind_all, AllClear, judged_refusal}
+use Rattle.cc_sorts.specs.Tables.{TableView, Numbered, IsTable, IsSmall, Declares, HasFront}
+use Rattle.cc_sorts.proofs.Behind.{behind_all_is, clear_front}
+use Rattle.cc_sorts.proofs.Clear.{all_clear}
+
+-- ---- counting
+
+pub count_is : (table : TableView) (left ds : List Declaration) (count : ℕ) → IsTable table left → count ≡ length (flat_map object_declared ds) →
+    length table.objects + count - 2 ≡ object_count (left ++ ds)
+count_is table left ds count is e =
+    let there : length table.objects ≡ length (objects left) =
+    ap (λ (w : List Numbered). length w) is.objects_are ∙ length-map (objects left) (λ (o : Named). (o.0, number_in (sort_names left) o.1)) in
+    let whole : length (flat_map object_declared (left ++ ds)) ≡ length (flat_map object_declared left) + length (flat_map object_declared ds) =
+    ap length (flat_map-append object_declared left ds) ∙ length-append (flat_map object_declared left) (flat_map object_declared ds) in
+    omega (arith, there, whole, e)
+
+-- ---- no refusal
+
+no_refusal : (file line : ℕ) (many : Bool) (fault : Option ℕ) → refusal_for file line many fault ≡ None → fault ≡ None
+no_refusal file line true (Some number) e = absurd cc
+no_refusal file line false (Some number) e = absurd cc
+no_refusal file line true None e = refl
+no_refusal file line false None e = refl
+
+pub clear_of : (file line : ℕ) (left : List Declaration) (statement : PlainStatement) (ds : List Declaration) → ds ≡ declarations_of file statement →
+    judged_refusal file line left ds ≡ None → AllClear left ds
+clear_of file line left statement ds e none =
+    let P : List Declaration → Type 0 = λ w. AllClear left w in
+    let fault : declaration_fault left ds ≡ None = no_refusal file line (nat_lt (limit_number limits.Objects) (object_count (left ++ ds))) (declaration_fault left ds) none in
+    subst P (sym e) (all_clear left file statement (ap (λ (w : List Declaration). declaration_fault left w) (sym e) ∙ fault))
+
+-- ---- the answers
+
+pub front_none : (file : ℕ) (left : List Declaration) (statement : PlainStatement) (table : TableView) → IsTable table left → HasFront file left statement table
+front_none file left statement table is =
+    let P : List Declaration → Type 0 = λ w. IsTable table w in
+    ([], declarations_of file statement, refl, subst P (sym (append-nil left)) is)
+
+pub front_of : (file line : ℕ) (left : List Declaration) (statement : PlainStatement) (ds : List Declaration) (old new : TableView) → ds ≡ declarations_of file statement →
+    judged_refusal file line left ds ≡ None → IsTable old left → IsFrontOf old ds new → HasFront file left statement new
+front_of file line left statement ds old new e none is front =
+    let P : List Declaration → Type 0 = λ w. AllClear left w in
+    let clear : AllClear left (front.front ++ front.rest) = subst P front.whole (clear_of file line left statement ds e none) in
+    let Q : TableView → Type 0 = λ w. IsTable w (left ++ front.front) in
+    (front.front, front.rest, sym e ∙ front.whole, subst Q (sym front.is_behind) (behind_all_is old left front.front (clear_front left front.front front.rest clear) is))
+
+pub declares : (file : ℕ) (left : List Declaration) (statement : PlainStatement) (ds : List Declaration) (old new : TableView) → ds ≡ declarations_of file statement →
+    judged_refusal file statement.line left ds ≡ None → IsTable old left → new ≡ behind_all old ds → Declares file left statement new
+declares file left statement ds old new e none is b =
+    let Q : TableView → Type 0 = λ w. IsTable w (left ++ ds) in
+    let P : List Declaration → Type 0 = λ w. IsTable new (left ++ w) in (
+      ap (λ (w : List Declaration). judged_refusal file statement.line left w) (sym e) ∙ none,
+      subst P e (subst Q (sym b) (behind_all_is old left ds (clear_of file statement.line left statement ds e none) is)),
+    )
+
+-- ---- room
+
+pub room_for : (table : TableView) (statement : PlainStatement) (line : ℕ) (new : List declarations.Declaration) → plain_declarations 0 line new ≡ declarations_of 0 statement →
+    IsSmall table statement → length table.objects ≤ 4098 → HasRoom table (length new)
+room_for table statement line new e small few =
+    let count : length new ≡ length (declarations_of 0 statement) = sym (length-map new (plain_declaration 0 line)) ∙ ap (λ (w : List Declaration). length w) e in
+    let a : length table.sorts.names + length (declarations_of 0 statement) < 4000000000 = small.0 in
+    let b : length table.variables + length (declarations_of 0 statement) < 4000000000 = small.1 in
+    let c : length table.symbols + length (declarations_of 0 statement) < 4000000000 = small.2 in
+    record {
+      for_sorts = omega (arith, count);
+      for_objects = omega (arith, count);
+      for_variables = omega (arith, count);
+      for_symbols = omega (arith, count);
+    }
+
+-- ---- what is judged
+
+refusal_some : (file line number : ℕ) (many : Bool) → Some (record { number = number; file = file; line = line; limit = None }) ≡ refusal_for file line many (Some number)
+refusal_some file line number true = refl
+refusal_some file line number false = refl
+
+pub judged_some : (file line : ℕ) (left ds : List Declaration) (number : ℕ) → declaration_fault left ds ≡ Some number →
+    Some (record { number = number; file = file; line = line; limit = None }) ≡ judged_refusal file line left ds
+judged_some file line left ds number e =
+    let many = nat_lt (limit_number limits.Objects) (object_count (left ++ ds)) in
+    refusal_some file line number many ∙ ap (λ (fault : Option ℕ). refusal_for file line many fault) (sym e)
+
+pub judged_many : (file line : ℕ) (left ds : List Declaration) → declaration_fault left ds ≡ None → 4096 < object_count (left ++ ds) →
+    Some (record { number = 14; file = file; line = line; limit = Some limits.Objects }) ≡ judged_refusal file line left ds
+judged_many file line left ds e p =
+    ap (λ (many : Bool). refusal_for file line many None) (sym (lt-ltb 4096 (object_count (left ++ ds)) p))
+    ∙ ap (λ (fault : Option ℕ). refusal_for file line (nat_lt (limit_number limits.Objects) (object_count (left ++ ds))) fault) (sym e)
+
+pub judged_none : (file line : ℕ) (left ds : List Declaration) → declaration_fault left ds ≡ None → object_count (left ++ ds) ≤ 4096 → None ≡ judged_refusal file line left ds
+judged_none file line left ds e p =
+    ap (λ (many : Bool). refusal_for file line many None) (sym (le-ltb 4096 (object_count (left ++ ds)) p))
+    ∙ ap (λ (fault : Option ℕ). refusal_for file line (nat_lt (limit_number limits.Objects) (object_count (left ++ ds))) fault) (sym e)
+
+-- ---- refusals of a call
+
+pub want_of_memory : {A : Type 0} (result : Result A Fault) (Q : Fault → Type 0) → IsErrAnd result (λ fault. fault ≡ faults.OutOfMemory) → Q faults.OutOfMemory → IfErr result Q
+want_of_memory (Ok x) Q e q = tt
+want_of_memory (Err e) Q is q = subst Q (sym is) q
+
+pub none_judged : (file line : ℕ) (left : List Declaration) (one other items : List declarations.Declaration) (refusal : Option Refusal) → one ≡ items → other ≡ items →
+    refusal ≡ judged_refusal file line left (plain_declarations file line one) → refusal ≡ None → judged_refusal file line left (plain_declarations file line other) ≡ None
+none_judged file line left one other items refusal a b e n =
+    ap (λ (w : List declarations.Declaration). judged_refusal file line left (plain_declarations file line w)) (b ∙ sym a) ∙ sym e ∙ n
+
+pub same_declarations : (file line : ℕ) (statement : PlainStatement) (other items : List declarations.Declaration) → other ≡ items →
+    plain_declarations file line items ≡ declarations_of file statement → plain_declarations file line other ≡ declarations_of file statement
+same_declarations file line statement other items b e = ap (λ (w : List declarations.Declaration). plain_declarations file line w) b ∙ e

@@ -1,0 +1,411 @@
+-- A table behind one more declaration without a fault is the table of the declarations with it.
+use Rattle.std.proofs.Common.{◌≡◌, ◌∙◌, ℕ, zero, suc, ◌+◌, ◌<◌, Bool, true, false, ◌&&◌, ◌||◌, List, [], ◌∷◌, ◌++◌, length, map, flat_map, reverse, Option, Some, None, slice_index_or, unwrap_or, codes, refl, sym, ap, subst, arith}
+use Rattle.std.specs.Prelude.{if◌then◌else◌, IsTrue}
+use Rattle.std.specs.List.{AllByRecursion, list_any, list_all}
+use Rattle.std.proofs.lemmas.List.{append-nil, reverse-append, map-append, length-map}
+use Rattle.cc_defs.specs.Declarations.{Declaration, Sort, Link, Subsort, Object, Variable, Constant, Kinds, Declared, Named, Pair, boolean, sort_named, sort_names, pair_declared, pairs, object_declared, objects, variable_declared, variables, constant_declared, constants, constant_names, symbols, symbol_of, action_of, members, number_in, numbers_where, is_below, value_sort, firsts_behind}
+use Rattle.cc_defs.specs.DeclarationFaults.{is_taken}
+use Rattle.cc_defs.specs.Grammar.{same_text}
+use Rattle.cc_defs.specs.Trees.{PlainShape, PlainKind}
+use Rattle.cc_defs.specs.Trees as trees
+use Rattle.cc_defs.specs.declared.signature.Symbol.{Symbol}
+use Rattle.cc_sorts.specs.declared.table.Placed.{Placed}
+use Rattle.cc_sorts.specs.Dictionaries.{number_of, names_of}
+use Rattle.cc_sorts.specs.Numbers.{union}
+use Rattle.cc_sorts.specs.SortViews.{SortsView, name_at, members_at, with_sort, with_pair, with_object, changed_above}
+use Rattle.cc_sorts.specs.Steps.{with_sorts, put_sort, new_sort, put_pair, new_pair, found_pair, put_object, new_object, found_object, put_variable, new_variable, found_variable, put_symbol, new_symbol, found_symbol, placed_in, symbol_in, action_in, behind, behind_all, IsClear, IsClearPair, IsClearName, IsClearConstant, AllClear}
+use Rattle.cc_sorts.specs.Tables.{TableView, Numbered, IsTable, AreKnown, has_action, place_symbol, placed_from, symbol_names}
+use Rattle.cc_sorts.proofs.Names.{is_among, any_front, any_map, or_false, and_true, number_front, not_there, IsThere, is_there, AreAmong, below_other, firsts_end, flat_end}
+use Rattle.cc_sorts.proofs.Wheres.{where_end, where_same, where_none, where_or, changed_map, at_map}
+
+-- ---- a table by its names, pairs, objects, variables and constants
+
+abbrev pub placed_by : List (List ℕ) → List (List ℕ) → Declared → Placed
+placed_by names others c = record { symbol = symbol_in names others c.shape c.kind; file = c.file; line = c.line }
+
+abbrev pub members_by : List Pair → List Named → List ℕ → List ℕ
+members_by pairs objects sort = numbers_where (λ object. is_below pairs object.1 sort) 0 objects
+
+abbrev pub numbered_by : List (List ℕ) → List Named → List Numbered
+numbered_by names named = map (λ entry. (entry.0, number_in names entry.1)) named
+
+abbrev pub AreSorted : List (List ℕ) → List Named → Type 0
+AreSorted names named = AllByRecursion (λ entry. IsTrue (is_among names entry.1)) named
+
+abbrev pub names_in : List Declared → List (List ℕ)
+names_in constants = map (λ constant. constant.shape.name) constants
+
+abbrev pub AreShaped : List (List ℕ) → List Declared → Type 0
+AreShaped names constants = AllByRecursion (λ constant. IsTrue (list_all (is_among names) constant.shape.sorts)) constants
+
+abbrev pub HaveValues : List (List ℕ) → List Declared → Type 0
+HaveValues names constants = AllByRecursion (λ constant. IsTrue (is_among names (value_sort constant.kind))) constants
+
+abbrev pub HaveActions : List (List ℕ) → List Declared → Type 0
+HaveActions names constants = AllByRecursion (λ constant. IsTrue (has_action names constant.kind)) constants
+
+pub record Has (table : TableView) (names : List (List ℕ)) (pairs : List Pair) (objects variables : List Named) (constants : List Declared) : Type 0 where
+  pub names_are : table.sorts.names ≡ names
+  pub pairs_are : table.sorts.pairs ≡ pairs
+  pub members_are : table.sorts.members ≡ map (members_by pairs objects) names
+  pub objects_are : table.objects ≡ numbered_by names objects
+  pub variables_are : table.variables ≡ numbered_by names variables
+  pub symbols_are : table.symbols ≡ map (placed_by names (names_in constants)) constants
+  pub of_objects : AreSorted names objects
+  pub of_variables : AreSorted names variables
+  pub of_arguments : AreShaped names constants
+  pub of_values : HaveValues names constants
+  pub of_actions : HaveActions (names_in constants) constants
+  pub of_pairs : AreAmong names pairs
+
+action_same : (left : List Declaration) (kind : PlainKind) → action_of left kind ≡ action_in (constant_names left) kind
+action_same left (trees.Plain word sort) = refl
+action_same left (trees.Attribute sort action) = refl
+
+abbrev with_action : List Declaration → Declared → Option ℕ → Placed
+with_action left c action = record {
+  symbol = record {
+    name = c.shape.name;
+    sorts = map (number_in (sort_names left)) c.shape.sorts;
+    kind = (symbol_of left c).kind;
+    domain = number_in (sort_names left) (value_sort c.kind);
+    attribute = action;
+  };
+  file = c.file;
+  line = c.line;
+}
+
+placed_same : (left : List Declaration) (constants : List Declared) →
+    placed_from (map (symbol_of left) constants) constants ≡ map (placed_by (sort_names left) (constant_names left)) constants
+placed_same left [] = refl
+placed_same left (c ∷ cs) =
+    ap (λ (action : Option ℕ). with_action left c action ∷ placed_from (map (symbol_of left) cs) cs) (action_same left c.kind)
+    ∙ ap (λ (w : List Placed). placed_by (sort_names left) (constant_names left) c ∷ w) (placed_same left cs)
+
+pub has_of : (table : TableView) (left : List Declaration) → IsTable table left → Has table (sort_names left) (pairs left) (objects left) (variables left) (constants left)
+has_of table left is = record {
+  names_are = is.names;
+  pairs_are = is.pairs_are;
+  members_are = is.members_are;
+  objects_are = is.objects_are;
+  variables_are = is.variables_are;
+  symbols_are = is.symbols_are ∙ placed_same left (constants left);
+  of_objects = is.known.of_objects;
+  of_variables = is.known.of_variables;
+  of_arguments = is.known.of_arguments;
+  of_values = is.known.of_values;
+  of_actions = is.known.of_actions;
+  of_pairs = is.known.of_pairs;
+}
+
+is_of : (table : TableView) (left : List Declaration) → Has table (sort_names left) (pairs left) (objects left) (variables left) (constants left) → IsTable table left
+is_of table left has = record {
+  names = has.names_are;
+  pairs_are = has.pairs_are;
+  members_are = has.members_are;
+  objects_are = has.objects_are;
+  variables_are = has.variables_are;
+  symbols_are = has.symbols_are ∙ sym (placed_same left (constants left));
+  known = record {
+    of_objects = has.of_objects;
+    of_variables = has.of_variables;
+    of_arguments = has.of_arguments;
+    of_values = has.of_values;
+    of_actions = has.of_actions;
+    of_pairs = has.of_pairs;
+  };
+}
+
+pub table_of : (table : TableView) (left : List Declaration) (names : List (List ℕ)) (ps : List Pair) (os vs : List Named) (cs : List Declared) →
+    sort_names left ≡ names → pairs left ≡ ps → objects left ≡ os → variables left ≡ vs → constants left ≡ cs → Has table names ps os vs cs → IsTable table left
+table_of table left names ps os vs cs a b c d e has =
+    let A : List (List ℕ) → Type 0 = λ w. Has table w ps os vs cs in
+    let B : List Pair → Type 0 = λ w. Has table (sort_names left) w os vs cs in
+    let C : List Named → Type 0 = λ w. Has table (sort_names left) (pairs left) w vs cs in
+    let D : List Named → Type 0 = λ w. Has table (sort_names left) (pairs left) (objects left) w cs in
+    let E : List Declared → Type 0 = λ w. Has table (sort_names left) (pairs left) (objects left) (variables left) w in
+    is_of table left (subst E (sym e) (subst D (sym d) (subst C (sym c) (subst B (sym b) (subst A (sym a) has)))))
+
+-- ---- what is known stays known, and numbers stay
+
+module _ {X : Type 0} (P Q : X → Type 0) where
+  all_more : (xs : List X) → ((x : X) → P x → Q x) → AllByRecursion P xs → AllByRecursion Q xs
+  all_more [] f all = tt
+  all_more (x ∷ xs) f all = (f x all.0, all_more xs f all.1)
+
+  all_end : (xs : List X) (x : X) → ((x : X) → P x → Q x) → AllByRecursion P xs → Q x → AllByRecursion Q (xs ++ x ∷ [])
+  all_end [] x f all here = (here, tt)
+  all_end (y ∷ ys) x f all here = (f y all.0, all_end ys x f all.1 here)
+
+among_more : (names more : List (List ℕ)) (name : List ℕ) → IsTrue (is_among names name) → IsTrue (is_among (names ++ more) name)
+among_more names more name e = any_front (same_text name) names more e
+
+and_both : (a b : Bool) → a ≡ true → b ≡ true → a && b ≡ true
+and_both true b e f = f
+and_both false b e f = absurd cc
+
+all_among_more : (names more sorts : List (List ℕ)) → IsTrue (list_all (is_among names) sorts) → IsTrue (list_all (is_among (names ++ more)) sorts)
+all_among_more names more [] e = refl
+all_among_more names more (sort ∷ sorts) e =
+    let parts = and_true (is_among names sort) (list_all (is_among names) sorts) e in
+    and_both (is_among (names ++ more) sort) (list_all (is_among (names ++ more)) sorts) (among_more names more sort parts.0) (all_among_more names more sorts parts.1)
+
+action_more : (names more : List (List ℕ)) (kind : PlainKind) → IsTrue (has_action names kind) → IsTrue (has_action (names ++ more) kind)
+action_more names more (trees.Plain word sort) e = refl
+action_more names more (trees.Attribute sort action) e = among_more names more action.name e
+
+pairs_more : (names more : List (List ℕ)) (ps : List Pair) → AreAmong names ps → AreAmong (names ++ more) ps
+pairs_more names more [] all = tt
+pairs_more names more (pair ∷ ps) all =
+    let parts = and_true (is_among names pair.0) (is_among names pair.1) all.0 in
+    (and_both (is_among (names ++ more) pair.0) (is_among (names ++ more) pair.1) (among_more names more pair.0 parts.0) (among_more names more pair.1 parts.1), pairs_more names more ps all.1)
+
+sorted_more : (names more : List (List ℕ)) (os : List Named) → AreSorted names os → AreSorted (names ++ more) os
+sorted_more names more os all =
+    let P : Named → Type 0 = λ o. IsTrue (is_among names o.1) in let Q : Named → Type 0 = λ o. IsTrue (is_among (names ++ more) o.1) in
+    all_more P Q os (λ o e. among_more names more o.1 e) all
+
+shaped_more : (names more : List (List ℕ)) (cs : List Declared) → AreShaped names cs → AreShaped (names ++ more) cs
+shaped_more names more cs all =
+    let P : Declared → Type 0 = λ c. IsTrue (list_all (is_among names) c.shape.sorts) in let Q : Declared → Type 0 = λ c. IsTrue (list_all (is_among (names ++ more)) c.shape.sorts) in
+    all_more P Q cs (λ c e. all_among_more names more c.shape.sorts e) all
+
+values_more : (names more : List (List ℕ)) (cs : List Declared) → HaveValues names cs → HaveValues (names ++ more) cs
+values_more names more cs all =
+    let P : Declared → Type 0 = λ c. IsTrue (is_among names (value_sort c.kind)) in let Q : Declared → Type 0 = λ c. IsTrue (is_among (names ++ more) (value_sort c.kind)) in
+    all_more P Q cs (λ c e. among_more names more (value_sort c.kind) e) all
+
+numbered_more : (names more : List (List ℕ)) (os : List Named) → AreSorted names os → numbered_by names os ≡ numbered_by (names ++ more) os
+numbered_more names more [] all = refl
+numbered_more names more (o ∷ os) all =
+    ap (λ (n : ℕ). (o.0, n) ∷ numbered_by names os) (sym (number_front names more o.1 all.0))
+    ∙ ap (λ (w : List Numbered). (o.0, number_in (names ++ more) o.1) ∷ w) (numbered_more names more os all.1)
+
+numbers_more : (names more sorts : List (List ℕ)) → IsTrue (list_all (is_among names) sorts) → map (number_in names) sorts ≡ map (number_in (names ++ more)) sorts
+numbers_more names more [] e = refl
+numbers_more names more (sort ∷ sorts) e =
+    let parts = and_true (is_among names sort) (list_all (is_among names) sorts) e in
+    ap (λ (n : ℕ). n ∷ map (number_in names) sorts) (sym (number_front names more sort parts.0))
+    ∙ ap (λ (w : List ℕ). number_in (names ++ more) sort ∷ w) (numbers_more names more sorts parts.1)
+
+action_stays : (names more : List (List ℕ)) (kind : PlainKind) → IsTrue (has_action names kind) → action_in names kind ≡ action_in (names ++ more) kind
+action_stays names more (trees.Plain word sort) e = refl
+action_stays names more (trees.Attribute sort action) e = ap (λ (n : ℕ). Some n) (sym (number_front names more action.name e))
+
+abbrev placed_as : Declared → List ℕ → ℕ → Option ℕ → Placed
+placed_as c sorts domain action = record {
+  symbol = record { name = c.shape.name; sorts = sorts; kind = (symbol_in [] [] c.shape c.kind).kind; domain = domain; attribute = action };
+  file = c.file;
+  line = c.line;
+}
+
+placed_more_sorts : (names more others : List (List ℕ)) (cs : List Declared) → AreShaped names cs → HaveValues names cs →
+    map (placed_by names others) cs ≡ map (placed_by (names ++ more) others) cs
+placed_more_sorts names more others [] a v = refl
+placed_more_sorts names more others (c ∷ cs) a v =
+    ap (λ (w : List ℕ). placed_as c w (number_in names (value_sort c.kind)) (action_in others c.kind) ∷ map (placed_by names others) cs) (numbers_more names more c.shape.sorts a.0)
+    ∙ ap (λ (n : ℕ). placed_as c (map (number_in (names ++ more)) c.shape.sorts) n (action_in others c.kind) ∷ map (placed_by names others) cs) (sym (number_front names more (value_sort c.kind) v.0))
+    ∙ ap (λ (w : List Placed). placed_by (names ++ more) others c ∷ w) (placed_more_sorts names more others cs a.1 v.1)
+
+placed_more_names : (names others more : List (List ℕ)) (cs : List Declared) → HaveActions others cs →
+    map (placed_by names others) cs ≡ map (placed_by names (others ++ more)) cs
+placed_more_names names others more [] a = refl
+placed_more_names names others more (c ∷ cs) a =
+    ap (λ (action : Option ℕ). placed_as c (map (number_in names) c.shape.sorts) (number_in names (value_sort c.kind)) action ∷ map (placed_by names others) cs) (action_stays others more c.kind a.0)
+    ∙ ap (λ (w : List Placed). placed_by names (others ++ more) c ∷ w) (placed_more_names names others more cs a.1)
+
+-- ---- each step
+
+none_below : (names : List (List ℕ)) (ps : List Pair) (os : List Named) (name : List ℕ) → is_among names name ≡ false → AreAmong names ps → AreSorted names os → members_by ps os name ≡ []
+none_below names ps os name new known all =
+    let P : Named → Type 0 = λ o. IsTrue (is_among names o.1) in let Q : Named → Type 0 = λ o. is_below ps o.1 name ≡ false in
+    where_none (λ (o : Named). is_below ps o.1 name) 0 os (all_more P Q os (λ o e. below_other names ps o.1 name new e known) all)
+
+pub has_sort : (table : TableView) (names : List (List ℕ)) (ps : List Pair) (os vs : List Named) (cs : List Declared) (name : List ℕ) → is_among names name ≡ false →
+    Has table names ps os vs cs → Has (with_sorts table (with_sort table.sorts name)) (names ++ name ∷ []) ps os vs cs
+has_sort table names ps os vs cs name new has = record {
+  names_are = ap (λ (w : List (List ℕ)). w ++ name ∷ []) has.names_are;
+  pairs_are = has.pairs_are;
+  members_are =
+      ap (λ (w : List (List ℕ)). w ++ [] ∷ []) has.members_are
+      ∙ ap (λ (w : List ℕ). map (members_by ps os) names ++ w ∷ []) (sym (none_below names ps os name new has.of_pairs has.of_objects))
+      ∙ sym (map-append (members_by ps os) names (name ∷ []));
+  objects_are = has.objects_are ∙ numbered_more names (name ∷ []) os has.of_objects;
+  variables_are = has.variables_are ∙ numbered_more names (name ∷ []) vs has.of_variables;
+  symbols_are = has.symbols_are ∙ placed_more_sorts names (name ∷ []) (names_in cs) cs has.of_arguments has.of_values;
+  of_objects = sorted_more names (name ∷ []) os has.of_objects;
+  of_variables = sorted_more names (name ∷ []) vs has.of_variables;
+  of_arguments = shaped_more names (name ∷ []) cs has.of_arguments;
+  of_values = values_more names (name ∷ []) cs has.of_values;
+  of_actions = has.of_actions;
+  of_pairs = pairs_more names (name ∷ []) ps has.of_pairs;
+}
+
+or_none : (a b : Bool) → a ≡ (a || (b && false))
+or_none true b = refl
+or_none false true = refl
+or_none false false = refl
+
+or_all : (a b : Bool) → (a || b) ≡ (a || (b && true))
+or_all true b = refl
+or_all false true = refl
+or_all false false = refl
+
+members_pair : (ps : List Pair) (os : List Named) (upper lower sort : List ℕ) →
+    (if is_below ps upper sort then union (members_by ps os sort) (members_by ps os lower) else members_by ps os sort) ≡ members_by ((upper, lower) ∷ ps) os sort
+members_pair ps os upper lower sort = step ps os lower sort (is_below ps upper sort)
+  where
+    step : (ps : List Pair) (os : List Named) (lower sort : List ℕ) (above : Bool) →
+        (if above then union (members_by ps os sort) (members_by ps os lower) else members_by ps os sort)
+        ≡ numbers_where (λ (o : Named). is_below ps o.1 sort || (is_below ps o.1 lower && above)) 0 os
+    step ps os lower sort true =
+        where_or (λ (o : Named). is_below ps o.1 sort) (λ (o : Named). is_below ps o.1 lower) 0 os
+        ∙ where_same (λ (o : Named). is_below ps o.1 sort || is_below ps o.1 lower) (λ (o : Named). is_below ps o.1 sort || (is_below ps o.1 lower && true)) 0 os
+        (λ o. or_all (is_below ps o.1 sort) (is_below ps o.1 lower))
+    step ps os lower sort false =
+        where_same (λ (o : Named). is_below ps o.1 sort) (λ (o : Named). is_below ps o.1 sort || (is_below ps o.1 lower && false)) 0 os
+        (λ o. or_none (is_below ps o.1 sort) (is_below ps o.1 lower))
+
+abbrev changed_by : List Pair → List Named → List ℕ → List ℕ → List (List ℕ) → List (List ℕ) → List (List ℕ)
+changed_by ps os sort list names lists = changed_above ps sort (λ (w : List ℕ). union w list) names lists
+
+pub has_pair : (table : TableView) (names : List (List ℕ)) (ps : List Pair) (os vs : List Named) (cs : List Declared) (upper lower : ℕ) (above under : List ℕ) →
+    slice_index_or names upper [] ≡ above → slice_index_or names lower [] ≡ under → lower < length names → is_among names above ≡ true → is_among names under ≡ true →
+    Has table names ps os vs cs → Has (with_sorts table (with_pair table.sorts upper lower)) names ((above, under) ∷ ps) os vs cs
+has_pair table names ps os vs cs upper lower above under a u within p q has =
+    let upper_name : name_at table.sorts upper ≡ above = ap (λ (w : List (List ℕ)). slice_index_or w upper []) has.names_are ∙ a in
+    let lower_name : name_at table.sorts lower ≡ under = ap (λ (w : List (List ℕ)). slice_index_or w lower []) has.names_are ∙ u in
+    let lower_list : members_at table.sorts lower ≡ members_by ps os under =
+    ap (λ (w : List (List ℕ)). slice_index_or w lower []) has.members_are ∙ at_map (members_by ps os) names lower within ∙ ap (members_by ps os) u in
+    record {
+      names_are = has.names_are;
+      pairs_are = ap (λ (w : List ℕ). (w, name_at table.sorts lower) ∷ table.sorts.pairs) upper_name ∙ ap (λ (w : List ℕ). (above, w) ∷ table.sorts.pairs) lower_name ∙ ap (λ (w : List Pair). (above, under) ∷ w) has.pairs_are;
+      members_are =
+          ap (λ (w : List Pair). changed_by w os (name_at table.sorts upper) (members_at table.sorts lower) table.sorts.names table.sorts.members) has.pairs_are
+          ∙ ap (λ (w : List ℕ). changed_by ps os w (members_at table.sorts lower) table.sorts.names table.sorts.members) upper_name
+          ∙ ap (λ (w : List ℕ). changed_by ps os above w table.sorts.names table.sorts.members) lower_list
+          ∙ ap (λ (w : List (List ℕ)). changed_by ps os above (members_by ps os under) w table.sorts.members) has.names_are
+          ∙ ap (λ (w : List (List ℕ)). changed_by ps os above (members_by ps os under) names w) has.members_are
+          ∙ changed_map ps above (λ (w : List ℕ). union w (members_by ps os under)) (members_by ps os) (members_by ((above, under) ∷ ps) os) names (members_pair ps os above under);
+      objects_are = has.objects_are;
+      variables_are = has.variables_are;
+      symbols_are = has.symbols_are;
+      of_objects = has.of_objects;
+      of_variables = has.of_variables;
+      of_arguments = has.of_arguments;
+      of_values = has.of_values;
+      of_actions = has.of_actions;
+      of_pairs = (and_both (is_among names above) (is_among names under) p q, has.of_pairs);
+    }
+
+members_object : (ps : List Pair) (os : List Named) (o : Named) (number : ℕ) (sort : List ℕ) → number ≡ length os →
+    (if is_below ps o.1 sort then members_by ps os sort ++ number ∷ [] else members_by ps os sort) ≡ members_by ps (os ++ o ∷ []) sort
+members_object ps os o number sort e =
+    step (members_by ps os sort) number (is_below ps o.1 sort)
+    ∙ ap (λ (n : ℕ). members_by ps os sort ++ (if is_below ps o.1 sort then n ∷ [] else [])) from_zero
+    ∙ sym (where_end (λ (x : Named). is_below ps x.1 sort) 0 os o)
+  where
+    from_zero : number ≡ 0 + length os
+    from_zero = omega (arith, e)
+
+    step : (list : List ℕ) (number : ℕ) (here : Bool) → (if here then list ++ number ∷ [] else list) ≡ list ++ (if here then number ∷ [] else [])
+    step list number true = refl
+    step list number false = sym (append-nil list)
+
+abbrev appended_by : List Pair → List ℕ → ℕ → List (List ℕ) → List (List ℕ) → List (List ℕ)
+appended_by ps sort number names lists = changed_above ps sort (λ (w : List ℕ). w ++ number ∷ []) names lists
+
+pub has_object : (table : TableView) (names : List (List ℕ)) (ps : List Pair) (os vs : List Named) (cs : List Declared) (name sort : List ℕ) (number : ℕ) →
+    slice_index_or names number [] ≡ sort → number_in names sort ≡ number → is_among names sort ≡ true →
+    Has table names ps os vs cs → Has (new_object table name number) names ps (os ++ (name, sort) ∷ []) vs cs
+has_object table names ps os vs cs name sort number a b p has =
+    let sort_name : name_at table.sorts number ≡ sort = ap (λ (w : List (List ℕ)). slice_index_or w number []) has.names_are ∙ a in
+    let count : length table.objects ≡ length os = ap (λ (w : List Numbered). length w) has.objects_are ∙ length-map os (λ (o : Named). (o.0, number_in names o.1)) in
+    let Q : Named → Type 0 = λ o. IsTrue (is_among names o.1) in
+    record {
+      names_are = has.names_are;
+      pairs_are = has.pairs_are;
+      members_are =
+          ap (λ (w : List Pair). appended_by w (name_at table.sorts number) (length table.objects) table.sorts.names table.sorts.members) has.pairs_are
+          ∙ ap (λ (w : List ℕ). appended_by ps w (length table.objects) table.sorts.names table.sorts.members) sort_name
+          ∙ ap (λ (w : List (List ℕ)). appended_by ps sort (length table.objects) w table.sorts.members) has.names_are
+          ∙ ap (λ (w : List (List ℕ)). appended_by ps sort (length table.objects) names w) has.members_are
+          ∙ changed_map ps sort (λ (w : List ℕ). w ++ length table.objects ∷ []) (members_by ps os) (members_by ps (os ++ (name, sort) ∷ [])) names
+          (λ (n : List ℕ). members_object ps os (name, sort) (length table.objects) n count);
+      objects_are =
+          ap (λ (w : List Numbered). w ++ (name, number) ∷ []) has.objects_are
+          ∙ ap (λ (n : ℕ). numbered_by names os ++ (name, n) ∷ []) (sym b)
+          ∙ sym (map-append (λ (o : Named). (o.0, number_in names o.1)) os ((name, sort) ∷ []));
+      variables_are = has.variables_are;
+      symbols_are = has.symbols_are;
+      of_objects = all_end Q Q os (name, sort) (λ o e. e) has.of_objects p;
+      of_variables = has.of_variables;
+      of_arguments = has.of_arguments;
+      of_values = has.of_values;
+      of_actions = has.of_actions;
+      of_pairs = has.of_pairs;
+    }
+
+pub has_variable : (table : TableView) (names : List (List ℕ)) (ps : List Pair) (os vs : List Named) (cs : List Declared) (name sort : List ℕ) (number : ℕ) →
+    number_in names sort ≡ number → is_among names sort ≡ true →
+    Has table names ps os vs cs → Has (new_variable table name number) names ps os (vs ++ (name, sort) ∷ []) cs
+has_variable table names ps os vs cs name sort number b p has =
+    let Q : Named → Type 0 = λ o. IsTrue (is_among names o.1) in
+    record {
+      names_are = has.names_are;
+      pairs_are = has.pairs_are;
+      members_are = has.members_are;
+      objects_are = has.objects_are;
+      variables_are =
+          ap (λ (w : List Numbered). w ++ (name, number) ∷ []) has.variables_are
+          ∙ ap (λ (n : ℕ). numbered_by names vs ++ (name, n) ∷ []) (sym b)
+          ∙ sym (map-append (λ (o : Named). (o.0, number_in names o.1)) vs ((name, sort) ∷ []));
+      symbols_are = has.symbols_are;
+      of_objects = has.of_objects;
+      of_variables = all_end Q Q vs (name, sort) (λ o e. e) has.of_variables p;
+      of_arguments = has.of_arguments;
+      of_values = has.of_values;
+      of_actions = has.of_actions;
+      of_pairs = has.of_pairs;
+    }
+
+symbols_named : (names others : List (List ℕ)) (cs : List Declared) → map (λ (p : Placed). p.symbol.name) (map (placed_by names others) cs) ≡ names_in cs
+symbols_named names others [] = refl
+symbols_named names others (c ∷ cs) = ap (λ (w : List (List ℕ)). c.shape.name ∷ w) (symbols_named names others cs)
+
+pub named_symbols : (table : TableView) (names : List (List ℕ)) (ps : List Pair) (os vs : List Named) (cs : List Declared) → Has table names ps os vs cs → symbol_names table ≡ names_in cs
+named_symbols table names ps os vs cs has = ap (λ (w : List Placed). map (λ (p : Placed). p.symbol.name) w) has.symbols_are ∙ symbols_named names (names_in cs) cs
+
+pub has_symbol : (table : TableView) (names : List (List ℕ)) (ps : List Pair) (os vs : List Named) (cs : List Declared) (c : Declared) →
+    IsTrue (list_all (is_among names) c.shape.sorts) → IsTrue (is_among names (value_sort c.kind)) → IsTrue (has_action (names_in cs) c.kind) →
+    Has table names ps os vs cs → Has (new_symbol table (placed_in table c.shape c.kind c.file c.line)) names ps os vs (cs ++ c ∷ [])
+has_symbol table names ps os vs cs c p q r has =
+    let more = c.shape.name ∷ [] in
+    let grown : names_in (cs ++ c ∷ []) ≡ names_in cs ++ more = map-append (λ (d : Declared). d.shape.name) cs (c ∷ []) in
+    let placed : placed_in table c.shape c.kind c.file c.line ≡ placed_by names (names_in cs ++ more) c =
+    ap (λ (w : List (List ℕ)). placed_by w (symbol_names table) c) has.names_are
+    ∙ ap (λ (w : List (List ℕ)). placed_by names w c) (named_symbols table names ps os vs cs has)
+    ∙ ap (λ (action : Option ℕ). placed_as c (map (number_in names) c.shape.sorts) (number_in names (value_sort c.kind)) action) (action_stays (names_in cs) more c.kind r) in
+    let A : Declared → Type 0 = λ d. IsTrue (list_all (is_among names) d.shape.sorts) in
+    let B : Declared → Type 0 = λ d. IsTrue (is_among names (value_sort d.kind)) in
+    let D : Declared → Type 0 = λ d. IsTrue (has_action (names_in cs) d.kind) in
+    let E : Declared → Type 0 = λ d. IsTrue (has_action (names_in cs ++ more) d.kind) in
+    let F : List (List ℕ) → Type 0 = λ w. HaveActions w (cs ++ c ∷ []) in
+    record {
+      names_are = has.names_are;
+      pairs_are = has.pairs_are;
+      members_are = has.members_are;
+      objects_are = has.objects_are;
+      variables_are = has.variables_are;
+      symbols_are =
+          ap (λ (w : List Placed). w ++ placed_in table c.shape c.kind c.file c.line ∷ []) (has.symbols_are ∙ placed_more_names names (names_in cs) more cs has.of_actions)
+          ∙ ap (λ (w : Placed). map (placed_by names (names_in cs ++ more)) cs ++ w ∷ []) placed
+          ∙ sym (map-append (placed_by names (names_in cs ++ more)) cs (c ∷ []))
+          ∙ ap (λ (w : List (List ℕ)). map (placed_by names w) (cs ++ c ∷ [])) (sym grown);
+      of_objects = has.of_objects;
+      of_variables = has.of_variables;
+      of_arguments = all_end A A cs c (λ d e. e) has.of_arguments p;
+      of_values = all_end B B cs c (λ d e. e) has.of_values q;
+      of_actions = subst F (sym grown) (all_end D E cs c (λ d e. action_more (names_in cs) more d.kind e) has.of_actions (action_more (names_in cs) more c.kind r));
+      of_pairs = has.of_pairs;
+    }

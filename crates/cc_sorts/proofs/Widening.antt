@@ -1,0 +1,176 @@
+-- The parts of the sorts behind a pair.
+use Rattle.std.proofs.Common.{◌≡◌, ◌∙◌, ℕ, ◌<◌, Bool, true, false, ◌||◌, ◌&&◌, cond, List, [], ◌∷◌, ◌++◌, length, refl, sym, subst, ap}
+use Rattle.std.specs.Prelude.{◌==◌}
+use Rattle.std.specs.List.{AllByRecursion, list_any}
+use Rattle.std.proofs.lemmas.Bool.{eqb-true}
+use Rattle.std.proofs.lemmas.List.Folds.{list_any-append}
+use Rattle.indexmap.specs.IndexSet.{insert_key}
+use Rattle.cc_defs.specs.Declarations.{Pair, is_below}
+use Rattle.cc_sorts.specs.declared.sorts.SortPair.{SortPair}
+use Rattle.cc_sorts.specs.Lists.{list_at, at_each, AreBelow}
+use Rattle.cc_sorts.specs.Numbers.{Ascends, has, union}
+use Rattle.cc_sorts.specs.SortParts.{named_behind, named_pairs, same_numbers, IsWithin, AreThose, AreKept}
+use Rattle.cc_sorts.specs.SortViews.{SortsView, changed_above, with_pair}
+use Rattle.cc_sorts.proofs.Among.{has_union}
+use Rattle.cc_sorts.proofs.Changing.{each_at, length_each, ascend_each, each_is_above}
+use Rattle.cc_sorts.proofs.Growing.{seen}
+use Rattle.cc_sorts.proofs.Unions.{all_union, ascends_union}
+use Rattle.cc_sorts.proofs.Vectors.{ascends_at}
+
+or_false : (a : Bool) → a ≡ (a || false)
+or_false true = refl
+or_false false = refl
+
+and_swap : (a b : Bool) → (a && b) ≡ (b && a)
+and_swap true true = refl
+and_swap true false = refl
+and_swap false true = refl
+and_swap false false = refl
+
+-- ---- pairs
+
+named_push : (names : List (List ℕ)) (done : List Pair) (pairs : List SortPair) (pair : SortPair) →
+    named_behind names done (pairs ++ pair ∷ []) ≡ (list_at names pair.upper, list_at names pair.lower) ∷ named_behind names done pairs
+named_push names done [] pair = refl
+named_push names done (first ∷ pairs) pair = named_push names ((list_at names first.upper, list_at names first.lower) ∷ done) pairs pair
+
+within_push : (count : ℕ) (pairs : List SortPair) (pair : SortPair) → AllByRecursion (IsWithin count) pairs → IsWithin count pair → AllByRecursion (IsWithin count) (pairs ++ pair ∷ [])
+within_push count [] pair all here = (here, tt)
+within_push count (first ∷ pairs) pair all here = (all.0, within_push count pairs pair all.1 here)
+
+and_parts : (a b : Bool) → (a && b) ≡ true → (a ≡ true) × (b ≡ true)
+and_parts true true h = (refl, refl)
+and_parts true false h = absurd cc
+and_parts false b h = absurd cc
+
+same_from : (q pair : SortPair) → same_numbers q pair ≡ true → q ≡ pair
+same_from q pair h =
+    let parts = and_parts (q.upper == pair.upper) (q.lower == pair.lower) h in
+    ap (λ (n : ℕ). (let made : SortPair = record { upper = n; lower = q.lower } in made)) (eqb-true q.upper pair.upper parts.0)
+    ∙ ap (λ (n : ℕ). (let made : SortPair = record { upper = pair.upper; lower = n } in made)) (eqb-true q.lower pair.lower parts.1)
+
+inserted : (known : List SortPair) (pair q : SortPair) →
+    list_any (same_numbers q) (insert_key same_numbers known pair) ≡ (list_any (same_numbers q) known || (same_numbers q pair || false))
+inserted known pair q = by (list_any (same_numbers pair) known) refl
+  where
+    there : (c : Bool) → same_numbers q pair ≡ c → list_any (same_numbers pair) known ≡ true → list_any (same_numbers q) known ≡ (list_any (same_numbers q) known || (c || false))
+    there false e found = or_false (list_any (same_numbers q) known)
+    there true e found =
+        let mine : list_any (same_numbers q) known ≡ true = ap (λ (p : SortPair). list_any (same_numbers p) known) (same_from q pair e) ∙ found in
+        mine ∙ sym (ap (λ (b : Bool). b || true) mine)
+
+    by : (b : Bool) → list_any (same_numbers pair) known ≡ b →
+        list_any (same_numbers q) (insert_key same_numbers known pair) ≡ (list_any (same_numbers q) known || (same_numbers q pair || false))
+    by true e =
+        ap (λ (b : Bool). list_any (same_numbers q) (cond b known (known ++ pair ∷ []))) e
+        ∙ there (same_numbers q pair) refl e
+    by false e =
+        ap (λ (b : Bool). list_any (same_numbers q) (cond b known (known ++ pair ∷ []))) e
+        ∙ list_any-append (same_numbers q) known (pair ∷ [])
+
+-- ---- lists
+
+has_changed : (b : Bool) (j : ℕ) (list others : List ℕ) → has j (cond b (union list others) list) ≡ (has j list || (b && has j others))
+has_changed true j list others = has_union j list others
+has_changed false j list others = or_false (has j list)
+
+below_changed : (b : Bool) (count : ℕ) (list others : List ℕ) → AreBelow count list → AreBelow count others → AreBelow count (cond b (union list others) list)
+below_changed true count list others one other = all_union (λ n. n < count) list others one other
+below_changed false count list others one other = one
+
+those_widened : (count : ℕ) (test more : ℕ → ℕ → Bool) (lists : List (List ℕ)) (numbers others : List ℕ) → AreThose count test lists → Ascends numbers → AreBelow count numbers →
+    Ascends others → AreBelow count others → ((i j : ℕ) → i < count → j < count → more i j ≡ (test i j || (has i numbers && has j others))) →
+    AreThose count more (at_each numbers (λ list. union list others) lists)
+those_widened count test more lists numbers others are hn wn ho wo is_more =
+    let change : List ℕ → List ℕ = λ list. union list others in
+    let within_lists : AreBelow (length lists) numbers = subst (λ (n : ℕ). AreBelow n numbers) (sym are.as_many) wn in
+    record {
+      as_many = length_each change numbers lists ∙ are.as_many;
+      those = λ i j hi hj.
+          ap (has j) (each_at change numbers lists i hn within_lists) ∙ has_changed (has i numbers) j (list_at lists i) others
+          ∙ ap (λ (b : Bool). b || (has i numbers && has j others)) (are.those i j hi hj) ∙ sym (is_more i j hi hj);
+      within = λ i hi. subst (AreBelow count) (sym (each_at change numbers lists i hn within_lists)) (below_changed (has i numbers) count (list_at lists i) others (are.within i hi) wo);
+      ascend = ascend_each change (λ list. ascends_union list others ho) numbers lists are.ascend;
+    }
+
+module _ (names : List (List ℕ)) (pairs known : List SortPair) (above below members : List (List ℕ)) (upper lower : ℕ)
+    (kept : AreKept names pairs known above below members) (hu : upper < length names) (hl : lower < length names) (uppers lowers objects : List ℕ)
+    (is_uppers : uppers ≡ list_at above upper) (is_lowers : lowers ≡ list_at below lower) (is_objects : objects ≡ list_at members lower) where
+  abbrev pair : SortPair
+  pair = record { upper = upper; lower = lower }
+
+  uppers_ascend : Ascends uppers
+  uppers_ascend = subst Ascends (sym is_uppers) (ascends_at above upper kept.above_are.ascend)
+
+  lowers_ascend : Ascends lowers
+  lowers_ascend = subst Ascends (sym is_lowers) (ascends_at below lower kept.below_are.ascend)
+
+  objects_ascend : Ascends objects
+  objects_ascend = subst Ascends (sym is_objects) (ascends_at members lower kept.members_ascend)
+
+  uppers_within : AreBelow (length names) uppers
+  uppers_within = subst (AreBelow (length names)) (sym is_uppers) (kept.above_are.within upper hu)
+
+  lowers_within : AreBelow (length names) lowers
+  lowers_within = subst (AreBelow (length names)) (sym is_lowers) (kept.below_are.within lower hl)
+
+  has_upper : (j : ℕ) → j < length names → has j uppers ≡ is_below (named_pairs names pairs) (list_at names upper) (list_at names j)
+  has_upper j hj = ap (has j) is_uppers ∙ kept.above_are.those upper j hu hj
+
+  has_lower : (i : ℕ) → i < length names → has i lowers ≡ is_below (named_pairs names pairs) (list_at names i) (list_at names lower)
+  has_lower i hi = ap (has i) is_lowers ∙ kept.below_are.those lower i hl hi
+
+  test_widened : (i j : ℕ) → i < length names → j < length names →
+      is_below (named_pairs names (pairs ++ pair ∷ [])) (list_at names i) (list_at names j)
+      ≡ (is_below (named_pairs names pairs) (list_at names i) (list_at names j) || (has i lowers && has j uppers))
+  test_widened i j hi hj =
+      ap (λ (ps : List Pair). is_below ps (list_at names i) (list_at names j)) (named_push names [] pairs pair)
+      ∙ ap (λ (b : Bool). is_below (named_pairs names pairs) (list_at names i) (list_at names j) || (b && is_below (named_pairs names pairs) (list_at names upper) (list_at names j))) (sym (has_lower i hi))
+      ∙ ap (λ (b : Bool). is_below (named_pairs names pairs) (list_at names i) (list_at names j) || (has i lowers && b)) (sym (has_upper j hj))
+
+  pub kept_pair : (upper == lower) ≡ false → (more_pairs more_known : List SortPair) (more_above more_below more_members : List (List ℕ)) → more_pairs ≡ pairs ++ pair ∷ [] →
+      more_known ≡ insert_key same_numbers known pair → more_above ≡ at_each lowers (λ list. union list uppers) above →
+      more_below ≡ at_each uppers (λ list. union list lowers) below → more_members ≡ at_each uppers (λ list. union list objects) members →
+      AreKept names more_pairs more_known more_above more_below more_members
+  kept_pair apart more_pairs more_known more_above more_below more_members is_pairs is_known is_above is_below_lists is_members =
+      rw (is_pairs, is_known, is_above, is_below_lists, is_members) widened
+    where
+      widened : AreKept names (pairs ++ pair ∷ []) (insert_key same_numbers known pair) (at_each lowers (λ list. union list uppers) above)
+          (at_each uppers (λ list. union list lowers) below) (at_each uppers (λ list. union list objects) members)
+      widened = record {
+        few = kept.few;
+        distinct = kept.distinct;
+        pairs_within = within_push (length names) pairs pair kept.pairs_within (hu, hl, apart);
+        known_are = λ q. inserted known pair q ∙ ap (λ (b : Bool). b || (same_numbers q pair || false)) (kept.known_are q) ∙ sym (list_any-append (same_numbers q) pairs (pair ∷ []));
+        above_are = those_widened (length names) (λ i j. is_below (named_pairs names pairs) (list_at names i) (list_at names j))
+            (λ i j. is_below (named_pairs names (pairs ++ pair ∷ [])) (list_at names i) (list_at names j)) above lowers uppers kept.above_are
+            lowers_ascend lowers_within uppers_ascend uppers_within test_widened;
+        below_are = those_widened (length names) (λ i j. is_below (named_pairs names pairs) (list_at names j) (list_at names i))
+            (λ i j. is_below (named_pairs names (pairs ++ pair ∷ [])) (list_at names j) (list_at names i)) below uppers lowers kept.below_are
+            uppers_ascend uppers_within lowers_ascend lowers_within
+            (λ i j hi hj. test_widened j i hj hi ∙ ap (λ (b : Bool). is_below (named_pairs names pairs) (list_at names j) (list_at names i) || b) (and_swap (has j lowers) (has i uppers)));
+        members_count = length_each (λ list. union list objects) uppers members ∙ kept.members_count;
+        members_ascend = ascend_each (λ list. union list objects) (λ list. ascends_union list objects objects_ascend) uppers members kept.members_ascend;
+      }
+
+  pub seen_pair : (more_pairs : List SortPair) (more_members : List (List ℕ)) → more_pairs ≡ pairs ++ pair ∷ [] →
+      more_members ≡ at_each uppers (λ list. union list objects) members →
+      seen names more_pairs more_members ≡ with_pair (seen names pairs members) upper lower
+  seen_pair more_pairs more_members is_pairs is_members =
+      ap (λ (ps : List SortPair). seen names ps more_members) is_pairs
+      ∙ ap (λ (ps : List Pair). (let view : SortsView = record { names = names; pairs = ps; members = more_members } in view)) (named_push names [] pairs pair)
+      ∙ ap (λ (lists : List (List ℕ)). (let view : SortsView = record { names = names; pairs = (list_at names upper, list_at names lower) ∷ named_pairs names pairs; members = lists } in view))
+      (is_members
+      ∙ each_is_above (λ list. union list objects) (named_pairs names pairs) (list_at names upper) names members uppers kept.members_count uppers_ascend
+      (subst (λ (n : ℕ). AreBelow n uppers) (sym kept.members_count) uppers_within) has_upper)
+      ∙ ap (λ (o : List ℕ). (let view : SortsView = record { names = names; pairs = (list_at names upper, list_at names lower) ∷ named_pairs names pairs; members = changed_above (named_pairs names pairs) (list_at names upper) (λ list. union list o) names members } in view)) is_objects
+
+-- the same change, of what is the same
+pub each_same : (numbers read others again : List ℕ) (lists room new : List (List ℕ)) → new ≡ at_each read (λ list. union list again) room →
+    read ≡ numbers → again ≡ others → room ≡ lists → new ≡ at_each numbers (λ list. union list others) lists
+each_same numbers read others again lists room new is same_numbers_read same_others same_lists =
+    is ∙ ap (λ (n : List ℕ). at_each n (λ list. union list again) room) same_numbers_read
+    ∙ ap (λ (o : List ℕ). at_each numbers (λ list. union list o) room) same_others ∙ ap (at_each numbers (λ list. union list others)) same_lists
+
+pub pushed : {X : Type 0} (old room new : List X) (x : X) → new ≡ room ++ x ∷ [] → room ≡ old → new ≡ old ++ x ∷ []
+pushed old room new x is same = is ∙ ap (λ xs. xs ++ x ∷ []) same

@@ -1,0 +1,15 @@
+use Rattle.std.proofs.Common.{◌∙◌, ◌||◌, refl, sym, ap}
+use Rattle.cc_sorts.specs.Lefts.{left_constant, left_has_sort, left_has_name, left_has_pair, left_has_upper, has_sort, has_name, plain_pair}
+use Rattle.cc_sorts.proofs.Lefts.{or_false, or_none, name_added, pair_added}
+use Rattle.cc_sorts.proofs.left.Left.add_sort.Goals as goal
+
+pub returns : goal.returns
+returns c = record {
+  table_is = refl;
+  linked = λ linked. linked;
+  uppers_are = λ name. sym (or_false (left_has_upper c.args.self.now name));
+  constants_are = λ name. sym (or_none (left_constant c.args.self.now name));
+  sorts_are = λ name. name_added (has_sort c.args.self.now.table.now name) _ _ c.args.name.now name (c.in_ok-insert.ensures.updates.0 (record { ref_ptr = (0, 0); now = name }));
+  names_are = λ name. sym (or_false (left_has_name c.args.self.now name));
+  pairs_are = λ pair. sym (or_false (left_has_pair c.args.self.now pair));
+}

@@ -1,0 +1,14 @@
+use Rattle.std.proofs.Common.{◌≡◌, ◌∙◌, List, ℕ, ◌+◌, ap, length, sym, subst, arith}
+use Rattle.cc_defs.specs.Declarations.{is_below, numbers_where}
+use Rattle.cc_sorts.specs.Dictionaries.{names_of}
+use Rattle.cc_sorts.specs.Lists.{lists_of, list_at}
+use Rattle.cc_sorts.specs.SortParts.{named_pairs}
+use Rattle.cc_sorts.specs.SortViews.{SortsView, name_at}
+use Rattle.cc_sorts.proofs.Numbered.{above_are}
+use Rattle.cc_sorts.proofs.Reading.{read_above}
+use Rattle.cc_sorts.proofs.sorts.Sorts.above.Goals as goal
+
+pub returns : goal.returns
+returns c =
+    read_above c.self.inside c.args.self.now c.self.view_is c.self.invariant c.args.sort c.requires c.index.result.now c.deref.result.now c.deref.ensures.value c.index.ensures
+    ∙ above_are c.self.inside c.args.self.now c.self.view_is c.self.invariant c.args.sort c.requires

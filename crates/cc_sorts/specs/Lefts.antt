@@ -1,0 +1,145 @@
+-- What stands to the left of a declaration: the declarations of a table, and those of the same statement before it.
+use Rattle.std.specs.Prelude.{◌≡◌, ℕ, Bool, true, false, ◌||◌, ◌&&◌, ◌==◌, List, [], ◌∷◌, map, is_none, Option, None, Some}
+use Rattle.std.specs.List.{list_any, list_all, find}
+use Rattle.std.specs.Map.{lookup}
+use Rattle.std.specs.Option.{option_map, option_or}
+use Rattle.std.specs.declared.vec.Vec.{Vec}
+use Rattle.cc_defs.specs.declared.signature.Symbol.{Symbol}
+use Rattle.cc_defs.specs.DeclarationFaults.{is_sort, is_taken, same_pair, constant_named, sorts_of_constant, is_boolean_action, is_plain, same_sorts}
+use Rattle.cc_defs.specs.Declarations.{Declaration, Declared, boolean, is_action, kind_of_constant, value_sort, Pair, pairs, sort_named, pair_declared, object_declared, variable_declared, constant_declared}
+use Rattle.cc_defs.specs.Trees.{PlainShape, PlainKind, plain_shape, plain_kind}
+use Rattle.cc_defs.specs.Grammar.{same_text}
+use Rattle.cc_sorts.specs.Dictionaries.{names_of, number_of}
+use Rattle.cc_sorts.specs.Tables.{TableView, symbol_names, IsTable}
+use Rattle.cc_sorts.specs.declared.left.Constant.{Constant}
+use Rattle.cc_sorts.specs.declared.left.Left.{Left}
+use Rattle.cc_sorts.specs.declared.left.SortPair.{SortPair}
+use denote.Bor.{Bor}
+
+abbrev pub plain_pair : SortPair → Pair
+plain_pair pair = (pair.upper.now, pair.lower.now)
+
+-- whether the table has the sort
+abbrev pub has_sort : TableView → List ℕ → Bool
+has_sort table name = list_any (same_text name) table.sorts.names
+
+-- whether an object, a variable or a constant of the table has the name
+abbrev pub has_name : TableView → List ℕ → Bool
+has_name table name =
+    list_any (same_text name) (names_of table.objects)
+    || (list_any (same_text name) (names_of table.variables) || list_any (same_text name) (symbol_names table))
+
+-- the symbol of a name
+abbrev pub table_symbol : TableView → List ℕ → Option Symbol
+table_symbol table name = option_map (λ placed. placed.symbol) (find (λ placed. same_text name placed.symbol.name) table.symbols)
+
+abbrev pub left_has_sort : Left → List ℕ → Bool
+left_has_sort left name = has_sort left.table.now name || list_any (λ sort. same_text name sort.now) left.sorts.keys
+
+abbrev pub left_has_name : Left → List ℕ → Bool
+left_has_name left name = has_name left.table.now name || list_any (λ taken. same_text name taken.now) left.names.keys
+
+abbrev pub left_has_pair : Left → Pair → Bool
+left_has_pair left pair = list_any (same_pair pair) left.table.now.sorts.pairs || list_any (λ other. same_pair pair (plain_pair other)) left.pairs.keys
+
+abbrev pub left_has_upper : Left → List ℕ → Bool
+left_has_upper left name = list_any (λ pair. same_text name pair.0) left.table.now.sorts.pairs || list_any (λ sort. same_text name sort.now) left.uppers.keys
+
+-- a shape and a kind
+abbrev pub Shaped : Type 0
+Shaped = PlainShape × PlainKind
+
+abbrev pub shaped : Declared → Shaped
+shaped constant = (constant.shape, constant.kind)
+
+abbrev pub arguments_of : Option Shaped → List (List ℕ)
+arguments_of None = []
+arguments_of (Some known) = known.0.sorts
+
+abbrev pub plain_constant : Constant → Shaped
+plain_constant constant = (plain_shape constant.shape.now, plain_kind constant.kind.now)
+
+-- the new constant of a name
+abbrev pub left_constant : Left → List ℕ → Option Shaped
+left_constant left name = option_map plain_constant (lookup (λ key. same_text name key.now) left.constants.entries)
+
+-- the new upper sorts of a lower sort
+abbrev pub texts_of : {Z : Type 0} → Option (Vec (Bor (List ℕ)) Z) → List (List ℕ)
+texts_of None = []
+texts_of (Some vector) = map (λ text. text.now) vector.items
+
+abbrev pub uppers_in : {Z : Type 0} → List (Bor (List ℕ) × Vec (Bor (List ℕ)) Z) → List ℕ → List (List ℕ)
+uppers_in entries name = texts_of (lookup (λ key. same_text name key.now) entries)
+
+abbrev pub new_uppers : Left → List ℕ → List (List ℕ)
+new_uppers left name = uppers_in left.uppers_of.entries name
+
+-- the new pairs are also found by their lower sorts
+abbrev pub IsLinked : Left → Type 0
+IsLinked left = (pair : Pair) → list_any (λ other. same_pair pair (plain_pair other)) left.pairs.keys ≡ list_any (same_text pair.0) (new_uppers left pair.1)
+
+-- a pair was added by its lower sort
+abbrev pub AddsUpper : {Z : Type 0} → List (Bor (List ℕ) × Vec (Bor (List ℕ)) Z) → List (Bor (List ℕ) × Vec (Bor (List ℕ)) Z) → Pair → Type 0
+AddsUpper old new pair =
+    (other : Pair) → list_any (same_text other.0) (uppers_in new other.1) ≡ (list_any (same_text other.0) (uppers_in old other.1) || same_pair other pair)
+
+-- the table's declarations with the new ones that were added are these
+pub record IsLeft (left : Left) (declarations : List Declaration) : Type 0 where
+  pub base : List Declaration
+  pub is_table : IsTable left.table.now base
+  pub sorts_are : (name : List ℕ) → is_sort declarations name ≡ left_has_sort left name
+  pub names_are : (name : List ℕ) → is_taken declarations name ≡ left_has_name left name
+  pub pairs_are : (pair : Pair) → list_any (same_pair pair) (pairs declarations) ≡ left_has_pair left pair
+  pub uppers_are : (name : List ℕ) → list_any (λ pair. same_text name pair.0) (pairs declarations) ≡ left_has_upper left name
+  pub linked : IsLinked left
+  pub constants_are : (name : List ℕ) → option_map shaped (constant_named declarations name) ≡ option_or (option_map shaped (constant_named base name)) (left_constant left name)
+
+-- whether a declaration takes the name
+abbrev pub takes : List ℕ → Declaration → Bool
+takes name declaration =
+    list_any (λ object. same_text name object.0) (object_declared declaration)
+    || (list_any (λ variable. same_text name variable.0) (variable_declared declaration) || list_any (same_text name) (map (λ constant. constant.shape.name) (constant_declared declaration)))
+
+-- the new one has the declaration too
+pub record Adds (old new : Left) (declaration : Declaration) : Type 0 where
+  pub table_is : new.table ≡ old.table
+  pub sorts_are : (name : List ℕ) → left_has_sort new name ≡ (left_has_sort old name || list_any (same_text name) (sort_named declaration))
+  pub names_are : (name : List ℕ) → left_has_name new name ≡ (left_has_name old name || takes name declaration)
+  pub pairs_are : (pair : Pair) → left_has_pair new pair ≡ (left_has_pair old pair || list_any (same_pair pair) (pair_declared declaration))
+  pub uppers_are : (name : List ℕ) → left_has_upper new name ≡ (left_has_upper old name || list_any (λ pair. same_text name pair.0) (pair_declared declaration))
+  pub linked : IsLinked old → IsLinked new
+  pub constants_are : (name : List ℕ) →
+      left_constant new name ≡ option_or (left_constant old name) (option_map shaped (find (λ constant. same_text name constant.shape.name) (constant_declared declaration)))
+
+-- ---- the action of an attribute
+
+-- whether a constant is a Boolean action with these sorts, as the shapes have them
+abbrev pub action_fits : Option Declared → List (List ℕ) → List PlainShape → Bool
+action_fits found sorts shapes =
+    is_boolean_action found && (same_sorts sorts (sorts_of_constant found) && list_all (λ shape. same_sorts shape.sorts (sorts_of_constant found)) shapes)
+
+abbrev pub is_boolean_kind : PlainKind → Bool
+is_boolean_kind kind = is_plain kind && (is_action (kind_of_constant kind) && same_text (value_sort kind) boolean)
+
+abbrev pub shaped_fits : Option Shaped → List (List ℕ) → List PlainShape → Bool
+shaped_fits None sorts shapes = false
+shaped_fits (Some known) sorts shapes =
+    is_boolean_kind known.1 && (same_sorts sorts known.0.sorts && list_all (λ shape. same_sorts shape.sorts known.0.sorts) shapes)
+
+-- the same by the numbers of sorts
+abbrev pub is_numbered : Option ℕ → ℕ → Bool
+is_numbered None number = false
+is_numbered (Some other) number = other == number
+
+abbrev pub are_numbered : List (List ℕ) → List (List ℕ) → List ℕ → Bool
+are_numbered names [] [] = true
+are_numbered names [] (number ∷ numbers) = false
+are_numbered names (sort ∷ sorts) [] = false
+are_numbered names (sort ∷ sorts) (number ∷ numbers) = is_numbered (number_of names sort) number && are_numbered names sorts numbers
+
+abbrev pub is_boolean_symbol : Symbol → Bool
+is_boolean_symbol symbol = is_none symbol.attribute && (is_action symbol.kind && (symbol.domain == 0))
+
+abbrev pub numbers_fit : TableView → Symbol → List (List ℕ) → List PlainShape → Bool
+numbers_fit table symbol sorts shapes =
+    is_boolean_symbol symbol && (are_numbered table.sorts.names sorts symbol.sorts && list_all (λ shape. are_numbered table.sorts.names shape.sorts symbol.sorts) shapes)

@@ -1,0 +1,11 @@
+pub mod Declaring
+pub mod Dictionaries
+pub mod Instances
+pub mod Lefts
+pub mod Lists
+pub mod Numbers
+pub mod Searches
+pub mod SortParts
+pub mod SortViews
+pub mod Steps
+pub mod Tables

@@ -1,0 +1,113 @@
+-- What a table holds, and that it is the table of a list of declarations.
+use Rattle.std.specs.Prelude.{◌≡◌, ℕ, ◌+◌, ◌<◌, ◌^◌, Bool, true, ◌&&◌, List, [], ◌∷◌, ◌++◌, length, map, codes, IsTrue, Option, Some, None}
+use Rattle.std.specs.List.{AllByRecursion, list_any}
+use Rattle.cc_defs.specs.declared.refusal.Fault.{Fault}
+use Rattle.cc_defs.specs.declared.refusal.Fault.TheVariants as faults
+use Rattle.cc_defs.specs.declared.signature.Symbol.{Symbol}
+use Rattle.cc_defs.specs.DeclarationFaults.{is_sort, are_sorts, declaration_refusal, signature_refusal}
+use Rattle.cc_defs.specs.Declarations.{Declaration, Declared, Named, boolean, sort_names, pairs, objects, variables, constants, symbols, constant_names, members, number_in, value_sort, declarations_of, ground_fluents, ground_actions}
+use Rattle.cc_defs.specs.Signatures.{Signature}
+use Rattle.cc_defs.specs.Grammar.{same_text}
+use Rattle.cc_defs.specs.Trees.{PlainKind, PlainStatement}
+use Rattle.cc_defs.specs.Trees as trees
+use Rattle.cc_sorts.specs.declared.table.Placed.{Placed}
+use Rattle.cc_sorts.specs.Dictionaries.{names_of, values_of}
+use Rattle.cc_sorts.specs.SortViews.{SortsView, first_sorts, IsPast, AllAscend}
+
+-- the name of an object or a variable, and the number of its sort
+abbrev pub Numbered : Type 0
+Numbered = List ℕ × ℕ
+
+pub record TableView : Type 0 where
+  pub sorts : SortsView
+  pub objects : List Numbered
+  pub variables : List Numbered
+  pub symbols : List Placed
+
+abbrev pub first_table : TableView
+first_table = record {
+  sorts = first_sorts;
+  objects = (codes "false", 0) ∷ (codes "true", 0) ∷ [];
+  variables = [];
+  symbols = [];
+}
+
+abbrev pub numbered : List Declaration → List Named → List Numbered
+numbered declarations named = map (λ entry. (entry.0, number_in (sort_names declarations) entry.1)) named
+
+abbrev pub place_symbol : Symbol → Declared → Placed
+place_symbol symbol constant = record { symbol = symbol; file = constant.file; line = constant.line }
+
+abbrev pub placed_from : List Symbol → List Declared → List Placed
+placed_from [] constants = []
+placed_from symbols [] = []
+placed_from (symbol ∷ symbols) (constant ∷ constants) = place_symbol symbol constant ∷ placed_from symbols constants
+
+-- the numbers fit, a symbol stands under its own name, and the objects of each sort ascend
+pub record Fits (sorts : SortsView) (objects variables : List Numbered) (symbols : List (List ℕ × Placed)) : Type 0 where
+  pub few_sorts : length sorts.names < 4000000000
+  pub few_objects : length objects < 2 ^ 32
+  pub few_variables : length variables < 4000000000
+  pub few_symbols : length symbols < 4000000000
+  pub named : names_of symbols ≡ map (λ placed. placed.symbol.name) (values_of symbols)
+  pub past : IsPast (length objects) sorts
+  pub ascending : AllAscend sorts.members
+  pub as_many : length sorts.members ≡ length sorts.names
+
+-- the action of an attribute has one of these names
+abbrev pub has_action : List (List ℕ) → PlainKind → Bool
+has_action names (trees.Plain word sort) = true
+has_action names (trees.Attribute sort action) = list_any (same_text action.name) names
+
+-- each sort and each action that is named is declared
+pub record AreKnown (declarations : List Declaration) : Type 0 where
+  pub of_objects : AllByRecursion (λ object. IsTrue (is_sort declarations object.1)) (objects declarations)
+  pub of_variables : AllByRecursion (λ variable. IsTrue (is_sort declarations variable.1)) (variables declarations)
+  pub of_arguments : AllByRecursion (λ constant. IsTrue (are_sorts declarations constant.shape.sorts)) (constants declarations)
+  pub of_values : AllByRecursion (λ constant. IsTrue (is_sort declarations (value_sort constant.kind))) (constants declarations)
+  pub of_actions : AllByRecursion (λ constant. IsTrue (has_action (constant_names declarations) constant.kind)) (constants declarations)
+  pub of_pairs : AllByRecursion (λ pair. IsTrue (is_sort declarations pair.0 && is_sort declarations pair.1)) (pairs declarations)
+
+-- the table is that of these declarations
+pub record IsTable (table : TableView) (declarations : List Declaration) : Type 0 where
+  pub names : table.sorts.names ≡ sort_names declarations
+  pub pairs_are : table.sorts.pairs ≡ pairs declarations
+  pub members_are : table.sorts.members ≡ map (members declarations) (sort_names declarations)
+  pub objects_are : table.objects ≡ numbered declarations (objects declarations)
+  pub variables_are : table.variables ≡ numbered declarations (variables declarations)
+  pub symbols_are : table.symbols ≡ placed_from (symbols declarations) (constants declarations)
+  pub known : AreKnown declarations
+
+abbrev pub symbol_names : TableView → List (List ℕ)
+symbol_names table = map (λ placed. placed.symbol.name) table.symbols
+
+-- the numbers of a table with the names of the statement fit
+abbrev pub IsSmall : TableView → PlainStatement → Type 0
+IsSmall table statement =
+    let new = length (declarations_of 0 statement)
+    in (length table.sorts.names + new < 4000000000) × (length table.variables + new < 4000000000) × (length table.symbols + new < 4000000000)
+
+-- the statement has no fault, and the table is that of all declarations with its own
+abbrev pub Declares : ℕ → List Declaration → PlainStatement → TableView → Type 0
+Declares file left statement new =
+    (declaration_refusal file left statement ≡ None) × IsTable new (left ++ declarations_of file statement)
+
+-- a front of the statement's declarations is there
+abbrev pub HasFront : ℕ → List Declaration → PlainStatement → TableView → Type 0
+HasFront file left statement new =
+    (front : List Declaration) × (rest : List Declaration) × (declarations_of file statement ≡ front ++ rest) × IsTable new (left ++ front)
+
+-- the statement is refused so, and nothing was changed; or memory was wanting
+abbrev pub HasRefused : ℕ → List Declaration → PlainStatement → TableView → TableView → Fault → Type 0
+HasRefused file left statement old new faults.OutOfMemory = HasFront file left statement new
+HasRefused file left statement old new (faults.Refused refusal) = (declaration_refusal file left statement ≡ Some refusal) × (new ≡ old)
+
+-- the signature of these declarations, which are not refused
+abbrev pub IsSignatureOf : List Declaration → Signature → Type 0
+IsSignatureOf declarations signature =
+    (signature_refusal declarations ≡ None)
+    × (signature ≡ record { fluents = ground_fluents declarations; actions = ground_actions declarations })
+
+abbrev pub IsRefusedSignature : List Declaration → Fault → Type 0
+IsRefusedSignature declarations faults.OutOfMemory = Unit {0}
+IsRefusedSignature declarations (faults.Refused refusal) = signature_refusal declarations ≡ Some refusal

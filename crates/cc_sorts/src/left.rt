@@ -1,0 +1,571 @@
+//! What stands to the left of a declaration.
+ghost use Rattle.std.specs.Prelude.{◌≡◌, ◌++◌, ◌∷◌, ◌&&◌, ◌==◌, [], ℕ, length, map, IfOk, OnOk, Some, List as Items};
+ghost use Rattle.std.specs.List.{list_all};
+ghost use Rattle.std.specs.Option.{option_map};
+ghost use Rattle.cc_defs.specs.DeclarationFaults.{is_sort, are_sorts, is_taken, is_twice, is_unknown, has_unknown, declared_sorts, has_other_count, has_wrong_count, has_wrong_sort, has_other_sorts, constant_named, same_sorts};
+ghost use Rattle.cc_defs.specs.Declarations.{Declaration as Declared, Link, Subsort, Object, Variable, Constant as ConstantOf};
+ghost use Rattle.cc_defs.specs.Declarations.{is_below, pairs, boolean};
+ghost use Rattle.cc_defs.specs.Grammar.{same_text};
+ghost use Rattle.cc_defs.specs.Trees.{plain_shape, plain_kind};
+ghost use Rattle.cc_sorts.specs.Declaring.{plain_declaration};
+ghost use Rattle.cc_sorts.specs.Dictionaries.{number_of};
+ghost use Rattle.cc_sorts.specs.Lefts.{IsLeft, Adds, AddsUpper, new_uppers, has_sort as table_has_sort, has_name as table_has_name, left_has_sort, left_has_name, left_has_pair, left_has_upper, table_symbol, left_constant, arguments_of, plain_constant, action_fits, shaped_fits, numbers_fit, is_boolean_kind, is_boolean_symbol, is_numbered, are_numbered};
+ghost use Rattle.cc_sorts.specs.Lists.{AreBelow};
+ghost use Rattle.cc_sorts.specs.Searches.{Grows, IsClosed, table_uppers, all_uppers};
+ghost use Rattle.cc_sorts.specs.SortViews.{name_at};
+ghost use Rattle.cc_sorts.specs.Tables.{IsTable};
+
+use crate::declaration::Declaration;
+use crate::sorts::Sorts;
+use crate::table::Table;
+use cc_defs::{Kind, KindTree, KindWord, List, OutOfMemory, Shape, Symbol};
+use indexmap::{IndexMap, IndexSet};
+use std::alloc::Global;
+
+/// A sort and one below it.
+#[derive(Clone, Copy, PartialEq, Eq, Hash, Drop)]
+pub(crate) struct SortPair<'s> {
+    upper: &'s str,
+    lower: &'s str,
+}
+
+/// A constant of the statement.
+#[derive(Clone, Copy, Drop)]
+pub(crate) struct Constant<'t, 's> {
+    shape: &'t Shape<'s>,
+    kind: &'t KindTree<'s>,
+}
+
+/// The declarations of a table, and those of a statement that were added. A name is found by its hash.
+#[derive(Drop)]
+pub(crate) struct Left<'d, 't, 's> {
+    table: &'d Table,
+    sorts: IndexSet<&'s str>,
+    /// Of objects, variables and constants.
+    names: IndexSet<&'s str>,
+    /// Each at its first declaration.
+    constants: IndexMap<&'s str, Constant<'t, 's>>,
+    pairs: IndexSet<SortPair<'s>>,
+    /// The upper sorts of the pairs.
+    uppers: IndexSet<&'s str>,
+    /// The upper sorts of the pairs of each lower sort.
+    uppers_of: IndexMap<&'s str, Vec<&'s str>>,
+}
+
+impl<'d, 't, 's> Left<'d, 't, 's> {
+    /// The declarations of the table.
+    pub(crate) fn new(alloc: Global, table: &'d Table) -> Self
+        ensures { (left : Items Declared) → IsTable table.now left → IsLeft result left }
+    {
+        Left {
+            table,
+            sorts: IndexSet::new(alloc),
+            names: IndexSet::new(alloc),
+            constants: IndexMap::new(alloc),
+            pairs: IndexSet::new(alloc),
+            uppers: IndexSet::new(alloc),
+            uppers_of: IndexMap::new(alloc),
+        }
+    }
+
+    fn is_sort(&self, name: &str) -> bool
+        ensures { result ≡ left_has_sort self.now name.now }
+    {
+        has_sort(self.table, name) || self.sorts.contains(name)
+    }
+
+    fn is_taken(&self, name: &str) -> bool
+        ensures { result ≡ left_has_name self.now name.now }
+    {
+        has_name(self.table, name) || self.names.contains(name)
+    }
+
+    fn has_pair(&self, upper: &'s str, lower: &'s str) -> bool
+        ensures { result ≡ left_has_pair self.now (upper.now, lower.now) }
+    {
+        let table: &Table = self.table;
+        table.sorts.has_named(upper, lower) || self.pairs.contains(&SortPair { upper, lower })
+    }
+
+    /// Whether the declaration was made before.
+    pub(crate) fn is_twice(&self, declaration: &Declaration<'_, 's>) -> bool
+        ensures { (file line : ℕ) (left : Items Declared) → IsLeft self.now left → result ≡ is_twice left (plain_declaration file line declaration.now) }
+    {
+        match declaration {
+            Declaration::Sort(name) => self.is_sort(name),
+            Declaration::Link(_) => false,
+            Declaration::Subsort(upper, lower) => self.has_pair(upper, lower),
+            Declaration::Object(name, _) => self.is_taken(name),
+            Declaration::Variable(name, _) => self.is_taken(name),
+            Declaration::Constant(shape, _) => self.is_taken(shape.name),
+            Declaration::Kinds(_, _) => false,
+        }
+    }
+
+    fn has_each(&self, names: &[&str]) -> bool
+        ensures { result ≡ list_all (λ name. left_has_sort self.now name.now) names.now }
+    {
+        names.iter().all(|name| self.is_sort(name))
+    }
+
+    fn are_sorts(&self, names: &List<&str>) -> bool
+        ensures { (left : Items Declared) → IsLeft self.now left → result ≡ are_sorts left (map (λ name. name.now) names.now) }
+    {
+        self.has_each(names.items())
+    }
+
+    /// Whether the action of an attribute and its sorts were declared.
+    fn is_action(&self, action: &Shape) -> bool
+        ensures { (left : Items Declared) → IsLeft self.now left → result ≡ (are_sorts left (map (λ sort. sort.now) action.now.sorts) && is_taken left action.now.name.now) }
+    {
+        self.are_sorts(&action.sorts) && self.is_taken(action.name)
+    }
+
+    fn has_unknown(&self, kind: &KindTree) -> bool
+        ensures { (left : Items Declared) → IsLeft self.now left → result ≡ has_unknown left (plain_kind kind.now) }
+    {
+        match kind {
+            KindTree::Plain(_, Some(sort)) => !self.is_sort(sort),
+            KindTree::Plain(_, None) => !self.is_sort("boolean"),
+            KindTree::Attribute(sort, action) => { !(self.is_sort(sort) && self.is_action(action)) }
+        }
+    }
+
+    /// Whether the declaration names a sort or an action that was not declared.
+    pub(crate) fn is_unknown(&self, declaration: &Declaration) -> bool
+        ensures { (file line : ℕ) (left : Items Declared) → IsLeft self.now left → result ≡ is_unknown left (plain_declaration file line declaration.now) }
+    {
+        match declaration {
+            Declaration::Object(_, sort) => !self.is_sort(sort),
+            Declaration::Variable(_, sort) => !self.is_sort(sort),
+            Declaration::Constant(shape, _) => !self.are_sorts(&shape.sorts),
+            Declaration::Kinds(_, kind) => self.has_unknown(kind),
+            Declaration::Sort(_) | Declaration::Link(_) | Declaration::Subsort(_, _) => false,
+        }
+    }
+
+    /// How many arguments a constant has. Objects and variables have none.
+    fn sort_count(&self, name: &str) -> usize
+        ensures { (left : Items Declared) → IsLeft self.now left → result ≡ length (declared_sorts left name.now) }
+    {
+        match symbol_named(self.table, name) {
+            Some(symbol) => symbol.sorts.items().len(),
+            None => self.new_count(name),
+        }
+    }
+
+    fn new_count(&self, name: &str) -> usize
+        ensures { result ≡ length (arguments_of (left_constant self.now name.now)) }
+    {
+        match self.constants.get(name) {
+            Some(constant) => constant.shape.sorts.items().len(),
+            None => 0,
+        }
+    }
+
+    /// Whether the action was declared with as many arguments as it has here, and the attribute has as many.
+    fn has_count(&self, shapes: &List<Shape>, action: &Shape) -> bool
+        ensures { (left : Items Declared) → IsLeft self.now left → result ≡ ((length action.now.sorts == length (declared_sorts left action.now.name.now)) && list_all (λ shape. length shape.sorts == length action.now.sorts) (map plain_shape shapes.now)) }
+    {
+        let count = action.sorts.items().len();
+        count == self.sort_count(action.name) && have_count(shapes, count)
+    }
+
+    fn has_other_count(&self, shapes: &List<Shape>, kind: &KindTree) -> bool
+        ensures { (left : Items Declared) → IsLeft self.now left → result ≡ has_other_count left (map plain_shape shapes.now) (plain_kind kind.now) }
+    {
+        match kind {
+            KindTree::Plain(_, _) => false,
+            KindTree::Attribute(_, action) => !self.has_count(shapes, action),
+        }
+    }
+
+    /// Whether an action has another number of arguments than its declaration, or than its attribute.
+    pub(crate) fn has_wrong_count(&self, declaration: &Declaration) -> bool
+        ensures { (file line : ℕ) (left : Items Declared) → IsLeft self.now left → result ≡ has_wrong_count left (plain_declaration file line declaration.now) }
+    {
+        match declaration {
+            Declaration::Kinds(shapes, kind) => self.has_other_count(shapes, kind),
+            Declaration::Sort(_) | Declaration::Link(_) | Declaration::Subsort(_, _) => false,
+            Declaration::Object(_, _) | Declaration::Variable(_, _) | Declaration::Constant(_, _) =>
+                false,
+        }
+    }
+
+    /// Whether a sort of the declaration does not fit.
+    pub(crate) fn has_wrong_sort(
+        &self,
+        alloc: Global,
+        declaration: &Declaration<'t, 's>,
+    ) -> Result<bool, OutOfMemory>
+        ensures { (file line : ℕ) (left : Items Declared) → IsLeft self.now left → IfOk result (λ wrong. wrong ≡ has_wrong_sort left (plain_declaration file line declaration.now)) }
+    {
+        match declaration {
+            Declaration::Link(name) => Ok(is_boolean(name)),
+            Declaration::Subsort(upper, lower) => self.is_below(alloc, upper, lower),
+            Declaration::Object(_, sort) => Ok(is_boolean(sort)),
+            Declaration::Kinds(shapes, kind) => Ok(self.has_other_sorts(shapes, kind)),
+            Declaration::Sort(_) | Declaration::Variable(_, _) | Declaration::Constant(_, _) => Ok(
+                false,
+            ),
+        }
+    }
+
+    /// Whether a sort is the other or below it. Only a sort with others below it asks for a search.
+    fn is_below(&self, alloc: Global, lower: &'s str, upper: &'s str) -> Result<bool, OutOfMemory>
+        ensures { (left : Items Declared) → IsLeft self.now left → IfOk result (λ below. below ≡ is_below (pairs left) lower.now upper.now) }
+    {
+        if self.has_lower(upper) {
+            return self.is_found_above(alloc, lower, upper);
+        }
+        Ok(lower == upper)
+    }
+
+    /// Whether a sort is the upper one of a pair.
+    fn has_lower(&self, sort: &str) -> bool
+        ensures { result ≡ left_has_upper self.now sort.now }
+    {
+        let table: &Table = self.table;
+        table.sorts.has_lower(sort) || self.uppers.contains(sort)
+    }
+
+    /// Whether a search upwards from a sort finds the other.
+    fn is_found_above(
+        &self,
+        alloc: Global,
+        lower: &'s str,
+        upper: &'s str,
+    ) -> Result<bool, OutOfMemory>
+        ensures { (left : Items Declared) → IsLeft self.now left → IfOk result (λ below. below ≡ is_below (pairs left) lower.now upper.now) }
+    {
+        let found = self.found_above(alloc, lower)?;
+        Ok(found.contains(upper))
+    }
+
+    /// A sort and all sorts above it.
+    fn found_above<'a>(
+        &'a self,
+        alloc: Global,
+        lower: &'a str,
+    ) -> Result<IndexSet<&'a str>, OutOfMemory>
+        ensures { IfOk result (λ found. IsClosed self.now lower.now found.keys) }
+    {
+        let mut found: IndexSet<&'a str> = IndexSet::new(alloc);
+        found.insert(lower)?;
+        let mut done = 0;
+        'search: while done < found.len() {
+            let sort: &'a str = found[done];
+            self.add_above(sort, &mut found)?;
+            done += 1;
+        }
+        Ok(found)
+    }
+
+    /// Adds the sorts above a sort by the table, and its new upper sorts.
+    fn add_above<'a>(&'a self, sort: &str, found: &mut IndexSet<&'a str>) -> Result<(), OutOfMemory>
+        ensures { OnOk result (Grows found.old.keys found.new.keys (all_uppers self.now sort.now)) }
+    {
+        let table: &'a Table = self.table;
+        add_table_uppers(&table.sorts, sort, found)?;
+        self.add_new_uppers(sort, found)?;
+        Ok(())
+    }
+
+    fn add_new_uppers<'a>(
+        &'a self,
+        sort: &str,
+        found: &mut IndexSet<&'a str>,
+    ) -> Result<(), OutOfMemory>
+        ensures { OnOk result (Grows found.old.keys found.new.keys (new_uppers self.now sort.now)) }
+    {
+        match self.uppers_of.get(sort) {
+            Some(uppers) => add_names(uppers, found),
+            None => Ok(()),
+        }
+    }
+
+    fn has_other_sorts(&self, shapes: &List<Shape>, kind: &KindTree) -> bool
+        ensures { (left : Items Declared) → IsLeft self.now left → result ≡ has_other_sorts left (map plain_shape shapes.now) (plain_kind kind.now) }
+    {
+        match kind {
+            KindTree::Plain(_, _) => false,
+            KindTree::Attribute(_, action) => !self.has_sorts(shapes, action),
+        }
+    }
+
+    /// Whether the action was declared as a Boolean action with the sorts that it has here, and the attribute has these too.
+    fn has_sorts(&self, shapes: &List<Shape>, action: &Shape) -> bool
+        ensures { (left : Items Declared) → IsLeft self.now left → result ≡ action_fits (constant_named left action.now.name.now) (map (λ sort. sort.now) action.now.sorts) (map plain_shape shapes.now) }
+    {
+        match symbol_named(self.table, action.name) {
+            Some(symbol) => symbol_fits(self.table, symbol, shapes, action),
+            None => self.new_fits(shapes, action),
+        }
+    }
+
+    fn new_fits(&self, shapes: &List<Shape>, action: &Shape) -> bool
+        ensures { result ≡ shaped_fits (left_constant self.now action.now.name.now) (map (λ sort. sort.now) action.now.sorts) (map plain_shape shapes.now) }
+    {
+        match self.constants.get(action.name) {
+            Some(constant) => constant_fits(constant, shapes, action),
+            None => false,
+        }
+    }
+
+    /// Adds a declaration, which the tests behind it know.
+    pub(crate) fn add(
+        &mut self,
+        alloc: Global,
+        declaration: &Declaration<'t, 's>,
+    ) -> Result<(), OutOfMemory>
+        ensures { (file line : ℕ) → OnOk result (Adds self.old self.new (plain_declaration file line declaration.now)) }
+    {
+        match declaration {
+            Declaration::Sort(name) => self.add_sort(name),
+            Declaration::Link(name) => self.add_sort(name),
+            Declaration::Subsort(upper, lower) => self.add_pair(alloc, upper, lower),
+            Declaration::Object(name, _) => self.add_name(name),
+            Declaration::Variable(name, _) => self.add_name(name),
+            Declaration::Constant(shape, kind) => self.add_constant(shape, kind),
+            Declaration::Kinds(_, _) => Ok(()),
+        }
+    }
+
+    fn add_sort(&mut self, name: &'s str) -> Result<(), OutOfMemory>
+        ensures { OnOk result (Adds self.old self.new (Link name.now)) }
+    {
+        self.sorts.insert(name)?;
+        Ok(())
+    }
+
+    fn add_name(&mut self, name: &'s str) -> Result<(), OutOfMemory>
+        ensures object { (sort : Items ℕ) → OnOk result (Adds self.old self.new (Object name.now sort)) }
+        ensures variable { (sort : Items ℕ) → OnOk result (Adds self.old self.new (Variable name.now sort)) }
+    {
+        self.names.insert(name)?;
+        Ok(())
+    }
+
+    fn add_constant(
+        &mut self,
+        shape: &'t Shape<'s>,
+        kind: &'t KindTree<'s>,
+    ) -> Result<(), OutOfMemory>
+        ensures { (file line : ℕ) → OnOk result (Adds self.old self.new (ConstantOf (plain_shape shape.now) (plain_kind kind.now) file line)) }
+    {
+        self.names.insert(shape.name)?;
+        if self.constants.contains_key(shape.name) {
+            return Ok(());
+        }
+        self.constants.insert(shape.name, Constant { shape, kind })?;
+        Ok(())
+    }
+
+    fn add_pair(&mut self, alloc: Global, upper: &'s str, lower: &'s str) -> Result<(), OutOfMemory>
+        ensures { OnOk result (Adds self.old self.new (Subsort upper.now lower.now)) }
+    {
+        self.pairs.insert(SortPair { upper, lower })?;
+        self.uppers.insert(upper)?;
+        add_upper(alloc, &mut self.uppers_of, upper, lower)?;
+        Ok(())
+    }
+}
+
+/// Adds a pair to the upper sorts by lower sort.
+fn add_upper<'s>(
+    alloc: Global,
+    uppers_of: &mut IndexMap<&'s str, Vec<&'s str>>,
+    upper: &'s str,
+    lower: &'s str,
+) -> Result<(), OutOfMemory>
+    ensures { OnOk result (AddsUpper uppers_of.old.entries uppers_of.new.entries (upper.now, lower.now)) }
+{
+    if let Some(uppers) = uppers_of.get_mut(lower) {
+        uppers.push(upper)?;
+        return Ok(());
+    }
+    let mut uppers = Vec::new(alloc);
+    uppers.push(upper)?;
+    uppers_of.insert(lower, uppers)?;
+    Ok(())
+}
+
+/// Adds the sorts above a sort by a table, and itself if it is one of them.
+fn add_table_uppers<'a>(
+    sorts: &'a Sorts,
+    sort: &str,
+    found: &mut IndexSet<&'a str>,
+) -> Result<(), OutOfMemory>
+    ensures { OnOk result (Grows found.old.keys found.new.keys (table_uppers sorts.now sort.now)) }
+{
+    match sorts.find(sort) {
+        Some(number) => add_numbered(sorts, sorts.above(number), found),
+        None => Ok(()),
+    }
+}
+
+fn add_numbered<'a>(
+    sorts: &'a Sorts,
+    numbers: &[u32],
+    found: &mut IndexSet<&'a str>,
+) -> Result<(), OutOfMemory>
+    requires { AreBelow (length sorts.now.names) numbers.now }
+    ensures { OnOk result (Grows found.old.keys found.new.keys (map (name_at sorts.now) numbers.now)) }
+{
+    for number in numbers {
+        found.insert(sorts.name(*number as usize))?;
+    }
+    Ok(())
+}
+
+fn add_names<'a>(names: &[&'a str], found: &mut IndexSet<&'a str>) -> Result<(), OutOfMemory>
+    ensures { OnOk result (Grows found.old.keys found.new.keys (map (λ name. name.now) names.now)) }
+{
+    for name in names {
+        found.insert(*name)?;
+    }
+    Ok(())
+}
+
+/// Whether a table has the sort.
+#[tactic(auto, using(crate::proofs::Decided::is_some_number))]
+fn has_sort(table: &Table, name: &str) -> bool
+    ensures { result ≡ table_has_sort table.now name.now }
+{
+    table.sort(name).is_some()
+}
+
+/// Whether an object, a variable or a constant of a table has the name.
+#[tactic(auto, using(crate::proofs::Decided::is_some_number))]
+fn has_name(table: &Table, name: &str) -> bool
+    ensures { result ≡ table_has_name table.now name.now }
+{
+    table.object(name).is_some() || table.variable(name).is_some() || table.symbol(name).is_some()
+}
+
+/// The symbol of a constant of a table.
+fn symbol_named<'a>(table: &'a Table, name: &str) -> Option<&'a Symbol>
+    ensures { option_map (λ symbol. symbol.now) result ≡ table_symbol table.now name.now }
+{
+    match table.symbol(name) {
+        Some(symbol) => Some(table.symbol_of(symbol)),
+        None => None,
+    }
+}
+
+/// Whether each shape has so many arguments.
+fn have_count(shapes: &List<Shape>, count: usize) -> bool
+    ensures { result ≡ list_all (λ shape. length shape.sorts == count) (map plain_shape shapes.now) }
+{
+    each_has_count(shapes.items(), count)
+}
+
+fn each_has_count(shapes: &[Shape], count: usize) -> bool
+    ensures { result ≡ list_all (λ shape. length shape.sorts == count) shapes.now }
+{
+    shapes
+        .iter()
+        .all(|shape| shape.sorts.items().len() == count)
+}
+
+fn is_boolean(sort: &str) -> bool
+    ensures { result ≡ same_text sort.now boolean }
+{
+    sort == "boolean"
+}
+
+/// Whether a symbol of the table is a Boolean action with these sorts.
+fn symbol_fits(table: &Table, symbol: &Symbol, shapes: &List<Shape>, action: &Shape) -> bool
+    ensures { result ≡ numbers_fit table.now symbol.now (map (λ sort. sort.now) action.now.sorts) (map plain_shape shapes.now) }
+{
+    is_boolean_symbol(symbol)
+        && (are_numbered(table, action.sorts.items(), symbol.sorts.items())
+            && have_numbers(table, shapes, symbol.sorts.items()))
+}
+
+/// Whether a symbol is an action with Boolean values, and no attribute.
+fn is_boolean_symbol(symbol: &Symbol) -> bool
+    ensures { result ≡ is_boolean_symbol symbol.now }
+{
+    symbol.attribute.is_none() && (matches!(symbol.kind, Kind::Action) && symbol.domain == 0)
+}
+
+fn has_number(table: &Table, sort: &str, number: u32) -> bool
+    ensures { result ≡ is_numbered (number_of table.now.sorts.names sort.now) number }
+{
+    match table.sort(sort) {
+        Some(other) => other == number,
+        None => false,
+    }
+}
+
+/// Whether these are the numbers of the sorts.
+fn are_numbered(table: &Table, sorts: &[&str], numbers: &[u32]) -> bool
+    ensures { result ≡ are_numbered table.now.sorts.names (map (λ sort. sort.now) sorts.now) numbers.now }
+{
+    if sorts.len() != numbers.len() {
+        return false;
+    }
+    for (i, sort) in sorts.iter().enumerate() {
+        if !has_number(table, sort, numbers[i]) {
+            return false;
+        }
+    }
+    true
+}
+
+fn have_numbers(table: &Table, shapes: &List<Shape>, numbers: &[u32]) -> bool
+    ensures { result ≡ list_all (λ shape. are_numbered table.now.sorts.names shape.sorts numbers.now) (map plain_shape shapes.now) }
+{
+    each_has_numbers(table, shapes.items(), numbers)
+}
+
+fn each_has_numbers(table: &Table, shapes: &[Shape], numbers: &[u32]) -> bool
+    ensures { result ≡ list_all (λ shape. are_numbered table.now.sorts.names (map (λ sort. sort.now) shape.sorts) numbers.now) shapes.now }
+{
+    shapes
+        .iter()
+        .all(|shape| are_numbered(table, shape.sorts.items(), numbers))
+}
+
+/// Whether a new constant is a Boolean action with these sorts.
+fn constant_fits(constant: &Constant, shapes: &List<Shape>, action: &Shape) -> bool
+    ensures { result ≡ shaped_fits (Some (plain_constant constant.now)) (map (λ sort. sort.now) action.now.sorts) (map plain_shape shapes.now) }
+{
+    is_boolean_action(constant.kind)
+        && (same_sorts(action.sorts.items(), constant.shape.sorts.items())
+            && each_has_sorts(shapes, constant.shape.sorts.items()))
+}
+
+/// Whether the kind is that of an action with Boolean values, and no attribute.
+fn is_boolean_action(kind: &KindTree) -> bool
+    ensures { result ≡ is_boolean_kind (plain_kind kind.now) }
+{
+    match kind {
+        KindTree::Plain(KindWord::Action, Some(sort)) => is_boolean(sort),
+        KindTree::Plain(KindWord::ExogenousAction, Some(sort)) => is_boolean(sort),
+        KindTree::Plain(KindWord::Action, None) => true,
+        KindTree::Plain(KindWord::ExogenousAction, None) => true,
+        _ => false,
+    }
+}
+
+fn same_sorts(sorts: &[&str], others: &[&str]) -> bool
+    ensures { result ≡ same_sorts (map (λ sort. sort.now) sorts.now) (map (λ sort. sort.now) others.now) }
+{
+    sorts == others
+}
+
+fn each_has_sorts(shapes: &List<Shape>, sorts: &[&str]) -> bool
+    ensures { result ≡ list_all (λ shape. same_sorts shape.sorts (map (λ sort. sort.now) sorts.now)) (map plain_shape shapes.now) }
+{
+    all_have_sorts(shapes.items(), sorts)
+}
+
+fn all_have_sorts(shapes: &[Shape], sorts: &[&str]) -> bool
+    ensures { result ≡ list_all (λ shape. same_sorts (map (λ sort. sort.now) shape.sorts) (map (λ sort. sort.now) sorts.now)) shapes.now }
+{
+    shapes
+        .iter()
+        .all(|shape| same_sorts(shape.sorts.items(), sorts))
+}

@@ -1,0 +1,15 @@
+//! Tables of names: what a description declares, and its signature.
+#![tactic(auto)]
+
+mod declaration;
+mod declare;
+mod dictionary;
+mod fault;
+mod left;
+mod lists;
+mod numbers;
+mod signature;
+mod sorts;
+mod table;
+
+pub use table::Table;

@@ -1,0 +1,231 @@
+//! Sorts by number, which of them stand below which, and the objects of each.
+ghost use Rattle.std.specs.Prelude.{◌≡◌, ◌<◌, false, None, length, IfOk, OnOk, OnErr};
+ghost use Rattle.std.specs.List.{list_any};
+ghost use Rattle.cc_defs.specs.DeclarationFaults.{same_pair};
+ghost use Rattle.cc_defs.specs.Declarations.{is_below, numbers_where};
+ghost use Rattle.cc_defs.specs.Grammar.{same_text};
+ghost use Rattle.cc_sorts.specs.Dictionaries.{number_of};
+ghost use Rattle.cc_sorts.specs.SortViews.{SortsView, first_sorts, name_at, members_at, with_sort, with_pair, with_object, IsPast};
+
+use crate::dictionary::Dictionary;
+use crate::lists::{make_room, unite_each};
+use crate::numbers::has;
+use cc_defs::OutOfMemory;
+use indexmap::IndexSet;
+use std::alloc::Global;
+use std::marker::Model;
+
+/// The numbers of two sorts, of which the lower was put below the upper.
+#[derive(Clone, Copy, PartialEq, Eq, Hash)]
+struct SortPair {
+    upper: u32,
+    lower: u32,
+}
+
+/// Sorts by number, `boolean` first. A sort has the objects declared of it and of the sorts below it.
+#[derive(Drop)]
+pub(crate) struct Sorts {
+    names: Dictionary<()>,
+    /// In the order in which they were put.
+    pairs: Vec<SortPair>,
+    /// The same pairs, which are found in it by a hash.
+    known: IndexSet<SortPair>,
+    /// For each sort itself and the sorts that it is below, ascending.
+    above: Vec<Vec<u32>>,
+    /// For each sort itself and the sorts below it, ascending.
+    below: Vec<Vec<u32>>,
+    /// For each sort its objects, ascending.
+    members: Vec<Vec<u32>>,
+    /// Room to move numbers when others are put before them. It is kept here so that an object that is added finds it.
+    moved: Vec<u32>,
+}
+
+impl Model for Sorts {
+    ghost use Rattle.cc_sorts.specs.SortViews.{SortsView};
+
+    ghost Value = { SortsView };
+
+    ghost use Rattle.cc_sorts.specs.Dictionaries.{names_of};
+    ghost use Rattle.cc_sorts.specs.Lists.{lists_of};
+    ghost use Rattle.cc_sorts.specs.SortParts.{named_pairs, AreKept};
+
+    ghost view = { λ sorts. record { names = names_of sorts.names; pairs = named_pairs (names_of sorts.names) sorts.pairs.items; members = lists_of sorts.members.items } };
+
+    ghost invariant = { λ sorts. AreKept (names_of sorts.names) sorts.pairs.items sorts.known.keys (lists_of sorts.above.items) (lists_of sorts.below.items) (lists_of sorts.members.items) };
+}
+
+impl Sorts {
+    /// The sort `boolean`, with its objects 0 and 1.
+    pub(crate) fn new(alloc: Global) -> Result<Sorts, OutOfMemory>
+        ensures { IfOk result (λ sorts. sorts ≡ first_sorts) }
+    {
+        let mut names = Dictionary::new(alloc);
+        names.push(alloc, "boolean", ())?;
+        let above = vec![in alloc; Vec::from_slice(alloc, &[0])?]?;
+        let below = vec![in alloc; Vec::from_slice(alloc, &[0])?]?;
+        let members = vec![in alloc; Vec::from_slice(alloc, &[0, 1])?]?;
+        Ok(Sorts {
+            names,
+            pairs: Vec::new(alloc),
+            known: IndexSet::new(alloc),
+            above,
+            below,
+            members,
+            moved: Vec::new(alloc),
+        })
+    }
+
+    pub(crate) fn len(&self) -> usize
+        ensures { result ≡ length self.now.names }
+    {
+        self.names.len()
+    }
+
+    /// The number of a sort.
+    pub(crate) fn find(&self, name: &str) -> Option<usize>
+        ensures { result ≡ number_of self.now.names name.now }
+    {
+        self.names.find(name)
+    }
+
+    /// The objects of a sort and of those below it, in declared order. It takes no memory.
+    pub(crate) fn members(&self, sort: usize) -> &[u32]
+        requires { sort < length self.now.names }
+        ensures { result.now ≡ members_at self.now sort }
+    {
+        &self.members[sort]
+    }
+
+    /// Whether a sort is the other or below it, looked for by halves. It takes no memory.
+    pub(crate) fn below(&self, lower: usize, upper: usize) -> bool
+        requires lower { lower < length self.now.names }
+        requires upper { upper < length self.now.names }
+        ensures { result ≡ is_below self.now.pairs (name_at self.now lower) (name_at self.now upper) }
+    {
+        has(&self.above[lower], upper as u32)
+    }
+
+    /// Whether the pair of an upper and a lower sort is there. It takes no memory.
+    pub(crate) fn has_pair(&self, upper: usize, lower: usize) -> bool
+        requires upper { upper < length self.now.names }
+        requires lower { lower < length self.now.names }
+        ensures { result ≡ list_any (same_pair (name_at self.now upper, name_at self.now lower)) self.now.pairs }
+    {
+        let known = &self.known;
+        known.contains(&SortPair {
+            upper: upper as u32,
+            lower: lower as u32,
+        })
+    }
+
+    /// Whether the pair of an upper and a lower sort of these names is there. It takes no memory.
+    pub(crate) fn has_named(&self, upper: &str, lower: &str) -> bool
+        ensures { result ≡ list_any (same_pair (upper.now, lower.now)) self.now.pairs }
+    {
+        match self.names.find(upper) {
+            Some(upper) => match self.names.find(lower) {
+                Some(lower) => self.has_pair(upper, lower),
+                None => false,
+            },
+            None => false,
+        }
+    }
+
+    /// The numbers of the sorts that a sort is below, and its own, ascending. It takes no memory.
+    pub(crate) fn above(&self, sort: usize) -> &[u32]
+        requires { sort < length self.now.names }
+        ensures { result.now ≡ numbers_where (λ name. is_below self.now.pairs (name_at self.now sort) name) 0 self.now.names }
+    {
+        &self.above[sort]
+    }
+
+    /// The name of a sort. It takes no memory.
+    pub(crate) fn name(&self, sort: usize) -> &str
+        requires { sort < length self.now.names }
+        ensures { result.now ≡ name_at self.now sort }
+    {
+        self.names.name(sort)
+    }
+
+    /// Whether a sort is the upper one of a pair. It takes no memory.
+    pub(crate) fn has_lower(&self, name: &str) -> bool
+        ensures { result ≡ list_any (λ pair. same_text name.now pair.0) self.now.pairs }
+    {
+        match self.names.find(name) {
+            Some(sort) => {
+                let below: &[u32] = &self.below[sort];
+                below.len() > 1
+            }
+            None => false,
+        }
+    }
+
+    /// Adds a sort whose name is not there; after want of memory nothing is changed.
+    pub(crate) fn add(&mut self, alloc: Global, name: &str) -> Result<(), OutOfMemory>
+        requires new { number_of self.now.names name.now ≡ None }
+        requires few { length self.now.names < 4000000000 }
+        ensures added { OnOk result (self.new ≡ with_sort self.old name.now) }
+        ensures unchanged { OnErr result (self.new ≡ self.old) }
+    {
+        let number = self.names.len() as u32;
+        let above = Vec::from_slice(alloc, &[number])?;
+        let below = Vec::from_slice(alloc, &[number])?;
+        self.above.reserve(1)?;
+        self.below.reserve(1)?;
+        self.members.reserve(1)?;
+        self.names.push(alloc, name, ())?;
+        // From here on there is room for all.
+        self.above.push(above)?;
+        self.below.push(below)?;
+        self.members.push(Vec::new(alloc))?;
+        Ok(())
+    }
+
+    /// Puts a sort below another that is not below it; after want of memory nothing is changed.
+    pub(crate) fn put_below(
+        &mut self,
+        alloc: Global,
+        upper: usize,
+        lower: usize,
+    ) -> Result<(), OutOfMemory>
+        requires upper { upper < length self.now.names }
+        requires lower { lower < length self.now.names }
+        requires apart { is_below self.now.pairs (name_at self.now upper) (name_at self.now lower) ≡ false }
+        ensures added { OnOk result (self.new ≡ with_pair self.old upper lower) }
+        ensures unchanged { OnErr result (self.new ≡ self.old) }
+    {
+        // They are copied, since they stand among the lists that they are put into.
+        let uppers = Vec::from_slice(alloc, &self.above[upper])?;
+        let lowers = Vec::from_slice(alloc, &self.below[lower])?;
+        let objects = Vec::from_slice(alloc, &self.members[lower])?;
+        make_room(&mut self.above, &lowers, uppers.len(), &mut self.moved)?;
+        make_room(&mut self.below, &uppers, lowers.len(), &mut self.moved)?;
+        make_room(&mut self.members, &uppers, objects.len(), &mut self.moved)?;
+        self.pairs.reserve(1)?;
+        self.known.reserve(1)?;
+        // From here on there is room for all.
+        unite_each(&mut self.above, &lowers, &uppers, &mut self.moved)?;
+        unite_each(&mut self.below, &uppers, &lowers, &mut self.moved)?;
+        unite_each(&mut self.members, &uppers, &objects, &mut self.moved)?;
+        let pair = SortPair {
+            upper: upper as u32,
+            lower: lower as u32,
+        };
+        self.pairs.push(pair)?;
+        self.known.insert(pair)?;
+        Ok(())
+    }
+
+    /// Adds an object to a sort and to all above it; after want of memory nothing is changed.
+    pub(crate) fn add_object(&mut self, sort: usize, object: u32) -> Result<(), OutOfMemory>
+        requires sort { sort < length self.now.names }
+        requires last { IsPast object self.now }
+        ensures added { OnOk result (self.new ≡ with_object self.old sort object) }
+        ensures unchanged { OnErr result (self.new ≡ self.old) }
+    {
+        let above: &[u32] = &self.above[sort];
+        make_room(&mut self.members, above, 1, &mut self.moved)?;
+        unite_each(&mut self.members, above, &[object], &mut self.moved)?;
+        Ok(())
+    }
+}
