@@ -11,6 +11,7 @@ pub mod Laws
 pub mod Limits
 pub mod LitCodes
 pub mod Paths
+pub mod Resolved
 pub mod Rows
 pub mod Rules
 pub mod Signatures

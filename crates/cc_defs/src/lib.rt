@@ -6,6 +6,8 @@
 mod event;
 #[cfg(test)]
 mod examples;
+mod formula;
+mod law;
 pub mod laws;
 mod list;
 mod lists;
@@ -21,6 +23,8 @@ mod token;
 mod tree;
 
 pub use event::{Ending, Event, Told};
+pub use formula::{Formula, Term};
+pub use law::{BaseLaw, BaseLaws, Condition, Head, Law, Queries, Query, Range};
 pub use list::List;
 pub use lists::{Bytes, Key, Lits, Name, Nums, Row, Text};
 pub use literal::Lit;

@@ -14,7 +14,7 @@ use Rattle.cc_defs.specs.Trees.{PlainStatement}
 use Rattle.cc_sorts.specs.Declaring.{plain_declarations, plain_declaration}
 use Rattle.cc_sorts.specs.declared.declaration.Declaration as declarations
 use Rattle.cc_sorts.specs.Steps.{HasRoom, IsFrontOf, behind_all, AllClear, judged_refusal}
-use Rattle.cc_sorts.specs.Tables.{TableView, Numbered, IsTable, IsSmall, Declares, HasFront}
+use Rattle.cc_sorts.specs.Tables.{TableView, Numbered, IsTable, Declares, HasFront}
 use Rattle.cc_sorts.proofs.Behind.{behind_all_is, clear_front}
 use Rattle.cc_sorts.proofs.Clear.{all_clear}
 
@@ -67,22 +67,6 @@ declares file left statement ds old new e none is b =
       ap (λ (w : List Declaration). judged_refusal file statement.line left w) (sym e) ∙ none,
       subst P e (subst Q (sym b) (behind_all_is old left ds (clear_of file statement.line left statement ds e none) is)),
     )
-
--- ---- room
-
-pub room_for : (table : TableView) (statement : PlainStatement) (line : ℕ) (new : List declarations.Declaration) → plain_declarations 0 line new ≡ declarations_of 0 statement →
-    IsSmall table statement → length table.objects ≤ 4098 → HasRoom table (length new)
-room_for table statement line new e small few =
-    let count : length new ≡ length (declarations_of 0 statement) = sym (length-map new (plain_declaration 0 line)) ∙ ap (λ (w : List Declaration). length w) e in
-    let a : length table.sorts.names + length (declarations_of 0 statement) < 4000000000 = small.0 in
-    let b : length table.variables + length (declarations_of 0 statement) < 4000000000 = small.1 in
-    let c : length table.symbols + length (declarations_of 0 statement) < 4000000000 = small.2 in
-    record {
-      for_sorts = omega (arith, count);
-      for_objects = omega (arith, count);
-      for_variables = omega (arith, count);
-      for_symbols = omega (arith, count);
-    }
 
 -- ---- what is judged
 

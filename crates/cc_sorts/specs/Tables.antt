@@ -81,12 +81,6 @@ pub record IsTable (table : TableView) (declarations : List Declaration) : Type 
 abbrev pub symbol_names : TableView → List (List ℕ)
 symbol_names table = map (λ placed. placed.symbol.name) table.symbols
 
--- the numbers of a table with the names of the statement fit
-abbrev pub IsSmall : TableView → PlainStatement → Type 0
-IsSmall table statement =
-    let new = length (declarations_of 0 statement)
-    in (length table.sorts.names + new < 4000000000) × (length table.variables + new < 4000000000) × (length table.symbols + new < 4000000000)
-
 -- the statement has no fault, and the table is that of all declarations with its own
 abbrev pub Declares : ℕ → List Declaration → PlainStatement → TableView → Type 0
 Declares file left statement new =

@@ -1,5 +1,5 @@
 //! Declaring what a statement says.
-ghost use Rattle.std.specs.Prelude.{◌≡◌, ◌<◌, ◌≤◌, ℕ, List as Items, None, length, map, flat_map, IfOk, IfErr, OnOk, OnErr};
+ghost use Rattle.std.specs.Prelude.{◌≡◌, ◌<◌, ◌≤◌, ℕ, List as Items, None, length, map, flat_map, IsTrue, IfOk, IfErr, OnOk, OnErr};
 ghost use Rattle.cc_defs.specs.Declarations.{number_in, kind_of_constant, object_declared};
 ghost use Rattle.cc_defs.specs.Declarations as words;
 ghost use Rattle.cc_defs.specs.Declarations.{Declaration as Declared};
@@ -7,7 +7,7 @@ ghost use Rattle.cc_defs.specs.Trees.{plain_kind, plain_shape, plain_statement};
 ghost use Rattle.cc_sorts.specs.Declaring.{plain_declaration, plain_declarations};
 ghost use Rattle.cc_sorts.specs.Dictionaries.{number_of, names_of};
 ghost use Rattle.cc_sorts.specs.Steps.{HasRoom, IsFrontOf, behind, behind_all, put_sort as sort_put, put_pair as pair_put, put_object as object_put, put_variable as variable_put, put_symbol as symbol_put, new_object, placed_in, action_in, judged_refusal};
-ghost use Rattle.cc_sorts.specs.Tables.{symbol_names, IsSmall, IsTable, Declares, HasRefused};
+ghost use Rattle.cc_sorts.specs.Tables.{symbol_names, IsTable, Declares, HasRefused};
 
 use crate::declaration::{Declaration, declarations};
 use crate::fault::least_fault;
@@ -17,6 +17,9 @@ use cc_defs::{
     Symbol,
 };
 use std::alloc::Global;
+
+/// What the counts of sorts, objects, variables and constants stay below, so that each has a number.
+const MOST_ENTRIES: usize = 4_000_000_000;
 
 fn kind_of_word(word: KindWord) -> Kind
     ensures { result ≡ words.kind_of_word word }
@@ -265,6 +268,17 @@ impl Table {
         Ok(())
     }
 
+    /// Whether the numbers of so many entries more fit.
+    fn has_room(&self, new: usize) -> bool
+        ensures { IsTrue result → HasRoom self.now new }
+    {
+        let most = MOST_ENTRIES.saturating_sub(new);
+        self.sorts.len() < most
+            && self.objects.len() < most
+            && self.variables.len() < most
+            && self.symbols.len() < most
+    }
+
     /// The refusal of new declarations, if there is one.
     fn refusal_of(
         &self,
@@ -273,8 +287,7 @@ impl Table {
         line: u32,
         new: &[Declaration<'_, '_>],
     ) -> Result<Option<Refusal>, OutOfMemory>
-        ensures judged { (left : Items Declared) → IsTable self.now left → IfOk result (λ refusal. refusal ≡ judged_refusal file line left (plain_declarations file line new.now)) }
-        ensures few { IfOk result (λ refusal. refusal ≡ None → length self.now.objects ≤ 4098) }
+        ensures { (left : Items Declared) → IsTable self.now left → IfOk result (λ refusal. refusal ≡ judged_refusal file line left (plain_declarations file line new.now)) }
     {
         if let Some(number) = least_fault(alloc, self, new)? {
             return Ok(Some(Refusal {
@@ -306,7 +319,6 @@ impl Table {
         file: u32,
         statement: &Statement<'_>,
     ) -> Result<(), Fault>
-        requires { IsSmall self.now (plain_statement statement.now) }
         ensures declared { (left : Items Declared) → IsTable self.old left → OnOk result (Declares file left (plain_statement statement.now) self.new) }
         ensures refused { (left : Items Declared) → IsTable self.old left → IfErr result (HasRefused file left (plain_statement statement.now) self.old self.new) }
     {
@@ -316,6 +328,9 @@ impl Table {
         };
         if let Some(refusal) = self.refusal_of(alloc, file, statement.line, &new)? {
             return Err(Fault::Refused(refusal));
+        }
+        if !self.has_room(new.len()) {
+            return Err(Fault::OutOfMemory);
         }
         self.put_all(alloc, file, statement.line, &new)?;
         Ok(())

@@ -94,7 +94,7 @@ impl Table {
     }
 
     /// How many symbols there are. The objects of each sort ascend.
-    fn symbol_count(&self) -> usize
+    pub fn symbol_count(&self) -> usize
         ensures count { result ≡ length self.now.symbols }
         ensures few { result < 4000000000 }
         ensures ascending { AllAscend self.now.sorts.members }

@@ -114,6 +114,14 @@ impl Table {
         self.objects.name(object as usize)
     }
 
+    /// The sort that an object was declared with.
+    pub fn object_sort(&self, object: u32) -> u32
+        requires { object < length self.now.objects }
+        ensures { Some result ≡ slice_get (values_of self.now.objects) object }
+    {
+        *self.objects.value(object as usize).unwrap()
+    }
+
     /// The symbol of a constant.
     pub fn symbol_of(&self, symbol: u32) -> &Symbol
         requires { symbol < length self.now.symbols }
@@ -128,6 +136,20 @@ impl Table {
         ensures { Some result ≡ slice_get (values_of self.now.variables) variable }
     {
         *self.variables.value(variable as usize).unwrap()
+    }
+
+    /// How many variables there are.
+    pub fn variable_count(&self) -> usize
+        ensures { result ≡ length self.now.variables }
+    {
+        self.variables.len()
+    }
+
+    /// How many sorts there are.
+    pub fn sort_count(&self) -> usize
+        ensures { result ≡ length self.now.sorts.names }
+    {
+        self.sorts.len()
     }
 
     /// Whether a sort is the other or below it. It takes no memory.

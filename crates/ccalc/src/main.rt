@@ -1,6 +1,8 @@
 //! The causal calculator: reads a description of actions and change, and lists its histories.
 #![tactic(auto)]
 
+#[cfg(test)]
+mod law_statements;
 pub mod laws;
 mod lister;
 mod listing;
@@ -10,6 +12,8 @@ mod reader;
 mod run;
 mod scanner;
 mod small;
+#[cfg(test)]
+mod statements;
 mod status;
 #[cfg(test)]
 mod tests;

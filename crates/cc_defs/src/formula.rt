@@ -1,0 +1,32 @@
+//! Formulas whose names are resolved: numbers of symbols, objects, variables and sorts in place of names.
+
+/// A constant, an object, a variable, or `none`. An argument of a constant is an object or a variable.
+#[derive(Drop)]
+pub enum Term {
+    /// A constant's symbol and its arguments.
+    Constant { symbol: u32, args: Vec<Term> },
+    /// The number of an object.
+    Object(u32),
+    /// A variable: the law's own come first, in their order, and a bracket's stands behind those around it.
+    Variable(u32),
+    /// `none`, the value of an attribute whose action is not done.
+    Nothing,
+}
+
+/// A formula. A bracket has the number of its variable and the sort that it goes over.
+#[derive(Drop)]
+pub enum Formula {
+    True,
+    False,
+    /// Both terms have the same value.
+    Equal(Term, Term),
+    Not(Box<Formula>),
+    Both(Box<Formula>, Box<Formula>),
+    Either(Box<Formula>, Box<Formula>),
+    /// The first implies the second.
+    Implies(Box<Formula>, Box<Formula>),
+    /// Both are true or both are false.
+    Same(Box<Formula>, Box<Formula>),
+    ForAll(u32, u32, Box<Formula>),
+    Exists(u32, u32, Box<Formula>),
+}

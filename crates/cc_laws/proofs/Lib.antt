@@ -1,0 +1,17 @@
+pub mod ActionNames
+pub mod Asking
+pub mod Atoms
+pub mod Copies
+pub mod Expanded
+pub mod Expansions
+pub mod Fitted
+pub mod Gathered
+pub mod ItemLaws
+pub mod Meant
+pub mod Mentions
+pub mod Rows
+pub mod TermRows
+pub mod Unbound
+pub mod Valued
+pub mod Verdicts
+pub mod Vocabularies

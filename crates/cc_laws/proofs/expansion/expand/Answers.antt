@@ -1,0 +1,12 @@
+use Rattle.std.proofs.Common.{◌∙◌, map, ap}
+use Rattle.cc_defs.specs.Resolved.{plain_base_law}
+use Rattle.cc_defs.specs.Trees.{plain_part}
+use Rattle.cc_laws.proofs.Expansions.{expanded_so}
+use Rattle.cc_laws.proofs.expansion.expand.Goals as goal
+
+pub returns-clause-expanded : goal.returns-clause-expanded
+returns-clause-expanded c = λ left is. (
+  c.in_ok-check.ensures.checked left is,
+  expanded_so c.args.file c.args.table.now left c.args.statement.now.line (plain_part c.args.statement.now.part) (map plain_base_law c.of.result) is
+      (ap (map plain_base_law) c.of.ensures ∙ c.in_ok-laws.ensures),
+)

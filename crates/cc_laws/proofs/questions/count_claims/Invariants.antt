@@ -1,0 +1,10 @@
+use Rattle.std.proofs.Common.{◌≡◌, ◌+◌, ◌≤◌, length, map, flat_map, drop}
+use Rattle.cc_defs.specs.Trees.{plain_query_item}
+use Rattle.cc_laws.specs.Questions.{claims_in}
+use Rattle.cc_laws.proofs.questions.count_claims.Given as goal
+
+abbrev pub invariant-loop-item : goal.invariant-loop-item
+invariant-loop-item l = record {
+  within : l.count ≤ l.item-index;
+  counted : l.count + length (flat_map claims_in (map plain_query_item (drop l.item-index l.items))) ≡ length (flat_map claims_in (map plain_query_item l.items));
+}

@@ -1,0 +1,8 @@
+use Rattle.std.proofs.Common.{◌≡◌, map, flat_map, drop}
+use Rattle.cc_defs.specs.Trees.{plain_query_item}
+use Rattle.cc_laws.specs.Questions.{first, ranges_in}
+use Rattle.cc_laws.proofs.questions.range_of.Given as goal
+
+abbrev pub invariant-loop-item : goal.invariant-loop-item
+invariant-loop-item l =
+    first (flat_map ranges_in (map plain_query_item (drop l.item-index l.items))) ≡ first (flat_map ranges_in (map plain_query_item l.items))

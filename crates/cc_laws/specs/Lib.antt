@@ -1,0 +1,15 @@
+pub mod Checked
+pub mod Classes
+pub mod Expanding
+pub mod Expansion
+pub mod FormulaFaults
+pub mod FreeVariables
+pub mod Joints
+pub mod LawFaults
+pub mod Leaves
+pub mod Meanings
+pub mod Pieces
+pub mod Questions
+pub mod Resolving
+pub mod TermLists
+pub mod Vocabulary

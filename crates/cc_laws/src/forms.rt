@@ -1,0 +1,129 @@
+//! The forms of laws, and what their heads may have.
+ghost use Rattle.std.specs.Prelude.{◌≡◌};
+ghost use Rattle.std.specs.List.{list_all};
+ghost use Rattle.std.specs.Option.{option_map};
+ghost use Rattle.cc_defs.specs.Trees.{plain_tree, plain_law};
+ghost use Rattle.cc_laws.specs.FormulaFaults as formulas;
+ghost use Rattle.cc_laws.specs.LawFaults as faults;
+ghost use Rattle.cc_laws.specs.LawFaults.{optional};
+ghost use Rattle.cc_laws.specs.Vocabulary.{vocabulary_of};
+
+use crate::heads::is_definite;
+use crate::meaning::meaning_of_term;
+use crate::mention::Property;
+use crate::walk::{Check, formula_fails};
+use cc_defs::{LawTree, Tree};
+use cc_sorts::Table;
+
+pub(crate) fn has(table: &Table, property: Property, formula: &Tree<'_>) -> bool
+    ensures { result ≡ formulas.formula_has (vocabulary_of table.now) property (plain_tree formula.now) }
+{
+    formula_fails(table, Check::Mentions(property), formula)
+}
+
+pub(crate) fn is_fluent_formula(table: &Table, formula: &Tree<'_>) -> bool
+    ensures { result ≡ formulas.is_fluent_formula (vocabulary_of table.now) (plain_tree formula.now) }
+{
+    !has(table, Property::Action, formula)
+}
+
+fn is_action_formula(table: &Table, formula: &Tree<'_>) -> bool
+    ensures { result ≡ formulas.is_action_formula (vocabulary_of table.now) (plain_tree formula.now) }
+{
+    has(table, Property::Action, formula) && !has(table, Property::Fluent, formula)
+}
+
+/// Whether a part that may be missing has no action.
+fn is_fluent_part(table: &Table, part: &Option<Tree<'_>>) -> bool
+    ensures { result ≡ list_all (formulas.is_fluent_formula (vocabulary_of table.now)) (optional (option_map plain_tree part.now)) }
+{
+    match part {
+        Some(formula) => is_fluent_formula(table, formula),
+        None => true,
+    }
+}
+
+/// Whether `caused F if G after H` has one of the three forms.
+fn has_form(
+    table: &Table,
+    head: &Tree<'_>,
+    body: &Option<Tree<'_>>,
+    after: &Option<Tree<'_>>,
+) -> bool
+    ensures { result ≡ faults.has_form (vocabulary_of table.now) (plain_tree head.now) (optional (option_map plain_tree body.now)) (option_map plain_tree after.now) }
+{
+    let of_fluents = is_fluent_formula(table, head) && is_fluent_part(table, body);
+    match after {
+        Some(_) => of_fluents,
+        None => of_fluents || is_action_formula(table, head),
+    }
+}
+
+/// Whether a law has none of the three forms, or a part of an abbreviation is of the wrong kind.
+pub(crate) fn lacks_form(table: &Table, law: &LawTree<'_>) -> bool
+    ensures { result ≡ faults.lacks_form (vocabulary_of table.now) (plain_law law.now) }
+{
+    match law {
+        LawTree::Caused(head, body, after) => !has_form(table, head, body, after),
+        LawTree::Constraint(formula) => has(table, Property::Action, formula),
+        LawTree::Nonexecutable(actions, _) => !is_action_formula(table, actions),
+        LawTree::Default(head, body, after) => !has_form(table, head, body, after),
+        LawTree::Inertial(constant) => meaning_of_term(table, constant).is_action_constant(),
+        LawTree::Causes(actions, head, _) => {
+            !is_action_formula(table, actions)
+                || !(is_fluent_formula(table, head) || is_action_formula(table, head))
+        }
+        LawTree::MayCause(actions, head, _) => {
+            !is_action_formula(table, actions) || !is_fluent_formula(table, head)
+        }
+        LawTree::Always(_) | LawTree::Exogenous(_) | LawTree::NoConcurrency => false,
+    }
+}
+
+/// Whether the head of a law with an `after` part has a statically determined fluent.
+fn has_determined_after(table: &Table, head: &Tree<'_>, after: &Option<Tree<'_>>) -> bool
+    ensures { result ≡ faults.has_determined_after (vocabulary_of table.now) (plain_tree head.now) (option_map plain_tree after.now) }
+{
+    match after {
+        Some(_) => has(table, Property::Determined, head),
+        None => false,
+    }
+}
+
+/// Whether the head of a fluent dynamic law has a statically determined fluent.
+pub(crate) fn has_determined_head(table: &Table, law: &LawTree<'_>) -> bool
+    ensures { result ≡ faults.has_determined_head (vocabulary_of table.now) (plain_law law.now) }
+{
+    match law {
+        LawTree::Caused(head, _, after) | LawTree::Default(head, _, after) => {
+            has_determined_after(table, head, after)
+        }
+        LawTree::Inertial(constant) => meaning_of_term(table, constant).is_determined_constant(),
+        LawTree::Causes(_, head, _) | LawTree::MayCause(_, head, _) => {
+            has(table, Property::Determined, head)
+        }
+        LawTree::Constraint(_)
+        | LawTree::Always(_)
+        | LawTree::Nonexecutable(..)
+        | LawTree::Exogenous(_)
+        | LawTree::NoConcurrency => false,
+    }
+}
+
+/// Whether a law's head is no conjunction of definite heads.
+pub(crate) fn has_indefinite_head(table: &Table, law: &LawTree<'_>) -> bool
+    ensures { result ≡ faults.has_indefinite_head (vocabulary_of table.now) (plain_law law.now) }
+{
+    match law {
+        LawTree::Caused(head, _, _)
+        | LawTree::Default(head, _, _)
+        | LawTree::Causes(_, head, _)
+        | LawTree::MayCause(_, head, _) => !is_definite(table, head),
+        LawTree::Constraint(_)
+        | LawTree::Always(_)
+        | LawTree::Nonexecutable(..)
+        | LawTree::Exogenous(_)
+        | LawTree::Inertial(_)
+        | LawTree::NoConcurrency => false,
+    }
+}

@@ -1,0 +1,25 @@
+//! Laws and queries: whether their statements have a fault, and what they say, with numbers in place of names.
+#![tactic(auto)]
+
+mod classes;
+mod expansion;
+mod forms;
+mod head_parts;
+mod heads;
+mod laws;
+mod meaning;
+mod mention;
+mod misfits;
+mod pieces;
+mod questions;
+mod resolving;
+mod steps;
+mod values;
+mod variables;
+mod walk;
+
+pub use classes::{classify, definite};
+pub use expansion::expand;
+pub use laws::check;
+pub use questions::question;
+pub use steps::query_steps;

@@ -1,0 +1,330 @@
+//! Queries: their faults, and what they ask.
+ghost use Rattle.std.specs.Prelude.{◌≡◌, ◌++◌, ◌<◌, List as Items, [], None, length, map, flat_map, IfOk, IfErr, OnOk, string_bytes};
+ghost use Rattle.std.specs.List.{list_any};
+ghost use Rattle.std.specs.Option.{option_map};
+ghost use Rattle.cc_defs.specs.Declarations.{Declaration as Declared};
+ghost use Rattle.cc_defs.specs.Resolved.{Both as both, plain_condition, plain_formula, plain_query};
+ghost use Rattle.cc_defs.specs.Trees.{plain_tree, plain_part, plain_query_item, plain_statement};
+ghost use Rattle.cc_laws.specs.FormulaFaults.{formula_fails as tree_fails};
+ghost use Rattle.cc_laws.specs.Questions as words;
+ghost use Rattle.cc_laws.specs.Questions.{Asks, IsRefusedQuery};
+ghost use Rattle.cc_laws.specs.Resolving as resolving;
+ghost use Rattle.cc_laws.specs.Vocabulary.{vocabulary, vocabulary_of};
+ghost use Rattle.cc_sorts.specs.Tables.{IsTable};
+
+use crate::laws::refused;
+use crate::mention::Property;
+use crate::resolving::resolve;
+use crate::variables::free;
+use crate::walk::{Check, formula_fails};
+use cc_defs::{
+    At, Condition, Fault, Formula, List, Name, OutOfMemory, Part, Query, QueryItem, Statement, Tree,
+};
+use cc_sorts::Table;
+use std::alloc::Global;
+
+/// The parts of a query; a statement that is none has no part.
+fn items_of<'t, 's>(part: &'t Part<'s>) -> &'t [QueryItem<'s>]
+    ensures { map plain_query_item result.now ≡ words.items_of (plain_part part.now) }
+{
+    match part {
+        Part::Query(items) => items.items(),
+        Part::Sorts(_)
+        | Part::Objects(_)
+        | Part::Variables(_)
+        | Part::Constants(_)
+        | Part::Include(_)
+        | Part::Law(..) => &[],
+    }
+}
+
+fn count_labels(items: &[QueryItem<'_>]) -> usize
+    ensures { result ≡ length (flat_map words.labels_in (map plain_query_item items.now)) }
+{
+    let mut count = 0;
+    for item in items {
+        if let QueryItem::Label(_) = item {
+            count += 1;
+        }
+    }
+    count
+}
+
+fn count_ranges(items: &[QueryItem<'_>]) -> usize
+    ensures { result ≡ length (flat_map words.ranges_in (map plain_query_item items.now)) }
+{
+    let mut count = 0;
+    for item in items {
+        if let QueryItem::Range(..) = item {
+            count += 1;
+        }
+    }
+    count
+}
+
+fn count_claims(items: &[QueryItem<'_>]) -> usize
+    ensures { result ≡ length (flat_map words.claims_in (map plain_query_item items.now)) }
+{
+    let mut count = 0;
+    for item in items {
+        if let QueryItem::Condition { claim: true, .. } = item {
+            count += 1;
+        }
+    }
+    count
+}
+
+/// Whether a label, a range of horizons or a claim is given a second time.
+fn gives_twice(items: &[QueryItem<'_>]) -> bool
+    ensures { result ≡ words.gives_twice (map plain_query_item items.now) }
+{
+    count_labels(items) > 1 || (count_ranges(items) > 1 || count_claims(items) > 1)
+}
+
+/// Whether a formula fails the check.
+fn some_fails(table: &Table, check: Check, formulas: &[Tree<'_>]) -> bool
+    ensures { result ≡ list_any (tree_fails (vocabulary_of table.now) check) (map plain_tree formulas.now) }
+{
+    formulas
+        .iter()
+        .any(|formula| formula_fails(table, check, formula))
+}
+
+/// The formulas of a part of a query.
+fn formulas_in<'t, 's>(item: &'t QueryItem<'s>) -> &'t [Tree<'s>]
+    ensures { map plain_tree result.now ≡ words.formulas_in (plain_query_item item.now) }
+{
+    match item {
+        QueryItem::Condition { parts, .. } => parts.items(),
+        QueryItem::Label(_) | QueryItem::Range(..) => &[],
+    }
+}
+
+/// Whether a formula of a query fails the check.
+fn query_fails(table: &Table, check: Check, items: &[QueryItem<'_>]) -> bool
+    ensures { result ≡ list_any (tree_fails (vocabulary_of table.now) check) (flat_map words.formulas_in (map plain_query_item items.now)) }
+{
+    for item in items {
+        if some_fails(table, check, formulas_in(item)) {
+            return true;
+        }
+    }
+    false
+}
+
+/// Whether a formula has a free variable.
+fn has_free(alloc: Global, table: &Table, formula: &Tree<'_>) -> Result<bool, OutOfMemory>
+    ensures { IfOk result (λ found. found ≡ words.has_free (vocabulary_of table.now) (plain_tree formula.now)) }
+{
+    Ok(!free(alloc, table, formula)?.is_empty())
+}
+
+/// Whether one of the formulas has a free variable.
+fn some_has_free(alloc: Global, table: &Table, formulas: &[Tree<'_>]) -> Result<bool, OutOfMemory>
+    ensures { IfOk result (λ found. found ≡ list_any (words.has_free (vocabulary_of table.now)) (map plain_tree formulas.now)) }
+{
+    for formula in formulas {
+        if has_free(alloc, table, formula)? {
+            return Ok(true);
+        }
+    }
+    Ok(false)
+}
+
+/// Whether a query has a free variable.
+fn query_has_free(
+    alloc: Global,
+    table: &Table,
+    items: &[QueryItem<'_>],
+) -> Result<bool, OutOfMemory>
+    ensures { IfOk result (λ found. found ≡ list_any (words.has_free (vocabulary_of table.now)) (flat_map words.formulas_in (map plain_query_item items.now))) }
+{
+    for item in items {
+        if some_has_free(alloc, table, formulas_in(item))? {
+            return Ok(true);
+        }
+    }
+    Ok(false)
+}
+
+/// The least number of a fault of a query, if it has one.
+fn query_fault(
+    alloc: Global,
+    table: &Table,
+    items: &[QueryItem<'_>],
+) -> Result<Option<u8>, OutOfMemory>
+    ensures { IfOk result (λ fault. fault ≡ words.query_fault (vocabulary_of table.now) (map plain_query_item items.now)) }
+{
+    if gives_twice(items) {
+        return Ok(Some(4));
+    }
+    if query_fails(table, Check::Mentions(Property::Unknown), items) {
+        return Ok(Some(5));
+    }
+    if query_fails(table, Check::Mentions(Property::Miscounted), items) {
+        return Ok(Some(6));
+    }
+    if query_fails(table, Check::Misfits, items) {
+        return Ok(Some(7));
+    }
+    if query_has_free(alloc, table, items)? {
+        return Ok(Some(8));
+    }
+    Ok(None)
+}
+
+/// The first label.
+fn label_of(alloc: Global, items: &[QueryItem<'_>]) -> Result<Option<Name>, OutOfMemory>
+    ensures { IfOk result (λ label. label ≡ words.first (flat_map words.labels_in (map plain_query_item items.now))) }
+{
+    for item in items {
+        if let QueryItem::Label(label) = item {
+            return Ok(Some(Name::of(String::from_str(alloc, label)?)));
+        }
+    }
+    Ok(None)
+}
+
+/// The first range of horizons.
+fn range_of(items: &[QueryItem<'_>]) -> Option<(u32, u32)>
+    ensures { result ≡ words.first (flat_map words.ranges_in (map plain_query_item items.now)) }
+{
+    for item in items {
+        if let QueryItem::Range(lo, hi) = item {
+            return Some((*lo, *hi));
+        }
+    }
+    None
+}
+
+/// Two formulas, joined by `&`.
+fn conjunction(alloc: Global, first: Formula, second: Formula) -> Result<Formula, OutOfMemory>
+    ensures { IfOk result (λ made. plain_formula made ≡ both (plain_formula first) (plain_formula second)) }
+{
+    let first = Box::new(alloc, first)?;
+    Ok(Formula::Both(first, Box::new(alloc, second)?))
+}
+
+/// A formula without free variables, with numbers in place of names.
+fn closed(alloc: Global, table: &Table, formula: &Tree<'_>) -> Result<Formula, OutOfMemory>
+    ensures { IfOk result (λ made. plain_formula made ≡ resolving.resolve (vocabulary_of table.now) [] (plain_tree formula.now)) }
+{
+    let mut scope = Vec::new(alloc);
+    resolve(alloc, table, &mut scope, formula)
+}
+
+/// The formulas, joined by `&`, which groups to the left.
+fn joined(alloc: Global, table: &Table, formulas: &[Tree<'_>]) -> Result<Formula, OutOfMemory>
+    ensures { IfOk result (λ made. plain_formula made ≡ words.joined (map (resolving.resolve (vocabulary_of table.now) []) (map plain_tree formulas.now))) }
+{
+    let Some((first, others)) = formulas.split_first() else {
+        return Ok(Formula::True);
+    };
+    let mut made = closed(alloc, table, first)?;
+    for formula in others {
+        let next = closed(alloc, table, formula)?;
+        made = conjunction(alloc, made, next)?;
+    }
+    Ok(made)
+}
+
+/// A condition of a query or its claim.
+fn condition(
+    alloc: Global,
+    table: &Table,
+    at: At,
+    formulas: &[Tree<'_>],
+) -> Result<Condition, OutOfMemory>
+    ensures { IfOk result (λ made. plain_condition made ≡ words.condition_asked (vocabulary_of table.now) (words.asked at (map plain_tree formulas.now))) }
+{
+    Ok(Condition {
+        at,
+        formula: joined(alloc, table, formulas)?,
+    })
+}
+
+/// The conditions of a query.
+fn conditions_of(
+    alloc: Global,
+    table: &Table,
+    items: &[QueryItem<'_>],
+) -> Result<Vec<Condition>, OutOfMemory>
+    ensures { IfOk result (λ made. map plain_condition made.items ≡ map (words.condition_asked (vocabulary_of table.now)) (flat_map words.conditions_in (map plain_query_item items.now))) }
+{
+    let mut made = Vec::new(alloc);
+    for item in items {
+        if let QueryItem::Condition {
+            claim: false,
+            at,
+            parts,
+        } = item
+        {
+            made.push(condition(alloc, table, *at, parts.items())?)?;
+        }
+    }
+    Ok(made)
+}
+
+/// The first claim of a query.
+fn claim_of(
+    alloc: Global,
+    table: &Table,
+    items: &[QueryItem<'_>],
+) -> Result<Option<Condition>, OutOfMemory>
+    ensures { IfOk result (λ made. option_map plain_condition made ≡ option_map (words.condition_asked (vocabulary_of table.now)) (words.first (flat_map words.claims_in (map plain_query_item items.now)))) }
+{
+    for item in items {
+        if let QueryItem::Condition {
+            claim: true,
+            at,
+            parts,
+        } = item
+        {
+            return Ok(Some(condition(alloc, table, *at, parts.items())?));
+        }
+    }
+    Ok(None)
+}
+
+/// What a query asks.
+fn query_of(
+    alloc: Global,
+    file: u32,
+    table: &Table,
+    line: u32,
+    items: &[QueryItem<'_>],
+) -> Result<Query, OutOfMemory>
+    ensures { IfOk result (λ query. plain_query query ≡ words.query_of file (vocabulary_of table.now) line (map plain_query_item items.now)) }
+{
+    let label = label_of(alloc, items)?;
+    let conditions = List::of(conditions_of(alloc, table, items)?);
+    let claim = claim_of(alloc, table, items)?;
+    Ok(Query {
+        label,
+        range: range_of(items),
+        conditions,
+        claim,
+        file,
+        line,
+    })
+}
+
+/// What a query asks, at the table as it stands. Refuses, at the statement's line, the least number of a fault: a label, a
+/// range of horizons or a claim given twice (4), an unknown name (5), another number of arguments (6), a term where its sort
+/// or kind does not fit (7), a free variable (8). A statement that is no query asks nothing. `file` is the number of the
+/// file in refusals.
+pub fn question(
+    alloc: Global,
+    file: u32,
+    table: &Table,
+    statement: &Statement<'_>,
+) -> Result<Query, Fault>
+    ensures asked { (left : Items Declared) → IsTable table.now left → IfOk result (λ query. Asks file left (plain_statement statement.now) (plain_query query)) }
+    ensures refused { (left : Items Declared) → IsTable table.now left → IfErr result (IsRefusedQuery file left (plain_statement statement.now)) }
+{
+    let items = items_of(&statement.part);
+    match query_fault(alloc, table, items)? {
+        Some(number) => Err(refused(number, file, statement.line)),
+        None => Ok(query_of(alloc, file, table, statement.line, items)?),
+    }
+}

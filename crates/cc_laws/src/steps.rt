@@ -1,0 +1,138 @@
+//! The steps of a query.
+ghost use Rattle.std.specs.Prelude.{◌≡◌, map};
+ghost use Rattle.std.specs.List.{list_any};
+ghost use Rattle.std.specs.Option.{option_map};
+ghost use Rattle.cc_defs.specs.Resolved.{plain_condition, plain_formula, plain_query, plain_term};
+ghost use Rattle.cc_laws.specs.Questions as words;
+ghost use Rattle.cc_laws.specs.Vocabulary.{vocabulary_of};
+
+use crate::meaning::is_action;
+use cc_defs::{At, Condition, Formula, LimitAt, Query, Refusal, Term};
+use cc_sorts::Table;
+
+/// Whether a symbol is that of an action; one that is not there is none.
+pub(crate) fn is_action_symbol(table: &Table, symbol: u32) -> bool
+    ensures { result ≡ words.is_action_symbol (vocabulary_of table.now).symbols symbol }
+{
+    if (symbol as usize) < table.symbol_count() {
+        is_action(table.symbol_of(symbol).kind)
+    } else {
+        false
+    }
+}
+
+/// Whether a term has an action.
+fn term_names_action(table: &Table, term: &Term) -> bool
+    ensures { result ≡ list_any (words.is_action_symbol (vocabulary_of table.now).symbols) (words.term_symbols (plain_term term.now)) }
+{
+    match term {
+        Term::Constant { symbol, args } => {
+            if is_action_symbol(table, *symbol) {
+                return true;
+            }
+            for argument in args {
+                if term_names_action(table, argument) {
+                    return true;
+                }
+            }
+            false
+        }
+        Term::Object(_) | Term::Variable(_) | Term::Nothing => false,
+    }
+}
+
+/// Whether a formula has an action.
+fn names_action(table: &Table, formula: &Formula) -> bool
+    ensures { result ≡ words.names_action (vocabulary_of table.now).symbols (plain_formula formula.now) }
+{
+    match formula {
+        Formula::True | Formula::False => false,
+        Formula::Equal(left, right) => {
+            term_names_action(table, left) || term_names_action(table, right)
+        }
+        Formula::Not(inner) => names_action(table, inner),
+        Formula::Both(first, second)
+        | Formula::Either(first, second)
+        | Formula::Implies(first, second)
+        | Formula::Same(first, second) => {
+            names_action(table, first) || names_action(table, second)
+        }
+        Formula::ForAll(_, _, inner) | Formula::Exists(_, _, inner) => names_action(table, inner),
+    }
+}
+
+/// Whether a formula may not stand at a step of a query with this least horizon.
+fn step_fails(table: &Table, lo: u32, at: At, formula: &Formula) -> bool
+    ensures { result ≡ words.step_fails (vocabulary_of table.now).symbols lo at (plain_formula formula.now) }
+{
+    match at {
+        At::Number(step) => step > lo || (step == lo && names_action(table, formula)),
+        At::Last => names_action(table, formula),
+    }
+}
+
+fn condition_fails(table: &Table, lo: u32, condition: &Condition) -> bool
+    ensures { result ≡ words.condition_fails (vocabulary_of table.now).symbols lo (plain_condition condition.now) }
+{
+    step_fails(table, lo, condition.at, &condition.formula)
+}
+
+fn some_condition_fails(table: &Table, lo: u32, conditions: &[Condition]) -> bool
+    ensures { result ≡ list_any (words.condition_fails (vocabulary_of table.now).symbols lo) (map plain_condition conditions.now) }
+{
+    conditions
+        .iter()
+        .any(|condition| condition_fails(table, lo, condition))
+}
+
+fn claim_fails(table: &Table, lo: u32, claim: &Option<Condition>) -> bool
+    ensures { result ≡ words.claim_fails (vocabulary_of table.now).symbols lo (option_map plain_condition claim.now) }
+{
+    match claim {
+        Some(claim) => condition_fails(table, lo, claim),
+        None => false,
+    }
+}
+
+fn step_refusal(query: &Query) -> Refusal
+    ensures { result ≡ words.step_refusal (plain_query query.now) }
+{
+    Refusal {
+        number: 16,
+        file: query.file,
+        line: query.line,
+        limit: None,
+    }
+}
+
+fn range_refusal(table: &Table, query: &Query, lo: u32, hi: u32) -> Option<Refusal>
+    ensures { result ≡ words.range_refusal (vocabulary_of table.now).symbols (plain_query query.now) lo hi }
+{
+    if lo > hi
+        || (some_condition_fails(table, lo, query.conditions.items())
+            || claim_fails(table, lo, &query.claim))
+    {
+        return Some(step_refusal(query));
+    }
+    if hi > LimitAt::Horizon.number() {
+        return Some(Refusal {
+            number: 14,
+            file: 0,
+            line: 0,
+            limit: Some(LimitAt::Horizon),
+        });
+    }
+    None
+}
+
+/// The refusal of a query's steps, if there is one: 16 at the query's place where it has no range of horizons, its least
+/// horizon is above its greatest, a condition or the claim stands at a step above the least horizon, or a formula with an
+/// action stands at the last step or may; else 14 where its greatest horizon passes the limit horizon. It takes no memory.
+pub fn query_steps(table: &Table, query: &Query) -> Option<Refusal>
+    ensures { result ≡ words.steps_refusal (vocabulary_of table.now).symbols (plain_query query.now) }
+{
+    match query.range {
+        Some((lo, hi)) => range_refusal(table, query, lo, hi),
+        None => Some(step_refusal(query)),
+    }
+}

@@ -1,0 +1,135 @@
+//! The free variables of formulas, by their numbers in the table.
+ghost use Rattle.std.specs.Prelude.{◌≡◌, ◌++◌, [], IfOk, OnOk};
+ghost use Rattle.cc_defs.specs.Trees.{plain_term, plain_tree};
+ghost use Rattle.cc_laws.specs.FreeVariables as words;
+ghost use Rattle.cc_laws.specs.Meanings.{plain_meaning};
+ghost use Rattle.cc_laws.specs.Vocabulary as vocabulary;
+ghost use Rattle.cc_laws.specs.Vocabulary.{vocabulary_of};
+
+use crate::meaning::{Meaning, meaning_of};
+use cc_defs::{OutOfMemory, TermTree, Tree};
+use cc_sorts::Table;
+use std::alloc::Global;
+
+pub(crate) fn is_among(numbers: &[u32], number: u32) -> bool
+    ensures { result ≡ words.is_among numbers.now number }
+{
+    numbers.iter().any(|other| number == *other)
+}
+
+/// The number of the variable that a name is.
+pub(crate) fn variable(table: &Table, name: &str) -> Option<u32>
+    ensures { words.variable_meant (vocabulary.meaning (vocabulary_of table.now) name.now) ≡ words.listed result }
+{
+    match meaning_of(table, name) {
+        Meaning::Variable(number, _) => Some(number),
+        Meaning::Unknown | Meaning::Nothing | Meaning::Object(..) | Meaning::Constant(..) => None,
+    }
+}
+
+/// Adds the variable that a name is, unless a bracket binds it.
+fn add_name(
+    table: &Table,
+    bound: &[u32],
+    name: &str,
+    found: &mut Vec<u32>,
+) -> Result<(), OutOfMemory>
+    ensures { OnOk result (found.new.items ≡ found.old.items ++ words.unbound bound.now (words.variable_meant (vocabulary.meaning (vocabulary_of table.now) name.now))) }
+{
+    let Some(number) = variable(table, name) else {
+        return Ok(());
+    };
+    if is_among(bound, number) {
+        return Ok(());
+    }
+    found.push(number)?;
+    Ok(())
+}
+
+/// Adds the variables of a term that no bracket binds.
+pub(crate) fn add_unbound(
+    table: &Table,
+    bound: &[u32],
+    term: &TermTree<'_>,
+    found: &mut Vec<u32>,
+) -> Result<(), OutOfMemory>
+    ensures { OnOk result (found.new.items ≡ found.old.items ++ words.unbound bound.now (words.term_variables (vocabulary_of table.now) (plain_term term.now))) }
+{
+    add_name(table, bound, term.name, found)?;
+    for argument in &term.args {
+        add_unbound(table, bound, argument, found)?;
+    }
+    Ok(())
+}
+
+/// Adds the free occurrences of variables in a formula, in the order of its text, inside brackets with these variables.
+pub(crate) fn add_free(
+    table: &Table,
+    bound: &mut Vec<u32>,
+    formula: &Tree<'_>,
+    found: &mut Vec<u32>,
+) -> Result<(), OutOfMemory>
+    ensures added { OnOk result (found.new.items ≡ found.old.items ++ words.free (vocabulary_of table.now) bound.old.items (plain_tree formula.now)) }
+    ensures closed { OnOk result (bound.new.items ≡ bound.old.items) }
+{
+    match formula {
+        Tree::Bare(term) => add_unbound(table, bound, term, found),
+        Tree::Equal(left, right) | Tree::Differ(left, right) => {
+            add_unbound(table, bound, left, found)?;
+            add_unbound(table, bound, right, found)
+        }
+        Tree::Paren(inner) | Tree::Not(inner) => add_free(table, bound, inner, found),
+        Tree::Both(first, second)
+        | Tree::Either(first, second)
+        | Tree::Implies(first, second)
+        | Tree::Same(first, second) => {
+            add_free(table, bound, first, found)?;
+            add_free(table, bound, second, found)
+        }
+        Tree::ForAll(name, inner) | Tree::Exists(name, inner) => {
+            match variable(table, name) {
+                Some(number) => {
+                    bound.push(number)?;
+                    add_free(table, bound, inner, found)?;
+                    bound.pop();
+                    Ok(())
+                }
+                None => add_free(table, bound, inner, found),
+            }
+        }
+    }
+}
+
+/// The free occurrences of variables in a formula.
+pub(crate) fn free(
+    alloc: Global,
+    table: &Table,
+    formula: &Tree<'_>,
+) -> Result<Vec<u32>, OutOfMemory>
+    ensures { IfOk result (λ found. found.items ≡ words.free (vocabulary_of table.now) [] (plain_tree formula.now)) }
+{
+    let mut found = Vec::new(alloc);
+    let mut bound = Vec::new(alloc);
+    add_free(table, &mut bound, formula, &mut found)?;
+    Ok(found)
+}
+
+/// Each number at its first place.
+pub(crate) fn firsts(alloc: Global, numbers: &[u32]) -> Result<Vec<u32>, OutOfMemory>
+    ensures { IfOk result (λ kept. kept.items ≡ words.firsts numbers.now) }
+{
+    let mut kept = Vec::new(alloc);
+    for number in numbers {
+        if !is_among(&kept, *number) {
+            kept.push(*number)?;
+        }
+    }
+    Ok(kept)
+}
+
+/// Whether a number is not among the others.
+pub(crate) fn some_is_new(numbers: &[u32], others: &[u32]) -> bool
+    ensures { result ≡ words.some_is_new others.now numbers.now }
+{
+    numbers.iter().any(|number| !is_among(others, *number))
+}
