@@ -26,7 +26,7 @@ pub use event::{Ending, Event, Told};
 pub use formula::{Formula, Term};
 pub use law::{BaseLaw, BaseLaws, Condition, Head, Law, Queries, Query, Range};
 pub use list::List;
-pub use lists::{Bytes, Key, Lits, Name, Nums, Row, Text};
+pub use lists::{Bytes, Key, Lits, Name, Names, Nums, Row, Text};
 pub use literal::Lit;
 pub use node::Node;
 pub use refusal::{Fault, LimitAt, OutOfMemory, Refusal};

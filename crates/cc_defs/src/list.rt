@@ -29,4 +29,10 @@ impl<T> List<T> {
     {
         self.items.as_slice()
     }
+
+    pub fn into_items(self) -> Vec<T>
+        ensures { result.items ≡ self }
+    {
+        self.items
+    }
 }

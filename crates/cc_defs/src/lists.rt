@@ -1,7 +1,7 @@
 //! Small types over `Vec` and `String` that contracts see as lists.
 ghost use Rattle.std.specs.Prelude.{◌≡◌, IfOk, string_bytes};
 
-use crate::{Lit, OutOfMemory};
+use crate::{List, Lit, OutOfMemory};
 use std::alloc::Global;
 use std::marker::Model;
 
@@ -145,6 +145,9 @@ impl Name {
         self.name.as_str()
     }
 }
+
+/// Names in order.
+pub type Names = List<Name>;
 
 /// A text that is to be printed.
 #[derive(Drop)]

@@ -13,9 +13,10 @@ abbrev pub variable_meant : Meaning → List ℕ
 variable_meant (Variable number sort) = number ∷ []
 variable_meant means = []
 
-abbrev pub listed : Option ℕ → List ℕ
-listed None = []
-listed (Some number) = number ∷ []
+-- what is there, as a list
+abbrev pub optional : {X : Type 0} → Option X → List X
+optional None = []
+optional (Some x) = x ∷ []
 
 -- the variables of a term, in the order of its text
 abbrev pub term_variables : Vocabulary → PlainTerm → List ℕ

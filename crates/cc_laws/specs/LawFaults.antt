@@ -7,14 +7,10 @@ use Rattle.cc_defs.specs.Trees as trees
 use Rattle.cc_laws.specs.declared.mention.Property.{Property}
 use Rattle.cc_laws.specs.declared.mention.Property.TheVariants as properties
 use Rattle.cc_laws.specs.FormulaFaults.{formula_has, term_has, term_misfits, term_meaning, has_misfit, has_constant, has_action, has_determined, is_fluent_formula, is_action_formula}
-use Rattle.cc_laws.specs.FreeVariables.{some_is_new, free, firsts, term_variables, unbound}
+use Rattle.cc_laws.specs.FreeVariables.{optional, some_is_new, free, firsts, term_variables, unbound}
 use Rattle.cc_laws.specs.Vocabulary.{Vocabulary, is_constant, is_action_constant, is_determined_constant, is_boolean_constant, is_truth_value, is_falsity}
 
 -- ---- the parts of a law, in the order of its text
-
-abbrev pub optional : {X : Type 0} → Option X → List X
-optional None = []
-optional (Some x) = x ∷ []
 
 abbrev pub formulas : PlainLaw → List PlainTree
 formulas (trees.Caused f g h) = f ∷ optional g ++ optional h

@@ -5,7 +5,7 @@ ghost use Rattle.std.specs.Option.{option_map};
 ghost use Rattle.cc_defs.specs.Trees.{plain_tree, plain_law};
 ghost use Rattle.cc_laws.specs.FormulaFaults as formulas;
 ghost use Rattle.cc_laws.specs.LawFaults as faults;
-ghost use Rattle.cc_laws.specs.LawFaults.{optional};
+ghost use Rattle.cc_laws.specs.FreeVariables.{optional};
 ghost use Rattle.cc_laws.specs.Vocabulary.{vocabulary_of};
 
 use crate::heads::is_definite;

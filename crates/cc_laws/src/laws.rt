@@ -7,7 +7,8 @@ ghost use Rattle.cc_defs.specs.Trees.{plain_term, plain_tree, plain_law, plain_p
 ghost use Rattle.cc_laws.specs.Checked.{IsRefusedLaw, refused_at};
 ghost use Rattle.cc_laws.specs.FormulaFaults.{formula_fails as tree_fails, has_constant};
 ghost use Rattle.cc_laws.specs.LawFaults as faults;
-ghost use Rattle.cc_laws.specs.LawFaults.{optional, law_refusal};
+ghost use Rattle.cc_laws.specs.FreeVariables.{optional};
+ghost use Rattle.cc_laws.specs.LawFaults.{law_refusal};
 ghost use Rattle.cc_laws.specs.Vocabulary.{vocabulary, vocabulary_of};
 ghost use Rattle.cc_sorts.specs.Tables.{IsTable};
 

@@ -19,7 +19,7 @@ pub(crate) fn is_among(numbers: &[u32], number: u32) -> bool
 
 /// The number of the variable that a name is.
 pub(crate) fn variable(table: &Table, name: &str) -> Option<u32>
-    ensures { words.variable_meant (vocabulary.meaning (vocabulary_of table.now) name.now) ≡ words.listed result }
+    ensures { words.variable_meant (vocabulary.meaning (vocabulary_of table.now) name.now) ≡ words.optional result }
 {
     match meaning_of(table, name) {
         Meaning::Variable(number, _) => Some(number),

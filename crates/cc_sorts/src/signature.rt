@@ -82,7 +82,7 @@ fn limit_refusal(limit: LimitAt) -> Refusal
 
 impl Table {
     /// The objects of a sort; none, where there is no such sort.
-    fn members(&self, sort: u32) -> &[u32]
+    pub fn members(&self, sort: u32) -> &[u32]
         ensures { result.now ≡ members_at self.now.sorts sort }
     {
         let sort = sort as usize;

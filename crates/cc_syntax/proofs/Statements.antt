@@ -1,5 +1,5 @@
 -- What the reader of statements finds is the tree of a statement, and where it finds nothing there is none.
-use Rattle.std.proofs.Common.{◌≡◌, ℕ, ◌<◌, ◌≤◌, List, [], ◌∷◌, length, slice_index_or, Option, Some, None, Result, Err, IfOk, Bool, true, false, IsFalse, refl, ap, subst, sym, ◌∙◌, inr, arith}
+use Rattle.std.proofs.Common.{◌≡◌, ℕ, ◌<◌, ◌≤◌, List, [], ◌∷◌, length, slice_index_or, Option, Some, None, Result, Err, IfOk, Bool, true, false, IsFalse, refl, ap, subst, sym, ◌∙◌, ◌⊎◌, inl, inr, arith}
 use Rattle.std.specs.Bool.{then_some}
 use Rattle.std.specs.Option.{ok_or}
 use Rattle.std.proofs.lemmas.Bool.{le-ltb}
@@ -7,17 +7,18 @@ use Rattle.std.proofs.lemmas.List.{length-map}
 use Rattle.cc_defs.specs.declared.refusal.Fault.{Fault}
 use Rattle.cc_defs.specs.declared.refusal.Fault.TheVariants as faults
 use Rattle.cc_defs.specs.declared.refusal.LimitAt.{LimitAt}
+use Rattle.cc_defs.specs.declared.refusal.Refusal.{Refusal}
 use Rattle.cc_defs.specs.declared.token.Mark.TheVariants as marks
 use Rattle.cc_defs.specs.declared.token.Token.{Token}
 use Rattle.cc_defs.specs.declared.tree.Part.{Part}
 use Rattle.cc_defs.specs.Grammar.{Terminal, terminals}
 use Rattle.cc_defs.specs.Limits.{limit_number}
-use Rattle.cc_defs.specs.Statements.{token_limit, is_too_long, has_not_yet, refusal_at, NoTree, IsParsed}
+use Rattle.cc_defs.specs.Statements.{token_limit, is_too_long, has_not_yet, refusal_at, NoTree, IsParsed, IsRefused}
 use Rattle.cc_defs.specs.Tokens.{TokenView, AreTokens, first_line}
-use Rattle.cc_defs.specs.Trees.{PlainPart, plain_part, plain_statement}
+use Rattle.cc_defs.specs.Trees.{PlainPart, PlainStatement, plain_part, plain_statement}
 use Rattle.cc_syntax.specs.declared.stop.Stop.{Stop}
 use Rattle.cc_syntax.specs.declared.stop.Stop.TheVariants as stops
-use Rattle.cc_syntax.specs.Parsing.{part_at, nothing_left, statement_at, HasRefused}
+use Rattle.cc_syntax.specs.Parsing.{part_at, nothing_left, statement_at, HasRefused, TreeOrRefusal}
 use Rattle.cc_syntax.specs.Readers.{given, sign_at}
 use Rattle.cc_syntax.specs.Views.{seen}
 use Rattle.cc_text.specs.Views.{token_views}
@@ -69,3 +70,28 @@ pub is_refused : (tokens : List Token) (file : ℕ) (fault : Fault) → IsFalse 
     HasRefused file (token_views tokens) fault
 is_refused tokens file fault short known nothing is_fault =
     subst (HasRefused file (token_views tokens)) (sym is_fault) (inr (inr (short, known, nothing_spells (token_views tokens) nothing, refl)))
+
+-- ---- each list of tokens has a tree, or is refused
+
+read-or-refused : (file : ℕ) (tokens : List TokenView) → AreTokens tokens → IsFalse (is_too_long (terminals tokens)) → IsFalse (has_not_yet (terminals tokens)) →
+    (read : Option PlainPart) → statement_at (terminals tokens) ≡ read →
+    ((tree : PlainStatement) × IsParsed tokens tree) ⊎ ((refusal : Refusal) × IsRefused file tokens refusal)
+read-or-refused file tokens are short known (Some p) found =
+    inl (record { part = p; line = first_line tokens }, record { short = short; known = known; spelled = record { whole = statement-takes tokens are p found; line = refl } })
+read-or-refused file tokens are short known None nothing =
+    inr (refusal_at 3 file None tokens, inr (inr (short, known, nothing_spells tokens nothing, refl)))
+
+known-or-refused : (file : ℕ) (tokens : List TokenView) → AreTokens tokens → IsFalse (is_too_long (terminals tokens)) →
+    (not_yet : Bool) → has_not_yet (terminals tokens) ≡ not_yet →
+    ((tree : PlainStatement) × IsParsed tokens tree) ⊎ ((refusal : Refusal) × IsRefused file tokens refusal)
+known-or-refused file tokens are short true unknown = inr (refusal_at 13 file None tokens, inr (inl (short, unknown, refl)))
+known-or-refused file tokens are short false known = read-or-refused file tokens are short known (statement_at (terminals tokens)) refl
+
+short-or-refused : (file : ℕ) (tokens : List TokenView) → AreTokens tokens → (long : Bool) → is_too_long (terminals tokens) ≡ long →
+    ((tree : PlainStatement) × IsParsed tokens tree) ⊎ ((refusal : Refusal) × IsRefused file tokens refusal)
+short-or-refused file tokens are true long =
+    inr (refusal_at 14 file (Some (token_limit (terminals tokens))) tokens, inl (long, refl))
+short-or-refused file tokens are false short = known-or-refused file tokens are short (has_not_yet (terminals tokens)) refl
+
+pub tree-or-refusal : TreeOrRefusal
+tree-or-refusal file tokens are = short-or-refused file tokens are (is_too_long (terminals tokens)) refl

@@ -13,8 +13,6 @@ mod queries;
 mod statement;
 mod stop;
 mod terms;
-#[cfg(test)]
-mod tests;
 mod tokens;
 mod words;
 

@@ -2,6 +2,7 @@
 use Rattle.std.proofs.Common.{◌≡◌, ℕ, zero, suc, ◌+◌, ◌<◌, Bool, true, false, cond, List, [], ◌∷◌, ◌++◌, length, get_or, subst, sym, arith}
 use Rattle.std.specs.List.{AllByRecursion}
 use Rattle.cc_defs.specs.Tokens.{TokenView, IsCut, IsShort, AreTokens, line_feeds, is_dot, last_statement, statements_from, statements}
+use Rattle.cc_text.specs.Laws.{StatementsAreTokens}
 use Rattle.cc_text.specs.Reading.{HasRead}
 
 cut_tokens : (line : ℕ) (text : List ℕ) (tokens : List TokenView) → IsCut line text tokens → AllByRecursion IsShort tokens → AreTokens tokens
@@ -37,3 +38,6 @@ pub statement_are : (text : List ℕ) (read : List (List TokenView)) (i : ℕ) �
 statement_are text read i p =
     subst (λ (l : List (List TokenView)). AreTokens (get_or l i [])) (sym p.3)
     (at (statements p.0) i (all_are [] p.0 tt (cut_tokens 1 text p.0 p.1 p.2)))
+
+pub statements_are : StatementsAreTokens
+statements_are line text tokens cut short = all_are [] tokens tt (cut_tokens line text tokens cut short)

@@ -2,7 +2,7 @@
 use Rattle.std.specs.Prelude.{◌≡◌, ◌⊎◌, ℕ, List}
 use Rattle.std.specs.List.{AllByRecursion}
 use Rattle.cc_defs.specs.declared.refusal.Refusal.{Refusal}
-use Rattle.cc_defs.specs.Tokens.{TokenView, IsCut, IsShort, StopsAt}
+use Rattle.cc_defs.specs.Tokens.{TokenView, AreTokens, IsCut, IsShort, StopsAt, statements}
 
 -- a text has one cut
 abbrev pub OneCut : Type 0
@@ -23,3 +23,8 @@ abbrev pub CutOrStop : Type 0
 CutOrStop = (file line : ℕ) (text : List ℕ)
     → ((tokens : List TokenView) × IsCut line text tokens × AllByRecursion IsShort tokens)
     ⊎ ((tokens : List TokenView) × (refusal : Refusal) × StopsAt file line text tokens refusal)
+
+-- the statements of a text that has a cut into short tokens are of such tokens
+abbrev pub StatementsAreTokens : Type 0
+StatementsAreTokens = (line : ℕ) (text : List ℕ) (tokens : List TokenView)
+    → IsCut line text tokens → AllByRecursion IsShort tokens → AllByRecursion AreTokens (statements tokens)

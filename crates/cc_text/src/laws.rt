@@ -1,5 +1,5 @@
 //! Laws of the cut of a text, each the contract of a function with no body.
-ghost use Rattle.cc_text.specs.Laws.{OneCut, OneStop, CutsOrStops, CutOrStop};
+ghost use Rattle.cc_text.specs.Laws.{OneCut, OneStop, CutsOrStops, CutOrStop, StatementsAreTokens};
 
 /// A text has at most one cut.
 pub fn one_cut()
@@ -19,4 +19,9 @@ pub fn cuts_or_stops()
 /// Each text has a cut into short tokens, or stops.
 pub fn cut_or_stop()
     ensures { CutOrStop }
+{}
+
+/// The statements of a text that has a cut into short tokens are of such tokens.
+pub fn statements_are_tokens()
+    ensures { StatementsAreTokens }
 {}

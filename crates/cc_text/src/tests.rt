@@ -262,4 +262,5 @@ fn laws_are_called(_rt: HostRuntime) {
     laws::one_stop();
     laws::cuts_or_stops();
     laws::cut_or_stop();
+    laws::statements_are_tokens();
 }

@@ -12,7 +12,7 @@ use Rattle.ccalc.specs.Lister.{all_rows}
 
 -- ---- each element of lists that are joined and mapped
 
-each_of_both : {X : Type 0} (P : X → Type 0) (xs ys : List X) → AllByRecursion P xs → AllByRecursion P ys → AllByRecursion P (xs ++ ys)
+pub each_of_both : {X : Type 0} (P : X → Type 0) (xs ys : List X) → AllByRecursion P xs → AllByRecursion P ys → AllByRecursion P (xs ++ ys)
 each_of_both P [] ys first second = second
 each_of_both P (x ∷ xs) ys first second = (first.0, each_of_both P xs ys first.1 second)
 

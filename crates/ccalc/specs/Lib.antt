@@ -1,11 +1,16 @@
 pub mod Answers
 pub mod Codes
+pub mod Describing
+pub mod FirstRefusal
+pub mod Heads
 pub mod Laws
 pub mod Lister
 pub mod ListerViews
 pub mod Parser
 pub mod Pieces
+pub mod Places
 pub mod Printing
+pub mod ProgressViews
 pub mod ReaderViews
 pub mod Reading
 pub mod Scanner

@@ -1,5 +1,10 @@
-//! Laws over the definitions, each the contract of a function with no body.
+//! Laws over the definitions. Their functions do nothing, or call the laws that they rest on.
 ghost use Rattle.ccalc.specs.Laws.{RowsThatPassAreTheStates, ListingIsFair, TextsDeclareOneThing};
+ghost use Rattle.ccalc.specs.Heads.{HeadsAreThere};
+ghost use Rattle.ccalc.specs.Places.{HasPlaces, OneListOfPlaces};
+
+use cc_syntax::laws::{one_tree, tree_or_refusal};
+use cc_text::laws::{cut_or_stop, cuts_or_stops, one_cut, one_stop, statements_are_tokens};
 
 /// The rows in which each law whose test holds has its head met are the states: no row needs to be compared with a
 /// rival, since each value of a simple fluent is a cause of itself.
@@ -15,4 +20,28 @@ pub fn listing_is_fair()
 /// A text of the small form declares one thing.
 pub fn texts_declare_one_thing()
     ensures { TextsDeclareOneThing }
+{}
+
+/// The files of a description have one list of places.
+pub fn one_list_of_places()
+    ensures { OneListOfPlaces }
+{
+    one_cut();
+    one_stop();
+    cuts_or_stops();
+    one_tree();
+}
+
+/// The files of a description have a list of places, whatever is in them.
+pub fn has_places()
+    ensures { HasPlaces }
+{
+    cut_or_stop();
+    statements_are_tokens();
+    tree_or_refusal();
+}
+
+/// Each base law of a description that is not refused has a head under each of its environments.
+pub fn heads_are_there()
+    ensures { HeadsAreThere }
 {}

@@ -1,6 +1,13 @@
 //! The causal calculator: reads a description of actions and change, and lists its histories.
 #![tactic(auto)]
 
+mod describe;
+#[cfg(test)]
+mod descriptions;
+mod files;
+#[cfg(test)]
+mod groundings;
+mod labels;
 #[cfg(test)]
 mod law_statements;
 pub mod laws;
@@ -8,6 +15,7 @@ mod lister;
 mod listing;
 mod parser;
 mod printing;
+mod progress;
 mod reader;
 mod run;
 mod scanner;
@@ -17,9 +25,12 @@ mod statements;
 mod status;
 #[cfg(test)]
 mod tests;
+#[cfg(test)]
+mod trees;
 mod words;
 
 use cc_ports::RealDesk;
+pub use describe::{DescribeStop, Described, describe};
 pub use run::{run, run_still};
 pub use status::Status;
 use std::io;

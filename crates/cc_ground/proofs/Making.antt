@@ -1,0 +1,57 @@
+-- Laws that are made behind others, and the room that is left for their nodes.
+use Rattle.std.proofs.Common.{◌≡◌, ◌∙◌, ℕ, ◌+◌, List, [], ◌∷◌, ◌++◌, map, refl, sym, ap, append_assoc, append-nil, arith}
+use Rattle.std.proofs.lemmas.List.{map-append}
+use Rattle.cc_arena.specs.declared.laws.GroundLaw.{GroundLaw}
+use Rattle.cc_ground.specs.declared.maker.Halt.{Halt}
+use Rattle.cc_ground.specs.declared.maker.Maker.{Maker}
+use Rattle.cc_ground.specs.Counting.{nodes_in}
+use Rattle.cc_ground.specs.Grounding.{PlainGroundLaw, pair_law, pairs_of}
+use Rattle.cc_ground.specs.Views.{HasMade, IsLike, LacksRoom, plain_ground_law}
+use Rattle.cc_ground.proofs.Putting.{lacks_more, like_both}
+
+pub nodes_in-append : (laws more : List PlainGroundLaw) → nodes_in (laws ++ more) ≡ nodes_in laws + nodes_in more
+nodes_in-append [] more = omega arith
+nodes_in-append (law ∷ laws) more = omega (arith, nodes_in-append laws more)
+
+-- what is made, with these that are left, is the whole
+pub record MadeSoFar (left whole : List PlainGroundLaw) (was there : List GroundLaw) (old new : Maker) : Type 0 where
+  pub made : map plain_ground_law there ++ left ≡ map plain_ground_law was ++ whole
+  pub room : new.room + nodes_in whole ≡ old.room + nodes_in left
+  pub like : IsLike old new
+
+pub made_begin : (whole : List PlainGroundLaw) (was : List GroundLaw) (maker : Maker) → MadeSoFar whole whole was was maker maker
+made_begin whole was maker = record { made = refl; room = refl; like = record { table = refl; sig = refl; env = refl } }
+
+pub made_more : {left whole laws less : List PlainGroundLaw} {was there next : List GroundLaw} {old mid new : Maker} → MadeSoFar left whole was there old mid → left ≡ laws ++ less →
+    HasMade laws there next mid new → MadeSoFar less whole was next old new
+made_more {left} {whole} {laws} {less} {was} {there} {next} {old} {mid} {new} so e one = record {
+  made =
+      ap (λ (l : List PlainGroundLaw). l ++ less) one.made
+      ∙ append_assoc (map plain_ground_law there) laws less
+      ∙ ap (λ (l : List PlainGroundLaw). map plain_ground_law there ++ l) (sym e)
+      ∙ so.made;
+  room = omega (arith, so.room, one.room, ap nodes_in e, nodes_in-append laws less);
+  like = like_both so.like one.like;
+}
+
+pub made_end : {left whole : List PlainGroundLaw} {was there : List GroundLaw} {old new : Maker} → MadeSoFar left whole was there old new → left ≡ [] → HasMade whole was there old new
+made_end {left} {whole} {was} {there} {old} {new} so e = record {
+  made = sym (append-nil (map plain_ground_law there)) ∙ ap (λ (l : List PlainGroundLaw). map plain_ground_law there ++ l) (sym e) ∙ so.made;
+  room = omega (arith, so.room, ap nodes_in e);
+  like = so.like;
+}
+
+pub made_lacks : {left whole : List PlainGroundLaw} (laws less : List PlainGroundLaw) {was there : List GroundLaw} {old mid : Maker} (halt : Halt) → MadeSoFar left whole was there old mid → left ≡ laws ++ less →
+    LacksRoom (nodes_in laws) mid.room halt → LacksRoom (nodes_in whole) old.room halt
+made_lacks laws less halt so e lacks = lacks_more halt (λ few. omega (arith, so.room, ap nodes_in e, nodes_in-append laws less)) lacks
+
+map_pairs : (base one : ℕ) (others : List ℕ) → map (pair_law base) (map (λ (other : ℕ). (one, other)) others) ≡ map (λ other. pair_law base (one, other)) others
+map_pairs base one [] = refl
+map_pairs base one (other ∷ others) = ap (λ (l : List PlainGroundLaw). pair_law base (one, other) ∷ l) (map_pairs base one others)
+
+pub first_pairs : (base one : ℕ) (others left : List ℕ) → left ≡ one ∷ others →
+    map (pair_law base) (pairs_of left) ≡ map (λ other. pair_law base (one, other)) others ++ map (pair_law base) (pairs_of others)
+first_pairs base one others left e =
+    ap (λ (l : List ℕ). map (pair_law base) (pairs_of l)) e
+    ∙ map-append (pair_law base) (map (λ (other : ℕ). (one, other)) others) (pairs_of others)
+    ∙ ap (λ (l : List PlainGroundLaw). l ++ map (pair_law base) (pairs_of others)) (map_pairs base one others)

@@ -1,0 +1,72 @@
+-- The conditions of a query, one behind another.
+use Rattle.std.proofs.Common.{◌≡◌, ◌∙◌, ℕ, ◌+◌, ◌<◌, ◌≤◌, List, ◌∷◌, ◌++◌, length, drop, map, get_or, Option, Some, None, unwrap_or, sym, ap, subst, arith, rules, tests}
+use Rattle.std.proofs.lemmas.List.{at_drop_more}
+use Rattle.cc_arena.specs.declared.laws.GroundCondition.{GroundCondition}
+use Rattle.cc_defs.specs.declared.law.Condition.{Condition as ConditionTree}
+use Rattle.cc_defs.specs.declared.refusal.Fault.{Fault}
+use Rattle.cc_defs.specs.declared.refusal.Fault.TheVariants as faults
+use Rattle.cc_defs.specs.declared.refusal.LimitAt.TheVariants as limits
+use Rattle.cc_defs.specs.DeclarationFaults.{limit_refusal}
+use Rattle.cc_defs.specs.Declarations.{Declaration}
+use Rattle.cc_defs.specs.Limits.{limit_number}
+use Rattle.cc_defs.specs.Resolved.{Query, plain_condition}
+use Rattle.cc_defs.specs.Signatures.{Signature}
+use Rattle.cc_sorts.specs.Tables.{TableView, IsTable, IsSignatureOf}
+use Rattle.cc_ground.specs.declared.maker.Halt.{Halt}
+use Rattle.cc_ground.specs.declared.maker.Halt.TheVariants as halts
+use Rattle.cc_ground.specs.declared.maker.Maker.{Maker}
+use Rattle.cc_ground.specs.Counting.{node_refusal, nodes_of_conditions}
+use Rattle.cc_ground.specs.Grounding.{PlainGroundCondition, ground_condition, ground_query}
+use Rattle.cc_ground.specs.Universe.{Universe, universe}
+use Rattle.cc_ground.specs.Views.{IsLike, IsRefusedBy, LacksRoom, plain_ground_condition, universe_in}
+use Rattle.cc_ground.proofs.FromDeclarations.{maker_universe, universe_is}
+use Rattle.cc_ground.proofs.Putting.{lacks_more, same_universe}
+
+-- what is made, with these that are left, is the whole
+pub record ConditionsSoFar (left whole : List PlainGroundCondition) (there : List GroundCondition) (old new : Maker) : Type 0 where
+  pub made : map plain_ground_condition there ++ left ≡ whole
+  pub room : new.room + nodes_of_conditions whole ≡ old.room + nodes_of_conditions left
+  pub like : IsLike old new
+
+abbrev pub conditions_in : Maker → List ConditionTree → List PlainGroundCondition
+conditions_in maker conditions = map (ground_condition (universe_in maker)) (map plain_condition conditions)
+
+-- the first conditions are made
+abbrev pub AskedSoFar : List ConditionTree → ℕ → List GroundCondition → Maker → Maker → Type 0
+AskedSoFar conditions i there old new = ConditionsSoFar (conditions_in old (drop i conditions)) (conditions_in old conditions) there old new
+
+next_condition : (old now : Maker) (conditions : List ConditionTree) (condition : ConditionTree) (i : ℕ) → i < length conditions → condition ≡ get_or conditions i condition → IsLike old now →
+    conditions_in old (drop i conditions) ≡ ground_condition (universe_in now) (plain_condition condition) ∷ conditions_in old (drop (i + 1) conditions)
+next_condition old now conditions condition i within is like =
+    let rest = conditions_in old (drop (i + 1) conditions) in
+    at_drop_more (conditions_in old) conditions i condition within
+    ∙ ap (λ (w : ConditionTree). ground_condition (universe_in old) (plain_condition w) ∷ rest) (sym is)
+    ∙ ap (λ (u : Universe). ground_condition u (plain_condition condition) ∷ rest) (same_universe old now like.table like.sig)
+
+pub asked_lack : (conditions : List ConditionTree) (condition : ConditionTree) (i : ℕ) {there : List GroundCondition} {old now : Maker} (halt : Halt) →
+    AskedSoFar conditions i there old now → i < length conditions → condition ≡ get_or conditions i condition →
+    LacksRoom (length (ground_condition (universe_in now) (plain_condition condition)).nodes) now.room halt →
+    LacksRoom (nodes_of_conditions (conditions_in old conditions)) old.room halt
+asked_lack conditions condition i {there} {old} {now} halt so within is lacks =
+    let e = next_condition old now conditions condition i within is so.like in
+    lacks_more halt (λ few. omega (arith, so.room, ap nodes_of_conditions e)) lacks
+
+-- ---- a query
+
+pub asked_is : (maker : Maker) (table : TableView) (signature : Signature) (declarations : List Declaration) (found : Option (ℕ × ℕ)) (given range : ℕ × ℕ) (query : Query) →
+    maker.table.now ≡ table → maker.sig.now ≡ signature → IsTable table declarations → IsSignatureOf declarations signature → given ≡ unwrap_or found (0, 0) → found ≡ Some range →
+    ground_query (universe_in maker) given query ≡ ground_query (universe declarations) range query
+asked_is maker table signature declarations found given range query t s is of g f =
+    ap (λ (u : Universe). ground_query u given query) (maker_universe maker table signature t s ∙ universe_is table declarations signature is of)
+    ∙ ap (λ (w : ℕ × ℕ). ground_query (universe declarations) w query) (g ∙ ap (λ (o : Option (ℕ × ℕ)). unwrap_or o (0, 0)) f)
+
+pub few_nodes : (count room : ℕ) → count ≤ room → room ≡ limit_number limits.GroundNodes → node_refusal count ≡ None
+few_nodes count room few is = search (rules, tests)
+
+many_of : (count room : ℕ) (fault : Fault) → room < count → room ≡ limit_number limits.GroundNodes → fault ≡ faults.Refused (limit_refusal limits.GroundNodes) →
+    IsRefusedBy (node_refusal count) fault
+many_of count room fault many is refused = search (rules, tests)
+
+pub many_nodes : (count room : ℕ) (halt : Halt) (fault : Fault) → LacksRoom count room halt → halt ≡ halts.Full → room ≡ limit_number limits.GroundNodes →
+    fault ≡ faults.Refused (limit_refusal limits.GroundNodes) → IsRefusedBy (node_refusal count) fault
+many_nodes count room halt fault lacks full is refused = many_of count room fault (subst (LacksRoom count room) full lacks) is refused

@@ -1,0 +1,22 @@
+use Rattle.std.proofs.Common.{◌≡◌, IfErr, IfOk, None, OnOk, map, subst}
+use Rattle.cc_defs.specs.Resolved.{plain_base_law}
+use Rattle.cc_ground.specs.Counting.{laws_refusal}
+use Rattle.cc_ground.specs.Grounding.{ground_laws}
+use Rattle.cc_ground.specs.Views.{IsRefusedBy, plain_ground_laws}
+use Rattle.cc_ground.proofs.FromDeclarations.{universe_is}
+use Rattle.cc_ground.proofs.instances.«ground».Goals as goal
+
+pub returns-clause-made : goal.returns-clause-made
+returns-clause-made c = λ declarations is of.
+    subst (λ u. IfOk c.ground_laws.result (λ made. plain_ground_laws made ≡ ground_laws u (map plain_base_law c.args.laws.now))) (universe_is c.args.table.now declarations c.args.sig.now is of)
+    c.ground_laws.ensures.made
+
+pub returns-clause-unrefused : goal.returns-clause-unrefused
+returns-clause-unrefused c = λ declarations is of.
+    subst (λ u. OnOk c.ground_laws.result (laws_refusal u (map plain_base_law c.args.laws.now) ≡ None)) (universe_is c.args.table.now declarations c.args.sig.now is of)
+    c.ground_laws.ensures.unrefused
+
+pub returns-clause-refused : goal.returns-clause-refused
+returns-clause-refused c = λ declarations is of.
+    subst (λ u. IfErr c.ground_laws.result (IsRefusedBy (laws_refusal u (map plain_base_law c.args.laws.now)))) (universe_is c.args.table.now declarations c.args.sig.now is of)
+    c.ground_laws.ensures.refused

@@ -1,0 +1,29 @@
+use Rattle.std.proofs.Common.{List, subst, arith}
+use Rattle.cc_defs.specs.Resolved.{plain_law}
+use Rattle.cc_ground.specs.Counting.{nodes_in}
+use Rattle.cc_ground.specs.Grounding.{PlainGroundLaw}
+use Rattle.cc_ground.specs.Views.{LacksRoom, universe_in}
+use Rattle.cc_ground.proofs.Choosing.{behind_range, choice_lacks, choice_more, choices_end}
+use Rattle.cc_ground.proofs.Putting.{lacks_so}
+use Rattle.cc_ground.proofs.maker.Maker.+add_choices.Goals as goal
+
+pub returns-in_err-add_choices-clause-full : goal.returns-in_err-add_choices-clause-full
+returns-in_err-add_choices-clause-full t c =
+    let maker = c.args.self.now in
+    let law = plain_law c.args.law.now in
+    let values = c.values_in_range-values.result in
+    let halt = c.in_err-add_choices.field-0.0 in
+    lacks_so _ _ halt c.from_residual-in_err-add_choices.result c.from_residual-in_err-add_choices.ensures.1
+    (subst (λ (laws : List PlainGroundLaw). LacksRoom (nodes_in laws) maker.room halt)
+    (behind_range (universe_in maker) c.args.base law maker.env.items c.args.ranges.now c.in-Some.range.now c.in-Some.others.now values c.in-Some.ensures.cases.0 c.values_in_range-values.ensures)
+    (choice_lacks c.args.base law c.in-Some.others.now values c.loop-index.index c.push.new.self.items halt c.loop-index.invariant c.at.ensures c.in_ok-push.ensures.items c.in_err-add_choices.ensures.full))
+
+pub loop-index-preserved : goal.loop-index-preserved
+loop-index-preserved t c =
+    choice_more c.args.base (plain_law c.args.law.now) c.in-Some.others.now c.values_in_range-values.result c.loop-index.index c.add_choices.new.self c.push.new.self c.pop.new.self
+    c.loop-index.invariant c.at.ensures c.in_ok-push.ensures.items c.in_ok-add_choices.ensures.made c.pop.ensures.rest
+
+pub returns-clause-made : goal.returns-clause-made
+returns-clause-made t c =
+    choices_end c.args.base (plain_law c.args.law.now) c.args.ranges.now c.in-Some.range.now c.in-Some.others.now c.values_in_range-values.result c.loop-index.index
+    c.in-Some.ensures.cases.0 c.values_in_range-values.ensures (omega arith) c.loop-index.invariant

@@ -1,0 +1,18 @@
+use Rattle.cc_ground.proofs.Putting.{commons_begin, commons_more, commons_less, commons_so, commons_lack, lacks_so}
+use Rattle.cc_ground.proofs.maker.Maker.put_commons.Goals.{in-Some+in_ok-narrow+in_ok-narrow-2+in_ok-put_both, in_default}
+use Rattle.cc_ground.proofs.maker.Maker.put_commons.Goals as goal
+
+pub loop-index-init : goal.loop-index-init
+loop-index-init c = commons_begin _ _ _ _ _
+
+pub returns-in_err-put_both-clause-full : goal.returns-in_err-put_both-clause-full
+returns-in_err-put_both-clause-full c =
+    lacks_so _ _ c.in_err-put_both.field-0.0 c.from_residual-in_err-put_both.result c.from_residual-in_err-put_both.ensures.1
+    (commons_lack c.in-Some.place c.in_err-put_both.field-0.0 c.loop-index.invariant c.loop-index-test.true c.in-Some.ensures c.in_err-put_both.ensures.full)
+
+pub loop-index-preserved : goal.loop-index-preserved
+loop-index-preserved c = elim c.match-index_in.branch [
+  | in-Some+in_ok-narrow+in_ok-narrow-2+in_ok-put_both w ↦
+      commons_so w.count-is w.self-is (commons_more _ _ w.in-Some.place c.loop-index.invariant c.loop-index-test.true w.in-Some.ensures w.in_ok-narrow.ensures w.in_ok-narrow-2.ensures w.in_ok-put_both.ensures.put)
+  | in_default w ↦ commons_so w.count-is w.self-is (commons_less c.loop-index.invariant c.loop-index-test.true w.in_default.ensures)
+]

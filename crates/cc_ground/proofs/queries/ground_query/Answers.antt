@@ -1,0 +1,33 @@
+use Rattle.std.proofs.Common.{◌≡◌, ◌∙◌, subst}
+use Rattle.cc_defs.specs.Resolved.{plain_query}
+use Rattle.cc_ground.specs.Counting.{node_refusal, nodes_in_query}
+use Rattle.cc_ground.specs.Grounding.{PlainGroundQuery}
+use Rattle.cc_ground.specs.Views.{IsRefusedBy}
+use Rattle.std.specs.Prelude.{None}
+use Rattle.cc_ground.proofs.FromDeclarations.{maker_searchable}
+use Rattle.cc_ground.proofs.Querying.{asked_is, few_nodes, many_nodes}
+use Rattle.cc_ground.proofs.queries.ground_query.Goals as goal
+
+pub query-requires-clause-searchable : goal.query-requires-clause-searchable
+query-requires-clause-searchable c =
+    maker_searchable c.new-maker.result c.args.table.now c.args.sig.now c.new-maker.ensures.table c.new-maker.ensures.sig c.requires.signature
+
+pub returns-in-Ok-clause-made : goal.returns-in-Ok-clause-made
+returns-in-Ok-clause-made c = λ declarations range is of e.
+    c.in-Ok.ensures.made
+    ∙ asked_is c.new-maker.result c.args.table.now c.args.sig.now declarations c.args.query.now.range c.unwrap_or-range.result range (plain_query c.args.query.now)
+    c.new-maker.ensures.table c.new-maker.ensures.sig is of c.unwrap_or-range.ensures e
+
+pub returns-in-Ok-clause-unrefused : goal.returns-in-Ok-clause-unrefused
+returns-in-Ok-clause-unrefused c = λ declarations range is of e.
+    subst (λ (q : PlainGroundQuery). node_refusal (nodes_in_query q) ≡ None)
+    (asked_is c.new-maker.result c.args.table.now c.args.sig.now declarations c.args.query.now.range c.unwrap_or-range.result range (plain_query c.args.query.now)
+    c.new-maker.ensures.table c.new-maker.ensures.sig is of c.unwrap_or-range.ensures e)
+    (few_nodes _ c.new-maker.result.room c.in-Ok.ensures.within (c.new-maker.ensures.room ∙ c.number.ensures))
+
+pub returns-in-Err-Full-clause-refused : goal.returns-in-Err-Full-clause-refused
+returns-in-Err-Full-clause-refused c = λ declarations range is of e.
+    subst (λ (q : PlainGroundQuery). IsRefusedBy (node_refusal (nodes_in_query q)) c.past.result)
+    (asked_is c.new-maker.result c.args.table.now c.args.sig.now declarations c.args.query.now.range c.unwrap_or-range.result range (plain_query c.args.query.now)
+    c.new-maker.ensures.table c.new-maker.ensures.sig is of c.unwrap_or-range.ensures e)
+    (many_nodes _ c.new-maker.result.room c.in-Err-Full.field-0 c.past.result c.in-Err-Full.ensures.full c.in-Err-Full.field-0-is (c.new-maker.ensures.room ∙ c.number.ensures) c.past.ensures)

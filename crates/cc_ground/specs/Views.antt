@@ -1,0 +1,121 @@
+-- What a table and a signature are about, and what the makers of terms leave.
+use Rattle.std.specs.Prelude.{◌≡◌, ℕ, ◌+◌, ◌<◌, List, [], ◌∷◌, ◌++◌, length, map, flat_map, ◌==◌, if◌then◌else◌, Option, Some}
+use Rattle.std.specs.List.{AllByRecursion, filter}
+use Rattle.std.specs.List.Sorted.{IsStrictlySortedBy}
+use Rattle.std.specs.Option.{option_map}
+use Rattle.std.specs.Ordering.{nat_cmp}
+use Rattle.cc_arena.specs.declared.laws.GroundCondition.{GroundCondition}
+use Rattle.cc_arena.specs.declared.laws.GroundLaw.{GroundLaw}
+use Rattle.cc_arena.specs.declared.laws.GroundQuery.{GroundQuery}
+use Rattle.cc_arena.specs.declared.laws.Laws.{Laws}
+use Rattle.cc_defs.specs.declared.law.Range.{Range}
+use Rattle.cc_defs.specs.declared.node.Node.{Node}
+use Rattle.cc_defs.specs.declared.refusal.Fault.{Fault}
+use Rattle.cc_defs.specs.declared.refusal.Fault.TheVariants as faults
+use Rattle.cc_defs.specs.declared.refusal.Refusal.{Refusal}
+use Rattle.cc_defs.specs.Declarations.{Declaration}
+use Rattle.cc_defs.specs.Texts.{none_value}
+use Rattle.cc_defs.specs.Resolved.{Law}
+use Rattle.cc_defs.specs.Signatures.{Signature, ground_constants}
+use Rattle.cc_sorts.specs.Tables.{TableView, IsTable, IsSignatureOf}
+use Rattle.cc_ground.specs.declared.maker.Halt.{Halt}
+use Rattle.cc_ground.specs.declared.maker.Halt.TheVariants as halts
+use Rattle.cc_ground.specs.declared.maker.Maker.{Maker}
+use Rattle.cc_ground.specs.declared.sides.Side.{Side as SideKept}
+use Rattle.cc_ground.specs.declared.sides.Side.TheVariants as sides
+use Rattle.cc_ground.specs.Counting.{nodes_in}
+use Rattle.cc_ground.specs.Environments.{choices, passes, range_values}
+use Rattle.cc_ground.specs.Grounding.{PlainGroundLaw, PlainGroundCondition, PlainGroundQuery, instance_of}
+use Rattle.cc_ground.specs.Nodes.{Side, Constant, Value, Absent}
+use Rattle.cc_ground.specs.Universe.{Universe}
+
+-- what a table and a signature are about
+abbrev pub universe_of : TableView → Signature → Universe
+universe_of table signature = record {
+  sorts = table.sorts.members;
+  symbols = map (λ placed. placed.symbol) table.symbols;
+  constants = ground_constants signature;
+}
+
+-- the signature was got from the table
+abbrev pub IsSignatureFor : TableView → Signature → Type 0
+IsSignatureFor table signature = (declarations : List Declaration) × IsTable table declarations × IsSignatureOf declarations signature
+
+-- values that can be searched by halves: objects in ascending order, with `none` before them or without
+abbrev pub IsSearchable : List ℕ → Type 0
+IsSearchable [] = Unit {0}
+IsSearchable (value ∷ values) = IsStrictlySortedBy nat_cmp (if value == none_value then values else value ∷ values)
+
+abbrev pub AreSearchable : Universe → Type 0
+AreSearchable u = AllByRecursion (λ constant. IsSearchable constant.domain) u.constants
+
+-- what a maker of terms speaks of
+abbrev pub universe_in : Maker → Universe
+universe_in maker = universe_of maker.table.now maker.sig.now
+
+abbrev pub plain_side : SideKept → Side
+plain_side (sides.Constant number values) = Constant number values.now
+plain_side (sides.Value value) = Value value
+plain_side sides.Absent = Absent
+
+abbrev pub IsSideSearchable : Side → Type 0
+IsSideSearchable (Constant number values) = IsSearchable values
+IsSideSearchable other = Unit {0}
+
+-- only the nodes and the room for more change
+pub record IsLike (old new : Maker) : Type 0 where
+  pub table : new.table.now ≡ old.table.now
+  pub sig : new.sig.now ≡ old.sig.now
+  pub env : new.env.items ≡ old.env.items
+
+-- these nodes were put behind those that are there
+pub record HasPut (nodes : List Node) (old new : Maker) : Type 0 where
+  pub put : new.nodes.items ≡ old.nodes.items ++ nodes
+  pub room : new.room + length nodes ≡ old.room
+  pub like : IsLike old new
+
+-- There is not enough room for so many nodes; nothing is said of want of memory.
+abbrev pub LacksRoom : ℕ → ℕ → Halt → Type 0
+LacksRoom count room halts.Full = room < count
+LacksRoom count room halts.OutOfMemory = Unit {0}
+
+-- ---- ground laws and queries apart from where their terms lie
+
+abbrev pub plain_ground_law : GroundLaw → PlainGroundLaw
+plain_ground_law law = record {
+  head = law.head;
+  body = law.body.now;
+  after = option_map (λ nodes. nodes.now) law.after;
+  kind = law.kind;
+  base = law.base;
+}
+
+abbrev pub plain_ground_laws : Laws → List PlainGroundLaw
+plain_ground_laws laws = map plain_ground_law laws.laws.items
+
+abbrev pub plain_ground_condition : GroundCondition → PlainGroundCondition
+plain_ground_condition condition = record { at = condition.at; nodes = condition.nodes.now }
+
+abbrev pub plain_ground_query : GroundQuery → PlainGroundQuery
+plain_ground_query query = record {
+  lo = query.lo;
+  hi = query.hi;
+  conditions = map plain_ground_condition query.conditions.conditions.items;
+  claim = option_map plain_ground_condition query.claim;
+}
+
+-- these laws were made behind those that are there
+pub record HasMade (laws : List PlainGroundLaw) (was is_now : List GroundLaw) (old new : Maker) : Type 0 where
+  pub made : map plain_ground_law is_now ≡ map plain_ground_law was ++ laws
+  pub room : new.room + nodes_in laws ≡ old.room
+  pub like : IsLike old new
+
+-- the instances for all values of the ranges that are left, behind an environment
+abbrev pub instances_behind : Universe → ℕ → Law → List ℕ → List Range → List PlainGroundLaw
+instances_behind u base law env ranges =
+    flat_map (instance_of u base law) (filter (passes u law.test) (map (λ more. env ++ more) (choices (map (range_values u) ranges))))
+
+-- exactly this refusal, or memory was wanting
+abbrev pub IsRefusedBy : Option Refusal → Fault → Type 0
+IsRefusedBy refused (faults.Refused refusal) = refused ≡ Some refusal
+IsRefusedBy refused faults.OutOfMemory = Unit {0}

@@ -1,0 +1,75 @@
+//! How many instances laws have, counted up to one more than the limit.
+ghost use Rattle.std.specs.Prelude.{◌≡◌, ◌≤◌, ◌*◌, ℕ, List as Items, min, length, map, IfOk};
+ghost use Rattle.cc_defs.specs.Resolved.{plain_base_law};
+ghost use Rattle.cc_ground.specs.Counting.{instance_count, instances_of_all};
+ghost use Rattle.cc_ground.specs.Environments.{choices, range_values};
+ghost use Rattle.cc_ground.specs.Grounding.{pairs_of};
+ghost use Rattle.cc_ground.specs.Views.{universe_of};
+
+use crate::pairs::boolean_actions_of;
+use crate::values::values_in_range;
+use cc_defs::{BaseLaw, OutOfMemory, Range, Sig};
+use cc_sorts::Table;
+use std::alloc::Global;
+
+/// What counts stop at: one more than the limit of law instances.
+pub(crate) const MANY: usize = 1_000_001;
+
+/// The product of a count and another number; counting stops at MANY.
+fn times(count: usize, number: usize) -> usize
+    requires { count ≤ 1000001 }
+    ensures { result ≡ min (count * number) 1000001 }
+{
+    count.saturating_mul(number.min(MANY)).min(MANY)
+}
+
+/// How many lists of values of their ranges there are.
+fn choice_count(table: &Table, sig: &Sig, ranges: &[Range]) -> usize
+    ensures { result ≡ min (length (choices (map (range_values (universe_of table.now sig.now)) ranges.now))) 1000001 }
+{
+    let mut count = 1;
+    for range in ranges {
+        count = times(count, values_in_range(table, sig, *range).len());
+    }
+    count
+}
+
+/// How many pairs so many things make.
+fn pair_count(number: usize) -> usize
+    ensures { (xs : Items ℕ) → length xs ≡ number → result ≡ min (length (pairs_of xs)) 1000001 }
+{
+    // Two thousand have 1,999,000 pairs.
+    let number = number.min(2000);
+    (number * number.saturating_sub(1) / 2).min(MANY)
+}
+
+/// How many instances a base law has before its test.
+fn count_of(alloc: Global, table: &Table, sig: &Sig, law: &BaseLaw) -> Result<usize, OutOfMemory>
+    ensures { IfOk result (λ count. count ≡ min (instance_count (universe_of table.now sig.now) (plain_base_law law.now)) 1000001) }
+{
+    match law {
+        BaseLaw::One(law) => Ok(choice_count(table, sig, law.ranges.items())),
+        BaseLaw::NoConcurrency { .. } => {
+            let actions = boolean_actions_of(alloc, table, sig)?;
+            Ok(pair_count(actions.len()))
+        }
+    }
+}
+
+/// How many instances base laws have before their tests.
+pub(crate) fn count_all(
+    alloc: Global,
+    table: &Table,
+    sig: &Sig,
+    laws: &[BaseLaw],
+) -> Result<usize, OutOfMemory>
+    ensures { IfOk result (λ count. count ≡ min (instances_of_all (universe_of table.now sig.now) (map plain_base_law laws.now)) 1000001) }
+{
+    let mut count = 0;
+    for law in laws {
+        count = count_of(alloc, table, sig, law)?
+            .saturating_add(count)
+            .min(MANY);
+    }
+    Ok(count)
+}

@@ -1,0 +1,263 @@
+//! The ground laws of base laws.
+ghost use Rattle.std.specs.Prelude.{◌≡◌, ◌+◌, ◌∷◌, [], List as Items, None, Some, length, map, flat_map, IfOk, IfErr, OnOk};
+ghost use Rattle.std.specs.List.{filter};
+ghost use Rattle.std.specs.Option.{option_map};
+ghost use Rattle.cc_defs.specs.DeclarationFaults.{limit_refusal};
+ghost use Rattle.cc_defs.specs.Declarations.{Declaration};
+ghost use Rattle.cc_defs.specs.declared.refusal.Fault.TheVariants as faults;
+ghost use Rattle.cc_defs.specs.Resolved.{plain_base_law, plain_formula, plain_head, plain_law};
+ghost use Rattle.cc_sorts.specs.Tables.{IsTable, IsSignatureOf};
+ghost use Rattle.cc_ground.specs.Counting.{length_of_part, laws_refusal, nodes_in};
+ghost use Rattle.cc_ground.specs.Environments.{passes as is_passed};
+ghost use Rattle.cc_ground.specs.Grounding as words;
+ghost use Rattle.cc_ground.specs.Grounding.{nodes_of};
+ghost use Rattle.cc_ground.specs.Universe.{universe};
+ghost use Rattle.cc_ground.specs.Views.{AreSearchable, HasMade, IsLike, IsRefusedBy, IsSideSearchable, IsSignatureFor, LacksRoom, instances_behind, plain_ground_laws, plain_side, universe_in, universe_of};
+
+use crate::conditions::passes;
+use crate::counting::count_all;
+use crate::maker::{Halt, Maker, narrow};
+use crate::pairs::boolean_actions_of;
+use crate::sides::{Side, constant_side, term_side};
+use crate::values::{index_in, values_in_range};
+use cc_arena::{GroundHead, GroundLaw, Laws, Terms};
+use cc_defs::{
+    BaseLaw, BaseLaws, Fault, Formula, Head, Law, LimitAt, Node, OutOfMemory, Range, Refusal, Sig,
+};
+use cc_sorts::Table;
+use std::alloc::Global;
+
+pub(crate) fn past(limit: LimitAt) -> Fault
+    ensures { result ≡ faults.Refused (limit_refusal limit) }
+{
+    Fault::Refused(Refusal {
+        number: 14,
+        file: 0,
+        line: 0,
+        limit: Some(limit),
+    })
+}
+
+/// The head that a constant has a value.
+fn head_of_sides(left: Side<'_>, right: Side<'_>) -> Result<Option<GroundHead>, OutOfMemory>
+    requires { IsSideSearchable (plain_side left) }
+    ensures { IfOk result (λ head. head ≡ words.head_of_sides (plain_side left.entry) (plain_side right.entry)) }
+{
+    let (Side::Constant { number, values }, Side::Value(value)) = (left, right) else {
+        return Ok(None);
+    };
+    let Some(index) = index_in(values, value) else {
+        return Ok(None);
+    };
+    Ok(Some(GroundHead::Atom {
+        constant: number,
+        value: narrow(index)?,
+    }))
+}
+
+impl<'t> Maker<'t> {
+    /// The head of a law under the environment, if there is one.
+    fn head(&self, alloc: Global, head: &Head) -> Result<Option<GroundHead>, OutOfMemory>
+        requires { AreSearchable (universe_in self.now) }
+        ensures { IfOk result (λ found. found ≡ words.ground_head (universe_in self.now) self.now.env.items (plain_head head.now)) }
+    {
+        let Head::Atom {
+            symbol,
+            args,
+            value,
+        } = head
+        else {
+            return Ok(Some(GroundHead::Falsity));
+        };
+        let left = constant_side(alloc, self.sig, &self.env, *symbol, args.items())?;
+        let right = term_side(alloc, self.sig, &self.env, value)?;
+        head_of_sides(left, right)
+    }
+
+    /// The term of a part of a law that may be missing.
+    fn part<'a>(
+        &mut self,
+        alloc: Global,
+        terms: Terms<'a>,
+        part: &Option<Formula>,
+    ) -> Result<Option<&'a [Node]>, Halt>
+        requires { AreSearchable (universe_in self.now) }
+        ensures term { IfOk result (λ term. option_map (λ nodes. nodes.now) term ≡ option_map (λ f. nodes_of (universe_in self.old) self.old.env.items (plain_formula f)) part.now) }
+        ensures room { OnOk result (self.new.room + length_of_part (option_map (λ f. nodes_of (universe_in self.old) self.old.env.items (plain_formula f)) part.now) ≡ self.old.room) }
+        ensures like { OnOk result (IsLike self.old self.new) }
+        ensures full { IfErr result (LacksRoom (length_of_part (option_map (λ f. nodes_of (universe_in self.old) self.old.env.items (plain_formula f)) part.now)) self.old.room) }
+    {
+        match part {
+            Some(formula) => Ok(Some(self.term(alloc, terms, formula)?)),
+            None => Ok(None),
+        }
+    }
+
+    /// The law with this head and its parts under the environment.
+    fn add_law<'a>(
+        &mut self,
+        alloc: Global,
+        terms: Terms<'a>,
+        made: &mut Vec<GroundLaw<'a>>,
+        base: u32,
+        law: &Law,
+        head: GroundHead,
+    ) -> Result<(), Halt>
+        requires { AreSearchable (universe_in self.now) }
+        ensures made { OnOk result (HasMade (words.law_with (universe_in self.old) base (plain_law law.now) self.old.env.items (Some head)) made.old.items made.new.items self.old self.new) }
+        ensures full { IfErr result (LacksRoom (nodes_in (words.law_with (universe_in self.old) base (plain_law law.now) self.old.env.items (Some head))) self.old.room) }
+    {
+        let body = self.term(alloc, terms, &law.body)?;
+        let after = self.part(alloc, terms, &law.after)?;
+        made.push(GroundLaw {
+            head,
+            body,
+            after,
+            kind: law.kind,
+            base,
+        })?;
+        Ok(())
+    }
+
+    /// The instance of a law under the environment, where the law's test is true.
+    fn add_instance<'a>(
+        &mut self,
+        alloc: Global,
+        terms: Terms<'a>,
+        made: &mut Vec<GroundLaw<'a>>,
+        base: u32,
+        law: &Law,
+    ) -> Result<(), Halt>
+        requires { AreSearchable (universe_in self.now) }
+        ensures made { OnOk result (HasMade (flat_map (words.instance_of (universe_in self.old) base (plain_law law.now)) (filter (is_passed (universe_in self.old) (plain_law law.now).test) (self.old.env.items ∷ [])))
+            made.old.items made.new.items self.old self.new) }
+        ensures full { IfErr result (LacksRoom (nodes_in (flat_map (words.instance_of (universe_in self.old) base (plain_law law.now)) (filter (is_passed (universe_in self.old) (plain_law law.now).test) (self.old.env.items ∷ [])))) self.old.room) }
+    {
+        if !passes(self.table, &mut self.env, &law.test)? {
+            return Ok(());
+        }
+        match self.head(alloc, &law.head)? {
+            Some(head) => self.add_law(alloc, terms, made, base, law, head),
+            None => Ok(()),
+        }
+    }
+
+    /// The instances of a law for all values of the ranges that are left, behind the environment.
+    fn add_choices<'a>(
+        &mut self,
+        alloc: Global,
+        terms: Terms<'a>,
+        made: &mut Vec<GroundLaw<'a>>,
+        base: u32,
+        law: &Law,
+        ranges: &[Range],
+    ) -> Result<(), Halt>
+        requires { AreSearchable (universe_in self.now) }
+        ensures made { OnOk result (HasMade (instances_behind (universe_in self.old) base (plain_law law.now) self.old.env.items ranges.now) made.old.items made.new.items self.old self.new) }
+        ensures full { IfErr result (LacksRoom (nodes_in (instances_behind (universe_in self.old) base (plain_law law.now) self.old.env.items ranges.now)) self.old.room) }
+    {
+        let Some((range, others)) = ranges.split_first() else {
+            return self.add_instance(alloc, terms, made, base, law);
+        };
+        let values = values_in_range(self.table, self.sig, *range);
+        for index in 0..values.len() {
+            self.env.push(values.at(index))?;
+            self.add_choices(alloc, terms, made, base, law, others)?;
+            self.env.pop();
+        }
+        Ok(())
+    }
+
+    /// The ground laws of a base law. The environment is empty.
+    fn add_base_law<'a>(
+        &mut self,
+        alloc: Global,
+        terms: Terms<'a>,
+        made: &mut Vec<GroundLaw<'a>>,
+        base: u32,
+        law: &BaseLaw,
+    ) -> Result<(), Halt>
+        requires searchable { AreSearchable (universe_in self.now) }
+        requires empty { self.now.env.items ≡ [] }
+        ensures made { OnOk result (HasMade (words.ground_laws_of (universe_in self.old) base (plain_base_law law.now)) made.old.items made.new.items self.old self.new) }
+        ensures full { IfErr result (LacksRoom (nodes_in (words.ground_laws_of (universe_in self.old) base (plain_base_law law.now))) self.old.room) }
+    {
+        match law {
+            BaseLaw::One(law) => {
+                self.add_choices(alloc, terms, made, base, law, law.ranges.items())
+            }
+            BaseLaw::NoConcurrency { .. } => {
+                let actions = boolean_actions_of(alloc, self.table, self.sig)?;
+                self.add_pairs(terms, made, base, &actions)
+            }
+        }
+    }
+
+    /// The ground laws of base laws, in order.
+    fn add_all<'a>(
+        &mut self,
+        alloc: Global,
+        terms: Terms<'a>,
+        made: &mut Vec<GroundLaw<'a>>,
+        laws: &[BaseLaw],
+    ) -> Result<(), Halt>
+        requires searchable { AreSearchable (universe_in self.now) }
+        requires empty { self.now.env.items ≡ [] }
+        ensures made { OnOk result (HasMade (words.ground_laws (universe_in self.old) (map plain_base_law laws.now)) made.old.items made.new.items self.old self.new) }
+        ensures full { IfErr result (LacksRoom (nodes_in (words.ground_laws (universe_in self.old) (map plain_base_law laws.now))) self.old.room) }
+    {
+        for (base, law) in laws.iter().enumerate() {
+            self.add_base_law(alloc, terms, made, narrow(base)?, law)?;
+        }
+        Ok(())
+    }
+}
+
+/// The ground laws of base laws, as `ground` answers them.
+fn ground_laws<'a>(
+    alloc: Global,
+    table: &Table,
+    sig: &Sig,
+    laws: &BaseLaws,
+    terms: &Terms<'a>,
+) -> Result<Laws<'a>, Fault>
+    requires { IsSignatureFor table.now sig.now }
+    ensures made { IfOk result (λ made. plain_ground_laws made ≡ words.ground_laws (universe_of table.now sig.now) (map plain_base_law laws.now)) }
+    ensures unrefused { OnOk result (laws_refusal (universe_of table.now sig.now) (map plain_base_law laws.now) ≡ None) }
+    ensures refused { IfErr result (IsRefusedBy (laws_refusal (universe_of table.now sig.now) (map plain_base_law laws.now))) }
+{
+    if count_all(alloc, table, sig, laws.items())? > LimitAt::LawInstances.number() as usize {
+        return Err(past(LimitAt::LawInstances));
+    }
+    let mut made = Vec::new(alloc);
+    let mut maker = Maker::new(alloc, table, sig, LimitAt::GroundNodes.number() as usize);
+    match maker.add_all(alloc, *terms, &mut made, laws.items()) {
+        Ok(()) => Ok(Laws::of(made)),
+        Err(Halt::Full) => Err(past(LimitAt::GroundNodes)),
+        Err(Halt::OutOfMemory) => Err(Fault::OutOfMemory),
+    }
+}
+
+/// The ground laws of base laws: for each base law in order, and each environment of it in order, the law's instance. An
+/// environment is a list of a value for each range of the law, for which the law's test is true; the values of a sort are the
+/// objects of it and of those below it in declared order, and earlier variables change slowest. `noconcurrency` has a law for
+/// each two Boolean actions. Terms are placed in the arena; none is longer than what is left of the limit of ground nodes.
+/// Refuses more than 1,000,000 lists of values before the tests (14, law instances), then more than 16,000,000 nodes (14,
+/// ground nodes).
+pub fn ground<'a>(
+    alloc: Global,
+    table: &Table,
+    sig: &Sig,
+    laws: &BaseLaws,
+    terms: &Terms<'a>,
+) -> Result<Laws<'a>, Fault>
+    requires { IsSignatureFor table.now sig.now }
+    ensures made { (declarations : Items Declaration) → IsTable table.now declarations → IsSignatureOf declarations sig.now →
+        IfOk result (λ made. plain_ground_laws made ≡ words.ground_laws (universe declarations) (map plain_base_law laws.now)) }
+    ensures unrefused { (declarations : Items Declaration) → IsTable table.now declarations → IsSignatureOf declarations sig.now →
+        OnOk result (laws_refusal (universe declarations) (map plain_base_law laws.now) ≡ None) }
+    ensures refused { (declarations : Items Declaration) → IsTable table.now declarations → IsSignatureOf declarations sig.now →
+        IfErr result (IsRefusedBy (laws_refusal (universe declarations) (map plain_base_law laws.now))) }
+{
+    ground_laws(alloc, table, sig, laws, terms)
+}

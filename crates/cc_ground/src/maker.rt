@@ -1,0 +1,291 @@
+//! Makes the nodes of terms, in one list that grows.
+ghost use Rattle.std.specs.Prelude.{◌≡◌, ◌∷◌, ◌++◌, ◌+◌, ◌<◌, [], ℕ, length, position, nat_eq, OnOk, IfErr, IfOk};
+ghost use Rattle.cc_arena.specs.Terms.{postfix, postfixes, operand_count, nothing};
+ghost use Rattle.cc_arena.specs.Terms as terms;
+ghost use Rattle.cc_defs.specs.Resolved.{plain_formula, plain_term};
+ghost use Rattle.cc_defs.specs.Resolved as resolved;
+ghost use Rattle.cc_ground.specs.Grounding.{nodes_of};
+ghost use Rattle.cc_ground.specs.Nodes as words;
+ghost use Rattle.cc_ground.specs.Universe.{objects_of as objects_in};
+ghost use Rattle.cc_ground.specs.Views.{AreSearchable, HasPut, IsLike, IsSearchable, IsSideSearchable, LacksRoom, plain_side, universe_in};
+
+use crate::sides::{Side, term_side};
+use crate::values::{index_in, objects_of};
+use cc_arena::Terms;
+use cc_defs::{Formula, Node, OutOfMemory, Sig, Term};
+use cc_sorts::Table;
+use std::alloc::{AllocFailed, Global};
+
+/// Why nodes are not made.
+#[derive(Clone, Copy, Debug, PartialEq, Eq)]
+pub(crate) enum Halt {
+    /// There would be more of them than the limit.
+    Full,
+    OutOfMemory,
+}
+
+impl<T: Drop> From<AllocFailed<T>> for Halt {
+    ghost use Rattle.std.specs.Prelude.{◌≡◌};
+    ghost use Rattle.cc_ground.specs.declared.maker.Halt.TheVariants as halts;
+
+    ghost from_gives = { λ _ halt. halt ≡ halts.OutOfMemory };
+
+    fn from(_: AllocFailed<T>) -> Self {
+        Halt::OutOfMemory
+    }
+}
+
+impl From<OutOfMemory> for Halt {
+    ghost use Rattle.std.specs.Prelude.{◌≡◌};
+    ghost use Rattle.cc_ground.specs.declared.maker.Halt.TheVariants as halts;
+
+    ghost from_gives = { λ _ halt. halt ≡ halts.OutOfMemory };
+
+    fn from(_: OutOfMemory) -> Self {
+        Halt::OutOfMemory
+    }
+}
+
+/// A number of 32 bits. What would be larger does not fit in memory.
+pub(crate) fn narrow(number: usize) -> Result<u32, OutOfMemory>
+    ensures { IfOk result (λ narrow. narrow ≡ number) }
+{
+    u32::try_from(number).map_err(|_| OutOfMemory)
+}
+
+/// Makes the nodes of terms.
+#[derive(Drop)]
+pub(crate) struct Maker<'t> {
+    pub(crate) table: &'t Table,
+    pub(crate) sig: &'t Sig,
+    /// The values of the variables, by number.
+    pub(crate) env: Vec<u32>,
+    /// The nodes of the term that is being made.
+    pub(crate) nodes: Vec<Node>,
+    /// How many nodes may still be made.
+    pub(crate) room: usize,
+}
+
+impl<'t> Maker<'t> {
+    /// With room for so many nodes.
+    pub(crate) fn new(alloc: Global, table: &'t Table, sig: &'t Sig, room: usize) -> Maker<'t>
+        ensures table { result.table.now ≡ table.now }
+        ensures sig { result.sig.now ≡ sig.now }
+        ensures env { result.env.items ≡ [] }
+        ensures nodes { result.nodes.items ≡ [] }
+        ensures room { result.room ≡ room }
+    {
+        Maker {
+            table,
+            sig,
+            env: Vec::new(alloc),
+            nodes: Vec::new(alloc),
+            room,
+        }
+    }
+
+    pub(crate) fn push(&mut self, node: Node) -> Result<(), Halt>
+        ensures put { OnOk result (HasPut (node ∷ []) self.old self.new) }
+        ensures full { IfErr result (LacksRoom 1 self.old.room) }
+    {
+        if self.room == 0 {
+            return Err(Halt::Full);
+        }
+        self.nodes.push(node)?;
+        self.room -= 1;
+        Ok(())
+    }
+
+    /// A constant has a value, which may be none of its own.
+    fn put_atom(&mut self, constant: u32, values: &[u32], value: u32) -> Result<(), Halt>
+        requires { IsSearchable values.now }
+        ensures put { OnOk result (HasPut (postfix (words.atom constant values.now value)) self.old self.new) }
+        ensures full { IfErr result (LacksRoom (length (postfix (words.atom constant values.now value))) self.old.room) }
+    {
+        match index_in(values, value) {
+            Some(index) => {
+                let value = narrow(index)?;
+                self.push(Node::Atom { constant, value })
+            }
+            None => self.push(Node::False),
+        }
+    }
+
+    /// Both constants have the value with these indexes.
+    pub(crate) fn put_both(
+        &mut self,
+        constant: u32,
+        value: u32,
+        other: u32,
+        place: u32,
+    ) -> Result<(), Halt>
+        ensures put { OnOk result (HasPut (postfix (terms.All (words.two (terms.Atom constant value) (terms.Atom other place)))) self.old self.new) }
+        ensures full { IfErr result (LacksRoom 3 self.old.room) }
+    {
+        self.push(Node::Atom { constant, value })?;
+        self.push(Node::Atom {
+            constant: other,
+            value: place,
+        })?;
+        self.push(Node::All(2))
+    }
+
+    /// For each common value, in the order of the first constant's: both have it. Answers how many there are.
+    fn put_commons(
+        &mut self,
+        constant: u32,
+        values: &[u32],
+        other: u32,
+        others: &[u32],
+    ) -> Result<u32, Halt>
+        requires { IsSearchable others.now }
+        ensures put { OnOk result (HasPut (postfixes (words.commons nothing constant 0 values.now other others.now)) self.old self.new) }
+        ensures count { IfOk result (λ count. count ≡ operand_count (words.commons nothing constant 0 values.now other others.now)) }
+        ensures full { IfErr result (LacksRoom (length (postfixes (words.commons nothing constant 0 values.now other others.now))) self.old.room) }
+    {
+        let mut count: usize = 0;
+        for (index, value) in values.iter().enumerate() {
+            if let Some(place) = index_in(others, *value) {
+                self.put_both(constant, narrow(index)?, other, narrow(place)?)?;
+                count += 1;
+            }
+        }
+        Ok(narrow(count)?)
+    }
+
+    /// The equation of two constants: for some common value both have it.
+    fn put_constants(
+        &mut self,
+        constant: u32,
+        values: &[u32],
+        other: u32,
+        others: &[u32],
+    ) -> Result<(), Halt>
+        requires { IsSearchable others.now }
+        ensures put { OnOk result (HasPut (postfix (words.equation (words.Constant constant values.now) (words.Constant other others.now))) self.old self.new) }
+        ensures full { IfErr result (LacksRoom (length (postfix (words.equation (words.Constant constant values.now) (words.Constant other others.now)))) self.old.room) }
+    {
+        let count = self.put_commons(constant, values, other, others)?;
+        self.push(Node::Any(count))
+    }
+
+    /// The equation of two sides.
+    fn put_sides(&mut self, left: Side<'_>, right: Side<'_>) -> Result<(), Halt>
+        requires left { IsSideSearchable (plain_side left) }
+        requires right { IsSideSearchable (plain_side right) }
+        ensures put { OnOk result (HasPut (postfix (words.equation (plain_side left.entry) (plain_side right.entry))) self.old self.new) }
+        ensures full { IfErr result (LacksRoom (length (postfix (words.equation (plain_side left.entry) (plain_side right.entry)))) self.old.room) }
+    {
+        match (left, right) {
+            (Side::Absent, _) | (_, Side::Absent) => self.push(Node::False),
+            (Side::Value(value), Side::Value(other)) => self.push(if value == other {
+                Node::True
+            } else {
+                Node::False
+            }),
+            (Side::Constant { number, values }, Side::Value(value))
+            | (Side::Value(value), Side::Constant { number, values }) => {
+                self.put_atom(number, values, value)
+            }
+            (
+                Side::Constant { number, values },
+                Side::Constant {
+                    number: other,
+                    values: others,
+                },
+            ) => self.put_constants(number, values, other, others),
+        }
+    }
+
+    fn put_equation(&mut self, alloc: Global, left: &Term, right: &Term) -> Result<(), Halt>
+        requires { AreSearchable (universe_in self.now) }
+        ensures put { OnOk result (HasPut (nodes_of (universe_in self.old) self.old.env.items (resolved.Equal (plain_term left.now) (plain_term right.now))) self.old self.new) }
+        ensures full { IfErr result (LacksRoom (length (nodes_of (universe_in self.old) self.old.env.items (resolved.Equal (plain_term left.now) (plain_term right.now)))) self.old.room) }
+    {
+        let left = term_side(alloc, self.sig, &self.env, left)?;
+        let right = term_side(alloc, self.sig, &self.env, right)?;
+        self.put_sides(left, right)
+    }
+
+    /// The instances of a formula, one for each object of a sort. Answers how many there are.
+    #[cycle(formula)]
+    fn put_instances(&mut self, alloc: Global, sort: u32, formula: &Formula) -> Result<u32, Halt>
+        requires { AreSearchable (universe_in self.now) }
+        ensures put { OnOk result (HasPut (postfixes (words.instances (λ object. words.term_of (universe_in self.old) (self.old.env.items ++ object ∷ []) (plain_formula formula.now)) nothing (objects_in (universe_in self.old) sort))) self.old self.new) }
+        ensures count { IfOk result (λ count. count ≡ length (objects_in (universe_in self.old) sort)) }
+        ensures full { IfErr result (LacksRoom (length (postfixes (words.instances (λ object. words.term_of (universe_in self.old) (self.old.env.items ++ object ∷ []) (plain_formula formula.now)) nothing (objects_in (universe_in self.old) sort)))) self.old.room) }
+    {
+        let objects = objects_of(self.table, sort);
+        for object in objects {
+            self.env.push(*object)?;
+            self.put(alloc, formula)?;
+            self.env.pop();
+        }
+        Ok(narrow(objects.len())?)
+    }
+
+    /// The nodes of a formula under the environment, behind those that are there.
+    #[cycle(formula)]
+    pub(crate) fn put(&mut self, alloc: Global, formula: &Formula) -> Result<(), Halt>
+        requires { AreSearchable (universe_in self.now) }
+        ensures put { OnOk result (HasPut (nodes_of (universe_in self.old) self.old.env.items (plain_formula formula.now)) self.old self.new) }
+        ensures full { IfErr result (LacksRoom (length (nodes_of (universe_in self.old) self.old.env.items (plain_formula formula.now))) self.old.room) }
+    {
+        match formula {
+            Formula::True => self.push(Node::True),
+            Formula::False => self.push(Node::False),
+            Formula::Equal(left, right) => self.put_equation(alloc, left, right),
+            Formula::Not(inner) => {
+                self.put(alloc, inner)?;
+                self.push(Node::Not)
+            }
+            Formula::Both(left, right) => {
+                self.put(alloc, left)?;
+                self.put(alloc, right)?;
+                self.push(Node::All(2))
+            }
+            Formula::Either(left, right) => {
+                self.put(alloc, left)?;
+                self.put(alloc, right)?;
+                self.push(Node::Any(2))
+            }
+            Formula::Implies(left, right) => {
+                self.put(alloc, left)?;
+                self.push(Node::Not)?;
+                self.put(alloc, right)?;
+                self.push(Node::Any(2))
+            }
+            Formula::Same(left, right) => {
+                self.put(alloc, left)?;
+                self.put(alloc, right)?;
+                self.push(Node::Same)
+            }
+            Formula::ForAll(_, sort, inner) => {
+                let count = self.put_instances(alloc, *sort, inner)?;
+                self.push(Node::All(count))
+            }
+            Formula::Exists(_, sort, inner) => {
+                let count = self.put_instances(alloc, *sort, inner)?;
+                self.push(Node::Any(count))
+            }
+        }
+    }
+
+    /// Makes the term of a formula under the environment, and places it.
+    pub(crate) fn term<'a>(
+        &mut self,
+        alloc: Global,
+        terms: Terms<'a>,
+        formula: &Formula,
+    ) -> Result<&'a [Node], Halt>
+        requires { AreSearchable (universe_in self.now) }
+        ensures term { IfOk result (λ term. term.now ≡ nodes_of (universe_in self.old) self.old.env.items (plain_formula formula.now)) }
+        ensures room { OnOk result (self.new.room + length (nodes_of (universe_in self.old) self.old.env.items (plain_formula formula.now)) ≡ self.old.room) }
+        ensures like { OnOk result (IsLike self.old self.new) }
+        ensures full { IfErr result (LacksRoom (length (nodes_of (universe_in self.old) self.old.env.items (plain_formula formula.now))) self.old.room) }
+    {
+        self.nodes.clear();
+        self.put(alloc, formula)?;
+        Ok(terms.place(&self.nodes)?)
+    }
+}

@@ -1,0 +1,127 @@
+//! Terms under an environment, and the sides of equations.
+ghost use Rattle.std.specs.Prelude.{◌≡◌, IfOk, length, map, nat_lt, option_map, slice_get};
+ghost use Rattle.cc_defs.specs.Signatures.{ground_constants};
+ghost use Rattle.cc_defs.specs.Resolved.{plain_term};
+ghost use Rattle.cc_defs.specs.Resolved as resolved;
+ghost use Rattle.cc_ground.specs.Grounding.{listed};
+ghost use Rattle.cc_ground.specs.Nodes.{side as side_of, numbered_side as numbered};
+ghost use Rattle.cc_sorts.specs.Tables.{TableView};
+ghost use Rattle.cc_ground.specs.Satisfaction as words;
+ghost use Rattle.cc_ground.specs.Views.{universe_of, plain_side};
+
+use crate::values::NONE;
+use cc_defs::{OutOfMemory, Sig, Term};
+use cc_sorts::Table;
+use std::alloc::Global;
+
+/// What a side of an equation stands for.
+#[derive(Clone, Copy)]
+pub(crate) enum Side<'t> {
+    /// The ground constant with this number, and its values.
+    Constant { number: u32, values: &'t [u32] },
+    /// A value.
+    Value(u32),
+    /// Nothing: there is no such constant, or no such variable.
+    Absent,
+}
+
+/// The value of a variable.
+pub(crate) fn value_of(env: &[u32], variable: u32) -> Option<u32>
+    ensures { result ≡ slice_get env.now variable }
+{
+    env.get(variable as usize).copied()
+}
+
+/// The object that an argument stands for.
+fn argument(env: &[u32], term: &Term) -> Option<u32>
+    ensures { result ≡ words.argument env.now (plain_term term.now) }
+{
+    match term {
+        Term::Object(object) => Some(*object),
+        Term::Variable(variable) => value_of(env, *variable),
+        Term::Constant { .. } | Term::Nothing => None,
+    }
+}
+
+/// The objects that arguments stand for, where all of them stand for one.
+fn arguments(alloc: Global, env: &[u32], terms: &[Term]) -> Result<Option<Vec<u32>>, OutOfMemory>
+    ensures { IfOk result (λ found. option_map (λ args. args.items) found ≡ words.arguments env.now (listed (map plain_term terms.now))) }
+{
+    let mut args = Vec::with_capacity(alloc, terms.len())?;
+    for term in terms {
+        let Some(object) = argument(env, term) else {
+            return Ok(None);
+        };
+        args.push(object)?;
+    }
+    Ok(Some(args))
+}
+
+/// The number of the ground constant of this symbol with these arguments, where there is one.
+fn constant_meant(
+    alloc: Global,
+    sig: &Sig,
+    env: &[u32],
+    symbol: u32,
+    terms: &[Term],
+) -> Result<Option<u32>, OutOfMemory>
+    ensures { (table : TableView) → IfOk result (λ found. found ≡ words.constant_meant (universe_of table sig.now) env.now symbol (listed (map plain_term terms.now))) }
+{
+    match arguments(alloc, env, terms)? {
+        Some(args) => Ok(sig.ground_number(symbol, &args)),
+        None => Ok(None),
+    }
+}
+
+/// Whether there is a ground constant with the number.
+fn is_constant(sig: &Sig, number: u32) -> bool
+    ensures { result ≡ nat_lt number (length (ground_constants sig.now)) }
+{
+    u64::from(number) < u64::from(sig.fluents()) + u64::from(sig.actions())
+}
+
+/// The side that a ground constant is, if there is one.
+fn numbered_side<'t>(sig: &'t Sig, found: Option<u32>) -> Side<'t>
+    ensures { (table : TableView) → plain_side result ≡ numbered (universe_of table sig.now) found }
+{
+    match found {
+        Some(number) if is_constant(sig, number) => Side::Constant {
+            number,
+            values: sig.constant(number).domain.items(),
+        },
+        _ => Side::Absent,
+    }
+}
+
+/// The side that a constant with arguments stands for.
+pub(crate) fn constant_side<'t>(
+    alloc: Global,
+    sig: &'t Sig,
+    env: &[u32],
+    symbol: u32,
+    terms: &[Term],
+) -> Result<Side<'t>, OutOfMemory>
+    ensures { (table : TableView) → IfOk result (λ side. plain_side side ≡ side_of (universe_of table sig.now) env.now (resolved.Constant symbol (listed (map plain_term terms.now)))) }
+{
+    Ok(numbered_side(sig, constant_meant(alloc, sig, env, symbol, terms)?))
+}
+
+/// What a term stands for as a side.
+pub(crate) fn term_side<'t>(
+    alloc: Global,
+    sig: &'t Sig,
+    env: &[u32],
+    term: &Term,
+) -> Result<Side<'t>, OutOfMemory>
+    ensures { (table : TableView) → IfOk result (λ side. plain_side side ≡ side_of (universe_of table sig.now) env.now (plain_term term.now)) }
+{
+    match term {
+        Term::Constant { symbol, args } => constant_side(alloc, sig, env, *symbol, args),
+        Term::Object(object) => Ok(Side::Value(*object)),
+        Term::Variable(variable) => Ok(match value_of(env, *variable) {
+            Some(value) => Side::Value(value),
+            None => Side::Absent,
+        }),
+        Term::Nothing => Ok(Side::Value(NONE)),
+    }
+}

@@ -1,0 +1,24 @@
+use Rattle.std.proofs.Common.{◌++◌, ◌∷◌, [], arith, ap, ◌∙◌, length}
+use Rattle.ccalc.specs.Places.{Opened}
+use Rattle.ccalc.proofs.Walk.{untouched, content_is, is_opened}
+use Rattle.ccalc.proofs.files.open.Goals as goal
+
+pub returns-in_err-file-clause-after : goal.returns-in_err-file-clause-after
+returns-in_err-file-clause-after g c = untouched (g.D.Desk.told c.args.desk.now)
+
+pub returns-clause-opened : goal.returns-clause-opened
+returns-clause-opened g c contents before told was =
+    let read = c.in-Ok.ensures in (
+      content_is _ contents c.args.name.now c.in-Ok.bytes told read.bytes,
+      is_opened before c.args.name.now c.in-Ok.bytes c.args.progress.now c.enter.new.self c.count.new.self (length c.items.result.now) was
+          c.in_ok-file.ensures.names c.in_ok-file.ensures.rest (ap length c.items.ensures) (omega arith) c.in_ok-count.ensures.counted c.in_ok-count.ensures.rest,
+      c.in_ok-file.ensures.number ∙ ap length was.names,
+    )
+
+pub returns-clause-kept : goal.returns-clause-kept
+returns-clause-kept g c before was =
+    let read = c.in-Ok.ensures in (
+      before ++ Opened c.args.name.now c.in-Ok.bytes ∷ [],
+      (is_opened before c.args.name.now c.in-Ok.bytes c.args.progress.now c.enter.new.self c.count.new.self (length c.items.result.now) was
+          c.in_ok-file.ensures.names c.in_ok-file.ensures.rest (ap length c.items.ensures) (omega (arith, read.within)) c.in_ok-count.ensures.counted c.in_ok-count.ensures.rest).opened,
+    )
