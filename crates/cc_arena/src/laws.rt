@@ -1,83 +1,23 @@
-//! Ground laws and queries, whose terms lie in an arena.
-ghost use Rattle.std.specs.Prelude.{◌≡◌};
+//! Laws of grounding, each the contract of a function that does nothing, or calls the laws that it rests on.
+ghost use Rattle.cc_arena.specs.Laws.{GroundLawsMeanLaws, GroundQueriesMeanQueries, HeadsMeanHeads, TermsMeanFormulas};
 
-use cc_defs::{At, LawKind, Node};
+/// The term of a formula under an environment is true where the formula is, for every valuation.
+pub fn terms_mean_formulas()
+    ensures { TermsMeanFormulas }
+{}
 
-/// The head of a ground law.
-#[derive(Clone, Copy, Debug, PartialEq, Eq)]
-pub enum GroundHead {
-    /// The ground constant of this number has the value of this index in its domain.
-    Atom { constant: u32, value: u32 },
-    Falsity,
-}
+/// The head of an instance is true where the law's head is.
+pub fn heads_mean_heads()
+    ensures { HeadsMeanHeads }
+{}
 
-/// A ground law. `after` is there exactly for a fluent dynamic law; `base` is the number of the law that it is an
-/// instance of.
-#[derive(Clone, Copy)]
-pub struct GroundLaw<'a> {
-    pub head: GroundHead,
-    pub body: &'a [Node],
-    pub after: Option<&'a [Node]>,
-    pub kind: LawKind,
-    pub base: u32,
-}
+/// The ground laws of base laws mean these: there is one for each environment under which a law has a head, and one for each
+/// two Boolean actions of `noconcurrency`, in order.
+pub fn ground_laws_mean_laws()
+    ensures { GroundLawsMeanLaws }
+{}
 
-/// A condition at a step.
-#[derive(Clone, Copy)]
-pub struct GroundCondition<'a> {
-    pub at: At,
-    pub nodes: &'a [Node],
-}
-
-/// Conditions at steps, in order.
-#[derive(Drop)]
-pub struct GroundConditions<'a> {
-    conditions: Vec<GroundCondition<'a>>,
-}
-
-impl<'a> GroundConditions<'a> {
-    /// These conditions.
-    pub fn of(conditions: Vec<GroundCondition<'a>>) -> GroundConditions<'a>
-        ensures { result.conditions ≡ conditions.entry }
-    {
-        GroundConditions { conditions }
-    }
-
-    /// The conditions, in order.
-    pub fn items(&self) -> &[GroundCondition<'a>]
-        ensures { result.now ≡ self.now.conditions.items }
-    {
-        self.conditions.as_slice()
-    }
-}
-
-/// A query: the horizons that are tried, and the conditions and the claim at their steps.
-#[derive(Drop)]
-pub struct GroundQuery<'a> {
-    pub lo: u32,
-    pub hi: u32,
-    pub conditions: GroundConditions<'a>,
-    pub claim: Option<GroundCondition<'a>>,
-}
-
-/// Ground laws, in order.
-#[derive(Drop)]
-pub struct Laws<'a> {
-    laws: Vec<GroundLaw<'a>>,
-}
-
-impl<'a> Laws<'a> {
-    /// These laws.
-    pub fn of(laws: Vec<GroundLaw<'a>>) -> Laws<'a>
-        ensures { result.laws ≡ laws.entry }
-    {
-        Laws { laws }
-    }
-
-    /// The laws, in order.
-    pub fn laws(&self) -> &[GroundLaw<'a>]
-        ensures { result.now ≡ self.now.laws.items }
-    {
-        self.laws.as_slice()
-    }
-}
+/// The conditions and the claim of a ground query mean those of the query.
+pub fn ground_queries_mean_queries()
+    ensures { GroundQueriesMeanQueries }
+{}

@@ -1,10 +1,13 @@
-//! Ground terms in an arena, and their truth.
+//! Ground terms in an arena, their truth, and the ground laws and queries that hold them.
 #![tactic(auto)]
 
-mod laws;
+mod ground_laws;
+pub mod laws;
 mod terms;
 #[cfg(test)]
 mod tests;
 
-pub use laws::{GroundCondition, GroundConditions, GroundHead, GroundLaw, GroundQuery, Laws};
+pub use ground_laws::{
+    GroundCondition, GroundConditions, GroundHead, GroundLaw, GroundQuery, Laws,
+};
 pub use terms::{Terms, one_formula, value};

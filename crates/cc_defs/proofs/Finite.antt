@@ -8,9 +8,10 @@ use Rattle.std.proofs.lemmas.Bool.Decides.{Decides-ltb, Decides-and, Decides-lik
 use Rattle.std.proofs.lemmas.Slice.Eq.{bytes_eq-Decides}
 use Rattle.std.proofs.lemmas.List.Elements.{All-contains, Contains-from_at}
 use Rattle.cc_defs.specs.Rows.{IsRow, row_cmp}
-use Rattle.cc_defs.specs.Description.{Description, Query, sizes_at}
+use Rattle.cc_defs.specs.Description.{Description, sizes_at}
 use Rattle.cc_defs.specs.Histories.{IsListing, condition_holds}
 use Rattle.cc_defs.specs.Paths.{IsTransition, IsPath, window}
+use Rattle.cc_defs.specs.Resolved.{Query}
 use Rattle.cc_defs.specs.Rules.{rules_at}
 use Rattle.cc_defs.specs.Theories.{Rule, IsModel, satisfies, reduct}
 

@@ -12,8 +12,7 @@ use Rattle.std.proofs.lemmas.Cmp.{nat_list_cmp_total}
 use Rattle.std.proofs.lemmas.List.Sums.{position_or_len_is}
 use Rattle.std.proofs.lemmas.Map.Text.{is_eq-slice_cmp}
 use Rattle.cc_defs.specs.declared.signature.Const.{Const}
-use Rattle.cc_defs.specs.Formulas.{ground_number}
-use Rattle.cc_defs.specs.Signatures.{place, AreOrdered}
+use Rattle.cc_defs.specs.Signatures.{ground_number, place, AreOrdered}
 
 abbrev order : List ℕ → List ℕ → Ordering
 order a b = slice_cmp nat_cmp a b

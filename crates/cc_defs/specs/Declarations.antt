@@ -10,7 +10,7 @@ use Rattle.cc_defs.specs.declared.tree.KindWord.TheVariants as kind_words
 use Rattle.cc_defs.specs.Trees.{PlainShape, PlainSortItem, PlainListItem, PlainKind, PlainConstItem, PlainPart, PlainStatement}
 use Rattle.cc_defs.specs.Trees as trees
 use Rattle.cc_defs.specs.Grammar.{same_text}
-use Rattle.cc_defs.specs.Texts.{none_value}
+use Rattle.cc_defs.specs.Signatures.{none_value}
 
 -- one declaration, a constant's with the place of its statement. The kind of constants stands behind their shapes, so that
 -- their names are to its left.

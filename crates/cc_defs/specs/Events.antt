@@ -1,13 +1,14 @@
 -- What a listing tells, in order, and which lists of events are fair.
-use Rattle.std.specs.Prelude.{◌≡◌, ℕ, ◌+◌, ◌<◌, ◌≤◌, ◌⊎◌, List, [], ◌∷◌, ◌++◌, length, flat_map, zero, suc, Option, Some, None, IsSome, IsNone, IfSome, codes, decimal, option_map}
+use Rattle.std.specs.Prelude.{◌≡◌, ℕ, ◌+◌, ◌<◌, ◌≤◌, ◌⊎◌, List, [], ◌∷◌, ◌++◌, length, flat_map, zero, suc, Option, Some, None, IsSome, IsNone, IfSome, codes, decimal, option_map, unwrap_or}
 use Rattle.cc_defs.specs.declared.event.Ending.{Ending}
 use Rattle.cc_defs.specs.declared.event.Ending.TheVariants as endings
 use Rattle.cc_defs.specs.declared.event.Event.{Event}
 use Rattle.cc_defs.specs.declared.event.Event.TheVariants as events
 use Rattle.cc_defs.specs.declared.event.Told.{Told}
 use Rattle.cc_defs.specs.declared.lists.Key.{Key}
-use Rattle.cc_defs.specs.Description.{Description, Query}
+use Rattle.cc_defs.specs.Description.{Description}
 use Rattle.cc_defs.specs.Histories.{IsListing, AreFirst}
+use Rattle.cc_defs.specs.Resolved.{Query}
 use Rattle.cc_defs.specs.Texts.{history_text, key_line}
 
 -- what is asked for: at most so many histories, and those after a key
@@ -67,13 +68,17 @@ abbrev pub events_of : ℕ → Listing → List Told
 events_of first listing =
     empty_events first listing.empty ++ history_events (first + listing.empty) 1 listing.rows ++ ending_events listing.ending
 
+-- the least and the greatest horizon of a query; without a range, which is refused, there is none to try
+abbrev pub range_of : Query → ℕ × ℕ
+range_of q = unwrap_or q.range (1, 0)
+
 -- the first and the last horizon of a run: the query's, or the key's alone
 abbrev pub first_horizon : Query → Option Key → ℕ
-first_horizon q None = q.lo
+first_horizon q None = (range_of q).0
 first_horizon q (Some key) = key.horizon
 
 abbrev pub last_horizon : Query → Option Key → ℕ
-last_horizon q None = q.hi
+last_horizon q None = (range_of q).1
 last_horizon q (Some key) = key.horizon
 
 -- When an ending may come, at the horizon after the empty ones and after these rows.

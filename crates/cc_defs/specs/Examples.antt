@@ -1,21 +1,26 @@
 -- Small descriptions whose states and transitions are known beforehand: they show what the definitions say.
 use Rattle.std.specs.Prelude.{◌≡◌, ℕ, List, [], ◌∷◌, ◌++◌, length, Option, Some, None, codes}
+use Rattle.cc_defs.specs.declared.law.Range.TheVariants as ranges
 use Rattle.cc_defs.specs.declared.signature.At.TheVariants.{Last}
 use Rattle.cc_defs.specs.declared.signature.Const.{Const}
 use Rattle.cc_defs.specs.declared.signature.Symbol.{Symbol}
 use Rattle.cc_defs.specs.declared.signature.Kind.{Kind}
 use Rattle.cc_defs.specs.declared.signature.Kind.TheVariants as kinds
 use Rattle.cc_defs.specs.declared.signature.LawKind.{LawKind}
-use Rattle.cc_defs.specs.declared.signature.LawKind.TheVariants as laws
+use Rattle.cc_defs.specs.declared.signature.LawKind.TheVariants as law_kinds
 use Rattle.cc_defs.specs.declared.tree.KindWord.TheVariants as words
 use Rattle.cc_defs.specs.DeclarationFaults.{declaration_fault, signature_refusal}
 use Rattle.cc_defs.specs.Declarations.{Declaration, part_declarations, members, sort_names, ground_fluents, ground_actions}
-use Rattle.cc_defs.specs.Description.{Description, Law, Query}
+use Rattle.cc_defs.specs.Description.{Description}
+use Rattle.cc_defs.specs.Environments.{environments, pairs_of}
 use Rattle.cc_defs.specs.Histories.{IsListing}
-use Rattle.cc_defs.specs.Formulas.{Formula, Truth, Equal, Not, Both, Constant, Object, Atom, Falsity}
-use Rattle.cc_defs.specs.Paths.{IsState, IsPath}
+use Rattle.cc_defs.specs.Paths.{IsState, IsTransition, IsPath}
+use Rattle.cc_defs.specs.Resolved.{NoTerms, MoreTerms, Formula, Truth, Equal, Not, Both, ForAll, Exists, Object, Variable, Head, Atom, Falsity, Law, BaseLaw, One, NoConcurrency, Query}
+use Rattle.cc_defs.specs.Resolved as resolved
 use Rattle.cc_defs.specs.Rules.{rules_at}
-use Rattle.cc_defs.specs.Texts.{none_value, key_text, history_text, shown}
+use Rattle.cc_defs.specs.Signatures.{none_value}
+use Rattle.cc_defs.specs.Texts.{key_text, history_text, shown}
+use Rattle.cc_defs.specs.Universe.{Universe, boolean_actions}
 use Rattle.cc_defs.specs.Trees.{Sorts, Objects, Constants, Names, Chain, Plain, Attribute}
 
 -- a constant without arguments, of the values `false` and `true`
@@ -27,17 +32,35 @@ boolean_symbol name kind = record { name = name; sorts = []; kind = kind; domain
 
 -- the constant of a symbol has a value
 abbrev pub has : ℕ → ℕ → Formula
-has symbol value = Equal (Constant symbol []) (Object value)
+has symbol value = Equal (resolved.Constant symbol NoTerms) (Object value)
 
-abbrev pub law : LawKind → ℕ → ℕ → Formula → Option Formula → Law
-law kind symbol value body after = record { head = Atom symbol [] (Object value); body = body; after = after; kind = kind }
+abbrev pub law_for : LawKind → Head → Formula → Option Formula → BaseLaw
+law_for kind head body after = One (record {
+  ranges = [];
+  head = head;
+  body = body;
+  after = after;
+  test = Truth;
+  kind = kind;
+  file = 0;
+  line = 1;
+})
+
+abbrev pub law : LawKind → ℕ → ℕ → Formula → Option Formula → BaseLaw
+law kind symbol value body after = law_for kind (Atom symbol [] (Object value)) body after
 
 -- `caused` a value `if` a formula
-abbrev pub caused : ℕ → ℕ → Formula → Law
-caused symbol value body = law laws.Static symbol value body None
+abbrev pub caused : ℕ → ℕ → Formula → BaseLaw
+caused symbol value body = law law_kinds.Static symbol value body None
 
-abbrev pub fluents_with_laws : List Const → List Law → Description
-fluents_with_laws fluents given = record { objects = codes "false" ∷ codes "true" ∷ []; symbols = []; fluents = fluents; actions = []; laws = given }
+abbrev pub universe_with : List Symbol → List Const → List Const → Universe
+universe_with symbols fluents actions = record { sorts = (0 ∷ 1 ∷ []) ∷ []; symbols = symbols; fluents = fluents; actions = actions }
+
+abbrev pub booleans : List (List ℕ)
+booleans = codes "false" ∷ codes "true" ∷ []
+
+abbrev pub fluents_with_laws : List Const → List BaseLaw → Description
+fluents_with_laws fluents given = record { objects = booleans; universe = universe_with [] fluents []; laws = given }
 
 -- With no constants there is one interpretation, and it is a state.
 abbrev pub EmptyRowIsState : Type 0
@@ -70,7 +93,7 @@ CausesThatDifferClash = (row : List ℕ) → IsState clash row → ⊥
 
 -- A law with falsity for its head forbids its body, and is a cause of nothing.
 abbrev pub forbidden : Description
-forbidden = fluents_with_laws (boolean 0 kinds.Simple ∷ []) (record { head = Falsity; body = has 0 1; after = None; kind = laws.Static } ∷ [])
+forbidden = fluents_with_laws (boolean 0 kinds.Simple ∷ []) (law_for law_kinds.Static Falsity (has 0 1) None ∷ [])
 
 abbrev pub FalsityForbids : Type 0
 FalsityForbids = IsState forbidden (0 ∷ []) × (IsState forbidden (1 ∷ []) → ⊥)
@@ -84,19 +107,18 @@ abbrev pub CausesMayStandInCircle : Type 0
 CausesMayStandInCircle = IsState circle (0 ∷ 0 ∷ []) × IsState circle (1 ∷ 1 ∷ []) × (IsState circle (0 ∷ 1 ∷ []) → ⊥) × (IsState circle (1 ∷ 0 ∷ []) → ⊥)
 
 -- A lamp: `on` keeps its value unless `flip` is done, which turns it.
-abbrev pub lamp_laws : List Law
+abbrev pub lamp_laws : List BaseLaw
 lamp_laws =
-    law laws.FluentDynamic 0 0 (has 0 0) (Some (has 0 0)) ∷ law laws.FluentDynamic 0 1 (has 0 1) (Some (has 0 1))
-    ∷ law laws.ActionDynamic 1 0 (has 1 0) None ∷ law laws.ActionDynamic 1 1 (has 1 1) None
-    ∷ law laws.FluentDynamic 0 1 Truth (Some (Both (has 1 1) (Not (has 0 1))))
-    ∷ law laws.FluentDynamic 0 0 Truth (Some (Both (has 1 1) (has 0 1))) ∷ []
+    law law_kinds.FluentDynamic 0 0 (has 0 0) (Some (has 0 0)) ∷ law law_kinds.FluentDynamic 0 1 (has 0 1) (Some (has 0 1))
+    ∷ law law_kinds.ActionDynamic 1 0 (has 1 0) None ∷ law law_kinds.ActionDynamic 1 1 (has 1 1) None
+    ∷ law law_kinds.FluentDynamic 0 1 Truth (Some (Both (has 1 1) (Not (has 0 1))))
+    ∷ law law_kinds.FluentDynamic 0 0 Truth (Some (Both (has 1 1) (has 0 1))) ∷ []
 
 abbrev pub lamp : Description
 lamp = record {
-  objects = codes "false" ∷ codes "true" ∷ [];
-  symbols = boolean_symbol (codes "on") kinds.Simple ∷ boolean_symbol (codes "flip") kinds.Action ∷ [];
-  fluents = boolean 0 kinds.Simple ∷ [];
-  actions = boolean 1 kinds.Action ∷ [];
+  objects = booleans;
+  universe = universe_with (boolean_symbol (codes "on") kinds.Simple ∷ boolean_symbol (codes "flip") kinds.Action ∷ [])
+      (boolean 0 kinds.Simple ∷ []) (boolean 1 kinds.Action ∷ []);
   laws = lamp_laws;
 }
 
@@ -119,7 +141,14 @@ LampTurnsTwice = IsPath lamp 2 (0 ∷ 1 ∷ 1 ∷ 1 ∷ 0 ∷ [])
 
 -- the histories of one step after which the lamp is on
 abbrev pub lamp_ends_on : Query
-lamp_ends_on = record { lo = 1; hi = 1; conditions = record { at = Last; formula = has 0 1 } ∷ []; claim = None }
+lamp_ends_on = record {
+  label = None;
+  range = Some (1, 1);
+  conditions = record { at = Last; formula = has 0 1 } ∷ [];
+  claim = None;
+  file = 0;
+  line = 1;
+}
 
 abbrev pub LampEndsOnInTwoWays : Type 0
 LampEndsOnInTwoWays = IsListing lamp lamp_ends_on 1 None ((0 ∷ 1 ∷ 1 ∷ []) ∷ (1 ∷ 0 ∷ 1 ∷ []) ∷ [])
@@ -133,11 +162,9 @@ LampHistoryIsWritten = history_text lamp 1 (0 ∷ 1 ∷ 1 ∷ []) ≡ codes "0:\
 -- an attribute of the first symbol, which has no value or an object
 abbrev pub with_attribute : Description
 with_attribute = record {
-  objects = codes "false" ∷ codes "true" ∷ codes "a" ∷ [];
-  symbols = boolean_symbol (codes "act") kinds.Action
-      ∷ record { name = codes "c"; sorts = []; kind = kinds.Action; domain = 1; attribute = Some 0 } ∷ [];
-  fluents = [];
-  actions = [];
+  objects = booleans ++ codes "a" ∷ [];
+  universe = universe_with (boolean_symbol (codes "act") kinds.Action
+      ∷ record { name = codes "c"; sorts = []; kind = kinds.Action; domain = 1; attribute = Some 0 } ∷ []) [] [];
   laws = [];
 }
 
@@ -146,6 +173,86 @@ attribute = record { symbol = 1; args = []; kind = kinds.Action; domain = none_v
 
 abbrev pub AttributeShowsNone : Type 0
 AttributeShowsNone = (shown with_attribute attribute none_value ≡ codes "  c=none") × (shown with_attribute attribute 2 ≡ codes "  c=a")
+
+-- ---- laws with variables
+
+-- the objects `a` and `b` of a sort, and a Boolean fluent for each
+abbrev pub of_object : ℕ → Const
+of_object object = record { symbol = 0; args = object ∷ []; kind = kinds.Simple; domain = 0 ∷ 1 ∷ [] }
+
+abbrev pub two_objects : Universe
+two_objects = record {
+  sorts = (0 ∷ 1 ∷ []) ∷ (2 ∷ 3 ∷ []) ∷ [] ∷ [];
+  symbols = record { name = codes "p"; sorts = 1 ∷ []; kind = kinds.Simple; domain = 0; attribute = None } ∷ [];
+  fluents = of_object 2 ∷ of_object 3 ∷ [];
+  actions = [];
+}
+
+abbrev pub two_objects_with : List BaseLaw → Description
+two_objects_with given = record { objects = booleans ++ codes "a" ∷ codes "b" ∷ []; universe = two_objects; laws = given }
+
+-- the fluent of the object that a variable has
+abbrev pub is_so : ℕ → Formula
+is_so variable = Equal (resolved.Constant 0 (MoreTerms (Variable variable) NoTerms)) (Object 1)
+
+-- `caused p(X) if p(Y) where -(X=Y)`
+abbrev pub one_from_the_other : Law
+one_from_the_other = record {
+  ranges = ranges.Sort 1 ∷ ranges.Sort 1 ∷ [];
+  head = Atom 0 (Variable 0 ∷ []) (Object 1);
+  body = is_so 1;
+  after = None;
+  test = Not (Equal (Variable 0) (Variable 1));
+  kind = law_kinds.Static;
+  file = 0;
+  line = 1;
+}
+
+-- The test drops two of four lists of objects; what is left is in order.
+abbrev pub TestsDropEnvironments : Type 0
+TestsDropEnvironments = environments two_objects one_from_the_other ≡ (2 ∷ 3 ∷ []) ∷ (3 ∷ 2 ∷ []) ∷ []
+
+-- Each fluent is a cause of the other, so both are so or neither.
+abbrev pub LawsStandForAllObjects : Type 0
+LawsStandForAllObjects =
+    IsState (two_objects_with (One one_from_the_other ∷ [])) (0 ∷ 0 ∷ []) × IsState (two_objects_with (One one_from_the_other ∷ [])) (1 ∷ 1 ∷ [])
+    × (IsState (two_objects_with (One one_from_the_other ∷ [])) (0 ∷ 1 ∷ []) → ⊥)
+    × (IsState (two_objects_with (One one_from_the_other ∷ [])) (1 ∷ 0 ∷ []) → ⊥)
+
+-- `caused false if` a bracket
+abbrev pub forbids : Formula → Description
+forbids formula = two_objects_with (law_for law_kinds.Static Falsity formula None ∷ [])
+
+-- A bracket goes over the objects of its sort; over those of the last sort, which has none, all are so and none is.
+abbrev pub BracketsGoOverObjects : Type 0
+BracketsGoOverObjects =
+    IsState (forbids (ForAll 0 1 (is_so 0))) (0 ∷ 1 ∷ []) × (IsState (forbids (ForAll 0 1 (is_so 0))) (1 ∷ 1 ∷ []) → ⊥)
+    × IsState (forbids (Exists 0 1 (is_so 0))) (0 ∷ 0 ∷ []) × (IsState (forbids (Exists 0 1 (is_so 0))) (0 ∷ 1 ∷ []) → ⊥)
+    × (IsState (forbids (ForAll 0 2 (is_so 0))) (0 ∷ 0 ∷ []) → ⊥) × IsState (forbids (Exists 0 2 (is_so 0))) (1 ∷ 1 ∷ [])
+
+-- ---- actions that are not done at once
+
+-- two Boolean actions, each of which may be done or not
+abbrev pub two_actions : Description
+two_actions = record {
+  objects = booleans;
+  universe = universe_with (boolean_symbol (codes "a") kinds.Action ∷ boolean_symbol (codes "b") kinds.Action ∷ [])
+      [] (boolean 0 kinds.Action ∷ boolean 1 kinds.Action ∷ []);
+  laws = law law_kinds.ActionDynamic 0 0 (has 0 0) None ∷ law law_kinds.ActionDynamic 0 1 (has 0 1) None
+      ∷ law law_kinds.ActionDynamic 1 0 (has 1 0) None ∷ law law_kinds.ActionDynamic 1 1 (has 1 1) None ∷ [];
+}
+
+abbrev pub one_at_a_time : Description
+one_at_a_time = record two_actions { laws = two_actions.laws ++ NoConcurrency 0 1 ∷ [] }
+
+abbrev pub ActionsAreNotTogether : Type 0
+ActionsAreNotTogether =
+    IsTransition two_actions (1 ∷ 1 ∷ []) × (IsTransition one_at_a_time (1 ∷ 1 ∷ []) → ⊥)
+    × IsTransition one_at_a_time (0 ∷ 0 ∷ []) × IsTransition one_at_a_time (0 ∷ 1 ∷ []) × IsTransition one_at_a_time (1 ∷ 0 ∷ [])
+
+-- three actions make three pairs
+abbrev pub PairsAreInOrder : Type 0
+PairsAreInOrder = (boolean_actions one_at_a_time.universe ≡ 0 ∷ 1 ∷ []) × (pairs_of (0 ∷ 1 ∷ 2 ∷ []) ≡ (0, 1) ∷ (0, 2) ∷ (1, 2) ∷ [])
 
 -- ---- declarations
 

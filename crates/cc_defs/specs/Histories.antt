@@ -1,12 +1,13 @@
 -- Histories: the paths that satisfy a query, in ascending order.
-use Rattle.std.specs.Prelude.{ℕ, Bool, IsTrue, IsFalse, List, Option, IfSome, Contains, ◌⊎◌, ◌↔◌}
+use Rattle.std.specs.Prelude.{ℕ, Bool, IsTrue, IsFalse, List, [], Option, IfSome, Contains, ◌⊎◌, ◌↔◌}
 use Rattle.std.specs.List.{list_all}
 use Rattle.std.specs.List.Sorted.{IsStrictlySortedBy}
 use Rattle.cc_defs.specs.declared.signature.At.{At}
 use Rattle.cc_defs.specs.declared.signature.At.TheVariants.{Number, Last}
 use Rattle.cc_defs.specs.Rows.{row_cmp, IsBelow}
-use Rattle.cc_defs.specs.Formulas.{holds}
-use Rattle.cc_defs.specs.Description.{Description, Condition, Query, constants_of, values_at}
+use Rattle.cc_defs.specs.Description.{Description, values_at}
+use Rattle.cc_defs.specs.Resolved.{Condition, Query}
+use Rattle.cc_defs.specs.Satisfaction.{satisfied}
 use Rattle.cc_defs.specs.Paths.{IsPath}
 
 -- the step that a condition speaks of at a horizon
@@ -14,8 +15,9 @@ abbrev pub step_of : At → ℕ → ℕ
 step_of (Number step) horizon = step
 step_of Last horizon = horizon
 
+-- a condition has no free variable
 abbrev pub condition_holds : Description → ℕ → List ℕ → Condition → Bool
-condition_holds d horizon row condition = holds (constants_of d) (values_at d row (step_of condition.at horizon)) condition.formula
+condition_holds d horizon row condition = satisfied d.universe (values_at d row (step_of condition.at horizon)) [] condition.formula
 
 -- every condition holds, and the claim does not
 pub record Meets (d : Description) (q : Query) (horizon : ℕ) (row : List ℕ) : Type 0 where

@@ -1,7 +1,8 @@
 -- The laws that make listings trustworthy.
 use Rattle.std.specs.Prelude.{◌≡◌, ℕ, List, ◌++◌, Option, Some, None, Contains}
 use Rattle.cc_defs.specs.Rows.{IsBelow}
-use Rattle.cc_defs.specs.Description.{Description, Query}
+use Rattle.cc_defs.specs.Description.{Description}
+use Rattle.cc_defs.specs.Resolved.{Query}
 use Rattle.cc_defs.specs.Histories.{IsListing, AreFirst}
 
 -- a query has one listing at a horizon

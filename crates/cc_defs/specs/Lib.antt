@@ -2,9 +2,9 @@ pub mod Clauses
 pub mod DeclarationFaults
 pub mod Declarations
 pub mod Description
+pub mod Environments
 pub mod Events
 pub mod Examples
-pub mod Formulas
 pub mod Grammar
 pub mod Histories
 pub mod Laws
@@ -14,9 +14,11 @@ pub mod Paths
 pub mod Resolved
 pub mod Rows
 pub mod Rules
+pub mod Satisfaction
 pub mod Signatures
 pub mod Statements
 pub mod Texts
 pub mod Theories
 pub mod Tokens
 pub mod Trees
+pub mod Universe

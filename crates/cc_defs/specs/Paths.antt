@@ -13,7 +13,7 @@ IsTransition d row = IsModel (sizes_at d 1) (rules_at d 1) row
 
 -- the part of a row from the fluents of a step to the fluents of the next
 abbrev pub window : Description → List ℕ → ℕ → List ℕ
-window d row step = take (length d.fluents + stride d) (drop (step * stride d) row)
+window d row step = take (length d.universe.fluents + stride d) (drop (step * stride d) row)
 
 -- a path: a state, or transitions with common ends
 abbrev pub IsPath : Description → ℕ → List ℕ → Type 0

@@ -1,5 +1,5 @@
 -- Formulas, laws and queries whose names are resolved, in plain form: without boxes and vectors.
-use Rattle.std.specs.Prelude.{ℕ, List, map, Option}
+use Rattle.std.specs.Prelude.{ℕ, List, [], ◌∷◌, map, Option}
 use Rattle.std.specs.Option.{option_map}
 use Rattle.cc_defs.specs.declared.signature.At.{At}
 use Rattle.cc_defs.specs.declared.signature.LawKind.{LawKind}
@@ -25,6 +25,10 @@ mutual
   pub data Terms : Type 0 where
     NoTerms : Terms
     MoreTerms : (first : Term) → (others : Terms) → Terms
+
+abbrev pub terms_of : List Term → Terms
+terms_of [] = NoTerms
+terms_of (first ∷ others) = MoreTerms first (terms_of others)
 
 -- a bracket has the number of its variable and its sort
 pub data Formula : Type 0 where

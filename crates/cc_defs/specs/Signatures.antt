@@ -1,10 +1,14 @@
 -- Signatures: the ground constants of a description, and where they stand at a horizon.
-use Rattle.std.specs.Prelude.{ℕ, ◌+◌, ◌*◌, ◌^◌, ◌<◌, List, ◌∷◌, ◌++◌, length, map}
+use Rattle.std.specs.Prelude.{ℕ, ◌+◌, ◌*◌, ◌^◌, ◌<◌, ◌==◌, ◌&&◌, nat_eq, List, ◌∷◌, ◌++◌, length, map, position, Option}
 use Rattle.std.specs.Ordering.{nat_cmp}
-use Rattle.std.specs.Cmp.Lexicographic.{slice_cmp}
+use Rattle.std.specs.Cmp.Lexicographic.{pointwise, slice_cmp}
 use Rattle.std.specs.List.{AllByRecursion}
 use Rattle.std.specs.List.Sorted.{IsStrictlySortedBy}
 use Rattle.cc_defs.specs.declared.signature.Const.{Const}
+
+-- the number that stands for the value `none` among those of a constant
+abbrev pub none_value : ℕ
+none_value = 4294967295
 
 pub record Signature : Type 0 where
   pub fluents : List Const
@@ -13,6 +17,10 @@ pub record Signature : Type 0 where
 -- by number: the fluents, then the actions
 abbrev pub ground_constants : Signature → List Const
 ground_constants signature = signature.fluents ++ signature.actions
+
+-- the number of the ground constant of this symbol with these arguments
+abbrev pub ground_number : List Const → ℕ → List ℕ → Option ℕ
+ground_number constants symbol args = position (λ constant. (constant.symbol == symbol) && pointwise nat_eq constant.args args) constants
 
 -- how many positions a horizon has
 abbrev pub position_count : Signature → ℕ → ℕ

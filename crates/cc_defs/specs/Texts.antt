@@ -1,12 +1,10 @@
 -- The printed texts.
-use Rattle.std.specs.Prelude.{ℕ, ◌+◌, ◌==◌, ◌&&◌, if◌then◌else◌, Bool, false, List, [], ◌∷◌, ◌++◌, length, zero, suc, is_none, unwrap_or, slice_get, slice_index, option_map, codes, decimal, map}
+use Rattle.std.specs.Prelude.{ℕ, ◌+◌, ◌==◌, if◌then◌else◌, Bool, List, [], ◌∷◌, ◌++◌, length, zero, suc, unwrap_or, slice_get, slice_index, option_map, codes, decimal, map}
 use Rattle.std.specs.List.{join_with_byte}
 use Rattle.cc_defs.specs.declared.signature.Const.{Const}
 use Rattle.cc_defs.specs.Description.{Description, values_at}
-
--- the number that stands for the value `none`
-abbrev pub none_value : ℕ
-none_value = 4294967295
+use Rattle.cc_defs.specs.Signatures.{none_value}
+use Rattle.cc_defs.specs.Universe.{is_boolean_symbol}
 
 -- a key: the horizon, a colon, and the indexes with a comma between them
 abbrev pub key_text : ℕ → List ℕ → List ℕ
@@ -17,7 +15,7 @@ object_text d object = if object == none_value then codes "none" else unwrap_or 
 
 -- the name of a constant's symbol
 abbrev pub symbol_text : Description → ℕ → List ℕ
-symbol_text d symbol = unwrap_or (option_map (λ declared. declared.name) (slice_get d.symbols symbol)) []
+symbol_text d symbol = unwrap_or (option_map (λ declared. declared.name) (slice_get d.universe.symbols symbol)) []
 
 -- arguments in parentheses, with a comma between them
 abbrev pub arguments_text : Description → List ℕ → List ℕ
@@ -27,9 +25,8 @@ arguments_text d (object ∷ objects) = codes "(" ++ join_with_byte 44 (map (obj
 abbrev pub constant_text : Description → Const → List ℕ
 constant_text d constant = symbol_text d constant.symbol ++ arguments_text d constant.args
 
--- whether a constant is Boolean: of the sort `boolean`, which is sort 0, and no attribute
 abbrev pub is_boolean : Description → Const → Bool
-is_boolean d constant = unwrap_or (option_map (λ declared. (declared.domain == 0) && is_none declared.attribute) (slice_get d.symbols constant.symbol)) false
+is_boolean d constant = is_boolean_symbol (slice_get d.universe.symbols constant.symbol)
 
 -- a constant with its value: a Boolean one by its name where it is true, and not at all where it is false
 abbrev pub shown : Description → Const → ℕ → List ℕ
@@ -45,10 +42,10 @@ constants_shown d (constant ∷ constants) number valuation =
 
 -- the line of a state, and that of the actions of a step
 abbrev pub state_text : Description → List ℕ → ℕ → List ℕ
-state_text d row step = decimal step ++ codes ":" ++ constants_shown d d.fluents 0 (values_at d row step) ++ 10 ∷ []
+state_text d row step = decimal step ++ codes ":" ++ constants_shown d d.universe.fluents 0 (values_at d row step) ++ 10 ∷ []
 
 abbrev pub actions_text : Description → List ℕ → ℕ → List ℕ
-actions_text d row step = codes "ACTIONS:" ++ constants_shown d d.actions (length d.fluents) (values_at d row step) ++ 10 ∷ []
+actions_text d row step = codes "ACTIONS:" ++ constants_shown d d.universe.actions (length d.universe.fluents) (values_at d row step) ++ 10 ∷ []
 
 -- a history: its states, with the actions between them
 abbrev pub history_text : Description → ℕ → List ℕ → List ℕ

@@ -1,5 +1,5 @@
 //! Examples whose answers are known beforehand, each the contract of a function with no body.
-ghost use Rattle.cc_defs.specs.Examples.{EmptyRowIsState, SimpleFluentsAreFree, DeterminedNeedsCause, OneValueNeedsNoCause, CausesThatDifferClash, CausesMayStandInCircle, FalsityForbids, LampHasSoManyRules, LampTurns, LampStays, LampDoesNothingElse, LampTurnsTwice, LampEndsOnInTwoWays, KeysAreWritten, LampHistoryIsWritten, AttributeShowsNone, SortsHaveObjects, DeclarationsAreRefused, ConstantsAreGround, AttributesAreRefused, EmptyDomainsAreRefused};
+ghost use Rattle.cc_defs.specs.Examples.{EmptyRowIsState, SimpleFluentsAreFree, DeterminedNeedsCause, OneValueNeedsNoCause, CausesThatDifferClash, CausesMayStandInCircle, FalsityForbids, LampHasSoManyRules, LampTurns, LampStays, LampDoesNothingElse, LampTurnsTwice, LampEndsOnInTwoWays, KeysAreWritten, LampHistoryIsWritten, AttributeShowsNone, SortsHaveObjects, DeclarationsAreRefused, ConstantsAreGround, AttributesAreRefused, EmptyDomainsAreRefused, TestsDropEnvironments, LawsStandForAllObjects, BracketsGoOverObjects, ActionsAreNotTogether, PairsAreInOrder};
 
 fn empty_row_is_state()
     ensures { EmptyRowIsState }
@@ -65,6 +65,26 @@ fn attribute_shows_none()
     ensures { AttributeShowsNone }
 {}
 
+fn tests_drop_environments()
+    ensures { TestsDropEnvironments }
+{}
+
+fn laws_stand_for_all_objects()
+    ensures { LawsStandForAllObjects }
+{}
+
+fn brackets_go_over_objects()
+    ensures { BracketsGoOverObjects }
+{}
+
+fn actions_are_not_together()
+    ensures { ActionsAreNotTogether }
+{}
+
+fn pairs_are_in_order()
+    ensures { PairsAreInOrder }
+{}
+
 fn sorts_have_objects()
     ensures { SortsHaveObjects }
 {}
@@ -103,6 +123,11 @@ fn examples_hold() {
     keys_are_written();
     lamp_history_is_written();
     attribute_shows_none();
+    tests_drop_environments();
+    laws_stand_for_all_objects();
+    brackets_go_over_objects();
+    actions_are_not_together();
+    pairs_are_in_order();
     sorts_have_objects();
     declarations_are_refused();
     constants_are_ground();

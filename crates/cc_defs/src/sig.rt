@@ -2,8 +2,7 @@
 ghost use Rattle.std.specs.Prelude.{◌≡◌, ◌+◌, ◌<◌, ◌∷◌, ◌++◌, ◌%◌, length, slice_get, option_map, Some};
 ghost use Rattle.std.specs.Ordering.{nat_cmp};
 ghost use Rattle.std.specs.Cmp.Lexicographic.{slice_cmp};
-ghost use Rattle.cc_defs.specs.Formulas.{ground_number};
-ghost use Rattle.cc_defs.specs.Signatures.{Signature, IsSignature, AreOrdered, place, ground_constants, position_count};
+ghost use Rattle.cc_defs.specs.Signatures.{Signature, IsSignature, AreOrdered, place, ground_constants, ground_number, position_count};
 
 use crate::Const;
 use std::cmp::Ordering;

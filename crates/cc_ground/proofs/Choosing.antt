@@ -6,8 +6,8 @@ use Rattle.std.specs.Result.{OnOk}
 use Rattle.std.proofs.lemmas.List.{at_drop_all, at_drop_more, map-append, map-id}
 use Rattle.std.proofs.lemmas.Grind.{flat_map-append}
 use Rattle.std.proofs.lemmas.List.Elements.{filter-append}
-use Rattle.cc_arena.specs.declared.laws.GroundHead.{GroundHead}
-use Rattle.cc_arena.specs.declared.laws.GroundLaw.{GroundLaw}
+use Rattle.cc_arena.specs.declared.ground_laws.GroundHead.{GroundHead}
+use Rattle.cc_arena.specs.declared.ground_laws.GroundLaw.{GroundLaw}
 use Rattle.cc_defs.specs.declared.law.BaseLaw.{BaseLaw as BaseLawTree}
 use Rattle.cc_defs.specs.declared.law.BaseLaw.TheVariants as base_laws
 use Rattle.cc_defs.specs.declared.law.Law.{Law as LawTree}
@@ -16,10 +16,10 @@ use Rattle.cc_defs.specs.Resolved.{Law, plain_base_law, plain_law}
 use Rattle.cc_ground.specs.declared.maker.Halt.{Halt}
 use Rattle.cc_ground.specs.declared.maker.Maker.{Maker}
 use Rattle.cc_ground.specs.Counting.{nodes_in}
-use Rattle.cc_ground.specs.Environments.{choices, passes, range_values}
-use Rattle.cc_ground.specs.Grounding.{PlainGroundLaw, ground_head, ground_laws, ground_laws_from, ground_laws_of, instance_of, law_with}
-use Rattle.cc_ground.specs.Universe.{Universe}
-use Rattle.cc_ground.specs.Views.{HasMade, IsLike, LacksRoom, instances_behind, plain_ground_law, universe_in}
+use Rattle.cc_defs.specs.Environments.{choices, passes, range_values}
+use Rattle.cc_arena.specs.Grounding.{PlainGroundLaw, ground_head, ground_laws, ground_laws_from, ground_laws_of, instance_of, law_with, plain_ground_law}
+use Rattle.cc_defs.specs.Universe.{Universe}
+use Rattle.cc_ground.specs.Views.{HasMade, IsLike, LacksRoom, instances_behind, universe_in}
 use Rattle.cc_ground.proofs.Actions.{front_behind}
 use Rattle.cc_ground.proofs.Making.{MadeSoFar, made_end, made_more, made_lacks}
 use Rattle.cc_ground.proofs.Popping.{popped}

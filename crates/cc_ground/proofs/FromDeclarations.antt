@@ -11,14 +11,13 @@ use Rattle.cc_defs.specs.declared.signature.Const.{Const}
 use Rattle.cc_defs.specs.declared.signature.Kind.{Kind}
 use Rattle.cc_defs.specs.declared.signature.Symbol.{Symbol}
 use Rattle.cc_defs.specs.Declarations.{Declaration, Declared, Named, members, numbers_where, is_below, pairs, objects, symbols, symbol_of, constants, kind_of_constant, is_action, domain_of, value_sort, instances, ground_of, ground_from, ground_fluents, ground_actions}
-use Rattle.cc_defs.specs.Signatures.{Signature, ground_constants}
-use Rattle.cc_defs.specs.Texts.{none_value}
+use Rattle.cc_defs.specs.Signatures.{Signature, none_value}
 use Rattle.cc_defs.specs.Trees.{PlainKind}
 use Rattle.cc_defs.specs.Trees as trees
 use Rattle.cc_sorts.specs.declared.table.Placed.{Placed}
 use Rattle.cc_sorts.specs.Tables.{TableView, IsTable, IsSignatureOf, placed_from}
 use Rattle.cc_ground.specs.declared.maker.Maker.{Maker}
-use Rattle.cc_ground.specs.Universe.{Universe, universe}
+use Rattle.cc_defs.specs.Universe.{Universe, HaveOwnValues, constants_in, universe}
 use Rattle.cc_ground.specs.Views.{universe_in, universe_of, IsSignatureFor, IsSearchable, AreSearchable}
 
 -- ---- the universe of a table and a signature
@@ -28,8 +27,8 @@ symbols_placed : (declarations : List Declaration) (found : List Declared) →
 symbols_placed declarations [] = refl
 symbols_placed declarations (constant ∷ others) = ap (λ (w : List Symbol). symbol_of declarations constant ∷ w) (symbols_placed declarations others)
 
-abbrev made : List (List ℕ) → List Symbol → List Const → Universe
-made sorts symbols constants = record { sorts = sorts; symbols = symbols; constants = constants }
+abbrev made : List (List ℕ) → List Symbol → Signature → Universe
+made sorts symbols signature = record { sorts = sorts; symbols = symbols; fluents = signature.fluents; actions = signature.actions }
 
 abbrev symbols_in : List Placed → List Symbol
 symbols_in placed = map (λ p. p.symbol) placed
@@ -37,10 +36,10 @@ symbols_in placed = map (λ p. p.symbol) placed
 pub universe_is : (table : TableView) (declarations : List Declaration) (signature : Signature) → IsTable table declarations → IsSignatureOf declarations signature →
     universe_of table signature ≡ universe declarations
 universe_is table declarations signature is of =
-    ap (λ (w : List (List ℕ)). made w (symbols_in table.symbols) (ground_constants signature)) is.members_are
-    ∙ ap (λ (w : List Symbol). made (universe declarations).sorts w (ground_constants signature))
+    ap (λ (w : List (List ℕ)). made w (symbols_in table.symbols) signature) is.members_are
+    ∙ ap (λ (w : List Symbol). made (universe declarations).sorts w signature)
     (ap symbols_in is.symbols_are ∙ symbols_placed declarations (constants declarations))
-    ∙ ap (λ (w : Signature). made (universe declarations).sorts (symbols declarations) (ground_constants w)) of.1
+    ∙ ap (λ (w : Signature). made (universe declarations).sorts (symbols declarations) w) of.1
 
 -- ---- the numbers of the items that pass a test ascend, and are below those behind all items
 
@@ -114,7 +113,7 @@ module _ (P : List ℕ → Type 0) (declarations : List Declaration) (each : (ki
       ])
       (from_all passes (number + 1) others)
 
-  pub constants_all : AllByRecursion (λ (c : Const). P c.domain) (universe declarations).constants
+  pub constants_all : AllByRecursion (λ (c : Const). P c.domain) (constants_in (universe declarations))
   constants_all =
       append_all (ground_fluents declarations) (ground_actions declarations) (from_all (λ kind. not (is_action kind)) 0 (constants declarations)) (from_all is_action 0 (constants declarations))
 
@@ -159,5 +158,5 @@ domain_distinct declarations few (trees.Attribute sort action) =
     few_from_none : 0 + length (objects declarations) ≤ none_value
     few_from_none = omega arith
 
-pub distinct : (declarations : List Declaration) → length (objects declarations) ≤ none_value → AllByRecursion (λ (c : Const). IsDistinct nat_eq c.domain) (universe declarations).constants
+pub distinct : (declarations : List Declaration) → length (objects declarations) ≤ none_value → HaveOwnValues (universe declarations)
 distinct declarations few = constants_all (IsDistinct nat_eq) declarations (domain_distinct declarations few)

@@ -3,11 +3,9 @@ pub mod Choosing
 pub mod FromDeclarations
 pub mod Making
 pub mod Meant
-pub mod NamesOfTerms
 pub mod Popping
 pub mod Putting
 pub mod Querying
 pub mod Searching
 pub mod Tallies
 pub mod Testing
-pub mod Truths

@@ -1,12 +1,13 @@
 -- Laws that are made behind others, and the room that is left for their nodes.
-use Rattle.std.proofs.Common.{◌≡◌, ◌∙◌, ℕ, ◌+◌, List, [], ◌∷◌, ◌++◌, map, refl, sym, ap, append_assoc, append-nil, arith}
+use Rattle.std.proofs.Common.{◌≡◌, ◌∙◌, ℕ, ◌+◌, List, [], ◌∷◌, ◌++◌, map, IfOk, Ok, Err, Result, refl, sym, ap, subst, append_assoc, append-nil, arith}
 use Rattle.std.proofs.lemmas.List.{map-append}
-use Rattle.cc_arena.specs.declared.laws.GroundLaw.{GroundLaw}
+use Rattle.cc_arena.specs.declared.ground_laws.GroundLaw.{GroundLaw}
 use Rattle.cc_ground.specs.declared.maker.Halt.{Halt}
 use Rattle.cc_ground.specs.declared.maker.Maker.{Maker}
 use Rattle.cc_ground.specs.Counting.{nodes_in}
-use Rattle.cc_ground.specs.Grounding.{PlainGroundLaw, pair_law, pairs_of}
-use Rattle.cc_ground.specs.Views.{HasMade, IsLike, LacksRoom, plain_ground_law}
+use Rattle.cc_arena.specs.Grounding.{PlainGroundLaw, pair_law, plain_ground_law}
+use Rattle.cc_defs.specs.Environments.{pairs_of}
+use Rattle.cc_ground.specs.Views.{HasMade, IsLike, LacksRoom}
 use Rattle.cc_ground.proofs.Putting.{lacks_more, like_both}
 
 pub nodes_in-append : (laws more : List PlainGroundLaw) → nodes_in (laws ++ more) ≡ nodes_in laws + nodes_in more
@@ -55,3 +56,8 @@ first_pairs base one others left e =
     ap (λ (l : List ℕ). map (pair_law base) (pairs_of l)) e
     ∙ map-append (pair_law base) (map (λ (other : ℕ). (one, other)) others) (pairs_of others)
     ∙ ap (λ (l : List PlainGroundLaw). l ++ map (pair_law base) (pairs_of others)) (map_pairs base one others)
+
+-- what holds of what a result was made to be holds of it
+pub as_made : {A E B : Type 0} (view : A → B) (P : B → Type 0) (result : Result A E) (made : B) → P made → IfOk result (λ a. view a ≡ made) → IfOk result (λ a. P (view a))
+as_made view P (Ok a) made holds e = subst P (sym e) holds
+as_made view P (Err fault) made holds e = tt

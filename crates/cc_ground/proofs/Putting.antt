@@ -13,10 +13,10 @@ use Rattle.cc_defs.specs.Resolved as resolved
 use Rattle.cc_ground.specs.declared.maker.Halt.{Halt}
 use Rattle.cc_ground.specs.declared.maker.Halt.TheVariants as halts
 use Rattle.cc_ground.specs.declared.maker.Maker.{Maker}
-use Rattle.cc_ground.specs.Grounding.{nodes_of}
-use Rattle.cc_ground.specs.Nodes.{Side, add_common, commons, equation, instances, two, constant_side, numbered_side, side, term_of, value_side}
-use Rattle.cc_ground.specs.Universe.{Universe, objects_of}
-use Rattle.cc_ground.specs.Satisfaction.{constant_meant}
+use Rattle.cc_arena.specs.Grounding.{nodes_of}
+use Rattle.cc_arena.specs.Nodes.{Side, add_common, commons, equation, instances, two, constant_side, numbered_side, side, term_of, value_side}
+use Rattle.cc_defs.specs.Universe.{Universe, constants_in, objects_of}
+use Rattle.cc_defs.specs.Satisfaction.{constant_meant}
 use Rattle.cc_ground.specs.Views.{AreSearchable, HasPut, IsLike, IsSearchable, IsSideSearchable, LacksRoom, universe_in, universe_of}
 use Rattle.cc_ground.proofs.Popping.{popped}
 
@@ -237,7 +237,7 @@ found_searchable number (constant ∷ constants) (suc place) all = found_searcha
 
 numbered_searchable : (u : Universe) (found : Option ℕ) → AreSearchable u → IsSideSearchable (numbered_side u found)
 numbered_searchable u None all = tt
-numbered_searchable u (Some number) all = found_searchable number u.constants number all
+numbered_searchable u (Some number) all = found_searchable number (constants_in u) number all
 
 value_searchable : (found : Option ℕ) → IsSideSearchable (value_side found)
 value_searchable None = tt

@@ -1,7 +1,7 @@
 -- The conditions of a query, one behind another.
 use Rattle.std.proofs.Common.{◌≡◌, ◌∙◌, ℕ, ◌+◌, ◌<◌, ◌≤◌, List, ◌∷◌, ◌++◌, length, drop, map, get_or, Option, Some, None, unwrap_or, sym, ap, subst, arith, rules, tests}
 use Rattle.std.proofs.lemmas.List.{at_drop_more}
-use Rattle.cc_arena.specs.declared.laws.GroundCondition.{GroundCondition}
+use Rattle.cc_arena.specs.declared.ground_laws.GroundCondition.{GroundCondition}
 use Rattle.cc_defs.specs.declared.law.Condition.{Condition as ConditionTree}
 use Rattle.cc_defs.specs.declared.refusal.Fault.{Fault}
 use Rattle.cc_defs.specs.declared.refusal.Fault.TheVariants as faults
@@ -16,9 +16,9 @@ use Rattle.cc_ground.specs.declared.maker.Halt.{Halt}
 use Rattle.cc_ground.specs.declared.maker.Halt.TheVariants as halts
 use Rattle.cc_ground.specs.declared.maker.Maker.{Maker}
 use Rattle.cc_ground.specs.Counting.{node_refusal, nodes_of_conditions}
-use Rattle.cc_ground.specs.Grounding.{PlainGroundCondition, ground_condition, ground_query}
-use Rattle.cc_ground.specs.Universe.{Universe, universe}
-use Rattle.cc_ground.specs.Views.{IsLike, IsRefusedBy, LacksRoom, plain_ground_condition, universe_in}
+use Rattle.cc_arena.specs.Grounding.{PlainGroundCondition, ground_condition, ground_query, plain_ground_condition}
+use Rattle.cc_defs.specs.Universe.{Universe, universe}
+use Rattle.cc_ground.specs.Views.{IsLike, IsRefusedBy, LacksRoom, universe_in}
 use Rattle.cc_ground.proofs.FromDeclarations.{maker_universe, universe_is}
 use Rattle.cc_ground.proofs.Putting.{lacks_more, same_universe}
 

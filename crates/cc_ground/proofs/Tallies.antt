@@ -4,9 +4,8 @@ use Rattle.std.proofs.Math.Nat.{mul_assoc, mul-le-mul_right}
 use Rattle.std.proofs.lemmas.List.{length-map}
 use Rattle.std.proofs.lemmas.Bool.{cases_lt}
 use Rattle.cc_defs.specs.declared.law.Range.{Range}
-use Rattle.cc_ground.specs.Environments.{choices, range_values}
-use Rattle.cc_ground.specs.Grounding.{pairs_of}
-use Rattle.cc_ground.specs.Universe.{Universe}
+use Rattle.cc_defs.specs.Environments.{choices, range_values, pairs_of}
+use Rattle.cc_defs.specs.Universe.{Universe}
 
 module _ {X : Type 0} where
   pub at_index : (xs : List X) (i : ℕ) (d : X) → i < length xs → drop i xs ≡ get_or xs i d ∷ drop (i + 1) xs

@@ -3,8 +3,8 @@ use Rattle.std.proofs.Common.{◌≡◌, ◌∙◌, ℕ, ◌+◌, ◌<◌, ◌�
 use Rattle.std.proofs.lemmas.List.{at_drop_more, at_drop_all}
 use Rattle.std.specs.List.{list_all, list_any}
 use Rattle.cc_defs.specs.Resolved.{Formula}
-use Rattle.cc_ground.specs.Environments.{passes}
-use Rattle.cc_ground.specs.Universe.{Universe}
+use Rattle.cc_defs.specs.Environments.{passes}
+use Rattle.cc_defs.specs.Universe.{Universe}
 
 -- with the object behind the environment
 pub passed_here : (u : Universe) (test : Formula) (env now pushed : List ℕ) (object : ℕ) (passed : Bool) → passed ≡ passes u test pushed → pushed ≡ now ++ object ∷ [] → now ≡ env →

@@ -7,9 +7,9 @@ use Rattle.cc_defs.specs.DeclarationFaults.{limit_refusal}
 use Rattle.cc_defs.specs.Limits.{limit_number}
 use Rattle.cc_defs.specs.Resolved.{BaseLaw}
 use Rattle.cc_defs.specs.Resolved as resolved
-use Rattle.cc_ground.specs.Environments.{choices, range_values}
-use Rattle.cc_ground.specs.Grounding.{PlainGroundLaw, PlainGroundCondition, PlainGroundQuery, boolean_actions, ground_laws, pairs_of}
-use Rattle.cc_ground.specs.Universe.{Universe}
+use Rattle.cc_defs.specs.Environments.{choices, range_values, pairs_of}
+use Rattle.cc_arena.specs.Grounding.{PlainGroundLaw, PlainGroundCondition, PlainGroundQuery, ground_laws}
+use Rattle.cc_defs.specs.Universe.{boolean_actions, Universe}
 
 -- lists of values of a law's ranges, or pairs of Boolean actions
 abbrev pub instance_count : Universe → BaseLaw → ℕ

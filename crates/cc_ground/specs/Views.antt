@@ -2,21 +2,16 @@
 use Rattle.std.specs.Prelude.{◌≡◌, ℕ, ◌+◌, ◌<◌, List, [], ◌∷◌, ◌++◌, length, map, flat_map, ◌==◌, if◌then◌else◌, Option, Some}
 use Rattle.std.specs.List.{AllByRecursion, filter}
 use Rattle.std.specs.List.Sorted.{IsStrictlySortedBy}
-use Rattle.std.specs.Option.{option_map}
 use Rattle.std.specs.Ordering.{nat_cmp}
-use Rattle.cc_arena.specs.declared.laws.GroundCondition.{GroundCondition}
-use Rattle.cc_arena.specs.declared.laws.GroundLaw.{GroundLaw}
-use Rattle.cc_arena.specs.declared.laws.GroundQuery.{GroundQuery}
-use Rattle.cc_arena.specs.declared.laws.Laws.{Laws}
+use Rattle.cc_arena.specs.declared.ground_laws.GroundLaw.{GroundLaw}
 use Rattle.cc_defs.specs.declared.law.Range.{Range}
 use Rattle.cc_defs.specs.declared.node.Node.{Node}
 use Rattle.cc_defs.specs.declared.refusal.Fault.{Fault}
 use Rattle.cc_defs.specs.declared.refusal.Fault.TheVariants as faults
 use Rattle.cc_defs.specs.declared.refusal.Refusal.{Refusal}
 use Rattle.cc_defs.specs.Declarations.{Declaration}
-use Rattle.cc_defs.specs.Texts.{none_value}
 use Rattle.cc_defs.specs.Resolved.{Law}
-use Rattle.cc_defs.specs.Signatures.{Signature, ground_constants}
+use Rattle.cc_defs.specs.Signatures.{Signature, none_value}
 use Rattle.cc_sorts.specs.Tables.{TableView, IsTable, IsSignatureOf}
 use Rattle.cc_ground.specs.declared.maker.Halt.{Halt}
 use Rattle.cc_ground.specs.declared.maker.Halt.TheVariants as halts
@@ -24,17 +19,18 @@ use Rattle.cc_ground.specs.declared.maker.Maker.{Maker}
 use Rattle.cc_ground.specs.declared.sides.Side.{Side as SideKept}
 use Rattle.cc_ground.specs.declared.sides.Side.TheVariants as sides
 use Rattle.cc_ground.specs.Counting.{nodes_in}
-use Rattle.cc_ground.specs.Environments.{choices, passes, range_values}
-use Rattle.cc_ground.specs.Grounding.{PlainGroundLaw, PlainGroundCondition, PlainGroundQuery, instance_of}
-use Rattle.cc_ground.specs.Nodes.{Side, Constant, Value, Absent}
-use Rattle.cc_ground.specs.Universe.{Universe}
+use Rattle.cc_defs.specs.Environments.{choices, passes, range_values}
+use Rattle.cc_arena.specs.Grounding.{PlainGroundLaw, plain_ground_law, instance_of}
+use Rattle.cc_arena.specs.Nodes.{Side, Constant, Value, Absent}
+use Rattle.cc_defs.specs.Universe.{Universe, constants_in}
 
 -- what a table and a signature are about
 abbrev pub universe_of : TableView → Signature → Universe
 universe_of table signature = record {
   sorts = table.sorts.members;
   symbols = map (λ placed. placed.symbol) table.symbols;
-  constants = ground_constants signature;
+  fluents = signature.fluents;
+  actions = signature.actions;
 }
 
 -- the signature was got from the table
@@ -47,7 +43,7 @@ IsSearchable [] = Unit {0}
 IsSearchable (value ∷ values) = IsStrictlySortedBy nat_cmp (if value == none_value then values else value ∷ values)
 
 abbrev pub AreSearchable : Universe → Type 0
-AreSearchable u = AllByRecursion (λ constant. IsSearchable constant.domain) u.constants
+AreSearchable u = AllByRecursion (λ constant. IsSearchable constant.domain) (constants_in u)
 
 -- what a maker of terms speaks of
 abbrev pub universe_in : Maker → Universe
@@ -78,31 +74,6 @@ pub record HasPut (nodes : List Node) (old new : Maker) : Type 0 where
 abbrev pub LacksRoom : ℕ → ℕ → Halt → Type 0
 LacksRoom count room halts.Full = room < count
 LacksRoom count room halts.OutOfMemory = Unit {0}
-
--- ---- ground laws and queries apart from where their terms lie
-
-abbrev pub plain_ground_law : GroundLaw → PlainGroundLaw
-plain_ground_law law = record {
-  head = law.head;
-  body = law.body.now;
-  after = option_map (λ nodes. nodes.now) law.after;
-  kind = law.kind;
-  base = law.base;
-}
-
-abbrev pub plain_ground_laws : Laws → List PlainGroundLaw
-plain_ground_laws laws = map plain_ground_law laws.laws.items
-
-abbrev pub plain_ground_condition : GroundCondition → PlainGroundCondition
-plain_ground_condition condition = record { at = condition.at; nodes = condition.nodes.now }
-
-abbrev pub plain_ground_query : GroundQuery → PlainGroundQuery
-plain_ground_query query = record {
-  lo = query.lo;
-  hi = query.hi;
-  conditions = map plain_ground_condition query.conditions.conditions.items;
-  claim = option_map plain_ground_condition query.claim;
-}
 
 -- these laws were made behind those that are there
 pub record HasMade (laws : List PlainGroundLaw) (was is_now : List GroundLaw) (old new : Maker) : Type 0 where

@@ -1,13 +1,13 @@
 //! Whether the test of a law is true under an environment. No constant has a value in it.
 ghost use Rattle.std.specs.Prelude.{◌≡◌, ◌∷◌, ◌++◌, [], IfOk, OnOk};
 ghost use Rattle.std.specs.List.{list_all, list_any};
-ghost use Rattle.cc_defs.specs.Formulas.{same_value};
+ghost use Rattle.cc_defs.specs.Satisfaction.{same_value};
 ghost use Rattle.cc_defs.specs.Resolved.{plain_formula, plain_term};
 ghost use Rattle.cc_defs.specs.Resolved as resolved;
 ghost use Rattle.cc_defs.specs.Signatures.{Signature};
-ghost use Rattle.cc_ground.specs.Environments.{passes as is_passed, without_constants};
-ghost use Rattle.cc_ground.specs.Satisfaction as words;
-ghost use Rattle.cc_ground.specs.Universe.{objects_of as objects_in};
+ghost use Rattle.cc_defs.specs.Environments.{passes as is_passed, without_constants};
+ghost use Rattle.cc_defs.specs.Satisfaction as words;
+ghost use Rattle.cc_defs.specs.Universe.{objects_of as objects_in};
 ghost use Rattle.cc_ground.specs.Views.{universe_of};
 ghost use Rattle.cc_sorts.specs.Tables.{TableView};
 

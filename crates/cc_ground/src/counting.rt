@@ -2,8 +2,7 @@
 ghost use Rattle.std.specs.Prelude.{◌≡◌, ◌≤◌, ◌*◌, ℕ, List as Items, min, length, map, IfOk};
 ghost use Rattle.cc_defs.specs.Resolved.{plain_base_law};
 ghost use Rattle.cc_ground.specs.Counting.{instance_count, instances_of_all};
-ghost use Rattle.cc_ground.specs.Environments.{choices, range_values};
-ghost use Rattle.cc_ground.specs.Grounding.{pairs_of};
+ghost use Rattle.cc_defs.specs.Environments.{choices, range_values, pairs_of};
 ghost use Rattle.cc_ground.specs.Views.{universe_of};
 
 use crate::pairs::boolean_actions_of;

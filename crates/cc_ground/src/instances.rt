@@ -8,18 +8,21 @@ ghost use Rattle.cc_defs.specs.declared.refusal.Fault.TheVariants as faults;
 ghost use Rattle.cc_defs.specs.Resolved.{plain_base_law, plain_formula, plain_head, plain_law};
 ghost use Rattle.cc_sorts.specs.Tables.{IsTable, IsSignatureOf};
 ghost use Rattle.cc_ground.specs.Counting.{length_of_part, laws_refusal, nodes_in};
-ghost use Rattle.cc_ground.specs.Environments.{passes as is_passed};
-ghost use Rattle.cc_ground.specs.Grounding as words;
-ghost use Rattle.cc_ground.specs.Grounding.{nodes_of};
-ghost use Rattle.cc_ground.specs.Universe.{universe};
-ghost use Rattle.cc_ground.specs.Views.{AreSearchable, HasMade, IsLike, IsRefusedBy, IsSideSearchable, IsSignatureFor, LacksRoom, instances_behind, plain_ground_laws, plain_side, universe_in, universe_of};
+ghost use Rattle.cc_defs.specs.Environments.{passes as is_passed};
+ghost use Rattle.cc_arena.specs.Grounding as words;
+ghost use Rattle.cc_arena.specs.Meanings.{MeanLaws};
+ghost use Rattle.cc_arena.specs.Grounding.{nodes_of, plain_ground_laws};
+ghost use Rattle.cc_defs.specs.Universe.{universe};
+ghost use Rattle.cc_ground.specs.Views.{AreSearchable, HasMade, IsLike, IsRefusedBy, IsSideSearchable, IsSignatureFor, LacksRoom, instances_behind, plain_side, universe_in, universe_of};
 
 use crate::conditions::passes;
 use crate::counting::count_all;
+use crate::laws::declared_have_own_values;
 use crate::maker::{Halt, Maker, narrow};
 use crate::pairs::boolean_actions_of;
 use crate::sides::{Side, constant_side, term_side};
 use crate::values::{index_in, values_in_range};
+use cc_arena::laws::ground_laws_mean_laws;
 use cc_arena::{GroundHead, GroundLaw, Laws, Terms};
 use cc_defs::{
     BaseLaw, BaseLaws, Fault, Formula, Head, Law, LimitAt, Node, OutOfMemory, Range, Refusal, Sig,
@@ -241,7 +244,8 @@ fn ground_laws<'a>(
 /// The ground laws of base laws: for each base law in order, and each environment of it in order, the law's instance. An
 /// environment is a list of a value for each range of the law, for which the law's test is true; the values of a sort are the
 /// objects of it and of those below it in declared order, and earlier variables change slowest. `noconcurrency` has a law for
-/// each two Boolean actions. Terms are placed in the arena; none is longer than what is left of the limit of ground nodes.
+/// each two Boolean actions. Each part of an instance is true exactly where that of its law is satisfied under the environment.
+/// Terms are placed in the arena; none is longer than what is left of the limit of ground nodes.
 /// Refuses more than 1,000,000 lists of values before the tests (14, law instances), then more than 16,000,000 nodes (14,
 /// ground nodes).
 pub fn ground<'a>(
@@ -258,6 +262,10 @@ pub fn ground<'a>(
         OnOk result (laws_refusal (universe declarations) (map plain_base_law laws.now) ≡ None) }
     ensures refused { (declarations : Items Declaration) → IsTable table.now declarations → IsSignatureOf declarations sig.now →
         IfErr result (IsRefusedBy (laws_refusal (universe declarations) (map plain_base_law laws.now))) }
+    ensures meant { (declarations : Items Declaration) → IsTable table.now declarations → IsSignatureOf declarations sig.now →
+        IfOk result (λ made. MeanLaws (universe declarations) (map plain_base_law laws.now) (plain_ground_laws made)) }
 {
+    declared_have_own_values();
+    ground_laws_mean_laws();
     ground_laws(alloc, table, sig, laws, terms)
 }

@@ -4,9 +4,9 @@ ghost use Rattle.cc_arena.specs.Terms.{postfix, postfixes, operand_count, nothin
 ghost use Rattle.cc_arena.specs.Terms as terms;
 ghost use Rattle.cc_defs.specs.Resolved.{plain_formula, plain_term};
 ghost use Rattle.cc_defs.specs.Resolved as resolved;
-ghost use Rattle.cc_ground.specs.Grounding.{nodes_of};
-ghost use Rattle.cc_ground.specs.Nodes as words;
-ghost use Rattle.cc_ground.specs.Universe.{objects_of as objects_in};
+ghost use Rattle.cc_arena.specs.Grounding.{nodes_of};
+ghost use Rattle.cc_arena.specs.Nodes as words;
+ghost use Rattle.cc_defs.specs.Universe.{objects_of as objects_in};
 ghost use Rattle.cc_ground.specs.Views.{AreSearchable, HasPut, IsLike, IsSearchable, IsSideSearchable, LacksRoom, plain_side, universe_in};
 
 use crate::sides::{Side, term_side};

@@ -2,7 +2,9 @@
 ghost use Rattle.std.specs.Prelude.{◌≡◌, ◌∷◌, [], length, map, slice_get, IfOk, IfErr, OnOk};
 ghost use Rattle.cc_defs.specs.Signatures.{Signature, ground_constants};
 ghost use Rattle.cc_ground.specs.Counting.{nodes_in};
-ghost use Rattle.cc_ground.specs.Grounding.{boolean_actions, is_boolean_action as is_boolean, is_boolean_symbol as is_boolean_kind, pair_law, pairs_of};
+ghost use Rattle.cc_arena.specs.Grounding.{pair_law};
+ghost use Rattle.cc_defs.specs.Environments.{pairs_of};
+ghost use Rattle.cc_defs.specs.Universe.{boolean_actions, is_boolean_action as is_boolean, is_boolean_symbol as is_boolean_kind};
 ghost use Rattle.cc_ground.specs.Views.{universe_of, HasMade, LacksRoom};
 
 use crate::maker::{Halt, Maker, narrow};

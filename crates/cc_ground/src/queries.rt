@@ -5,12 +5,16 @@ ghost use Rattle.cc_defs.specs.Declarations.{Declaration};
 ghost use Rattle.cc_defs.specs.Resolved.{plain_condition, plain_query};
 ghost use Rattle.cc_sorts.specs.Tables.{IsTable, IsSignatureOf};
 ghost use Rattle.cc_ground.specs.Counting.{node_refusal, nodes_in_query, nodes_of_claim, nodes_of_conditions};
-ghost use Rattle.cc_ground.specs.Grounding as words;
-ghost use Rattle.cc_ground.specs.Universe.{universe};
-ghost use Rattle.cc_ground.specs.Views.{AreSearchable, IsLike, IsRefusedBy, IsSignatureFor, LacksRoom, plain_ground_condition, plain_ground_query, universe_in, universe_of};
+ghost use Rattle.cc_arena.specs.Grounding as words;
+ghost use Rattle.cc_arena.specs.Meanings.{MeansQuery};
+ghost use Rattle.cc_defs.specs.Universe.{universe};
+ghost use Rattle.cc_arena.specs.Grounding.{plain_ground_condition, plain_ground_query};
+ghost use Rattle.cc_ground.specs.Views.{AreSearchable, IsLike, IsRefusedBy, IsSignatureFor, LacksRoom, universe_in, universe_of};
 
 use crate::instances::past;
+use crate::laws::declared_have_own_values;
 use crate::maker::{Halt, Maker};
+use cc_arena::laws::ground_queries_mean_queries;
 use cc_arena::{GroundCondition, GroundConditions, GroundQuery, Terms};
 use cc_defs::{Condition, Fault, LimitAt, Query, Sig};
 use cc_sorts::Table;
@@ -102,7 +106,8 @@ impl<'t> Maker<'t> {
     }
 }
 
-/// The ground query of a query that has its range of horizons. Its conditions and its claim have the terms of their formulas.
+/// The ground query of a query that has its range of horizons. Its conditions and its claim have the terms of their formulas,
+/// which are true exactly where these are satisfied.
 /// Refuses more than 16,000,000 nodes of these (14, ground nodes).
 pub fn ground_query<'a>(
     alloc: Global,
@@ -119,7 +124,11 @@ pub fn ground_query<'a>(
         OnOk result (node_refusal (nodes_in_query (words.ground_query (universe declarations) range (plain_query query.now))) ≡ None) }
     ensures refused { (declarations : Items Declaration) (range : ℕ × ℕ) → IsTable table.now declarations → IsSignatureOf declarations sig.now → query.now.range ≡ Some range →
         IfErr result (IsRefusedBy (node_refusal (nodes_in_query (words.ground_query (universe declarations) range (plain_query query.now))))) }
+    ensures meant { (declarations : Items Declaration) (range : ℕ × ℕ) → IsTable table.now declarations → IsSignatureOf declarations sig.now → query.now.range ≡ Some range →
+        IfOk result (λ made. MeansQuery (universe declarations) (plain_query query.now) (plain_ground_query made)) }
 {
+    declared_have_own_values();
+    ground_queries_mean_queries();
     let range = query.range.unwrap_or((0, 0));
     let mut maker = Maker::new(alloc, table, sig, LimitAt::GroundNodes.number() as usize);
     match maker.query(alloc, *terms, range, query) {

@@ -1,12 +1,11 @@
 //! Terms under an environment, and the sides of equations.
 ghost use Rattle.std.specs.Prelude.{◌≡◌, IfOk, length, map, nat_lt, option_map, slice_get};
 ghost use Rattle.cc_defs.specs.Signatures.{ground_constants};
-ghost use Rattle.cc_defs.specs.Resolved.{plain_term};
+ghost use Rattle.cc_defs.specs.Resolved.{plain_term, terms_of};
 ghost use Rattle.cc_defs.specs.Resolved as resolved;
-ghost use Rattle.cc_ground.specs.Grounding.{listed};
-ghost use Rattle.cc_ground.specs.Nodes.{side as side_of, numbered_side as numbered};
+ghost use Rattle.cc_arena.specs.Nodes.{side as side_of, numbered_side as numbered};
 ghost use Rattle.cc_sorts.specs.Tables.{TableView};
-ghost use Rattle.cc_ground.specs.Satisfaction as words;
+ghost use Rattle.cc_defs.specs.Satisfaction as words;
 ghost use Rattle.cc_ground.specs.Views.{universe_of, plain_side};
 
 use crate::values::NONE;
@@ -45,7 +44,7 @@ fn argument(env: &[u32], term: &Term) -> Option<u32>
 
 /// The objects that arguments stand for, where all of them stand for one.
 fn arguments(alloc: Global, env: &[u32], terms: &[Term]) -> Result<Option<Vec<u32>>, OutOfMemory>
-    ensures { IfOk result (λ found. option_map (λ args. args.items) found ≡ words.arguments env.now (listed (map plain_term terms.now))) }
+    ensures { IfOk result (λ found. option_map (λ args. args.items) found ≡ words.arguments env.now (terms_of (map plain_term terms.now))) }
 {
     let mut args = Vec::with_capacity(alloc, terms.len())?;
     for term in terms {
@@ -65,7 +64,7 @@ fn constant_meant(
     symbol: u32,
     terms: &[Term],
 ) -> Result<Option<u32>, OutOfMemory>
-    ensures { (table : TableView) → IfOk result (λ found. found ≡ words.constant_meant (universe_of table sig.now) env.now symbol (listed (map plain_term terms.now))) }
+    ensures { (table : TableView) → IfOk result (λ found. found ≡ words.constant_meant (universe_of table sig.now) env.now symbol (terms_of (map plain_term terms.now))) }
 {
     match arguments(alloc, env, terms)? {
         Some(args) => Ok(sig.ground_number(symbol, &args)),
@@ -101,7 +100,7 @@ pub(crate) fn constant_side<'t>(
     symbol: u32,
     terms: &[Term],
 ) -> Result<Side<'t>, OutOfMemory>
-    ensures { (table : TableView) → IfOk result (λ side. plain_side side ≡ side_of (universe_of table sig.now) env.now (resolved.Constant symbol (listed (map plain_term terms.now)))) }
+    ensures { (table : TableView) → IfOk result (λ side. plain_side side ≡ side_of (universe_of table sig.now) env.now (resolved.Constant symbol (terms_of (map plain_term terms.now)))) }
 {
     Ok(numbered_side(sig, constant_meant(alloc, sig, env, symbol, terms)?))
 }

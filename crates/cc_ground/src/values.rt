@@ -2,9 +2,9 @@
 ghost use Rattle.std.specs.Prelude.{◌≡◌, ◌<◌, length, position, nat_eq, slice_get, slice_index_or, Some, IfSome, []};
 ghost use Rattle.std.specs.List.Sorted.{IsStrictlySortedBy};
 ghost use Rattle.std.specs.Ordering.{nat_cmp};
-ghost use Rattle.cc_defs.specs.Texts.{none_value};
-ghost use Rattle.cc_ground.specs.Environments.{range_values};
-ghost use Rattle.cc_ground.specs.Universe.{objects_of, values_of as values_in};
+ghost use Rattle.cc_defs.specs.Signatures.{none_value};
+ghost use Rattle.cc_defs.specs.Environments.{range_values};
+ghost use Rattle.cc_defs.specs.Universe.{objects_of, values_of as values_in};
 ghost use Rattle.cc_ground.specs.Views.{universe_of, IsSearchable};
 
 use cc_defs::{Range, Sig};
@@ -23,7 +23,7 @@ pub(crate) struct Values<'t> {
 
 impl<'t> Model for Values<'t> {
     ghost use Rattle.std.specs.Prelude.{List, ℕ, ◌∷◌, if◌then◌else◌};
-    ghost use Rattle.cc_defs.specs.Texts.{none_value};
+    ghost use Rattle.cc_defs.specs.Signatures.{none_value};
 
     ghost Value = { List ℕ };
 

@@ -1,27 +1,28 @@
 -- The instances of a table are the instances of its declarations.
-use Rattle.std.proofs.Common.{◌≡◌, ◌∙◌, ℕ, zero, suc, ◌+◌, ◌<◌, ◌≤◌, ◌^◌, Bool, true, false, not, ◌&&◌, ◌||◌, cond, nat_lt, List, [], ◌∷◌, ◌++◌, length, map, flat_map, slice_get, slice_index_or, Option, Some, None, inl, inr, refl, sym, ap, subst, arith, length-append}
-use Rattle.std.specs.Prelude.{if◌then◌else◌, IsTrue}
-use Rattle.std.specs.List.{AllByRecursion, list_any, list_all, find}
+use Rattle.std.proofs.Common.{◌≡◌, ◌∙◌, ℕ, zero, suc, ◌+◌, ◌<◌, ◌≤◌, ◌^◌, Bool, true, false, nat_lt, List, [], ◌∷◌, ◌++◌, length, map, flat_map, slice_get, slice_index_or, Option, Some, None, inl, inr, refl, sym, ap, arith, length-append}
+use Rattle.std.specs.Prelude.{if◌then◌else◌}
+use Rattle.std.specs.List.{list_all, find}
 use Rattle.std.proofs.lemmas.Bool.{cases_lt, lt-ltb}
+use Rattle.std.proofs.lemmas.List.{length-map}
 use Rattle.std.proofs.lemmas.List.Folds.{list_any-append}
 use Rattle.cc_defs.specs.declared.refusal.LimitAt.TheVariants as limits
 use Rattle.cc_defs.specs.declared.refusal.Refusal.{Refusal}
 use Rattle.cc_defs.specs.declared.signature.Const.{Const}
 use Rattle.cc_defs.specs.declared.signature.Kind.{Kind}
 use Rattle.cc_defs.specs.DeclarationFaults.{is_empty, empty_refusal, passes_domain_values, count_refusal, limit_refusal, refusal_of_first, signature_refusal}
-use Rattle.cc_defs.specs.Declarations.{Declaration, Declared, sort_names, constants, constant_names, members, number_in, domain_of, instances, ground_of, ground_from, is_action, kind_of_constant, value_sort, ground_fluents, ground_actions, pairs, objects, variables}
-use Rattle.cc_defs.specs.Signatures.{Signature, IsSignature, AreOrdered, AreShort}
+use Rattle.cc_defs.specs.Declarations.{Declaration, Declared, Named, sort_names, constants, constant_names, members, number_in, domain_of, instances, ground_of, ground_from, kind_of_constant, value_sort, ground_fluents, ground_actions, objects}
+use Rattle.cc_defs.specs.Signatures.{Signature, IsSignature, AreOrdered, AreShort, none_value}
 use Rattle.cc_defs.specs.Trees.{PlainKind}
 use Rattle.cc_defs.specs.Trees as trees
-use Rattle.cc_defs.specs.Texts.{none_value}
 use Rattle.cc_sorts.specs.declared.table.Placed.{Placed}
-use Rattle.cc_sorts.specs.Instances.{with_none, values_by, rows_by, constant_by, passes, instances_by, instances_from, all_instances, refusal_at, first_refusal, refusal_by}
-use Rattle.cc_sorts.specs.SortViews.{SortsView, members_at}
+use Rattle.cc_defs.specs.Universe.{with_none}
+use Rattle.cc_sorts.specs.Instances.{rows_by, constant_by, passes, instances_from, all_instances, refusal_at, first_refusal, refusal_by}
+use Rattle.cc_sorts.specs.SortViews.{members_at}
 use Rattle.cc_sorts.specs.Steps.{action_in}
-use Rattle.cc_sorts.specs.Tables.{TableView, IsTable, IsSignatureOf}
-use Rattle.cc_sorts.proofs.Names.{is_among, and_true, or_false, IsThere, is_there}
+use Rattle.cc_sorts.specs.Tables.{TableView, Numbered, IsTable, IsSignatureOf}
+use Rattle.cc_sorts.proofs.Names.{is_among, and_true, or_false, is_there}
 use Rattle.cc_sorts.proofs.Wheres.{at_map}
-use Rattle.cc_sorts.proofs.Grown.{Has, has_of, placed_by, AreShaped, HaveValues, members_by}
+use Rattle.cc_sorts.proofs.Grown.{has_of, placed_by, AreShaped, HaveValues}
 
 module _ (table : TableView) (left : List Declaration) (is : IsTable table left) where
   objects_are : (sort : List ℕ) → is_among (sort_names left) sort ≡ true → members_at table.sorts (number_in (sort_names left) sort) ≡ members left sort
@@ -134,9 +135,13 @@ pub refused_of : (table : TableView) (refusal : Refusal) → Some refusal ≡ re
 refused_of table refusal e left is = sym (refusal_is table left is) ∙ sym e
 
 pub made_of : (table : TableView) (signature : Signature) (fluents actions : List Const) → refusal_by table ≡ None → signature ≡ record { fluents = fluents; actions = actions } →
-    fluents ≡ instances_from table.sorts false 0 table.symbols → actions ≡ instances_from table.sorts true 0 table.symbols → (left : List Declaration) → IsTable table left → IsSignatureOf left signature
-made_of table signature fluents actions none s f a left is = (
+    fluents ≡ instances_from table.sorts false 0 table.symbols → actions ≡ instances_from table.sorts true 0 table.symbols → length table.objects ≤ none_value →
+    (left : List Declaration) → IsTable table left → IsSignatureOf left signature
+made_of table signature fluents actions none s f a numbered_all left is = (
   sym (refusal_is table left is) ∙ none,
   s ∙ ap (λ (w : List Const). record { fluents = w; actions = actions }) (f ∙ fluents_are table left is)
       ∙ ap (λ (w : List Const). record { fluents = ground_fluents left; actions = w }) (a ∙ actions_are table left is),
+  let there : length table.objects ≡ length (objects left) =
+      ap (λ (w : List Numbered). length w) is.objects_are ∙ length-map (objects left) (λ (o : Named). (o.0, number_in (sort_names left) o.1))
+      in omega (arith, numbered_all, there),
 )

@@ -1,18 +1,18 @@
 -- The table behind a declaration without a fault is the table of the declarations with it.
-use Rattle.std.proofs.Common.{◌≡◌, ◌∙◌, ℕ, zero, suc, ◌+◌, ◌<◌, Bool, true, false, ◌&&◌, ◌||◌, List, [], ◌∷◌, ◌++◌, length, map, flat_map, reverse, Option, Some, None, slice_index_or, codes, refl, sym, ap, subst, arith, append_assoc}
-use Rattle.std.specs.Prelude.{if◌then◌else◌, IsTrue}
-use Rattle.std.specs.List.{AllByRecursion, list_any, list_all}
-use Rattle.std.proofs.lemmas.List.{append-nil, reverse-append, map-append}
+use Rattle.std.proofs.Common.{◌≡◌, ◌∙◌, ℕ, Bool, true, false, ◌||◌, List, [], ◌∷◌, ◌++◌, map, flat_map, reverse, Option, Some, None, slice_index_or, codes, refl, sym, ap, subst, append_assoc}
+use Rattle.std.specs.Prelude.{if◌then◌else◌}
+use Rattle.std.specs.List.{list_any}
+use Rattle.std.proofs.lemmas.List.{append-nil, reverse-append}
 use Rattle.std.proofs.lemmas.List.Folds.{list_any-append}
-use Rattle.cc_defs.specs.Declarations.{Declaration, Sort, Link, Subsort, Object, Variable, Constant, Kinds, Declared, Named, Pair, boolean, sort_named, sort_names, pair_declared, pairs, object_declared, objects, variable_declared, variables, constant_declared, constants, constant_names, number_in, is_below, firsts_behind}
-use Rattle.cc_defs.specs.DeclarationFaults.{is_sort, is_taken}
+use Rattle.cc_defs.specs.Declarations.{Declaration, Sort, Link, Subsort, Object, Variable, Constant, Kinds, Declared, Named, Pair, boolean, sort_named, sort_names, pair_declared, pairs, object_declared, objects, variable_declared, variables, constant_declared, constants, constant_names, is_below, firsts_behind}
+use Rattle.cc_defs.specs.DeclarationFaults.{is_sort}
 use Rattle.cc_defs.specs.Grammar.{same_text}
 use Rattle.cc_sorts.specs.Dictionaries.{number_of, names_of}
-use Rattle.cc_sorts.specs.SortViews.{SortsView, name_at, with_sort, with_pair}
+use Rattle.cc_sorts.specs.SortViews.{name_at, with_sort, with_pair}
 use Rattle.cc_sorts.specs.Steps.{with_sorts, put_sort, new_sort, put_pair, new_pair, found_pair, put_object, new_object, found_object, put_variable, new_variable, found_variable, put_symbol, new_symbol, found_symbol, placed_in, behind, behind_all, IsClear, IsClearPair, IsClearName, IsClearConstant, AllClear}
 use Rattle.cc_sorts.specs.Tables.{TableView, Numbered, IsTable, symbol_names}
-use Rattle.cc_sorts.proofs.Names.{is_among, any_front, any_map, or_false, or_right, same_self, not_there, IsThere, is_there, firsts_end, flat_end}
-use Rattle.cc_sorts.proofs.Grown.{Has, has_of, table_of, numbered_by, names_in, named_symbols, has_sort, has_pair, has_object, has_variable, has_symbol}
+use Rattle.cc_sorts.proofs.Names.{is_among, any_front, any_map, or_false, or_right, same_self, not_there, is_there, firsts_end, flat_end}
+use Rattle.cc_sorts.proofs.Grown.{has_of, table_of, numbered_by, named_symbols, has_sort, has_pair, has_object, has_variable, has_symbol}
 
 -- ---- the lists of one declaration more
 

@@ -1,5 +1,5 @@
 -- The least number of a fault, by what each pass found.
-use Rattle.std.proofs.Common.{◌≡◌, ℕ, Bool, true, false, if◌then◌else◌, Option, Some, None, refl, ap, ◌∙◌}
+use Rattle.std.proofs.Common.{◌≡◌, ℕ, Bool, true, false, if◌then◌else◌, Option, Some, None, ap, ◌∙◌}
 
 abbrev pub chosen : Bool → Bool → Bool → Bool → Option ℕ
 chosen twice unknown count sort = if twice then Some 4 else (if unknown then Some 5 else (if count then Some 6 else (if sort then Some 7 else None)))

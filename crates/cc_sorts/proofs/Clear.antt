@@ -1,17 +1,17 @@
 -- The declarations of a statement without a fault are clear.
-use Rattle.std.proofs.Common.{◌≡◌, ◌∙◌, ℕ, Bool, true, false, not, ◌&&◌, ◌||◌, cond, List, [], ◌∷◌, ◌++◌, length, map, flat_map, Option, Some, None, refl, sym, ap, subst, arith, append_assoc}
-use Rattle.std.specs.Prelude.{if◌then◌else◌, IsTrue}
-use Rattle.std.specs.List.{list_any, list_all, find}
+use Rattle.std.proofs.Common.{◌≡◌, ◌∙◌, ℕ, Bool, true, false, not, ◌&&◌, ◌||◌, cond, List, [], ◌∷◌, ◌++◌, map, flat_map, Option, Some, None, refl, sym, ap, subst, append_assoc}
+use Rattle.std.specs.Prelude.{if◌then◌else◌}
+use Rattle.std.specs.List.{list_any, find}
 use Rattle.std.proofs.lemmas.List.{append-nil}
-use Rattle.cc_defs.specs.Declarations.{Declaration, Sort, Link, Subsort, Object, Variable, Constant, Kinds, Declared, boolean, sort_names, pairs, constants, constant_names, constant_declared, is_below, value_sort, chain_behind, sort_declarations, object_declarations, variable_declarations, constant_declarations, part_declarations, declarations_of}
-use Rattle.cc_defs.specs.DeclarationFaults.{is_sort, are_sorts, is_taken, is_twice, is_unknown, has_unknown, has_wrong_count, has_wrong_sort, has_other_sorts, any_has, declaration_fault, constant_named, declared_sorts, is_plain, is_boolean_action, same_sorts}
+use Rattle.cc_defs.specs.Declarations.{Declaration, Sort, Link, Subsort, Object, Variable, Constant, Kinds, Declared, constants, constant_names, constant_declared, value_sort, chain_behind, sort_declarations, object_declarations, variable_declarations, constant_declarations, part_declarations, declarations_of}
+use Rattle.cc_defs.specs.DeclarationFaults.{is_sort, are_sorts, is_taken, is_twice, is_unknown, has_unknown, has_wrong_count, has_wrong_sort, any_has, declaration_fault, constant_named, is_plain, is_boolean_action}
 use Rattle.cc_defs.specs.Grammar.{same_text}
 use Rattle.cc_defs.specs.Trees.{PlainShape, PlainSortItem, PlainListItem, PlainKind, PlainConstItem, PlainPart, PlainStatement}
 use Rattle.cc_defs.specs.Trees as trees
-use Rattle.cc_sorts.specs.Steps.{IsClear, IsClearPair, IsClearName, IsClearConstant, AllClear}
+use Rattle.cc_sorts.specs.Steps.{IsClearPair, IsClearName, IsClearConstant, AllClear}
 use Rattle.cc_sorts.specs.Tables.{has_action}
 use Rattle.cc_sorts.proofs.Names.{is_among, or_false, and_true, flat_end}
-use Rattle.cc_sorts.proofs.Behind.{known_link, known_more, names_same, constants_same}
+use Rattle.cc_sorts.proofs.Behind.{known_link, known_more, names_same}
 
 -- ---- no fault
 

@@ -1,6 +1,5 @@
 -- Tests of lists of texts.
-use Rattle.std.proofs.Common.{◌≡◌, ◌∙◌, ℕ, suc, ◌+◌, ◌<◌, length, slice_get, arith, Bool, true, false, cond, ◌||◌, nat_eq, List, [], ◌∷◌, ◌++◌, map, flat_map, reverse, Option, Some, None, position, is_some, refl, sym, ap, subst}
-use Rattle.std.specs.Cmp.Lexicographic.{pointwise, bytes_decides}
+use Rattle.std.proofs.Common.{◌≡◌, ◌∙◌, ℕ, suc, ◌+◌, ◌<◌, length, slice_get, arith, Bool, true, false, cond, ◌||◌, List, [], ◌∷◌, map, Some, None, is_some, refl, sym, ap}
 use Rattle.std.specs.List.{list_any, find, position_from}
 use Rattle.std.proofs.lemmas.Option.{slice_get_within}
 use Rattle.std.proofs.lemmas.Iterator.Adapters.{position_from-zero}

@@ -1,5 +1,5 @@
 -- What a statement's declarations make of a table.
-use Rattle.std.proofs.Common.{◌≡◌, ◌∙◌, ℕ, ◌+◌, ◌-◌, ◌*◌, ◌<◌, ◌≤◌, ◌^◌, Bool, true, false, nat_lt, List, [], ◌∷◌, ◌++◌, length, map, flat_map, Option, Some, None, Result, Ok, Err, IfErr, IsErrAnd, refl, sym, ap, subst, arith, length-append}
+use Rattle.std.proofs.Common.{◌≡◌, ◌∙◌, ℕ, ◌+◌, ◌-◌, ◌<◌, ◌≤◌, Bool, true, false, nat_lt, List, [], ◌++◌, length, flat_map, Option, Some, None, Result, Ok, Err, IfErr, IsErrAnd, refl, sym, ap, subst, arith, length-append}
 use Rattle.std.proofs.lemmas.Bool.{lt-ltb, le-ltb}
 use Rattle.cc_defs.specs.declared.refusal.Fault.{Fault}
 use Rattle.cc_defs.specs.declared.refusal.Fault.TheVariants as faults
@@ -7,13 +7,13 @@ use Rattle.std.proofs.lemmas.List.{append-nil, length-map}
 use Rattle.std.proofs.lemmas.Grind.{flat_map-append}
 use Rattle.cc_defs.specs.declared.refusal.LimitAt.TheVariants as limits
 use Rattle.cc_defs.specs.declared.refusal.Refusal.{Refusal}
-use Rattle.cc_defs.specs.DeclarationFaults.{refusal_for, object_count, declaration_fault, declaration_refusal}
+use Rattle.cc_defs.specs.DeclarationFaults.{refusal_for, object_count, declaration_fault}
 use Rattle.cc_defs.specs.Declarations.{Declaration, Named, object_declared, objects, number_in, sort_names, declarations_of}
 use Rattle.cc_defs.specs.Limits.{limit_number}
 use Rattle.cc_defs.specs.Trees.{PlainStatement}
-use Rattle.cc_sorts.specs.Declaring.{plain_declarations, plain_declaration}
+use Rattle.cc_sorts.specs.Declaring.{plain_declarations}
 use Rattle.cc_sorts.specs.declared.declaration.Declaration as declarations
-use Rattle.cc_sorts.specs.Steps.{HasRoom, IsFrontOf, behind_all, AllClear, judged_refusal}
+use Rattle.cc_sorts.specs.Steps.{IsFrontOf, behind_all, AllClear, judged_refusal}
 use Rattle.cc_sorts.specs.Tables.{TableView, Numbered, IsTable, Declares, HasFront}
 use Rattle.cc_sorts.proofs.Behind.{behind_all_is, clear_front}
 use Rattle.cc_sorts.proofs.Clear.{all_clear}

@@ -1,6 +1,5 @@
 -- Entries by name: a name is where its key is, and a new key goes last.
-use Rattle.std.proofs.Common.{◌≡◌, ◌∙◌, ℕ, ◌+◌, ◌<◌, Bool, true, false, cond, nat_eq, List, [], ◌∷◌, ◌++◌, map, Option, Some, None, position, slice_get, option_map, refl, sym, ap}
-use Rattle.std.specs.Cmp.Lexicographic.{pointwise}
+use Rattle.std.proofs.Common.{◌≡◌, ◌∙◌, ℕ, ◌+◌, Bool, true, false, cond, List, [], ◌∷◌, ◌++◌, map, Option, Some, None, position, slice_get, option_map, refl, sym, ap}
 use Rattle.std.specs.List.{position_from}
 use Rattle.std.specs.Map.{keys_of}
 use Rattle.std.proofs.lemmas.Iterator.Adapters.{position_from-zero}

@@ -1,8 +1,8 @@
 -- Whether an action has the sorts of an attribute's action, by names and by numbers.
-use Rattle.std.proofs.Common.{◌≡◌, ◌≢◌, ◌⊎◌, inl, inr, eqb, ◌∙◌, ℕ, zero, suc, ◌==◌, ◌&&◌, ◌||◌, Bool, true, false, cond, List, [], ◌∷◌, map, length, get_or, drop, Option, Some, None, is_none, is_some, IsTrue, position, unwrap_or, refl, sym, ap, subst, arith, ◌<◌, ◌+◌, add-one, drop-cons}
+use Rattle.std.proofs.Common.{◌≡◌, ◌≢◌, ◌⊎◌, inl, inr, eqb, ◌∙◌, ℕ, zero, suc, ◌==◌, ◌&&◌, Bool, true, false, cond, List, [], ◌∷◌, map, length, get_or, drop, Option, Some, None, is_none, is_some, IsTrue, unwrap_or, refl, sym, ap, subst, ◌<◌, ◌+◌, add-one, drop-cons}
 use Rattle.std.specs.Cmp.Lexicographic.{pointwise, bytes_decides}
 use Rattle.std.specs.List.{list_all, list_any, find, AllByRecursion}
-use Rattle.std.specs.Option.{option_map, option_or}
+use Rattle.std.specs.Option.{option_map}
 use Rattle.std.proofs.lemmas.Bool.Decides.{eqb_tells}
 use Rattle.std.proofs.lemmas.Iterator.Adapters.{position_from-zero}
 use denote.Bor.{Bor}
@@ -11,15 +11,15 @@ use Rattle.std.proofs.Math.Dec.{eqb-suc-zero, eqb-zero-suc}
 use Rattle.cc_defs.specs.declared.signature.Symbol.{Symbol}
 use Rattle.cc_defs.specs.declared.tree.Shape.{Shape}
 use Rattle.cc_defs.specs.DeclarationFaults.{is_sort, are_sorts, constant_named, same_sorts, is_plain}
-use Rattle.cc_defs.specs.Declarations.{Declaration, Declared, boolean, constants, symbol_of, number_in, sort_names, is_action, kind_of_constant, value_sort, action_of}
+use Rattle.cc_defs.specs.Declarations.{Declaration, Declared, boolean, constants, symbol_of, number_in, sort_names, value_sort, action_of}
 use Rattle.cc_defs.specs.Grammar.{same_text}
 use Rattle.cc_defs.specs.Trees.{PlainShape, PlainKind, plain_shape}
 use Rattle.cc_defs.specs.Trees as trees
 use Rattle.cc_sorts.specs.Dictionaries.{number_of}
 use Rattle.cc_sorts.specs.Lefts.{shaped, left_constant, table_symbol, IsLeft, action_fits, shaped_fits, is_boolean_kind, is_boolean_symbol, is_numbered, are_numbered, numbers_fit}
-use Rattle.cc_sorts.specs.Tables.{TableView, IsTable}
+use Rattle.cc_sorts.specs.Tables.{TableView}
 use Rattle.cc_sorts.specs.declared.left.Left.{Left}
-use Rattle.cc_sorts.proofs.Counts.{IsOfTable, of_table, new_known}
+use Rattle.cc_sorts.proofs.Counts.{of_table, new_known}
 use Rattle.cc_sorts.proofs.Lefts.{same_swap}
 use Rattle.cc_sorts.proofs.Decided.{is_some_number}
 

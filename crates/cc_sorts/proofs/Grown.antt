@@ -1,21 +1,18 @@
 -- A table behind one more declaration without a fault is the table of the declarations with it.
-use Rattle.std.proofs.Common.{◌≡◌, ◌∙◌, ℕ, zero, suc, ◌+◌, ◌<◌, Bool, true, false, ◌&&◌, ◌||◌, List, [], ◌∷◌, ◌++◌, length, map, flat_map, reverse, Option, Some, None, slice_index_or, unwrap_or, codes, refl, sym, ap, subst, arith}
+use Rattle.std.proofs.Common.{◌≡◌, ◌∙◌, ℕ, ◌+◌, ◌<◌, Bool, true, false, ◌&&◌, ◌||◌, List, [], ◌∷◌, ◌++◌, length, map, Option, Some, slice_index_or, refl, sym, ap, subst, arith}
 use Rattle.std.specs.Prelude.{if◌then◌else◌, IsTrue}
-use Rattle.std.specs.List.{AllByRecursion, list_any, list_all}
-use Rattle.std.proofs.lemmas.List.{append-nil, reverse-append, map-append, length-map}
-use Rattle.cc_defs.specs.Declarations.{Declaration, Sort, Link, Subsort, Object, Variable, Constant, Kinds, Declared, Named, Pair, boolean, sort_named, sort_names, pair_declared, pairs, object_declared, objects, variable_declared, variables, constant_declared, constants, constant_names, symbols, symbol_of, action_of, members, number_in, numbers_where, is_below, value_sort, firsts_behind}
-use Rattle.cc_defs.specs.DeclarationFaults.{is_taken}
+use Rattle.std.specs.List.{AllByRecursion, list_all}
+use Rattle.std.proofs.lemmas.List.{append-nil, map-append, length-map}
+use Rattle.cc_defs.specs.Declarations.{Declaration, Declared, Named, Pair, sort_names, pairs, objects, variables, constants, constant_names, symbol_of, action_of, number_in, numbers_where, is_below, value_sort}
 use Rattle.cc_defs.specs.Grammar.{same_text}
 use Rattle.cc_defs.specs.Trees.{PlainShape, PlainKind}
 use Rattle.cc_defs.specs.Trees as trees
-use Rattle.cc_defs.specs.declared.signature.Symbol.{Symbol}
 use Rattle.cc_sorts.specs.declared.table.Placed.{Placed}
-use Rattle.cc_sorts.specs.Dictionaries.{number_of, names_of}
 use Rattle.cc_sorts.specs.Numbers.{union}
-use Rattle.cc_sorts.specs.SortViews.{SortsView, name_at, members_at, with_sort, with_pair, with_object, changed_above}
-use Rattle.cc_sorts.specs.Steps.{with_sorts, put_sort, new_sort, put_pair, new_pair, found_pair, put_object, new_object, found_object, put_variable, new_variable, found_variable, put_symbol, new_symbol, found_symbol, placed_in, symbol_in, action_in, behind, behind_all, IsClear, IsClearPair, IsClearName, IsClearConstant, AllClear}
-use Rattle.cc_sorts.specs.Tables.{TableView, Numbered, IsTable, AreKnown, has_action, place_symbol, placed_from, symbol_names}
-use Rattle.cc_sorts.proofs.Names.{is_among, any_front, any_map, or_false, and_true, number_front, not_there, IsThere, is_there, AreAmong, below_other, firsts_end, flat_end}
+use Rattle.cc_sorts.specs.SortViews.{name_at, members_at, with_sort, with_pair, changed_above}
+use Rattle.cc_sorts.specs.Steps.{with_sorts, new_object, new_variable, new_symbol, placed_in, symbol_in, action_in}
+use Rattle.cc_sorts.specs.Tables.{TableView, Numbered, IsTable, has_action, placed_from, symbol_names}
+use Rattle.cc_sorts.proofs.Names.{is_among, any_front, and_true, number_front, AreAmong, below_other}
 use Rattle.cc_sorts.proofs.Wheres.{where_end, where_same, where_none, where_or, changed_map, at_map}
 
 -- ---- a table by its names, pairs, objects, variables and constants

@@ -1,6 +1,6 @@
 -- What is left of a declaration, and another declaration behind it.
 use Rattle.std.proofs.Common.{◌≡◌, ◌∙◌, ℕ, Bool, true, false, cond, ◌||◌, ◌&&◌, List, [], ◌∷◌, ◌++◌, map, flat_map, reverse, if◌then◌else◌, Option, Some, None, codes, refl, sym, ap, subst}
-use Rattle.std.specs.Cmp.Lexicographic.{pointwise, bytes_decides}
+use Rattle.std.specs.Cmp.Lexicographic.{bytes_decides}
 use Rattle.std.specs.List.{list_any, list_all, find}
 use Rattle.std.specs.Map.{lookup}
 use Rattle.std.specs.Option.{option_map, option_or}
@@ -8,11 +8,11 @@ use Rattle.std.proofs.lemmas.Grind.{flat_map-append}
 use Rattle.std.proofs.lemmas.List.{map-append, append-nil, reverse-append}
 use Rattle.std.proofs.lemmas.List.Folds.{list_any-append, find-append}
 use Rattle.cc_defs.specs.DeclarationFaults.{is_sort, are_sorts, is_taken, same_pair, constant_named}
-use Rattle.cc_defs.specs.Declarations.{Declaration, Sort, Link, Subsort, Object, Variable, Constant, Kinds, Declared, Named, Pair, boolean, firsts_behind, sort_named, sort_names, pair_declared, pairs, object_declared, objects, variable_declared, variables, constant_declared, constants, constant_names, number_in, symbol_of, symbols}
+use Rattle.cc_defs.specs.Declarations.{Declaration, Sort, Link, Subsort, Object, Variable, Constant, Kinds, Declared, Named, Pair, boolean, firsts_behind, sort_named, pair_declared, pairs, object_declared, objects, variable_declared, variables, constant_declared, constants, constant_names, symbol_of}
 use Rattle.cc_defs.specs.Grammar.{same_text}
 use Rattle.cc_sorts.specs.Dictionaries.{names_of}
-use Rattle.cc_sorts.specs.Tables.{TableView, Numbered, numbered, placed_from, symbol_names, IsTable}
-use Rattle.cc_sorts.specs.Lefts.{plain_pair, uppers_in, has_sort, has_name, left_has_sort, left_has_name, left_has_pair, IsLeft, Adds, takes, shaped, plain_constant, left_constant}
+use Rattle.cc_sorts.specs.Tables.{TableView, numbered, placed_from, IsTable}
+use Rattle.cc_sorts.specs.Lefts.{plain_pair, uppers_in, has_sort, has_name, left_has_sort, IsLeft, Adds, takes, shaped, plain_constant, left_constant}
 use Rattle.cc_sorts.specs.declared.left.Constant.{Constant as Constant'}
 use Rattle.cc_sorts.specs.declared.left.Left.{Left}
 use denote.Bor.{Bor}

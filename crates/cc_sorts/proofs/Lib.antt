@@ -13,6 +13,7 @@ pub mod Entries
 pub mod Fitting
 pub mod Growing
 pub mod Grown
+pub mod Known
 pub mod Lefts
 pub mod Listed
 pub mod Names

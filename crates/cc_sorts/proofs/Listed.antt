@@ -1,20 +1,17 @@
 -- Instances, their rows of arguments and their counts.
-use Rattle.std.proofs.Common.{◌≡◌, ◌∙◌, ℕ, zero, suc, ◌+◌, ◌-◌, ◌*◌, ◌<◌, ◌≤◌, min, ◌⊎◌, inl, inr, Bool, true, false, not, ◌&&◌, ◌||◌, cond, nat_lt, List, [], ◌∷◌, ◌++◌, length, map, flat_map, take, drop, slice_get, option_map, Option, Some, None, Bor, get_or, refl, sym, ap, subst, arith, length-append, append_assoc, add-one, mul-le-mul}
+use Rattle.std.proofs.Common.{◌≡◌, ◌∙◌, ℕ, zero, suc, ◌+◌, ◌*◌, ◌<◌, ◌≤◌, min, inl, inr, Bool, true, false, not, ◌&&◌, ◌||◌, cond, nat_lt, List, [], ◌∷◌, ◌++◌, length, map, flat_map, take, drop, slice_get, option_map, Option, Some, None, get_or, refl, sym, ap, arith, length-append, append_assoc, mul-le-mul}
 use Rattle.std.specs.Prelude.{if◌then◌else◌, ◌==◌}
 use Rattle.std.specs.List.{AllByRecursion, list_any, find}
-use Rattle.std.proofs.lemmas.Bool.{cases_lt, lt-ltb, le-ltb}
+use Rattle.std.proofs.lemmas.Bool.{cases_lt, lt-ltb}
 use Rattle.std.proofs.Math.Dec.{eqb-suc-zero}
 use Rattle.std.proofs.lemmas.List.{append-nil, map-append, length-map}
 use Rattle.std.proofs.lemmas.List.Folds.{list_any-append}
 use Rattle.std.proofs.lemmas.Grind.{flat_map-append}
 use Rattle.cc_defs.specs.declared.signature.Const.{Const}
-use Rattle.cc_defs.specs.declared.signature.Symbol.{Symbol}
 use Rattle.cc_defs.specs.DeclarationFaults.{is_empty, passes_domain_values}
 use Rattle.cc_sorts.specs.declared.table.Placed.{Placed}
-use Rattle.cc_sorts.specs.Instances.{values_by, rows_by, constant_by, passes, instances_by, instances_from, all_instances}
+use Rattle.cc_sorts.specs.Instances.{values_by, rows_by, constant_by, passes, instances_by, instances_from}
 use Rattle.cc_sorts.specs.SortViews.{SortsView, members_at}
-use Rattle.cc_sorts.specs.Tables.{TableView}
-use Rattle.cc_sorts.proofs.Walks.{mapped_more}
 
 -- ---- counts that stop
 

@@ -1,8 +1,7 @@
 -- An ascending list of numbers is that of the items that pass a test, where it has just the numbers of these.
 use Rattle.std.proofs.Common.{◌≡◌, ◌∙◌, ℕ, zero, suc, ◌+◌, ◌<◌, ◌≤◌, Bool, true, false, cond, ◌||◌, List, [], ◌∷◌, length, inl, inr, ◌⊎◌, refl, sym, ap, subst, arith}
-use Rattle.std.specs.Prelude.{◌==◌}
 use Rattle.std.specs.List.{AllByRecursion}
-use Rattle.std.proofs.lemmas.Bool.{eq-eqb, eqb-true, ne_eqb, false≢true}
+use Rattle.std.proofs.lemmas.Bool.{eq-eqb, ne_eqb}
 use Rattle.cc_defs.specs.Declarations.{Pair, is_below, numbers_where}
 use Rattle.cc_sorts.specs.declared.sorts.Sorts.TheInside.{Inside}
 use Rattle.cc_sorts.specs.Dictionaries.{names_of}

@@ -1,12 +1,10 @@
 -- A pass over declarations in order, each judged by what stands to its left.
-use Rattle.std.proofs.Common.{◌≡◌, ◌∙◌, ℕ, ◌+◌, ◌<◌, ◌≤◌, Bool, true, false, ◌||◌, List, [], ◌∷◌, ◌++◌, map, take, drop, length, get_or, suc, refl, sym, ap, append_assoc, add-one, drop-cons}
-use Rattle.std.proofs.lemmas.List.{map-append, drop_all}
-use Rattle.std.proofs.Math.Seq.{take-suc}
+use Rattle.std.proofs.Common.{◌≡◌, ◌∙◌, ℕ, ◌+◌, ◌<◌, ◌≤◌, Bool, true, false, ◌||◌, List, [], ◌∷◌, ◌++◌, drop, length, get_or, suc, sym, ap, add-one, drop-cons}
+use Rattle.std.proofs.lemmas.List.{drop_all}
 use Rattle.cc_defs.specs.DeclarationFaults.{any_has}
 use Rattle.cc_defs.specs.Declarations.{Declaration}
 use Rattle.cc_sorts.specs.Declaring.{plain_declaration, plain_declarations}
 use Rattle.cc_sorts.specs.Lefts.{IsLeft, Adds}
-use Rattle.cc_sorts.specs.Tables.{TableView, IsTable}
 use Rattle.cc_sorts.specs.declared.declaration.Declaration.{Declaration as Given}
 use Rattle.cc_sorts.specs.declared.left.Left.{Left}
 use Rattle.cc_sorts.proofs.Lefts.{left_more}

@@ -1,5 +1,5 @@
 -- The numbers of the objects of each sort stay below a bound and ascend, and each sort has a list of them.
-use Rattle.std.proofs.Common.{◌≡◌, ℕ, zero, suc, ◌+◌, ◌-◌, ◌<◌, ◌≤◌, Bool, true, false, nat_lt, nat_eq, List, [], ◌∷◌, ◌++◌, length, slice_index_or, Result, Ok, Err, OnOk, OnErr, inl, inr, ◌≢◌, refl, sym, ap, subst, length-append, arith}
+use Rattle.std.proofs.Common.{◌≡◌, ℕ, zero, suc, ◌+◌, ◌<◌, ◌≤◌, true, false, nat_lt, List, [], ◌∷◌, ◌++◌, length, slice_index_or, Result, Ok, Err, OnOk, OnErr, inl, inr, ◌≢◌, refl, sym, ap, subst, length-append, arith}
 use Rattle.std.specs.Prelude.{if◌then◌else◌, ◌==◌}
 use Rattle.std.specs.List.{AllByRecursion}
 use Rattle.cc_defs.specs.Declarations.{Pair, is_below}

@@ -1,5 +1,5 @@
 -- A search upwards from a sort.
-use Rattle.std.proofs.Common.{◌≡◌, ◌∙◌, ◌⊎◌, inl, inr, ℕ, zero, suc, ◌+◌, ◌<◌, ◌≤◌, arith, Bool, true, false, cond, ◌||◌, ◌&&◌, List, [], ◌∷◌, ◌++◌, map, flat_map, take, drop, length, get_or, slice_index_or, slice_get, Option, Some, None, is_some, IsTrue, refl, sym, ap, subst, append_assoc, append-nil, add-one}
+use Rattle.std.proofs.Common.{◌≡◌, ◌∙◌, ◌⊎◌, inl, inr, ℕ, zero, suc, ◌+◌, ◌<◌, ◌≤◌, arith, Bool, true, false, cond, ◌||◌, ◌&&◌, List, [], ◌∷◌, ◌++◌, map, flat_map, take, length, get_or, slice_index_or, slice_get, Option, Some, None, is_some, IsTrue, refl, sym, ap, subst, append_assoc, append-nil, add-one}
 use Rattle.std.specs.Prelude.{if◌then◌else◌}
 use Rattle.std.specs.Cmp.Lexicographic.{bytes_decides}
 use Rattle.std.specs.Cmp.{IsEquivalence}
@@ -18,7 +18,7 @@ use Rattle.cc_defs.specs.Declarations.{Declaration, Pair, pairs, is_below, numbe
 use Rattle.cc_defs.specs.DeclarationFaults.{same_pair, is_sort}
 use Rattle.cc_defs.specs.Grammar.{same_text}
 use Rattle.cc_sorts.specs.Dictionaries.{number_of}
-use Rattle.cc_sorts.specs.Lefts.{plain_pair, IsLeft, IsLinked, left_has_pair, new_uppers, uppers_in, texts_of}
+use Rattle.cc_sorts.specs.Lefts.{plain_pair, IsLeft, new_uppers, uppers_in, texts_of}
 use Rattle.cc_sorts.specs.Lists.{AreBelow}
 use Rattle.cc_sorts.specs.Searches.{is_in, Grows, table_uppers, all_uppers, IsSearched}
 use Rattle.cc_sorts.specs.SortViews.{SortsView, name_at}

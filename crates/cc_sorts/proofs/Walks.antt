@@ -1,14 +1,14 @@
 -- What loops over declarations have done so far.
-use Rattle.std.proofs.Common.{◌≡◌, ◌∙◌, ℕ, zero, suc, ◌+◌, ◌-◌, ◌<◌, ◌≤◌, ◌^◌, Bool, true, false, List, [], ◌∷◌, ◌++◌, length, map, flat_map, take, drop, get_or, Option, Some, None, Result, Ok, Err, OnErr, Bor, refl, sym, ap, subst, arith, length-append, add-one}
-use Rattle.std.proofs.Math.Seq.{take-suc, take-length}
+use Rattle.std.proofs.Common.{◌≡◌, ◌∙◌, ℕ, zero, suc, ◌+◌, ◌<◌, ◌≤◌, ◌^◌, Bool, true, false, List, [], ◌∷◌, ◌++◌, length, map, flat_map, take, drop, get_or, Option, Some, None, Result, Ok, Err, OnErr, Bor, refl, sym, ap, subst, arith, length-append, add-one}
+use Rattle.std.proofs.Math.Seq.{take-suc}
 use Rattle.std.proofs.lemmas.List.{map-append, length-map}
 use Rattle.std.proofs.lemmas.Grind.{flat_map-append}
 use Rattle.cc_defs.specs.Declarations.{Declaration, Sort, Link, Subsort, Object, Variable, Constant, Kinds, object_declared, is_below}
 use Rattle.cc_sorts.specs.Declaring.{plain_declaration, plain_declarations}
 use Rattle.cc_sorts.specs.declared.declaration.Declaration as declarations
 use Rattle.cc_sorts.specs.Dictionaries.{number_of, names_of}
-use Rattle.cc_sorts.specs.SortViews.{name_at, with_sort}
-use Rattle.cc_sorts.specs.Steps.{HasRoom, IsFrontOf, behind, behind_all, new_sort, found_pair, new_pair, found_object, found_variable, found_symbol, placed_in, put_sort, put_pair, put_object, put_variable, put_symbol}
+use Rattle.cc_sorts.specs.SortViews.{name_at}
+use Rattle.cc_sorts.specs.Steps.{HasRoom, IsFrontOf, behind, behind_all, new_sort, found_pair, new_pair, found_object, found_variable, found_symbol}
 use Rattle.cc_sorts.specs.Tables.{TableView, symbol_names}
 
 pub mapped_more : {X Y : Type 0} (f : X → Y) (xs : List X) (i : ℕ) (d : X) → i < length xs → map f (take (i + 1) xs) ≡ map f (take i xs) ++ f (get_or xs i d) ∷ []

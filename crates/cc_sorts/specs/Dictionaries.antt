@@ -1,6 +1,5 @@
 -- Entries by number, each under a name of its own.
-use Rattle.std.specs.Prelude.{◌≡◌, ℕ, List, map, position, Option}
-use Rattle.std.specs.List.{AllByRecursion}
+use Rattle.std.specs.Prelude.{ℕ, List, map, position, Option}
 use Rattle.cc_defs.specs.Grammar.{same_text}
 
 -- the number of a name

@@ -7,14 +7,10 @@ use Rattle.cc_defs.specs.declared.signature.Kind.{Kind}
 use Rattle.cc_defs.specs.declared.signature.Symbol.{Symbol}
 use Rattle.cc_defs.specs.DeclarationFaults.{is_empty, count_refusal}
 use Rattle.cc_defs.specs.Declarations.{is_action}
-use Rattle.cc_defs.specs.Texts.{none_value}
+use Rattle.cc_defs.specs.Universe.{with_none}
 use Rattle.cc_sorts.specs.declared.table.Placed.{Placed}
 use Rattle.cc_sorts.specs.SortViews.{SortsView, members_at}
 use Rattle.cc_sorts.specs.Tables.{TableView}
-
-abbrev pub with_none : Option ℕ → List ℕ → List ℕ
-with_none None values = values
-with_none (Some action) values = none_value ∷ values
 
 -- the values of a symbol
 abbrev pub values_by : SortsView → Symbol → List ℕ

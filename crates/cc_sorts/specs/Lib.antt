@@ -1,6 +1,7 @@
 pub mod Declaring
 pub mod Dictionaries
 pub mod Instances
+pub mod Laws
 pub mod Lefts
 pub mod Lists
 pub mod Numbers

@@ -1,5 +1,5 @@
 -- A search upwards from a sort: names that were found, and those above each.
-use Rattle.std.specs.Prelude.{◌≡◌, ℕ, Bool, true, ◌||◌, ◌&&◌, if◌then◌else◌, List, [], ◌∷◌, ◌++◌, map, take, length, Option, Some, None}
+use Rattle.std.specs.Prelude.{◌≡◌, ℕ, Bool, true, ◌||◌, if◌then◌else◌, List, [], ◌++◌, take, length}
 use Rattle.std.specs.List.{list_any, filter}
 use Rattle.cc_defs.specs.Declarations.{Declaration, pairs, is_below}
 use Rattle.cc_defs.specs.Grammar.{same_text}

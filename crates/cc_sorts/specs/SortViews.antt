@@ -1,5 +1,5 @@
 -- What sorts are: their names by number, the pairs of them with the last first, and the numbers of the objects of each.
-use Rattle.std.specs.Prelude.{◌≡◌, ℕ, ◌+◌, ◌<◌, Bool, if◌then◌else◌, List, [], ◌∷◌, ◌++◌, length, codes, slice_index_or}
+use Rattle.std.specs.Prelude.{ℕ, ◌<◌, if◌then◌else◌, List, [], ◌∷◌, ◌++◌, slice_index_or}
 use Rattle.std.specs.List.{AllByRecursion}
 use Rattle.cc_defs.specs.Declarations.{Pair, boolean, is_below}
 use Rattle.cc_sorts.specs.Numbers.{Ascends, union}

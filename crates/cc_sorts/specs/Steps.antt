@@ -1,5 +1,5 @@
 -- What a table becomes behind each declaration, and what a declaration without a fault is.
-use Rattle.std.specs.Prelude.{◌≡◌, ℕ, ◌+◌, ◌<◌, ◌^◌, Bool, true, false, nat_lt, if◌then◌else◌, IsTrue, IsFalse, List, [], ◌∷◌, ◌++◌, length, map, Option, Some, None}
+use Rattle.std.specs.Prelude.{◌≡◌, ℕ, ◌+◌, ◌<◌, ◌^◌, Bool, true, false, nat_lt, IsTrue, List, [], ◌∷◌, ◌++◌, length, map, Option, Some, None}
 use Rattle.cc_defs.specs.declared.signature.Symbol.{Symbol}
 use Rattle.cc_defs.specs.declared.refusal.LimitAt.TheVariants as limits
 use Rattle.cc_defs.specs.declared.refusal.Refusal.{Refusal}
@@ -11,7 +11,7 @@ use Rattle.cc_defs.specs.Trees as trees
 use Rattle.cc_sorts.specs.declared.table.Placed.{Placed}
 use Rattle.cc_sorts.specs.Dictionaries.{number_of, names_of}
 use Rattle.cc_sorts.specs.SortViews.{SortsView, name_at, with_sort, with_pair, with_object}
-use Rattle.cc_sorts.specs.Tables.{Numbered, TableView, symbol_names, has_action}
+use Rattle.cc_sorts.specs.Tables.{TableView, symbol_names, has_action}
 
 -- so many entries more fit
 pub record HasRoom (table : TableView) (more : ℕ) : Type 0 where

@@ -1,12 +1,12 @@
 -- What a table holds, and that it is the table of a list of declarations.
-use Rattle.std.specs.Prelude.{◌≡◌, ℕ, ◌+◌, ◌<◌, ◌^◌, Bool, true, ◌&&◌, List, [], ◌∷◌, ◌++◌, length, map, codes, IsTrue, Option, Some, None}
+use Rattle.std.specs.Prelude.{◌≡◌, ℕ, ◌<◌, ◌≤◌, ◌^◌, Bool, true, ◌&&◌, List, [], ◌∷◌, ◌++◌, length, map, codes, IsTrue, Some, None}
 use Rattle.std.specs.List.{AllByRecursion, list_any}
 use Rattle.cc_defs.specs.declared.refusal.Fault.{Fault}
 use Rattle.cc_defs.specs.declared.refusal.Fault.TheVariants as faults
 use Rattle.cc_defs.specs.declared.signature.Symbol.{Symbol}
 use Rattle.cc_defs.specs.DeclarationFaults.{is_sort, are_sorts, declaration_refusal, signature_refusal}
-use Rattle.cc_defs.specs.Declarations.{Declaration, Declared, Named, boolean, sort_names, pairs, objects, variables, constants, symbols, constant_names, members, number_in, value_sort, declarations_of, ground_fluents, ground_actions}
-use Rattle.cc_defs.specs.Signatures.{Signature}
+use Rattle.cc_defs.specs.Declarations.{Declaration, Declared, Named, sort_names, pairs, objects, variables, constants, symbols, constant_names, members, number_in, value_sort, declarations_of, ground_fluents, ground_actions}
+use Rattle.cc_defs.specs.Signatures.{Signature, none_value}
 use Rattle.cc_defs.specs.Grammar.{same_text}
 use Rattle.cc_defs.specs.Trees.{PlainKind, PlainStatement}
 use Rattle.cc_defs.specs.Trees as trees
@@ -96,11 +96,12 @@ abbrev pub HasRefused : ℕ → List Declaration → PlainStatement → TableVie
 HasRefused file left statement old new faults.OutOfMemory = HasFront file left statement new
 HasRefused file left statement old new (faults.Refused refusal) = (declaration_refusal file left statement ≡ Some refusal) × (new ≡ old)
 
--- the signature of these declarations, which are not refused
+-- the signature of these declarations, which are not refused; no object has the number that stands for `none`
 abbrev pub IsSignatureOf : List Declaration → Signature → Type 0
 IsSignatureOf declarations signature =
     (signature_refusal declarations ≡ None)
     × (signature ≡ record { fluents = ground_fluents declarations; actions = ground_actions declarations })
+    × (length (objects declarations) ≤ none_value)
 
 abbrev pub IsRefusedSignature : List Declaration → Fault → Type 0
 IsRefusedSignature declarations faults.OutOfMemory = Unit {0}

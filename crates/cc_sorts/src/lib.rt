@@ -5,6 +5,7 @@ mod declaration;
 mod declare;
 mod dictionary;
 mod fault;
+pub mod laws;
 mod left;
 mod lists;
 mod numbers;

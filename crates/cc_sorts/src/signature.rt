@@ -3,7 +3,7 @@ ghost use Rattle.std.specs.Prelude.{◌≡◌, ◌*◌, ◌<◌, ◌≤◌, ◌+
 ghost use Rattle.std.specs.List.{find, list_any};
 ghost use Rattle.cc_defs.specs.DeclarationFaults.{is_empty, passes_domain_values, limit_refusal as refusal_of_limit};
 ghost use Rattle.cc_defs.specs.Declarations.{Declaration as Declared};
-ghost use Rattle.cc_defs.specs.Signatures.{AreOrdered};
+ghost use Rattle.cc_defs.specs.Signatures.{AreOrdered, none_value};
 ghost use Rattle.cc_sorts.specs.Instances.{values_by, rows_by, constant_by, passes as is_passed, instances_by, instances_from, all_instances, refusal_at, refusal_by};
 ghost use Rattle.cc_sorts.specs.SortViews.{members_at, AllAscend};
 ghost use Rattle.cc_sorts.specs.Tables.{IsTable, IsSignatureOf, IsRefusedSignature};
@@ -93,11 +93,12 @@ impl Table {
         }
     }
 
-    /// How many symbols there are. The objects of each sort ascend.
+    /// How many symbols there are. The objects of each sort ascend, and none has the number that stands for `none`.
     pub fn symbol_count(&self) -> usize
         ensures count { result ≡ length self.now.symbols }
         ensures few { result < 4000000000 }
         ensures ascending { AllAscend self.now.sorts.members }
+        ensures numbered { length self.now.objects ≤ none_value }
     {
         self.symbols.len()
     }
@@ -319,6 +320,7 @@ impl Table {
     fn instances(&self, alloc: Global, actions: bool) -> Result<Vec<Const>, OutOfMemory>
         ensures made { IfOk result (λ made. made.items ≡ instances_from self.now.sorts actions 0 self.now.symbols) }
         ensures ordered { IfOk result (λ made. AreOrdered made.items) }
+        ensures numbered { length self.now.objects ≤ none_value }
     {
         let mut made = Vec::new(alloc);
         for number in 0..self.symbol_count() {

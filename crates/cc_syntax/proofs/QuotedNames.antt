@@ -8,9 +8,9 @@ use Rattle.cc_defs.specs.declared.token.TokenKind.{TokenKind}
 use Rattle.cc_defs.specs.declared.token.TokenKind.TheVariants as kinds
 use Rattle.cc_defs.specs.Tokens.{TokenView, AreTokens, kind_of, is_word, is_number, is_quoted, ends_quoted, mark_of}
 use Rattle.cc_defs.specs.Grammar.{Terminal, Word, Number, Quoted, Sign, Spelling, terminal_of_kind, terminal, terminals}
-use Rattle.cc_text.proofs.Words.{quoted_shape}
 use Rattle.cc_syntax.specs.Readers.{unquoted, quoted_at}
 use Rattle.cc_syntax.proofs.IsReader.{IsReader, anywhere}
+use Rattle.cc_syntax.proofs.Quotes.{quoted_shape}
 use Rattle.cc_syntax.proofs.Singles.{some-is}
 
 abbrev pub in_quotes : List ℕ → List ℕ

@@ -15,6 +15,12 @@ use crate::words::{is_reserved_word, is_word_of_value};
 use cc_defs::{LawTree, Mark, Part, Token, TokenKind, Tree};
 use std::alloc::Global;
 
+/// A formula that is kept while more is read. A struct, since its drop is one call wherever the reading may end.
+#[derive(Drop)]
+struct Kept<'s> {
+    formula: Tree<'s>,
+}
+
 /// `F if G`
 #[derive(Drop)]
 struct EffectParts<'s> {
@@ -28,6 +34,18 @@ struct CausedParts<'s> {
     formula: Tree<'s>,
     condition: Option<Tree<'s>>,
     before: Option<Tree<'s>>,
+}
+
+/// A formula that is kept.
+fn read_formula<'s>(
+    alloc: Global,
+    tokens: &[Token<'s>],
+    at: usize,
+) -> Result<(Kept<'s>, usize), Stop>
+    ensures { Reads (λ read. plain_tree read.formula) tokens.now result (formula_at (drop at (seen tokens.now))) }
+{
+    let (formula, next) = formula(alloc, tokens, at)?;
+    Ok((Kept { formula }, next))
 }
 
 /// A formula behind the word, if the word is there.
@@ -56,9 +74,15 @@ fn effect<'s>(
     ensures { (make : PlainTree → Option PlainTree → PlainLaw) →
         Reads (λ read. make (plain_tree read.formula) (option_map plain_tree read.condition)) tokens.now result (effect_at make (drop at (seen tokens.now))) }
 {
-    let (formula, next) = formula(alloc, tokens, at)?;
+    let (kept, next) = read_formula(alloc, tokens, at)?;
     let (condition, next) = optional(alloc, tokens, next, "if")?;
-    Ok((EffectParts { formula, condition }, next))
+    Ok((
+        EffectParts {
+            formula: kept.formula,
+            condition,
+        },
+        next,
+    ))
 }
 
 /// `F if G after H`, for any law that has it behind its word.
@@ -71,12 +95,12 @@ fn caused<'s>(
     ensures { (make : PlainTree → Option PlainTree → Option PlainTree → PlainLaw) →
         Reads (λ read. make (plain_tree read.formula) (option_map plain_tree read.condition) (option_map plain_tree read.before)) tokens.now result (caused_at make (drop at (seen tokens.now))) }
 {
-    let (formula, next) = formula(alloc, tokens, at)?;
+    let (kept, next) = read_formula(alloc, tokens, at)?;
     let (condition, next) = optional(alloc, tokens, next, "if")?;
     let (before, next) = optional(alloc, tokens, next, "after")?;
     Ok((
         CausedParts {
-            formula,
+            formula: kept.formula,
             condition,
             before,
         },
@@ -129,11 +153,11 @@ fn worded<'s>(alloc: Global, tokens: &[Token<'s>], at: usize) -> Result<(LawTree
 fn acting<'s>(alloc: Global, tokens: &[Token<'s>], at: usize) -> Result<(LawTree<'s>, usize), Stop>
     ensures { Reads plain_law tokens.now result (acting_at (drop at (seen tokens.now))) }
 {
-    let (action, next) = formula(alloc, tokens, at)?;
+    let (action, next) = read_formula(alloc, tokens, at)?;
     if let Ok(next) = word(tokens, next, "causes") {
         let (parts, next) = effect(alloc, tokens, next)?;
         return Ok((
-            LawTree::Causes(action, parts.formula, parts.condition),
+            LawTree::Causes(action.formula, parts.formula, parts.condition),
             next,
         ));
     }
@@ -141,7 +165,7 @@ fn acting<'s>(alloc: Global, tokens: &[Token<'s>], at: usize) -> Result<(LawTree
     let next = word(tokens, next, "cause")?;
     let (parts, next) = effect(alloc, tokens, next)?;
     Ok((
-        LawTree::MayCause(action, parts.formula, parts.condition),
+        LawTree::MayCause(action.formula, parts.formula, parts.condition),
         next,
     ))
 }

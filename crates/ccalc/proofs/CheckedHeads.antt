@@ -2,7 +2,7 @@
 use Rattle.std.proofs.Common.{◌≡◌, ◌∙◌, ℕ, zero, suc, ◌<◌, Bool, true, false, not, ◌&&◌, ◌||◌, List, [], ◌++◌, length, slice_get, Some, refl, sym, ap, subst, arith}
 use Rattle.std.specs.Prelude.{if◌then◌else◌}
 use Rattle.std.specs.List.{AllByRecursion, list_any}
-use Rattle.std.proofs.lemmas.Bool.{eqb-true, ltb-true, not-false, and_parts}
+use Rattle.std.proofs.lemmas.Bool.{eqb-true, ltb-true, not-false, and_parts, or_parts}
 use Rattle.std.proofs.lemmas.List.Folds.{list_any-append}
 use Rattle.cc_defs.specs.declared.law.Range.{Range}
 use Rattle.cc_defs.specs.declared.signature.Symbol.{Symbol}
@@ -17,7 +17,6 @@ use Rattle.cc_laws.specs.LawFaults.{is_constant_term, is_boolean_term, is_truth_
 use Rattle.cc_laws.specs.Leaves.{Leaf, leaves, term_count}
 use Rattle.cc_laws.specs.Resolving.{resolve_term, resolve_terms}
 use Rattle.cc_laws.specs.Vocabulary.{Vocabulary, Meaning, Unknown, Nothing, Object, Variable, Constant, meaning, is_unknown, is_constant, is_falsity, is_boolean_symbol, is_boolean_constant, sort_of_entry, sort_below}
-use Rattle.cc_sorts.proofs.Names.{or_false}
 use Rattle.ccalc.proofs.AllRows.{each_of_both}
 use Rattle.ccalc.proofs.CheckedTerms.{IsIn, meaning_in, args_variables, variables_of_args, args_fit, value_fits}
 use Rattle.ccalc.proofs.Fitting.{FitSorts, FitsValue, FitsAtom, HeadFits}
@@ -55,7 +54,7 @@ pub constant_args_fit : (v : Vocabulary) (scope : List ℕ) (name : List ℕ) (a
     meaning v name ≡ Constant number symbol → (slice_get v.symbols number ≡ Some symbol) × FitSorts v (sort_ranges v scope) (listed (resolve_terms v scope args)) symbol.sorts
 constant_args_fit v scope name args number symbol checked is =
     meant_args_fit v scope (meaning v name) args number symbol is (meaning_in v name) (variables_of_args v scope name args checked.within)
-    (or_false (is_miscounted (meaning v name) (term_count args)) _ (or_false _ false checked.counted).0).0 checked.fits
+    (or_parts (is_miscounted (meaning v name) (term_count args)) _ (or_parts _ false checked.counted).0).0 checked.fits
 
 atom_meant_fits : (v : Vocabulary) (scope : List ℕ) (means : Meaning) (args : PlainTerms) (value : Term) →
     ((number : ℕ) (symbol : Symbol) → means ≡ Constant number symbol → FitsAtom v (sort_ranges v scope) number (listed (resolve_terms v scope args)) value) →
@@ -119,7 +118,7 @@ value_atom : (v : Vocabulary) (scope : List ℕ) (term other : PlainTerm) → Is
     HeadsFit v scope (atom v scope term (resolve_term v scope other))
 value_atom v scope term (Applied name args) checked value apart fits =
     atom_fits v scope term (resolve_term v scope (Applied name args)) checked
-    (λ number symbol e. value_fits v scope number symbol (Applied name args) value.within (or_false (is_unknown (meaning v name)) _ (or_false _ false value.known).0).0 apart (fits number symbol e))
+    (λ number symbol e. value_fits v scope number symbol (Applied name args) value.within (or_parts (is_unknown (meaning v name)) _ (or_parts _ false value.known).0).0 apart (fits number symbol e))
 
 second_misfits : (v : Vocabulary) (number : ℕ) (symbol : Symbol) (means : Meaning) → is_constant means ≡ false → sides_misfit v means (Constant number symbol) ≡ value_misfits v symbol means
 second_misfits v number symbol Unknown e = refl
@@ -155,7 +154,7 @@ alone_checked : (v : Vocabulary) (scope : List ℕ) (term : PlainTerm) → IsSou
 alone_checked v scope term sound = record {
   known = sound.known;
   counted = sound.counted;
-  fits = (or_false (not (stands_alone (term_meaning v term))) (term_misfits v term) (or_false _ false sound.fits).0).1;
+  fits = (or_parts (not (stands_alone (term_meaning v term))) (term_misfits v term) (or_parts _ false sound.fits).0).1;
   within = within_unbound (term_variables v term) scope sound.within;
 }
 
@@ -168,7 +167,7 @@ first_checked : (v : Vocabulary) (scope : List ℕ) (s t : PlainTerm) → IsSoun
 first_checked v scope s t sound = record {
   known = (sides _ _ sound.known).0;
   counted = (sides _ _ sound.counted).0;
-  fits = (or_false (term_misfits v s) (term_misfits v t) (or_false (sides_misfit v (term_meaning v s) (term_meaning v t)) _ (or_false _ false sound.fits).0).1).0;
+  fits = (or_parts (term_misfits v s) (term_misfits v t) (or_parts (sides_misfit v (term_meaning v s) (term_meaning v t)) _ (or_parts _ false sound.fits).0).1).0;
   within = within_unbound (term_variables v s) scope (within_first (unbound [] (term_variables v s)) (unbound [] (term_variables v t)) scope sound.within);
 }
 
@@ -176,15 +175,15 @@ second_checked : (v : Vocabulary) (scope : List ℕ) (s t : PlainTerm) → IsSou
 second_checked v scope s t sound = record {
   known = (sides _ _ sound.known).1;
   counted = (sides _ _ sound.counted).1;
-  fits = (or_false (term_misfits v s) (term_misfits v t) (or_false (sides_misfit v (term_meaning v s) (term_meaning v t)) _ (or_false _ false sound.fits).0).1).1;
+  fits = (or_parts (term_misfits v s) (term_misfits v t) (or_parts (sides_misfit v (term_meaning v s) (term_meaning v t)) _ (or_parts _ false sound.fits).0).1).1;
   within = within_unbound (term_variables v t) scope (within_second (unbound [] (term_variables v s)) (unbound [] (term_variables v t)) scope sound.within);
 }
 
 sides_fit : (v : Vocabulary) (scope : List ℕ) (s t : PlainTerm) → IsSound v scope (trees.Equal s t) → sides_misfit v (term_meaning v s) (term_meaning v t) ≡ false
-sides_fit v scope s t sound = (or_false (sides_misfit v (term_meaning v s) (term_meaning v t)) _ (or_false _ false sound.fits).0).0
+sides_fit v scope s t sound = (or_parts (sides_misfit v (term_meaning v s) (term_meaning v t)) _ (or_parts _ false sound.fits).0).0
 
 parted : (test : Leaf → Bool) (f g : PlainTree) → list_any test (leaves f ++ leaves g) ≡ false → (list_any test (leaves f) ≡ false) × (list_any test (leaves g) ≡ false)
-parted test f g e = or_false (list_any test (leaves f)) (list_any test (leaves g)) (sym (list_any-append test (leaves f) (leaves g)) ∙ e)
+parted test f g e = or_parts (list_any test (leaves f)) (list_any test (leaves g)) (sym (list_any-append test (leaves f) (leaves g)) ∙ e)
 
 both_sound : (v : Vocabulary) (scope : List ℕ) (f g : PlainTree) → IsSound v scope (trees.Both f g) → IsSound v scope f × IsSound v scope g
 both_sound v scope f g sound = (

@@ -1,8 +1,9 @@
 -- A law that has no fault has base laws whose heads fit.
 use Rattle.std.proofs.Common.{◌≡◌, ◌∙◌, inr, ℕ, ◌<◌, cond, Bool, true, false, not, ◌||◌, List, [], ◌∷◌, ◌++◌, length, map, slice_get, Option, Some, None, refl, sym, ap, subst, arith}
 use Rattle.std.specs.Prelude.{if◌then◌else◌, option_map, slice_index_or, nat_lt, unwrap_or}
+use Rattle.std.specs.Cmp.Lexicographic.{bytes_decides}
 use Rattle.std.specs.List.{AllByRecursion, list_any}
-use Rattle.std.proofs.lemmas.Bool.{not-false, lt-ltb}
+use Rattle.std.proofs.lemmas.Bool.{not-false, lt-ltb, or_left, or_parts, or_right}
 use Rattle.std.proofs.lemmas.List.Folds.{list_any-append}
 use Rattle.cc_defs.specs.declared.law.Range.{Range}
 use Rattle.cc_defs.specs.declared.law.Range.TheVariants as ranges
@@ -18,7 +19,6 @@ use Rattle.cc_laws.specs.FreeVariables.{is_among, optional, free, term_variables
 use Rattle.cc_laws.specs.LawFaults.{formulas, subject, subject_satisfies, subject_misfits, subject_variables, free_in, law_variables, is_definite, has_indefinite_head, law_fault}
 use Rattle.cc_laws.specs.Resolving.{resolve, resolve_terms}
 use Rattle.cc_laws.specs.Vocabulary.{Vocabulary, vocabulary, Meaning, Unknown, Nothing, Object, Variable, Constant, meaning, is_constant, sort_below}
-use Rattle.cc_sorts.proofs.Names.{or_left, or_right, or_false, same_self}
 use Rattle.ccalc.proofs.CheckedHeads.{IsSane, HeadsFit, IsChecked, IsSound, heads_fit, constant_args_fit}
 use Rattle.ccalc.proofs.Fitting.{FitsSort, FitSorts, HeadFits, LawFits}
 use Rattle.ccalc.proofs.Members.{slice_front}
@@ -27,7 +27,7 @@ use Rattle.ccalc.proofs.VariablesInScope.{within_firsts, unbound_none}
 -- ---- declarations
 
 below_self : (pairs : List Pair) (name : List ℕ) → is_below pairs name name ≡ true
-below_self [] name = same_self name
+below_self [] name = (bytes_decides name name).1 refl
 below_self (pair ∷ pairs) name = or_left (is_below pairs name name) _ (below_self pairs name)
 
 pub sort_below_self : (v : Vocabulary) (sort : ℕ) → sort < length v.sorts → sort_below v sort sort ≡ true
@@ -102,22 +102,22 @@ has_no_fault v law test e =
     let form = none_if _ 9 _ later.1 in
     let determined = none_if _ 10 _ form.1 in
     let indefinite = none_if _ 11 _ determined.1 in
-    let fits = (or_false _ _ (or_false _ _ misfit.0).0) in
+    let fits = (or_parts _ _ (or_parts _ _ misfit.0).0) in
     record {
-      known = (or_false _ _ unknown.0).0;
-      counted = (or_false _ _ miscounted.0).0;
+      known = (or_parts _ _ unknown.0).0;
+      counted = (or_parts _ _ miscounted.0).0;
       fits = fits.0;
-      subject_known = λ c is. ap (λ (w : Bool). w || false) (not_satisfied _ (subject law) c (or_false _ _ unknown.0).1 is);
-      subject_counted = λ c is. ap (λ (w : Bool). w || false) (not_satisfied _ (subject law) c (or_false _ _ miscounted.0).1 is);
-      subject_fits = λ c is. (or_false (not (is_constant (term_meaning v c))) (term_misfits v c) (not_satisfied (subject_misfits v) (subject law) c fits.1 is)).1;
+      subject_known = λ c is. ap (λ (w : Bool). w || false) (not_satisfied _ (subject law) c (or_parts _ _ unknown.0).1 is);
+      subject_counted = λ c is. ap (λ (w : Bool). w || false) (not_satisfied _ (subject law) c (or_parts _ _ miscounted.0).1 is);
+      subject_fits = λ c is. (or_parts (not (is_constant (term_meaning v c))) (term_misfits v c) (not_satisfied (subject_misfits v) (subject law) c fits.1 is)).1;
       definite = indefinite.0;
     }
 
 -- ---- the parts of a law
 
 passes_inside : (test : PlainTree → Bool) (front rest : List PlainTree) (f : PlainTree) (more : List PlainTree) → list_any test ((front ++ f ∷ rest) ++ more) ≡ false → test f ≡ false
-passes_inside test [] rest f more e = (or_false (test f) _ e).0
-passes_inside test (first ∷ front) rest f more e = passes_inside test front rest f more (or_false (test first) _ e).1
+passes_inside test [] rest f more e = (or_parts (test f) _ e).0
+passes_inside test (first ∷ front) rest f more e = passes_inside test front rest f more (or_parts (test first) _ e).1
 
 free_inside : (v : Vocabulary) (front rest : List PlainTree) (f : PlainTree) (number : ℕ) → is_among (free v [] f) number ≡ true → is_among (free_in v [] (front ++ f ∷ rest)) number ≡ true
 free_inside v [] rest f number e =

@@ -1,7 +1,7 @@
 -- Terms that no check of a law refuses: arguments and values fit.
 use Rattle.std.proofs.Common.{◌≡◌, inl, ℕ, ◌<◌, Bool, true, false, not, List, [], ◌∷◌, ◌++◌, length, map, flat_map, slice_get, Option, Some, None, eqb, is_none, IsSome, refl, sym, subst, arith}
 use Rattle.std.specs.Prelude.{if◌then◌else◌, codes}
-use Rattle.std.proofs.lemmas.Bool.{eq-eqb, not-false}
+use Rattle.std.proofs.lemmas.Bool.{eq-eqb, not-false, or_left, or_parts}
 use Rattle.std.proofs.lemmas.Grind.{flat_map-append}
 use Rattle.std.proofs.lemmas.List.{length-map}
 use Rattle.std.proofs.lemmas.List.Quantifiers.{position-Some}
@@ -17,7 +17,6 @@ use Rattle.cc_laws.specs.Leaves.{Mention, mentions, argument_mentions, term_coun
 use Rattle.cc_laws.specs.Resolving.{place_in, variable_at, term_meant, resolve_term, resolve_terms}
 use Rattle.cc_laws.specs.Vocabulary.{Vocabulary, Meaning, Unknown, Nothing, Object, Variable, Constant, meaning, as_object, as_variable, as_constant, constant_at, is_constant, is_unknown, sort_of_entry, sort_below}
 use Rattle.cc_sorts.specs.Dictionaries.{number_of, names_of}
-use Rattle.cc_sorts.proofs.Names.{or_false, or_left}
 use Rattle.ccalc.proofs.Fitting.{FitsSort, FitSorts, FitsValue}
 use Rattle.ccalc.proofs.VariablesInScope.{Within, within_first, within_second, HasRange, has_range}
 
@@ -108,7 +107,7 @@ args_fit v scope [] (MoreTerms first others) all count e = absurd (omega arith)
 args_fit v scope (sort ∷ sorts) NoTerms all count e = absurd (omega arith)
 args_fit v scope (sort ∷ sorts) (MoreTerms first others) all count e =
     let parted : Within (term_variables v first ++ args_variables v others) scope = subst (λ (w : List ℕ). Within w scope) (variables_parted v first others) all in
-    let both = or_false (argument_misfits v sort (term_meaning v first)) (some_argument_misfits v sorts others) e in (
+    let both = or_parts (argument_misfits v sort (term_meaning v first)) (some_argument_misfits v sorts others) e in (
       argument_fits v scope sort first (within_first (term_variables v first) (args_variables v others) scope parted) both.0,
       args_fit v scope sorts others (within_second (term_variables v first) (args_variables v others) scope parted) (omega arith) both.1,
     )

@@ -17,18 +17,19 @@ use Rattle.ccalc.proofs.CheckedTerms.{IsIn, meaning_in}
 use Rattle.ccalc.proofs.Fitting.{FitSorts, LawFits}
 use Rattle.ccalc.proofs.Growth.{number_within}
 use Rattle.ccalc.proofs.Members.{all_flat, all_slice, slice_mapped}
+use Rattle.ccalc.proofs.NameLaws.{NameLaws}
 
 -- ---- the sorts of a declared constant
 
 abbrev AreBelowSelf : Vocabulary → List ℕ → Type 0
 AreBelowSelf v sorts = AllByRecursion (λ sort. sort_below v sort sort ≡ true) sorts
 
-module _ (left : List Declaration) where
+module _ (name_laws : NameLaws) (left : List Declaration) where
   sorts_below : (names : List (List ℕ)) → are_sorts left names ≡ true → AreBelowSelf (vocabulary left) (map (number_in (sort_names left)) names)
   sorts_below [] e = tt
   sorts_below (name ∷ names) e =
       let parts = and_parts (is_sort left name) (are_sorts left names) e in
-      (sort_below_self (vocabulary left) (number_in (sort_names left) name) (number_within left name parts.0), sorts_below names parts.1)
+      (sort_below_self (vocabulary left) (number_in (sort_names left) name) (number_within name_laws left name parts.0), sorts_below names parts.1)
 
   sorts_of_symbol : AreKnown left → (number : ℕ) (symbol : Symbol) → slice_get (symbols left) number ≡ Some symbol → AreBelowSelf (vocabulary left) symbol.sorts
   sorts_of_symbol known number symbol e =
@@ -74,9 +75,9 @@ module _ (file : ℕ) (v : Vocabulary) (line : ℕ) (number : ℕ) (symbol : Sym
 
 -- ---- the laws of a statement of constants
 
-module _ (file : ℕ) (left : List Declaration) (known : AreKnown left) (line : ℕ) where
+module _ (name_laws : NameLaws) (file : ℕ) (left : List Declaration) (known : AreKnown left) (line : ℕ) where
   constant_laws_fit : (kind : PlainKind) (means : Meaning) → IsIn (vocabulary left) means → AllByRecursion (LawFits (vocabulary left)) (constant_laws file (vocabulary left) line kind means)
-  constant_laws_fit kind (Constant number symbol) is = kind_laws_fit file (vocabulary left) line number symbol is (sorts_of_symbol left known number symbol is) kind
+  constant_laws_fit kind (Constant number symbol) is = kind_laws_fit file (vocabulary left) line number symbol is (sorts_of_symbol name_laws left known number symbol is) kind
   constant_laws_fit kind Unknown is = tt
   constant_laws_fit kind Nothing is = tt
   constant_laws_fit kind (Object number sort) is = tt

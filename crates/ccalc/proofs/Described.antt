@@ -1,5 +1,6 @@
 -- What a description answers, by what was gone through.
 use Rattle.std.proofs.Common.{◌≡◌, ◌≢◌, ◌∙◌, ℕ, List, [], length, Option, Some, None, IfSome, Result, Ok, Err, IfOk, IfErr, IsErrOf, refl, sym, ap, subst}
+use Rattle.std.specs.Option.{option_or}
 use Rattle.cc_defs.specs.DeclarationFaults.{signature_refusal}
 use Rattle.cc_defs.specs.Limits.{limit_number}
 use Rattle.cc_defs.specs.declared.refusal.Fault.{Fault}
@@ -10,13 +11,13 @@ use Rattle.cc_sorts.specs.Tables.{IsRefusedSignature}
 use Rattle.ccalc.specs.declared.describe.Described.{Described}
 use Rattle.ccalc.specs.declared.describe.DescribeStop.{DescribeStop}
 use Rattle.ccalc.specs.declared.describe.DescribeStop.TheVariants as stops
-use Rattle.ccalc.specs.declared.progress.Halt.{Halt}
-use Rattle.ccalc.specs.declared.progress.Halt.TheVariants as halts
+use Rattle.ccalc.specs.declared.files.Halt.{Halt}
+use Rattle.ccalc.specs.declared.files.Halt.TheVariants as halts
 use Rattle.ccalc.specs.declared.progress.Progress.{Progress}
 use Rattle.ccalc.specs.Describing.{Describes, HasSignature, HasStopped, IsDescribed, IsRefusedWhole}
-use Rattle.ccalc.specs.FirstRefusal.{declared_in, file_named, or_else, opened_until}
-use Rattle.ccalc.specs.Places.{Files, Place, opened_in, ArePlaces, AreAllPlaces}
-use Rattle.ccalc.specs.ProgressViews.{IsProgress, GoesThrough, StopsAs, halt_of}
+use Rattle.ccalc.specs.FirstRefusal.{declared_in, file_named, opened_until}
+use Rattle.ccalc.specs.Places.{Files, Place, opened_in, ArePlaces, AreAllPlaces, AreThere}
+use Rattle.ccalc.specs.ProgressViews.{IsProgress, FindsFiles, GoesThrough, StopsAs, halt_of}
 use Rattle.ccalc.proofs.PlacesAppended.{opened_where_none}
 
 -- ---- all declarations are refused
@@ -57,6 +58,14 @@ Goes deep told name progress result new =
     (contents : Contents) (before : List Place) → told ≡ Some contents → IsProgress progress before
     → GoesThrough (ArePlaces deep contents.files progress.around.items (length (opened_in before)) name) before result new
 
+-- the files opened are there, where no other was opened before
+abbrev Finds : Option Contents → Progress → Result (Unit {0}) Halt → Progress → Type 0
+Finds told progress result new =
+    (contents : Contents) → told ≡ Some contents → AreThere contents.files progress.names.items → FindsFiles contents.files result new.names.items
+
+none_opened : (files : Files) (progress : Progress) → IsProgress progress [] → AreThere files progress.names.items
+none_opened files progress begun = subst (AreThere files) (sym begun.names) tt
+
 all_places : (deep : ℕ) (files : Files) (around : List (List ℕ)) (name : List ℕ) (places : List Place) → deep ≡ limit_number IncludeDepth → around ≡ []
     → ArePlaces deep files around 0 name places → AreAllPlaces files name places
 all_places deep files around name places deep_is around_is are =
@@ -64,56 +73,59 @@ all_places deep files around name places deep_is around_is are =
 
 -- all places were gone through, and so were all declarations
 pub is_described : (deep : ℕ) (told : Option Contents) (name : List ℕ) (progress new : Progress) (done : Unit {0}) (result : Result Described DescribeStop)
-    → deep ≡ limit_number IncludeDepth → IsProgress progress [] → progress.around.items ≡ [] → Goes deep told name progress (Ok done) new
+    → deep ≡ limit_number IncludeDepth → IsProgress progress [] → progress.around.items ≡ [] → Goes deep told name progress (Ok done) new → Finds told progress (Ok done) new
     → ((places : List Place) → IsProgress new places → IfOk result (λ described. (signature_refusal (declared_in places) ≡ None) × IsDescribed places described))
     → IfSome told (λ contents. IfOk result (Describes contents.files name))
-is_described deep None name progress new done result deep_is begun outside goes finished = tt
-is_described deep (Some contents) name progress new done (Err stop) deep_is begun outside goes finished = tt
-is_described deep (Some contents) name progress new done (Ok described) deep_is begun outside goes finished =
+is_described deep None name progress new done result deep_is begun outside goes found finished = tt
+is_described deep (Some contents) name progress new done (Err stop) deep_is begun outside goes found finished = tt
+is_described deep (Some contents) name progress new done (Ok described) deep_is begun outside goes found finished =
     let gone = goes contents [] refl begun in
     let places = gone.0 in
     let whole = finished places gone.3 in (
       places,
       all_places deep contents.files progress.around.items name places deep_is outside gone.1,
-      ap (λ one. or_else one (signature_refusal (declared_in places))) gone.2 ∙ whole.0,
+      ap (λ one. option_or one (signature_refusal (declared_in places))) gone.2 ∙ whole.0,
       whole.1,
+      subst (AreThere contents.files) gone.3.names (found contents refl (none_opened contents.files progress begun)),
     )
 
 -- all places were gone through, and all declarations are refused
 pub is_refused_whole : (deep : ℕ) (told : Option Contents) (name : List ℕ) (progress new : Progress) (done : Unit {0}) (result : Result Described DescribeStop)
-    → deep ≡ limit_number IncludeDepth → IsProgress progress [] → progress.around.items ≡ [] → Goes deep told name progress (Ok done) new
+    → deep ≡ limit_number IncludeDepth → IsProgress progress [] → progress.around.items ≡ [] → Goes deep told name progress (Ok done) new → Finds told progress (Ok done) new
     → ((places : List Place) → IsProgress new places → IfErr result (IsRefusedWhole places))
     → IfSome told (λ contents. IfErr result (HasStopped contents.files name))
-is_refused_whole deep None name progress new done result deep_is begun outside goes finished = tt
-is_refused_whole deep (Some contents) name progress new done (Ok described) deep_is begun outside goes finished = tt
-is_refused_whole deep (Some contents) name progress new done (Err stops.ReadFault) deep_is begun outside goes finished = tt
-is_refused_whole deep (Some contents) name progress new done (Err stops.OutOfMemory) deep_is begun outside goes finished = tt
-is_refused_whole deep (Some contents) name progress new done (Err (stops.Refused refusal file)) deep_is begun outside goes finished =
+is_refused_whole deep None name progress new done result deep_is begun outside goes found finished = tt
+is_refused_whole deep (Some contents) name progress new done (Ok described) deep_is begun outside goes found finished = tt
+is_refused_whole deep (Some contents) name progress new done (Err stops.ReadFault) deep_is begun outside goes found finished = tt
+is_refused_whole deep (Some contents) name progress new done (Err stops.OutOfMemory) deep_is begun outside goes found finished = tt
+is_refused_whole deep (Some contents) name progress new done (Err (stops.Refused refusal file)) deep_is begun outside goes found finished =
     let gone = goes contents [] refl begun in
     let places = gone.0 in
     let whole = finished places gone.3 in (
       places,
       all_places deep contents.files progress.around.items name places deep_is outside gone.1,
-      ap (λ one. or_else one (signature_refusal (declared_in places))) gone.2 ∙ whole.0,
+      ap (λ one. option_or one (signature_refusal (declared_in places))) gone.2 ∙ whole.0,
       whole.1 ∙ ap (λ names. file_named names refusal) (sym (opened_where_none [] places gone.2)),
+      subst (AreThere contents.files) (gone.3.names ∙ sym (opened_where_none [] places gone.2)) (found contents refl (none_opened contents.files progress begun)),
     )
 
 -- a place is refused
 pub is_refused : (deep : ℕ) (told : Option Contents) (name : List ℕ) (names : List (List ℕ)) (progress new : Progress) (halt : Halt) (stop : DescribeStop)
-    → deep ≡ limit_number IncludeDepth → IsProgress progress [] → progress.around.items ≡ [] → Goes deep told name progress (Err halt) new
+    → deep ≡ limit_number IncludeDepth → IsProgress progress [] → progress.around.items ≡ [] → Goes deep told name progress (Err halt) new → Finds told progress (Err halt) new
     → names ≡ new.names.items → StopsAs names halt stop → IfSome told (λ contents. HasStopped contents.files name stop)
-is_refused deep None name names progress new halt stop deep_is begun outside goes names_are is = tt
-is_refused deep (Some contents) name names progress new halts.ReadFault stop deep_is begun outside goes names_are is = subst (HasStopped contents.files name) (sym is) tt
-is_refused deep (Some contents) name names progress new halts.OutOfMemory stop deep_is begun outside goes names_are is = subst (HasStopped contents.files name) (sym is) tt
-is_refused deep (Some contents) name names progress new (halts.Refused refusal) stops.ReadFault deep_is begun outside goes names_are is = tt
-is_refused deep (Some contents) name names progress new (halts.Refused refusal) stops.OutOfMemory deep_is begun outside goes names_are is = tt
-is_refused deep (Some contents) name names progress new (halts.Refused refusal) (stops.Refused told file) deep_is begun outside goes names_are is =
+is_refused deep None name names progress new halt stop deep_is begun outside goes found names_are is = tt
+is_refused deep (Some contents) name names progress new halts.ReadFault stop deep_is begun outside goes found names_are is = subst (HasStopped contents.files name) (sym is) tt
+is_refused deep (Some contents) name names progress new halts.OutOfMemory stop deep_is begun outside goes found names_are is = subst (HasStopped contents.files name) (sym is) tt
+is_refused deep (Some contents) name names progress new (halts.Refused refusal) stops.ReadFault deep_is begun outside goes found names_are is = tt
+is_refused deep (Some contents) name names progress new (halts.Refused refusal) stops.OutOfMemory deep_is begun outside goes found names_are is = tt
+is_refused deep (Some contents) name names progress new (halts.Refused refusal) (stops.Refused told file) deep_is begun outside goes found names_are is =
     let gone = goes contents [] refl begun in
     let places = gone.0 in (
       places,
       all_places deep contents.files progress.around.items name places deep_is outside gone.1,
-      ap (λ one. or_else one (signature_refusal (declared_in places))) gone.2 ∙ ap Some (sym is.0),
+      ap (λ one. option_or one (signature_refusal (declared_in places))) gone.2 ∙ ap Some (sym is.0),
       is.1 ∙ ap (λ l. file_named l refusal) (names_are ∙ gone.3) ∙ ap (file_named (opened_until [] places)) (sym is.0),
+      subst (AreThere contents.files) gone.3 (found contents refl (none_opened contents.files progress begun)),
     )
 
 -- the places may be any

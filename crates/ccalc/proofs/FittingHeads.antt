@@ -3,33 +3,32 @@ use Rattle.std.proofs.Common.{◌≡◌, ◌∙◌, inl, inr, ℕ, true, List, [
 use Rattle.std.specs.Prelude.{IsSome, IsTrue, is_some, nat_eq}
 use Rattle.std.specs.List.{AllByRecursion}
 use Rattle.std.specs.Option.{option_and_then, option_map}
-use Rattle.std.proofs.lemmas.Bool.{eq-eqb}
+use Rattle.std.proofs.lemmas.Bool.{and_parts, eq-eqb}
 use Rattle.std.proofs.lemmas.Option.{slice_get-map}
 use Rattle.cc_defs.specs.declared.law.Range.{Range}
 use Rattle.cc_defs.specs.declared.law.Range.TheVariants as ranges
 use Rattle.cc_defs.specs.declared.signature.Symbol.{Symbol}
 use Rattle.cc_defs.specs.DeclarationFaults.{are_sorts, is_sort}
 use Rattle.cc_defs.specs.Declarations.{Declaration, Declared, action_of, constants, domain_of, members, number_in, sort_names, symbol_of, symbols, value_sort}
-use Rattle.cc_defs.specs.Formulas.{ground_number}
-use Rattle.cc_defs.specs.Resolved.{BaseLaw, Head, Term}
+use Rattle.cc_defs.specs.Signatures.{ground_number, none_value}
+use Rattle.cc_defs.specs.Resolved.{BaseLaw, Head, Term, terms_of}
 use Rattle.cc_defs.specs.Resolved as resolved
-use Rattle.cc_defs.specs.Texts.{none_value}
 use Rattle.cc_defs.specs.Trees.{PlainKind}
 use Rattle.cc_defs.specs.Trees as trees
-use Rattle.cc_ground.specs.Environments.{choices, passes, range_values}
-use Rattle.cc_ground.specs.Grounding.{ground_head, head_at, head_of_sides, listed}
-use Rattle.cc_ground.specs.Nodes.{Side, constant_side, numbered_side, side, value_side}
-use Rattle.cc_ground.specs.Nodes as nodes
-use Rattle.cc_ground.specs.Satisfaction.{argument, arguments, cons_both}
-use Rattle.cc_ground.specs.Universe.{objects_of, universe, values_of, values_of_symbol, with_none}
+use Rattle.cc_defs.specs.Environments.{choices, passes, range_values}
+use Rattle.cc_arena.specs.Grounding.{ground_head, head_at, head_of_sides}
+use Rattle.cc_arena.specs.Nodes.{Side, constant_side, numbered_side, side, value_side}
+use Rattle.cc_arena.specs.Nodes as nodes
+use Rattle.cc_defs.specs.Satisfaction.{argument, arguments, cons_both}
+use Rattle.cc_defs.specs.Universe.{constants_in, objects_of, universe, values_of, values_of_symbol, with_none}
 use Rattle.cc_laws.specs.Vocabulary.{vocabulary}
-use Rattle.cc_sorts.proofs.Below.{both}
 use Rattle.cc_sorts.specs.Tables.{AreKnown}
 use Rattle.ccalc.specs.Heads.{HasHeads}
 use Rattle.ccalc.proofs.Fitting.{FitsSort, FitSorts, FitsValue, HeadFits, LawFits}
 use Rattle.ccalc.proofs.GroundConstants.{ground_there}
 use Rattle.ccalc.proofs.Growth.{constant_stays, named_number, number_stays, number_within, object_under, objects_above, objects_are, objects_under}
 use Rattle.ccalc.proofs.Members.{Chosen, In, all_choices, all_filter, all_slice, chosen_at, found_first, slice_mapped}
+use Rattle.ccalc.proofs.NameLaws.{NameLaws}
 
 -- what a variable, an argument or a value stands for
 abbrev HasMember : Option ℕ → List ℕ → Type 0
@@ -64,34 +63,34 @@ domain_is : (declarations : List Declaration) (kind : PlainKind) → with_none (
 domain_is declarations (trees.Plain word sort) = refl
 domain_is declarations (trees.Attribute sort action) = refl
 
-module _ (left more : List Declaration) (known : AreKnown left) (over : List Range) (env : List ℕ) (chosen : Chosen (map (range_values (universe (left ++ more))) over) env) where
+module _ (name_laws : NameLaws) (left more : List Declaration) (known : AreKnown left) (over : List Range) (env : List ℕ) (chosen : Chosen (map (range_values (universe (left ++ more))) over) env) where
   variable_in : (place sort : ℕ) → FitsSort (vocabulary left) over (resolved.Variable place) sort → HasMember (slice_get env place) (objects_under left more sort)
   variable_in place sort fits =
       let at = chosen_at (range_values (universe (left ++ more))) over env place (ranges.Sort fits.0) chosen fits.1 in
-      (at.0, at.1, objects_above left more at.0 fits.0 sort fits.2 at.2)
+      (at.0, at.1, objects_above name_laws left more at.0 fits.0 sort fits.2 at.2)
 
   argument_in : (arg : Term) (sort : ℕ) → FitsSort (vocabulary left) over arg sort → HasMember (argument env arg) (objects_under left more sort)
-  argument_in (resolved.Object number) sort fits = (number, refl, object_under left more number sort known fits.0 fits.1)
+  argument_in (resolved.Object number) sort fits = (number, refl, object_under name_laws left more number sort known fits.0 fits.1)
   argument_in (resolved.Variable place) sort fits = variable_in place sort fits
   argument_in (resolved.Constant symbol args) sort fits = absurd fits
   argument_in resolved.Nothing sort fits = absurd fits
 
   -- the sort of this name
   named_objects : (name : List ℕ) → is_sort left name ≡ true → objects_under left more (number_in (sort_names left) name) ≡ members (left ++ more) name
-  named_objects name is = ap (members (left ++ more)) (named_number left name is)
+  named_objects name is = ap (members (left ++ more)) (named_number name_laws left name is)
 
   arguments_in : (args : List Term) (names : List (List ℕ)) → are_sorts left names ≡ true → FitSorts (vocabulary left) over args (map (number_in (sort_names left)) names) →
-      (objects : List ℕ) × (arguments env (listed args) ≡ Some objects) × Chosen (map (members (left ++ more)) names) objects
+      (objects : List ℕ) × (arguments env (terms_of args) ≡ Some objects) × Chosen (map (members (left ++ more)) names) objects
   arguments_in [] [] is fit = ([], refl, tt)
   arguments_in [] (name ∷ names) is fit = absurd fit
   arguments_in (arg ∷ args) [] is fit = absurd fit
   arguments_in (arg ∷ args) (name ∷ names) is fit =
-      let parts = both (is_sort left name) (are_sorts left names) is in
+      let parts = and_parts (is_sort left name) (are_sorts left names) is in
       let number = number_in (sort_names left) name in
       let first = has_same (argument env arg) (objects_under left more number) (members (left ++ more) name) (named_objects name parts.0) (argument_in arg number fit.0) in
       let others = arguments_in args names parts.1 fit.1 in (
         first.0 ∷ others.0,
-        ap (λ (x : Option ℕ). cons_both x (arguments env (listed args))) first.1 ∙ ap (cons_both (Some first.0)) others.1,
+        ap (λ (x : Option ℕ). cons_both x (arguments env (terms_of args))) first.1 ∙ ap (cons_both (Some first.0)) others.1,
         (first.2, others.2),
       )
 
@@ -119,7 +118,7 @@ module _ (left more : List Declaration) (known : AreKnown left) (over : List Ran
         let at : slice_get (symbols all) number ≡ Some (symbol_of all constant) =
         slice_get-map (symbol_of all) (constants all) number ∙ ap (option_map (symbol_of all)) (constant_stays left more number constant is_constant) in
         let objects : objects_of u (number_in (sort_names all) name) ≡ members all name =
-        ap (objects_of u) (number_stays left more name value_known) ∙ objects_are left more (number_in (sort_names left) name) (number_within left name value_known) ∙ named_objects name value_known in
+        ap (objects_of u) (number_stays name_laws left more name value_known) ∙ objects_are left more (number_in (sort_names left) name) (number_within name_laws left name value_known) ∙ named_objects name value_known in
         ap (values_of_symbol u) at ∙ ap (with_none (action_of all constant.kind)) objects ∙ domain_is all constant.kind
 
     abbrev HasValue : Term → Type 0
@@ -131,7 +130,7 @@ module _ (left more : List Declaration) (known : AreKnown left) (over : List Ran
     value_in : (value : Term) → FitsValue (vocabulary left) over number (symbol_of left constant) value → HasValue value
     unfolding own_objects
     value_in resolved.Nothing fits = (none_value, refl, none_in_domain (left ++ more) left constant.kind fits)
-    value_in (resolved.Object object) fits = (object, refl, own_domain object (object_under left more object (symbol_of left constant).domain known fits.0 fits.1))
+    value_in (resolved.Object object) fits = (object, refl, own_domain object (object_under name_laws left more object (symbol_of left constant).domain known fits.0 fits.1))
     value_in (resolved.Variable place) (inl fits) =
         let at = variable_in place (symbol_of left constant).domain fits in variable_has place (at.0, at.1, own_domain at.0 at.2)
     value_in (resolved.Variable place) (inr is) =
@@ -149,26 +148,26 @@ module _ (left more : List Declaration) (known : AreKnown left) (over : List Ran
         let meant = arguments_in args constant.shape.sorts args_known args_fit in
         let at = ground_there all number constant (constant_stays left more number constant is_constant) meant.0 meant.2 in
         let has = value_in value value_fits in
-        let own : side u env (resolved.Constant number (listed args)) ≡ nodes.Constant at.at values =
-        ap (λ (o : Option (List ℕ)). numbered_side u (option_and_then (ground_number u.constants number) o)) meant.1
+        let own : side u env (resolved.Constant number (terms_of args)) ≡ nodes.Constant at.at values =
+        ap (λ (o : Option (List ℕ)). numbered_side u (option_and_then (ground_number (constants_in u) number) o)) meant.1
         ∙ ap (numbered_side u) at.is ∙ ap (constant_side at.at) at.there ∙ ap (nodes.Constant at.at) at.values in
         subst (λ (s : Side). IsSome (head_of_sides s (side u env value))) (sym own)
         (subst (λ (s : Side). IsSome (head_of_sides (nodes.Constant at.at values) s)) (sym has.1) (head_is_there at.at (position (nat_eq has.0) values) (is_one has.0 values has.2)))
 
-pub head_there : (left more : List Declaration) → AreKnown left → (over : List Range) (head : Head) → HeadFits (vocabulary left) over head →
+pub head_there : NameLaws → (left more : List Declaration) → AreKnown left → (over : List Range) (head : Head) → HeadFits (vocabulary left) over head →
     (env : List ℕ) → Chosen (map (range_values (universe (left ++ more))) over) env → IsSome (ground_head (universe (left ++ more)) env head)
-head_there left more known over (resolved.Atom number args value) fits env chosen =
+head_there name_laws left more known over (resolved.Atom number args value) fits env chosen =
     let at = slice_mapped (symbol_of left) (constants left) number fits.symbol fits.is in
-    atom_there left more known over env chosen number at.0 at.1 args value
+    atom_there name_laws left more known over env chosen number at.0 at.1 args value
     (subst (λ (s : Symbol). FitSorts (vocabulary left) over args s.sorts) at.2 fits.args_fit)
     (subst (λ (s : Symbol). FitsValue (vocabulary left) over number s value) at.2 fits.value_fits)
-head_there left more known over resolved.Falsity fits env chosen = refl
+head_there name_laws left more known over resolved.Falsity fits env chosen = refl
 
 -- So is that of a law, under each of its environments.
-pub law_there : (left more : List Declaration) → AreKnown left → (law : BaseLaw) → LawFits (vocabulary left) law → HasHeads (universe (left ++ more)) law
-law_there left more known (resolved.One law) fits =
+pub law_there : NameLaws → (left more : List Declaration) → AreKnown left → (law : BaseLaw) → LawFits (vocabulary left) law → HasHeads (universe (left ++ more)) law
+law_there name_laws left more known (resolved.One law) fits =
     let u = universe (left ++ more) in
     all_filter (λ (env : List ℕ). IsSome (ground_head u env law.head)) (passes u law.test) (choices (map (range_values u) law.ranges))
     (all_choices (λ (env : List ℕ). IsSome (ground_head u env law.head)) (map (range_values u) law.ranges)
-    (λ env chosen. head_there left more known law.ranges law.head fits env chosen))
-law_there left more known (resolved.NoConcurrency file line) fits = tt
+    (λ env chosen. head_there name_laws left more known law.ranges law.head fits env chosen))
+law_there name_laws left more known (resolved.NoConcurrency file line) fits = tt

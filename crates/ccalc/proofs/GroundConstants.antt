@@ -1,17 +1,15 @@
 -- Each instance of a constant is one of the ground constants, with the values of the constant.
 use Rattle.std.proofs.Common.{◌≡◌, ◌∙◌, ℕ, zero, suc, ◌+◌, Bool, true, false, not, ◌&&◌, List, [], ◌∷◌, map, flat_map, Some, slice_get, refl, sym, ap, subst, arith}
 use Rattle.std.specs.Prelude.{if◌then◌else◌, ◌==◌, nat_eq}
-use Rattle.std.specs.Cmp.Lexicographic.{pointwise}
+use Rattle.std.specs.Cmp.Lexicographic.{bytes_decides, pointwise}
 use Rattle.std.specs.List.{AllByRecursion}
-use Rattle.std.proofs.lemmas.Bool.{eq-eqb, eqb-true}
+use Rattle.std.proofs.lemmas.Bool.{and_parts, eq-eqb, eqb-true}
 use Rattle.cc_defs.specs.declared.signature.Const.{Const}
 use Rattle.cc_defs.specs.declared.signature.Kind.{Kind}
 use Rattle.cc_defs.specs.Declarations.{Declaration, Declared, constants, domain_of, ground_actions, ground_fluents, ground_from, ground_of, instances, is_action, kind_of_constant, members}
-use Rattle.cc_defs.specs.Formulas.{ground_number}
-use Rattle.cc_ground.specs.Environments.{choices}
-use Rattle.cc_ground.specs.Universe.{universe}
-use Rattle.cc_sorts.proofs.Below.{both}
-use Rattle.cc_sorts.proofs.Names.{same_self}
+use Rattle.cc_defs.specs.Signatures.{ground_number}
+use Rattle.cc_defs.specs.Environments.{choices}
+use Rattle.cc_defs.specs.Universe.{constants_in, universe}
 use Rattle.ccalc.proofs.AllRows.{each_of_both}
 use Rattle.ccalc.proofs.Members.{Chosen, In, found_first, in_behind, in_choices, in_front, in_map}
 
@@ -65,8 +63,8 @@ module _ (declarations : List Declaration) where
     pub record IsGround (args : List ℕ) : Type 0 where
       pub at : ℕ
       pub ground_constant : Const
-      pub is : ground_number (universe declarations).constants number args ≡ Some at
-      pub there : slice_get (universe declarations).constants at ≡ Some ground_constant
+      pub is : ground_number (constants_in (universe declarations)) number args ≡ Some at
+      pub there : slice_get (constants_in (universe declarations)) at ≡ Some ground_constant
       pub values : ground_constant.domain ≡ domain_of declarations constant.kind
 
     module _ (is_constant : slice_get (constants declarations) number ≡ Some constant) where
@@ -77,13 +75,13 @@ module _ (declarations : List Declaration) where
           let some : Some other ≡ Some constant = sym here ∙ is_constant in
           cc
 
-      all_have : AllByRecursion HasValues (universe declarations).constants
+      all_have : AllByRecursion HasValues (constants_in (universe declarations))
       all_have =
           each_of_both HasValues (ground_fluents declarations) (ground_actions declarations)
           (from_have (λ kind. not (is_action kind)) 0 (constants declarations) only) (from_have is_action 0 (constants declarations) only)
 
       in_constants : (args : List ℕ) (action : Bool) → is_action (kind_of_constant constant.kind) ≡ action → In args (instances declarations constant.shape.sorts) →
-          In (instance_at number constant args) (universe declarations).constants
+          In (instance_at number constant args) (constants_in (universe declarations))
       in_constants args true e there =
           in_behind (instance_at number constant args) (ground_fluents declarations) (ground_actions declarations)
           (in_from is_action 0 number (constants declarations) args is_constant (omega arith) e there)
@@ -98,8 +96,8 @@ module _ (declarations : List Declaration) where
       ground_there args chosen =
           let listed : In args (instances declarations constant.shape.sorts) =
           subst (λ (w : List (List ℕ)). In args w) (sym (instances_are declarations constant.shape.sorts)) (in_choices (map (members declarations) constant.shape.sorts) args chosen) in
-          let passes : is_instance args (instance_at number constant args) ≡ true = rw (eq-eqb number number refl) (same_self args) in
-          let first = found_first (is_instance args) HasValues (instance_at number constant args) (universe declarations).constants all_have
+          let passes : is_instance args (instance_at number constant args) ≡ true = rw (eq-eqb number number refl) ((bytes_decides args args).1 refl) in
+          let first = found_first (is_instance args) HasValues (instance_at number constant args) (constants_in (universe declarations)) all_have
           (in_constants args (is_action (kind_of_constant constant.kind)) refl listed) passes in
           let same : 0 + first.number ≡ first.number = omega arith in
           record {
@@ -107,5 +105,5 @@ module _ (declarations : List Declaration) where
             ground_constant = first.item;
             is = first.is ∙ ap (λ (n : ℕ). Some n) same;
             there = first.there;
-            values = first.has (eqb-true first.item.symbol number (both (first.item.symbol == number) (pointwise nat_eq first.item.args args) first.passes).0);
+            values = first.has (eqb-true first.item.symbol number (and_parts (first.item.symbol == number) (pointwise nat_eq first.item.args args) first.passes).0);
           }

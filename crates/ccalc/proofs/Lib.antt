@@ -22,6 +22,7 @@ pub mod ListerLemmas
 pub mod ListingTexts
 pub mod Literals
 pub mod Members
+pub mod NameLaws
 pub mod OnePlaces
 pub mod Parsing
 pub mod PlacesAppended

@@ -61,7 +61,7 @@ all_rows-few xs few = rows_below_power xs 12 few
 -- ---- the line of a state
 
 -- a Boolean fluent is shown by its name where it is true
-one_shown : (d : Description) (symbol : ℕ) (name : List ℕ) (value : ℕ) → slice_get d.symbols symbol ≡ Some (symbol_of name) → value < 2
+one_shown : (d : Description) (symbol : ℕ) (name : List ℕ) (value : ℕ) → slice_get d.universe.symbols symbol ≡ Some (symbol_of name) → value < 2
     → shown d (fluent_of symbol) (get_or (0 ∷ 1 ∷ []) value 0) ≡ cond (value == 1) (codes "  " ++ name) []
 one_shown d symbol name zero declared bit = rw declared refl
 one_shown d symbol name (suc zero) declared bit = rw (declared, append-nil) refl
@@ -70,7 +70,7 @@ one_shown d symbol name (suc (suc value)) declared bit = absurd (omega arith)
 -- and so are they all, where the symbols have these names and the constants these values
 names_are_shown : (d : Description) (valuation : ℕ → ℕ) (number : ℕ) (symbols : List ℕ) (names : List (List ℕ)) (row : List ℕ)
     → length symbols ≡ length names → IsRow (map (λ name. 2) names) row
-    → ((k : ℕ) → k < length names → slice_get d.symbols (get_or symbols k 0) ≡ Some (symbol_of (get_or names k [])))
+    → ((k : ℕ) → k < length names → slice_get d.universe.symbols (get_or symbols k 0) ≡ Some (symbol_of (get_or names k [])))
     → ((k : ℕ) → valuation (number + k) ≡ get_or row k 0)
     → constants_shown d (map fluent_of symbols) number valuation ≡ names_shown names row
 names_are_shown d valuation number [] [] row same is declared values = refl

@@ -4,7 +4,7 @@ use Rattle.std.specs.Prelude.{if◌then◌else◌}
 use Rattle.std.specs.List.{AllByRecursion, filter, position_from}
 use Rattle.std.proofs.lemmas.Iterator.Adapters.{position_from-zero}
 use Rattle.cc_defs.specs.Declarations.{numbers_where}
-use Rattle.cc_ground.specs.Environments.{choices}
+use Rattle.cc_defs.specs.Environments.{choices}
 use Rattle.ccalc.proofs.AllRows.{each_of_both}
 
 abbrev pub In : {X : Type 0} → X → List X → Type 0

@@ -1,10 +1,11 @@
 -- What the places of a list with more behind it say is what its own say with what those behind it say.
 use Rattle.std.proofs.Common.{◌≡◌, ◌∙◌, ℕ, ◌+◌, List, [], ◌∷◌, ◌++◌, Option, Some, None, refl, sym, ap, append_assoc, append-nil, arith}
+use Rattle.std.specs.Option.{option_or}
 use Rattle.std.proofs.lemmas.Grind.{flat_map-append}
 use Rattle.std.proofs.lemmas.List.Concat.{flat_map-cons}
 use Rattle.cc_defs.specs.declared.refusal.Refusal.{Refusal}
 use Rattle.ccalc.specs.Describing.{laws_at, laws_behind, queries_at, queries_behind}
-use Rattle.ccalc.specs.FirstRefusal.{declared_at, declared_in, labels_at, labelled_in, bytes_at, bytes_in, refusal_at, or_else, first_behind, opened_behind, opened_until}
+use Rattle.ccalc.specs.FirstRefusal.{declared_at, declared_in, labels_at, labelled_in, bytes_at, bytes_in, refusal_at, first_behind, opened_behind, opened_until}
 use Rattle.ccalc.specs.Places.{Place, opened_at, opened_in}
 
 -- ---- lists behind others
@@ -44,21 +45,21 @@ queries_behind_all before (place ∷ places) after =
 
 -- the first refusal, and the names opened up to it
 
-or_else_assoc : (one two three : Option Refusal) → or_else (or_else one two) three ≡ or_else one (or_else two three)
-or_else_assoc None two three = refl
-or_else_assoc (Some refusal) two three = refl
+option_or_assoc : (one two three : Option Refusal) → option_or (option_or one two) three ≡ option_or one (option_or two three)
+option_or_assoc None two three = refl
+option_or_assoc (Some refusal) two three = refl
 
 pub first_behind_all : (before places after : List Place) →
-    first_behind before (places ++ after) ≡ or_else (first_behind before places) (first_behind (before ++ places) after)
+    first_behind before (places ++ after) ≡ option_or (first_behind before places) (first_behind (before ++ places) after)
 first_behind_all before [] after = ap (λ all. first_behind all after) (sym (append-nil before))
 first_behind_all before (place ∷ places) after =
-    ap (or_else (refusal_at before place)) (first_behind_all (before ++ place ∷ []) places after)
-    ∙ ap (λ all. or_else (refusal_at before place) (or_else (first_behind (before ++ place ∷ []) places) (first_behind all after))) (one_more before place places)
-    ∙ sym (or_else_assoc (refusal_at before place) (first_behind (before ++ place ∷ []) places) (first_behind (before ++ place ∷ places) after))
+    ap (option_or (refusal_at before place)) (first_behind_all (before ++ place ∷ []) places after)
+    ∙ ap (λ all. option_or (refusal_at before place) (option_or (first_behind (before ++ place ∷ []) places) (first_behind all after))) (one_more before place places)
+    ∙ sym (option_or_assoc (refusal_at before place) (first_behind (before ++ place ∷ []) places) (first_behind (before ++ place ∷ places) after))
 
 opened_step : (names : List (List ℕ)) (refused first : Option Refusal) (behind after : List (List ℕ)) →
     names ++ opened_behind refused (behind ++ opened_behind first after)
-    ≡ (names ++ opened_behind refused behind) ++ opened_behind (or_else refused first) after
+    ≡ (names ++ opened_behind refused behind) ++ opened_behind (option_or refused first) after
 opened_step names None first behind after = sym (append_assoc names behind (opened_behind first after))
 opened_step names (Some refusal) first behind after = sym (append-nil (names ++ []))
 
@@ -76,7 +77,7 @@ pub opened_where_none : (before places : List Place) → first_behind before pla
 opened_where_none before [] none = refl
 opened_where_none before (place ∷ places) none = step (refusal_at before place) none (opened_where_none (before ++ place ∷ []) places)
   where
-    step : (refused : Option Refusal) → or_else refused (first_behind (before ++ place ∷ []) places) ≡ None →
+    step : (refused : Option Refusal) → option_or refused (first_behind (before ++ place ∷ []) places) ≡ None →
         (first_behind (before ++ place ∷ []) places ≡ None → opened_until (before ++ place ∷ []) places ≡ opened_in places) →
         opened_at place ++ opened_behind refused (opened_until (before ++ place ∷ []) places) ≡ opened_in (place ∷ places)
     step None none more = ap (λ names. opened_at place ++ names) (more none) ∙ sym (flat_map-cons opened_at place places)

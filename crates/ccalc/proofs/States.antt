@@ -6,7 +6,7 @@ use Rattle.std.proofs.lemmas.List.{ext_get_or}
 use Rattle.std.proofs.lemmas.List.Folds.{list_all-append}
 use Rattle.cc_defs.specs.Rows.{IsRow}
 use Rattle.cc_defs.specs.Theories.{Rule, reduct, satisfies}
-use Rattle.cc_defs.specs.Description.{sizes_at, constants_of, values_at}
+use Rattle.cc_defs.specs.Description.{sizes_at, values_at}
 use Rattle.cc_defs.specs.Rules.{upto, initial_rules, rules_at, rules_at_step}
 use Rattle.ccalc.specs.Small.{Small, description_of, fluent_of, is_declared}
 use Rattle.ccalc.specs.Reading.{first_undeclared}
@@ -28,7 +28,7 @@ pub sizes_of : (small : Small) → sizes_at (description_of small) 0 ≡ map (λ
 sizes_of small = sizes_are (upto (length small.names)) small.names (length-upto _)
 
 read_of : (small : Small) (row : List ℕ) → IsRow (map (λ name. 2) small.names) row
-    → IsRead (constants_of (description_of small)) (values_at (description_of small) row 0) small.names row
+    → IsRead (description_of small).universe (values_at (description_of small) row 0) small.names row
 read_of small row fits = record {
   numbered = fluents_numbered (length small.names);
   values_are = λ k. ap (λ (place : ℕ). get_or row place 0) (omega arith);

@@ -1,7 +1,7 @@
 -- The variables of a law are in its scope, each at a place.
 use Rattle.std.proofs.Common.{◌≡◌, ◌∙◌, ◌⊎◌, inl, inr, ℕ, suc, ◌+◌, Bool, true, false, ◌||◌, List, [], ◌∷◌, ◌++◌, slice_get, Option, Some, None, nat_eq, eqb, refl, sym, ap, subst, arith}
 use Rattle.std.specs.Prelude.{if◌then◌else◌, option_map}
-use Rattle.std.proofs.lemmas.Bool.{eqb-true, eqb-false, ne_eqb}
+use Rattle.std.proofs.lemmas.Bool.{eqb-true, eqb-false, ne_eqb, or_left, or_right}
 use Rattle.std.proofs.lemmas.List.Folds.{list_any-append}
 use Rattle.std.proofs.lemmas.Option.{slice_get-map}
 use Rattle.cc_defs.specs.declared.law.Range.TheVariants as ranges
@@ -9,7 +9,6 @@ use Rattle.cc_laws.specs.Expansion.{sort_ranges}
 use Rattle.cc_laws.specs.FreeVariables.{is_among, unbound, firsts, firsts_after}
 use Rattle.cc_laws.specs.Resolving.{place_from, place_in}
 use Rattle.cc_laws.specs.Vocabulary.{Vocabulary, sort_of_entry}
-use Rattle.cc_sorts.proofs.Names.{or_left, or_right}
 
 -- each of the numbers is in the scope
 abbrev pub Within : List ℕ → List ℕ → Type 0

@@ -1,5 +1,6 @@
 -- A file is opened, and gone through statement by statement.
-use Rattle.std.proofs.Common.{◌≡◌, ◌≢◌, ◌∙◌, ℕ, zero, suc, ◌+◌, ◌-◌, ◌<◌, ◌≤◌, List, [], ◌∷◌, ◌++◌, length, take, drop, map, slice_index_or, unwrap_or, Option, Some, None, option_map, IfSome, Result, Ok, Err, IsErrAnd, refl, sym, ap, subst, inl, inr, append_assoc, append-nil, length-append, arith}
+use Rattle.std.proofs.Common.{◌≡◌, ◌∙◌, ℕ, zero, suc, ◌+◌, ◌-◌, ◌<◌, ◌≤◌, List, [], ◌∷◌, ◌++◌, length, take, drop, map, slice_index_or, unwrap_or, Option, Some, None, option_map, IfSome, IsSome, Result, Ok, Err, IsErrAnd, refl, sym, ap, subst, inl, inr, append_assoc, append-nil, length-append, arith}
+use Rattle.std.specs.Option.{option_or}
 use Rattle.std.specs.List.{AllByRecursion}
 use Rattle.std.proofs.lemmas.List.{take_all, take_more, take-append-drop}
 use Rattle.std.proofs.Math.Seq.{drop-cons}
@@ -10,18 +11,17 @@ use Rattle.cc_defs.specs.declared.refusal.Fault.{Fault}
 use Rattle.cc_defs.specs.declared.refusal.Fault.TheVariants as faults
 use Rattle.cc_defs.specs.declared.refusal.Refusal.{Refusal}
 use Rattle.cc_defs.specs.Resolved.{plain_base_law, plain_query}
-use Rattle.cc_defs.specs.Tokens.{TokenView, AreTokens}
-use Rattle.cc_defs.specs.Tokens.{statements as statements_of}
+use Rattle.cc_defs.specs.Tokens.{TokenView, AreTokens, statements as statements_of}
 use Rattle.cc_ports.specs.Contents.{Contents, with_rest}
 use Rattle.cc_text.specs.Laws.{CutOrStop, StatementsAreTokens}
 use Rattle.cc_text.specs.Reading.{HasRead, HasStopped}
 use Rattle.cc_syntax.specs.Parsing.{TreeOrRefusal}
-use Rattle.ccalc.specs.declared.progress.Halt.{Halt}
-use Rattle.ccalc.specs.declared.progress.Halt.TheVariants as halts
+use Rattle.ccalc.specs.declared.files.Halt.{Halt}
+use Rattle.ccalc.specs.declared.files.Halt.TheVariants as halts
 use Rattle.ccalc.specs.declared.progress.Progress.{Progress}
-use Rattle.ccalc.specs.FirstRefusal.{declared_in, bytes_in, opening_refusal, or_else, first_behind, opened_behind, opened_until}
-use Rattle.ccalc.specs.Places.{Files, Place, Opened, Barred, Said, content, included, opened_in, AreBehind, AreOfStatement, AreOfStatements, AreOfText, NoPlaces, ArePlaces}
-use Rattle.ccalc.specs.ProgressViews.{IsProgress, IsOpened, IsRefusedOpening, IsRefusedStatement, IsTaken, GoesThrough, halt_of}
+use Rattle.ccalc.specs.FirstRefusal.{declared_in, bytes_in, opening_refusal, first_behind, opened_behind, opened_until}
+use Rattle.ccalc.specs.Places.{Files, Place, Opened, Barred, Said, AreThere, content, included, opened_in, AreBehind, AreOfStatement, AreOfStatements, AreOfText, NoPlaces, ArePlaces}
+use Rattle.ccalc.specs.ProgressViews.{IsProgress, IsOpened, IsRefusedOpening, IsRefusedStatement, IsTaken, FindsFiles, GoesThrough, halt_of}
 use Rattle.ccalc.proofs.HasPlaces.{Has, behind_exists, statements_exist, text_places_exist, places_exist}
 use Rattle.ccalc.proofs.ProgressLemmas.{step, nothing_more}
 use Rattle.cc_sorts.specs.Tables.{IsTable}
@@ -102,18 +102,17 @@ of_file (suc deep) files around file name behind are = (behind, are, refl)
 
 -- where a statement is refused
 pub statement_refused : CutOrStop → StatementsAreTokens → TreeOrRefusal → (deep : ℕ) (files : Files) (around : List (List ℕ)) (file : ℕ)
-    (before : List Place) (tokens : List TokenView) (halt : Halt) (old new : Progress) → IsProgress old before → new.names ≡ old.names
-    → IsRefusedStatement before file around tokens halt
-    → GoesThrough (AreOfStatement (AreInside deep files around) file around (length (opened_in before)) tokens) before {T = Unit {0}} (Err halt) new
-statement_refused cut are read deep files around file before tokens halts.ReadFault old new was names refused = tt
-statement_refused cut are read deep files around file before tokens halts.OutOfMemory old new was names refused = tt
-statement_refused cut are read deep files around file before tokens (halts.Refused refusal) old new was names (inl refused) =
+    (before : List Place) (tokens : List TokenView) (fault : Fault) (old new : Progress) → IsProgress old before → new.names ≡ old.names
+    → IsRefusedStatement before file around tokens fault
+    → GoesThrough (AreOfStatement (AreInside deep files around) file around (length (opened_in before)) tokens) before {T = Unit {0}} (Err (halt_of fault)) new
+statement_refused cut are read deep files around file before tokens faults.OutOfMemory old new was names refused = tt
+statement_refused cut are read deep files around file before tokens (faults.Refused refusal) old new was names (inl refused) =
     (Barred refusal ∷ [], inl (refusal, refused, refl), refl, ap (λ l. l.items) names ∙ was.names ∙ sym (append-nil (opened_in before)))
-statement_refused cut are read deep files around file before tokens (halts.Refused refusal) old new was names (inr (statement, parsed, refused)) =
+statement_refused cut are read deep files around file before tokens (faults.Refused refusal) old new was names (inr (statement, parsed, refused)) =
     let behind = behind_exists (AreInside deep files around) (inside_exist cut are read deep files around) (length (opened_in before)) (included statement.part) in (
       Said file around statement ∷ behind.0,
       inr (statement, behind.0, parsed, behind.1, refl),
-      ap (λ one. or_else one (first_behind (before ++ Said file around statement ∷ []) behind.0)) refused,
+      ap (λ one. option_or one (first_behind (before ++ Said file around statement ∷ []) behind.0)) refused,
       ap (λ l. l.items) names ∙ was.names ∙ sym (append-nil (opened_in before))
           ∙ ap (λ one. opened_in before ++ opened_behind one (opened_until (before ++ Said file around statement ∷ []) behind.0)) (sym refused),
     )
@@ -125,7 +124,7 @@ pub statement_alone : (Inside : ℕ → List ℕ → List Place → Type 0) (aro
 statement_alone Inside around file before tokens done new (statement, parsed, is, says) = (
   Said file around statement ∷ [],
   inr (statement, [], parsed, subst (λ name. AreBehind Inside (length (opened_in before)) name []) is refl, refl),
-  ap (λ one. or_else one None) says.unrefused,
+  ap (λ one. option_or one None) says.unrefused,
   says.taken,
 )
 
@@ -158,13 +157,13 @@ statement_includes Inside around file before tokens name result now new (stateme
     step (Ok done) are (behind, inside, none, kept) = (
       place ∷ behind,
       are behind inside,
-      ap (λ one. or_else one (first_behind (before ++ place ∷ []) behind)) says.unrefused ∙ none,
+      ap (λ one. option_or one (first_behind (before ++ place ∷ []) behind)) says.unrefused ∙ none,
       subst (IsProgress new) (append_assoc before (place ∷ []) behind) kept,
     )
     step (Err (halts.Refused refusal)) are (behind, inside, some, names) = (
       place ∷ behind,
       are behind inside,
-      ap (λ one. or_else one (first_behind (before ++ place ∷ []) behind)) says.unrefused ∙ some,
+      ap (λ one. option_or one (first_behind (before ++ place ∷ []) behind)) says.unrefused ∙ some,
       names ∙ ap (λ l. l ++ opened_until (before ++ place ∷ []) behind) (opened_in_behind before place ∙ append-nil (opened_in before))
           ∙ ap (λ one. opened_in before ++ opened_behind one (opened_until (before ++ place ∷ []) behind)) (sym says.unrefused),
     )
@@ -254,7 +253,7 @@ midway_goes {deep} {files} {before} {name} {file} {around} {statements} {i} {old
       done = m.done ++ places;
       are = subst (λ all. AreOfStatements (AreInside deep files around) file around (file + 1) all (m.done ++ places)) (sym (take_more statements i [] within))
           (statements_all (AreInside deep files around) file around (file + 1) (take i statements) (tokens ∷ []) m.done places m.are one);
-      none = first_behind_all start m.done places ∙ ap (λ first. or_else first (first_behind (start ++ m.done) places)) m.none ∙ none;
+      none = first_behind_all start m.done places ∙ ap (λ first. option_or first (first_behind (start ++ m.done) places)) m.none ∙ none;
       kept = subst (IsProgress new) (append_assoc start m.done places) kept;
     }
 
@@ -278,7 +277,7 @@ midway_ends {deep} {files} {before} {name} {file} {statements} {i} {old} around 
       Opened name bytes ∷ m.done,
       subst (λ n. ArePlaces deep files around n name (Opened name bytes ∷ m.done)) m.number
           (of_file deep files around file name m.done (inr (tokens, cut, short, are))),
-      ap (λ one. or_else one (first_behind (before ++ Opened name bytes ∷ []) m.done)) m.unrefused ∙ m.none,
+      ap (λ one. option_or one (first_behind (before ++ Opened name bytes ∷ []) m.done)) m.unrefused ∙ m.none,
       progress_left (before ++ Opened name bytes ∷ m.done) old new (subst (IsProgress old) (append_assoc before (Opened name bytes ∷ []) m.done) m.kept) left,
     )
 
@@ -336,9 +335,9 @@ midway_stops cut are read {deep} {files} {before} {name} {file} {statements} {i}
       Opened name bytes ∷ behind,
       subst (λ n. ArePlaces deep files around n name (Opened name bytes ∷ behind)) m.number
           (of_file deep files around file name behind (inr (tokens, is_cut, short, whole))),
-      ap (λ refused. or_else refused (first_behind start behind)) m.unrefused ∙ first_behind_all start m.done (places ++ rest.0)
-          ∙ ap (λ refused. or_else refused (first_behind mid (places ++ rest.0))) m.none ∙ first_behind_all mid places rest.0
-          ∙ ap (λ refused. or_else refused (first_behind (mid ++ places) rest.0)) some,
+      ap (λ refused. option_or refused (first_behind start behind)) m.unrefused ∙ first_behind_all start m.done (places ++ rest.0)
+          ∙ ap (λ refused. option_or refused (first_behind mid (places ++ rest.0))) m.none ∙ first_behind_all mid places rest.0
+          ∙ ap (λ refused. option_or refused (first_behind (mid ++ places) rest.0)) some,
       names ∙ names_stopped before m.done places rest.0 name bytes refusal m.unrefused m.none some,
     )
 
@@ -358,7 +357,7 @@ opening_stops cut are read deep files before name around (halts.Refused refusal)
     let behind = text_places_exist cut are read (AreInside deep files within_file) (inside_exist cut are read deep files within_file) file within_file bytes in (
       Opened name bytes ∷ behind.0,
       of_file deep files around file name behind.0 behind.1,
-      ap (λ one. or_else one (first_behind (before ++ Opened name bytes ∷ []) behind.0)) refused,
+      ap (λ one. option_or one (first_behind (before ++ Opened name bytes ∷ []) behind.0)) refused,
       names ∙ ap (λ one. opened_in before ++ name ∷ opened_behind one (opened_until (before ++ Opened name bytes ∷ []) behind.0)) (sym refused),
     )
 
@@ -372,7 +371,7 @@ text_refused deep files before name file around (faults.Refused refusal) new ope
       Opened name there ∷ Barred refusal ∷ [],
       subst (λ n. ArePlaces deep files around n name (Opened name there ∷ Barred refusal ∷ [])) number
           (of_file deep files around file name (Barred refusal ∷ []) (inl (stopped.0, refusal, stopped.1, refl))),
-      ap (λ one. or_else one (Some refusal)) opened.unrefused,
+      ap (λ one. option_or one (Some refusal)) opened.unrefused,
       opened.opened.names ∙ opened_in_behind before (Opened name there) ∙ ap (λ one. opened_in before ++ name ∷ opened_behind one []) (sym opened.unrefused),
     )
 
@@ -401,10 +400,10 @@ taken_as before file other around taken tokens name named new other_is tokens_ar
     subst (λ a. IsTaken before file a tokens named new) other_is (subst (λ l. IsTaken before file other l named new) tokens_are
     (subst (λ o. IsTaken before file other taken o new) name_is is_taken))
 
-pub refused_as : (before : List Place) (file : ℕ) (other around : List (List ℕ)) (taken tokens : List TokenView) (halt : Halt)
-    → other ≡ around → taken ≡ tokens → IsRefusedStatement before file other taken halt → IsRefusedStatement before file around tokens halt
-refused_as before file other around taken tokens halt other_is tokens_are refused =
-    subst (λ a. IsRefusedStatement before file a tokens halt) other_is (subst (λ l. IsRefusedStatement before file other l halt) tokens_are refused)
+pub refused_as : (before : List Place) (file : ℕ) (other around : List (List ℕ)) (taken tokens : List TokenView) (fault : Fault)
+    → other ≡ around → taken ≡ tokens → IsRefusedStatement before file other taken fault → IsRefusedStatement before file around tokens fault
+refused_as before file other around taken tokens fault other_is tokens_are refused =
+    subst (λ a. IsRefusedStatement before file a tokens fault) other_is (subst (λ l. IsRefusedStatement before file other l fault) tokens_are refused)
 
 inside_is : (deep : ℕ) (files : Files) (around : List (List ℕ)) → 0 < deep → ArePlaces (deep - 1) files around ≡ AreInside deep files around
 inside_is zero files around some = absurd (omega arith)
@@ -429,7 +428,43 @@ statement_ends deep files around file before tokens name done now none taken =
     (statement_includes NoPlaces around file before tokens name (Ok done) now now taken
     (λ more kept. ([], refl, refl, subst (IsProgress now) (sym (append-nil more)) kept)))
 
--- one that is told is no fault of the desk
-pub never_told : (result : Result (Unit {0}) Halt) (halt fault : Halt) → IsErrAnd result (λ told. told ≡ halt) → halt ≢ fault → result ≡ Err fault → ⊥
-never_told (Ok done) halt fault is other same = elim is [ ]
-never_told (Err told) halt fault is other same = other cc
+-- a statement that is refused is no fault of the desk
+pub no_fault : (result : Result (Unit {0}) Halt) (fault : Fault) → IsErrAnd result (λ told. told ≡ halt_of fault) → result ≡ Err halts.ReadFault → ⊥
+no_fault (Ok done) fault is same = elim is [ ]
+no_fault (Err told) (faults.Refused refusal) is same = absurd cc
+no_fault (Err told) faults.OutOfMemory is same = absurd cc
+
+-- ---- the files that are opened are there
+
+pub there_too : (files : Files) (names : List (List ℕ)) (name : List ℕ) → AreThere files names → IsSome (files name) → AreThere files (names ++ name ∷ [])
+there_too files [] name are is = (is, tt)
+there_too files (first ∷ names) name are is = (are.0, there_too files names name are.1 is)
+
+-- a name that was read is
+pub read_there : (told : Option Contents) (contents : Contents) (name bytes : List ℕ) → told ≡ Some contents
+    → IfSome told (λ c. c.files name ≡ Some bytes) → IsSome (contents.files name)
+read_there told contents name bytes is there = let found = rw is at there in rw found refl
+
+pub long_there : (told : Option Contents) (contents : Contents) (name : List ℕ) (most : ℕ) → told ≡ Some contents
+    → IfSome told (λ c. (bytes : List ℕ) × (c.files name ≡ Some bytes) × (most < length bytes)) → IsSome (contents.files name)
+long_there told contents name most is there = let found = rw is at there in rw (found.1) refl
+
+pub finds : {T : Type 0} (files : Files) (result : Result T Halt) (names : List (List ℕ)) → AreThere files names → FindsFiles files result names
+finds files (Ok done) names are = are
+finds files (Err (halts.Refused refusal)) names are = are
+finds files (Err halts.ReadFault) names are = tt
+finds files (Err halts.OutOfMemory) names are = tt
+
+-- what an error is told as
+pub finds_as : {T : Type 0} (U : Type 0) (files : Files) (result : Result T Halt) (halt : Halt) (names : List (List ℕ))
+    → IsErrAnd result (λ told. told ≡ halt) → FindsFiles files {T = U} (Err halt) names → FindsFiles files result names
+finds_as U files (Ok done) halt names is found = elim is [ ]
+finds_as {T} U files (Err told) halt names is found = moved told is
+  where
+    at : (h : Halt) → FindsFiles files {T = U} (Err h) names → FindsFiles files {T = T} (Err h) names
+    at (halts.Refused refusal) found = found
+    at halts.ReadFault found = tt
+    at halts.OutOfMemory found = tt
+
+    moved : (told : Halt) → told ≡ halt → FindsFiles files {T = T} (Err told) names
+    moved told is = subst (λ h. FindsFiles files {T = T} (Err h) names) (sym is) (at halt found)

@@ -13,7 +13,7 @@ use Rattle.ccalc.specs.declared.describe.Described.{Described}
 use Rattle.ccalc.specs.declared.describe.DescribeStop.{DescribeStop}
 use Rattle.ccalc.specs.declared.describe.DescribeStop.TheVariants as stops
 use Rattle.ccalc.specs.FirstRefusal.{declared_in, file_named, first_refusal, opened_until}
-use Rattle.ccalc.specs.Places.{Files, Place, Said, opened_in, AreAllPlaces}
+use Rattle.ccalc.specs.Places.{Files, Place, Said, opened_in, AreAllPlaces, AreThere}
 
 -- The base laws of a statement, at the declarations up to its own; a constant has those of its kind behind its declaration.
 abbrev pub laws_at : List Place → Place → List BaseLaw
@@ -50,15 +50,18 @@ pub record IsDescribed (places : List Place) (described : Described) : Type 0 wh
 abbrev pub HasSignature : Described → Type 0
 HasSignature described = (declarations : List Declaration) × IsTable described.table declarations × IsSignatureOf declarations described.sig
 
--- the places of the description have no refusal, and this is what they say
+-- the places of the description have no refusal, this is what they say, and its files are there
 abbrev pub Describes : Files → List ℕ → Described → Type 0
 Describes files name described =
     (places : List Place) × AreAllPlaces files name places × (first_refusal places ≡ None) × IsDescribed places described
+    × AreThere files (opened_in places)
 
--- exactly the refusal of the places; nothing is said of a fault of the desk or want of memory
+-- exactly the refusal of the places, before which all files are there; nothing is said of a fault of the desk or want of
+-- memory
 abbrev pub HasStopped : Files → List ℕ → DescribeStop → Type 0
 HasStopped files name (stops.Refused refusal file) =
     (places : List Place) × AreAllPlaces files name places × (first_refusal places ≡ Some refusal) × (file ≡ file_named (opened_until [] places) refusal)
+    × AreThere files (opened_until [] places)
 HasStopped files name stops.ReadFault = Unit {0}
 HasStopped files name stops.OutOfMemory = Unit {0}
 

@@ -1,6 +1,7 @@
 -- The refusal of a description: that of the first place that has one, each judged by what stands before it; and if no place
 -- has one, that of all declarations together.
 use Rattle.std.specs.Prelude.{ℕ, ◌+◌, ◌==◌, nat_lt, if◌then◌else◌, Bool, List, [], ◌∷◌, ◌++◌, length, flat_map, slice_index_or, Option, Some, None}
+use Rattle.std.specs.Option.{option_or}
 use Rattle.std.specs.List.{list_any}
 use Rattle.cc_defs.specs.declared.refusal.LimitAt.{LimitAt}
 use Rattle.cc_defs.specs.declared.refusal.LimitAt.TheVariants as limits
@@ -86,17 +87,13 @@ refusal_at before (Said file around statement) = statement_refusal before file a
 
 -- ---- the first refusal
 
-abbrev pub or_else : Option Refusal → Option Refusal → Option Refusal
-or_else (Some refusal) other = Some refusal
-or_else None other = other
-
 -- of the places behind others
 abbrev pub first_behind : List Place → List Place → Option Refusal
 first_behind before [] = None
-first_behind before (place ∷ places) = or_else (refusal_at before place) (first_behind (before ++ place ∷ []) places)
+first_behind before (place ∷ places) = option_or (refusal_at before place) (first_behind (before ++ place ∷ []) places)
 
 abbrev pub first_refusal : List Place → Option Refusal
-first_refusal places = or_else (first_behind [] places) (signature_refusal (declared_in places))
+first_refusal places = option_or (first_behind [] places) (signature_refusal (declared_in places))
 
 -- the names of the files that are opened up to the first refusal
 abbrev pub opened_behind : Option Refusal → List (List ℕ) → List (List ℕ)

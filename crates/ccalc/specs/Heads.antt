@@ -3,9 +3,9 @@ use Rattle.std.specs.Prelude.{◌≡◌, List, [], None, IsSome}
 use Rattle.std.specs.List.{AllByRecursion}
 use Rattle.cc_defs.specs.Resolved.{BaseLaw}
 use Rattle.cc_defs.specs.Resolved as resolved
-use Rattle.cc_ground.specs.Environments.{environments}
-use Rattle.cc_ground.specs.Grounding.{ground_head}
-use Rattle.cc_ground.specs.Universe.{Universe, universe}
+use Rattle.cc_defs.specs.Environments.{environments}
+use Rattle.cc_arena.specs.Grounding.{ground_head}
+use Rattle.cc_defs.specs.Universe.{Universe, universe}
 use Rattle.ccalc.specs.Describing.{laws_behind}
 use Rattle.ccalc.specs.FirstRefusal.{declared_in, first_refusal}
 use Rattle.ccalc.specs.Places.{Place}

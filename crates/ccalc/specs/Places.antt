@@ -1,6 +1,6 @@
 -- The places of a description in the order in which they are looked at: each file where it is opened, then its statements,
 -- with the places of an included file behind its include.
-use Rattle.std.specs.Prelude.{◌≡◌, ◌⊎◌, ℕ, zero, suc, ◌+◌, List, [], ◌∷◌, ◌++◌, length, flat_map, Option, Some, None, unwrap_or}
+use Rattle.std.specs.Prelude.{◌≡◌, ◌⊎◌, ℕ, zero, suc, ◌+◌, List, [], ◌∷◌, ◌++◌, length, flat_map, Option, Some, None, IsSome, unwrap_or}
 use Rattle.std.specs.List.{AllByRecursion}
 use Rattle.cc_defs.specs.declared.refusal.LimitAt.TheVariants.{IncludeDepth}
 use Rattle.cc_defs.specs.declared.refusal.Refusal.{Refusal}
@@ -16,6 +16,9 @@ Files = List ℕ → Option (List ℕ)
 -- one that is not there is empty
 abbrev pub content : Files → List ℕ → List ℕ
 content files name = unwrap_or (files name) []
+
+abbrev pub AreThere : Files → List (List ℕ) → Type 0
+AreThere files names = AllByRecursion (λ name. IsSome (files name)) names
 
 pub data Place : Type 0 where
   -- a file is opened

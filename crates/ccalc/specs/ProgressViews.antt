@@ -2,7 +2,6 @@
 use Rattle.std.specs.Prelude.{◌≡◌, ◌⊎◌, ℕ, List, [], ◌∷◌, ◌++◌, map, Bool, true, false, Option, Some, None, Result, Ok, Err}
 use Rattle.cc_defs.specs.declared.refusal.Fault.{Fault}
 use Rattle.cc_defs.specs.declared.refusal.Fault.TheVariants as faults
-use Rattle.cc_defs.specs.declared.refusal.Refusal.{Refusal}
 use Rattle.cc_defs.specs.Resolved.{plain_base_law, plain_query}
 use Rattle.cc_defs.specs.Statements.{IsRefused, IsParsed}
 use Rattle.cc_defs.specs.Tokens.{TokenView}
@@ -11,12 +10,12 @@ use Rattle.cc_defs.specs.Trees as trees
 use Rattle.cc_sorts.specs.Tables.{IsTable}
 use Rattle.ccalc.specs.declared.describe.DescribeStop.{DescribeStop}
 use Rattle.ccalc.specs.declared.describe.DescribeStop.TheVariants as stops
-use Rattle.ccalc.specs.declared.progress.Halt.{Halt}
-use Rattle.ccalc.specs.declared.progress.Halt.TheVariants as halts
+use Rattle.ccalc.specs.declared.files.Halt.{Halt}
+use Rattle.ccalc.specs.declared.files.Halt.TheVariants as halts
 use Rattle.ccalc.specs.declared.progress.Progress.{Progress}
 use Rattle.ccalc.specs.Describing.{laws_behind, queries_behind}
 use Rattle.ccalc.specs.FirstRefusal.{declared_in, file_named, labelled_in, bytes_in, first_behind, opened_until, opening_refusal, statement_refusal}
-use Rattle.ccalc.specs.Places.{Place, Opened, Said, included, opened_in}
+use Rattle.ccalc.specs.Places.{Files, Place, Opened, Said, included, opened_in, AreThere}
 
 -- what is kept is that of these places
 pub record IsProgress (progress : Progress) (places : List Place) : Type 0 where
@@ -31,12 +30,6 @@ abbrev pub halt_of : Fault → Halt
 halt_of (faults.Refused refusal) = halts.Refused refusal
 halt_of faults.OutOfMemory = halts.OutOfMemory
 
--- What is refused, if anything is, and that the refusal is told; nothing is said of a fault of the desk or want of memory.
-abbrev pub IsRefusedBy : Option Refusal → Halt → Type 0
-IsRefusedBy refused (halts.Refused refusal) = refused ≡ Some refusal
-IsRefusedBy refused halts.ReadFault = Unit {0}
-IsRefusedBy refused halts.OutOfMemory = Unit {0}
-
 -- A statement is not refused, and was taken up.
 pub record Says (before : List Place) (file : ℕ) (around : List (List ℕ)) (statement : PlainStatement) (new : Progress) : Type 0 where
   pub unrefused : statement_refusal before file around statement statement.part ≡ None
@@ -47,13 +40,12 @@ abbrev pub IsTaken : List Place → ℕ → List (List ℕ) → List TokenView �
 IsTaken before file around tokens name new =
     (statement : PlainStatement) × IsParsed tokens statement × (name ≡ included statement.part) × Says before file around statement new
 
--- The statement is refused so; nothing is said of a fault of the desk or want of memory.
-abbrev pub IsRefusedStatement : List Place → ℕ → List (List ℕ) → List TokenView → Halt → Type 0
-IsRefusedStatement before file around tokens (halts.Refused refusal) =
+-- The statement is refused so, or memory was wanting.
+abbrev pub IsRefusedStatement : List Place → ℕ → List (List ℕ) → List TokenView → Fault → Type 0
+IsRefusedStatement before file around tokens (faults.Refused refusal) =
     IsRefused file tokens refusal
     ⊎ ((statement : PlainStatement) × IsParsed tokens statement × (statement_refusal before file around statement statement.part ≡ Some refusal))
-IsRefusedStatement before file around tokens halts.ReadFault = Unit {0}
-IsRefusedStatement before file around tokens halts.OutOfMemory = Unit {0}
+IsRefusedStatement before file around tokens faults.OutOfMemory = Unit {0}
 
 -- a statement of sorts, objects, variables or constants
 abbrev pub declares : PlainPart → Bool
@@ -84,6 +76,13 @@ GoesThrough Are before (Err (halts.Refused refusal)) new =
     × (new.names.items ≡ opened_in before ++ opened_until before places)
 GoesThrough Are before (Err halts.ReadFault) new = Unit {0}
 GoesThrough Are before (Err halts.OutOfMemory) new = Unit {0}
+
+-- The files with these names are there; nothing is said of a fault of the desk or want of memory.
+abbrev pub FindsFiles : Files → {T : Type 0} → Result T Halt → List (List ℕ) → Type 0
+FindsFiles files (Ok done) names = AreThere files names
+FindsFiles files (Err (halts.Refused refusal)) names = AreThere files names
+FindsFiles files (Err halts.ReadFault) names = Unit {0}
+FindsFiles files (Err halts.OutOfMemory) names = Unit {0}
 
 -- why a description stops, with the name of the file that a refusal speaks of
 abbrev pub StopsAs : List (List ℕ) → Halt → DescribeStop → Type 0

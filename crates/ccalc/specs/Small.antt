@@ -5,9 +5,9 @@ use Rattle.cc_defs.specs.declared.signature.Const.{Const}
 use Rattle.cc_defs.specs.declared.signature.Kind.TheVariants as kinds
 use Rattle.cc_defs.specs.declared.signature.LawKind.TheVariants as law_kinds
 use Rattle.cc_defs.specs.declared.signature.Symbol.{Symbol}
-use Rattle.cc_defs.specs.Formulas as formulas
-use Rattle.cc_defs.specs.Description as descriptions
+use Rattle.cc_defs.specs.Description.{Description}
 use Rattle.cc_defs.specs.Grammar.{reserved_words}
+use Rattle.cc_defs.specs.Resolved as resolved
 use Rattle.cc_defs.specs.Rules.{upto}
 use Rattle.cc_defs.specs.Tokens.{is_word}
 use Rattle.ccalc.specs.Pieces.{Token, AreTokens, same_bytes}
@@ -114,26 +114,30 @@ abbrev pub number_of : List (List ℕ) → List ℕ → ℕ
 number_of names name = unwrap_or (position (same_bytes name) names) 0
 
 -- a Boolean constant alone stands for the constant being `true`, which is object 1
-abbrev pub literal_formula : List (List ℕ) → Literal → formulas.Formula
+abbrev pub literal_formula : List (List ℕ) → Literal → resolved.Formula
 literal_formula names literal =
-    let is_true = formulas.Equal (formulas.Constant (number_of names literal.name) []) (formulas.Object 1)
-    in if literal.positive then is_true else formulas.Not is_true
+    let is_true = resolved.Equal (resolved.Constant (number_of names literal.name) resolved.NoTerms) (resolved.Object 1)
+    in if literal.positive then is_true else resolved.Not is_true
 
-abbrev pub body_formula : List (List ℕ) → List Literal → formulas.Formula
-body_formula names [] = formulas.Truth
-body_formula names (literal ∷ literals) = fold formulas.Both (literal_formula names literal) (map (literal_formula names) literals)
+abbrev pub body_formula : List (List ℕ) → List Literal → resolved.Formula
+body_formula names [] = resolved.Truth
+body_formula names (literal ∷ literals) = fold resolved.Both (literal_formula names literal) (map (literal_formula names) literals)
 
-abbrev pub literal_head : List (List ℕ) → Option Literal → formulas.Head
-literal_head names None = formulas.Falsity
-literal_head names (Some literal) = formulas.Atom (number_of names literal.name) [] (formulas.Object (if literal.positive then 1 else 0))
+abbrev pub literal_head : List (List ℕ) → Option Literal → resolved.Head
+literal_head names None = resolved.Falsity
+literal_head names (Some literal) = resolved.Atom (number_of names literal.name) [] (resolved.Object (if literal.positive then 1 else 0))
 
--- a static law
-abbrev pub law_of : List (List ℕ) → Law → descriptions.Law
+-- a static law without variables
+abbrev pub law_of : List (List ℕ) → Law → resolved.Law
 law_of names law = record {
+  ranges = [];
   head = literal_head names law.head;
   body = body_formula names law.body;
   after = None;
+  test = resolved.Truth;
   kind = law_kinds.Static;
+  file = 0;
+  line = law.line;
 }
 
 abbrev pub symbol_of : List ℕ → Symbol
@@ -143,15 +147,18 @@ abbrev pub fluent_of : ℕ → Const
 fluent_of symbol = record { symbol = symbol; args = []; kind = kinds.Simple; domain = 0 ∷ 1 ∷ [] }
 
 -- Boolean simple fluents, and the laws
-abbrev pub description_of : Small → descriptions.Description
+abbrev pub description_of : Small → Description
 description_of small = record {
   objects = codes "false" ∷ codes "true" ∷ [];
-  symbols = map symbol_of small.names;
-  fluents = map fluent_of (upto (length small.names));
-  actions = [];
-  laws = map (law_of small.names) small.laws;
+  universe = record {
+    sorts = (0 ∷ 1 ∷ []) ∷ [];
+    symbols = map symbol_of small.names;
+    fluents = map fluent_of (upto (length small.names));
+    actions = [];
+  };
+  laws = map (λ law. resolved.One (law_of small.names law)) small.laws;
 }
 
 -- the query for the states
-abbrev pub states_query : descriptions.Query
-states_query = record { lo = 0; hi = 0; conditions = []; claim = None }
+abbrev pub states_query : resolved.Query
+states_query = record { label = None; range = Some (0, 0); conditions = []; claim = None; file = 0; line = 1 }

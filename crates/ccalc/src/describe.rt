@@ -7,8 +7,8 @@ ghost use Rattle.ccalc.specs.FirstRefusal.{declared_in, file_named};
 ghost use Rattle.ccalc.specs.Places.{Place};
 ghost use Rattle.ccalc.specs.ProgressViews.{IsProgress, StopsAs};
 
-use crate::files::read_file;
-use crate::progress::{Halt, Progress};
+use crate::files::{Halt, read_file};
+use crate::progress::Progress;
 use cc_defs::{BaseLaws, LimitAt, List, Name, Names, OutOfMemory, Queries, Refusal, Sig};
 use cc_ports::Desk;
 use cc_sorts::Table;
@@ -42,7 +42,8 @@ pub enum DescribeStop {
 /// least of 4 to 11; an include 17, then 14, include depth); then all declarations together (12, then 14, domain values or
 /// ground constants).
 pub fn describe<D: Desk>(alloc: Global, desk: &mut D, name: &str) -> Result<Described, DescribeStop>
-    // Where the desk tells its files, Ok is what they describe, and a refusal is exactly the first that they have.
+    // Where the desk tells its files, Ok is what they describe, and a refusal is exactly the first that they have; the files
+    // that were opened are there.
     ensures described { IfSome (D.told desk.old) (λ contents. IfOk result (Describes contents.files name.now)) }
     ensures refused { IfSome (D.told desk.old) (λ contents. IfErr result (HasStopped contents.files name.now)) }
     ensures signature { IfOk result HasSignature }

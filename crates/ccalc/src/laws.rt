@@ -3,6 +3,7 @@ ghost use Rattle.ccalc.specs.Laws.{RowsThatPassAreTheStates, ListingIsFair, Text
 ghost use Rattle.ccalc.specs.Heads.{HeadsAreThere};
 ghost use Rattle.ccalc.specs.Places.{HasPlaces, OneListOfPlaces};
 
+use cc_sorts::laws::{below_goes_on, declared_is_known, numbers_are_places, numbers_stay};
 use cc_syntax::laws::{one_tree, tree_or_refusal};
 use cc_text::laws::{cut_or_stop, cuts_or_stops, one_cut, one_stop, statements_are_tokens};
 
@@ -44,4 +45,9 @@ pub fn has_places()
 /// Each base law of a description that is not refused has a head under each of its environments.
 pub fn heads_are_there()
     ensures { HeadsAreThere }
-{}
+{
+    below_goes_on();
+    declared_is_known();
+    numbers_are_places();
+    numbers_stay();
+}

@@ -1,5 +1,5 @@
 //! What was read of a description, statement by statement.
-ghost use Rattle.std.specs.Prelude.{◌≡◌, ◌≢◌, ◌++◌, ◌∷◌, ◌<◌, ◌≤◌, ◌+◌, ◌-◌, [], List as Items, None, false, length, map, flat_map, take, option_copied, IfOk, IfErr, IfSome, OnOk, IsTrue};
+ghost use Rattle.std.specs.Prelude.{◌≡◌, ◌++◌, ◌∷◌, ◌<◌, ◌≤◌, ◌+◌, ◌-◌, [], List as Items, None, false, length, map, flat_map, take, option_copied, IfOk, IfErr, IfSome, OnOk, IsTrue};
 ghost use Rattle.std.specs.List.{list_any};
 ghost use Rattle.cc_defs.specs.Declarations.{Declaration};
 ghost use Rattle.cc_defs.specs.DeclarationFaults.{declaration_refusal};
@@ -17,7 +17,8 @@ ghost use Rattle.cc_sorts.specs.Tables.{IsTable};
 ghost use Rattle.cc_text.specs.Views.{token_views};
 ghost use Rattle.ccalc.specs.FirstRefusal.{declared_in, is_among, asking_refusal, include_refusal, limit_at, number_at, statement_refusal};
 ghost use Rattle.ccalc.specs.Places.{Place, included};
-ghost use Rattle.ccalc.specs.ProgressViews.{IsProgress, IsRefusedBy, IsRefusedStatement, IsTaken, Says, declares};
+ghost use Rattle.cc_ground.specs.Views.{IsRefusedBy};
+ghost use Rattle.ccalc.specs.ProgressViews.{IsProgress, IsRefusedStatement, IsTaken, Says, declares};
 
 use crate::labels::Labels;
 use cc_defs::{
@@ -26,51 +27,7 @@ use cc_defs::{
 use cc_laws::{expand, question};
 use cc_sorts::Table;
 use cc_syntax::parse;
-use std::alloc::{AllocError, Global};
-
-/// Why the reading of a description ends before its end.
-#[derive(Clone, Copy, Debug, PartialEq, Eq)]
-pub(crate) enum Halt {
-    Refused(Refusal),
-    ReadFault,
-    OutOfMemory,
-}
-
-impl From<Fault> for Halt {
-    ghost use Rattle.std.specs.Prelude.{◌≡◌};
-    ghost use Rattle.ccalc.specs.ProgressViews.{halt_of};
-
-    ghost from_gives = { λ fault halt. halt ≡ halt_of fault };
-
-    fn from(fault: Fault) -> Self {
-        match fault {
-            Fault::Refused(refusal) => Halt::Refused(refusal),
-            Fault::OutOfMemory => Halt::OutOfMemory,
-        }
-    }
-}
-
-impl From<OutOfMemory> for Halt {
-    ghost use Rattle.std.specs.Prelude.{◌≡◌};
-    ghost use Rattle.ccalc.specs.declared.progress.Halt.TheVariants as halts;
-
-    ghost from_gives = { λ _ halt. halt ≡ halts.OutOfMemory };
-
-    fn from(_: OutOfMemory) -> Self {
-        Halt::OutOfMemory
-    }
-}
-
-impl From<AllocError> for Halt {
-    ghost use Rattle.std.specs.Prelude.{◌≡◌};
-    ghost use Rattle.ccalc.specs.declared.progress.Halt.TheVariants as halts;
-
-    ghost from_gives = { λ _ halt. halt ≡ halts.OutOfMemory };
-
-    fn from(_: AllocError) -> Self {
-        Halt::OutOfMemory
-    }
-}
+use std::alloc::Global;
 
 /// What the statements that were read so far say.
 #[derive(Drop)]
@@ -87,10 +44,10 @@ pub(crate) struct Progress {
     pub(crate) around: Vec<Name>,
 }
 
-pub(crate) fn refused(number: u8, file: u32, line: u32) -> Halt
-    ensures { result ≡ Halt.Refused (number_at number file line) }
+fn refused(number: u8, file: u32, line: u32) -> Fault
+    ensures { result ≡ Fault.Refused (number_at number file line) }
 {
-    Halt::Refused(Refusal {
+    Fault::Refused(Refusal {
         number,
         file,
         line,
@@ -98,10 +55,10 @@ pub(crate) fn refused(number: u8, file: u32, line: u32) -> Halt
     })
 }
 
-pub(crate) fn past(limit: LimitAt, file: u32, line: u32) -> Halt
-    ensures { result ≡ Halt.Refused (limit_at limit file line) }
+pub(crate) fn past(limit: LimitAt, file: u32, line: u32) -> Fault
+    ensures { result ≡ Fault.Refused (limit_at limit file line) }
 {
-    Halt::Refused(Refusal {
+    Fault::Refused(Refusal {
         number: 14,
         file,
         line,
@@ -151,7 +108,7 @@ impl Progress {
     }
 
     /// Adds the base laws of a statement whose declarations are in the table.
-    fn expand(&mut self, alloc: Global, file: u32, statement: &Statement<'_>) -> Result<(), Halt>
+    fn expand(&mut self, alloc: Global, file: u32, statement: &Statement<'_>) -> Result<(), Fault>
         ensures expanded { (left : Items Declaration) → IsTable self.old.table left → OnOk result
             ((law_refusal file (vocabulary left) (plain_statement statement.now) ≡ None)
             × (map plain_base_law self.new.laws.items ≡ map plain_base_law self.old.laws.items
@@ -159,7 +116,6 @@ impl Progress {
         ensures refused { (left : Items Declaration) → IsTable self.old.table left →
             IfErr result (IsRefusedBy (law_refusal file (vocabulary left) (plain_statement statement.now))) }
         ensures rest { self.new ≡ record self.old { laws = self.new.laws } }
-        ensures no_read_fault { IfErr result (λ halt. halt ≢ Halt.ReadFault) }
     {
         let laws = expand(alloc, file, &self.table, statement)?;
         self.laws.append(&mut laws.into_items())?;
@@ -167,7 +123,7 @@ impl Progress {
     }
 
     /// Takes up a statement of declarations.
-    fn declare(&mut self, alloc: Global, file: u32, statement: &Statement<'_>) -> Result<(), Halt>
+    fn declare(&mut self, alloc: Global, file: u32, statement: &Statement<'_>) -> Result<(), Fault>
         requires { IsTrue (declares (plain_statement statement.now).part) }
         ensures said { (before : Items Place) → IsProgress self.old before →
             OnOk result (Says before file self.old.around.items (plain_statement statement.now) self.new) }
@@ -175,7 +131,6 @@ impl Progress {
             IfErr result (IsRefusedBy (declaration_refusal file (declared_in before) (plain_statement statement.now))) }
         ensures around { self.new.around ≡ self.old.around }
         ensures names { self.new.names ≡ self.old.names }
-        ensures no_read_fault { IfErr result (λ halt. halt ≢ Halt.ReadFault) }
     {
         self.table.declare(alloc, file, statement)?;
         self.expand(alloc, file, statement)
@@ -201,7 +156,7 @@ impl Progress {
         file: u32,
         statement: &Statement<'_>,
         items: &[QueryItem<'_>],
-    ) -> Result<(), Halt>
+    ) -> Result<(), Fault>
         requires { (plain_statement statement.now).part ≡ asks (map plain_query_item items.now) }
         ensures said { (before : Items Place) → IsProgress self.old before →
             OnOk result (Says before file self.old.around.items (plain_statement statement.now) self.new) }
@@ -209,7 +164,6 @@ impl Progress {
             IfErr result (IsRefusedBy (asking_refusal before file (plain_statement statement.now))) }
         ensures around { self.new.around ≡ self.old.around }
         ensures names { self.new.names ≡ self.old.names }
-        ensures no_read_fault { IfErr result (λ halt. halt ≢ Halt.ReadFault) }
     {
         if gives_taken_label(&self.labels, items) {
             return Err(refused(4, file, statement.line));
@@ -220,10 +174,9 @@ impl Progress {
     }
 
     /// Whether a file may be included where it is named.
-    fn include(&self, file: u32, line: u32, name: &str) -> Result<(), Halt>
+    fn include(&self, file: u32, line: u32, name: &str) -> Result<(), Fault>
         ensures included { OnOk result (include_refusal file self.now.around.items line name.now ≡ None) }
         ensures refused { IfErr result (IsRefusedBy (include_refusal file self.now.around.items line name.now)) }
-        ensures no_read_fault { IfErr result (λ halt. halt ≢ Halt.ReadFault) }
     {
         let around: &[Name] = &self.around;
         if has_name(around, name) {
@@ -236,14 +189,13 @@ impl Progress {
     }
 
     /// Takes up a statement, whose tree this is.
-    fn say(&mut self, alloc: Global, file: u32, statement: &Statement<'_>) -> Result<(), Halt>
+    fn say(&mut self, alloc: Global, file: u32, statement: &Statement<'_>) -> Result<(), Fault>
         ensures said { (before : Items Place) → IsProgress self.old before →
             OnOk result (Says before file self.old.around.items (plain_statement statement.now) self.new) }
         ensures refused { (before : Items Place) → IsProgress self.old before →
             IfErr result (IsRefusedBy (statement_refusal before file self.old.around.items (plain_statement statement.now) (plain_statement statement.now).part)) }
         ensures around { self.new.around ≡ self.old.around }
         ensures names { self.new.names ≡ self.old.names }
-        ensures no_read_fault { IfErr result (λ halt. halt ≢ Halt.ReadFault) }
     {
         match &statement.part {
             Part::Sorts(_) | Part::Objects(_) | Part::Variables(_) | Part::Constants(_) => {
@@ -261,7 +213,7 @@ impl Progress {
         alloc: Global,
         file: u32,
         statement: &Statement<'s>,
-    ) -> Result<Option<&'s str>, Halt>
+    ) -> Result<Option<&'s str>, Fault>
         ensures said { (before : Items Place) → IsProgress self.old before →
             OnOk result (Says before file self.old.around.items (plain_statement statement.now) self.new) }
         ensures name { IfOk result (λ name. option_copied name ≡ included (plain_statement statement.now).part) }
@@ -269,7 +221,6 @@ impl Progress {
             IfErr result (IsRefusedBy (statement_refusal before file self.old.around.items (plain_statement statement.now) (plain_statement statement.now).part)) }
         ensures around { self.new.around ≡ self.old.around }
         ensures names { self.new.names ≡ self.old.names }
-        ensures no_read_fault { IfErr result (λ halt. halt ≢ Halt.ReadFault) }
     {
         self.say(alloc, file, statement)?;
         Ok(included_by(&statement.part))
@@ -281,7 +232,7 @@ impl Progress {
         alloc: Global,
         file: u32,
         tokens: &[Token<'s>],
-    ) -> Result<Option<&'s str>, Halt>
+    ) -> Result<Option<&'s str>, Fault>
         requires some { 0 < length tokens.now }
         requires are { AreTokens (token_views tokens.now) }
         ensures taken { (before : Items Place) → IsProgress self.old before →
@@ -290,7 +241,6 @@ impl Progress {
             IfErr result (IsRefusedStatement before file self.old.around.items (token_views tokens.now)) }
         ensures around { self.new.around ≡ self.old.around }
         ensures names { self.new.names ≡ self.old.names }
-        ensures no_read_fault { IfErr result (λ halt. halt ≢ Halt.ReadFault) }
     {
         match parse(alloc, file, tokens) {
             Ok(statement) => {
@@ -298,7 +248,7 @@ impl Progress {
                 drop(statement);
                 taken
             }
-            Err(fault) => Err(Halt::from(fault)),
+            Err(fault) => Err(fault),
         }
     }
 
@@ -328,10 +278,10 @@ impl Progress {
     }
 
     /// Adds to the bytes of all files, as far as the limit goes.
-    pub(crate) fn count(&mut self, file: u32, bytes: usize) -> Result<(), Halt>
+    pub(crate) fn count(&mut self, file: u32, bytes: usize) -> Result<(), Fault>
         requires { bytes ≤ limit_number limits.FileBytes }
         ensures counted { OnOk result ((self.new.bytes ≡ self.old.bytes + bytes) × (self.old.bytes + bytes ≤ limit_number limits.TotalBytes)) }
-        ensures refused { IfErr result (λ halt. (halt ≡ Halt.Refused (limit_at limits.TotalBytes file 1)) × (limit_number limits.TotalBytes < self.old.bytes + bytes)) }
+        ensures refused { IfErr result (λ fault. (fault ≡ Fault.Refused (limit_at limits.TotalBytes file 1)) × (limit_number limits.TotalBytes < self.old.bytes + bytes)) }
         ensures rest { self.new ≡ record self.old { bytes = self.new.bytes } }
     {
         let all = self.bytes.saturating_add(bytes);

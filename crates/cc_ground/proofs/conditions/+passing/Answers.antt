@@ -1,7 +1,7 @@
 use Rattle.std.proofs.Common.{◌≡◌, ◌∙◌, ◌∷◌, ◌++◌, [], IfOk, get_or, ap, rules, subst, sym}
 use Rattle.std.specs.List.{list_all, list_any}
 use Rattle.cc_defs.specs.Resolved.{plain_formula}
-use Rattle.cc_ground.specs.Environments.{passes}
+use Rattle.cc_defs.specs.Environments.{passes}
 use Rattle.cc_ground.specs.Views.{universe_of}
 use Rattle.cc_ground.proofs.Meant.{all_is, some_is}
 use Rattle.cc_ground.proofs.Popping.{popped}

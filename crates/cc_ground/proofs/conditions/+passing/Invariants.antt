@@ -2,7 +2,7 @@ use Rattle.std.proofs.Common.{◌≡◌, ◌∷◌, ◌++◌, [], ℕ, drop}
 use Rattle.std.specs.List.{list_all, list_any}
 use Rattle.cc_defs.specs.Resolved.{plain_formula}
 use Rattle.cc_defs.specs.Signatures.{Signature}
-use Rattle.cc_ground.specs.Environments.{passes as is_passed}
+use Rattle.cc_defs.specs.Environments.{passes as is_passed}
 use Rattle.cc_ground.specs.Views.{universe_of}
 use Rattle.cc_ground.proofs.conditions.+passing.Given as goal
 

@@ -1,8 +1,7 @@
 use Rattle.std.proofs.Common.{◌∙◌, ap}
-use Rattle.cc_defs.specs.Formulas.{same_value}
+use Rattle.cc_defs.specs.Satisfaction.{same_value, term_value}
 use Rattle.cc_defs.specs.Resolved.{plain_term}
-use Rattle.cc_ground.specs.Environments.{without_constants}
-use Rattle.cc_ground.specs.Satisfaction.{term_value}
+use Rattle.cc_defs.specs.Environments.{without_constants}
 use Rattle.cc_ground.specs.Views.{universe_of}
 use Rattle.cc_ground.proofs.conditions.are_same.Goals as goal
 

@@ -1,9 +1,12 @@
 use Rattle.std.proofs.Common.{◌≡◌, IfErr, IfOk, None, OnOk, map, subst}
 use Rattle.cc_defs.specs.Resolved.{plain_base_law}
 use Rattle.cc_ground.specs.Counting.{laws_refusal}
-use Rattle.cc_ground.specs.Grounding.{ground_laws}
-use Rattle.cc_ground.specs.Views.{IsRefusedBy, plain_ground_laws}
+use Rattle.cc_arena.specs.Grounding.{ground_laws, plain_ground_laws}
+use Rattle.cc_ground.specs.Views.{IsRefusedBy}
+use Rattle.cc_arena.specs.Meanings.{MeanLaws}
+use Rattle.cc_defs.specs.Universe.{universe}
 use Rattle.cc_ground.proofs.FromDeclarations.{universe_is}
+use Rattle.cc_ground.proofs.Making.{as_made}
 use Rattle.cc_ground.proofs.instances.«ground».Goals as goal
 
 pub returns-clause-made : goal.returns-clause-made
@@ -20,3 +23,11 @@ pub returns-clause-refused : goal.returns-clause-refused
 returns-clause-refused c = λ declarations is of.
     subst (λ u. IfErr c.ground_laws.result (IsRefusedBy (laws_refusal u (map plain_base_law c.args.laws.now)))) (universe_is c.args.table.now declarations c.args.sig.now is of)
     c.ground_laws.ensures.refused
+
+pub returns-clause-meant : goal.returns-clause-meant
+returns-clause-meant c = λ declarations is of.
+    let laws = map plain_base_law c.args.laws.now in
+    let u = universe declarations in
+    as_made plain_ground_laws (MeanLaws u laws) c.ground_laws.result (ground_laws u laws)
+    (c.ground_laws_mean_laws.ensures u (c.declared_have_own_values.ensures declarations of.2) laws)
+    (subst (λ u. IfOk c.ground_laws.result (λ made. plain_ground_laws made ≡ ground_laws u laws)) (universe_is c.args.table.now declarations c.args.sig.now is of) c.ground_laws.ensures.made)

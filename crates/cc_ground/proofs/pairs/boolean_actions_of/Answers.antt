@@ -1,6 +1,6 @@
 use Rattle.std.proofs.Common.{◌≡◌, ◌∙◌, Bool, [], ◌∷◌, ◌++◌, sym, ap, subst}
 use Rattle.std.specs.Prelude.{if◌then◌else◌}
-use Rattle.cc_ground.specs.Grounding.{boolean_actions}
+use Rattle.cc_defs.specs.Universe.{boolean_actions}
 use Rattle.cc_ground.specs.Views.{universe_of}
 use Rattle.cc_ground.proofs.Actions.{actions_step}
 use Rattle.cc_ground.proofs.pairs.boolean_actions_of.Goals as goal

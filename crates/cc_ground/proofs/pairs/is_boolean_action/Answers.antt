@@ -1,7 +1,7 @@
 use Rattle.std.proofs.Common.{◌∙◌, ◌&&◌, ap, sym, slice_get}
 use Rattle.cc_defs.specs.declared.signature.Kind.{Kind}
 use Rattle.cc_defs.specs.Declarations.{is_action}
-use Rattle.cc_ground.specs.Grounding.{is_boolean_symbol}
+use Rattle.cc_defs.specs.Universe.{is_boolean_symbol}
 use Rattle.cc_ground.specs.Views.{universe_of}
 use Rattle.cc_ground.proofs.pairs.is_boolean_action.Goals as goal
 

@@ -1,7 +1,9 @@
-use Rattle.std.proofs.Common.{◌≡◌, ◌∙◌, subst}
+use Rattle.std.proofs.Common.{◌≡◌, ◌∙◌, subst, sym}
 use Rattle.cc_defs.specs.Resolved.{plain_query}
 use Rattle.cc_ground.specs.Counting.{node_refusal, nodes_in_query}
-use Rattle.cc_ground.specs.Grounding.{PlainGroundQuery}
+use Rattle.cc_arena.specs.Grounding.{PlainGroundQuery}
+use Rattle.cc_arena.specs.Meanings.{MeansQuery}
+use Rattle.cc_defs.specs.Universe.{universe}
 use Rattle.cc_ground.specs.Views.{IsRefusedBy}
 use Rattle.std.specs.Prelude.{None}
 use Rattle.cc_ground.proofs.FromDeclarations.{maker_searchable}
@@ -31,3 +33,12 @@ returns-in-Err-Full-clause-refused c = λ declarations range is of e.
     (asked_is c.new-maker.result c.args.table.now c.args.sig.now declarations c.args.query.now.range c.unwrap_or-range.result range (plain_query c.args.query.now)
     c.new-maker.ensures.table c.new-maker.ensures.sig is of c.unwrap_or-range.ensures e)
     (many_nodes _ c.new-maker.result.room c.in-Err-Full.field-0 c.past.result c.in-Err-Full.ensures.full c.in-Err-Full.field-0-is (c.new-maker.ensures.room ∙ c.number.ensures) c.past.ensures)
+
+pub returns-in-Ok-clause-meant : goal.returns-in-Ok-clause-meant
+returns-in-Ok-clause-meant c = λ declarations range is of e.
+    let query = plain_query c.args.query.now in
+    subst (MeansQuery (universe declarations) query)
+    (sym (c.in-Ok.ensures.made
+    ∙ asked_is c.new-maker.result c.args.table.now c.args.sig.now declarations c.args.query.now.range c.unwrap_or-range.result range query
+    c.new-maker.ensures.table c.new-maker.ensures.sig is of c.unwrap_or-range.ensures e))
+    (c.ground_queries_mean_queries.ensures (universe declarations) (c.declared_have_own_values.ensures declarations of.2) range query)

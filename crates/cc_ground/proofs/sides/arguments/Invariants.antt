@@ -1,10 +1,9 @@
 use Rattle.std.proofs.Common.{◌≡◌, ◌++◌, List, ℕ, drop, map, option_map}
-use Rattle.cc_defs.specs.Resolved.{plain_term}
-use Rattle.cc_ground.specs.Grounding.{listed}
-use Rattle.cc_ground.specs.Satisfaction as words
+use Rattle.cc_defs.specs.Resolved.{plain_term, terms_of}
+use Rattle.cc_defs.specs.Satisfaction as words
 use Rattle.cc_ground.proofs.sides.arguments.Given as goal
 
 abbrev pub invariant-loop-term : goal.invariant-loop-term
 invariant-loop-term l =
-    option_map (λ (more : List ℕ). l.args.items ++ more) (words.arguments l.env (listed (map plain_term (drop l.term-index l.terms))))
-    ≡ words.arguments l.env (listed (map plain_term l.terms))
+    option_map (λ (more : List ℕ). l.args.items ++ more) (words.arguments l.env (terms_of (map plain_term (drop l.term-index l.terms))))
+    ≡ words.arguments l.env (terms_of (map plain_term l.terms))

@@ -1,5 +1,5 @@
 use Rattle.std.proofs.Common.{◌≡◌, IfOk, subst}
-use Rattle.cc_ground.specs.Nodes.{side as side_of}
+use Rattle.cc_arena.specs.Nodes.{side as side_of}
 use Rattle.cc_ground.specs.Views.{universe_of, plain_side}
 use Rattle.cc_ground.proofs.Meant.{constant_by_args}
 use Rattle.cc_ground.proofs.sides.term_side.Goals as goal

@@ -1,5 +1,5 @@
 use Rattle.std.proofs.Common.{refl, arith}
-use Rattle.cc_defs.specs.Declarations.{Sort, Object, Variable}
+use Rattle.cc_defs.specs.Declarations.{Sort}
 use Rattle.cc_sorts.specs.Declaring.{plain_declaration}
 use Rattle.cc_sorts.proofs.Adding.{added-more, added-all}
 use Rattle.cc_sorts.proofs.declaration.add_sorts.Goals as goal

@@ -1,6 +1,5 @@
 use Rattle.std.proofs.Common.{◌≡◌, ℕ, map, ◌++◌, take}
 use Rattle.cc_defs.specs.Declarations.{Sort}
-use Rattle.cc_defs.specs.Trees.{plain_shape, plain_kind}
 use Rattle.cc_sorts.specs.Declaring.{plain_declarations}
 use Rattle.cc_sorts.proofs.declaration.add_sorts.Given as goal
 

@@ -1,5 +1,5 @@
 use Rattle.std.proofs.Common.{◌≡◌, ℕ, map, flat_map, take}
-use Rattle.cc_defs.specs.Declarations.{sort_declarations, object_declarations, variable_declarations, constant_declarations}
+use Rattle.cc_defs.specs.Declarations.{constant_declarations}
 use Rattle.cc_defs.specs.Trees.{plain_const_item}
 use Rattle.cc_sorts.specs.Declaring.{plain_declarations}
 use Rattle.cc_sorts.proofs.declaration.of_constants.Given as goal

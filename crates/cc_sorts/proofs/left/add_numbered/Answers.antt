@@ -1,4 +1,3 @@
-use Rattle.std.proofs.Common.{refl}
 use Rattle.cc_sorts.specs.SortViews.{name_at}
 use Rattle.cc_sorts.proofs.Upward.{grows_more}
 use Rattle.cc_sorts.proofs.left.add_numbered.Goals as goal

@@ -1,8 +1,8 @@
-use Rattle.std.proofs.Common.{ap, subst, sym, length, arith, ◌∙◌, map, List, ℕ, []}
+use Rattle.std.proofs.Common.{ap, subst, sym, length, arith, ◌∙◌, map, List, ℕ}
 use Rattle.std.specs.Prelude.{OnOk}
 use Rattle.cc_defs.specs.Declarations.{is_below}
 use Rattle.cc_sorts.specs.Lists.{AreBelow}
-use Rattle.cc_sorts.specs.Searches.{Grows, table_uppers}
+use Rattle.cc_sorts.specs.Searches.{Grows}
 use Rattle.cc_sorts.specs.SortViews.{name_at}
 use Rattle.cc_sorts.proofs.Upward.{grows_none, numbers_below, uppers_by_number, no_uppers}
 use Rattle.cc_sorts.proofs.left.add_table_uppers.Goals as goal

@@ -1,7 +1,5 @@
-use Rattle.std.proofs.Common.{◌∙◌, ap, sym, map, subst, cond, refl, Some, None, Bor, List, ℕ}
+use Rattle.std.proofs.Common.{◌∙◌, ap, map, subst, refl}
 use Rattle.std.specs.Option.{IsSome}
-use Rattle.std.specs.Map.{lookup}
-use Rattle.cc_defs.specs.Grammar.{same_text}
 use Rattle.cc_sorts.specs.Lefts.{texts_of}
 use Rattle.cc_sorts.proofs.Upward.{upper_added, texts_pushed, Keys}
 use Rattle.cc_sorts.proofs.left.add_upper.Goals as goal

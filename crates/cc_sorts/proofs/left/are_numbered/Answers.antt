@@ -1,4 +1,4 @@
-use Rattle.std.proofs.Common.{◌∙◌, ◌+◌, ◌&&◌, Bool, map, drop, ap, sym, arith}
+use Rattle.std.proofs.Common.{◌∙◌, ◌+◌, ◌&&◌, map, drop, ap, sym, arith}
 use Rattle.cc_sorts.specs.Lefts.{are_numbered}
 use Rattle.cc_sorts.proofs.Fitting.{lengths_differ, numbered_at}
 use Rattle.cc_sorts.proofs.left.are_numbered.Goals as goal

@@ -1,4 +1,4 @@
-use Rattle.std.proofs.Common.{◌≡◌, map, drop, length}
+use Rattle.std.proofs.Common.{◌≡◌, map, drop}
 use Rattle.cc_sorts.specs.Lefts.{are_numbered}
 use Rattle.cc_sorts.proofs.left.are_numbered.Given as goal
 

@@ -1,7 +1,6 @@
 use Rattle.std.proofs.Common.{◌∙◌, map, ap}
 use Rattle.std.specs.List.{list_all}
 use Rattle.cc_defs.specs.DeclarationFaults.{same_sorts}
-use Rattle.cc_defs.specs.Trees.{plain_shape}
 use Rattle.cc_sorts.proofs.Fitting.{all_plain}
 use Rattle.cc_sorts.proofs.left.each_has_sorts.Goals as goal
 

@@ -1,6 +1,5 @@
 use Rattle.std.proofs.Common.{◌∙◌, map, ap}
 use Rattle.std.specs.List.{list_all}
-use Rattle.cc_defs.specs.Trees.{plain_shape}
 use Rattle.cc_sorts.specs.Lefts.{are_numbered}
 use Rattle.cc_sorts.proofs.Fitting.{all_plain}
 use Rattle.cc_sorts.proofs.left.have_numbers.Goals as goal

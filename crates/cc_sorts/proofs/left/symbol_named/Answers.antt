@@ -1,4 +1,4 @@
-use Rattle.std.proofs.Common.{◌∙◌, Some, ap, sym}
+use Rattle.std.proofs.Common.{◌∙◌, ap, sym}
 use Rattle.std.specs.Option.{option_map}
 use Rattle.cc_sorts.proofs.Decided.{found_at_number, number_within, no_number}
 use Rattle.cc_sorts.proofs.left.symbol_named.Goals as goal

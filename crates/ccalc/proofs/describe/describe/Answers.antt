@@ -9,17 +9,17 @@ returns-in-Err-clause-after g c = untouched (g.D.Desk.told c.args.desk.now)
 pub returns-in-Ok-read_file-clause-described : goal.returns-in-Ok-read_file-clause-described
 returns-in-Ok-read_file-clause-described g c =
     is_described c.number.result (g.D.Desk.told c.args.desk.now) c.args.name.now c.in-Ok.progress c.read_file.new.progress c.in-Ok-read_file.field-0 c.finish.result
-    c.number.ensures c.in-Ok.ensures.begun c.in-Ok.ensures.outside c.in-Ok-read_file.ensures.gone c.finish.ensures.described
+    c.number.ensures c.in-Ok.ensures.begun c.in-Ok.ensures.outside c.in-Ok-read_file.ensures.gone c.in-Ok-read_file.ensures.there c.finish.ensures.described
 
 pub returns-in-Ok-read_file-clause-refused : goal.returns-in-Ok-read_file-clause-refused
 returns-in-Ok-read_file-clause-refused g c =
     is_refused_whole c.number.result (g.D.Desk.told c.args.desk.now) c.args.name.now c.in-Ok.progress c.read_file.new.progress c.in-Ok-read_file.field-0 c.finish.result
-    c.number.ensures c.in-Ok.ensures.begun c.in-Ok.ensures.outside c.in-Ok-read_file.ensures.gone c.finish.ensures.refused
+    c.number.ensures c.in-Ok.ensures.begun c.in-Ok.ensures.outside c.in-Ok-read_file.ensures.gone c.in-Ok-read_file.ensures.there c.finish.ensures.refused
 
 pub returns-in-Err-read_file-clause-refused : goal.returns-in-Err-read_file-clause-refused
 returns-in-Err-read_file-clause-refused g c =
     is_refused c.number.result (g.D.Desk.told c.args.desk.now) c.args.name.now c.deref.result.now c.in-Ok.progress c.read_file.new.progress c.in-Err-read_file.halt c.stop_of.result
-    c.number.ensures c.in-Ok.ensures.begun c.in-Ok.ensures.outside c.in-Err-read_file.ensures.gone c.deref.ensures.value c.stop_of.ensures
+    c.number.ensures c.in-Ok.ensures.begun c.in-Ok.ensures.outside c.in-Err-read_file.ensures.gone c.in-Err-read_file.ensures.there c.deref.ensures.value c.stop_of.ensures
 
 pub returns-in-Err-read_file-clause-failed : goal.returns-in-Err-read_file-clause-failed
 returns-in-Err-read_file-clause-failed g c is =

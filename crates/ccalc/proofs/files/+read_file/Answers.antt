@@ -1,9 +1,9 @@
-use Rattle.std.proofs.Common.{◌+◌, ◌<◌, ◌≤◌, ◌≡◌, ◌++◌, ◌∷◌, [], Some, None, length, slice_index_or, arith, sym, ap, subst, ◌∙◌, Ok, Err}
+use Rattle.std.proofs.Common.{ℕ, List, ◌+◌, ◌<◌, ◌≤◌, ◌≡◌, ◌++◌, ◌∷◌, [], Some, None, length, slice_index_or, arith, sym, ap, subst, ◌∙◌, Ok, Err}
 use Rattle.std.specs.Option.{option_copied}
 use Rattle.cc_ports.specs.Contents.{with_rest}
 use Rattle.cc_text.specs.Views.{token_views, cut_at}
-use Rattle.ccalc.proofs.Walk.{AreInside, Kept, Midway, up_to, progress_left}
-use Rattle.ccalc.proofs.Walk.{opening_stops, text_stops, told_as, never_told, has_read, taken_as, refused_as, touched_again, tells_still, midway_begins, midway_goes, midway_ends, midway_stops, statement_refused, statement_alone, statement_reads, statement_ends}
+use Rattle.ccalc.specs.Places.{AreThere}
+use Rattle.ccalc.proofs.Walk.{AreInside, Kept, Midway, up_to, progress_left, opening_stops, text_stops, told_as, no_fault, finds, finds_as, has_read, taken_as, refused_as, touched_again, tells_still, midway_begins, midway_goes, midway_ends, midway_stops, statement_refused, statement_alone, statement_reads, statement_ends}
 use Rattle.ccalc.proofs.files.+read_file.Goals.{in-Some+then-deep-gt0+in_ok-read_file-in-Some, in-Some+else-deep-gt0, in-None}
 use Rattle.ccalc.proofs.files.+read_file.Goals as goal
 
@@ -26,6 +26,7 @@ loop-i-init g t c = record {
       let opened = c.in_ok-bytes.ensures.opened contents before told was in
       midway_begins {around = c.args.progress.now.around.items ++ c.args.name.now ∷ []} {statements = cut_at 0 c.tokens.inside.ends.items (token_views c.tokens.inside.tokens.items)} opened.0 opened.1 opened.2;
   kept = λ before was. c.in_ok-bytes.ensures.kept before was;
+  there = λ contents told are. c.in_ok-bytes.ensures.there contents told are;
   told = c.open.ensures.after;
   begun = c.open.ensures.begun;
   reads_count = c.open.ensures.reads_count;
@@ -51,7 +52,7 @@ returns-in_err-included-clause-gone g t c contents before told was =
 
 pub returns-in_err-included-clause-failed : goal.returns-in_err-included-clause-failed
 returns-in_err-included-clause-failed g t c is =
-    absurd (never_told c.from_residual-in_err-included.result _ _ c.from_residual-in_err-included.ensures.1 c.in_err-included.ensures.no_read_fault is)
+    absurd (no_fault c.from_residual-in_err-included.result _ c.from_residual-in_err-included.ensures.1 is)
 
 pub returns-clause-gone : goal.returns-clause-gone
 returns-clause-gone g t c contents before told was =
@@ -110,6 +111,10 @@ loop-i-preserved g t c =
             kept = λ before was.
                 let was_kept = c.loop-i.invariant.kept before was in
                 subst Kept (sym w.progress-is) (read.kept _ (c.in_ok-included.ensures.taken was_kept.0 was_kept.1).3.taken);
+            there = λ contents told are.
+                subst (λ p. AreThere contents.files p.names.items) (sym w.progress-is)
+                (read.there (with_rest after.0 contents) (tells_still after.0 _ _ contents after.1 told)
+                (subst (λ l. AreThere contents.files l.items) (sym c.in_ok-included.ensures.names) (c.loop-i.invariant.there contents told are)));
             told = touched_again after.0 _ _ _ after.1 read.after.0 (ap g.D.Desk.told w.desk-is ∙ read.after.1);
             begun = ap g.D.Desk.begun w.desk-is ∙ read.begun ∙ c.loop-i.invariant.begun;
             reads_count = rw w.desk-is (omega (arith, read.reads_count));
@@ -129,6 +134,9 @@ loop-i-preserved g t c =
             kept = λ before was.
                 let was_kept = c.loop-i.invariant.kept before was in
                 subst Kept (sym w.progress-is) (_, (c.in_ok-included.ensures.taken was_kept.0 was_kept.1).3.taken);
+            there = λ contents told are.
+                subst (λ p. AreThere contents.files p.names.items) (sym w.progress-is)
+                (subst (λ l. AreThere contents.files l.items) (sym c.in_ok-included.ensures.names) (c.loop-i.invariant.there contents told are));
             told = (after.0, ap g.D.Desk.told w.desk-is ∙ after.1);
             begun = ap g.D.Desk.begun w.desk-is ∙ c.loop-i.invariant.begun;
             reads_count = rw w.desk-is (omega arith);
@@ -148,6 +156,9 @@ loop-i-preserved g t c =
             kept = λ before was.
                 let was_kept = c.loop-i.invariant.kept before was in
                 subst Kept (sym w.progress-is) (_, (c.in_ok-included.ensures.taken was_kept.0 was_kept.1).3.taken);
+            there = λ contents told are.
+                subst (λ p. AreThere contents.files p.names.items) (sym w.progress-is)
+                (subst (λ l. AreThere contents.files l.items) (sym c.in_ok-included.ensures.names) (c.loop-i.invariant.there contents told are));
             told = (after.0, ap g.D.Desk.told w.desk-is ∙ after.1);
             begun = ap g.D.Desk.begun w.desk-is ∙ c.loop-i.invariant.begun;
             reads_count = rw w.desk-is (omega arith);
@@ -159,3 +170,26 @@ pub returns-clause-kept : goal.returns-clause-kept
 returns-clause-kept g t c before was =
     let was_kept = c.loop-i.invariant.kept before was in
     (was_kept.0, progress_left was_kept.0 _ c.leave.new.self was_kept.1 c.leave.ensures.rest)
+
+pub returns-in_err-bytes-clause-there : goal.returns-in_err-bytes-clause-there
+returns-in_err-bytes-clause-there g t c contents told are =
+    finds_as (List ℕ × ℕ) contents.files c.from_residual.result _ _ c.from_residual.ensures.1 (c.in_err-bytes.ensures.there contents told are)
+
+pub returns-in-Err-clause-there : goal.returns-in-Err-clause-there
+returns-in-Err-clause-there g t c contents told are = finds {T = Unit {0}} contents.files (Err c.from.result) _ (c.in_ok-bytes.ensures.there contents told are)
+
+pub returns-in_err-included-clause-there : goal.returns-in_err-included-clause-there
+returns-in_err-included-clause-there g t c contents told are =
+    finds contents.files c.from_residual-in_err-included.result _
+    (subst (λ l. AreThere contents.files l.items) (sym c.in_err-included.ensures.names) (c.loop-i.invariant.there contents told are))
+
+pub returns-in_err-read_file-in-Some-clause-there : goal.returns-in_err-read_file-in-Some-clause-there
+returns-in_err-read_file-in-Some-clause-there g t c contents told are =
+    let after = c.loop-i.invariant.told in
+    finds_as (Unit {0}) contents.files c.from_residual-in_err-read_file-in-Some.result _ _ c.from_residual-in_err-read_file-in-Some.ensures.1
+    (c.in_err-read_file-in-Some.ensures.there (with_rest after.0 contents) (tells_still after.0 _ _ contents after.1 told)
+    (subst (λ l. AreThere contents.files l.items) (sym c.in_ok-included.ensures.names) (c.loop-i.invariant.there contents told are)))
+
+pub returns-clause-there : goal.returns-clause-there
+returns-clause-there g t c contents told are =
+    subst (λ p. AreThere contents.files p.names.items) (sym c.leave.ensures.rest) (c.loop-i.invariant.there contents told are)

@@ -1,7 +1,7 @@
 use Rattle.std.proofs.Common.{◌≡◌, ◌++◌, ◌∷◌, [], ◌≤◌, ℕ, List, Some, option_map}
 use Rattle.cc_ports.specs.Contents.{Contents, with_rest}
 use Rattle.cc_text.specs.Views.{token_views, cut_at}
-use Rattle.ccalc.specs.Places.{Place}
+use Rattle.ccalc.specs.Places.{Place, AreThere}
 use Rattle.ccalc.specs.ProgressViews.{IsProgress}
 use Rattle.ccalc.proofs.Walk.{Midway}
 use Rattle.ccalc.proofs.files.+read_file.Given as goal
@@ -15,6 +15,8 @@ invariant-loop-i g l = record {
   gone : (contents : Contents) (before : List Place) → g.D.Desk.told l.fn.desk ≡ Some contents → IsProgress l.fn.progress before →
       Midway l.deep contents.files before l.name l.file (l.fn.progress.around.items ++ l.name ∷ []) (cut_at 0 l.tokens-inside.ends.items (token_views l.tokens-inside.tokens.items)) l.i l.progress;
   kept : (before : List Place) → IsProgress l.fn.progress before → (places : List Place) × IsProgress l.progress places;
+  there : (contents : Contents) → g.D.Desk.told l.fn.desk ≡ Some contents → AreThere contents.files l.fn.progress.names.items →
+      AreThere contents.files l.progress.names.items;
   told : (rest : List ℕ) × (g.D.Desk.told l.desk ≡ option_map (with_rest rest) (g.D.Desk.told l.fn.desk));
   begun : g.D.Desk.begun l.desk ≡ g.D.Desk.begun l.fn.desk;
   reads_count : g.D.Desk.read_faults l.fn.desk ≤ g.D.Desk.read_faults l.desk;

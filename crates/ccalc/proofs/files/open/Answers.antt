@@ -1,6 +1,6 @@
-use Rattle.std.proofs.Common.{◌++◌, ◌∷◌, [], arith, ap, ◌∙◌, length}
-use Rattle.ccalc.specs.Places.{Opened}
-use Rattle.ccalc.proofs.Walk.{untouched, content_is, is_opened}
+use Rattle.std.proofs.Common.{ℕ, List, ◌++◌, ◌∷◌, [], arith, ap, ◌∙◌, length, Ok, subst, sym}
+use Rattle.ccalc.specs.Places.{Opened, AreThere}
+use Rattle.ccalc.proofs.Walk.{untouched, content_is, is_opened, there_too, read_there, finds}
 use Rattle.ccalc.proofs.files.open.Goals as goal
 
 pub returns-in_err-file-clause-after : goal.returns-in_err-file-clause-after
@@ -22,3 +22,10 @@ returns-clause-kept g c before was =
       (is_opened before c.args.name.now c.in-Ok.bytes c.args.progress.now c.enter.new.self c.count.new.self (length c.items.result.now) was
           c.in_ok-file.ensures.names c.in_ok-file.ensures.rest (ap length c.items.ensures) (omega (arith, read.within)) c.in_ok-count.ensures.counted c.in_ok-count.ensures.rest).opened,
     )
+
+pub returns-clause-there : goal.returns-clause-there
+returns-clause-there g c contents told are =
+    finds {T = List ℕ × ℕ} contents.files (Ok (c.in-Ok.bytes, c.in_ok-file.file)) _
+    (subst (λ p. AreThere contents.files p.names.items) (sym c.in_ok-count.ensures.rest)
+    (subst (AreThere contents.files) (sym c.in_ok-file.ensures.names)
+    (there_too contents.files c.args.progress.now.names.items c.args.name.now are (read_there _ contents c.args.name.now c.in-Ok.bytes told c.in-Ok.ensures.bytes))))

@@ -1,7 +1,7 @@
 use Rattle.std.proofs.Common.{List, subst, arith}
 use Rattle.cc_defs.specs.Resolved.{plain_law}
 use Rattle.cc_ground.specs.Counting.{nodes_in}
-use Rattle.cc_ground.specs.Grounding.{PlainGroundLaw}
+use Rattle.cc_arena.specs.Grounding.{PlainGroundLaw}
 use Rattle.cc_ground.specs.Views.{LacksRoom, universe_in}
 use Rattle.cc_ground.proofs.Choosing.{behind_range, choice_lacks, choice_more, choices_end}
 use Rattle.cc_ground.proofs.Putting.{lacks_so}

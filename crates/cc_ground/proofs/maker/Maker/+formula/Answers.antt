@@ -2,8 +2,8 @@ use Rattle.std.proofs.Common.{List, ℕ, length, ap, subst}
 use Rattle.cc_arena.specs.Terms.{nothing, postfixes}
 use Rattle.cc_defs.specs.declared.node.Node.TheVariants as nodes
 use Rattle.cc_defs.specs.Resolved.{plain_formula}
-use Rattle.cc_ground.specs.Grounding.{nodes_of}
-use Rattle.cc_ground.specs.Nodes.{instances}
+use Rattle.cc_arena.specs.Grounding.{nodes_of}
+use Rattle.cc_arena.specs.Nodes.{instances}
 use Rattle.cc_ground.specs.Views.{LacksRoom, universe_in}
 use Rattle.cc_ground.proofs.Meant.{all_is, some_is}
 use Rattle.cc_ground.proofs.Putting.{bracket_puts, bracket_lacks, bracket_lacks_last, count_is, instance_at, instance_lacks, instance_put, instances_begin, instances_in, lacks_so}

@@ -1,6 +1,6 @@
 use Rattle.std.proofs.Common.{ℕ, [], ◌∷◌, ◌++◌}
 use Rattle.cc_defs.specs.Resolved.{plain_formula}
-use Rattle.cc_ground.specs.Nodes.{term_of}
+use Rattle.cc_arena.specs.Nodes.{term_of}
 use Rattle.cc_ground.specs.Views.{universe_in}
 use Rattle.cc_ground.proofs.Putting.{InstancesSoFar}
 use Rattle.cc_ground.proofs.maker.Maker.+formula.Given as goal

@@ -1,6 +1,6 @@
 use Rattle.std.proofs.Common.{IfErr, List, OnOk, subst}
 use Rattle.cc_ground.specs.Counting.{nodes_in}
-use Rattle.cc_ground.specs.Grounding.{PlainGroundLaw}
+use Rattle.cc_arena.specs.Grounding.{PlainGroundLaw}
 use Rattle.cc_ground.specs.Views.{HasMade, LacksRoom, universe_in}
 use Rattle.cc_ground.proofs.Choosing.{base_law_is}
 use Rattle.cc_ground.proofs.maker.Maker.add_base_law.Goals as goal

@@ -1,7 +1,7 @@
 use Rattle.std.proofs.Common.{◌∙◌, IfErr, List, subst, sym}
 use Rattle.cc_defs.specs.Resolved.{plain_law}
 use Rattle.cc_ground.specs.Counting.{nodes_in}
-use Rattle.cc_ground.specs.Grounding.{PlainGroundLaw}
+use Rattle.cc_arena.specs.Grounding.{PlainGroundLaw}
 use Rattle.cc_ground.specs.Views.{LacksRoom, universe_in}
 use Rattle.cc_ground.proofs.Choosing.{is_kept, made_from, made_none, not_kept}
 use Rattle.cc_ground.proofs.maker.Maker.add_instance.Goals as goal

@@ -1,7 +1,6 @@
-use Rattle.std.proofs.Common.{◌∙◌, ◌||◌, refl, sym, ap}
-use Rattle.cc_defs.specs.Declarations.{Declared}
+use Rattle.std.proofs.Common.{◌∙◌, refl, sym}
 use Rattle.cc_defs.specs.Trees.{plain_shape, plain_kind}
-use Rattle.cc_sorts.specs.Lefts.{left_has_sort, left_has_name, left_has_pair, left_has_upper, has_name}
+use Rattle.cc_sorts.specs.Lefts.{left_has_sort, left_has_pair, left_has_upper, has_name}
 use Rattle.cc_sorts.proofs.Lefts.{or_false, name_added}
 use Rattle.cc_sorts.proofs.Counts.{constant_kept, constant_put}
 use Rattle.cc_sorts.proofs.left.Left.add_constant.Goals as goal

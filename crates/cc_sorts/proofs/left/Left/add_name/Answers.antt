@@ -1,6 +1,6 @@
 use Rattle.std.proofs.Common.{◌∙◌, false, ◌||◌, refl, sym, ap}
-use Rattle.cc_sorts.specs.Lefts.{left_constant, left_has_sort, left_has_name, left_has_pair, left_has_upper, has_sort, has_name, plain_pair}
-use Rattle.cc_sorts.proofs.Lefts.{or_false, or_none, name_added, pair_added}
+use Rattle.cc_sorts.specs.Lefts.{left_constant, left_has_sort, left_has_name, left_has_pair, left_has_upper, has_name}
+use Rattle.cc_sorts.proofs.Lefts.{or_false, or_none, name_added}
 use Rattle.cc_defs.specs.Grammar.{same_text}
 use Rattle.cc_sorts.proofs.left.Left.add_name.Goals as goal
 

@@ -2,7 +2,7 @@ use Rattle.std.proofs.Common.{◌∙◌, false, ◌||◌, refl, sym, ap}
 use Rattle.std.specs.List.{list_any}
 use Rattle.cc_defs.specs.DeclarationFaults.{same_pair}
 use Rattle.cc_defs.specs.Grammar.{same_text}
-use Rattle.cc_sorts.specs.Lefts.{new_uppers, left_constant, left_has_sort, left_has_name, left_has_pair, has_sort, has_name, plain_pair}
+use Rattle.cc_sorts.specs.Lefts.{new_uppers, left_constant, left_has_sort, left_has_name}
 use Rattle.cc_sorts.proofs.Lefts.{or_false, or_none, name_added, pair_added}
 use Rattle.cc_sorts.proofs.left.Left.add_pair.Goals as goal
 

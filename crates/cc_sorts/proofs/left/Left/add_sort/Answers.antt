@@ -1,6 +1,6 @@
-use Rattle.std.proofs.Common.{◌∙◌, ◌||◌, refl, sym, ap}
-use Rattle.cc_sorts.specs.Lefts.{left_constant, left_has_sort, left_has_name, left_has_pair, left_has_upper, has_sort, has_name, plain_pair}
-use Rattle.cc_sorts.proofs.Lefts.{or_false, or_none, name_added, pair_added}
+use Rattle.std.proofs.Common.{refl, sym}
+use Rattle.cc_sorts.specs.Lefts.{left_constant, left_has_name, left_has_pair, left_has_upper, has_sort}
+use Rattle.cc_sorts.proofs.Lefts.{or_false, or_none, name_added}
 use Rattle.cc_sorts.proofs.left.Left.add_sort.Goals as goal
 
 pub returns : goal.returns

@@ -1,7 +1,7 @@
-use Rattle.std.proofs.Common.{length, arith, subst, sym, ap, ◌∙◌, ◌∷◌, []}
+use Rattle.std.proofs.Common.{arith, subst, sym, ap, ◌∙◌}
 use Rattle.indexmap.specs.IndexSet.{insert_key}
 use Rattle.cc_sorts.specs.Searches.{IsSearched}
-use Rattle.cc_sorts.proofs.Upward.{searched_first, searched_step, searched_all, within_first, within_more, few_found, bound, is_within, same_key, Keys}
+use Rattle.cc_sorts.proofs.Upward.{searched_first, searched_step, searched_all, within_first, within_more, few_found, is_within, same_key, Keys}
 use Rattle.cc_sorts.proofs.left.Left.found_above.Goals as goal
 
 pub search-init : goal.search-init

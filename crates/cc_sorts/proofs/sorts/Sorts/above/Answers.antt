@@ -1,9 +1,4 @@
-use Rattle.std.proofs.Common.{◌≡◌, ◌∙◌, List, ℕ, ◌+◌, ap, length, sym, subst, arith}
-use Rattle.cc_defs.specs.Declarations.{is_below, numbers_where}
-use Rattle.cc_sorts.specs.Dictionaries.{names_of}
-use Rattle.cc_sorts.specs.Lists.{lists_of, list_at}
-use Rattle.cc_sorts.specs.SortParts.{named_pairs}
-use Rattle.cc_sorts.specs.SortViews.{SortsView, name_at}
+use Rattle.std.proofs.Common.{◌∙◌}
 use Rattle.cc_sorts.proofs.Numbered.{above_are}
 use Rattle.cc_sorts.proofs.Reading.{read_above}
 use Rattle.cc_sorts.proofs.sorts.Sorts.above.Goals as goal

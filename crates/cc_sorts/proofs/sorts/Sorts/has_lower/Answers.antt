@@ -1,10 +1,10 @@
-use Rattle.std.proofs.Common.{◌≡◌, ◌∙◌, List, ℕ, ap, length, sym, subst, ◌<◌}
+use Rattle.std.proofs.Common.{◌∙◌, List, ℕ, ap, length, sym}
 use Rattle.std.specs.Prelude.{nat_lt}
 use Rattle.std.specs.List.{list_any}
 use Rattle.cc_defs.specs.Declarations.{Pair}
 use Rattle.cc_defs.specs.Grammar.{same_text}
 use Rattle.cc_sorts.specs.Dictionaries.{number_of, names_of}
-use Rattle.cc_sorts.specs.Lists.{lists_of, list_at}
+use Rattle.cc_sorts.specs.Lists.{lists_of}
 use Rattle.cc_sorts.specs.SortParts.{named_pairs}
 use Rattle.cc_sorts.specs.SortViews.{SortsView}
 use Rattle.cc_sorts.proofs.Reading.{read_below}

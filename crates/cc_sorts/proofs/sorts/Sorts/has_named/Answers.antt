@@ -1,4 +1,4 @@
-use Rattle.std.proofs.Common.{◌≡◌, ◌∙◌, ap, sym}
+use Rattle.std.proofs.Common.{◌∙◌, ap, sym}
 use Rattle.cc_sorts.specs.Dictionaries.{number_of}
 use Rattle.cc_sorts.specs.SortViews.{SortsView}
 use Rattle.cc_sorts.proofs.Uppers.{named_pair, without_upper, without_lower}

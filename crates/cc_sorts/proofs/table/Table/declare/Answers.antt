@@ -1,9 +1,6 @@
-use Rattle.std.proofs.Common.{◌≡◌, ◌≤◌, ℕ, List, length, sym, subst}
 use Rattle.cc_defs.specs.Trees.{plain_statement}
 use Rattle.cc_sorts.specs.Declaring.{plain_declarations}
-use Rattle.cc_sorts.specs.Steps.{HasRoom}
 use Rattle.cc_sorts.specs.Tables.{HasRefused}
-use Rattle.cc_sorts.specs.declared.declaration.Declaration as declarations
 use Rattle.cc_sorts.proofs.Declared.{front_none, front_of, declares, want_of_memory, none_judged, same_declarations}
 use Rattle.cc_sorts.proofs.table.Table.declare.Goals as goal
 

@@ -13,4 +13,4 @@ of-requires c =
 pub returns-clause-made : goal.returns-clause-made
 returns-clause-made c = λ left is.
     made_of c.args.self.now c.of.result c.in_ok-fluents.fluents.items c.in_ok-actions.actions.items (sym c.refusal.ensures ∙ c.in_default.is) c.of.ensures
-    c.in_ok-fluents.ensures.made c.in_ok-actions.ensures.made left is
+    c.in_ok-fluents.ensures.made c.in_ok-actions.ensures.made c.instances.ensures.numbered left is

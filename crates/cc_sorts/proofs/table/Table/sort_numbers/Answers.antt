@@ -1,4 +1,4 @@
-use Rattle.std.proofs.Common.{[], sym, ◌∙◌, ap}
+use Rattle.std.proofs.Common.{[], sym}
 use Rattle.cc_defs.specs.Declarations.{number_in}
 use Rattle.cc_sorts.proofs.Walks.{numbers_more}
 use Rattle.cc_sorts.proofs.table.Table.sort_numbers.Goals as goal

@@ -1,4 +1,4 @@
-use Rattle.std.proofs.Common.{◌∙◌, arith}
+use Rattle.std.proofs.Common.{arith}
 use Rattle.cc_sorts.proofs.Listed.{total_more}
 use Rattle.cc_sorts.proofs.table.Table.total.Goals as goal
 

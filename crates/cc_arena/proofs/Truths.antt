@@ -6,18 +6,18 @@ use Rattle.std.specs.Bool.{beq}
 use Rattle.std.specs.List.{AllByRecursion, IsDistinct, list_all, list_any, position_from}
 use Rattle.std.proofs.lemmas.Bool.{cases_eq, eq-eqb, ne_eqb}
 use Rattle.std.proofs.lemmas.Iterator.Adapters.{position_from-zero}
-use Rattle.cc_arena.specs.declared.laws.GroundHead.TheVariants as heads
+use Rattle.cc_arena.specs.declared.ground_laws.GroundHead.{GroundHead}
+use Rattle.cc_arena.specs.declared.ground_laws.GroundHead.TheVariants as heads
+use Rattle.cc_arena.specs.Meanings.{head_truth}
 use Rattle.cc_arena.specs.Terms.{Ground, Operands, truth, all_true, any_true}
 use Rattle.cc_arena.specs.Terms as terms
 use Rattle.cc_defs.specs.declared.signature.Const.{Const}
-use Rattle.cc_defs.specs.Formulas.{same_value, value_at}
-use Rattle.cc_defs.specs.Resolved.{Term, Terms, Formula}
+use Rattle.cc_defs.specs.Resolved.{Term, Terms, Formula, Head, terms_of}
 use Rattle.cc_defs.specs.Resolved as resolved
-use Rattle.cc_ground.specs.Grounding.{ground_head, head_at, head_of_sides, listed}
-use Rattle.cc_ground.specs.Laws.{HaveOwnValues}
-use Rattle.cc_ground.specs.Nodes.{Side, Constant, Value, Absent, side, value_side, constant_side, numbered_side, atom, atom_at, add_common, commons, equation, instances, term_of}
-use Rattle.cc_ground.specs.Satisfaction.{constant_meant, term_value, satisfied}
-use Rattle.cc_ground.specs.Universe.{Universe, objects_of}
+use Rattle.cc_arena.specs.Grounding.{ground_head, head_at, head_of_sides}
+use Rattle.cc_arena.specs.Nodes.{Side, Constant, Value, Absent, side, value_side, constant_side, numbered_side, atom, atom_at, add_common, commons, equation, instances, term_of}
+use Rattle.cc_defs.specs.Satisfaction.{constant_meant, term_value, same_value, value_at, satisfied, head_satisfied}
+use Rattle.cc_defs.specs.Universe.{Universe, HaveOwnValues, constants_in, objects_of}
 
 -- ---- the place of a value among different values
 
@@ -98,7 +98,7 @@ sides_own : (u : Universe) → HaveOwnValues u → (env : List ℕ) (t : Term) �
 sides_own u own env (resolved.Constant symbol args) = number_own (constant_meant u env symbol args)
   where
     number_own : (o : Option ℕ) → IsOwn (numbered_side u o)
-    number_own (Some number) = own_side u.constants number number own
+    number_own (Some number) = own_side (constants_in u) number number own
     number_own None = tt
 sides_own u own env (resolved.Object object) = tt
 sides_own u own env (resolved.Variable variable) = value_own (slice_get env variable)
@@ -118,8 +118,8 @@ module _ (valuation : List ℕ) where
   value_of_constant number (Some c) = refl
   value_of_constant number None = refl
 
-  value_of_number : (u : Universe) (o : Option ℕ) → option_and_then (value_at u.constants (λ n. slice_index valuation n)) o ≡ side_value (numbered_side u o)
-  value_of_number u (Some number) = value_of_constant number (slice_get u.constants number)
+  value_of_number : (u : Universe) (o : Option ℕ) → option_and_then (value_at (constants_in u) (λ n. slice_index valuation n)) o ≡ side_value (numbered_side u o)
+  value_of_number u (Some number) = value_of_constant number (slice_get (constants_in u) number)
   value_of_number u None = refl
 
   value_of_value : (o : Option ℕ) → o ≡ side_value (value_side o)
@@ -199,21 +199,19 @@ module _ (valuation : List ℕ) where
   equation_tells (Value value) Absent p q = refl
   equation_tells Absent other p q = refl
 
-  head_tells : (p q : Side) → IsOwn p → (number index : ℕ) → head_of_sides p q ≡ Some (heads.Atom number index) →
-      (slice_index valuation number == index) ≡ same_value (side_value p) (side_value q)
-  head_tells (Constant constant values) (Value value) p number index e =
+  head_tells : (p q : Side) → IsOwn p → (found : GroundHead) → head_of_sides p q ≡ Some found → head_truth valuation found ≡ same_value (side_value p) (side_value q)
+  head_tells (Constant constant values) (Value value) p found e =
       at (position (nat_eq value) values) e ∙ index_tells value (slice_index valuation constant) values p
     where
-      at : (o : Option ℕ) → head_at constant o ≡ Some (heads.Atom number index) → (slice_index valuation number == index) ≡ is_place o (slice_index valuation constant)
+      at : (o : Option ℕ) → head_at constant o ≡ Some found → head_truth valuation found ≡ is_place o (slice_index valuation constant)
       at (Some place) e =
-          let same : constant ≡ number = cc in
-          let here : place ≡ index = cc in
-          cc
+          let same : heads.Atom constant place ≡ found = cc in
+          ap (head_truth valuation) (sym same)
       at None e = absurd cc
-  head_tells (Constant constant values) (Constant other others) p number index e = absurd cc
-  head_tells (Constant constant values) Absent p number index e = absurd cc
-  head_tells (Value value) q p number index e = absurd cc
-  head_tells Absent q p number index e = absurd cc
+  head_tells (Constant constant values) (Constant other others) p found e = absurd cc
+  head_tells (Constant constant values) Absent p found e = absurd cc
+  head_tells (Value value) q p found e = absurd cc
+  head_tells Absent q p found e = absurd cc
 
   -- ---- brackets
 
@@ -275,9 +273,11 @@ module _ (u : Universe) (own : HaveOwnValues u) (valuation : List ℕ) where
       ∙ same_any (λ object. truth valuation (term_of u (env ++ object ∷ []) f)) (λ object. satisfied u (λ n. slice_index valuation n) (env ++ object ∷ []) f) (objects_of u sort)
       (λ object. truth_is (env ++ object ∷ []) f)
 
-  pub head_is : (env : List ℕ) (symbol : ℕ) (args : List Term) (value : Term) (number index : ℕ) →
-      ground_head u env (resolved.Atom symbol args value) ≡ Some (heads.Atom number index) →
-      (slice_index valuation number == index) ≡ satisfied u (λ n. slice_index valuation n) env (resolved.Equal (resolved.Constant symbol (listed args)) value)
-  head_is env symbol args value number index e =
-      let constant = resolved.Constant symbol (listed args) in
-      head_tells valuation (side u env constant) (side u env value) (sides_own u own env constant) number index e ∙ sides_tell env constant value
+  pub head_is : (env : List ℕ) (head : Head) (found : GroundHead) → ground_head u env head ≡ Some found →
+      head_truth valuation found ≡ head_satisfied u (λ n. slice_index valuation n) env head
+  head_is env resolved.Falsity found e =
+      let same : heads.Falsity ≡ found = cc in
+      ap (head_truth valuation) (sym same)
+  head_is env (resolved.Atom symbol args value) found e =
+      let constant = resolved.Constant symbol (terms_of args) in
+      head_tells valuation (side u env constant) (side u env value) (sides_own u own env constant) found e ∙ sides_tell env constant value

@@ -1,22 +1,23 @@
 -- The laws of ground constants that base laws stand for, and the same of a query.
-use Rattle.std.specs.Prelude.{ℕ, ◌+◌, Bool, false, ◌&&◌, ◌==◌, if◌then◌else◌, List, [], ◌∷◌, ◌++◌, map, flat_map, nat_eq, position, slice_get, Option, Some, None, is_none}
+use Rattle.std.specs.Prelude.{ℕ, ◌+◌, List, [], ◌∷◌, ◌++◌, map, flat_map, nat_eq, position, Option, Some, None}
 use Rattle.std.specs.Option.{option_map}
-use Rattle.cc_arena.specs.declared.laws.GroundHead.{GroundHead}
-use Rattle.cc_arena.specs.declared.laws.GroundHead.TheVariants as heads
-use Rattle.cc_arena.specs.Terms.{Ground, postfix}
+use Rattle.cc_arena.specs.declared.ground_laws.GroundCondition.{GroundCondition}
+use Rattle.cc_arena.specs.declared.ground_laws.GroundHead.{GroundHead}
+use Rattle.cc_arena.specs.declared.ground_laws.GroundHead.TheVariants as heads
+use Rattle.cc_arena.specs.declared.ground_laws.GroundLaw.{GroundLaw}
+use Rattle.cc_arena.specs.declared.ground_laws.GroundQuery.{GroundQuery}
+use Rattle.cc_arena.specs.declared.ground_laws.Laws.{Laws}
+use Rattle.cc_arena.specs.Nodes.{Side, Constant, Value, Absent, side, two, term_of}
+use Rattle.cc_arena.specs.Terms.{postfix}
 use Rattle.cc_arena.specs.Terms as terms
 use Rattle.cc_defs.specs.declared.node.Node.{Node}
 use Rattle.cc_defs.specs.declared.signature.At.{At}
-use Rattle.cc_defs.specs.declared.signature.Const.{Const}
 use Rattle.cc_defs.specs.declared.signature.LawKind.{LawKind}
 use Rattle.cc_defs.specs.declared.signature.LawKind.TheVariants as kinds
-use Rattle.cc_defs.specs.declared.signature.Symbol.{Symbol}
-use Rattle.cc_defs.specs.Declarations.{is_action}
-use Rattle.cc_defs.specs.Resolved.{Term, Terms, Formula, Head, Law, BaseLaw, Condition, Query}
+use Rattle.cc_defs.specs.Environments.{environments, pairs_of}
+use Rattle.cc_defs.specs.Resolved.{Formula, Head, Law, BaseLaw, Condition, Query, terms_of}
 use Rattle.cc_defs.specs.Resolved as resolved
-use Rattle.cc_ground.specs.Environments.{environments}
-use Rattle.cc_ground.specs.Nodes.{Side, Constant, Value, Absent, side, two, term_of}
-use Rattle.cc_ground.specs.Universe.{Universe}
+use Rattle.cc_defs.specs.Universe.{Universe, boolean_actions}
 
 -- a ground law, apart from where its terms lie
 pub record PlainGroundLaw : Type 0 where
@@ -43,12 +44,8 @@ head_of_sides (Constant number values) other = None
 head_of_sides (Value value) other = None
 head_of_sides Absent other = None
 
-abbrev pub listed : List Term → Terms
-listed [] = resolved.NoTerms
-listed (first ∷ others) = resolved.MoreTerms first (listed others)
-
 abbrev pub ground_head : Universe → List ℕ → Head → Option GroundHead
-ground_head u env (resolved.Atom symbol args value) = head_of_sides (side u env (resolved.Constant symbol (listed args))) (side u env value)
+ground_head u env (resolved.Atom symbol args value) = head_of_sides (side u env (resolved.Constant symbol (terms_of args))) (side u env value)
 ground_head u env resolved.Falsity = Some heads.Falsity
 
 -- ---- laws
@@ -66,29 +63,6 @@ law_with u base law env (Some head) = record {
 -- the instance of a law under an environment
 abbrev pub instance_of : Universe → ℕ → Law → List ℕ → List PlainGroundLaw
 instance_of u base law env = law_with u base law env (ground_head u env law.head)
-
--- a Boolean action: `boolean` is the first sort, and an attribute has values of another kind
-abbrev pub is_boolean_symbol : Option Symbol → Bool
-is_boolean_symbol None = false
-is_boolean_symbol (Some symbol) = is_none symbol.attribute && (symbol.domain == 0)
-
-abbrev pub is_boolean_action : Universe → Const → Bool
-is_boolean_action u constant = is_action constant.kind && is_boolean_symbol (slice_get u.symbols constant.symbol)
-
--- the numbers of the Boolean actions, in order
-abbrev pub boolean_actions_from : Universe → ℕ → List Const → List ℕ
-boolean_actions_from u number [] = []
-boolean_actions_from u number (constant ∷ constants) =
-    if is_boolean_action u constant then number ∷ boolean_actions_from u (number + 1) constants
-    else boolean_actions_from u (number + 1) constants
-
-abbrev pub boolean_actions : Universe → List ℕ
-boolean_actions u = boolean_actions_from u 0 u.constants
-
--- each two, an earlier one first, sorted by the first, then the second
-abbrev pub pairs_of : List ℕ → List (ℕ × ℕ)
-pairs_of [] = []
-pairs_of (number ∷ numbers) = map (λ other. (number, other)) numbers ++ pairs_of numbers
 
 -- `caused false after a & b`
 abbrev pub pair_law : ℕ → ℕ × ℕ → PlainGroundLaw
@@ -134,4 +108,29 @@ ground_query u range query = record {
   hi = range.1;
   conditions = map (ground_condition u) query.conditions;
   claim = option_map (ground_condition u) query.claim;
+}
+
+-- ---- what lies in an arena, apart from where its terms lie
+
+abbrev pub plain_ground_law : GroundLaw → PlainGroundLaw
+plain_ground_law law = record {
+  head = law.head;
+  body = law.body.now;
+  after = option_map (λ nodes. nodes.now) law.after;
+  kind = law.kind;
+  base = law.base;
+}
+
+abbrev pub plain_ground_laws : Laws → List PlainGroundLaw
+plain_ground_laws laws = map plain_ground_law laws.laws.items
+
+abbrev pub plain_ground_condition : GroundCondition → PlainGroundCondition
+plain_ground_condition condition = record { at = condition.at; nodes = condition.nodes.now }
+
+abbrev pub plain_ground_query : GroundQuery → PlainGroundQuery
+plain_ground_query query = record {
+  lo = query.lo;
+  hi = query.hi;
+  conditions = map plain_ground_condition query.conditions.conditions.items;
+  claim = option_map plain_ground_condition query.claim;
 }

@@ -7,9 +7,9 @@ use Rattle.cc_arena.specs.Terms as terms
 use Rattle.cc_defs.specs.declared.signature.Const.{Const}
 use Rattle.cc_defs.specs.Resolved.{Term, Formula}
 use Rattle.cc_defs.specs.Resolved as resolved
-use Rattle.cc_ground.specs.Nodes.{Side, Constant, Value, Absent, side, value_side, constant_side, numbered_side, atom_at, add_common, commons, equation, instances, term_of}
-use Rattle.cc_ground.specs.Satisfaction.{constant_meant}
-use Rattle.cc_ground.specs.Universe.{Universe, objects_of}
+use Rattle.cc_arena.specs.Nodes.{Side, Constant, Value, Absent, side, value_side, constant_side, numbered_side, atom_at, add_common, commons, equation, instances, term_of}
+use Rattle.cc_defs.specs.Satisfaction.{constant_meant}
+use Rattle.cc_defs.specs.Universe.{Universe, constants_in, objects_of}
 
 abbrev IsNamedBelow : ℕ → Side → Type 0
 IsNamedBelow count (Constant number values) = number < count
@@ -51,34 +51,34 @@ module _ (count : ℕ) where
   instances_names instance operands (object ∷ objects) all each = instances_names instance (terms.and_then operands (instance object)) objects (all, each object) each
 
 module _ (u : Universe) where
-  side_named : (env : List ℕ) (t : Term) → IsNamedBelow (length u.constants) (side u env t)
+  side_named : (env : List ℕ) (t : Term) → IsNamedBelow (length (constants_in u)) (side u env t)
   side_named env (resolved.Constant symbol args) = number_named (constant_meant u env symbol args)
     where
-      at : (number : ℕ) (o : Option Const) → slice_get u.constants number ≡ o → IsNamedBelow (length u.constants) (constant_side number o)
-      at number (Some c) e = slice_get_within u.constants number c e
+      at : (number : ℕ) (o : Option Const) → slice_get (constants_in u) number ≡ o → IsNamedBelow (length (constants_in u)) (constant_side number o)
+      at number (Some c) e = slice_get_within (constants_in u) number c e
       at number None e = tt
 
-      number_named : (o : Option ℕ) → IsNamedBelow (length u.constants) (numbered_side u o)
-      number_named (Some number) = at number (slice_get u.constants number) refl
+      number_named : (o : Option ℕ) → IsNamedBelow (length (constants_in u)) (numbered_side u o)
+      number_named (Some number) = at number (slice_get (constants_in u) number) refl
       number_named None = tt
   side_named env (resolved.Object object) = tt
   side_named env (resolved.Variable variable) = value_named (slice_get env variable)
     where
-      value_named : (o : Option ℕ) → IsNamedBelow (length u.constants) (value_side o)
+      value_named : (o : Option ℕ) → IsNamedBelow (length (constants_in u)) (value_side o)
       value_named (Some value) = tt
       value_named None = tt
   side_named env resolved.Nothing = tt
 
-  pub names_are : (env : List ℕ) (formula : Formula) → NamesBelow (length u.constants) (term_of u env formula)
+  pub names_are : (env : List ℕ) (formula : Formula) → NamesBelow (length (constants_in u)) (term_of u env formula)
   names_are env resolved.Truth = tt
   names_are env resolved.Falsehood = tt
-  names_are env (resolved.Equal s t) = equation_names (length u.constants) (side u env s) (side u env t) (side_named env s) (side_named env t)
+  names_are env (resolved.Equal s t) = equation_names (length (constants_in u)) (side u env s) (side u env t) (side_named env s) (side_named env t)
   names_are env (resolved.Not f) = names_are env f
   names_are env (resolved.Both f g) = ((tt, names_are env f), names_are env g)
   names_are env (resolved.Either f g) = ((tt, names_are env f), names_are env g)
   names_are env (resolved.Implies f g) = ((tt, names_are env f), names_are env g)
   names_are env (resolved.Same f g) = (names_are env f, names_are env g)
   names_are env (resolved.ForAll variable sort f) =
-      instances_names (length u.constants) (λ object. term_of u (env ++ object ∷ []) f) terms.nothing (objects_of u sort) tt (λ object. names_are (env ++ object ∷ []) f)
+      instances_names (length (constants_in u)) (λ object. term_of u (env ++ object ∷ []) f) terms.nothing (objects_of u sort) tt (λ object. names_are (env ++ object ∷ []) f)
   names_are env (resolved.Exists variable sort f) =
-      instances_names (length u.constants) (λ object. term_of u (env ++ object ∷ []) f) terms.nothing (objects_of u sort) tt (λ object. names_are (env ++ object ∷ []) f)
+      instances_names (length (constants_in u)) (λ object. term_of u (env ++ object ∷ []) f) terms.nothing (objects_of u sort) tt (λ object. names_are (env ++ object ∷ []) f)

@@ -3,11 +3,11 @@ use Rattle.std.specs.Prelude.{ℕ, ◌+◌, ◌==◌, nat_eq, if◌then◌else�
 use Rattle.cc_arena.specs.Terms.{Ground, Operands}
 use Rattle.cc_arena.specs.Terms as terms
 use Rattle.cc_defs.specs.declared.signature.Const.{Const}
-use Rattle.cc_defs.specs.Texts.{none_value}
+use Rattle.cc_defs.specs.Signatures.{none_value}
 use Rattle.cc_defs.specs.Resolved.{Term, Terms, Formula}
 use Rattle.cc_defs.specs.Resolved as resolved
-use Rattle.cc_ground.specs.Satisfaction.{constant_meant}
-use Rattle.cc_ground.specs.Universe.{Universe, objects_of}
+use Rattle.cc_defs.specs.Satisfaction.{constant_meant}
+use Rattle.cc_defs.specs.Universe.{Universe, constants_in, objects_of}
 
 -- what a side of an equation stands for: a ground constant, a value, or nothing
 pub data Side : Type 0 where
@@ -24,7 +24,7 @@ constant_side number (Some constant) = Constant number constant.domain
 constant_side number None = Absent
 
 abbrev pub numbered_side : Universe → Option ℕ → Side
-numbered_side u (Some number) = constant_side number (slice_get u.constants number)
+numbered_side u (Some number) = constant_side number (slice_get (constants_in u) number)
 numbered_side u None = Absent
 
 abbrev pub side : Universe → List ℕ → Term → Side
