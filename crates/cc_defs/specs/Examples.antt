@@ -1,6 +1,8 @@
 -- Small descriptions whose states and transitions are known beforehand: they show what the definitions say.
 use Rattle.std.specs.Prelude.{◌≡◌, ℕ, List, [], ◌∷◌, ◌++◌, length, Option, Some, None, codes}
 use Rattle.cc_defs.specs.declared.law.Range.TheVariants as ranges
+use Rattle.cc_defs.specs.declared.node.GroundHead.TheVariants as ground_heads
+use Rattle.cc_defs.specs.declared.node.Node.TheVariants as nodes
 use Rattle.cc_defs.specs.declared.signature.At.TheVariants.{Last}
 use Rattle.cc_defs.specs.declared.signature.Const.{Const}
 use Rattle.cc_defs.specs.declared.signature.Symbol.{Symbol}
@@ -12,7 +14,10 @@ use Rattle.cc_defs.specs.declared.tree.KindWord.TheVariants as words
 use Rattle.cc_defs.specs.DeclarationFaults.{declaration_fault, signature_refusal}
 use Rattle.cc_defs.specs.Declarations.{Declaration, part_declarations, members, sort_names, ground_fluents, ground_actions}
 use Rattle.cc_defs.specs.Description.{Description}
+use Rattle.cc_defs.specs.Conditions.{AreGroundLaws, HaveTheirKinds}
 use Rattle.cc_defs.specs.Environments.{environments, pairs_of}
+use Rattle.cc_defs.specs.Forms.{HaveForms}
+use Rattle.cc_defs.specs.GroundLaws.{ground_laws}
 use Rattle.cc_defs.specs.Histories.{IsListing}
 use Rattle.cc_defs.specs.Paths.{IsState, IsTransition, IsPath}
 use Rattle.cc_defs.specs.Resolved.{NoTerms, MoreTerms, Formula, Truth, Equal, Not, Both, ForAll, Exists, Object, Variable, Head, Atom, Falsity, Law, BaseLaw, One, NoConcurrency, Query}
@@ -218,6 +223,55 @@ LawsStandForAllObjects =
     IsState (two_objects_with (One one_from_the_other ∷ [])) (0 ∷ 0 ∷ []) × IsState (two_objects_with (One one_from_the_other ∷ [])) (1 ∷ 1 ∷ [])
     × (IsState (two_objects_with (One one_from_the_other ∷ [])) (0 ∷ 1 ∷ []) → ⊥)
     × (IsState (two_objects_with (One one_from_the_other ∷ [])) (1 ∷ 0 ∷ []) → ⊥)
+
+-- Its two ground laws, with their terms.
+abbrev pub LawsAreGround : Type 0
+LawsAreGround = ground_laws two_objects (One one_from_the_other ∷ []) ≡
+    record { head = ground_heads.Atom 0 1; body = nodes.Atom 1 1 ∷ []; after = None; kind = law_kinds.Static; base = 0 }
+    ∷ record { head = ground_heads.Atom 1 1; body = nodes.Atom 0 1 ∷ []; after = None; kind = law_kinds.Static; base = 0 } ∷ []
+
+-- They are as the theory of a horizon asks; the law has the form of its kind, and as one of actions it would have none.
+abbrev pub LawsHaveForms : Type 0
+LawsHaveForms =
+    HaveTheirKinds two_objects × HaveForms two_objects.symbols (One one_from_the_other ∷ [])
+    × AreGroundLaws two_objects (ground_laws two_objects (One one_from_the_other ∷ []))
+    × (HaveForms two_objects.symbols (One (record one_from_the_other { kind = law_kinds.ActionDynamic }) ∷ []) → ⊥)
+
+-- ---- brackets and heads
+
+-- `exogenous p(X) where` a test; the value variable has the number 1, a bracket of the test the number 2
+abbrev pub exogenous_where : Formula → Law
+exogenous_where test = record {
+  ranges = ranges.Sort 1 ∷ ranges.Domain 0 ∷ [];
+  head = Atom 0 (Variable 0 ∷ []) (Variable 1);
+  body = Equal (resolved.Constant 0 (MoreTerms (Variable 0) NoTerms)) (Variable 1);
+  after = None;
+  test = test;
+  kind = law_kinds.Static;
+  file = 0;
+  line = 1;
+}
+
+-- Not all objects are X, whichever X is; some object is X and is not `b`, where X is `a`.
+abbrev pub BracketsStandInTests : Type 0
+BracketsStandInTests =
+    (environments two_objects (exogenous_where (ForAll 2 1 (Equal (Variable 2) (Variable 0)))) ≡ [])
+    × (environments two_objects (exogenous_where (Exists 2 1 (Both (Equal (Variable 2) (Variable 0)) (Not (Equal (Variable 2) (Object 3)))))) ≡
+    (2 ∷ 0 ∷ []) ∷ (2 ∷ 1 ∷ []) ∷ [])
+
+-- A bracket hides an outer one of its own number, and leaves the others: each object is itself, and some object is none of
+-- the two that the law's variables and an outer bracket stand for.
+abbrev pub BracketsBindTheirVariable : Type 0
+BracketsBindTheirVariable =
+    (environments two_objects (exogenous_where (ForAll 2 1 (Exists 3 1 (Equal (Variable 3) (Variable 2))))) ≡
+    (2 ∷ 0 ∷ []) ∷ (2 ∷ 1 ∷ []) ∷ (3 ∷ 0 ∷ []) ∷ (3 ∷ 1 ∷ []) ∷ [])
+    × (environments two_objects (exogenous_where (Exists 2 1 (ForAll 2 1 (Equal (Variable 2) (Variable 0))))) ≡ [])
+    × (environments two_objects (exogenous_where (Exists 2 1 (Exists 3 1 (Not (Equal (Variable 3) (Variable 2)))))) ≡
+    (2 ∷ 0 ∷ []) ∷ (2 ∷ 1 ∷ []) ∷ (3 ∷ 0 ∷ []) ∷ (3 ∷ 1 ∷ []) ∷ [])
+
+-- A law has no instance where its head is not there: `caused p(X)=b`, whose value is none of the constant's.
+abbrev pub HeadsMustBeThere : Type 0
+HeadsMustBeThere = environments two_objects (record one_from_the_other { head = Atom 0 (Variable 0 ∷ []) (Object 3) }) ≡ []
 
 -- `caused false if` a bracket
 abbrev pub forbids : Formula → Description

@@ -7,7 +7,7 @@ use Rattle.cc_defs.specs.declared.signature.At.TheVariants.{Number, Last}
 use Rattle.cc_defs.specs.Rows.{row_cmp, IsBelow}
 use Rattle.cc_defs.specs.Description.{Description, values_at}
 use Rattle.cc_defs.specs.Resolved.{Condition, Query}
-use Rattle.cc_defs.specs.Satisfaction.{satisfied}
+use Rattle.cc_defs.specs.Satisfaction.{giving, satisfied}
 use Rattle.cc_defs.specs.Paths.{IsPath}
 
 -- the step that a condition speaks of at a horizon
@@ -17,7 +17,7 @@ step_of Last horizon = horizon
 
 -- a condition has no free variable
 abbrev pub condition_holds : Description → ℕ → List ℕ → Condition → Bool
-condition_holds d horizon row condition = satisfied d.universe (values_at d row (step_of condition.at horizon)) [] condition.formula
+condition_holds d horizon row condition = satisfied d.universe (values_at d row (step_of condition.at horizon)) (giving []) condition.formula
 
 -- every condition holds, and the claim does not
 pub record Meets (d : Description) (q : Query) (horizon : ℕ) (row : List ℕ) : Type 0 where

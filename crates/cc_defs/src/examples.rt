@@ -1,5 +1,5 @@
 //! Examples whose answers are known beforehand, each the contract of a function with no body.
-ghost use Rattle.cc_defs.specs.Examples.{EmptyRowIsState, SimpleFluentsAreFree, DeterminedNeedsCause, OneValueNeedsNoCause, CausesThatDifferClash, CausesMayStandInCircle, FalsityForbids, LampHasSoManyRules, LampTurns, LampStays, LampDoesNothingElse, LampTurnsTwice, LampEndsOnInTwoWays, KeysAreWritten, LampHistoryIsWritten, AttributeShowsNone, SortsHaveObjects, DeclarationsAreRefused, ConstantsAreGround, AttributesAreRefused, EmptyDomainsAreRefused, TestsDropEnvironments, LawsStandForAllObjects, BracketsGoOverObjects, ActionsAreNotTogether, PairsAreInOrder};
+ghost use Rattle.cc_defs.specs.Examples.{EmptyRowIsState, SimpleFluentsAreFree, DeterminedNeedsCause, OneValueNeedsNoCause, CausesThatDifferClash, CausesMayStandInCircle, FalsityForbids, LampHasSoManyRules, LampTurns, LampStays, LampDoesNothingElse, LampTurnsTwice, LampEndsOnInTwoWays, KeysAreWritten, LampHistoryIsWritten, AttributeShowsNone, SortsHaveObjects, DeclarationsAreRefused, ConstantsAreGround, AttributesAreRefused, EmptyDomainsAreRefused, TestsDropEnvironments, LawsAreGround, LawsHaveForms, BracketsStandInTests, BracketsBindTheirVariable, HeadsMustBeThere, LawsStandForAllObjects, BracketsGoOverObjects, ActionsAreNotTogether, PairsAreInOrder};
 
 fn empty_row_is_state()
     ensures { EmptyRowIsState }
@@ -67,6 +67,26 @@ fn attribute_shows_none()
 
 fn tests_drop_environments()
     ensures { TestsDropEnvironments }
+{}
+
+fn laws_are_ground()
+    ensures { LawsAreGround }
+{}
+
+fn laws_have_forms()
+    ensures { LawsHaveForms }
+{}
+
+fn brackets_stand_in_tests()
+    ensures { BracketsStandInTests }
+{}
+
+fn brackets_bind_their_variable()
+    ensures { BracketsBindTheirVariable }
+{}
+
+fn heads_must_be_there()
+    ensures { HeadsMustBeThere }
 {}
 
 fn laws_stand_for_all_objects()

@@ -1,4 +1,4 @@
-//! Nodes of ground terms.
+//! Nodes of ground terms, and the heads of ground laws.
 
 /// A node of a ground term. A term is a list of nodes in which each node stands behind its operands.
 #[derive(Clone, Copy, Debug, PartialEq, Eq)]
@@ -15,4 +15,12 @@ pub enum Node {
     Any(u32),
     /// Both of its operands are true, or both are false.
     Same,
+}
+
+/// The head of a ground law.
+#[derive(Clone, Copy, Debug, PartialEq, Eq)]
+pub enum GroundHead {
+    /// The ground constant of this number has the value of this index in its domain.
+    Atom { constant: u32, value: u32 },
+    Falsity,
 }
