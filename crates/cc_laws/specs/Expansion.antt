@@ -1,21 +1,24 @@
 -- The base laws that a statement stands for, in order.
-use Rattle.std.specs.Prelude.{◌≡◌, ℕ, zero, ◌+◌, Bool, true, false, ◌&&◌, if◌then◌else◌, List, [], ◌∷◌, ◌++◌, length, map, flat_map, Option, Some, None, is_none}
+use Rattle.std.specs.Prelude.{◌≡◌, ℕ, ◌+◌, Bool, true, false, ◌&&◌, if◌then◌else◌, List, [], ◌∷◌, ◌++◌, length, map, flat_map, Option, Some, None, is_none, unwrap_or}
 use Rattle.std.specs.Option.{option_map}
 use Rattle.cc_defs.specs.declared.law.Range.{Range}
 use Rattle.cc_defs.specs.declared.law.Range.TheVariants as ranges
+use Rattle.cc_defs.specs.declared.signature.LawKind.{LawKind}
+use Rattle.cc_defs.specs.declared.signature.LawKind.TheVariants as law_kinds
 use Rattle.cc_defs.specs.declared.signature.Symbol.{Symbol}
 use Rattle.cc_defs.specs.declared.tree.KindWord.{KindWord}
 use Rattle.cc_defs.specs.declared.tree.KindWord.TheVariants as kind_words
 use Rattle.cc_defs.specs.Declarations.{Declaration}
-use Rattle.cc_defs.specs.Trees.{PlainTerm, Applied, PlainTerms, PlainTree, PlainLaw, PlainKind, PlainShape, PlainConstItem, PlainPart, PlainStatement}
+use Rattle.cc_defs.specs.Forms.{is_action_symbol}
+use Rattle.cc_defs.specs.Trees.{PlainTerm, Applied, PlainTree, PlainLaw, PlainKind, PlainShape, PlainConstItem, PlainPart, PlainStatement}
 use Rattle.cc_defs.specs.Trees as trees
 use Rattle.cc_defs.specs.Resolved.{Term, Terms, Formula, Head, Law, BaseLaw}
 use Rattle.cc_defs.specs.Resolved as resolved
-use Rattle.cc_laws.specs.Classes.{class_of}
-use Rattle.cc_laws.specs.FormulaFaults.{has_action, is_fluent_formula, term_meaning}
-use Rattle.cc_laws.specs.LawFaults.{law_refusal, law_variables, is_constant_term, is_boolean_term}
-use Rattle.cc_laws.specs.Resolving.{alone, resolve, resolve_term, resolve_terms}
-use Rattle.cc_laws.specs.Vocabulary.{Vocabulary, vocabulary, Meaning, Object, Constant, meaning, is_falsity, sort_of_entry}
+use Rattle.cc_laws.specs.FormulaFaults.{has_action, is_fluent_formula}
+use Rattle.cc_laws.specs.Heads.{definite_heads, listed}
+use Rattle.cc_laws.specs.LawFaults.{law_refusal, law_variables}
+use Rattle.cc_laws.specs.Resolving.{Binding, numbered_from, brackets, alone, resolve, resolve_terms}
+use Rattle.cc_laws.specs.Vocabulary.{Vocabulary, vocabulary, Meaning, Constant, meaning, sort_of_entry}
 
 -- ---- the law `caused F if G after H` that a law is short for
 
@@ -38,67 +41,23 @@ abbrev pub effect : Bool → PlainTree → PlainTree → Option PlainTree → Ca
 effect true a f g = caused (Some f) None (Some (both a g))
 effect false a f g = caused (Some f) (Some (both a g)) None
 
-abbrev pub short_for : Vocabulary → PlainLaw → Option Caused
-short_for v (trees.Caused f g h) = Some (caused (Some f) g h)
-short_for v (trees.Constraint f) = Some (caused None (Some (trees.Not f)) None)
-short_for v (trees.Always f) = Some (caused None None (Some (trees.Not f)))
-short_for v (trees.Nonexecutable f g) = Some (caused None None (Some (both f g)))
-short_for v (trees.Default f g h) = Some (caused (Some f) (Some (both f g)) h)
-short_for v (trees.Causes a f g) = Some (effect (is_fluent_formula v f) a f g)
-short_for v (trees.MayCause a f g) = Some (caused (Some f) (Some f) (Some (both a g)))
-short_for v law = None
-
--- ---- the parts of a definite head, in order
-
-abbrev pub listed : Terms → List Term
-listed resolved.NoTerms = []
-listed (resolved.MoreTerms first others) = first ∷ listed others
-
-abbrev pub atom_meant : Meaning → Terms → Term → List Head
-atom_meant (Constant number symbol) args value = resolved.Atom number (listed args) value ∷ []
-atom_meant means args value = []
-
--- `c=value`
-abbrev pub atom : Vocabulary → List ℕ → PlainTerm → Term → List Head
-atom v scope (Applied name args) value = atom_meant (meaning v name) (resolve_terms v scope args) value
-
--- what a Boolean constant is where it is not this value
-abbrev pub opposite_of : Meaning → Term
-opposite_of (Object zero sort) = resolved.Object 1
-opposite_of means = resolved.Object 0
-
-abbrev pub opposite : Vocabulary → PlainTerm → Term
-opposite v term = opposite_of (term_meaning v term)
-
-abbrev pub bare_head : Bool → Vocabulary → List ℕ → PlainTerm → List Head
-bare_head true v scope term = resolved.Falsity ∷ []
-bare_head false v scope term = atom v scope term (resolved.Object 1)
-
-abbrev pub denied_heads : Vocabulary → List ℕ → PlainTree → List Head
-denied_heads v scope (trees.Bare term) = atom v scope term (resolved.Object 0)
-denied_heads v scope (trees.Equal s t) =
-    if is_boolean_term v s then atom v scope s (opposite v t) else atom v scope t (opposite v s)
-denied_heads v scope (trees.Paren f) = denied_heads v scope f
-denied_heads v scope formula = []
-
-abbrev pub heads : Vocabulary → List ℕ → PlainTree → List Head
-heads v scope (trees.Bare term) = bare_head (is_falsity (term_meaning v term)) v scope term
-heads v scope (trees.Equal s t) =
-    if is_constant_term v s then atom v scope s (resolve_term v scope t) else atom v scope t (resolve_term v scope s)
-heads v scope (trees.Differ s t) = atom v scope s (opposite v t)
-heads v scope (trees.Paren f) = heads v scope f
-heads v scope (trees.Not f) = denied_heads v scope f
-heads v scope (trees.Both f g) = heads v scope f ++ heads v scope g
-heads v scope formula = []
-
 -- ---- base laws
 
--- what the base laws of a statement have in common
+-- what the base laws of a statement have in common: the ranges of its variables, its test, what its formulas see, and the
+-- number of the first bracket behind the test's
 pub record Frame : Type 0 where
   pub ranges : List Range
   pub test : Formula
+  pub scope : List Binding
+  pub next : ℕ
   pub file : ℕ
   pub line : ℕ
+
+-- the class of a law of one of the three forms
+abbrev pub class_of : List Symbol → Head → Option Formula → LawKind
+class_of symbols head (Some formula) = law_kinds.FluentDynamic
+class_of symbols (resolved.Atom symbol args value) None = if is_action_symbol symbols symbol then law_kinds.ActionDynamic else law_kinds.Static
+class_of symbols resolved.Falsity None = law_kinds.Static
 
 abbrev pub base_law : Vocabulary → Frame → Head → Formula → Option Formula → BaseLaw
 base_law v frame head body after = resolved.One (record {
@@ -112,36 +71,41 @@ base_law v frame head body after = resolved.One (record {
   line = frame.line;
 })
 
--- a part that is not written is true
-abbrev pub part : Vocabulary → List ℕ → Option PlainTree → Formula
-part v scope None = resolved.Truth
-part v scope (Some f) = resolve v scope f
+-- a part that is not written is true, and has no brackets
+abbrev pub part : Vocabulary → List Binding → ℕ → Option PlainTree → Formula
+part v scope next None = resolved.Truth
+part v scope next (Some f) = resolve v scope next f
+
+abbrev pub part_brackets : Option PlainTree → ℕ
+part_brackets None = 0
+part_brackets (Some f) = brackets f
 
 abbrev pub is_falsity_head : Head → Bool
 is_falsity_head resolved.Falsity = true
-is_falsity_head head = false
+is_falsity_head (resolved.Atom symbol args value) = false
 
-abbrev pub head_parts : Vocabulary → List ℕ → Option PlainTree → List Head
+-- the parts of a head
+abbrev pub head_parts : Vocabulary → List Binding → Option PlainTree → List Head
 head_parts v scope None = resolved.Falsity ∷ []
-head_parts v scope (Some f) = heads v scope f
+head_parts v scope (Some f) = unwrap_or (definite_heads v scope f) []
 
-abbrev pub head_acts : Vocabulary → Option PlainTree → Bool
-head_acts v None = false
-head_acts v (Some f) = has_action v f
+abbrev pub part_acts : Vocabulary → Option PlainTree → Bool
+part_acts v None = false
+part_acts v (Some f) = has_action v f
 
--- The part `false` of the head of an action dynamic law `caused F if G` gives `caused false after G`.
+-- `caused F if G` with an action in F denies, by the part `false` of F, the steps at which G holds
 abbrev pub denies_step : Vocabulary → Caused → Head → Bool
-denies_step v law head = is_none law.after && (head_acts v law.head && is_falsity_head head)
+denies_step v law head = is_none law.after && (part_acts v law.head && is_falsity_head head)
 
-abbrev pub law_for : Vocabulary → Frame → List ℕ → Caused → Head → BaseLaw
-law_for v frame scope law head =
-    if denies_step v law head then base_law v frame head resolved.Truth (Some (part v scope law.body))
-    else base_law v frame head (part v scope law.body) (option_map (resolve v scope) law.after)
+-- the law of one part of the head; the brackets of the `if` part have their numbers before those of the `after` part
+abbrev pub law_for : Vocabulary → Frame → Caused → Head → BaseLaw
+law_for v frame law head =
+    if denies_step v law head then base_law v frame head resolved.Truth (Some (part v frame.scope frame.next law.body))
+    else base_law v frame head (part v frame.scope frame.next law.body) (option_map (resolve v frame.scope (frame.next + part_brackets law.body)) law.after)
 
 -- one base law for each part of the head
-abbrev pub split : Vocabulary → Frame → List ℕ → Option Caused → List BaseLaw
-split v frame scope None = []
-split v frame scope (Some law) = map (law_for v frame scope law) (head_parts v scope law.head)
+abbrev pub split : Vocabulary → Frame → Caused → List BaseLaw
+split v frame law = map (law_for v frame law) (head_parts v frame.scope law.head)
 
 -- ---- laws about each value of a constant: the value variable comes behind the others
 
@@ -162,7 +126,7 @@ after_of Inertial equal = Some equal
 after_of Rigid equal = Some equal
 
 abbrev pub with_value : Frame → ℕ → Frame
-with_value frame symbol = record { ranges = frame.ranges ++ ranges.Domain symbol ∷ []; test = frame.test; file = frame.file; line = frame.line }
+with_value frame symbol = record frame { ranges = frame.ranges ++ ranges.Domain symbol ∷ [] }
 
 abbrev pub value_law : Vocabulary → Frame → Persistence → ℕ → Terms → BaseLaw
 value_law v frame persistence symbol args =
@@ -174,28 +138,43 @@ abbrev pub subject_meant : Vocabulary → Frame → Persistence → Meaning → 
 subject_meant v frame persistence (Constant number symbol) args = value_law v frame persistence number args ∷ []
 subject_meant v frame persistence means args = []
 
-abbrev pub subject_laws : Vocabulary → Frame → List ℕ → Persistence → PlainTerm → List BaseLaw
-subject_laws v frame scope persistence (Applied name args) = subject_meant v frame persistence (meaning v name) (resolve_terms v scope args)
+abbrev pub subject_laws : Vocabulary → Frame → Persistence → PlainTerm → List BaseLaw
+subject_laws v frame persistence (Applied name args) = subject_meant v frame persistence (meaning v name) (resolve_terms v frame.scope args)
 
 -- ---- the base laws of a law
 
 abbrev pub sort_ranges : Vocabulary → List ℕ → List Range
 sort_ranges v variables = map (λ variable. ranges.Sort (sort_of_entry v.variables variable)) variables
 
+-- The variables of a law have the numbers from 0 on, the value variable the one behind them, where there is one; the brackets
+-- have those behind, the test's first.
 abbrev pub law_frame : ℕ → Vocabulary → ℕ → List ℕ → Option PlainTree → Frame
-law_frame file v line variables test = record { ranges = sort_ranges v variables; test = part v variables test; file = file; line = line }
+law_frame file v line variables test =
+    let scope = numbered_from 0 variables
+    in let first = length variables + 1
+    in record {
+      ranges = sort_ranges v variables;
+      test = part v scope first test;
+      scope = scope;
+      next = first + part_brackets test;
+      file = file;
+      line = line;
+    }
+
+abbrev pub laws_with : Vocabulary → Frame → PlainLaw → List BaseLaw
+laws_with v frame (trees.Exogenous c) = subject_laws v frame Exogenous c
+laws_with v frame (trees.Inertial c) = subject_laws v frame Inertial c
+laws_with v frame trees.NoConcurrency = resolved.NoConcurrency frame.file frame.line ∷ []
+laws_with v frame (trees.Caused f g h) = split v frame (caused (Some f) g h)
+laws_with v frame (trees.Constraint f) = split v frame (caused None (Some (trees.Not f)) None)
+laws_with v frame (trees.Always f) = split v frame (caused None None (Some (trees.Not f)))
+laws_with v frame (trees.Nonexecutable f g) = split v frame (caused None None (Some (both f g)))
+laws_with v frame (trees.Default f g h) = split v frame (caused (Some f) (Some (both f g)) h)
+laws_with v frame (trees.Causes a f g) = split v frame (effect (is_fluent_formula v f) a f g)
+laws_with v frame (trees.MayCause a f g) = split v frame (caused (Some f) (Some f) (Some (both a g)))
 
 abbrev pub laws_in : ℕ → Vocabulary → ℕ → PlainLaw → Option PlainTree → List BaseLaw
-laws_in file v line (trees.Exogenous c) test =
-    let variables = law_variables v (trees.Exogenous c)
-    in subject_laws v (law_frame file v line variables test) variables Exogenous c
-laws_in file v line (trees.Inertial c) test =
-    let variables = law_variables v (trees.Inertial c)
-    in subject_laws v (law_frame file v line variables test) variables Inertial c
-laws_in file v line trees.NoConcurrency test = resolved.NoConcurrency file line ∷ []
-laws_in file v line law test =
-    let variables = law_variables v law
-    in split v (law_frame file v line variables test) variables (short_for v law)
+laws_in file v line law test = laws_with v (law_frame file v line (law_variables v law) test) law
 
 -- ---- the base laws of a declared constant
 
@@ -205,7 +184,7 @@ places place [] = resolved.NoTerms
 places place (sort ∷ sorts) = resolved.MoreTerms (resolved.Variable place) (places (place + 1) sorts)
 
 abbrev pub shape_frame : ℕ → ℕ → List ℕ → Frame
-shape_frame file line sorts = record { ranges = map ranges.Sort sorts; test = resolved.Truth; file = file; line = line }
+shape_frame file line sorts = record { ranges = map ranges.Sort sorts; test = resolved.Truth; scope = []; next = length sorts + 1; file = file; line = line }
 
 -- An attribute c of an action a has the value `none` exactly where a is not done.
 abbrev pub attribute_law : Vocabulary → Frame → ℕ → ℕ → Terms → BaseLaw

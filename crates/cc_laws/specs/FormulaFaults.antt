@@ -3,47 +3,46 @@ use Rattle.std.specs.Prelude.{ℕ, Bool, true, false, not, ◌&&◌, ◌||◌, �
 use Rattle.std.specs.List.{list_any}
 use Rattle.cc_defs.specs.declared.signature.Symbol.{Symbol}
 use Rattle.cc_defs.specs.Trees.{PlainTerm, Applied, PlainTerms, NoTerms, MoreTerms, PlainTree}
-use Rattle.cc_laws.specs.declared.mention.Property.{Property}
-use Rattle.cc_laws.specs.declared.mention.Property.TheVariants as properties
-use Rattle.cc_laws.specs.declared.walk.Check.{Check}
-use Rattle.cc_laws.specs.declared.walk.Check.TheVariants as checks
 use Rattle.cc_laws.specs.Leaves.{Leaf, Bare, Equation, Bracket, leaves, Mention, mentions, term_name}
 use Rattle.cc_laws.specs.Vocabulary.{Vocabulary, Meaning, Unknown, Nothing, Object, Variable, Constant, meaning, sort_below, is_unknown, is_constant, is_action_constant, is_fluent_constant, is_determined_constant, is_boolean_constant, is_truth_value}
 
--- ---- names: unknown ones, numbers of arguments, kinds of constants
+-- ---- names, with the numbers of their arguments
 
--- 6: a constant has so many arguments as it has sorts, and any other name has none
-abbrev pub is_miscounted : Meaning → ℕ → Bool
+-- a test of what a name means and of how many arguments it has
+abbrev pub NameTest : Type 0
+NameTest = Meaning → ℕ → Bool
+
+abbrev pub mention_has : Vocabulary → NameTest → Mention → Bool
+mention_has v test mention = test (meaning v mention.name) mention.count
+
+-- whether a term has a name of which the test is true, in its arguments too
+abbrev pub term_has : Vocabulary → NameTest → PlainTerm → Bool
+term_has v test term = list_any (mention_has v test) (mentions term)
+
+abbrev pub leaf_has : Vocabulary → NameTest → Leaf → Bool
+leaf_has v test (Bare term) = term_has v test term
+leaf_has v test (Equation s t) = term_has v test s || term_has v test t
+leaf_has v test (Bracket name) = false
+
+-- whether a term of a formula has such a name
+abbrev pub formula_has : Vocabulary → NameTest → PlainTree → Bool
+formula_has v test formula = list_any (leaf_has v test) (leaves formula)
+
+abbrev pub is_unknown_name : NameTest
+is_unknown_name means count = is_unknown means
+
+-- a constant has so many arguments as it has sorts, and any other name has none
+abbrev pub is_miscounted : NameTest
 is_miscounted Unknown count = false
 is_miscounted Nothing count = not (count == 0)
 is_miscounted (Object number sort) count = not (count == 0)
 is_miscounted (Variable number sort) count = not (count == 0)
 is_miscounted (Constant number symbol) count = not (count == length symbol.sorts)
 
-abbrev pub meaning_has : Property → Meaning → ℕ → Bool
-meaning_has properties.Unknown means count = is_unknown means
-meaning_has properties.Miscounted means count = is_miscounted means count
-meaning_has properties.Constant means count = is_constant means
-meaning_has properties.Action means count = is_action_constant means
-meaning_has properties.Fluent means count = is_fluent_constant means
-meaning_has properties.Determined means count = is_determined_constant means
-
-abbrev pub mention_has : Vocabulary → Property → Mention → Bool
-mention_has v property mention = meaning_has property (meaning v mention.name) mention.count
-
--- whether a term has a name with the property, in its arguments too
-abbrev pub term_has : Vocabulary → Property → PlainTerm → Bool
-term_has v property term = list_any (mention_has v property) (mentions term)
-
--- a bracket's name may be unknown
-abbrev pub bracket_has : Vocabulary → Property → List ℕ → Bool
-bracket_has v properties.Unknown name = is_unknown (meaning v name)
-bracket_has v property name = false
-
-abbrev pub leaf_has : Vocabulary → Property → Leaf → Bool
-leaf_has v property (Bare term) = term_has v property term
-leaf_has v property (Equation s t) = term_has v property s || term_has v property t
-leaf_has v property (Bracket name) = bracket_has v property name
+abbrev pub bracket_unknown : Vocabulary → Leaf → Bool
+bracket_unknown v (Bracket name) = is_unknown (meaning v name)
+bracket_unknown v (Bare term) = false
+bracket_unknown v (Equation s t) = false
 
 -- ---- 7: terms where their sort or kind does not fit
 
@@ -105,40 +104,32 @@ leaf_misfits v (Bracket name) = bracket_misfits (meaning v name)
 
 -- ---- formulas
 
-abbrev pub leaf_fails : Vocabulary → Check → Leaf → Bool
-leaf_fails v (checks.Mentions property) leaf = leaf_has v property leaf
-leaf_fails v checks.Misfits leaf = leaf_misfits v leaf
-
-abbrev pub formula_fails : Vocabulary → Check → PlainTree → Bool
-formula_fails v check formula = list_any (leaf_fails v check) (leaves formula)
-
--- whether a formula has a name with the property
-abbrev pub formula_has : Vocabulary → Property → PlainTree → Bool
-formula_has v property formula = formula_fails v (checks.Mentions property) formula
-
--- 5: a name that is neither an object, a variable nor a constant
+-- 5: a name that is neither an object, a variable nor a constant; a bracket may have one too
 abbrev pub has_unknown : Vocabulary → PlainTree → Bool
-has_unknown v formula = formula_has v properties.Unknown formula
+has_unknown v formula = formula_has v is_unknown_name formula || list_any (bracket_unknown v) (leaves formula)
 
 -- 6: a name with another number of arguments
 abbrev pub has_miscounted : Vocabulary → PlainTree → Bool
-has_miscounted v formula = formula_has v properties.Miscounted formula
+has_miscounted v formula = formula_has v is_miscounted formula
 
 -- 7: a term or a bracket where it does not fit
 abbrev pub has_misfit : Vocabulary → PlainTree → Bool
-has_misfit v formula = formula_fails v checks.Misfits formula
+has_misfit v formula = list_any (leaf_misfits v) (leaves formula)
+
+-- ---- which constants a formula has
 
 abbrev pub has_constant : Vocabulary → PlainTree → Bool
-has_constant v formula = formula_has v properties.Constant formula
+has_constant v formula = formula_has v (λ means count. is_constant means) formula
 
 abbrev pub has_action : Vocabulary → PlainTree → Bool
-has_action v formula = formula_has v properties.Action formula
+has_action v formula = formula_has v (λ means count. is_action_constant means) formula
 
 abbrev pub has_fluent : Vocabulary → PlainTree → Bool
-has_fluent v formula = formula_has v properties.Fluent formula
+has_fluent v formula = formula_has v (λ means count. is_fluent_constant means) formula
 
+-- a statically determined fluent
 abbrev pub has_determined : Vocabulary → PlainTree → Bool
-has_determined v formula = formula_has v properties.Determined formula
+has_determined v formula = formula_has v (λ means count. is_determined_constant means) formula
 
 -- a fluent formula has no action constant
 abbrev pub is_fluent_formula : Vocabulary → PlainTree → Bool

@@ -1,9 +1,8 @@
-pub mod Checked
-pub mod Classes
 pub mod Expanding
 pub mod Expansion
 pub mod FormulaFaults
 pub mod FreeVariables
+pub mod Heads
 pub mod Joints
 pub mod LawFaults
 pub mod Leaves

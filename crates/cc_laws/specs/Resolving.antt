@@ -1,37 +1,68 @@
 -- Formulas with numbers in place of names. A name that means nothing there is refused before, and `none` stands for it.
-use Rattle.std.specs.Prelude.{ℕ, zero, suc, ◌+◌, ◌==◌, if◌then◌else◌, List, [], ◌∷◌, ◌++◌, length, Option, Some, None}
+use Rattle.std.specs.Prelude.{ℕ, zero, suc, ◌+◌, ◌==◌, if◌then◌else◌, List, [], ◌∷◌, Option, Some, None}
 use Rattle.cc_defs.specs.Trees.{PlainTerm, Applied, PlainTerms, NoTerms, MoreTerms, PlainTree}
 use Rattle.cc_defs.specs.Trees as trees
 use Rattle.cc_defs.specs.Resolved.{Term, Terms, Formula}
 use Rattle.cc_defs.specs.Resolved as resolved
 use Rattle.cc_laws.specs.Vocabulary.{Vocabulary, Meaning, Unknown, Nothing, Object, Variable, Constant, meaning}
 
--- The place of a variable's innermost binding: those of the law come first, and each bracket adds its own behind them.
-abbrev pub place_from : ℕ → List ℕ → ℕ → Option ℕ → Option ℕ
-place_from index [] number found = found
-place_from index (variable ∷ scope) number found = place_from (index + 1) scope number (if variable == number then Some index else found)
+-- ---- the numbers of variables
 
-abbrev pub place_in : List ℕ → ℕ → Option ℕ
-place_in scope number = place_from 0 scope number None
+-- a variable of the table, and the number that it has in the law or the query
+pub record Binding : Type 0 where
+  pub variable : ℕ
+  pub number : ℕ
+
+-- The variables that a place of a formula sees, those of the innermost bracket first: what number a variable has there.
+abbrev pub number_in : List Binding → ℕ → Option ℕ
+number_in [] variable = None
+number_in (binding ∷ scope) variable = if binding.variable == variable then Some binding.number else number_in scope variable
+
+-- the variables of a law have the numbers from this one on
+abbrev pub numbered_from : ℕ → List ℕ → List Binding
+numbered_from number [] = []
+numbered_from number (variable ∷ variables) = record { variable = variable; number = number } ∷ numbered_from (number + 1) variables
+
+-- how many brackets a formula has: each has a number of its own, in the order in which they stand
+abbrev pub brackets : PlainTree → ℕ
+brackets (trees.Bare term) = 0
+brackets (trees.Equal s t) = 0
+brackets (trees.Differ s t) = 0
+brackets (trees.Paren f) = brackets f
+brackets (trees.Not f) = brackets f
+brackets (trees.Both f g) = brackets f + brackets g
+brackets (trees.Either f g) = brackets f + brackets g
+brackets (trees.Implies f g) = brackets f + brackets g
+brackets (trees.Same f g) = brackets f + brackets g
+brackets (trees.ForAll name f) = brackets f + 1
+brackets (trees.Exists name f) = brackets f + 1
+
+abbrev pub brackets_in : List PlainTree → ℕ
+brackets_in [] = 0
+brackets_in (formula ∷ formulas) = brackets formula + brackets_in formulas
+
+-- ---- terms
 
 abbrev pub variable_at : Option ℕ → Term
-variable_at (Some place) = resolved.Variable place
+variable_at (Some number) = resolved.Variable number
 variable_at None = resolved.Nothing
 
-abbrev pub term_meant : List ℕ → Meaning → Terms → Term
+abbrev pub term_meant : List Binding → Meaning → Terms → Term
 term_meant scope Unknown args = resolved.Nothing
 term_meant scope Nothing args = resolved.Nothing
 term_meant scope (Object number sort) args = resolved.Object number
-term_meant scope (Variable number sort) args = variable_at (place_in scope number)
+term_meant scope (Variable number sort) args = variable_at (number_in scope number)
 term_meant scope (Constant number symbol) args = resolved.Constant number args
 
 abbrev mutual
-  pub resolve_term : Vocabulary → List ℕ → PlainTerm → Term
+  pub resolve_term : Vocabulary → List Binding → PlainTerm → Term
   resolve_term v scope (Applied name args) = term_meant scope (meaning v name) (resolve_terms v scope args)
 
-  pub resolve_terms : Vocabulary → List ℕ → PlainTerms → Terms
+  pub resolve_terms : Vocabulary → List Binding → PlainTerms → Terms
   resolve_terms v scope NoTerms = resolved.NoTerms
   resolve_terms v scope (MoreTerms first others) = resolved.MoreTerms (resolve_term v scope first) (resolve_terms v scope others)
+
+-- ---- formulas
 
 -- a constant alone means that it is true
 abbrev pub alone : Term → Formula
@@ -39,20 +70,26 @@ alone (resolved.Object zero) = resolved.Falsehood
 alone (resolved.Object (suc zero)) = resolved.Truth
 alone term = resolved.Equal term (resolved.Object 1)
 
--- what stands for a bracket: its variable and the sort of it
-abbrev pub resolve_bracket : (ℕ → ℕ → Formula → Formula) → List ℕ → Meaning → (List ℕ → Formula) → Formula
-resolve_bracket make scope (Variable number sort) inside = make (length scope) sort (inside (scope ++ number ∷ []))
-resolve_bracket make scope means inside = resolved.Falsehood
+-- what stands for a bracket with this number: its variable is seen inside, and hides an outer one of its name
+abbrev pub resolve_bracket : (ℕ → ℕ → Formula → Formula) → List Binding → ℕ → Meaning → (List Binding → Formula) → Formula
+resolve_bracket make scope number (Variable variable sort) inside = make number sort (inside (record { variable = variable; number = number } ∷ scope))
+resolve_bracket make scope number means inside = resolved.Falsehood
 
-abbrev pub resolve : Vocabulary → List ℕ → PlainTree → Formula
-resolve v scope (trees.Bare term) = alone (resolve_term v scope term)
-resolve v scope (trees.Equal s t) = resolved.Equal (resolve_term v scope s) (resolve_term v scope t)
-resolve v scope (trees.Differ s t) = resolved.Not (resolved.Equal (resolve_term v scope s) (resolve_term v scope t))
-resolve v scope (trees.Paren f) = resolve v scope f
-resolve v scope (trees.Not f) = resolved.Not (resolve v scope f)
-resolve v scope (trees.Both f g) = resolved.Both (resolve v scope f) (resolve v scope g)
-resolve v scope (trees.Either f g) = resolved.Either (resolve v scope f) (resolve v scope g)
-resolve v scope (trees.Implies f g) = resolved.Implies (resolve v scope f) (resolve v scope g)
-resolve v scope (trees.Same f g) = resolved.Same (resolve v scope f) (resolve v scope g)
-resolve v scope (trees.ForAll name f) = resolve_bracket resolved.ForAll scope (meaning v name) (λ inner. resolve v inner f)
-resolve v scope (trees.Exists name f) = resolve_bracket resolved.Exists scope (meaning v name) (λ inner. resolve v inner f)
+-- a formula whose brackets have the numbers from `next` on
+abbrev pub resolve : Vocabulary → List Binding → (next : ℕ) → PlainTree → Formula
+resolve v scope next (trees.Bare term) = alone (resolve_term v scope term)
+resolve v scope next (trees.Equal s t) = resolved.Equal (resolve_term v scope s) (resolve_term v scope t)
+resolve v scope next (trees.Differ s t) = resolved.Not (resolved.Equal (resolve_term v scope s) (resolve_term v scope t))
+resolve v scope next (trees.Paren f) = resolve v scope next f
+resolve v scope next (trees.Not f) = resolved.Not (resolve v scope next f)
+resolve v scope next (trees.Both f g) = resolved.Both (resolve v scope next f) (resolve v scope (next + brackets f) g)
+resolve v scope next (trees.Either f g) = resolved.Either (resolve v scope next f) (resolve v scope (next + brackets f) g)
+resolve v scope next (trees.Implies f g) = resolved.Implies (resolve v scope next f) (resolve v scope (next + brackets f) g)
+resolve v scope next (trees.Same f g) = resolved.Same (resolve v scope next f) (resolve v scope (next + brackets f) g)
+resolve v scope next (trees.ForAll name f) = resolve_bracket resolved.ForAll scope next (meaning v name) (λ inner. resolve v inner (next + 1) f)
+resolve v scope next (trees.Exists name f) = resolve_bracket resolved.Exists scope next (meaning v name) (λ inner. resolve v inner (next + 1) f)
+
+-- formulas one after another, whose brackets are numbered on
+abbrev pub resolve_all : Vocabulary → (next : ℕ) → List PlainTree → List Formula
+resolve_all v next [] = []
+resolve_all v next (formula ∷ formulas) = resolve v [] next formula ∷ resolve_all v (next + brackets formula) formulas
