@@ -1,5 +1,5 @@
 //! Laws over the definitions, each the contract of a function with no body.
-ghost use Rattle.cc_defs.specs.Laws.{OneListing, FirstAreFront, SplitsAtKey};
+ghost use Rattle.cc_defs.specs.Laws.{OneListing, FirstAreFront, SplitsAtKey, PositionsHaveSizes};
 
 /// A query has one listing at a horizon.
 pub fn one_listing()
@@ -14,4 +14,9 @@ pub fn first_are_front()
 /// A listing is its rows up to a key, followed by the listing after the key.
 pub fn splits_at_key()
     ensures { SplitsAtKey }
+{}
+
+/// The positions of a horizon have the domain sizes of its constants.
+pub fn positions_have_sizes()
+    ensures { PositionsHaveSizes }
 {}

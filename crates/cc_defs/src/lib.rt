@@ -12,9 +12,12 @@ pub mod laws;
 mod list;
 mod lists;
 mod literal;
+mod log;
 mod node;
 mod refusal;
 mod rows;
+#[cfg(test)]
+mod search_examples;
 mod sig;
 mod signature;
 #[cfg(test)]
@@ -22,12 +25,13 @@ mod tests;
 mod token;
 mod tree;
 
-pub use event::{Ending, Event, Told};
+pub use event::{Ending, Event, Outcome, Told};
 pub use formula::{Formula, Term};
 pub use law::{BaseLaw, BaseLaws, Condition, Head, Law, Queries, Query, Range};
 pub use list::List;
 pub use lists::{Bytes, Key, Lits, Name, Names, Nums, Row, Text};
 pub use literal::Lit;
+pub use log::{Cause, EndWord, LogLine, LogVerdict};
 pub use node::{GroundHead, Node};
 pub use refusal::{Fault, LimitAt, OutOfMemory, Refusal};
 pub use rows::compare_rows;
