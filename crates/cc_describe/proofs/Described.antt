@@ -8,9 +8,9 @@ use Rattle.cc_defs.specs.declared.refusal.Fault.TheVariants as faults
 use Rattle.cc_defs.specs.declared.refusal.LimitAt.TheVariants.{IncludeDepth}
 use Rattle.cc_ports.specs.Contents.{Contents}
 use Rattle.cc_sorts.specs.Tables.{IsRefusedSignature}
-use Rattle.cc_describe.specs.declared.describe.Described.{Described}
-use Rattle.cc_describe.specs.declared.describe.DescribeStop.{DescribeStop}
-use Rattle.cc_describe.specs.declared.describe.DescribeStop.TheVariants as stops
+use Rattle.cc_describe.specs.declared.description.Described.{Described}
+use Rattle.cc_describe.specs.declared.description.DescribeStop.{DescribeStop}
+use Rattle.cc_describe.specs.declared.description.DescribeStop.TheVariants as stops
 use Rattle.cc_describe.specs.declared.files.Halt.{Halt}
 use Rattle.cc_describe.specs.declared.files.Halt.TheVariants as halts
 use Rattle.cc_describe.specs.declared.progress.Progress.{Progress}

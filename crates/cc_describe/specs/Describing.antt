@@ -9,9 +9,9 @@ use Rattle.cc_laws.specs.Expansion.{base_laws}
 use Rattle.cc_laws.specs.Questions.{query_asked}
 use Rattle.cc_laws.specs.Vocabulary.{vocabulary}
 use Rattle.cc_sorts.specs.Tables.{IsTable, IsSignatureOf}
-use Rattle.cc_describe.specs.declared.describe.Described.{Described}
-use Rattle.cc_describe.specs.declared.describe.DescribeStop.{DescribeStop}
-use Rattle.cc_describe.specs.declared.describe.DescribeStop.TheVariants as stops
+use Rattle.cc_describe.specs.declared.description.Described.{Described}
+use Rattle.cc_describe.specs.declared.description.DescribeStop.{DescribeStop}
+use Rattle.cc_describe.specs.declared.description.DescribeStop.TheVariants as stops
 use Rattle.cc_describe.specs.FirstRefusal.{declared_in, file_named, first_refusal, opened_until}
 use Rattle.cc_describe.specs.Places.{Files, Place, Said, opened_in, AreAllPlaces, AreThere}
 

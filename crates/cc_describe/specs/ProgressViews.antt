@@ -8,8 +8,8 @@ use Rattle.cc_defs.specs.Tokens.{TokenView}
 use Rattle.cc_defs.specs.Trees.{PlainPart, PlainStatement}
 use Rattle.cc_defs.specs.Trees as trees
 use Rattle.cc_sorts.specs.Tables.{IsTable}
-use Rattle.cc_describe.specs.declared.describe.DescribeStop.{DescribeStop}
-use Rattle.cc_describe.specs.declared.describe.DescribeStop.TheVariants as stops
+use Rattle.cc_describe.specs.declared.description.DescribeStop.{DescribeStop}
+use Rattle.cc_describe.specs.declared.description.DescribeStop.TheVariants as stops
 use Rattle.cc_describe.specs.declared.files.Halt.{Halt}
 use Rattle.cc_describe.specs.declared.files.Halt.TheVariants as halts
 use Rattle.cc_describe.specs.declared.progress.Progress.{Progress}

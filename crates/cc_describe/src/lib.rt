@@ -1,7 +1,7 @@
 //! Descriptions of several files: what they say, or the first refusal.
 #![tactic(auto)]
 
-mod describe;
+mod description;
 #[cfg(test)]
 mod descriptions;
 mod files;
@@ -17,4 +17,4 @@ mod statements;
 #[cfg(test)]
 mod trees;
 
-pub use describe::{DescribeStop, Described, describe};
+pub use description::{DescribeStop, Described, describe};

@@ -7,13 +7,13 @@ mod listing;
 mod parser;
 mod printing;
 mod reader;
-mod run;
 mod scanner;
 mod small;
 mod status;
 #[cfg(test)]
 mod tests;
+mod top;
 mod words;
 
-pub use run::{run, run_still};
 pub use status::Status;
+pub use top::{run, run_still};

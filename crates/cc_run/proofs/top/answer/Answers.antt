@@ -1,6 +1,6 @@
 use Rattle.std.proofs.Common.{List, ℕ, [], sym, map, string_bytes}
 use Rattle.cc_run.proofs.Runs.{prints_refusal, refuses_words}
-use Rattle.cc_run.proofs.run.answer.Goals as goal
+use Rattle.cc_run.proofs.top.answer.Goals as goal
 
 pub returns-in-None : goal.returns-in-None
 returns-in-None g c =

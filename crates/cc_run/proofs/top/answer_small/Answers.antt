@@ -1,7 +1,7 @@
 use Rattle.std.proofs.Common.{inr}
 use Rattle.cc_run.specs.SmallViews.{small_view}
 use Rattle.cc_run.proofs.Runs.{prints_refusal, prints_listing, prints_nothing, refuses_text, lists_text}
-use Rattle.cc_run.proofs.run.answer_small.Goals as goal
+use Rattle.cc_run.proofs.top.answer_small.Goals as goal
 
 pub returns-in-Ok-Ok : goal.returns-in-Ok-Ok
 returns-in-Ok-Ok g c words bytes named short is there =

@@ -1,7 +1,7 @@
 use Rattle.std.proofs.Common.{ap, [], Err}
 use Rattle.cc_describe.proofs.Walk.{untouched}
 use Rattle.cc_describe.proofs.Described.{has_signature, is_described, is_refused_whole, is_refused, fault_told}
-use Rattle.cc_describe.proofs.describe.describe.Goals as goal
+use Rattle.cc_describe.proofs.description.describe.Goals as goal
 
 pub returns-in-Err-clause-after : goal.returns-in-Err-clause-after
 returns-in-Err-clause-after g c = untouched (g.D.Desk.told c.args.desk.now)

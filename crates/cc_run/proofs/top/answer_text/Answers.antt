@@ -1,6 +1,6 @@
 use Rattle.std.proofs.Common.{inl, inr}
 use Rattle.cc_run.proofs.Runs.{prints_refusal, prints_nothing, refuses_text}
-use Rattle.cc_run.proofs.run.answer_text.Goals as goal
+use Rattle.cc_run.proofs.top.answer_text.Goals as goal
 
 pub returns-in-Ok-Some : goal.returns-in-Ok-Some
 returns-in-Ok-Some g c words named there =

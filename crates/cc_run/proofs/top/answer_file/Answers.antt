@@ -1,7 +1,7 @@
 use Rattle.std.proofs.Common.{◌≡◌, Some, Err, ap}
 use Rattle.cc_run.specs.Reading.{Refuses, too_long}
 use Rattle.cc_run.proofs.Runs.{prints_after_read, prints_refusal, prints_stop, files_stay, refuses_long}
-use Rattle.cc_run.proofs.run.answer_file.Goals as goal
+use Rattle.cc_run.proofs.top.answer_file.Goals as goal
 
 pub returns-in-Err-Limit : goal.returns-in-Err-Limit
 returns-in-Err-Limit g c words named =
