@@ -1,6 +1,4 @@
 //! What no clause says: that calls succeed while there is memory.
-ghost use Rattle.std.specs.Prelude.{OnOk};
-
 use crate::{ClauseArena, clash_on, resolve_into};
 use cc_defs::Lit;
 use std::test::Fail;
