@@ -1,0 +1,10 @@
+pub mod Halves
+pub mod Literals
+pub mod Merges
+pub mod Orders
+pub mod Places
+pub mod Resolvents
+pub mod Runs
+pub mod Searches
+pub mod Soundness
+pub mod Views

@@ -1,0 +1,114 @@
+//! A list of clauses, kept in one list of literals.
+ghost use Rattle.std.specs.Prelude.{◌≡◌, ℕ, ◌+◌, ◌<◌, ◌≤◌, ◌++◌, [], ◌∷◌, length, sum_by, Some, OnOk, OnErr, slice_get, slice_index, slice_range};
+ghost use Rattle.cc_clauses.specs.Parts.{AreEnds, clauses_between};
+
+use cc_defs::{Lit, OutOfMemory};
+use std::alloc::Global;
+use std::marker::Model;
+
+/// A list of clauses, each a list of literals. It takes eight bytes a clause and four bytes a literal.
+#[derive(Drop)]
+pub struct ClauseArena {
+    // The clauses, one after another.
+    all: Vec<Lit>,
+    // Where each clause ends among the literals.
+    ends: Vec<usize>,
+}
+
+impl Model for ClauseArena {
+    ghost use Rattle.std.specs.Prelude.{List};
+    ghost use Rattle.cc_defs.specs.Clauses.{Literal};
+
+    ghost Value = { List (List Literal) };
+
+    ghost use Rattle.cc_clauses.specs.Parts.{view_of, IsArena};
+
+    ghost view = { view_of };
+
+    ghost invariant = { IsArena };
+}
+
+// The literals between two places.
+fn part(all: &[Lit], start: usize, end: usize) -> &[Lit]
+    requires ordered { start ≤ end }
+    requires within { end ≤ length all.now }
+    ensures { result.now ≡ slice_range all.now start end }
+{
+    &all[start..end]
+}
+
+// Where the clause of an index begins: at the end of the one before it.
+fn start_of(ends: &[usize], index: usize) -> usize
+    requires { index ≤ length ends.now }
+    ensures { result ≡ slice_index (0 ∷ ends.now) index }
+{
+    match index.checked_sub(1) {
+        Some(before) => ends[before],
+        None => 0,
+    }
+}
+
+// The clause of an index.
+fn clause_at<'a>(all: &'a [Lit], ends: &[usize], index: usize) -> &'a [Lit]
+    requires ends { AreEnds 0 ends.now (length all.now) }
+    requires within { index < length ends.now }
+    ensures { slice_get (clauses_between all.now 0 ends.now) index ≡ Some result.now }
+{
+    let start = start_of(ends, index);
+    let end = ends[index];
+    part(all, start, end)
+}
+
+impl ClauseArena {
+    /// The empty list, which takes no memory.
+    pub fn new(alloc: Global) -> ClauseArena
+        ensures { result ≡ [] }
+    {
+        ClauseArena {
+            all: Vec::new(alloc),
+            ends: Vec::new(alloc),
+        }
+    }
+
+    /// How many clauses there are.
+    pub fn count(&self) -> usize
+        ensures { result ≡ length self.now }
+    {
+        self.ends.len()
+    }
+
+    /// How many literals all clauses have together.
+    pub fn literals(&self) -> usize
+        ensures { result ≡ sum_by (λ clause. length clause) self.now }
+    {
+        self.all.len()
+    }
+
+    /// The clause of an index, from 0.
+    pub fn clause(&self, index: usize) -> &[Lit]
+        requires { index < length self.now }
+        ensures { slice_get self.now index ≡ Some result.now }
+    {
+        clause_at(&self.all, &self.ends, index)
+    }
+
+    /// Makes room for so many more clauses with so many literals together.
+    pub fn reserve(&mut self, clauses: usize, literals: usize) -> Result<(), OutOfMemory>
+        ensures { self.new ≡ self.old }
+    {
+        self.ends.reserve(clauses)?;
+        self.all.reserve(literals)?;
+        Ok(())
+    }
+
+    /// Puts a clause behind the others.
+    pub fn push(&mut self, clause: &[Lit]) -> Result<(), OutOfMemory>
+        ensures pushed { OnOk result (self.new ≡ self.old ++ clause.now ∷ []) }
+        ensures kept { OnErr result (self.new ≡ self.old) }
+    {
+        self.ends.reserve(1)?;
+        self.all.extend_from_slice(clause)?;
+        self.ends.push(self.all.len())?;
+        Ok(())
+    }
+}

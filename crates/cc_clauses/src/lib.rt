@@ -1,0 +1,11 @@
+//! Clauses in one arena, and resolution.
+#![tactic(auto)]
+
+mod arena;
+pub mod laws;
+mod resolution;
+#[cfg(test)]
+mod tests;
+
+pub use arena::ClauseArena;
+pub use resolution::{clash_on, resolve_into};
