@@ -18,36 +18,50 @@ pub fn key_text(alloc: Global, horizon: u32, row: &[u32]) -> Result<Text, OutOfM
     Ok(Text::of(text))
 }
 
-/// The line of an event, its line feed included. For a history it is the line that stands before the history.
+/// The line of an event, its line feed included. For a history and a counterexample it is the line that stands before the
+/// history. A line of the log is not printed: its text is empty.
 pub fn event_text(alloc: Global, event: &Event) -> Result<Text, OutOfMemory>
     ensures { IfOk result (λ text. text ≡ events.event_text event.now) }
 {
-    match event {
-        Event::NoHistory { horizon } => {
-            let text = format!(in alloc; "horizon {horizon}: no history\n")?;
-            Ok(Text::of(text))
-        }
+    let text = match event {
+        Event::Log(_) => String::new(alloc),
+        Event::NoHistory { horizon } => format!(in alloc; "horizon {horizon}: no history\n")?,
         Event::History { horizon, number } => {
-            let text = format!(in alloc; "horizon {horizon}: history {number}\n")?;
-            Ok(Text::of(text))
+            format!(in alloc; "horizon {horizon}: history {number}\n")?
         }
-        Event::Ended(ending) => ending_text(alloc, *ending),
-    }
+        Event::NoConditions { horizon } => {
+            format!(in alloc; "horizon {horizon}: no history of the conditions\n")?
+        }
+        Event::Holds { horizon } => format!(in alloc; "horizon {horizon}: claim holds\n")?,
+        Event::Counterexample { horizon } => {
+            format!(in alloc; "horizon {horizon}: counterexample\n")?
+        }
+        Event::Ended(ending) => return ending_text(alloc, *ending),
+    };
+    Ok(Text::of(text))
 }
 
 fn ending_text(alloc: Global, ending: Ending) -> Result<Text, OutOfMemory>
     ensures { IfOk result (λ text. text ≡ events.ending_text ending) }
 {
-    match ending {
+    let text = match ending {
         Ending::Complete { horizon, listed } => {
-            let text = format!(in alloc; "horizon {horizon}: complete, {listed} listed\n")?;
-            Ok(Text::of(text))
+            format!(in alloc; "horizon {horizon}: complete, {listed} listed\n")?
         }
-        Ending::NoHistory => {
-            let text = String::from_str(alloc, "no history\n")?;
-            Ok(Text::of(text))
+        Ending::Asked { horizon, listed } => {
+            format!(in alloc; "horizon {horizon}: asked number reached, {listed} listed\n")?
         }
-    }
+        Ending::Spent { horizon, listed } => {
+            format!(in alloc; "horizon {horizon}: budget spent, {listed} listed\n")?
+        }
+        Ending::NoHistory => String::from_str(alloc, "no history\n")?,
+        Ending::ClaimHolds => String::from_str(alloc, "claim holds\n")?,
+        Ending::ClaimEmpty => {
+            String::from_str(alloc, "claim holds, no history meets the conditions\n")?
+        }
+        Ending::ClaimFails => String::from_str(alloc, "claim fails\n")?,
+    };
+    Ok(Text::of(text))
 }
 
 /// The line of a refusal, its line feed included; `file` is the name of the refusal's file.

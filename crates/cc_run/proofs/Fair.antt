@@ -5,7 +5,7 @@ use Rattle.std.proofs.lemmas.List.Kept.{IsStrictlySortedBy-filter}
 use Rattle.cc_defs.specs.Rows.{IsRow, row_cmp}
 use Rattle.cc_defs.specs.Description.{Description}
 use Rattle.cc_defs.specs.Histories.{IsListing}
-use Rattle.cc_defs.specs.Events.{IsFairListing}
+use Rattle.cc_run.specs.Listings.{IsFairListing}
 use Rattle.cc_run.specs.Small.{Small, description_of, states_query}
 use Rattle.cc_run.specs.Reading.{first_undeclared}
 use Rattle.cc_run.specs.Lister.{passes, all_rows, rows_listed, listing_of_rows, ask_all}

@@ -12,7 +12,8 @@ use Rattle.cc_defs.specs.declared.event.Ending.TheVariants as endings
 use Rattle.cc_defs.specs.declared.event.Event.TheVariants as events
 use Rattle.cc_defs.specs.declared.event.Told.{Told}
 use Rattle.cc_defs.specs.Description.{Description, values_at}
-use Rattle.cc_defs.specs.Events.{event_text, out_text, events_of, history_events, ending_events}
+use Rattle.cc_defs.specs.Events.{event_text, out_text}
+use Rattle.cc_run.specs.Listings.{events_of, history_events, ending_events}
 use Rattle.cc_defs.specs.Rules.{upto}
 use Rattle.cc_defs.specs.Texts.{state_text, shown, constants_shown}
 use Rattle.cc_run.specs.Printing.{names_shown, state_line, history_lines, histories_lines, ending_lines, status_after}

@@ -3,7 +3,8 @@ use Rattle.std.specs.Prelude.{◌≡◌, ℕ, ◌+◌, ◌≤◌, ◌⊎◌, Lis
 use Rattle.cc_defs.specs.declared.event.Ending.{Ending}
 use Rattle.cc_defs.specs.declared.event.Ending.TheVariants as endings
 use Rattle.cc_defs.specs.declared.refusal.Refusal.{Refusal}
-use Rattle.cc_defs.specs.Events.{Listing, IsFairListing, out_text, events_of}
+use Rattle.cc_defs.specs.Events.{out_text}
+use Rattle.cc_run.specs.Listings.{Listing, IsFairListing, events_of}
 use Rattle.cc_ports.specs.Contents.{Contents, IsPrefix, Rose}
 use Rattle.cc_print.specs.Refusals.{refusal_line}
 use Rattle.cc_run.specs.declared.status.Status.{Status}

@@ -3,7 +3,7 @@ use Rattle.std.specs.Prelude.{◌≡◌, ◌↔◌, ℕ, List, IsTrue, None}
 use Rattle.cc_defs.specs.Rows.{IsRow}
 use Rattle.cc_defs.specs.Description.{sizes_at}
 use Rattle.cc_defs.specs.Paths.{IsState}
-use Rattle.cc_defs.specs.Events.{IsFairListing}
+use Rattle.cc_run.specs.Listings.{IsFairListing}
 use Rattle.cc_run.specs.Small.{Small, IsSmall, description_of, states_query}
 use Rattle.cc_run.specs.Reading.{first_undeclared}
 use Rattle.cc_run.specs.Lister.{passes, listing_of, ask_all}

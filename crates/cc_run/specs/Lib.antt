@@ -3,6 +3,7 @@ pub mod Codes
 pub mod Laws
 pub mod Lister
 pub mod ListerViews
+pub mod Listings
 pub mod Parser
 pub mod Pieces
 pub mod Printing

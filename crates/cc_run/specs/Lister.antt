@@ -4,7 +4,8 @@ use Rattle.std.specs.Prelude.{ℕ, Bool, false, not, ◌||◌, ◌==◌, if◌th
 use Rattle.std.specs.List.{list_all}
 use Rattle.cc_defs.specs.declared.event.Ending.{Ending}
 use Rattle.cc_defs.specs.declared.event.Ending.TheVariants as endings
-use Rattle.cc_defs.specs.Events.{Ask, Listing, out_text, events_of}
+use Rattle.cc_defs.specs.Events.{out_text}
+use Rattle.cc_run.specs.Listings.{Ask, Listing, events_of}
 use Rattle.cc_run.specs.Small.{Literal, Law, Small, number_of, description_of}
 
 -- every row of as many Boolean fluents as the list has members, in ascending order
