@@ -1,3 +1,4 @@
 pub mod Ascending
 pub mod Finite
 pub mod Places
+pub mod Positions
