@@ -36,7 +36,36 @@ fn events_are_written(rt: HostRuntime) -> Result<(), Fail> {
             }),
             "horizon 0: complete, 4096 listed\n",
         ),
+        (
+            Event::NoConditions { horizon: 2 },
+            "horizon 2: no history of the conditions\n",
+        ),
+        (Event::Holds { horizon: 5 }, "horizon 5: claim holds\n"),
+        (
+            Event::Counterexample { horizon: 6 },
+            "horizon 6: counterexample\n",
+        ),
+        (
+            Event::Ended(Ending::Asked {
+                horizon: 1,
+                listed: 7,
+            }),
+            "horizon 1: asked number reached, 7 listed\n",
+        ),
+        (
+            Event::Ended(Ending::Spent {
+                horizon: 9,
+                listed: 0,
+            }),
+            "horizon 9: budget spent, 0 listed\n",
+        ),
         (Event::Ended(Ending::NoHistory), "no history\n"),
+        (Event::Ended(Ending::ClaimHolds), "claim holds\n"),
+        (
+            Event::Ended(Ending::ClaimEmpty),
+            "claim holds, no history meets the conditions\n",
+        ),
+        (Event::Ended(Ending::ClaimFails), "claim fails\n"),
     ] {
         assert_eq!(rt; event_text(alloc, &event)?.text(), text);
     }

@@ -1,5 +1,5 @@
 //! The printed texts of keys, events and refusals.
-ghost use Rattle.std.specs.Prelude.{◌≡◌, ◌++◌, ◌∷◌, IfOk, OnOk, decimal, string_bytes, map, flat_map};
+ghost use Rattle.std.specs.Prelude.{◌≡◌, ◌++◌, ◌∷◌, [], IfOk, OnOk, codes, decimal, string_bytes, map, flat_map};
 ghost use Rattle.std.specs.List.{join_with_byte};
 ghost use Rattle.cc_defs.specs.Events as events;
 ghost use Rattle.cc_defs.specs.Texts as texts;
@@ -23,45 +23,69 @@ pub fn key_text(alloc: Global, horizon: u32, row: &[u32]) -> Result<Text, OutOfM
 pub fn event_text(alloc: Global, event: &Event) -> Result<Text, OutOfMemory>
     ensures { IfOk result (λ text. text ≡ events.event_text event.now) }
 {
-    let text = match event {
-        Event::Log(_) => String::new(alloc),
-        Event::NoHistory { horizon } => format!(in alloc; "horizon {horizon}: no history\n")?,
-        Event::History { horizon, number } => {
-            format!(in alloc; "horizon {horizon}: history {number}\n")?
-        }
+    match event {
+        Event::Log(_) => Ok(Text::of(String::new(alloc))),
+        Event::NoHistory { horizon } => horizon_line(alloc, *horizon, "no history"),
+        Event::History { horizon, number } => history_line(alloc, *horizon, *number),
         Event::NoConditions { horizon } => {
-            format!(in alloc; "horizon {horizon}: no history of the conditions\n")?
+            horizon_line(alloc, *horizon, "no history of the conditions")
         }
-        Event::Holds { horizon } => format!(in alloc; "horizon {horizon}: claim holds\n")?,
-        Event::Counterexample { horizon } => {
-            format!(in alloc; "horizon {horizon}: counterexample\n")?
-        }
-        Event::Ended(ending) => return ending_text(alloc, *ending),
-    };
+        Event::Holds { horizon } => horizon_line(alloc, *horizon, "claim holds"),
+        Event::Counterexample { horizon } => horizon_line(alloc, *horizon, "counterexample"),
+        Event::Ended(ending) => ending_text(alloc, *ending),
+    }
+}
+
+/// A line that speaks of a horizon.
+fn horizon_line(alloc: Global, horizon: u32, said: &str) -> Result<Text, OutOfMemory>
+    ensures { IfOk result (λ text. text ≡ events.of_horizon horizon said.now) }
+{
+    let text = format!(in alloc; "horizon {horizon}: {said}\n")?;
+    Ok(Text::of(text))
+}
+
+/// The line before a history.
+fn history_line(alloc: Global, horizon: u32, number: u32) -> Result<Text, OutOfMemory>
+    ensures { IfOk result (λ text. text ≡ events.of_horizon horizon (codes "history " ++ decimal number)) }
+{
+    let text = format!(in alloc; "horizon {horizon}: history {number}\n")?;
+    Ok(Text::of(text))
+}
+
+/// A line that says how many histories were listed at a horizon.
+fn listed_line(alloc: Global, horizon: u32, said: &str, listed: u32) -> Result<Text, OutOfMemory>
+    ensures { IfOk result (λ text. text ≡ events.of_horizon horizon (said.now ++ decimal listed ++ codes " listed")) }
+{
+    let mut line = String::from_str(alloc, said)?;
+    push_number(&mut line, listed)?;
+    line.push_str(" listed")?;
+    horizon_line(alloc, horizon, &line)
+}
+
+/// A line of these words.
+fn line(alloc: Global, said: &str) -> Result<Text, OutOfMemory>
+    ensures { IfOk result (λ text. text ≡ said.now ++ 10 ∷ []) }
+{
+    let text = format!(in alloc; "{said}\n")?;
     Ok(Text::of(text))
 }
 
 fn ending_text(alloc: Global, ending: Ending) -> Result<Text, OutOfMemory>
     ensures { IfOk result (λ text. text ≡ events.ending_text ending) }
 {
-    let text = match ending {
-        Ending::Complete { horizon, listed } => {
-            format!(in alloc; "horizon {horizon}: complete, {listed} listed\n")?
-        }
+    match ending {
+        Ending::Complete { horizon, listed } => listed_line(alloc, horizon, "complete, ", listed),
         Ending::Asked { horizon, listed } => {
-            format!(in alloc; "horizon {horizon}: asked number reached, {listed} listed\n")?
+            listed_line(alloc, horizon, "asked number reached, ", listed)
         }
         Ending::Spent { horizon, listed } => {
-            format!(in alloc; "horizon {horizon}: budget spent, {listed} listed\n")?
+            listed_line(alloc, horizon, "budget spent, ", listed)
         }
-        Ending::NoHistory => String::from_str(alloc, "no history\n")?,
-        Ending::ClaimHolds => String::from_str(alloc, "claim holds\n")?,
-        Ending::ClaimEmpty => {
-            String::from_str(alloc, "claim holds, no history meets the conditions\n")?
-        }
-        Ending::ClaimFails => String::from_str(alloc, "claim fails\n")?,
-    };
-    Ok(Text::of(text))
+        Ending::NoHistory => line(alloc, "no history"),
+        Ending::ClaimHolds => line(alloc, "claim holds"),
+        Ending::ClaimEmpty => line(alloc, "claim holds, no history meets the conditions"),
+        Ending::ClaimFails => line(alloc, "claim fails"),
+    }
 }
 
 /// The line of a refusal, its line feed included; `file` is the name of the refusal's file.

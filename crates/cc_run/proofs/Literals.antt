@@ -11,8 +11,9 @@ use Rattle.cc_defs.specs.declared.signature.Const.{Const}
 use Rattle.cc_defs.specs.Description.{Description, values_at}
 use Rattle.cc_defs.specs.Resolved.{Formula, NoTerms, Object, Equal, Not, Both, BaseLaw, One}
 use Rattle.cc_defs.specs.Resolved as resolved
-use Rattle.cc_defs.specs.Rules.{upto, rule_at, rules_of_law}
-use Rattle.cc_defs.specs.Satisfaction.{same_value, term_value, satisfied, head_satisfied}
+use Rattle.cc_defs.specs.Environments.{instances_from}
+use Rattle.cc_defs.specs.Rules.{upto, rule_at, rules_of_instance}
+use Rattle.cc_defs.specs.Satisfaction.{giving, same_value, term_value, satisfied, head_satisfied, head_is_there}
 use Rattle.cc_defs.specs.Signatures.{ground_number}
 use Rattle.cc_defs.specs.Universe.{Universe, constants_in}
 use Rattle.cc_run.specs.Pieces.{same_bytes}
@@ -66,7 +67,7 @@ fluents_numbered n k within =
     )
 
 value_known : (u : Universe) (n : ℕ) → AreNumbered (constants_in u) n → (values : ℕ → ℕ) (k : ℕ) → k < n
-    → term_value u [] values (resolved.Constant k NoTerms) ≡ slice_get (0 ∷ 1 ∷ []) (values k)
+    → term_value u (giving []) values (resolved.Constant k NoTerms) ≡ slice_get (0 ∷ 1 ∷ []) (values k)
 value_known u n numbered values k within = rw ((numbered k within).0, (numbered k within).1)
 
 -- ---- literals
@@ -89,24 +90,24 @@ other_bit (suc (suc value)) bit = absurd (omega arith)
 
 module _ {u : Universe} {values : ℕ → ℕ} {names : List (List ℕ)} {row : List ℕ} (read : IsRead u values names row) where
   has_value : (name : List ℕ) → list_any (same_bytes name) names ≡ true → (wanted : ℕ) → wanted < 2
-      → same_value (term_value u [] values (resolved.Constant (number_of names name) NoTerms)) (Some wanted) ≡ (get_or row (number_of names name) 0 == wanted)
+      → same_value (term_value u (giving []) values (resolved.Constant (number_of names name) NoTerms)) (Some wanted) ≡ (get_or row (number_of names name) 0 == wanted)
   has_value name declared wanted small =
       let below = number_below names name declared in
       rw (value_known u (length names) read.numbered values (number_of names name) below, read.values_are (number_of names name))
       (same_bit (get_or row (number_of names name) 0) (read.bits _ below) wanted small)
 
   literal_means : (literal : Literal) → list_any (same_bytes literal.name) names ≡ true
-      → satisfied u values [] (literal_formula names literal) ≡ literal_holds names row literal
+      → satisfied u values (giving []) (literal_formula names literal) ≡ literal_holds names row literal
   literal_means literal declared = by literal.positive
     where
-      by : (positive : Bool) → satisfied u values [] (cond positive (Equal (resolved.Constant (number_of names literal.name) NoTerms) (Object 1))
+      by : (positive : Bool) → satisfied u values (giving []) (cond positive (Equal (resolved.Constant (number_of names literal.name) NoTerms) (Object 1))
           (Not (Equal (resolved.Constant (number_of names literal.name) NoTerms) (Object 1))))
           ≡ (get_or row (number_of names literal.name) 0 == cond positive 1 0)
       by true = has_value literal.name declared 1 (omega arith)
       by false = ap not (has_value literal.name declared 1 (omega arith)) ∙ other_bit _ (read.bits _ (number_below names literal.name declared))
 
   pub head_means : (head : Option Literal) → list_all (λ literal. list_any (same_bytes literal.name) names) (head_literals head) ≡ true
-      → head_satisfied u values [] (literal_head names head) ≡ head_met names row head
+      → head_satisfied u values (giving []) (literal_head names head) ≡ head_met names row head
   head_means None declared = refl
   head_means (Some literal) declared = has_value literal.name (and_parts _ _ declared).0 (cond literal.positive 1 0) (bit literal.positive)
     where
@@ -121,23 +122,23 @@ module _ {u : Universe} {values : ℕ → ℕ} {names : List (List ℕ)} {row : 
   and_assoc false b c = refl
 
   fold_means : (f : Formula) (fs : List Formula)
-      → satisfied u values [] (fold Both f fs) ≡ (satisfied u values [] f && list_all (satisfied u values []) fs)
-  fold_means f [] = by (satisfied u values [] f)
+      → satisfied u values (giving []) (fold Both f fs) ≡ (satisfied u values (giving []) f && list_all (satisfied u values (giving [])) fs)
+  fold_means f [] = by (satisfied u values (giving []) f)
     where
       by : (a : Bool) → a ≡ (a && true)
       by true = refl
       by false = refl
   fold_means f (g ∷ fs) = fold_means (Both f g) fs
-      ∙ and_assoc (satisfied u values [] f) (satisfied u values [] g) (list_all (satisfied u values []) fs)
+      ∙ and_assoc (satisfied u values (giving []) f) (satisfied u values (giving []) g) (list_all (satisfied u values (giving [])) fs)
 
   literals_mean : (literals : List Literal) → list_all (λ literal. list_any (same_bytes literal.name) names) literals ≡ true
-      → list_all (satisfied u values []) (map (literal_formula names) literals) ≡ list_all (literal_holds names row) literals
+      → list_all (satisfied u values (giving [])) (map (literal_formula names) literals) ≡ list_all (literal_holds names row) literals
   literals_mean [] declared = refl
   literals_mean (literal ∷ literals) declared =
       ap₂ ◌&&◌ (literal_means literal (and_parts _ _ declared).0) (literals_mean literals (and_parts _ _ declared).1)
 
   pub body_means : (literals : List Literal) → list_all (λ literal. list_any (same_bytes literal.name) names) literals ≡ true
-      → satisfied u values [] (body_formula names literals) ≡ list_all (literal_holds names row) literals
+      → satisfied u values (giving []) (body_formula names literals) ≡ list_all (literal_holds names row) literals
   body_means [] declared = refl
   body_means (literal ∷ literals) declared =
       fold_means (literal_formula names literal) (map (literal_formula names) literals) ∙ literals_mean (literal ∷ literals) declared
@@ -149,14 +150,31 @@ and_true true = refl
 and_true false = refl
 
 law_kept : (d : Description) (names : List (List ℕ)) (row : List ℕ) → IsRead d.universe (values_at d row 0) names row
-    → (law : Law) → is_declared names law ≡ true → is_kept row row (rule_at d (law_of names law) [] 0 0) ≡ law_met names row law
+    → (law : Law) → is_declared names law ≡ true → is_kept row row (rule_at d (law_of names law) (giving []) 0 0) ≡ law_met names row law
 law_kept d names row read law declared =
     let parts = and_parts _ _ (sym (list_all-append (λ literal. list_any (same_bytes literal.name) names) (head_literals law.head) law.body) ∙ declared) in
     ap₂ (λ body head. not body || head) (and_true _ ∙ body_means read law.body parts.1) (head_means read law.head parts.0)
 
+-- the head of a law whose names are declared is there
+head_there : (u : Universe) (names : List (List ℕ)) → AreNumbered (constants_in u) (length names) → (head : Option Literal)
+    → list_all (λ literal. list_any (same_bytes literal.name) names) (head_literals head) ≡ true
+    → head_is_there u (giving []) (literal_head names head) ≡ true
+head_there u names numbered None declared = refl
+head_there u names numbered (Some literal) declared =
+    let below = number_below names literal.name (and_parts _ _ declared).0 in
+    rw ((numbered (number_of names literal.name) below).0, (numbered (number_of names literal.name) below).1) (bit literal.positive)
+  where
+    bit : (b : Bool) → list_any (nat_eq (cond b 1 0)) (0 ∷ 1 ∷ []) ≡ true
+    bit true = refl
+    bit false = refl
+
 pub laws_kept : (d : Description) (names : List (List ℕ)) (row : List ℕ) → IsRead d.universe (values_at d row 0) names row
-    → (laws : List Law) → list_all (is_declared names) laws ≡ true
-    → list_all (is_kept row row) (flat_map (rules_of_law d 0 0) (map (λ law. One (law_of names law)) laws)) ≡ list_all (law_met names row) laws
-laws_kept d names row read [] declared = refl
-laws_kept d names row read (law ∷ laws) declared =
-    ap₂ ◌&&◌ (law_kept d names row read law (and_parts _ _ declared).0) (laws_kept d names row read laws (and_parts _ _ declared).1)
+    → (base : ℕ) (laws : List Law) → list_all (is_declared names) laws ≡ true
+    → list_all (is_kept row row) (flat_map (rules_of_instance d 0 0) (instances_from d.universe base (map (λ law. One (law_of names law)) laws)))
+    ≡ list_all (law_met names row) laws
+laws_kept d names row read base [] declared = refl
+laws_kept d names row read base (law ∷ laws) declared =
+    let here = (and_parts _ _ declared).0 in
+    let parts = and_parts _ _ (sym (list_all-append (λ literal. list_any (same_bytes literal.name) names) (head_literals law.head) law.body) ∙ here) in
+    rw (head_there d.universe names read.numbered law.head parts.0)
+    (ap₂ ◌&&◌ (law_kept d names row read law here) (laws_kept d names row read (base + 1) laws (and_parts _ _ declared).1))

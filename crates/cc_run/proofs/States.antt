@@ -50,7 +50,7 @@ module _ (small : Small) (declared : first_undeclared small ≡ None) (row : Lis
 
   laws_pass : list_all (is_kept row row) of_laws ≡ passes small row
   laws_pass = ap (list_all (is_kept row row)) (append-nil (rules_at_step (description_of small) 0 0))
-      ∙ laws_kept (description_of small) small.names row (read_of small row bits) small.laws (none_found (is_declared small.names) small.laws declared)
+      ∙ laws_kept (description_of small) small.names row (read_of small row bits) 0 small.laws (none_found (is_declared small.names) small.laws declared)
 
   -- what the reduct asks of a row, in its two parts
   parts : (other : List ℕ) → satisfies other (reduct (rules_at (description_of small) 0) row) ≡ true

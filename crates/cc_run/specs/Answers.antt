@@ -37,7 +37,12 @@ pub record Plan : Type 0 where
 
 abbrev pub status_of : Ending → Status
 status_of (endings.Complete horizon listed) = statuses.Right
+status_of (endings.Asked horizon listed) = statuses.Asked
+status_of (endings.Spent horizon listed) = statuses.Spent
 status_of endings.NoHistory = statuses.Not
+status_of endings.ClaimHolds = statuses.Right
+status_of endings.ClaimEmpty = statuses.Right
+status_of endings.ClaimFails = statuses.Not
 
 -- the run is refused, and prints just that
 pub record RefusedPlan (files : List ℕ → Option (List ℕ)) (words : List (List ℕ)) (plan : Plan) : Type 0 where
