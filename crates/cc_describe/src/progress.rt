@@ -132,7 +132,7 @@ impl Progress {
         ensures around { self.new.around ≡ self.old.around }
         ensures names { self.new.names ≡ self.old.names }
     {
-        self.table.declare(alloc, file, statement)?;
+        self.table.declare(file, statement)?;
         self.expand(alloc, file, statement)
     }
 

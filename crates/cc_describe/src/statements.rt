@@ -54,7 +54,7 @@ pub(crate) fn answer_to(
         | Part::Objects(_)
         | Part::Variables(_)
         | Part::Constants(_)
-        | Part::Include(_) => table.declare(alloc, 0, statement),
+        | Part::Include(_) => table.declare(0, statement),
     }
 }
 

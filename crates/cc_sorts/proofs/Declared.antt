@@ -1,5 +1,5 @@
 -- What a statement's declarations make of a table.
-use Rattle.std.proofs.Common.{◌≡◌, ◌∙◌, ℕ, ◌+◌, ◌-◌, ◌<◌, ◌≤◌, Bool, true, false, nat_lt, List, [], ◌++◌, length, flat_map, Option, Some, None, Result, Ok, Err, IfErr, IsErrAnd, refl, sym, ap, subst, arith, length-append}
+use Rattle.std.proofs.Common.{◌≡◌, ◌∙◌, ℕ, ◌+◌, ◌-◌, ◌<◌, ◌≤◌, Bool, true, false, nat_lt, List, [], ◌++◌, length, flat_map, Option, Some, None, Result, Ok, Err, IfErr, IsErrAnd, inl, inr, refl, sym, ap, subst, arith, length-append}
 use Rattle.std.proofs.lemmas.Bool.{lt-ltb, le-ltb}
 use Rattle.cc_defs.specs.declared.refusal.Fault.{Fault}
 use Rattle.cc_defs.specs.declared.refusal.Fault.TheVariants as faults
@@ -49,15 +49,15 @@ clear_of file line left statement ds e none =
 pub front_none : (file : ℕ) (left : List Declaration) (statement : PlainStatement) (table : TableView) → IsTable table left → HasFront file left statement table
 front_none file left statement table is =
     let P : List Declaration → Type 0 = λ w. IsTable table w in
-    ([], declarations_of file statement, refl, subst P (sym (append-nil left)) is)
+    ([], declarations_of file statement, inl refl, refl, subst P (sym (append-nil left)) is)
 
-pub front_of : (file line : ℕ) (left : List Declaration) (statement : PlainStatement) (ds : List Declaration) (old new : TableView) → ds ≡ declarations_of file statement →
-    judged_refusal file line left ds ≡ None → IsTable old left → IsFrontOf old ds new → HasFront file left statement new
-front_of file line left statement ds old new e none is front =
+pub front_of : (file : ℕ) (left : List Declaration) (statement : PlainStatement) (ds : List Declaration) (old new : TableView) → ds ≡ declarations_of file statement →
+    judged_refusal file statement.line left ds ≡ None → IsTable old left → IsFrontOf old ds new → HasFront file left statement new
+front_of file left statement ds old new e none is front =
     let P : List Declaration → Type 0 = λ w. AllClear left w in
-    let clear : AllClear left (front.front ++ front.rest) = subst P front.whole (clear_of file line left statement ds e none) in
+    let clear : AllClear left (front.front ++ front.rest) = subst P front.whole (clear_of file statement.line left statement ds e none) in
     let Q : TableView → Type 0 = λ w. IsTable w (left ++ front.front) in
-    (front.front, front.rest, sym e ∙ front.whole, subst Q (sym front.is_behind) (behind_all_is old left front.front (clear_front left front.front front.rest clear) is))
+    (front.front, front.rest, inr (ap (λ (w : List Declaration). judged_refusal file statement.line left w) (sym e) ∙ none), sym e ∙ front.whole, subst Q (sym front.is_behind) (behind_all_is old left front.front (clear_front left front.front front.rest clear) is))
 
 pub declares : (file : ℕ) (left : List Declaration) (statement : PlainStatement) (ds : List Declaration) (old new : TableView) → ds ≡ declarations_of file statement →
     judged_refusal file statement.line left ds ≡ None → IsTable old left → new ≡ behind_all old ds → Declares file left statement new

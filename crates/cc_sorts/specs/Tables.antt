@@ -1,5 +1,5 @@
 -- What a table holds, and that it is the table of a list of declarations.
-use Rattle.std.specs.Prelude.{◌≡◌, ℕ, ◌<◌, ◌≤◌, ◌^◌, Bool, true, ◌&&◌, List, [], ◌∷◌, ◌++◌, length, map, codes, IsTrue, Some, None}
+use Rattle.std.specs.Prelude.{◌≡◌, ◌⊎◌, ℕ, ◌<◌, ◌≤◌, ◌^◌, Bool, true, ◌&&◌, List, [], ◌∷◌, ◌++◌, length, map, codes, IsTrue, Some, None}
 use Rattle.std.specs.List.{AllByRecursion, list_any}
 use Rattle.cc_defs.specs.declared.refusal.Fault.{Fault}
 use Rattle.cc_defs.specs.declared.refusal.Fault.TheVariants as faults
@@ -78,6 +78,10 @@ pub record IsTable (table : TableView) (declarations : List Declaration) : Type 
   pub symbols_are : table.symbols ≡ placed_from (symbols declarations) (constants declarations)
   pub known : AreKnown declarations
 
+-- the table is that of some declarations
+abbrev pub IsOfDeclarations : TableView → Type 0
+IsOfDeclarations table = (declarations : List Declaration) × IsTable table declarations
+
 abbrev pub symbol_names : TableView → List (List ℕ)
 symbol_names table = map (λ placed. placed.symbol.name) table.symbols
 
@@ -86,15 +90,21 @@ abbrev pub Declares : ℕ → List Declaration → PlainStatement → TableView 
 Declares file left statement new =
     (declaration_refusal file left statement ≡ None) × IsTable new (left ++ declarations_of file statement)
 
--- a front of the statement's declarations is there
+-- a front of the statement's declarations is there; of a statement with a fault none of them
 abbrev pub HasFront : ℕ → List Declaration → PlainStatement → TableView → Type 0
 HasFront file left statement new =
-    (front : List Declaration) × (rest : List Declaration) × (declarations_of file statement ≡ front ++ rest) × IsTable new (left ++ front)
+    (front : List Declaration) × (rest : List Declaration) × ((front ≡ []) ⊎ (declaration_refusal file left statement ≡ None))
+    × (declarations_of file statement ≡ front ++ rest) × IsTable new (left ++ front)
 
 -- the statement is refused so, and nothing was changed; or memory was wanting
 abbrev pub HasRefused : ℕ → List Declaration → PlainStatement → TableView → TableView → Fault → Type 0
 HasRefused file left statement old new faults.OutOfMemory = HasFront file left statement new
 HasRefused file left statement old new (faults.Refused refusal) = (declaration_refusal file left statement ≡ Some refusal) × (new ≡ old)
+
+-- a refusal changes nothing
+abbrev pub IsUnchangedBy : TableView → TableView → Fault → Type 0
+IsUnchangedBy old new faults.OutOfMemory = Unit {0}
+IsUnchangedBy old new (faults.Refused refusal) = new ≡ old
 
 -- the signature of these declarations, which are not refused; no object has the number that stands for `none`
 abbrev pub IsSignatureOf : List Declaration → Signature → Type 0
@@ -102,6 +112,10 @@ IsSignatureOf declarations signature =
     (signature_refusal declarations ≡ None)
     × (signature ≡ record { fluents = ground_fluents declarations; actions = ground_actions declarations })
     × (length (objects declarations) ≤ none_value)
+
+-- the signature is that of the table
+abbrev pub IsSignatureFor : TableView → Signature → Type 0
+IsSignatureFor table signature = (declarations : List Declaration) × IsTable table declarations × IsSignatureOf declarations signature
 
 abbrev pub IsRefusedSignature : List Declaration → Fault → Type 0
 IsRefusedSignature declarations faults.OutOfMemory = Unit {0}

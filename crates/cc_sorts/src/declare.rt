@@ -11,7 +11,8 @@ ghost use Rattle.cc_sorts.specs.Tables.{symbol_names, IsTable, Declares, HasRefu
 
 use crate::declaration::{Declaration, declarations};
 use crate::fault::least_fault;
-use crate::table::{Placed, Table};
+use crate::register::Register;
+use crate::table::Placed;
 use cc_defs::{
     Fault, Kind, KindTree, KindWord, LimitAt, Name, Nums, OutOfMemory, Refusal, Shape, Statement,
     Symbol,
@@ -80,7 +81,7 @@ fn count_objects(new: &[Declaration<'_, '_>]) -> usize
     count
 }
 
-impl Table {
+impl Register {
     /// Adds a sort, if it is not there.
     fn put_sort(&mut self, alloc: Global, name: &str) -> Result<(), OutOfMemory>
         requires { HasRoom self.old 1 }
@@ -309,11 +310,8 @@ impl Table {
         Ok(None)
     }
 
-    /// Declares what a statement of sorts, objects, variables or constants says. Refuses, at the statement's line, the
-    /// least number of a fault: a name or a pair given twice (4), an unknown sort or action (5), an attribute whose action
-    /// has another number of arguments (6), or a sort that does not fit (7); then too many objects (14, with the limit
-    /// objects). After a refusal nothing is changed; after want of memory a front of the statement's declarations is there.
-    pub fn declare(
+    /// Declares what a statement says, or refuses it: `Table::declare`.
+    pub(crate) fn declare(
         &mut self,
         alloc: Global,
         file: u32,

@@ -7,14 +7,14 @@ ghost use Rattle.cc_sorts.specs.Tables.{IsTable};
 
 use crate::declaration::Declaration;
 use crate::left::Left;
-use crate::table::Table;
+use crate::register::Register;
 use cc_defs::OutOfMemory;
 use std::alloc::Global;
 
 /// The least number of a fault that one of the declarations has behind those of the table and those before it.
 pub(crate) fn least_fault(
     alloc: Global,
-    table: &Table,
+    table: &Register,
     new: &[Declaration],
 ) -> Result<Option<u8>, OutOfMemory>
     ensures { (file line : ℕ) (left : Items Declared) → IsTable table.now left → IfOk result (λ fault. fault ≡ declaration_fault left (plain_declarations file line new.now)) }
@@ -35,7 +35,7 @@ pub(crate) fn least_fault(
 }
 
 /// Whether a declaration was made before.
-fn any_twice(alloc: Global, table: &Table, new: &[Declaration]) -> Result<bool, OutOfMemory>
+fn any_twice(alloc: Global, table: &Register, new: &[Declaration]) -> Result<bool, OutOfMemory>
     ensures { (file line : ℕ) (left : Items Declared) → IsTable table.now left → IfOk result (λ any. any ≡ any_has is_twice left (plain_declarations file line new.now)) }
 {
     let mut left = Left::new(alloc, table);
@@ -49,7 +49,7 @@ fn any_twice(alloc: Global, table: &Table, new: &[Declaration]) -> Result<bool, 
 }
 
 /// Whether a declaration names a sort or an action that is not declared.
-fn any_unknown(alloc: Global, table: &Table, new: &[Declaration]) -> Result<bool, OutOfMemory>
+fn any_unknown(alloc: Global, table: &Register, new: &[Declaration]) -> Result<bool, OutOfMemory>
     ensures { (file line : ℕ) (left : Items Declared) → IsTable table.now left → IfOk result (λ any. any ≡ any_has is_unknown left (plain_declarations file line new.now)) }
 {
     let mut left = Left::new(alloc, table);
@@ -63,7 +63,11 @@ fn any_unknown(alloc: Global, table: &Table, new: &[Declaration]) -> Result<bool
 }
 
 /// Whether an action has another number of arguments than its declaration, or than its attribute.
-fn any_wrong_count(alloc: Global, table: &Table, new: &[Declaration]) -> Result<bool, OutOfMemory>
+fn any_wrong_count(
+    alloc: Global,
+    table: &Register,
+    new: &[Declaration],
+) -> Result<bool, OutOfMemory>
     ensures { (file line : ℕ) (left : Items Declared) → IsTable table.now left → IfOk result (λ any. any ≡ any_has has_wrong_count left (plain_declarations file line new.now)) }
 {
     let mut left = Left::new(alloc, table);
@@ -77,7 +81,7 @@ fn any_wrong_count(alloc: Global, table: &Table, new: &[Declaration]) -> Result<
 }
 
 /// Whether a sort does not fit.
-fn any_wrong_sort(alloc: Global, table: &Table, new: &[Declaration]) -> Result<bool, OutOfMemory>
+fn any_wrong_sort(alloc: Global, table: &Register, new: &[Declaration]) -> Result<bool, OutOfMemory>
     ensures { (file line : ℕ) (left : Items Declared) → IsTable table.now left → IfOk result (λ any. any ≡ any_has has_wrong_sort left (plain_declarations file line new.now)) }
 {
     let mut left = Left::new(alloc, table);

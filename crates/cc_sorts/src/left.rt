@@ -16,8 +16,8 @@ ghost use Rattle.cc_sorts.specs.SortViews.{name_at};
 ghost use Rattle.cc_sorts.specs.Tables.{IsTable};
 
 use crate::declaration::Declaration;
+use crate::register::Register;
 use crate::sorts::Sorts;
-use crate::table::Table;
 use cc_defs::{Kind, KindTree, KindWord, List, OutOfMemory, Shape, Symbol};
 use indexmap::{IndexMap, IndexSet};
 use std::alloc::Global;
@@ -39,7 +39,7 @@ pub(crate) struct Constant<'t, 's> {
 /// The declarations of a table, and those of a statement that were added. A name is found by its hash.
 #[derive(Drop)]
 pub(crate) struct Left<'d, 't, 's> {
-    table: &'d Table,
+    table: &'d Register,
     sorts: IndexSet<&'s str>,
     /// Of objects, variables and constants.
     names: IndexSet<&'s str>,
@@ -54,7 +54,7 @@ pub(crate) struct Left<'d, 't, 's> {
 
 impl<'d, 't, 's> Left<'d, 't, 's> {
     /// The declarations of the table.
-    pub(crate) fn new(alloc: Global, table: &'d Table) -> Self
+    pub(crate) fn new(alloc: Global, table: &'d Register) -> Self
         ensures { (left : Items Declared) → IsTable table.now left → IsLeft result left }
     {
         Left {
@@ -83,7 +83,7 @@ impl<'d, 't, 's> Left<'d, 't, 's> {
     fn has_pair(&self, upper: &'s str, lower: &'s str) -> bool
         ensures { result ≡ left_has_pair self.now (upper.now, lower.now) }
     {
-        let table: &Table = self.table;
+        let table: &Register = self.table;
         table.sorts.has_named(upper, lower) || self.pairs.contains(&SortPair { upper, lower })
     }
 
@@ -225,7 +225,7 @@ impl<'d, 't, 's> Left<'d, 't, 's> {
     fn has_lower(&self, sort: &str) -> bool
         ensures { result ≡ left_has_upper self.now sort.now }
     {
-        let table: &Table = self.table;
+        let table: &Register = self.table;
         table.sorts.has_lower(sort) || self.uppers.contains(sort)
     }
 
@@ -265,7 +265,7 @@ impl<'d, 't, 's> Left<'d, 't, 's> {
     fn add_above<'a>(&'a self, sort: &str, found: &mut IndexSet<&'a str>) -> Result<(), OutOfMemory>
         ensures { OnOk result (Grows found.old.keys found.new.keys (all_uppers self.now sort.now)) }
     {
-        let table: &'a Table = self.table;
+        let table: &'a Register = self.table;
         add_table_uppers(&table.sorts, sort, found)?;
         self.add_new_uppers(sort, found)?;
         Ok(())
@@ -429,7 +429,7 @@ fn add_names<'a>(names: &[&'a str], found: &mut IndexSet<&'a str>) -> Result<(),
 
 /// Whether a table has the sort.
 #[tactic(auto, using(crate::proofs::Decided::is_some_number))]
-fn has_sort(table: &Table, name: &str) -> bool
+fn has_sort(table: &Register, name: &str) -> bool
     ensures { result ≡ table_has_sort table.now name.now }
 {
     table.sort(name).is_some()
@@ -437,14 +437,14 @@ fn has_sort(table: &Table, name: &str) -> bool
 
 /// Whether an object, a variable or a constant of a table has the name.
 #[tactic(auto, using(crate::proofs::Decided::is_some_number))]
-fn has_name(table: &Table, name: &str) -> bool
+fn has_name(table: &Register, name: &str) -> bool
     ensures { result ≡ table_has_name table.now name.now }
 {
     table.object(name).is_some() || table.variable(name).is_some() || table.symbol(name).is_some()
 }
 
 /// The symbol of a constant of a table.
-fn symbol_named<'a>(table: &'a Table, name: &str) -> Option<&'a Symbol>
+fn symbol_named<'a>(table: &'a Register, name: &str) -> Option<&'a Symbol>
     ensures { option_map (λ symbol. symbol.now) result ≡ table_symbol table.now name.now }
 {
     match table.symbol(name) {
@@ -475,7 +475,7 @@ fn is_boolean(sort: &str) -> bool
 }
 
 /// Whether a symbol of the table is a Boolean action with these sorts.
-fn symbol_fits(table: &Table, symbol: &Symbol, shapes: &List<Shape>, action: &Shape) -> bool
+fn symbol_fits(table: &Register, symbol: &Symbol, shapes: &List<Shape>, action: &Shape) -> bool
     ensures { result ≡ numbers_fit table.now symbol.now (map (λ sort. sort.now) action.now.sorts) (map plain_shape shapes.now) }
 {
     is_boolean_symbol(symbol)
@@ -490,7 +490,7 @@ fn is_boolean_symbol(symbol: &Symbol) -> bool
     symbol.attribute.is_none() && (matches!(symbol.kind, Kind::Action) && symbol.domain == 0)
 }
 
-fn has_number(table: &Table, sort: &str, number: u32) -> bool
+fn has_number(table: &Register, sort: &str, number: u32) -> bool
     ensures { result ≡ is_numbered (number_of table.now.sorts.names sort.now) number }
 {
     match table.sort(sort) {
@@ -500,7 +500,7 @@ fn has_number(table: &Table, sort: &str, number: u32) -> bool
 }
 
 /// Whether these are the numbers of the sorts.
-fn are_numbered(table: &Table, sorts: &[&str], numbers: &[u32]) -> bool
+fn are_numbered(table: &Register, sorts: &[&str], numbers: &[u32]) -> bool
     ensures { result ≡ are_numbered table.now.sorts.names (map (λ sort. sort.now) sorts.now) numbers.now }
 {
     if sorts.len() != numbers.len() {
@@ -514,13 +514,13 @@ fn are_numbered(table: &Table, sorts: &[&str], numbers: &[u32]) -> bool
     true
 }
 
-fn have_numbers(table: &Table, shapes: &List<Shape>, numbers: &[u32]) -> bool
+fn have_numbers(table: &Register, shapes: &List<Shape>, numbers: &[u32]) -> bool
     ensures { result ≡ list_all (λ shape. are_numbered table.now.sorts.names shape.sorts numbers.now) (map plain_shape shapes.now) }
 {
     each_has_numbers(table, shapes.items(), numbers)
 }
 
-fn each_has_numbers(table: &Table, shapes: &[Shape], numbers: &[u32]) -> bool
+fn each_has_numbers(table: &Register, shapes: &[Shape], numbers: &[u32]) -> bool
     ensures { result ≡ list_all (λ shape. are_numbered table.now.sorts.names (map (λ sort. sort.now) shape.sorts) numbers.now) shapes.now }
 {
     shapes

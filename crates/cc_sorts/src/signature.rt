@@ -8,7 +8,8 @@ ghost use Rattle.cc_sorts.specs.Instances.{values_by, rows_by, constant_by, pass
 ghost use Rattle.cc_sorts.specs.SortViews.{members_at, AllAscend};
 ghost use Rattle.cc_sorts.specs.Tables.{IsTable, IsSignatureOf, IsRefusedSignature};
 
-use crate::table::{Placed, Table};
+use crate::register::Register;
+use crate::table::Placed;
 use cc_defs::{Const, Fault, Kind, LimitAt, Nums, OutOfMemory, Refusal, Sig, Symbol};
 use std::alloc::Global;
 
@@ -80,9 +81,9 @@ fn limit_refusal(limit: LimitAt) -> Refusal
     }
 }
 
-impl Table {
+impl Register {
     /// The objects of a sort; none, where there is no such sort.
-    pub fn members(&self, sort: u32) -> &[u32]
+    pub(crate) fn members(&self, sort: u32) -> &[u32]
         ensures { result.now ≡ members_at self.now.sorts sort }
     {
         let sort = sort as usize;
@@ -94,7 +95,7 @@ impl Table {
     }
 
     /// How many symbols there are. The objects of each sort ascend, and none has the number that stands for `none`.
-    pub fn symbol_count(&self) -> usize
+    pub(crate) fn symbol_count(&self) -> usize
         ensures count { result ≡ length self.now.symbols }
         ensures few { result < 4000000000 }
         ensures ascending { AllAscend self.now.sorts.members }
@@ -330,10 +331,8 @@ impl Table {
         Ok(made)
     }
 
-    /// The ground constants of all that was declared: instances in the order of their arguments, fluents before actions.
-    /// Refuses the first of them without a value, at its declaration (12), then more values of one than the limit domain
-    /// values, then more of them than the limit ground constants (14); nothing that passes a limit is made.
-    pub fn signature(&self, alloc: Global) -> Result<Sig, Fault>
+    /// The ground constants of all that was declared, or their refusal: `Table::signature`.
+    pub(crate) fn signature(&self, alloc: Global) -> Result<Sig, Fault>
         ensures made { (declarations : Items Declared) → IsTable self.now declarations → IfOk result (IsSignatureOf declarations) }
         ensures refused { (declarations : Items Declared) → IsTable self.now declarations → IfErr result (IsRefusedSignature declarations) }
     {

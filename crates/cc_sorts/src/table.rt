@@ -1,13 +1,14 @@
 //! What a description declares: sorts, objects, variables and constants, each by number.
-ghost use Rattle.std.specs.Prelude.{◌≡◌, ◌<◌, [], Some, length, slice_get, option_map, IfOk};
+ghost use Rattle.std.specs.Prelude.{◌≡◌, ◌<◌, [], List as Items, Some, length, slice_get, option_map, IfOk, IfErr, OnOk};
 ghost use Rattle.cc_defs.specs.Declarations.{is_below};
+ghost use Rattle.cc_defs.specs.Declarations.{Declaration as Declared};
+ghost use Rattle.cc_defs.specs.Trees.{plain_statement};
 ghost use Rattle.cc_sorts.specs.Dictionaries.{number_of, names_of, values_of};
 ghost use Rattle.cc_sorts.specs.SortViews.{name_at, members_at};
-ghost use Rattle.cc_sorts.specs.Tables.{first_table, symbol_names, IsTable};
+ghost use Rattle.cc_sorts.specs.Tables.{symbol_names, IsTable, IsOfDeclarations, Declares, HasRefused, IsUnchangedBy, IsSignatureOf, IsSignatureFor, IsRefusedSignature};
 
-use crate::dictionary::Dictionary;
-use crate::sorts::Sorts;
-use cc_defs::{OutOfMemory, Symbol};
+use crate::register::Register;
+use cc_defs::{Fault, OutOfMemory, Sig, Statement, Symbol};
 use std::alloc::Global;
 use std::marker::Model;
 
@@ -23,79 +24,88 @@ pub(crate) struct Placed {
 /// `false` is object 0 and `true` object 1. Objects, variables and constants share one set of names.
 #[derive(Drop)]
 pub struct Table {
-    pub(crate) sorts: Sorts,
-    /// Each with the number of its sort.
-    pub(crate) objects: Dictionary<u32>,
-    pub(crate) variables: Dictionary<u32>,
-    pub(crate) symbols: Dictionary<Placed>,
+    register: Register,
+    alloc: Global,
 }
 
 impl Model for Table {
-    ghost use Rattle.cc_sorts.specs.Dictionaries.{values_of};
-    ghost use Rattle.cc_sorts.specs.Tables.{TableView, Fits};
+    ghost use Rattle.cc_sorts.specs.Tables.{TableView, IsOfDeclarations};
 
     ghost Value = { TableView };
 
-    ghost view = { λ table. record { sorts = table.sorts; objects = table.objects; variables = table.variables; symbols = values_of table.symbols } };
+    ghost view = { λ table. table.register };
 
-    ghost invariant = { λ table. Fits table.sorts table.objects table.variables table.symbols };
+    ghost invariant = { λ table. IsOfDeclarations table.register };
 }
 
 impl Table {
     /// The sort `boolean` with the objects `false` and `true`.
     pub fn new(alloc: Global) -> Result<Table, OutOfMemory>
-        ensures first { IfOk result (λ table. table ≡ first_table) }
-        ensures nothing { IfOk result (λ table. IsTable table []) }
+        ensures { IfOk result (λ table. IsTable table []) }
     {
-        let mut objects = Dictionary::new(alloc);
-        objects.push(alloc, "false", 0)?;
-        objects.push(alloc, "true", 0)?;
         Ok(Table {
-            sorts: Sorts::new(alloc)?,
-            objects,
-            variables: Dictionary::new(alloc),
-            symbols: Dictionary::new(alloc),
+            register: Register::new(alloc)?,
+            alloc,
         })
+    }
+
+    /// Declares what a statement of sorts, objects, variables or constants says. Refuses, at the statement's line, the
+    /// least number of a fault: a name or a pair given twice (4), an unknown sort or action (5), an attribute whose action
+    /// has another number of arguments (6), or a sort that does not fit (7); then too many objects (14, with the limit
+    /// objects). After a refusal nothing is changed; after want of memory a front of a statement without a fault is there.
+    pub fn declare(&mut self, file: u32, statement: &Statement<'_>) -> Result<(), Fault>
+        ensures declared { (left : Items Declared) → IsTable self.old left → OnOk result (Declares file left (plain_statement statement.now) self.new) }
+        ensures refused { (left : Items Declared) → IsTable self.old left → IfErr result (HasRefused file left (plain_statement statement.now) self.old self.new) }
+        ensures unchanged { IfErr result (IsUnchangedBy self.old self.new) }
+    {
+        let alloc = self.alloc;
+        self.register.declare(alloc, file, statement)
+    }
+
+    /// The ground constants of all that was declared: instances in the order of their arguments, fluents before actions.
+    /// Refuses the first of them without a value, at its declaration (12), then more values of one than the limit domain
+    /// values, then more of them than the limit ground constants (14); nothing that passes a limit is made.
+    pub fn signature(&self, alloc: Global) -> Result<Sig, Fault>
+        ensures its { IfOk result (IsSignatureFor self.now) }
+        ensures made { (declarations : Items Declared) → IsTable self.now declarations → IfOk result (IsSignatureOf declarations) }
+        ensures refused { (declarations : Items Declared) → IsTable self.now declarations → IfErr result (IsRefusedSignature declarations) }
+    {
+        self.register.signature(alloc)
+    }
+
+    /// It does nothing. A caller that is to know that a table is that of some declarations calls it.
+    pub fn has_declarations(&self)
+        ensures { IsOfDeclarations self.now }
+    {
+        let _register = &self.register;
     }
 
     /// The number of a sort.
     pub fn sort(&self, name: &str) -> Option<u32>
         ensures { result ≡ number_of self.now.sorts.names name.now }
     {
-        match self.sorts.find(name) {
-            Some(number) => Some(number as u32),
-            None => None,
-        }
+        self.register.sort(name)
     }
 
     /// The number of an object.
     pub fn object(&self, name: &str) -> Option<u32>
         ensures { result ≡ number_of (names_of self.now.objects) name.now }
     {
-        match self.objects.find(name) {
-            Some(number) => Some(number as u32),
-            None => None,
-        }
+        self.register.object(name)
     }
 
     /// The number of a variable.
     pub fn variable(&self, name: &str) -> Option<u32>
         ensures { result ≡ number_of (names_of self.now.variables) name.now }
     {
-        match self.variables.find(name) {
-            Some(number) => Some(number as u32),
-            None => None,
-        }
+        self.register.variable(name)
     }
 
     /// The number of a constant's symbol.
     pub fn symbol(&self, name: &str) -> Option<u32>
         ensures { result ≡ number_of (symbol_names self.now) name.now }
     {
-        match self.symbols.find(name) {
-            Some(number) => Some(number as u32),
-            None => None,
-        }
+        self.register.symbol(name)
     }
 
     /// The objects of a sort and of all sorts below it, in declared order. It takes no memory.
@@ -103,7 +113,14 @@ impl Table {
         requires { sort < length self.now.sorts.names }
         ensures { result.now ≡ members_at self.now.sorts sort }
     {
-        self.sorts.members(sort as usize)
+        self.register.members(sort)
+    }
+
+    /// The objects of a sort; none, where there is no such sort.
+    pub fn members(&self, sort: u32) -> &[u32]
+        ensures { result.now ≡ members_at self.now.sorts sort }
+    {
+        self.register.members(sort)
     }
 
     /// The name of an object.
@@ -111,7 +128,7 @@ impl Table {
         requires { object < length self.now.objects }
         ensures { Some result.now ≡ slice_get (names_of self.now.objects) object }
     {
-        self.objects.name(object as usize)
+        self.register.object_name(object)
     }
 
     /// The sort that an object was declared with.
@@ -119,7 +136,7 @@ impl Table {
         requires { object < length self.now.objects }
         ensures { Some result ≡ slice_get (values_of self.now.objects) object }
     {
-        *self.objects.value(object as usize).unwrap()
+        self.register.object_sort(object)
     }
 
     /// The symbol of a constant.
@@ -127,7 +144,7 @@ impl Table {
         requires { symbol < length self.now.symbols }
         ensures { Some result.now ≡ option_map (λ placed. placed.symbol) (slice_get self.now.symbols symbol) }
     {
-        &self.symbols.value(symbol as usize).unwrap().symbol
+        self.register.symbol_of(symbol)
     }
 
     /// The sort of a variable.
@@ -135,21 +152,29 @@ impl Table {
         requires { variable < length self.now.variables }
         ensures { Some result ≡ slice_get (values_of self.now.variables) variable }
     {
-        *self.variables.value(variable as usize).unwrap()
+        self.register.sort_of(variable)
+    }
+
+    /// How many symbols there are.
+    pub fn symbol_count(&self) -> usize
+        ensures count { result ≡ length self.now.symbols }
+        ensures few { result < 4000000000 }
+    {
+        self.register.symbol_count()
     }
 
     /// How many variables there are.
     pub fn variable_count(&self) -> usize
         ensures { result ≡ length self.now.variables }
     {
-        self.variables.len()
+        self.register.variable_count()
     }
 
     /// How many sorts there are.
     pub fn sort_count(&self) -> usize
         ensures { result ≡ length self.now.sorts.names }
     {
-        self.sorts.len()
+        self.register.sort_count()
     }
 
     /// Whether a sort is the other or below it. It takes no memory.
@@ -158,6 +183,6 @@ impl Table {
         requires upper { upper < length self.now.sorts.names }
         ensures { result ≡ is_below self.now.sorts.pairs (name_at self.now.sorts lower) (name_at self.now.sorts upper) }
     {
-        self.sorts.below(lower as usize, upper as usize)
+        self.register.below(lower, upper)
     }
 }

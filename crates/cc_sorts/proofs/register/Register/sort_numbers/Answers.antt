@@ -1,0 +1,9 @@
+use Rattle.std.proofs.Common.{[], sym}
+use Rattle.cc_defs.specs.Declarations.{number_in}
+use Rattle.cc_sorts.proofs.Walks.{numbers_more}
+use Rattle.cc_sorts.proofs.register.Register.sort_numbers.Goals as goal
+
+pub loop-name-preserved : goal.loop-name-preserved
+loop-name-preserved c =
+    rw (c.in_ok-push.ensures.items, c.sort_number.ensures, c.loop-name.invariant)
+    (sym (numbers_more (number_in c.args.self.now.sorts.names) c.args.names.now c.loop-name.name-index (record { ref_ptr = (0, 0); now = [] }) c.loop-name-test.true))

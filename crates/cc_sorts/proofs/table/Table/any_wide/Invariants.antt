@@ -1,7 +1,0 @@
-use Rattle.std.proofs.Common.{◌≡◌, false, take}
-use Rattle.cc_defs.specs.DeclarationFaults.{passes_domain_values}
-use Rattle.cc_sorts.specs.Instances.{instances_from}
-use Rattle.cc_sorts.proofs.table.Table.any_wide.Given as goal
-
-abbrev pub invariant-loop-number : goal.invariant-loop-number
-invariant-loop-number l = passes_domain_values (instances_from l.self.sorts l.actions 0 (take l.number l.self.symbols)) ≡ false

@@ -1,6 +1,0 @@
-use Rattle.std.proofs.Common.{◌≡◌, take}
-use Rattle.cc_sorts.specs.Instances.{rows_by}
-use Rattle.cc_sorts.proofs.table.Table.rows.Given as goal
-
-abbrev pub invariant-loop-sort : goal.invariant-loop-sort
-invariant-loop-sort l = l.rows.items ≡ rows_by l.self.sorts (take l.sort-index l.sorts)
