@@ -1,15 +1,14 @@
 -- The ground laws of base laws that have the forms of their kinds have these forms too.
-use Rattle.std.proofs.Common.{◌≡◌, ◌∙◌, ℕ, zero, suc, ◌+◌, ◌<◌, ◌≤◌, ◌⊎◌, inl, inr, Bool, true, false, eqb, List, [], ◌∷◌, ◌++◌, length, map, flat_map, get_or, nat_eq, position, slice_get, Option, Some, None, refl, sym, ap, subst, arith}
+use Rattle.std.proofs.Common.{◌≡◌, ◌∙◌, ℕ, zero, suc, ◌+◌, ◌<◌, ◌≤◌, ◌⊎◌, inl, inr, Bool, true, false, List, [], ◌∷◌, ◌++◌, length, map, get_or, nat_eq, position, slice_get, Option, Some, None, refl, sym, ap, subst, arith}
 use Rattle.std.specs.Option.{option_map}
-use Rattle.std.specs.Prelude.{◌==◌, ◌&&◌, if◌then◌else◌, is_none, is_some, option_and_then, IsTrue, IsFalse, IsNone, IfSome}
+use Rattle.std.specs.Prelude.{◌==◌, ◌&&◌, if◌then◌else◌, is_none, option_and_then, IsTrue, IsFalse, IsNone, IfSome}
 use Rattle.std.specs.List.{AllByRecursion}
 use Rattle.std.specs.Cmp.Lexicographic.{pointwise}
 use Rattle.std.proofs.lemmas.Bool.{eqb-true}
 use Rattle.std.proofs.lemmas.List.Quantifiers.{position-Some}
-use Rattle.std.proofs.lemmas.Option.{slice_get-get_or, slice_get_within}
+use Rattle.std.proofs.lemmas.Option.{slice_get-get_or}
 use Rattle.cc_defs.specs.declared.node.GroundHead.{GroundHead}
 use Rattle.cc_defs.specs.declared.node.GroundHead.TheVariants as heads
-use Rattle.cc_defs.specs.declared.node.Node.{Node}
 use Rattle.cc_defs.specs.declared.signature.Const.{Const}
 use Rattle.cc_defs.specs.declared.signature.Kind.TheVariants as kinds
 use Rattle.cc_defs.specs.declared.signature.LawKind.{LawKind}
@@ -20,7 +19,7 @@ use Rattle.cc_defs.specs.Declarations.{is_action, numbers_where}
 use Rattle.cc_defs.specs.Description.{domain_sizes}
 use Rattle.cc_defs.specs.Environments.{Instance, Under, Together, instances, instances_from, instances_of, pairs_of, environments}
 use Rattle.cc_defs.specs.Forms.{formula_symbols, is_action_at, is_action_symbol, is_simple, is_simple_at, is_simple_symbol, IsFluentFormula, IsFluentHead, IsSimpleHead, IsActionHead, IsOfKind, HasForm, HaveForms}
-use Rattle.cc_defs.specs.GroundLaws.{PlainGroundLaw, PlainGroundCondition, ground_condition, ground_head, ground_laws, ground_query, head_at, head_of_sides, law_of_instance, law_with, pair_law}
+use Rattle.cc_defs.specs.GroundLaws.{PlainGroundLaw, PlainGroundCondition, ground_condition, ground_head, ground_laws, ground_query, head_at, head_of_sides, law_of_instance, law_with}
 use Rattle.cc_defs.specs.Nodes.{Side, Constant, Value, Absent, side, constant_side, numbered_side, nodes_of, term_of}
 use Rattle.cc_defs.specs.Resolved.{Terms, Formula, Head, Law, BaseLaw, Condition, Query, terms_of}
 use Rattle.cc_defs.specs.Resolved as resolved
@@ -29,7 +28,7 @@ use Rattle.cc_defs.specs.Signatures.{ground_number}
 use Rattle.cc_defs.specs.Terms.{Fits, postfix, all_of}
 use Rattle.cc_defs.specs.Terms as terms
 use Rattle.cc_defs.specs.Universe.{Universe, boolean_actions, constants_in, is_boolean_action, is_boolean_symbol, objects_of, values_of, values_of_symbol}
-use Rattle.cc_arena.proofs.Each.{all_append, all_flat, all_got, all_map, all_since, each_fails}
+use Rattle.cc_arena.proofs.Each.{all_append, all_flat, all_got, all_map, each_fails}
 use Rattle.cc_arena.proofs.Fitting.{IsSized, index_below, fits_all, pair_fits, size_at, term_fits}
 
 both_hold : (a b : Bool) → (a && b) ≡ true → (a ≡ true) × (b ≡ true)

@@ -12,9 +12,9 @@ use Rattle.cc_defs.specs.declared.node.Node.{Node}
 use Rattle.cc_defs.specs.declared.node.Node.TheVariants as nodes
 use Rattle.cc_defs.specs.declared.signature.Const.{Const}
 use Rattle.cc_defs.specs.Description.{domain_sizes}
-use Rattle.cc_defs.specs.Environments.{Instance, Under, Together, instances, instances_from, instances_of, pairs_of, environments, choices, has_instance, passes, range_values}
+use Rattle.cc_defs.specs.Environments.{Instance, Under, Together, instances, instances_from, instances_of, pairs_of, choices, has_instance, passes, range_values}
 use Rattle.cc_defs.specs.GroundLaws.{PlainGroundLaw, ground_condition, ground_head, ground_laws, ground_query, head_at, head_of_sides, law_of_instance, law_with, pair_law}
-use Rattle.cc_defs.specs.Nodes.{Side, Constant, Value, Absent, side, value_side, constant_side, numbered_side, nodes_of, term_of}
+use Rattle.cc_defs.specs.Nodes.{Constant, Value, side, value_side, constant_side, numbered_side, nodes_of, term_of}
 use Rattle.cc_defs.specs.Resolved.{Term, Formula, Head, Law, BaseLaw, Condition, Query, terms_of}
 use Rattle.cc_defs.specs.Resolved as resolved
 use Rattle.cc_defs.specs.Satisfaction.{Environment, giving, constant_meant, has_value, head_is_there, value_given}
@@ -114,8 +114,7 @@ module _ (u : Universe) where
     under_has : (base : ℕ) (law : Law) (values : List ℕ) → IsTrue (has_instance u law values) → HasLaw (Under base law values)
     under_has base law values there =
         let env = giving values in
-        let found = head_has env law.head (both_hold (passes u law.test values) (head_is_there u env law.head) there).1 in
-        (
+        let found = head_has env law.head (both_hold (passes u law.test values) (head_is_there u env law.head) there).1 in (
           record {
             head = found.0;
             body = nodes_of u env law.body;

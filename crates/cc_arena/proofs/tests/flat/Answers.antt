@@ -11,8 +11,7 @@ loop-place-init c = (nothing, c.new-nodes.ensures.items, refl, subst (AllByRecur
 pub loop-place-preserved : goal.loop-place-preserved
 loop-place-preserved c =
     let h = c.loop-place.invariant in
-    let atom = nodes.Atom 0 c.if-place-odd.value in
-    (
+    let atom = nodes.Atom 0 c.if-place-odd.value in (
       and_then h.0 (Atom 0 c.if-place-odd.value),
       c.in_ok-push.ensures.items ∙ ap (λ front. front ++ (atom ∷ [])) h.1,
       omega (arith, h.2),
