@@ -1,13 +1,12 @@
 -- Ground laws and queries mean what they stand for, where the values of each constant are different.
 use Rattle.std.proofs.Common.{◌≡◌, ◌∙◌, ℕ, ◌+◌, ◌<◌, Bool, true, false, List, [], ◌∷◌, ◌++◌, length, map, flat_map, nat_eq, position, slice_get, cond, Option, Some, None, refl, sym, ap, subst}
 use Rattle.std.specs.Option.{option_map}
-use Rattle.std.specs.Prelude.{◌&&◌, ◌||◌, IsTrue, option_and_then}
+use Rattle.std.specs.Prelude.{◌&&◌, ◌||◌, IsTrue, is_some, option_and_then}
 use Rattle.std.specs.List.{AllByRecursion, AllZip, list_any, position_from}
 use Rattle.std.proofs.lemmas.Iterator.Adapters.{position_from-zero}
 use Rattle.std.proofs.lemmas.List.{length-map}
 use Rattle.std.proofs.lemmas.Option.{slice_get_within}
 use Rattle.cc_defs.specs.declared.node.GroundHead.{GroundHead}
-use Rattle.cc_defs.specs.declared.node.GroundHead.TheVariants as heads
 use Rattle.cc_defs.specs.declared.node.Node.{Node}
 use Rattle.cc_defs.specs.declared.node.Node.TheVariants as nodes
 use Rattle.cc_defs.specs.declared.signature.Const.{Const}
@@ -41,53 +40,62 @@ fit_names constants (nodes.All operands) fits = tt
 fit_names constants (nodes.Any operands) fits = tt
 fit_names constants nodes.Same fits = tt
 
--- ---- a head that is there has a ground head
+-- ---- a head is there exactly where it has a ground head
 
-at_place : (value : ℕ) (values : List ℕ) → list_any (nat_eq value) values ≡ true → (index : ℕ) × (position (nat_eq value) values ≡ Some index)
-at_place value values any = let at = place_from 0 values any in (at.0, position_from-zero (nat_eq value) values ∙ at.1)
-  where
-    here : (same : Bool) (n : ℕ) (rest : List ℕ) → (same || list_any (nat_eq value) rest) ≡ true → (list_any (nat_eq value) rest ≡ true → (index : ℕ) × (position_from (nat_eq value) (n + 1) rest ≡ Some index)) →
-        (index : ℕ) × (cond same (Some n) (position_from (nat_eq value) (n + 1) rest) ≡ Some index)
-    here true n rest any more = (n, refl)
-    here false n rest any more = more any
+-- whether there is a place of a value is whether it is among them
+place_from : (test : ℕ → Bool) (n : ℕ) (values : List ℕ) → list_any test values ≡ is_some (position_from test n values)
+place_from test n [] = refl
+place_from test n (value ∷ values) = elim (test value) as (λ here. (here || list_any test values) ≡ is_some (cond here (Some n) (position_from test (n + 1) values))) [
+  | true ↦ refl
+  | false ↦ place_from test (n + 1) values
+]
 
-    place_from : (n : ℕ) (values : List ℕ) → list_any (nat_eq value) values ≡ true → (index : ℕ) × (position_from (nat_eq value) n values ≡ Some index)
-    place_from n [] any = absurd cc
-    place_from n (other ∷ others) any = here (nat_eq value other) n others any (place_from (n + 1) others)
+any_place : (test : ℕ → Bool) (values : List ℕ) → list_any test values ≡ is_some (position test values)
+any_place test values = place_from test 0 values ∙ ap is_some (sym (position_from-zero test values))
+
+some_of : {X : Type 0} → (o : Option X) → is_some o ≡ true → (x : X) × (o ≡ Some x)
+some_of (Some x) e = (x, refl)
+some_of None e = absurd cc
 
 module _ (u : Universe) where
-  -- what is there of a head is a ground head
-  abbrev HasHead : Option GroundHead → Type 0
-  HasHead found = (head : GroundHead) × (found ≡ Some head)
+  at_place : (number : ℕ) (o : Option ℕ) → is_some o ≡ is_some (head_at number o)
+  at_place number (Some index) = refl
+  at_place number None = refl
 
-  object_has : (number : ℕ) (constant : Const) (value : ℕ) → has_value (Some constant) (Some value) ≡ true → HasHead (head_of_sides (Constant number constant.domain) (Value value))
-  object_has number constant value there =
-      let at = at_place value constant.domain there in
-      (heads.Atom number at.0, ap (head_at number) at.1)
+  module _ (number : ℕ) (constant : Const) (env : Environment) where
+    object_there : (value : ℕ) → has_value (Some constant) (Some value) ≡ is_some (head_of_sides (Constant number constant.domain) (Value value))
+    object_there value = any_place (nat_eq value) constant.domain ∙ at_place number (position (nat_eq value) constant.domain)
 
-  value_has : (number : ℕ) (constant : Const) (env : Environment) (value : Term) → has_value (Some constant) (value_given env value) ≡ true →
-      HasHead (head_of_sides (Constant number constant.domain) (side u env value))
-  value_has number constant env (resolved.Constant symbol args) there = absurd cc
-  value_has number constant env (resolved.Object object) there = object_has number constant object there
-  value_has number constant env (resolved.Variable variable) there = given (env variable) there
+    -- a constant is no value
+    none_there : (o : Option ℕ) → false ≡ is_some (head_of_sides (Constant number constant.domain) (numbered_side u o))
+    none_there None = refl
+    none_there (Some other) = at (slice_get (constants_in u) other)
+      where
+        at : (o : Option Const) → false ≡ is_some (head_of_sides (Constant number constant.domain) (constant_side other o))
+        at (Some another) = refl
+        at None = refl
+
+    value_there : (value : Term) → has_value (Some constant) (value_given env value) ≡ is_some (head_of_sides (Constant number constant.domain) (side u env value))
+    value_there (resolved.Constant symbol args) = none_there (constant_meant u env symbol args)
+    value_there (resolved.Object object) = object_there object
+    value_there (resolved.Variable variable) = given (env variable)
+      where
+        given : (o : Option ℕ) → has_value (Some constant) o ≡ is_some (head_of_sides (Constant number constant.domain) (value_side o))
+        given (Some value) = object_there value
+        given None = refl
+    value_there resolved.Nothing = object_there none_value
+
+  pub heads_there : (env : Environment) (head : Head) → head_is_there u env head ≡ is_some (ground_head u env head)
+  heads_there env resolved.Falsity = refl
+  heads_there env (resolved.Atom symbol args value) = of_number (constant_meant u env symbol (terms_of args))
     where
-      given : (o : Option ℕ) → has_value (Some constant) o ≡ true → HasHead (head_of_sides (Constant number constant.domain) (value_side o))
-      given (Some value) there = object_has number constant value there
-      given None there = absurd cc
-  value_has number constant env resolved.Nothing there = object_has number constant none_value there
+      of_constant : (number : ℕ) (o : Option Const) → has_value o (value_given env value) ≡ is_some (head_of_sides (constant_side number o) (side u env value))
+      of_constant number (Some constant) = value_there number constant env value
+      of_constant number None = refl
 
-  head_has : (env : Environment) (head : Head) → head_is_there u env head ≡ true → HasHead (ground_head u env head)
-  head_has env resolved.Falsity there = (heads.Falsity, refl)
-  head_has env (resolved.Atom symbol args value) there = of_number (constant_meant u env symbol (terms_of args)) there
-    where
-      of_constant : (number : ℕ) (o : Option Const) → has_value o (value_given env value) ≡ true → HasHead (head_of_sides (constant_side number o) (side u env value))
-      of_constant number (Some constant) there = value_has number constant env value there
-      of_constant number None there = absurd cc
-
-      of_number : (o : Option ℕ) → has_value (option_and_then (λ number. slice_get (constants_in u) number) o) (value_given env value) ≡ true →
-          HasHead (head_of_sides (numbered_side u o) (side u env value))
-      of_number (Some number) there = of_constant number (slice_get (constants_in u) number) there
-      of_number None there = absurd cc
+      of_number : (o : Option ℕ) → has_value (option_and_then (λ number. slice_get (constants_in u) number) o) (value_given env value) ≡ is_some (head_of_sides (numbered_side u o) (side u env value))
+      of_number (Some number) = of_constant number (slice_get (constants_in u) number)
+      of_number None = refl
 
   module _ (own : HaveOwnValues u) where
     pub means : (env : Environment) (formula : Formula) → Means u env formula (nodes_of u env formula)
@@ -114,7 +122,7 @@ module _ (u : Universe) where
     under_has : (base : ℕ) (law : Law) (values : List ℕ) → IsTrue (has_instance u law values) → HasLaw (Under base law values)
     under_has base law values there =
         let env = giving values in
-        let found = head_has env law.head (both_hold (passes u law.test values) (head_is_there u env law.head) there).1 in (
+        let found = some_of (ground_head u env law.head) (sym (heads_there env law.head) ∙ (both_hold (passes u law.test values) (head_is_there u env law.head) there).1) in (
           record {
             head = found.0;
             body = nodes_of u env law.body;

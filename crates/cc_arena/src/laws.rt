@@ -1,5 +1,5 @@
 //! Laws of ground laws and queries, each the contract of a function that does nothing.
-ghost use Rattle.cc_arena.specs.Laws.{FluentTermsFit, GroundLawsFit, GroundLawsMeanLaws, GroundQueriesFit, GroundQueriesMeanQueries, HeadsMeanHeads, TermsMeanFormulas};
+ghost use Rattle.cc_arena.specs.Laws.{FluentTermsFit, GroundLawsFit, GroundLawsMeanLaws, GroundQueriesFit, GroundQueriesMeanQueries, HeadsMeanHeads, HeadsThereAreGround, TermsMeanFormulas};
 
 /// The term of a formula under an environment is true where the formula is, for every valuation.
 pub fn terms_mean_formulas()
@@ -9,6 +9,11 @@ pub fn terms_mean_formulas()
 /// The head of a ground law is true where the law's head is.
 pub fn heads_mean_heads()
     ensures { HeadsMeanHeads }
+{}
+
+/// A head is there exactly where it has a ground head.
+pub fn heads_there_are_ground()
+    ensures { HeadsThereAreGround }
 {}
 
 /// The ground laws of base laws mean these: there is one for each instance, in order.
