@@ -5,8 +5,8 @@ use Rattle.std.proofs.lemmas.Bool.Decides.{nat_tests}
 use Rattle.std.specs.Bool.{beq}
 use Rattle.cc_defs.specs.declared.node.Node.{Node}
 use Rattle.cc_defs.specs.declared.node.Node.TheVariants as nodes
-use Rattle.cc_arena.specs.Terms.{Ground, Truth, Falsehood, Atom, Not, All, Any, Same, Operands, nothing, and_then, operand_count, postfix, postfixes, truth, all_true, any_true, NamesBelow, AllNameBelow}
-use Rattle.cc_arena.specs.Walks.{arity, decision, NodeNamesBelow}
+use Rattle.cc_defs.specs.Terms.{Ground, Truth, Falsehood, Atom, Not, All, Any, Same, Operands, nothing, and_then, operand_count, postfix, postfixes, truth, all_true, any_true}
+use Rattle.cc_arena.specs.Walks.{arity, decision}
 
 -- the last node of a formula
 abbrev pub top : Ground → Node
@@ -103,9 +103,9 @@ mutual
   postfixes_are_one (and_then a f) = one_more a f (postfixes_are_one a) (postfix_is_one f)
 
 -- how many operands are true
-abbrev pub true_count : List ℕ → Operands → ℕ
-true_count constants nothing = 0
-true_count constants (and_then a f) = true_count constants a + from_bool (truth constants f)
+abbrev pub true_count : (ℕ → ℕ) → Operands → ℕ
+true_count valuation nothing = 0
+true_count valuation (and_then a f) = true_count valuation a + from_bool (truth valuation f)
 
 -- a test of one or two operands, by the number of the true ones
 not_counts : (x : Bool) → not x ≡ (0 + from_bool x == 0)
@@ -135,34 +135,24 @@ pub from_bool-le : (x : Bool) → from_bool x ≤ 1
 from_bool-le true = omega arith
 from_bool-le false = omega arith
 
-true_count-le : (constants : List ℕ) (a : Operands) → true_count constants a ≤ operand_count a
-true_count-le constants nothing = omega arith
-true_count-le constants (and_then a f) = omega (arith, true_count-le constants a, from_bool-le (truth constants f))
+true_count-le : (valuation : ℕ → ℕ) (a : Operands) → true_count valuation a ≤ operand_count a
+true_count-le valuation nothing = omega arith
+true_count-le valuation (and_then a f) = omega (arith, true_count-le valuation a, from_bool-le (truth valuation f))
 
-all_counts : (constants : List ℕ) (a : Operands) → all_true constants a ≡ (true_count constants a == operand_count a)
-all_counts constants nothing = refl
-all_counts constants (and_then a f) = all_counts_more (operand_count a) (true_count constants a) (all_true constants a) (truth constants f) (true_count-le constants a) (all_counts constants a)
+all_counts : (valuation : ℕ → ℕ) (a : Operands) → all_true valuation a ≡ (true_count valuation a == operand_count a)
+all_counts valuation nothing = refl
+all_counts valuation (and_then a f) = all_counts_more (operand_count a) (true_count valuation a) (all_true valuation a) (truth valuation f) (true_count-le valuation a) (all_counts valuation a)
 
-any_counts : (constants : List ℕ) (a : Operands) → any_true constants a ≡ not (true_count constants a == 0)
-any_counts constants nothing = refl
-any_counts constants (and_then a f) = any_counts_more (true_count constants a) (any_true constants a) (truth constants f) (any_counts constants a)
+any_counts : (valuation : ℕ → ℕ) (a : Operands) → any_true valuation a ≡ not (true_count valuation a == 0)
+any_counts valuation nothing = refl
+any_counts valuation (and_then a f) = any_counts_more (true_count valuation a) (any_true valuation a) (truth valuation f) (any_counts valuation a)
 
 -- the last node and the number of the operands that are true decide
-pub truth_is_decided : (constants : List ℕ) (f : Ground) → truth constants f ≡ decision constants (top f) (true_count constants (below f))
-truth_is_decided constants Truth = refl
-truth_is_decided constants Falsehood = refl
-truth_is_decided constants (Atom c v) = refl
-truth_is_decided constants (Not f) = not_counts (truth constants f)
-truth_is_decided constants (All a) = all_counts constants a
-truth_is_decided constants (Any a) = any_counts constants a
-truth_is_decided constants (Same f g) = same_counts (truth constants f) (truth constants g)
-
--- the constants that the last node and the operands name are those that the formula names
-pub names_of_parts : (count : ℕ) (f : Ground) → NamesBelow count f → NodeNamesBelow count (top f) × AllNameBelow count (below f)
-names_of_parts count Truth h = (tt, tt)
-names_of_parts count Falsehood h = (tt, tt)
-names_of_parts count (Atom c v) h = (h, tt)
-names_of_parts count (Not f) h = (tt, (tt, h))
-names_of_parts count (All a) h = (tt, h)
-names_of_parts count (Any a) h = (tt, h)
-names_of_parts count (Same f g) h = (tt, ((tt, h.0), h.1))
+pub truth_is_decided : (valuation : ℕ → ℕ) (f : Ground) → truth valuation f ≡ decision valuation (top f) (true_count valuation (below f))
+truth_is_decided valuation Truth = refl
+truth_is_decided valuation Falsehood = refl
+truth_is_decided valuation (Atom c v) = refl
+truth_is_decided valuation (Not f) = not_counts (truth valuation f)
+truth_is_decided valuation (All a) = all_counts valuation a
+truth_is_decided valuation (Any a) = any_counts valuation a
+truth_is_decided valuation (Same f g) = same_counts (truth valuation f) (truth valuation g)

@@ -1,5 +1,7 @@
+pub mod Each
+pub mod Fitting
+pub mod FittingLaws
 pub mod Formulas
 pub mod Meaning
-pub mod NamesOfTerms
 pub mod Truths
 pub mod Walking

@@ -1,17 +1,17 @@
 -- A walk over a term from its end: what holds between two operands, and what follows at the last.
-use Rattle.std.proofs.Common.{◌≡◌, ℕ, ◌+◌, ◌-◌, ◌<◌, ◌≤◌, Bool, List, [], ◌∷◌, ◌++◌, length, take, drop, get_or, refl, ap, sym, subst, ◌∙◌, append_assoc, length-append, arith}
+use Rattle.std.proofs.Common.{◌≡◌, ℕ, ◌+◌, ◌-◌, ◌<◌, ◌≤◌, Bool, List, [], ◌∷◌, ◌++◌, length, take, drop, get_or, refl, ap, sym, ◌∙◌, append_assoc, length-append, arith}
 use Rattle.std.specs.Int.{from_bool}
 use Rattle.std.proofs.Math.Seq.{take-append_seam, get_or-append_seam}
 use Rattle.std.proofs.lemmas.List.{take-append-drop, length-take-le}
 use Rattle.cc_defs.specs.declared.node.Node.{Node}
 use Rattle.cc_defs.specs.declared.node.Node.TheVariants as nodes
-use Rattle.cc_arena.specs.Terms.{Ground, Operands, nothing, and_then, operand_count, postfix, postfixes, truth, AllNameBelow}
-use Rattle.cc_arena.specs.Walks.{arity, decision, NodeNamesBelow, EndsOperand, IsWalked}
-use Rattle.cc_arena.proofs.Formulas.{top, below, splits_after, count_is_arity, postfixes_are_one, true_count, truth_is_decided, names_of_parts}
+use Rattle.cc_defs.specs.Terms.{Ground, Operands, nothing, and_then, operand_count, postfix, postfixes, truth}
+use Rattle.cc_arena.specs.Walks.{arity, decision, EndsOperand, IsWalked}
+use Rattle.cc_arena.proofs.Formulas.{top, below, splits_after, count_is_arity, postfixes_are_one, true_count, truth_is_decided}
 
 -- Before the operand that ends at `at`: `done` operands are walked, and `trues` of them are true. The operands of the
 -- node at `whole` begin behind `prefix`.
-pub record Midway (constants : List ℕ) (term : List Node) (whole at count done trues : ℕ) : Type 0 where
+pub record Midway (valuation : ℕ → ℕ) (term : List Node) (whole at count done trues : ℕ) : Type 0 where
   pub prefix : List Node
   pub operands : Operands
   pub left : Operands
@@ -19,8 +19,7 @@ pub record Midway (constants : List ℕ) (term : List Node) (whole at count done
   pub counted : operand_count operands ≡ count
   pub reads_left : take at term ≡ prefix ++ postfixes left
   pub counted_left : operand_count left + done ≡ count
-  pub trues_left : true_count constants left + trues ≡ true_count constants operands
-  pub named : AllNameBelow (length constants) left
+  pub trues_left : true_count valuation left + trues ≡ true_count valuation operands
 
 -- a list that begins with xs ++ ys has xs before the length of xs
 front_of_take : {A : Type 0} → (l : List A) (end at : ℕ) (xs ys : List A) → take end l ≡ xs ++ ys → at ≡ length xs → take at l ≡ xs
@@ -57,8 +56,8 @@ node_here term end prefix formula h e =
     }
 
 -- before the first operand that is walked, none of them are walked
-pub begins : (constants : List ℕ) (term : List Node) (end : ℕ) → EndsOperand (length constants) term end → end ≤ length term → Midway constants term (end - 1) (end - 1) (arity (get_or term (end - 1) nodes.True)) 0 0
-begins constants term end (prefix, formula, e, named) h =
+pub begins : (valuation : ℕ → ℕ) (term : List Node) (end : ℕ) → EndsOperand term end → end ≤ length term → Midway valuation term (end - 1) (end - 1) (arity (get_or term (end - 1) nodes.True)) 0 0
+begins valuation term end (prefix, formula, e) h =
     let here = node_here term end prefix formula h e in
     let counted : operand_count (below formula) ≡ arity (get_or term (end - 1) nodes.True) = count_is_arity formula ∙ ap arity (sym here.node) in
     record {
@@ -70,14 +69,11 @@ begins constants term end (prefix, formula, e, named) h =
       reads_left = here.reads;
       counted_left = omega arith;
       trues_left = omega arith;
-      named = (names_of_parts (length constants) formula named).1;
     }
 
--- there is a last node, and the constant that it names is there
-pub node_names : (constants : List ℕ) (term : List Node) (end : ℕ) → EndsOperand (length constants) term end → end ≤ length term → (0 < end) × NodeNamesBelow (length constants) (get_or term (end - 1) nodes.True)
-node_names constants term end (prefix, formula, e, named) h =
-    let here = node_here term end prefix formula h e in
-    (here.some, subst (NodeNamesBelow (length constants)) (sym here.node) (names_of_parts (length constants) formula named).0)
+-- there is a last node
+pub has_node : (term : List Node) (end : ℕ) → EndsOperand term end → end ≤ length term → 0 < end
+has_node term end (prefix, formula, e) h = (node_here term end prefix formula h e).some
 
 -- one more operand, where the operands that are left are known
 pub record Next (term prefix : List Node) (at : ℕ) (left : Operands) : Type 0 where
@@ -92,19 +88,19 @@ next term prefix at done count nothing n h e = absurd (omega arith)
 next term prefix at done count (and_then front last) n h e = record { front = front; last = last; is = refl; reads = e ∙ sym (append_assoc prefix (postfixes front) (postfix last)) }
 
 -- so the next operand may be walked
-pub next_ends : {constants : List ℕ} {term : List Node} {whole at count done trues : ℕ} → Midway constants term whole at count done trues → done < count → EndsOperand (length constants) term at
-next_ends {constants} {term} {whole} {at} {count} {done} {trues} m h =
+pub next_ends : {valuation : ℕ → ℕ} {term : List Node} {whole at count done trues : ℕ} → Midway valuation term whole at count done trues → done < count → EndsOperand term at
+next_ends {valuation} {term} {whole} {at} {count} {done} {trues} m h =
     let n = next term m.prefix at done count m.left m.counted_left h m.reads_left in
-    (m.prefix ++ postfixes n.front, n.last, n.reads, (subst (AllNameBelow (length constants)) n.is m.named).1)
+    (m.prefix ++ postfixes n.front, n.last, n.reads)
 
 -- a walk over it leads on to the one before it
-pub steps : {constants : List ℕ} {term : List Node} {whole at count done trues : ℕ} → Midway constants term whole at count done trues → done < count → (holds : Bool) (start : ℕ) → IsWalked term constants at holds start → (added : ℕ) → added ≡ from_bool holds → Midway constants term whole start count (done + 1) (trues + added)
-steps {constants} {term} {whole} {at} {count} {done} {trues} m h holds start walked added added_is =
+pub steps : {valuation : ℕ → ℕ} {term : List Node} {whole at count done trues : ℕ} → Midway valuation term whole at count done trues → done < count → (holds : Bool) (start : ℕ) → IsWalked term valuation at holds start → (added : ℕ) → added ≡ from_bool holds → Midway valuation term whole start count (done + 1) (trues + added)
+steps {valuation} {term} {whole} {at} {count} {done} {trues} m h holds start walked added added_is =
     let n = next term m.prefix at done count m.left m.counted_left h m.reads_left in
     let w = walked (m.prefix ++ postfixes n.front) n.last n.reads in
     let counts : operand_count m.left ≡ operand_count n.front + 1 = ap operand_count n.is in
-    let trues_of : true_count constants m.left ≡ true_count constants n.front + from_bool (truth constants n.last) = ap (true_count constants) n.is in
-    let holds_is : from_bool holds ≡ from_bool (truth constants n.last) = ap from_bool w.0 in
+    let trues_of : true_count valuation m.left ≡ true_count valuation n.front + from_bool (truth valuation n.last) = ap (true_count valuation) n.is in
+    let holds_is : from_bool holds ≡ from_bool (truth valuation n.last) = ap from_bool w.0 in
     record {
       prefix = m.prefix;
       operands = m.operands;
@@ -114,12 +110,11 @@ steps {constants} {term} {whole} {at} {count} {done} {trues} m h holds start wal
       reads_left = front_of_take term at start (m.prefix ++ postfixes n.front) (postfix n.last) n.reads w.1;
       counted_left = omega (arith, m.counted_left);
       trues_left = omega (arith, m.trues_left);
-      named = (subst (AllNameBelow (length constants)) n.is m.named).0;
     }
 
 -- and it begins no later than it ends
-pub start_le : {constants : List ℕ} {term : List Node} {whole at count done trues : ℕ} → Midway constants term whole at count done trues → done < count → (holds : Bool) (start : ℕ) → IsWalked term constants at holds start → at ≤ length term → start ≤ at
-start_le {constants} {term} {whole} {at} {count} {done} {trues} m h holds start walked k =
+pub start_le : {valuation : ℕ → ℕ} {term : List Node} {whole at count done trues : ℕ} → Midway valuation term whole at count done trues → done < count → (holds : Bool) (start : ℕ) → IsWalked term valuation at holds start → at ≤ length term → start ≤ at
+start_le {valuation} {term} {whole} {at} {count} {done} {trues} m h holds start walked k =
     let n = next term m.prefix at done count m.left m.counted_left h m.reads_left in
     let w = walked (m.prefix ++ postfixes n.front) n.last n.reads in
     omega (arith, w.1, length_of_take term at (m.prefix ++ postfixes n.front) (postfix n.last) k n.reads)
@@ -130,12 +125,12 @@ none_left nothing e = refl
 none_left (and_then a f) e = absurd (omega arith)
 
 -- where all of them are walked, the node and the number of the true ones decide for each formula that ends here
-pub ends : {constants : List ℕ} {term : List Node} {end at done trues : ℕ} → Midway constants term (end - 1) at (arity (get_or term (end - 1) nodes.True)) done trues → arity (get_or term (end - 1) nodes.True) ≤ done → end ≤ length term → at ≤ length term → IsWalked term constants end (decision constants (get_or term (end - 1) nodes.True) trues) at
-ends {constants} {term} {end} {at} {done} {trues} m h within at_within prefix formula e =
+pub ends : {valuation : ℕ → ℕ} {term : List Node} {end at done trues : ℕ} → Midway valuation term (end - 1) at (arity (get_or term (end - 1) nodes.True)) done trues → arity (get_or term (end - 1) nodes.True) ≤ done → end ≤ length term → at ≤ length term → IsWalked term valuation end (decision valuation (get_or term (end - 1) nodes.True) trues) at
+ends {valuation} {term} {end} {at} {done} {trues} m h within at_within prefix formula e =
     let here = node_here term end prefix formula within e in
     let none = none_left m.left (omega (arith, m.counted_left)) in
     let counts : operand_count m.operands ≡ operand_count (below formula) = m.counted ∙ ap arity here.node ∙ sym (count_is_arity formula) in
     let same = postfixes_are_one m.operands m.prefix prefix (below formula) counts (sym m.reads ∙ here.reads) in
-    let trues_are : trues ≡ true_count constants (below formula) = omega (arith, m.trues_left, ap (true_count constants) none, ap (true_count constants) same.1) in
+    let trues_are : trues ≡ true_count valuation (below formula) = omega (arith, m.trues_left, ap (true_count valuation) none, ap (true_count valuation) same.1) in
     let begin : at ≡ length m.prefix + 0 = length_of_take term at m.prefix [] at_within (m.reads_left ∙ ap (λ left. m.prefix ++ postfixes left) none) in
-    (ap (λ node. decision constants node trues) here.node ∙ ap (decision constants (top formula)) trues_are ∙ sym (truth_is_decided constants formula), omega (arith, begin, ap length same.0))
+    (ap (λ node. decision valuation node trues) here.node ∙ ap (decision valuation (top formula)) trues_are ∙ sym (truth_is_decided valuation formula), omega (arith, begin, ap length same.0))

@@ -1,6 +1,4 @@
-pub mod Grounding
+pub mod GroundViews
 pub mod Laws
 pub mod Meanings
-pub mod Nodes
-pub mod Terms
 pub mod Walks

@@ -1,8 +1,8 @@
 -- What a walk over a term from its end reads: a node, and the number of its operands that are true.
-use Rattle.std.specs.Prelude.{◌≡◌, ℕ, ◌<◌, Bool, true, false, not, ◌==◌, List, ◌++◌, length, slice_index, take}
+use Rattle.std.specs.Prelude.{◌≡◌, ℕ, Bool, true, false, not, ◌==◌, List, ◌++◌, length, take}
 use Rattle.cc_defs.specs.declared.node.Node.{Node}
 use Rattle.cc_defs.specs.declared.node.Node.TheVariants as nodes
-use Rattle.cc_arena.specs.Terms.{Ground, postfix, truth, NamesBelow}
+use Rattle.cc_defs.specs.Terms.{Ground, postfix, truth}
 
 -- how many operands stand before a node
 abbrev pub arity : Node → ℕ
@@ -15,29 +15,24 @@ arity (nodes.Any count) = count
 arity nodes.Same = 2
 
 -- the truth of a node so many of whose operands are true
-abbrev pub decision : List ℕ → Node → ℕ → Bool
-decision constants nodes.True trues = true
-decision constants nodes.False trues = false
-decision constants (nodes.Atom constant value) trues = slice_index constants constant == value
-decision constants nodes.Not trues = trues == 0
-decision constants (nodes.All count) trues = trues == count
-decision constants (nodes.Any count) trues = not (trues == 0)
-decision constants nodes.Same trues = not (trues == 1)
+abbrev pub decision : (ℕ → ℕ) → Node → ℕ → Bool
+decision valuation nodes.True trues = true
+decision valuation nodes.False trues = false
+decision valuation (nodes.Atom constant value) trues = valuation constant == value
+decision valuation nodes.Not trues = trues == 0
+decision valuation (nodes.All count) trues = trues == count
+decision valuation (nodes.Any count) trues = not (trues == 0)
+decision valuation nodes.Same trues = not (trues == 1)
 
--- the constant that a node names is among these
-abbrev pub NodeNamesBelow : ℕ → Node → Type 0
-NodeNamesBelow count nodes.True = Unit {0}
-NodeNamesBelow count nodes.False = Unit {0}
-NodeNamesBelow count (nodes.Atom constant value) = constant < count
-NodeNamesBelow count nodes.Not = Unit {0}
-NodeNamesBelow count (nodes.All operands) = Unit {0}
-NodeNamesBelow count (nodes.Any operands) = Unit {0}
-NodeNamesBelow count nodes.Same = Unit {0}
-
--- the nodes of a formula whose constants are below this number end here
-abbrev pub EndsOperand : ℕ → List Node → ℕ → Type 0
-EndsOperand count term end = (prefix : List Node) × (formula : Ground) × (take end term ≡ prefix ++ postfix formula) × NamesBelow count formula
+-- the nodes of a formula end here
+abbrev pub EndsOperand : List Node → ℕ → Type 0
+EndsOperand term end = (prefix : List Node) × (formula : Ground) × (take end term ≡ prefix ++ postfix formula)
 
 -- each formula whose nodes end here has this truth, and its nodes begin there
-abbrev pub IsWalked : List Node → List ℕ → ℕ → Bool → ℕ → Type 0
-IsWalked term constants end result begin = (prefix : List Node) → (formula : Ground) → take end term ≡ prefix ++ postfix formula → (result ≡ truth constants formula) × (begin ≡ length prefix)
+abbrev pub IsWalked : List Node → (ℕ → ℕ) → ℕ → Bool → ℕ → Type 0
+IsWalked term valuation end result begin =
+    (prefix : List Node) → (formula : Ground) → take end term ≡ prefix ++ postfix formula → (result ≡ truth valuation formula) × (begin ≡ length prefix)
+
+-- a term is written of one formula
+abbrev pub OneFormula : Type 0
+OneFormula = (first second : Ground) → postfix first ≡ postfix second → first ≡ second

@@ -1,15 +1,8 @@
 //! Ground laws and queries, whose terms lie in an arena.
 ghost use Rattle.std.specs.Prelude.{◌≡◌};
 
-use cc_defs::{At, LawKind, Node};
-
-/// The head of a ground law.
-#[derive(Clone, Copy, Debug, PartialEq, Eq)]
-pub enum GroundHead {
-    /// The ground constant of this number has the value of this index in its domain.
-    Atom { constant: u32, value: u32 },
-    Falsity,
-}
+use cc_defs::{At, GroundHead, LawKind, List, Node};
+use std::marker::Model;
 
 /// A ground law. `after` is there exactly for a fluent dynamic law; `base` is the number of the law that it is an
 /// instance of.
@@ -29,34 +22,12 @@ pub struct GroundCondition<'a> {
     pub nodes: &'a [Node],
 }
 
-/// Conditions at steps, in order.
-#[derive(Drop)]
-pub struct GroundConditions<'a> {
-    conditions: Vec<GroundCondition<'a>>,
-}
-
-impl<'a> GroundConditions<'a> {
-    /// These conditions.
-    pub fn of(conditions: Vec<GroundCondition<'a>>) -> GroundConditions<'a>
-        ensures { result.conditions ≡ conditions.entry }
-    {
-        GroundConditions { conditions }
-    }
-
-    /// The conditions, in order.
-    pub fn items(&self) -> &[GroundCondition<'a>]
-        ensures { result.now ≡ self.now.conditions.items }
-    {
-        self.conditions.as_slice()
-    }
-}
-
 /// A query: the horizons that are tried, and the conditions and the claim at their steps.
 #[derive(Drop)]
 pub struct GroundQuery<'a> {
     pub lo: u32,
     pub hi: u32,
-    pub conditions: GroundConditions<'a>,
+    pub conditions: List<GroundCondition<'a>>,
     pub claim: Option<GroundCondition<'a>>,
 }
 
@@ -66,17 +37,26 @@ pub struct Laws<'a> {
     laws: Vec<GroundLaw<'a>>,
 }
 
+impl<'a> Model for Laws<'a> {
+    ghost use Rattle.std.specs.Prelude.{List as Items};
+    ghost use Rattle.cc_arena.specs.declared.ground_laws.GroundLaw.{GroundLaw as Ground};
+
+    ghost Value = { Items Ground };
+
+    ghost view = { λ value. value.laws.items };
+}
+
 impl<'a> Laws<'a> {
     /// These laws.
     pub fn of(laws: Vec<GroundLaw<'a>>) -> Laws<'a>
-        ensures { result.laws ≡ laws.entry }
+        ensures { result ≡ laws.entry.items }
     {
         Laws { laws }
     }
 
     /// The laws, in order.
     pub fn laws(&self) -> &[GroundLaw<'a>]
-        ensures { result.now ≡ self.now.laws.items }
+        ensures { result.now ≡ self.now }
     {
         self.laws.as_slice()
     }

@@ -1,18 +1,22 @@
-//! Laws of grounding, each the contract of a function that does nothing, or calls the laws that it rests on.
-ghost use Rattle.cc_arena.specs.Laws.{GroundLawsMeanLaws, GroundQueriesMeanQueries, HeadsMeanHeads, TermsMeanFormulas};
+//! Laws of ground laws and queries, each the contract of a function that does nothing.
+ghost use Rattle.cc_arena.specs.Laws.{FluentTermsFit, GroundLawsFit, GroundLawsMeanLaws, GroundQueriesFit, GroundQueriesMeanQueries, HeadsMeanHeads, HeadsThereAreGround, TermsMeanFormulas};
 
 /// The term of a formula under an environment is true where the formula is, for every valuation.
 pub fn terms_mean_formulas()
     ensures { TermsMeanFormulas }
 {}
 
-/// The head of an instance is true where the law's head is.
+/// The head of a ground law is true where the law's head is.
 pub fn heads_mean_heads()
     ensures { HeadsMeanHeads }
 {}
 
-/// The ground laws of base laws mean these: there is one for each environment under which a law has a head, and one for each
-/// two Boolean actions of `noconcurrency`, in order.
+/// A head is there exactly where it has a ground head.
+pub fn heads_there_are_ground()
+    ensures { HeadsThereAreGround }
+{}
+
+/// The ground laws of base laws mean these: there is one for each instance, in order.
 pub fn ground_laws_mean_laws()
     ensures { GroundLawsMeanLaws }
 {}
@@ -20,4 +24,20 @@ pub fn ground_laws_mean_laws()
 /// The conditions and the claim of a ground query mean those of the query.
 pub fn ground_queries_mean_queries()
     ensures { GroundQueriesMeanQueries }
+{}
+
+/// The term of a fluent formula is one of fluents.
+pub fn fluent_terms_fit()
+    ensures { FluentTermsFit }
+{}
+
+/// The ground laws of base laws that have the forms of their kinds have these forms too: their heads and terms are of
+/// fluents or of actions as theirs are, and each value index is below the number of its constant's values.
+pub fn ground_laws_fit()
+    ensures { GroundLawsFit }
+{}
+
+/// The terms of a ground query are of ground constants, with value indexes that these have.
+pub fn ground_queries_fit()
+    ensures { GroundQueriesFit }
 {}

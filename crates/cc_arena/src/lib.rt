@@ -7,7 +7,5 @@ mod terms;
 #[cfg(test)]
 mod tests;
 
-pub use ground_laws::{
-    GroundCondition, GroundConditions, GroundHead, GroundLaw, GroundQuery, Laws,
-};
+pub use ground_laws::{GroundCondition, GroundLaw, GroundQuery, Laws};
 pub use terms::{Terms, one_formula, value};

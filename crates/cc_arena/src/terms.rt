@@ -1,7 +1,8 @@
 //! Ground terms in an arena, and their truth.
-ghost use Rattle.std.specs.Prelude.{◌≡◌, ℕ, ◌<◌, ◌≤◌, length, IfOk};
-ghost use Rattle.cc_arena.specs.Terms.{IsTerm, HasTruth, OneFormula};
-ghost use Rattle.cc_arena.specs.Walks.{arity, decision, NodeNamesBelow, EndsOperand, IsWalked};
+ghost use Rattle.std.specs.Prelude.{◌≡◌, ◌≤◌, length, slice_index, IfOk};
+ghost use Rattle.std.specs.List.{AllByRecursion};
+ghost use Rattle.cc_arena.specs.Walks.{arity, decision, EndsOperand, IsWalked, OneFormula};
+ghost use Rattle.cc_defs.specs.Terms.{IsTerm, HasTruth, NamesBelow};
 
 use bumpalo::Bump;
 use cc_defs::{Node, OutOfMemory};
@@ -30,7 +31,7 @@ impl<'a> Terms<'a> {
 /// stack, as deep as the term is nested: it walks from the term's last node to its first.
 pub fn value(term: &[Node], constants: &[u32]) -> bool
     requires { IsTerm (length constants.now) term.now }
-    ensures { HasTruth term.now constants.now result }
+    ensures { HasTruth term.now (λ number. slice_index constants.now number) result }
 {
     walk(term, term.len(), constants).0
 }
@@ -38,9 +39,10 @@ pub fn value(term: &[Node], constants: &[u32]) -> bool
 // The truth of the formula whose nodes end before `end`, and where they begin. Each operand is walked, also where the
 // first of them decide, since only a walk finds where an operand begins.
 fn walk(term: &[Node], end: usize, constants: &[u32]) -> (bool, usize)
-    requires ends { EndsOperand (length constants.now) term.now end }
+    requires ends { EndsOperand term.now end }
     requires within { end ≤ length term.now }
-    ensures { IsWalked term.now constants.now end result.0 result.1 }
+    requires names { AllByRecursion (NamesBelow (length constants.now)) term.now }
+    ensures { IsWalked term.now (λ number. slice_index constants.now number) end result.0 result.1 }
 {
     let mut begin = end - 1;
     let node = term[begin];
@@ -67,8 +69,8 @@ fn operands_of(node: Node) -> u32
 
 // The truth of a node so many of whose operands are true.
 fn decides(node: Node, trues: u32, constants: &[u32]) -> bool
-    requires { NodeNamesBelow (length constants.now) node }
-    ensures { result ≡ decision constants.now node trues }
+    requires { NamesBelow (length constants.now) node }
+    ensures { result ≡ decision (λ number. slice_index constants.now number) node trues }
 {
     match node {
         Node::True => true,

@@ -1,10 +1,10 @@
 //! What no clause says: that the truth of each kind of node is the one that is meant, and that long and deep terms run.
 ghost use Rattle.std.specs.Prelude.{IfOk};
-ghost use Rattle.cc_arena.specs.Terms.{IsTerm};
+ghost use Rattle.cc_defs.specs.Terms.{IsTerm};
 
-use crate::{GroundCondition, GroundConditions, GroundHead, GroundLaw, Laws, Terms, value};
+use crate::{GroundCondition, GroundLaw, GroundQuery, Laws, Terms, value};
 use bumpalo::Bump;
-use cc_defs::{At, LawKind, Node};
+use cc_defs::{At, GroundHead, LawKind, List, Node};
 use std::alloc::{AllocError, Global};
 use std::test::Fail;
 
@@ -127,7 +127,12 @@ fn placed_terms_outlive_their_source(rt: HostRuntime) -> Result<(), Fail> {
         at: At::Number(2),
         nodes: body,
     };
-    let conditions = GroundConditions::of(vec![in rt.alloc(); condition]?);
-    assert_eq!(rt; conditions.items().len(), 1);
+    let query = GroundQuery {
+        lo: 0,
+        hi: 2,
+        conditions: List::of(vec![in rt.alloc(); condition]?),
+        claim: None,
+    };
+    assert_eq!(rt; query.conditions.items().len(), 1);
     Ok(())
 }

@@ -1,5 +1,5 @@
 -- What is true of the ground laws and queries that a grounder makes, and what the theory of a horizon asks of them.
-use Rattle.std.specs.Prelude.{◌≡◌, ℕ, ◌+◌, ◌<◌, ◌≤◌, List, length, slice_get, Option, Some, None, IsTrue, IsFalse, IsNone, IfSome}
+use Rattle.std.specs.Prelude.{◌≡◌, ℕ, ◌+◌, ◌<◌, ◌≤◌, List, ◌∷◌, length, slice_get, Option, Some, None, IsTrue, IsFalse, IsNone, IfSome}
 use Rattle.std.specs.List.{AllByRecursion}
 use Rattle.cc_defs.specs.declared.node.GroundHead.{GroundHead}
 use Rattle.cc_defs.specs.declared.node.GroundHead.TheVariants as heads
@@ -14,7 +14,7 @@ use Rattle.cc_defs.specs.Forms.{is_simple}
 use Rattle.cc_defs.specs.GroundLaws.{PlainGroundLaw, PlainGroundCondition, PlainGroundQuery}
 use Rattle.cc_defs.specs.Signatures.{Signature}
 use Rattle.cc_defs.specs.Terms.{IsTermOver}
-use Rattle.cc_defs.specs.Universe.{Universe, constants_in}
+use Rattle.cc_defs.specs.Universe.{Universe, constants_in, objects_of, values_of}
 
 -- ---- constants and kinds
 
@@ -27,6 +27,12 @@ pub record HaveTheirKinds (u : Universe) : Type 0 where
   pub fluents : AllByRecursion (λ constant. IsFalse (is_action constant.kind)) u.fluents
   pub actions : AllByRecursion (λ constant. IsTrue (is_action constant.kind)) u.actions
   pub symbols : AllByRecursion (HasKindOf u.symbols) (constants_in u)
+
+-- the sort `boolean`, which is sort 0, begins with `false` and `true`, and each constant has the values of its symbol
+pub record HaveTheirValues (u : Universe) : Type 0 where
+  pub others : List ℕ
+  pub booleans : objects_of u 0 ≡ 0 ∷ 1 ∷ others
+  pub values : AllByRecursion (λ constant. constant.domain ≡ values_of u constant.symbol) (constants_in u)
 
 -- the signature is that of the description
 pub record IsSignatureOfDescription (d : Description) (signature : Signature) : Type 0 where

@@ -1,4 +1,4 @@
-use Rattle.cc_arena.specs.Terms.{IsTerm}
+use Rattle.cc_defs.specs.Terms.{IsTerm}
 use Rattle.cc_arena.proofs.tests.nested.Given as goal
 
 abbrev pub invariant-loop-level : goal.invariant-loop-level
