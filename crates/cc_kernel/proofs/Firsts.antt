@@ -1,5 +1,5 @@
 -- The first empty clause of a list of axioms.
-use Rattle.std.proofs.Common.{◌≡◌, ◌∙◌, ℕ, ◌+◌, ◌<◌, ◌≤◌, zero, suc, List, [], ◌∷◌, length, drop, Some, None, refl, sym, ap, arith, add-one}
+use Rattle.std.proofs.Common.{◌≡◌, ◌∙◌, ℕ, ◌+◌, ◌<◌, zero, suc, List, [], ◌∷◌, length, drop, Some, refl, sym, ap, arith, add-one}
 use Rattle.std.specs.Prelude.{slice_get}
 use Rattle.cc_defs.specs.Clauses.{Literal}
 use Rattle.cc_kernel.specs.Kernels.{axioms_of, first_empty}

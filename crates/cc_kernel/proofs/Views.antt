@@ -1,16 +1,15 @@
 -- What the holder sees of a kernel after its parts have changed.
-use Rattle.std.proofs.Common.{◌≡◌, ◌∙◌, ℕ, ◌+◌, ◌-◌, ◌<◌, ◌≤◌, Bool, true, false, List, [], ◌∷◌, ◌++◌, length, Option, Some, None, refl, sym, subst, ap, arith, length-append}
-use Rattle.std.specs.Prelude.{◌↔◌, slice_get, IsTrue, IsSome, IfSome, All, if◌then◌else◌}
+use Rattle.std.proofs.Common.{◌≡◌, ◌∙◌, ℕ, ◌+◌, ◌-◌, ◌<◌, ◌≤◌, Bool, true, false, List, [], ◌∷◌, ◌++◌, length, Option, Some, None, refl, sym, subst, ap, arith}
+use Rattle.std.specs.Prelude.{◌↔◌, IsTrue, IsSome, All, if◌then◌else◌}
 use Rattle.std.proofs.lemmas.List.{length-map}
 use Rattle.std.proofs.lemmas.Option.{same_Some, slice_get_within}
 use Rattle.cc_defs.specs.Clauses.{Literal, IsClause, IsOver, IsNumbered, IsResolvent, Clash}
 use Rattle.cc_clauses.specs.Laws.{ResolventsAreSound}
 use Rattle.cc_kernel.specs.declared.kernel.Origin.{Origin}
 use Rattle.cc_kernel.specs.declared.kernel.Origin.TheVariants as origins
-use Rattle.cc_kernel.specs.declared.kernel.Later.{Later}
 use Rattle.cc_kernel.specs.declared.kernel.Kernel.TheInside.{Inside}
 use Rattle.cc_kernel.specs.Kernels.{KernelView, Entry, clauses_of, axiom_of, axioms_of, added, IsThere, AreAxioms, ClashesWith, first_empty, empty_after, is_given_origin}
-use Rattle.cc_kernel.specs.Parts.{view_of, entries_of, origin_of, IsSound}
+use Rattle.cc_kernel.specs.Parts.{view_of, entries_of, IsSound}
 use Rattle.cc_kernel.proofs.Entries.{clauses_are, length_of_entries, axioms_push, none_later, axiom_added, axioms_are_clauses, are_axioms}
 use Rattle.cc_kernel.proofs.Chains.{none_follows}
 use Rattle.cc_kernel.proofs.Kernels.{sound_given, sound_finished, stage_facts, clause_there}
@@ -103,8 +102,7 @@ module _ (inside : Inside) (old : KernelView) (is : view_of inside ≡ old) wher
     parents empty sound =
         let here = sound_here empty sound in
         let facts = stage_facts old empty (clash.0) here (clash.2) in
-        let there = clause_there old empty id (clash.1) here (clash.3) in
-        (
+        let there = clause_there old empty id (clash.1) here (clash.3) in (
           subst IsClause read_stage (facts.1),
           subst IsClause read_other (there.0),
           subst (λ (a : List Literal). Clash a other pivot) read_stage (subst (λ (b : List Literal). Clash (clash.0) b pivot) read_other (clash.4)),

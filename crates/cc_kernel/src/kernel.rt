@@ -150,7 +150,7 @@ impl Kernel {
         ensures kernel { result ≡ record { variables = variables; entries = axioms_of axioms; staged = None; chain = [] } }
         ensures axioms { AreAxioms result.entries }
     {
-        let empty = first_empty_of(&axioms);
+        let first = first_empty_of(&axioms);
         Kernel {
             variables,
             clauses: axioms,
@@ -159,7 +159,7 @@ impl Kernel {
             stage: Vec::new(alloc),
             spare: Vec::new(alloc),
             chain: Vec::new(alloc),
-            empty,
+            empty: first,
         }
     }
 

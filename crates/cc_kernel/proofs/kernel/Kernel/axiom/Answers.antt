@@ -1,4 +1,4 @@
-use Rattle.std.proofs.Common.{◌≤◌, length, arith, ap, length-append, ◌∷◌, []}
+use Rattle.std.proofs.Common.{length, arith, ap, length-append, ◌∷◌, []}
 use Rattle.std.proofs.Common.{refl}
 use Rattle.cc_kernel.specs.declared.kernel.Origin.TheVariants as origins
 use Rattle.cc_kernel.specs.Parts.{entries_of}

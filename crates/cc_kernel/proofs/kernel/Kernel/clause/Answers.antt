@@ -1,4 +1,3 @@
-use Rattle.std.proofs.Common.{◌<◌}
 use Rattle.cc_defs.specs.Clauses.{IsClause, IsOver}
 use Rattle.cc_kernel.proofs.Kernels.{clause_there}
 use Rattle.cc_kernel.proofs.Views.{there_inside, numbered_here, sound_here}

@@ -1,11 +1,8 @@
-use Rattle.std.proofs.Common.{◌≡◌, ◌∙◌, sym, subst, ap, List}
-use Rattle.cc_defs.specs.Clauses.{Literal}
+use Rattle.std.proofs.Common.{◌∙◌}
 use Rattle.cc_kernel.specs.declared.kernel.Later.TheVariants as laters
-use Rattle.cc_kernel.specs.Kernels.{KernelView, DerivedFollow}
-use Rattle.cc_kernel.specs.Parts.{entries_of, IsSound, IsKernel}
+use Rattle.cc_kernel.specs.Parts.{entries_of, IsKernel}
 use Rattle.cc_kernel.proofs.Entries.{later_entries}
-use Rattle.cc_kernel.proofs.Kernels.{stage_reached}
-use Rattle.cc_kernel.proofs.Views.{some_is, staged_inside, sound_here, entries_finished, finished_sound}
+use Rattle.cc_kernel.proofs.Views.{some_is, staged_inside, entries_finished, finished_sound}
 use Rattle.cc_kernel.proofs.kernel.Kernel.finish.Goals as goal
 
 pub invariant_of-self-2 : goal.invariant_of-self-2
@@ -26,8 +23,7 @@ pub returns-clause-added : goal.returns-clause-added
 returns-clause-added c =
     let entries_are = later_entries c.self.inside.clauses c.add.new.clauses c.self.inside.later.items c.add.new.later.items c.as_slice-stage.result.now laters.Derived
     c.self.invariant.later_few c.in_ok-add.ensures.clauses c.in_ok-add.ensures.later in
-    let staged = some_is c.args.self.now.staged c.requires.staged in
-    (
+    let staged = some_is c.args.self.now.staged c.requires.staged in (
       staged.0,
       staged.1,
       entries_finished c.self.inside c.args.self.now c.self.view_is (entries_of c.add.new.clauses c.add.new.later.items) c.as_slice-stage.result.now (staged.0)

@@ -1,7 +1,4 @@
-use Rattle.std.proofs.Common.{◌≡◌, ◌∙◌, ◌≤◌, [], length, subst, sym, arith, ap, refl, List}
-use Rattle.std.specs.Prelude.{None}
-use Rattle.cc_kernel.specs.Kernels.{KernelView, Entry, AreAxioms, axioms_of}
-use Rattle.cc_kernel.specs.Parts.{entries_of, IsSound}
+use Rattle.std.proofs.Common.{arith, refl}
 use Rattle.cc_kernel.proofs.Entries.{entries_of_axioms, are_axioms}
 use Rattle.cc_kernel.proofs.Views.{sound_of}
 use Rattle.cc_kernel.proofs.kernel.Kernel.of.Goals as goal
@@ -9,7 +6,7 @@ use Rattle.cc_kernel.proofs.kernel.Kernel.of.Goals as goal
 pub invariant_of-result : goal.invariant_of-result
 invariant_of-result c = record {
   later_few = rw c.new.ensures.items (omega arith);
-  sound = rw (c.new.ensures.items, c.new-4.ensures.items, entries_of_axioms c.args.axioms) (sound_of c.args.variables c.args.axioms c.first_empty_of-empty.result c.requires.variables c.requires.few c.requires.clauses c.requires.over c.first_empty_of-empty.ensures);
+  sound = rw (c.new.ensures.items, c.new-4.ensures.items, entries_of_axioms c.args.axioms) (sound_of c.args.variables c.args.axioms c.first_empty_of-first.result c.requires.variables c.requires.few c.requires.clauses c.requires.over c.first_empty_of-first.ensures);
 }
 
 pub returns-clause-kernel : goal.returns-clause-kernel

@@ -24,8 +24,7 @@ invariant_of-self-2 c =
 
 pub returns-clause-started : goal.returns-clause-started
 returns-clause-started c =
-    let stage_is : c.swap.new.x.items ≡ c.numbered-clause.result.now = rw c.swap.ensures.x_after c.in_ok-copy_into.ensures in
-    (
+    let stage_is : c.swap.new.x.items ≡ c.numbered-clause.result.now = rw c.swap.ensures.x_after c.in_ok-copy_into.ensures in (
       c.numbered-clause.result.now,
       numbered_here c.self.inside c.args.self.now c.self.view_is c.args.id c.numbered-clause.result.now c.numbered-clause.ensures,
       started_is c.self.inside c.args.self.now c.self.view_is c.swap.new.x.items c.numbered-clause.result.now c.begin.new.chain.items c.args.id stage_is

@@ -1,4 +1,4 @@
-use Rattle.std.proofs.Common.{◌≡◌, ◌∷◌, [], sym, subst}
+use Rattle.std.proofs.Common.{◌∷◌, [], sym, subst}
 use Rattle.cc_defs.specs.Clauses.{IsResolvent}
 use Rattle.cc_kernel.specs.Kernels.{KernelView}
 use Rattle.cc_kernel.specs.Parts.{IsSound}
