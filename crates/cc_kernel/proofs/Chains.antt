@@ -6,11 +6,11 @@ use Rattle.std.proofs.lemmas.Bool.{and_parts, and_from, cases_Bool, both_ways}
 use Rattle.std.proofs.lemmas.Option.{slice_get-map, slice_get_within, slice_get_cases, MatchOption-at_some, same_Some, none-some}
 use Rattle.std.proofs.lemmas.List.{take-append-le, take_all}
 use Rattle.std.proofs.Math.Seq.{take-nil}
+use Rattle.cc_clauses.specs.Laws.{ResolventsAreSound}
 use Rattle.cc_defs.specs.Clauses.{Literal, Follows, IsResolvent, IsNumbered, ReachesFrom, Reaches, meets}
 use Rattle.cc_kernel.specs.declared.kernel.Origin.{Origin}
 use Rattle.cc_kernel.specs.declared.kernel.Origin.TheVariants as origins
-use Rattle.cc_kernel.specs.Kernels.{Entry, DerivedFollow, is_given, is_given_origin, given_of}
-use Rattle.cc_kernel.proofs.Soundness.{sound}
+use Rattle.cc_kernel.specs.Kernels.{Entry, AreAxioms, DerivedFollow, is_given, is_given_origin, given_of}
 
 pub get_kept : {A : Type 0} (xs ys : List A) (k : ℕ) (x : A) → slice_get xs k ≡ Some x → slice_get (xs ++ ys) k ≡ Some x
 get_kept [] ys k x is = cc
@@ -43,7 +43,7 @@ module _ (clauses : List (List Literal)) (pivot number : ℕ) (clause other r : 
   reaches_step [] h = absurd h
   reaches_step (start ∷ chain) (first, is, rest) = (first, is, reaches_from_step first chain rest)
 
-module _ (assignment : ℕ → Bool) where
+module _ (sound : ResolventsAreSound) (assignment : ℕ → Bool) where
   abbrev AreMet : List (List Literal) → Type 0
   AreMet clauses = IsTrue (list_all (meets assignment) clauses)
 
@@ -125,9 +125,9 @@ module _ (assignment : ℕ → Bool) where
       first chain clause (met_number entries number first follow met is) rest
 
 -- what a chain reaches follows from the axioms and blocks
-pub reached_follows : (entries : List Entry) (chain : List ℕ) (clause : List Literal) → DerivedFollow entries →
+pub reached_follows : ResolventsAreSound → (entries : List Entry) (chain : List ℕ) (clause : List Literal) → DerivedFollow entries →
     Reaches (map (λ entry. entry.clause) entries) chain clause → Follows (given_of entries) clause
-reached_follows entries chain clause follow reaches assignment met = met_reached assignment entries chain clause follow met reaches
+reached_follows sound entries chain clause follow reaches assignment met = met_reached sound assignment entries chain clause follow met reaches
 
 get_push_cases : {A : Type 0} (xs : List A) (x : A) (k : ℕ) (y : A) → slice_get (xs ++ x ∷ []) k ≡ Some y →
     ((slice_get xs k ≡ Some y) × (k < length xs)) ⊎ ((k ≡ length xs) × (x ≡ y))
@@ -158,3 +158,16 @@ follow_push entries entry follow last k below = IfSome-from (slice_get (entries 
           let all : take k (entries ++ entry ∷ []) ≡ entries = take_kept entries entry k (omega arith) ∙ take_all k entries (omega arith) in
           rw all (subst (λ (e : Entry). Follows (given_of entries) e.clause) same (last (ap (λ (e : Entry). e.origin) same ∙ derived)))
     ])
+
+axiom_origin : (entries : List Entry) (k : ℕ) (entry : Entry) → AreAxioms entries → slice_get entries k ≡ Some entry → entry.origin ≡ origins.Axiom
+axiom_origin [] k entry h is = cc
+axiom_origin (first ∷ entries) zero entry h is = let same : first ≡ entry = cc in subst (λ (e : Entry). e.origin ≡ origins.Axiom) same h.0
+axiom_origin (first ∷ entries) (suc k) entry h is = axiom_origin entries k entry h.1 is
+
+not_both : (origin : Origin) → origin ≡ origins.Axiom → origin ≡ origins.Derived → ⊥
+not_both origin one other = let same : origins.Axiom ≡ origins.Derived = sym one ∙ other in cc
+
+-- axioms alone have nothing derived
+pub none_follows : (entries : List Entry) → AreAxioms entries → DerivedFollow entries
+none_follows entries axioms k below = IfSome-from (slice_get entries k) _
+    (λ entry is derived. absurd (not_both entry.origin (axiom_origin entries k entry axioms is) derived))

@@ -1,6 +1,6 @@
 -- What the holder of a kernel sees of it.
-use Rattle.std.specs.Prelude.{◌≡◌, ℕ, ◌+◌, ◌-◌, ◌<◌, ◌≤◌, Bool, true, false, List, [], ◌∷◌, ◌++◌, length, map, filter, take, Option, Some, None, slice_get, IfSome}
-use Rattle.cc_defs.specs.Clauses.{Literal, IsClause, IsOver, Follows, Reaches, IsResolvent}
+use Rattle.std.specs.Prelude.{◌≡◌, ℕ, ◌+◌, ◌<◌, ◌≤◌, Bool, true, false, not, List, [], ◌∷◌, ◌++◌, length, map, filter, count_by, take, Option, Some, None, slice_get, IfSome}
+use Rattle.cc_defs.specs.Clauses.{Literal, IsClause, IsOver, Follows, Reaches, Clash, IsResolvent, IsNumbered}
 use Rattle.cc_kernel.specs.declared.kernel.Origin.{Origin}
 use Rattle.cc_kernel.specs.declared.kernel.Origin.TheVariants as origins
 
@@ -32,28 +32,22 @@ is_given entry = is_given_origin entry.origin
 abbrev pub given_of : List Entry → List (List Literal)
 given_of entries = map (λ entry. entry.clause) (filter is_given entries)
 
-abbrev pub clause_or_none : Option Entry → List Literal
-clause_or_none (Some entry) = entry.clause
-clause_or_none None = []
-
--- the clause of a number that is there
-abbrev pub clause_at : KernelView → ℕ → List Literal
-clause_at kernel number = clause_or_none (slice_get kernel.entries (number - 1))
+-- how many clauses are derived
+abbrev pub derived_count : List Entry → ℕ
+derived_count entries = count_by (λ entry. not (is_given entry)) entries
 
 abbrev pub IsThere : KernelView → ℕ → Type 0
 IsThere kernel number = (0 < number) × (number ≤ length kernel.entries)
 
-abbrev pub list_or_none : Option (List Literal) → List Literal
-list_or_none (Some clause) = clause
-list_or_none None = []
-
--- the staged clause, where there is one
-abbrev pub stage_of : KernelView → List Literal
-stage_of kernel = list_or_none kernel.staged
-
 -- the kernel with one more clause
 abbrev pub added : KernelView → List Literal → Origin → KernelView
 added kernel clause origin = record kernel { entries = kernel.entries ++ (record { clause = clause; origin = origin }) ∷ [] }
+
+abbrev pub axiom_of : List Literal → Entry
+axiom_of clause = record { clause = clause; origin = origins.Axiom }
+
+abbrev pub axioms_of : List (List Literal) → List Entry
+axioms_of clauses = map axiom_of clauses
 
 abbrev pub AreAxioms : List Entry → Type 0
 AreAxioms [] = Unit {0}
@@ -73,6 +67,27 @@ DerivedFollow entries = (number : ℕ) → number < length entries →
 abbrev pub StageIsReached : KernelView → Type 0
 StageIsReached kernel = IfSome kernel.staged (λ clause. Reaches (clauses_of kernel) kernel.chain clause × IsClause clause × IsOver kernel.variables clause)
 
+-- the kernel after a derivation has begun with the clause of a number
+abbrev pub IsStarted : KernelView → KernelView → ℕ → Type 0
+IsStarted old new number =
+    (clause : List Literal) × IsNumbered (clauses_of old) number clause × (new ≡ record old { staged = Some clause; chain = number ∷ [] })
+
+-- there is a staged clause, and it clashes with the clause of a number on a variable
+abbrev pub ClashesWith : KernelView → ℕ → ℕ → Type 0
+ClashesWith kernel pivot number =
+    (staged : List Literal) × (other : List Literal) × (kernel.staged ≡ Some staged) × IsNumbered (clauses_of kernel) number other × Clash staged other pivot
+
+-- the kernel after a step of resolution: the staged clause is a resolvent, and the chain names what it was resolved with
+abbrev pub IsStepped : KernelView → KernelView → ℕ → ℕ → Type 0
+IsStepped old new pivot number =
+    (staged : List Literal) × (other : List Literal) × (r : List Literal) × (old.staged ≡ Some staged) × IsNumbered (clauses_of old) number other ×
+    IsResolvent staged other pivot r × (new ≡ record old { staged = Some r; chain = old.chain ++ pivot ∷ number ∷ [] })
+
+-- the kernel after a derivation has ended: the staged clause is one of its clauses
+abbrev pub IsFinished : KernelView → KernelView → Type 0
+IsFinished old new =
+    (clause : List Literal) × (old.staged ≡ Some clause) × (new ≡ record (added old clause origins.Derived) { staged = None })
+
 abbrev pub number_if_empty : List Literal → ℕ → Option ℕ → Option ℕ
 number_if_empty [] number later = Some number
 number_if_empty (literal ∷ literals) number later = later
@@ -81,12 +96,6 @@ number_if_empty (literal ∷ literals) number later = later
 abbrev pub first_empty : ℕ → List Entry → Option ℕ
 first_empty number [] = None
 first_empty number (entry ∷ entries) = number_if_empty entry.clause number (first_empty (number + 1) entries)
-
--- the kernel after a step of resolution: the staged clause is a resolvent, and the chain names what it was resolved with
-abbrev pub IsStepped : KernelView → KernelView → ℕ → ℕ → Type 0
-IsStepped old new pivot number =
-    (r : List Literal) × IsResolvent (stage_of old) (clause_at old number) pivot r ×
-    (new ≡ record old { staged = Some r; chain = old.chain ++ pivot ∷ number ∷ [] })
 
 -- the first number of an empty clause, once one more clause has a number
 abbrev pub empty_after : Option ℕ → List Literal → ℕ → Option ℕ

@@ -1,4 +1,2 @@
 pub mod Kernels
-pub mod Laws
 pub mod Parts
-pub mod Resolving

@@ -1,10 +1,11 @@
 //! A kernel of clauses: axioms and blocks are given, and a derived clause is only ever the resolvent of a chain.
-ghost use Rattle.std.specs.Prelude.{◌≡◌, ℕ, ◌+◌, ◌<◌, ◌≤◌, ◌++◌, ◌∷◌, [], length, take, Some, None, IfOk, OnOk, OnErr, IsTrue, IsSome, ◌↔◌, slice_get, Ok, ◌-◌, true, slice_range};
-ghost use Rattle.cc_defs.specs.Clauses.{IsClause, IsOver, Clash, Reaches};
-ghost use Rattle.cc_kernel.specs.Kernels.{KernelView, Entry, clauses_of, clause_at, clause_or_none, stage_of, added, IsThere, AreAxioms, IsStepped, first_empty, DerivedFollow, is_given_origin, empty_after};
-ghost use Rattle.cc_kernel.specs.Parts.{AreWithin, entries_of};
+ghost use Rattle.std.specs.Prelude.{◌≡◌, ℕ, ◌+◌, ◌<◌, ◌≤◌, ◌++◌, ◌∷◌, [], length, All, Some, None, IfOk, IfSome, OnOk, OnErr, IsTrue, IsSome, ◌↔◌, Ok};
+ghost use Rattle.cc_defs.specs.Clauses.{IsClause, IsOver, IsNumbered, Reaches};
+ghost use Rattle.cc_kernel.specs.Kernels.{KernelView, Entry, clauses_of, added, axioms_of, IsThere, AreAxioms, IsStarted, ClashesWith, IsStepped, IsFinished, first_empty, DerivedFollow, empty_after};
+ghost use Rattle.cc_kernel.specs.Parts.{entries_of};
 
-use crate::clauses::{clash_on, resolve_into};
+use cc_clauses::laws::resolvents_are_sound;
+use cc_clauses::{ClauseArena, clash_on, resolve_into};
 use cc_defs::{Lit, OutOfMemory};
 use std::alloc::Global;
 use std::marker::Model;
@@ -21,21 +22,21 @@ pub enum Origin {
     Derived,
 }
 
-// Where a clause stands among the literals of all clauses.
+// Where a clause behind the axioms comes from.
 #[derive(Clone, Copy)]
-struct Place {
-    start: usize,
-    end: usize,
-    origin: Origin,
+enum Later {
+    Block,
+    Derived,
 }
 
 /// Clauses by number, from 1, and one clause that is being derived from them.
 #[derive(Drop)]
 pub struct Kernel {
     variables: u32,
-    // The clauses, one after another.
-    literals: Vec<Lit>,
-    places: Vec<Place>,
+    // The axioms, and behind them the other clauses.
+    clauses: ClauseArena,
+    // Where each clause behind the axioms comes from.
+    later: Vec<Later>,
     is_staged: bool,
     stage: Vec<Lit>,
     // Room for the next stage.
@@ -45,48 +46,30 @@ pub struct Kernel {
     empty: Option<u32>,
 }
 
-// The literals between two places.
-fn part(literals: &[Lit], start: usize, end: usize) -> &[Lit]
-    requires ordered { start ≤ end }
-    requires within { end ≤ length literals.now }
-    ensures { result.now ≡ slice_range literals.now start end }
-{
-    &literals[start..end]
-}
-
 // The clause of a number.
-fn clause_of<'a>(literals: &'a [Lit], places: &[Place], id: u32) -> &'a [Lit]
-    requires within { AreWithin (length literals.now) places.now }
+fn numbered(clauses: &ClauseArena, id: u32) -> &[Lit]
     requires some { 0 < id }
-    requires most { id ≤ length places.now }
-    ensures { result.now ≡ clause_or_none (slice_get (entries_of literals.now places.now) (id - 1)) }
+    requires most { id ≤ length clauses.now }
+    ensures { IsNumbered clauses.now id result.now }
 {
-    let place = &places[id as usize - 1];
-    part(literals, place.start, place.end)
+    clauses.clause(id as usize - 1)
 }
 
-// Puts a clause behind those that are there.
+// Puts a clause that is no axiom behind those that are there.
 fn add(
-    literals: &mut Vec<Lit>,
-    places: &mut Vec<Place>,
+    clauses: &mut ClauseArena,
+    later: &mut Vec<Later>,
     clause: &[Lit],
-    origin: Origin,
+    origin: Later,
 ) -> Result<(), OutOfMemory>
-    requires { AreWithin (length literals.old.items) places.old.items }
-    ensures within { AreWithin (length literals.new.items) places.new.items }
-    ensures added { OnOk result (entries_of literals.new.items places.new.items ≡ entries_of literals.old.items places.old.items ++ (record { clause = clause.now; origin = origin }) ∷ []) }
-    ensures count { OnOk result (length places.new.items ≡ length places.old.items + 1) }
-    ensures kept { OnErr result (entries_of literals.new.items places.new.items ≡ entries_of literals.old.items places.old.items) }
+    ensures clauses { OnOk result (clauses.new ≡ clauses.old ++ clause.now ∷ []) }
+    ensures later { OnOk result (later.new.items ≡ later.old.items ++ origin ∷ []) }
+    ensures clauses_kept { OnErr result (clauses.new ≡ clauses.old) }
+    ensures later_kept { OnErr result (later.new.items ≡ later.old.items) }
 {
-    places.reserve(1)?;
-    let start = literals.len();
-    literals.extend_from_slice(clause)?;
-    let place = Place {
-        start,
-        end: literals.len(),
-        origin,
-    };
-    places.push(place)?;
+    later.reserve(1)?;
+    clauses.push(clause)?;
+    later.push(origin)?;
     Ok(())
 }
 
@@ -101,6 +84,20 @@ fn empty_with(empty: Option<u32>, clause: &[Lit], number: u32) -> Option<u32>
             _ => None,
         },
     }
+}
+
+// The number of the first empty clause.
+fn first_empty_of(clauses: &ClauseArena) -> Option<u32>
+    requires { length clauses.now ≤ 4000000000 }
+    ensures { result ≡ first_empty 1 (axioms_of clauses.now) }
+{
+    let count = clauses.count();
+    for index in 0..count {
+        if clauses.clause(index).is_empty() {
+            return Some(index as u32 + 1);
+        }
+    }
+    None
 }
 
 // Begins a chain with the number of a clause, in the place of an old chain.
@@ -141,16 +138,29 @@ impl Kernel {
         requires { variables ≤ 4000000 }
         ensures { result ≡ Ok (record { variables = variables; entries = []; staged = None; chain = [] }) }
     {
-        Ok(Kernel {
+        Ok(Kernel::of(alloc, variables, ClauseArena::new(alloc)))
+    }
+
+    /// A kernel over the variables 1, .., `variables` whose axioms are these clauses. It takes no memory.
+    pub fn of(alloc: Global, variables: u32, axioms: ClauseArena) -> Kernel
+        requires variables { variables ≤ 4000000 }
+        requires few { length axioms ≤ 4000000000 }
+        requires clauses { All IsClause axioms }
+        requires over { All (IsOver variables) axioms }
+        ensures kernel { result ≡ record { variables = variables; entries = axioms_of axioms; staged = None; chain = [] } }
+        ensures axioms { AreAxioms result.entries }
+    {
+        let first = first_empty_of(&axioms);
+        Kernel {
             variables,
-            literals: Vec::new(alloc),
-            places: Vec::new(alloc),
+            clauses: axioms,
+            later: Vec::new(alloc),
             is_staged: false,
             stage: Vec::new(alloc),
             spare: Vec::new(alloc),
             chain: Vec::new(alloc),
-            empty: None,
-        })
+            empty: first,
+        }
     }
 
     /// How many variables there are.
@@ -164,7 +174,7 @@ impl Kernel {
     pub fn count(&self) -> u32
         ensures { result ≡ length self.now.entries }
     {
-        self.places.len() as u32
+        self.clauses.count() as u32
     }
 
     /// Adds a clause that the search starts from, and returns its number.
@@ -178,7 +188,10 @@ impl Kernel {
         ensures axioms { AreAxioms self.new.entries }
         ensures kept { OnErr result (self.new ≡ self.old) }
     {
-        self.give(clause, Origin::Axiom)
+        let number = self.count() + 1;
+        self.clauses.push(clause)?;
+        self.empty = empty_with(self.empty, clause, number);
+        Ok(number)
     }
 
     /// Adds a clause that denies a row that was found, and returns its number.
@@ -190,21 +203,8 @@ impl Kernel {
         ensures added { OnOk result (self.new ≡ added self.old clause.now Origin.Block) }
         ensures kept { OnErr result (self.new ≡ self.old) }
     {
-        self.give(clause, Origin::Block)
-    }
-
-    // Adds a clause that is an axiom or a block.
-    fn give(&mut self, clause: &[Lit], origin: Origin) -> Result<u32, OutOfMemory>
-        requires clause { IsClause clause.now }
-        requires over { IsOver self.old.variables clause.now }
-        requires few { length self.old.entries < 4000000000 }
-        requires given { is_given_origin origin ≡ true }
-        ensures number { IfOk result (λ number. number ≡ length self.old.entries + 1) }
-        ensures added { OnOk result (self.new ≡ added self.old clause.now origin) }
-        ensures kept { OnErr result (self.new ≡ self.old) }
-    {
-        add(&mut self.literals, &mut self.places, clause, origin)?;
-        let number = self.places.len() as u32;
+        let number = self.count() + 1;
+        add(&mut self.clauses, &mut self.later, clause, Later::Block)?;
         self.empty = empty_with(self.empty, clause, number);
         Ok(number)
     }
@@ -212,21 +212,21 @@ impl Kernel {
     /// The clause of a number.
     pub fn clause(&self, id: u32) -> &[Lit]
         requires { IsThere self.now id }
-        ensures clause { result.now ≡ clause_at self.now id }
+        ensures clause { IsNumbered (clauses_of self.now) id result.now }
         ensures is_clause { IsClause result.now }
         ensures over { IsOver self.now.variables result.now }
         ensures follow { DerivedFollow self.now.entries }
     {
-        clause_of(&self.literals, &self.places, id)
+        numbered(&self.clauses, id)
     }
 
     /// Begins a derivation with the clause of a number. One that had begun is given up.
     pub fn start(&mut self, id: u32) -> Result<(), OutOfMemory>
         requires { IsThere self.old id }
-        ensures started { OnOk result (self.new ≡ record self.old { staged = Some (clause_at self.old id); chain = id ∷ [] }) }
+        ensures started { OnOk result (IsStarted self.old self.new id) }
         ensures kept { OnErr result (self.new ≡ self.old) }
     {
-        let clause = clause_of(&self.literals, &self.places, id);
+        let clause = numbered(&self.clauses, id);
         copy_into(clause, &mut self.spare)?;
         begin(&mut self.chain, id)?;
         mem::swap(&mut self.stage, &mut self.spare);
@@ -240,7 +240,7 @@ impl Kernel {
         requires there { IsThere self.now id }
         requires some { 1 ≤ pivot }
         requires most { pivot ≤ self.now.variables }
-        ensures { IsTrue result ↔ Clash (stage_of self.now) (clause_at self.now id) pivot }
+        ensures { IsTrue result ↔ ClashesWith self.now pivot id }
     {
         let _ = &self.variables;
         clash_on(self.current(), self.clause(id), pivot)
@@ -248,15 +248,11 @@ impl Kernel {
 
     /// Resolves the staged clause with the clause of a number on the pivot.
     pub fn step(&mut self, pivot: u32, id: u32) -> Result<(), OutOfMemory>
-        requires staged { IsSome self.old.staged }
-        requires there { IsThere self.old id }
-        requires some { 1 ≤ pivot }
-        requires most { pivot ≤ self.old.variables }
-        requires clash { Clash (stage_of self.old) (clause_at self.old id) pivot }
+        requires { ClashesWith self.old pivot id }
         ensures resolved { OnOk result (IsStepped self.old self.new pivot id) }
         ensures kept { OnErr result (self.new ≡ self.old) }
     {
-        let other = clause_of(&self.literals, &self.places, id);
+        let other = numbered(&self.clauses, id);
         resolve_into(&self.stage, other, pivot, &mut self.spare)?;
         self.chain.extend_from_slice(&[pivot, id])?;
         mem::swap(&mut self.stage, &mut self.spare);
@@ -287,13 +283,15 @@ impl Kernel {
         requires staged { IsSome self.old.staged }
         requires few { length self.old.entries < 4000000000 }
         ensures number { IfOk result (λ number. number ≡ length self.old.entries + 1) }
-        ensures added { OnOk result (self.new ≡ record (added self.old (stage_of self.old) Origin.Derived) { staged = None }) }
-        ensures reached { Reaches (clauses_of self.old) self.old.chain (stage_of self.old) }
+        ensures added { OnOk result (IsFinished self.old self.new) }
+        ensures reached { IfSome self.old.staged (λ clause. Reaches (clauses_of self.old) self.old.chain clause) }
+        ensures follow { DerivedFollow self.new.entries }
         ensures kept { OnErr result (self.new ≡ self.old) }
     {
+        resolvents_are_sound();
+        let number = self.count() + 1;
         let stage = self.stage.as_slice();
-        add(&mut self.literals, &mut self.places, stage, Origin::Derived)?;
-        let number = self.places.len() as u32;
+        add(&mut self.clauses, &mut self.later, stage, Later::Derived)?;
         self.empty = empty_with(self.empty, stage, number);
         self.is_staged = false;
         Ok(number)

@@ -1,7 +1,0 @@
-use Rattle.std.proofs.Common.{refl}
-use Rattle.cc_kernel.proofs.Searches.{clash_first}
-use Rattle.cc_kernel.proofs.clauses.clash_on.Goals as goal
-
-pub returns-then-clash_at : goal.returns-then-clash_at
-returns-then-clash_at c =
-    ((λ _. clash_first c.args.a.now c.args.b.now c.args.pivot (rw c.positive.ensures at (c.if-clash_at.ensures.0 refl))), (λ _. refl))
