@@ -59,7 +59,7 @@ abbrev pub implies : Bool → Bool → Bool
 implies true b = b
 implies false b = true
 
-Decides-implies : (Q : Type 0) (a b : Bool) → Decides b Q → Decides (implies a b) (IsTrue a → Q)
+pub Decides-implies : (Q : Type 0) (a b : Bool) → Decides b Q → Decides (implies a b) (IsTrue a → Q)
 Decides-implies Q true b decides = (λ h _. decides.0 h, λ f. decides.1 (f refl))
 Decides-implies Q false b decides = (λ _ same. cc, λ _. refl)
 
@@ -69,7 +69,7 @@ is_only sizes rules row = each_row sizes (λ other. implies (satisfies other (re
 abbrev pub is_model : List ℕ → List Rule → List ℕ → Bool
 is_model sizes rules row = is_row sizes row && (satisfies row (reduct rules row) && is_only sizes rules row)
 
-Decides-is_model : (sizes : List ℕ) (rules : List Rule) (row : List ℕ) → Decides (is_model sizes rules row) (IsModel sizes rules row)
+pub Decides-is_model : (sizes : List ℕ) (rules : List Rule) (row : List ℕ) → Decides (is_model sizes rules row) (IsModel sizes rules row)
 Decides-is_model sizes rules row =
     Decides-like (is_model sizes rules row)
     (λ h. record { interprets = h.0; satisfied = h.1.0; only = h.1.1 })
@@ -96,7 +96,7 @@ none sizes rules passes row is =
 abbrev pub is_path : Description → ℕ → List ℕ → Bool
 is_path d n row = is_row (sizes_at d (suc n)) row && each_index (suc n) (λ step. is_model (sizes_at d 1) (rules_at d 1) (window d row step))
 
-Decides-is_path : (d : Description) (n : ℕ) (row : List ℕ) → Decides (is_path d n row) (IsPath d (suc n) row)
+pub Decides-is_path : (d : Description) (n : ℕ) (row : List ℕ) → Decides (is_path d n row) (IsPath d (suc n) row)
 Decides-is_path d n row =
     let at_step = λ (step : ℕ). is_model (sizes_at d 1) (rules_at d 1) (window d row step) in
     Decides-and (is_row (sizes_at d (suc n)) row) (each_index (suc n) at_step) (Decides-is_row (sizes_at d (suc n)) row)
