@@ -15,7 +15,7 @@ use Rattle.cc_defs.specs.Signatures.{Signature, none_value}
 use Rattle.cc_defs.specs.Trees.{PlainKind}
 use Rattle.cc_defs.specs.Trees as trees
 use Rattle.cc_sorts.specs.declared.table.Placed.{Placed}
-use Rattle.cc_sorts.specs.Tables.{TableView, IsTable, IsSignatureOf, placed_from}
+use Rattle.cc_sorts.specs.Tables.{TableView, IsTable, IsSignatureOf, placed_of}
 use Rattle.cc_ground.specs.declared.maker.Maker.{Maker}
 use Rattle.cc_defs.specs.Universe.{Universe, HaveOwnValues, constants_in, universe}
 use Rattle.cc_ground.specs.Views.{universe_in, universe_of, IsSignatureFor, IsSearchable, AreSearchable}
@@ -23,7 +23,7 @@ use Rattle.cc_ground.specs.Views.{universe_in, universe_of, IsSignatureFor, IsSe
 -- ---- the universe of a table and a signature
 
 symbols_placed : (declarations : List Declaration) (found : List Declared) →
-    map (λ placed. placed.symbol) (placed_from (map (symbol_of declarations) found) found) ≡ map (symbol_of declarations) found
+    map (λ placed. placed.symbol) (placed_of declarations found) ≡ map (symbol_of declarations) found
 symbols_placed declarations [] = refl
 symbols_placed declarations (constant ∷ others) = ap (λ (w : List Symbol). symbol_of declarations constant ∷ w) (symbols_placed declarations others)
 

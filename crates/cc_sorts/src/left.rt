@@ -9,7 +9,7 @@ ghost use Rattle.cc_defs.specs.Grammar.{same_text};
 ghost use Rattle.cc_defs.specs.Trees.{plain_shape, plain_kind};
 ghost use Rattle.cc_sorts.specs.Declaring.{plain_declaration};
 ghost use Rattle.cc_sorts.specs.Dictionaries.{number_of};
-ghost use Rattle.cc_sorts.specs.Lefts.{IsLeft, Adds, AddsUpper, new_uppers, has_sort as table_has_sort, has_name as table_has_name, left_has_sort, left_has_name, left_has_pair, left_has_upper, table_symbol, left_constant, arguments_of, plain_constant, action_fits, shaped_fits, numbers_fit, is_boolean_kind, is_boolean_symbol, is_numbered, are_numbered};
+ghost use Rattle.cc_sorts.specs.Lefts.{IsLeft, Adds, AddsUpper, new_uppers, has_sort as table_has_sort, has_name as table_has_name, left_has_sort, left_has_name, left_has_pair, left_has_upper, table_symbol, left_constant, arguments_of, plain_constant, action_fits, shaped_fits, numbers_fit, is_boolean_kind, is_boolean_action_symbol, is_numbered, are_numbered};
 ghost use Rattle.cc_sorts.specs.Lists.{AreBelow};
 ghost use Rattle.cc_sorts.specs.Searches.{Grows, IsClosed, table_uppers, all_uppers};
 ghost use Rattle.cc_sorts.specs.SortViews.{name_at};
@@ -114,11 +114,11 @@ impl<'d, 't, 's> Left<'d, 't, 's> {
         self.has_each(names.items())
     }
 
-    /// Whether the action of an attribute and its sorts were declared.
-    fn is_action(&self, action: &Shape) -> bool
-        ensures { (left : Items Declared) → IsLeft self.now left → result ≡ (are_sorts left (map (λ sort. sort.now) action.now.sorts) && is_taken left action.now.name.now) }
+    /// Whether the sort of an attribute, its action and the sorts of that one were declared.
+    fn knows_attribute(&self, sort: &str, action: &Shape) -> bool
+        ensures { (left : Items Declared) → IsLeft self.now left → result ≡ (is_sort left sort.now && (are_sorts left (map (λ sort. sort.now) action.now.sorts) && is_taken left action.now.name.now)) }
     {
-        self.are_sorts(&action.sorts) && self.is_taken(action.name)
+        self.is_sort(sort) && (self.are_sorts(&action.sorts) && self.is_taken(action.name))
     }
 
     fn has_unknown(&self, kind: &KindTree) -> bool
@@ -127,7 +127,7 @@ impl<'d, 't, 's> Left<'d, 't, 's> {
         match kind {
             KindTree::Plain(_, Some(sort)) => !self.is_sort(sort),
             KindTree::Plain(_, None) => !self.is_sort("boolean"),
-            KindTree::Attribute(sort, action) => { !(self.is_sort(sort) && self.is_action(action)) }
+            KindTree::Attribute(sort, action) => !self.knows_attribute(sort, action),
         }
     }
 
@@ -478,14 +478,14 @@ fn is_boolean(sort: &str) -> bool
 fn symbol_fits(table: &Register, symbol: &Symbol, shapes: &List<Shape>, action: &Shape) -> bool
     ensures { result ≡ numbers_fit table.now symbol.now (map (λ sort. sort.now) action.now.sorts) (map plain_shape shapes.now) }
 {
-    is_boolean_symbol(symbol)
+    is_boolean_action_symbol(symbol)
         && (are_numbered(table, action.sorts.items(), symbol.sorts.items())
             && have_numbers(table, shapes, symbol.sorts.items()))
 }
 
 /// Whether a symbol is an action with Boolean values, and no attribute.
-fn is_boolean_symbol(symbol: &Symbol) -> bool
-    ensures { result ≡ is_boolean_symbol symbol.now }
+fn is_boolean_action_symbol(symbol: &Symbol) -> bool
+    ensures { result ≡ is_boolean_action_symbol symbol.now }
 {
     symbol.attribute.is_none() && (matches!(symbol.kind, Kind::Action) && symbol.domain == 0)
 }
