@@ -287,7 +287,7 @@ module _ (declarations : List Declaration) where
     others = numbers_where (is_member declarations boolean) 2 (flat_map object_declared declarations);
     booleans = first_two (is_below (pairs declarations) boolean boolean) (below_itself (pairs declarations)) _ _ _;
     values = both_kinds declarations (λ (c : Const). c.domain ≡ values_of (universe declarations) c.symbol)
-    (λ number constant e args. values_at constant.kind (known_at number constant e) ∙ sym (ap (values_of_symbol (universe declarations)) (symbol_at declarations number constant e)));
+        (λ number constant e args. values_at constant.kind (known_at number constant e) ∙ sym (ap (values_of_symbol (universe declarations)) (symbol_at declarations number constant e)));
   }
     where
       first_two : (b : Bool) → b ≡ true → (rest other : List ℕ) (more : List ℕ) → (if b then 0 ∷ (if b then 1 ∷ rest else other) else more) ≡ 0 ∷ 1 ∷ rest

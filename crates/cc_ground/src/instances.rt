@@ -29,7 +29,8 @@ use crate::values::{index_in, values_in_range};
 use cc_arena::laws::{ground_laws_fit, ground_laws_mean_laws, heads_there_are_ground};
 use cc_arena::{GroundLaw, Laws, Terms};
 use cc_defs::{
-    BaseLaw, BaseLaws, Fault, Formula, GroundHead, Head, Law, LimitAt, Node, OutOfMemory, Range, Refusal, Sig,
+    BaseLaw, BaseLaws, Fault, Formula, GroundHead, Head, Law, LimitAt, Node, OutOfMemory, Range,
+    Refusal, Sig,
 };
 use cc_sorts::Table;
 use std::alloc::Global;
