@@ -5,6 +5,7 @@ pub mod FreeVariables
 pub mod Heads
 pub mod Joints
 pub mod LawFaults
+pub mod Laws
 pub mod Leaves
 pub mod Meanings
 pub mod Pieces

@@ -3,6 +3,7 @@
 
 mod classes;
 mod expansion;
+pub mod form_laws;
 mod forms;
 mod head_parts;
 mod heads;
