@@ -1,5 +1,5 @@
 //! Descriptions and the ground laws that they stand for. What is expected is taken from the description of the language.
-ghost use Rattle.cc_ground.specs.Views.{IsSignatureFor};
+ghost use Rattle.cc_sorts.specs.Tables.{IsSignatureFor};
 
 use crate::{Described, describe};
 use bumpalo::Bump;

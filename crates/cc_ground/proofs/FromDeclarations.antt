@@ -27,7 +27,8 @@ use Rattle.cc_sorts.specs.declared.table.Placed.{Placed}
 use Rattle.cc_sorts.specs.Tables.{AreKnown, TableView, IsTable, IsSignatureOf, placed_of}
 use Rattle.cc_ground.specs.declared.maker.Maker.{Maker}
 use Rattle.cc_defs.specs.Universe.{Universe, HaveOwnValues, constants_in, objects_of, universe, values_of, values_of_symbol, with_none}
-use Rattle.cc_ground.specs.Views.{universe_in, universe_of, IsSignatureFor, IsSearchable, AreSearchable}
+use Rattle.cc_ground.specs.Views.{universe_in, universe_of, IsSearchable, AreSearchable}
+use Rattle.cc_sorts.specs.Tables.{IsSignatureFor}
 
 -- ---- the universe of a table and a signature
 

@@ -15,7 +15,8 @@ ghost use Rattle.cc_defs.specs.Universe.{boolean_actions, universe};
 ghost use Rattle.cc_sorts.specs.Tables.{IsTable, IsSignatureOf};
 ghost use Rattle.cc_ground.specs.Bindings.{environment_of, no_bindings};
 ghost use Rattle.cc_ground.specs.Counting.{length_of_part, laws_refusal, nodes_in};
-ghost use Rattle.cc_ground.specs.Views.{AreSearchable, HasMade, IsLike, IsSideSearchable, IsSignatureFor, LacksRoom, laws_behind, laws_of, laws_under, plain_side, universe_in, universe_of};
+ghost use Rattle.cc_ground.specs.Views.{AreSearchable, HasMade, IsLike, IsSideSearchable, LacksRoom, laws_behind, laws_of, laws_under, plain_side, universe_in, universe_of};
+ghost use Rattle.cc_sorts.specs.Tables.{IsSignatureFor};
 
 use crate::conditions::passes;
 use crate::counting::{choice_count, count_all};
