@@ -114,11 +114,11 @@ any_has fault left (declaration ∷ others) = fault left declaration || any_has 
 -- the least number that has a fault in the statement
 abbrev pub declaration_fault : List Declaration → List Declaration → Option ℕ
 declaration_fault left new = least (
-  (4, any_has is_twice left new)
-  ∷ (5, any_has is_unknown left new)
-  ∷ (6, any_has has_wrong_count left new)
-  ∷ (7, any_has has_wrong_sort left new)
-  ∷ [])
+    (4, any_has is_twice left new)
+    ∷ (5, any_has is_unknown left new)
+    ∷ (6, any_has has_wrong_count left new)
+    ∷ (7, any_has has_wrong_sort left new)
+    ∷ [])
 
 -- the objects that count: `false` and `true` do not
 abbrev pub object_count : List Declaration → ℕ
