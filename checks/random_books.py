@@ -175,9 +175,9 @@ class Case:
 
     def constant_item(self):
         actions = [symbol for symbol in self.symbols if symbol.kind == "action" and symbol.is_boolean()]
-        if chance(0.25) and actions or self.is_wild("attributes"):
+        if chance(0.4) and actions or self.is_wild("attributes"):
             return self.attribute_item(actions)
-        word = random.choice(FLUENT_WORDS + ACTION_WORDS + ["inertialFluent", "exogenousAction"])
+        word = random.choice(FLUENT_WORDS + ACTION_WORDS + ["inertialFluent", "exogenousAction", "exogenousAction"])
         with_values = [sort for sort in self.sorts if self.objects_of(sort)]
         domain = "boolean" if chance(0.55) else self.a_sort(with_values)
         if chance(0.015):
@@ -191,7 +191,9 @@ class Case:
 
     def argument_sorts(self):
         count = random.choice([0, 0, 0, 1, 1, 1, 2])
-        sorts = [self.a_sort() if chance(0.8) else random.choice(self.sorts) for _ in range(count)]
+        # mostly sorts that variables are of, or stand below
+        used = [sort for sort in self.sorts for own in self.variables.values() if self.is_below(own, sort)]
+        sorts = [self.a_sort(used if chance(0.7) else None) for _ in range(count)]
         small = [sort for sort in sorts if len(self.objects_of(sort)) <= 4] if count == 2 else sorts
         return small
 
@@ -255,7 +257,7 @@ class Case:
         return [symbol.name] + (["("] + joined(arguments, ",") + [")"] if arguments else [])
 
     def value(self, symbol, allowed):
-        if symbol.is_attribute and chance(0.3) or self.is_wild("sorts") and chance(0.2):
+        if symbol.is_attribute and chance(0.45) or self.is_wild("sorts") and chance(0.2):
             return ["none"]
         if symbol.is_boolean() and chance(0.7):
             return [random.choice(["true", "false"])]
@@ -421,10 +423,11 @@ class Case:
 
     def add_law(self):
         for _ in range(20):
-            variables = random.sample(list(self.variables), min(len(self.variables), random.choice([0, 1, 1, 2, 2, 3])))
+            variables = random.sample(list(self.variables), min(len(self.variables), random.choice([0, 1, 2, 2, 3])))
             law = self.law(variables)
             if law and None not in law:
-                if law != ["noconcurrency"] and (chance(0.35) or self.is_wild("free") or self.is_wild("tests")):
+                is_value_law = law[0] in ("exogenous", "inertial")
+                if law != ["noconcurrency"] and (chance(0.6 if is_value_law else 0.35) or self.is_wild("free") or self.is_wild("tests")):
                     law = law + ["where"] + self.test(law, variables)
                 self.statements.append(law + ["."])
                 return
@@ -432,7 +435,7 @@ class Case:
     def law(self, allowed):
         word = random.choice(
             "static static action fluent fluent constraint always nonexecutable default default exogenous inertial "
-            "causes causes-action may noconcurrency".split()
+            "causes causes-action may may noconcurrency".split()
         )
         if self.is_wild("determined"):
             word = random.choice(["fluent", "default", "inertial", "causes", "may"])
@@ -458,6 +461,7 @@ class Case:
             return self.default(allowed)
         if word in ("exogenous", "inertial"):
             symbols = [s for s in self.symbols if word == "exogenous" or s.kind == "simple"]
+            symbols = [s for s in symbols if s.sorts] * 2 + symbols
             if self.is_wild("determined"):
                 symbols = [s for s in self.symbols if s.kind == "determined"]
             if self.is_wild("sorts") and chance(0.5):
@@ -582,6 +586,9 @@ def described_case(looseness):
         case.add_variables()
     if chance(0.95):
         case.add_constants()
+    if chance(0.4):
+        case.add_variables()
+        case.add_constants()
     declarations = [case.add_sorts, case.add_objects, case.add_variables, case.add_constants, case.add_constants]
     makers = [case.add_law] * 7 + [case.add_query] * 2 + declarations
     count = random.choice([1, 2, 3, 4, 5, 6, 8, 10])
@@ -689,9 +696,14 @@ def add_empty_domain(statements):
 def add_limit(statements):
     """A count at its limit, or one past it."""
     more = random.choice([0, 1])
-    choice = random.randrange(5)
+    choice = random.randrange(7)
     at = random.randrange(len(statements) + 1)
-    if choice == 0:
+    if choice == 5:
+        statements.insert(at, ["always"] + ["("] * 998 + ["true"] + [")"] * (998 + more) + ["."])
+    elif choice == 6:
+        sign = random.choice(["&", "++", "->>", "<->"])
+        statements.insert(at, ["constraint"] + ["false", sign] * (998 + more) + ["true", "."])
+    elif choice == 0:
         statements.insert(at, [":-", "sorts", "S" * (255 + more), "."])
     elif choice == 1:
         statements.insert(at, [":-", "query", "maxstep", "::", "0" * (8 + more) + "1", "."])
@@ -828,7 +840,8 @@ def limit_cases():
     for more in (0, 1):
         filled = ":- sorts s.\n:- objects " + many("o", 4096 + more) + " :: s.\n"
         yield f"objects +{more}", [("f.cc", filled)]
-        yield f"declaration tokens +{more}", [("f.cc", ":- sorts " + many("s", 9999) + (" , " if more else "") + "; s.\n")]
+        comma = "," if more else ""
+        yield f"declaration tokens +{more}", [("f.cc", ":- variables " + many("v", 9998) + f"{comma} :: boolean.\n")]
         values = ":- sorts s.\n:- objects " + many("o", 1000 + more) + " :: s.\n:- constants c :: simpleFluent(s).\n"
         yield f"domain values +{more}", [("f.cc", values)]
         attribute = ":- sorts s. :- objects " + many("o", 999 + more) + " :: s. :- constants g :: action; c :: attribute(s) of g.\n"
@@ -841,9 +854,8 @@ def limit_cases():
         total = "%" + "x" * (1048576 - len(main) // 4 - 2) + "\n"
         yield f"total bytes +{more}", [("f.cc", main + " " * (3 + more) + "\n" if more else main), ("a", total)]
         steps = ":- sorts s. :- objects " + many("o", 100) + " :: s. :- variables X, Y, Z, W :: s.\n"
-        test = "false" if not more else "false"
         yield f"law instances +{more}", [
-            ("f.cc", steps + f"caused false if X=X & Y=Y & Z=Z where {test}.\n" + ("caused false where false.\n" if more else ""))
+            ("f.cc", steps + f"caused false if X=X & Y=Y & Z=Z where false.\n" + ("caused false where false.\n" if more else ""))
         ]
     deep = ":- sorts s. :- objects " + many("o", 10) + " :: s. :- variables X :: s. :- constants p :: simpleFluent.\n"
     yield "ground nodes", [("f.cc", deep + "constraint " + "[/\\X | " * 8 + "p" + "]" * 8 + ".\n")]
