@@ -993,82 +993,75 @@ def resolved(table, tree, numbers, bracket_numbers):
     return (sign,) + tuple(resolved(table, part, numbers, bracket_numbers) for part in tree[1:])
 
 
-def check_formulas(table, trees):
-    """Whether each name is known, has its number of arguments, and fits: the least number with a fault, or None."""
-    if any(has_unknown_name(table, tree) for tree in trees):
-        return 5
-    if any(has_wrong_arity(table, tree) for tree in trees):
-        return 6
-    if any(has_misfit(table, tree) for tree in trees):
-        return 7
-    return None
+def written_parts(law):
+    """The parts of a law before its test, in the order of its text."""
+    parts = [law.A, law.F, law.G, law.H, alone(law.c) if law.c else None]
+    return [part for part in parts if part is not None]
 
 
-def law_fault(table, law):
-    """The least number that has a fault in a law, or None."""
-    written = [tree for tree in (law.A, law.F, law.G, law.H) if tree is not None]
-    test = [] if law.where is None else [law.where]
+def test_of(law):
+    return [] if law.where is None else [law.where]
+
+
+def law_has_unknown_name(table, law):
+    return any(has_unknown_name(table, tree) for tree in written_parts(law) + test_of(law))
+
+
+def law_has_wrong_arity(table, law):
+    return any(has_wrong_arity(table, tree) for tree in written_parts(law) + test_of(law))
+
+
+def law_has_misfit(table, law):
     if law.c is None:
-        fault = check_formulas(table, written + test)
+        misfit = any(has_misfit(table, tree) for tree in written_parts(law))
     else:
-        fault = check_value_law(table, law.c, test)
-        written = [("=", law.c, law.c)]
-    if fault is not None:
-        return fault
-    if any(constants_in(table, tree) for tree in test):
-        return 7
-    free = [name for tree in written for name in free_variables(table, tree)]
-    if any(name not in free for tree in test for name in free_variables(table, tree)):
-        return 8
+        misfit = not is_constant(table, law.c) or not arguments_fit(table, law.c)
+    return misfit or any(has_misfit(table, tree) or constants_in(table, tree) for tree in test_of(law))
+
+
+def law_is_unbound(table, law):
+    free = variables_of(table, law)
+    return any(name not in free for tree in test_of(law) for name in free_variables(table, tree))
+
+
+def law_has_no_form(table, law):
+    return not has_right_parts(table, law) or form_of(table, is_short_for(table, law)) is None
+
+
+def law_has_determined_head(table, law):
     caused = is_short_for(table, law)
-    if law.c is None and not has_right_parts(table, law):
-        return 9
-    return head_fault(table, law, caused)
+    return form_of(table, caused) == "fluent" and has_determined_fluent(table, caused.head)
 
 
-def head_fault(table, law, caused):
-    if law.word in ("exogenous", "inertial"):
-        return value_law_fault(table, law)
-    form = form_of(table, caused)
-    if form is None:
-        return 9
-    if form == "fluent" and has_determined_fluent(table, caused.head):
-        return 10
-    return 11 if definite_parts(table, caused.head) is None else None
+def law_is_not_definite(table, law):
+    return definite_parts(table, is_short_for(table, law).head) is None
 
 
-def check_value_law(table, c, test):
-    """The faults 5 to 7 of 'exogenous c' and 'inertial c', where c is a term of any kind."""
-    names = [what_is(table, term.name) for term in with_arguments(c)]
-    if "unknown" in names or any(has_unknown_name(table, tree) for tree in test):
-        return 5
-    wrong = any(len(term.arguments) != declared_arity(table, term.name) for term in with_arguments(c))
-    if wrong or any(has_wrong_arity(table, tree) for tree in test):
-        return 6
-    if not is_constant(table, c) or not arguments_fit(table, c) or any(has_misfit(table, tree) for tree in test):
-        return 7
-    return None
+# The refusals of laws; each test is made where none of those above it holds.
+LAW_FAULTS = [
+    (5, law_has_unknown_name),
+    (6, law_has_wrong_arity),
+    (7, law_has_misfit),
+    (8, law_is_unbound),
+    (9, law_has_no_form),
+    (10, law_has_determined_head),
+    (11, law_is_not_definite),
+]
 
 
-def value_law_fault(table, law):
-    """Every constant may be exogenous; an inertial one is a fluent, and not a statically determined one."""
-    kind = table.symbols[law.c.name].kind
-    if law.word == "inertial" and kind == "action":
-        return 9
-    return 10 if law.word == "inertial" and kind == "determined" else None
+def variables_of(table, law):
+    """The names of a law's variables, in the order in which they first come."""
+    return list(dict.fromkeys(name for tree in written_parts(law) for name in free_variables(table, tree)))
 
 
 def base_laws_of_law(table, law, place):
     """The base laws that a law stands for, in order; refused by the least number that has a fault in it."""
     if law.word == "noconcurrency":
         return [NoConcurrency(place)]
-    fault = law_fault(table, law)
-    if fault is not None:
-        raise Refused(fault, place)
-    written = [("=", law.c, law.c)] if law.c else [tree for tree in (law.A, law.F, law.G, law.H) if tree is not None]
-    if law.word not in ("causes", "may cause"):
-        assert law.A is None  # so the parts stand in the order of the text
-    names = list(dict.fromkeys(name for tree in written for name in free_variables(table, tree)))
+    for number, has_fault in LAW_FAULTS:
+        if has_fault(table, law):
+            raise Refused(number, place)
+    names = variables_of(table, law)
     ranges = [("sort", table.variables[name]) for name in names]
     return base_laws(table, is_short_for(table, law), names, ranges, law.where, place)
 
@@ -1127,25 +1120,49 @@ Condition = namedtuple("Condition", "at formula")
 Query = namedtuple("Query", "label range conditions claim place")
 
 
-def has_second(tree, labels):
-    """4: a query has two labels, two maxsteps or two claims, or the label of an earlier query."""
+def asked_formulas(tree):
+    return [formula for item in tree.items if isinstance(item, AtStep) for formula in item.formulas]
+
+
+def query_has_second(table, tree, labels):
     own = [item.text for item in tree.items if isinstance(item, Label)]
     ranges = [item for item in tree.items if isinstance(item, Range)]
     claims = [item for item in tree.items if isinstance(item, AtStep) and item.claim]
     return len(own) > 1 or len(ranges) > 1 or len(claims) > 1 or any(label in labels for label in own)
 
 
+def query_has_unknown_name(table, tree, labels):
+    return any(has_unknown_name(table, formula) for formula in asked_formulas(tree))
+
+
+def query_has_wrong_arity(table, tree, labels):
+    return any(has_wrong_arity(table, formula) for formula in asked_formulas(tree))
+
+
+def query_has_misfit(table, tree, labels):
+    return any(has_misfit(table, formula) for formula in asked_formulas(tree))
+
+
+def query_is_unbound(table, tree, labels):
+    return any(free_variables(table, formula) for formula in asked_formulas(tree))
+
+
+# The refusals of queries; labels are those of the earlier queries. Each test is made where none above it holds.
+QUERY_FAULTS = [
+    (4, query_has_second),
+    (5, query_has_unknown_name),
+    (6, query_has_wrong_arity),
+    (7, query_has_misfit),
+    (8, query_is_unbound),
+]
+
+
 def query_of(table, tree, labels, place):
     """What a query asks; refused by the least number that has a fault in it."""
+    for number, has_fault in QUERY_FAULTS:
+        if has_fault(table, tree, labels):
+            raise Refused(number, place)
     asked = [item for item in tree.items if isinstance(item, AtStep)]
-    formulas = [formula for item in asked for formula in item.formulas]
-    if has_second(tree, labels):
-        raise Refused(4, place)
-    fault = check_formulas(table, formulas)
-    if fault is None and any(free_variables(table, formula) for formula in formulas):
-        fault = 8
-    if fault is not None:
-        raise Refused(fault, place)
     bracket_numbers = Numbers(0)
     conditions = [condition_of(table, item, bracket_numbers) for item in asked if not item.claim]
     claims = [condition_of(table, item, bracket_numbers) for item in asked if item.claim]
@@ -1546,12 +1563,24 @@ def main():
 
 
 def run_deep(function):
-    """Runs a function with room for deeply nested formulas."""
+    """What a function gives, run with room for deeply nested formulas."""
+    ends = []
+
+    def run():
+        try:
+            ends.append((function(), None))
+        except BaseException as stop:
+            ends.append((None, stop))
+
     sys.setrecursionlimit(1000000)
     threading.stack_size(512 * 1024 * 1024)
-    thread = threading.Thread(target=function)
+    thread = threading.Thread(target=run)
     thread.start()
     thread.join()
+    value, stop = ends[0]
+    if stop is not None:
+        raise stop
+    return value
 
 
 if __name__ == "__main__":
