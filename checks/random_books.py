@@ -219,11 +219,13 @@ class Case:
         else:
             action = random.choice(actions)
             sorts = list(action.sorts)
+        own = action.sorts
         if self.is_wild("attributes") and sorts:
-            sorts = sorts[:-1] + [random.choice(self.sorts)]
+            changed = sorts[:-1] + [random.choice(self.sorts)]
+            sorts, own = random.choice([(changed, own), (sorts, changed), (changed, changed)])
         domain = self.a_sort()
         shapes = [self.shape(self.new_symbol(sorts, "action", domain, True), sorts) for _ in range(self.few())]
-        return joined(shapes, ",") + ["::", "attribute", "(", domain, ")", "of"] + self.shape(action.name, action.sorts)
+        return joined(shapes, ",") + ["::", "attribute", "(", domain, ")", "of"] + self.shape(action.name, own)
 
     def any_declared_name(self):
         return random.choice(self.taken()[2:] + UNKNOWN[:1])
@@ -235,12 +237,19 @@ class Case:
         if self.is_wild("names"):
             return self.wild_term()
         if self.is_wild("sorts"):
-            return [random.choice(list(self.objects) + list(self.variables) + ["none"])]
+            return [self.near_name(sort)]
         variables = self.variables_of(sort, allowed)
         objects = self.objects_of(sort)
         if variables and (chance(0.65) or not objects):
             return [random.choice(variables)]
         return [random.choice(objects)] if objects else None
+
+    def near_name(self, sort):
+        """A name that stands for something of a sort near this one: above it, beside it, or of none."""
+        names = [name for name, own in list(self.objects.items()) + list(self.variables.items()) if own != sort]
+        above = [name for name, own in self.variables.items() if self.is_below(sort, own) and own != sort]
+        names += above * len(names) + ["none"] + [symbol.name for symbol in self.symbols if not symbol.sorts][:2]
+        return random.choice(names)
 
     def wild_term(self):
         name = self.any_name()
@@ -301,14 +310,18 @@ class Case:
 
     def bracket(self, kind, allowed, depth):
         variable = self.any_name() if self.is_wild("names") else random.choice(list(self.variables))
+        if self.is_wild("sorts") and chance(0.3):
+            variable = random.choice(list(self.objects)[2:] + [symbol.name for symbol in self.symbols] + [variable])
         if variable in ("none", "true", "false"):
             variable = random.choice(list(self.variables))
         inner = list(allowed) + [variable] * 3 if variable in self.variables else allowed
         return ["[", random.choice(["/\\", "\\/"]), variable, "|"] + self.formula(kind, inner, depth) + ["]"]
 
     def leaf(self, kind, allowed):
-        if self.is_wild("names") or self.is_wild("sorts") and chance(0.3):
+        if self.is_wild("names"):
             return self.wild_leaf()
+        if self.is_wild("sorts") and chance(0.5):
+            return self.near_leaf(kind, allowed)
         for _ in range(4):
             symbols = self.symbols_for(kind)
             if symbols and chance(0.9):
@@ -323,6 +336,16 @@ class Case:
         if chance(0.4):
             return self.wild_term()
         return self.wild_term() + [random.choice(["=", "\\="])] + self.wild_term()
+
+    def near_leaf(self, kind, allowed):
+        """What stands alone, or is compared, and may or may not."""
+        symbols = self.symbols_for(kind)
+        constant = (symbols and self.constant(random.choice(symbols), allowed)) or ["true"]
+        plain = [random.choice(list(self.variables) + list(self.objects))]
+        sign = [random.choice(["=", "\\="])]
+        choices = [plain, constant, ["none"], constant + sign + ["none"], ["none"] + sign + constant]
+        choices += [["none"] + sign + plain, plain + sign + ["none"], constant + sign + plain, plain + sign + constant]
+        return random.choice(choices)
 
     def constant_leaf(self, symbol, symbols, allowed):
         constant = self.constant(symbol, allowed)
@@ -388,7 +411,13 @@ class Case:
     def near_head(self, kind, allowed):
         """What looks like a part of a head, and is one or not."""
         leaf = self.leaf(kind, allowed)
-        return random.choice([leaf, ["-"] + leaf, ["-", "-"] + leaf, ["-", "("] + leaf + [")"], ["true"], ["-", "false"]])
+        near = [leaf, ["-"] + leaf, ["-", "-"] + leaf, ["-", "("] + leaf + [")"], ["true"], ["-", "false"]]
+        booleans = [symbol for symbol in self.symbols_for(kind) if symbol.domain == "boolean"]
+        constant = self.constant(random.choice(booleans), allowed) if booleans else None
+        if constant:
+            truth = [random.choice(["true", "false"])]
+            near += [truth + ["\\="] + constant, constant + ["\\="] + truth, ["-", "("] + truth + ["="] + constant + [")"]]
+        return random.choice(near)
 
     def head_part(self, symbols, allowed):
         if not symbols:
@@ -569,8 +598,8 @@ class Case:
 
 
 LOOSE_KINDS = (
-    "taken twice chains attributes names arities sorts kinds determined heads free tests".split()
-    + "arities sorts kinds determined heads free attributes sorts kinds determined determined heads free".split()
+    "taken twice chains chains attributes names arities sorts kinds determined heads free tests".split()
+    + "arities sorts sorts kinds determined heads free attributes sorts kinds determined determined heads free twice".split()
     + ["sort names"]
 )
 KINDS_OF_DECLARATIONS = ["taken", "sort names", "chains", "attributes"]
@@ -592,12 +621,12 @@ def described_case(looseness):
     declarations = [case.add_sorts, case.add_objects, case.add_variables, case.add_constants, case.add_constants]
     makers = [case.add_law] * 7 + [case.add_query] * 2 + declarations
     count = random.choice([1, 2, 3, 4, 5, 6, 8, 10])
-    loose_at = [random.randrange(count) for _ in range(random.choice([1, 2, 2, 3]))] if looseness else []
+    loose_at = range(count) if looseness < 0.3 else [random.randrange(count) for _ in range(random.choice([1, 2, 2, 3]))]
     loose_kinds = random.sample(LOOSE_KINDS, random.choice([1, 1, 2])) if chance(0.85) else LOOSE_KINDS
     for number in range(count):
         case.looseness = looseness if number in loose_at else 0.0
         case.loose_kinds = loose_kinds
-        if case.looseness and set(loose_kinds) & set(KINDS_OF_DECLARATIONS):
+        if case.looseness and set(loose_kinds) & set(KINDS_OF_DECLARATIONS) and chance(0.6):
             random.choice(declarations)()
         else:
             random.choice(makers)()
@@ -605,7 +634,8 @@ def described_case(looseness):
 
 
 def loose_case():
-    return described_case(random.choice([0.2, 0.5, 0.8]))
+    """Faults one by one, or several at once in a few statements."""
+    return described_case(random.choice([0.1, 0.15, 0.25, 0.5, 0.8]))
 
 
 def change_tokens(statements):
@@ -660,6 +690,22 @@ def change_kind(statements):
     return statements
 
 
+def change_sort(statements):
+    """The sort of objects, variables, arguments or values is another one, mostly above or below it."""
+    sorts = [name for tokens in statements for name in tokens[2:] if tokens[:2] == [":-", "sorts"] and name in NAMES]
+    declared = [tokens for tokens in statements if tokens[1:2] in (["objects"], ["variables"], ["constants"])]
+    places = [
+        (tokens, at)
+        for tokens in declared
+        for at in range(3, len(tokens))
+        if tokens[at] in sorts + ["boolean"] and tokens[at - 1] in ("::", "(")
+    ]
+    if places:
+        tokens, at = random.choice(places)
+        tokens[at] = random.choice(sorts + ["boolean"])
+    return statements
+
+
 def move_statement(statements):
     tokens = statements.pop(random.randrange(len(statements)))
     if chance(0.5):
@@ -682,14 +728,52 @@ def add_not_yet(statements):
 
 def add_empty_domain(statements):
     """A constant over a sort without objects; with and without a ground constant."""
-    word = random.choice(FLUENT_WORDS + ACTION_WORDS)
+    word = random.choice(random.choice([FLUENT_WORDS, ACTION_WORDS]))
     sorts = random.choice([[], [], ["boolean"], ["nothing"], ["nothing", "boolean"]])
     shape = ["unfilled"] + (["("] + joined([[sort] for sort in sorts], ",") + [")"] if sorts else [])
     statements.insert(random.randrange(len(statements) + 1), [":-", "sorts", "nothing", "."])
     at = next(number for number, tokens in enumerate(statements) if "nothing" in tokens) + 1
     statements.insert(random.randrange(at, len(statements) + 1), [":-", "constants"] + shape + ["::", word, "(", "nothing", ")", "."])
+    if chance(0.6):
+        other = [":-", "constants", "hollow", "::", random.choice(random.choice([FLUENT_WORDS, ACTION_WORDS])), "(", "nothing", ")", "."]
+        statements.insert(random.randrange(at, len(statements) + 1), other)
     if chance(0.3):
         statements.append([":-", "objects", "something", "::", "nothing", "."])
+    return statements
+
+
+def add_attribute(statements):
+    """An attribute and its action, whose sorts are the same, or nearly so, in the three places where they stand."""
+    sorts = random.choice([[], ["left"], ["left", "boolean"], ["left", "right"]])
+
+    def near():
+        changed = list(sorts)
+        if chance(0.2) and changed:
+            changed[random.randrange(len(changed))] = random.choice(["left", "right", "boolean"])
+        if chance(0.07):
+            changed = changed[1:] if chance(0.5) else changed + ["right"]
+        return ["("] + joined([[sort] for sort in changed], ",") + [")"] if changed else []
+
+    kind = random.choice(["action", "action", "exogenousAction", "action", "sdFluent", "attribute"])
+    own = ["deed"] + near() + ["::"] + (["attribute", "(", "left", ")", "of", "deed"] if kind == "attribute" else [kind])
+    if kind in ACTION_WORDS and chance(0.15):
+        own += ["(", random.choice(["left", "boolean"]), ")"]
+    attribute = ["how"] + near() + ["::", "attribute", "(", random.choice(["left", "boolean"]), ")", "of", "deed"] + near()
+    at = random.randrange(len(statements) + 1)
+    statements[at:at] = [
+        [":-", "sorts", "left", ",", "right", "."],
+        [":-", "objects", "here", "::", "left", "."],
+        [":-", "constants"] + joined([own, attribute] if chance(0.93) else [attribute, own], ";") + ["."],
+    ]
+    return statements
+
+
+def add_chains(statements):
+    """Chains over few sorts: pairs a second time, circles, and the sort boolean among them."""
+    names = ["up", "mid", "low", "up", "mid", "low", "boolean"]
+    for _ in range(random.choice([1, 2, 2])):
+        chains = [joined([[random.choice(names)] for _ in range(random.choice([2, 2, 3]))], ">>") for _ in range(random.choice([1, 2]))]
+        statements.insert(random.randrange(len(statements) + 1), [":-", "sorts"] + joined(chains, ";") + ["."])
     return statements
 
 
@@ -717,8 +801,10 @@ def add_limit(statements):
 
 
 STATEMENT_FAULTS = [
-    (change_tokens, 10), (change_name, 12), (change_operator, 14), (change_kind, 16), (move_statement, 8),
-    (say_again, 5), (add_not_yet, 5), (add_empty_domain, 7), (add_limit, 4),
+    (change_tokens, 10), (change_name, 12), (change_operator, 14), (change_kind, 14), (move_statement, 6),
+    (change_sort, 16),
+    (say_again, 5), (add_not_yet, 4), (add_empty_domain, 8), (add_limit, 4),
+    (add_attribute, 10), (add_chains, 6),
 ]
 
 
