@@ -19,7 +19,8 @@ NAMES = (
     "loc walk dark labels trueish"
 ).split()
 UNKNOWN = ["zz", "q9", "Unknown"]
-GAPS = [" "] * 40 + ["\n"] * 10 + ["  ", "\t", "\r\n", " % a note: caused p. :- 'it\n", "%\n", "% \xe9\xff ==\n", "\n\n"]
+GAPS = [" "] * 40 + ["\n"] * 10 + ["  ", "\t", "\r\n", "\n\n"]
+GAPS += [" % a note: caused p. :- 'it\n", "%\n", "% \xe9\xff ==\n"]
 FREE_OF_JOINS = set("()[],;|")
 FLUENT_WORDS = ["simpleFluent", "inertialFluent", "sdFluent", "sdFluent", "rigid"]
 ACTION_WORDS = ["action", "exogenousAction"]
@@ -66,9 +67,7 @@ class Case:
     # What there is
 
     def is_below(self, lower, upper):
-        return lower == upper or any(
-            up == upper and self.is_below(lower, low) for up, low in self.pairs if (up, low) != (low, up)
-        )
+        return lower == upper or any(up == upper and self.is_below(lower, low) for up, low in self.pairs)
 
     def objects_of(self, sort):
         return [name for name, own in self.objects.items() if self.is_below(own, sort)]
@@ -416,7 +415,8 @@ class Case:
         constant = self.constant(random.choice(booleans), allowed) if booleans else None
         if constant:
             truth = [random.choice(["true", "false"])]
-            near += [truth + ["\\="] + constant, constant + ["\\="] + truth, ["-", "("] + truth + ["="] + constant + [")"]]
+            near += [truth + ["\\="] + constant, constant + ["\\="] + truth]
+            near += [["-", "("] + truth + ["="] + constant + [")"]]
         return random.choice(near)
 
     def head_part(self, symbols, allowed):
@@ -455,8 +455,9 @@ class Case:
             variables = random.sample(list(self.variables), min(len(self.variables), random.choice([0, 1, 2, 2, 3])))
             law = self.law(variables)
             if law and None not in law:
-                is_value_law = law[0] in ("exogenous", "inertial")
-                if law != ["noconcurrency"] and (chance(0.6 if is_value_law else 0.35) or self.is_wild("free") or self.is_wild("tests")):
+                often = 0.6 if law[0] in ("exogenous", "inertial") else 0.35
+                tested = chance(often) or self.is_wild("free") or self.is_wild("tests")
+                if tested and law != ["noconcurrency"]:
                     law = law + ["where"] + self.test(law, variables)
                 self.statements.append(law + ["."])
                 return
@@ -517,7 +518,7 @@ class Case:
 
     def wild_law(self, allowed):
         """A law whose parts are formulas of any kind, or a law of values of any term."""
-        word = random.choice(["caused", "constraint", "nonexecutable", "default", "exogenous", "inertial", "causes", "may"])
+        word = random.choice("caused constraint nonexecutable default exogenous inertial causes may".split())
         head = self.head(random.choice(["fluent", "action"]), allowed) if chance(0.7) else self.formula("any", allowed)
         if word in ("exogenous", "inertial"):
             symbols = self.symbols
@@ -563,7 +564,8 @@ class Case:
         if chance(0.6) or self.is_wild("twice"):
             items.append(["label", "::", self.label()])
         if chance(0.9):
-            items.append(["maxstep", "::"] + random.choice([[str(lo)], [str(lo), "..", str(hi)], [f"00{lo}", "..", str(hi)]]))
+            numbers = random.choice([[str(lo)], [str(lo), "..", str(hi)], [f"00{lo}", "..", str(hi)]])
+            items.append(["maxstep", "::"] + numbers)
         for _ in range(random.choice([0, 1, 1, 2, 3])):
             items.append(self.at_step(lo))
         if chance(0.35):
@@ -597,11 +599,11 @@ class Case:
 # ---------------------------------------------------------------------------------------------------------------
 
 
+# What a choice may be loose in, as often as it should come.
 LOOSE_KINDS = (
-    "taken twice chains chains attributes names arities sorts kinds determined heads free tests".split()
-    + "arities sorts sorts kinds determined heads free attributes sorts kinds determined determined heads free twice".split()
-    + ["sort names"]
-)
+    "taken twice twice chains chains attributes attributes names arities arities sorts sorts sorts sorts kinds kinds "
+    "kinds determined determined determined determined heads heads heads free free free tests"
+).split() + ["sort names"]
 KINDS_OF_DECLARATIONS = ["taken", "sort names", "chains", "attributes"]
 
 
@@ -621,7 +623,8 @@ def described_case(looseness):
     declarations = [case.add_sorts, case.add_objects, case.add_variables, case.add_constants, case.add_constants]
     makers = [case.add_law] * 7 + [case.add_query] * 2 + declarations
     count = random.choice([1, 2, 3, 4, 5, 6, 8, 10])
-    loose_at = range(count) if looseness < 0.3 else [random.randrange(count) for _ in range(random.choice([1, 2, 2, 3]))]
+    few = [random.randrange(count) for _ in range(random.choice([1, 2, 2, 3]))]
+    loose_at = range(count) if looseness < 0.3 else few
     loose_kinds = random.sample(LOOSE_KINDS, random.choice([1, 1, 2])) if chance(0.85) else LOOSE_KINDS
     for number in range(count):
         case.looseness = looseness if number in loose_at else 0.0
@@ -669,7 +672,8 @@ def change_name(statements):
 
 def change_operator(statements):
     """An operator is another one: mostly still a tree, and often no definite head or another form of law."""
-    groups = [["&", "++", "->>", "<->"], ["=", "\\="], ["if", "after"], ["causes", "if"], ["/\\", "\\/"], ["caused", "default"]]
+    groups = [["&", "++", "->>", "<->"], ["=", "\\="], ["/\\", "\\/"]]
+    groups += [["if", "after"], ["causes", "if"], ["caused", "default"]]
     for _ in range(10):
         tokens = random.choice(statements)
         at = random.randrange(max(1, len(tokens)))
@@ -727,17 +731,17 @@ def add_not_yet(statements):
 
 
 def add_empty_domain(statements):
-    """A constant over a sort without objects; with and without a ground constant."""
-    word = random.choice(random.choice([FLUENT_WORDS, ACTION_WORDS]))
-    sorts = random.choice([[], [], ["boolean"], ["nothing"], ["nothing", "boolean"]])
-    shape = ["unfilled"] + (["("] + joined([[sort] for sort in sorts], ",") + [")"] if sorts else [])
-    statements.insert(random.randrange(len(statements) + 1), [":-", "sorts", "nothing", "."])
-    at = next(number for number, tokens in enumerate(statements) if "nothing" in tokens) + 1
-    statements.insert(random.randrange(at, len(statements) + 1), [":-", "constants"] + shape + ["::", word, "(", "nothing", ")", "."])
-    if chance(0.6):
-        other = [":-", "constants", "hollow", "::", random.choice(random.choice([FLUENT_WORDS, ACTION_WORDS])), "(", "nothing", ")", "."]
-        statements.insert(random.randrange(at, len(statements) + 1), other)
-    if chance(0.3):
+    """A constant over a sort without objects, or two; with and without a ground constant."""
+    names = ["unfilled", "hollow"] if chance(0.6) else ["unfilled"]
+    at = random.randrange(len(statements) + 1)
+    statements.insert(at, [":-", "sorts", "nothing", "."])
+    for name in names:
+        word = random.choice(random.choice([FLUENT_WORDS, ACTION_WORDS]))
+        sorts = random.choice([[], [], [], ["boolean"], ["nothing"], ["nothing", "boolean"]])
+        shape = [name] + (["("] + joined([[sort] for sort in sorts], ",") + [")"] if sorts else [])
+        constant = [":-", "constants"] + shape + ["::", word, "(", "nothing", ")", "."]
+        statements.insert(random.randrange(at + 1, len(statements) + 1), constant)
+    if chance(0.2):
         statements.append([":-", "objects", "something", "::", "nothing", "."])
     return statements
 
@@ -755,10 +759,12 @@ def add_attribute(statements):
         return ["("] + joined([[sort] for sort in changed], ",") + [")"] if changed else []
 
     kind = random.choice(["action", "action", "exogenousAction", "action", "sdFluent", "attribute"])
-    own = ["deed"] + near() + ["::"] + (["attribute", "(", "left", ")", "of", "deed"] if kind == "attribute" else [kind])
+    own = ["deed"] + near() + ["::"]
+    own += ["attribute", "(", "left", ")", "of", "deed"] if kind == "attribute" else [kind]
     if kind in ACTION_WORDS and chance(0.15):
         own += ["(", random.choice(["left", "boolean"]), ")"]
-    attribute = ["how"] + near() + ["::", "attribute", "(", random.choice(["left", "boolean"]), ")", "of", "deed"] + near()
+    values = random.choice(["left", "boolean"])
+    attribute = ["how"] + near() + ["::", "attribute", "(", values, ")", "of", "deed"] + near()
     at = random.randrange(len(statements) + 1)
     statements[at:at] = [
         [":-", "sorts", "left", ",", "right", "."],
@@ -772,7 +778,8 @@ def add_chains(statements):
     """Chains over few sorts: pairs a second time, circles, and the sort boolean among them."""
     names = ["up", "mid", "low", "up", "mid", "low", "boolean"]
     for _ in range(random.choice([1, 2, 2])):
-        chains = [joined([[random.choice(names)] for _ in range(random.choice([2, 2, 3]))], ">>") for _ in range(random.choice([1, 2]))]
+        lengths = random.choices([2, 2, 3], k=random.choice([1, 2]))
+        chains = [joined([[random.choice(names)] for _ in range(length)], ">>") for length in lengths]
         statements.insert(random.randrange(len(statements) + 1), [":-", "sorts"] + joined(chains, ";") + ["."])
     return statements
 
@@ -832,7 +839,7 @@ def needs_gap(before, token):
 
 def change_byte(text):
     at = random.randrange(len(text))
-    sign = random.choice(["", "#", "/", "\\", "'", "\x00", "\xe9", "%", "0", "_", ".", "-", ":", "\n", "?", chr(random.randrange(256))])
+    sign = random.choice(["", "\x00", "\xe9", chr(random.randrange(256))] + list("#/\\'%0_.-:\n?"))
     return text[:at] + sign + text[at + (0 if chance(0.4) else 1) :]
 
 
@@ -874,7 +881,8 @@ def spoil_includes(files):
         where.insert(at, include(names[0]))
         for name, following in zip(names, names[1:]):
             files.append((name, [include(following)]))
-        files.append((names[-1], [["always", "true", "."]] if chance(0.7) else [include(random.choice(names + ["f.cc"]))]))
+        last = ["always", "true", "."] if chance(0.7) else include(random.choice(names + ["f.cc"]))
+        files.append((names[-1], [last]))
     return files
 
 
@@ -889,7 +897,8 @@ def random_files():
     if chance(0.05):
         files = spoil_includes(files)
     if chance(0.05):
-        files.append(files[random.randrange(len(files))][:1] + ([["noconcurrency", "."]],))
+        # a second file of a name, which does not count
+        files.append((random.choice(files)[0], [["noconcurrency", "."]]))
     texts = [(name, spelled(tokens)) for name, tokens in files]
     if chance(0.03):
         at = random.randrange(len(texts))
@@ -930,9 +939,11 @@ def limit_cases():
         yield f"declaration tokens +{more}", [("f.cc", ":- variables " + many("v", 9998) + f"{comma} :: boolean.\n")]
         values = ":- sorts s.\n:- objects " + many("o", 1000 + more) + " :: s.\n:- constants c :: simpleFluent(s).\n"
         yield f"domain values +{more}", [("f.cc", values)]
-        attribute = ":- sorts s. :- objects " + many("o", 999 + more) + " :: s. :- constants g :: action; c :: attribute(s) of g.\n"
+        attribute = ":- sorts s. :- objects " + many("o", 999 + more) + " :: s.\n"
+        attribute += ":- constants g :: action; c :: attribute(s) of g.\n"
         yield f"values of an attribute +{more}", [("f.cc", attribute)]
-        both = ":- sorts s, t. :- objects " + many("o", 100) + " :: s; " + many("p", 200) + " :: t. :- constants c(s, t) :: simpleFluent"
+        both = ":- sorts s, t. :- objects " + many("o", 100) + " :: s; " + many("p", 200) + " :: t.\n"
+        both += ":- constants c(s, t) :: simpleFluent"
         yield f"ground constants +{more}", [("f.cc", both + ("; d :: sdFluent.\n" if more else ".\n"))]
         comment = ":- sorts s.\n%" + "x" * (1048576 + more - 14) + "\n"
         yield f"file bytes +{more}", [("f.cc", comment)]
@@ -940,15 +951,14 @@ def limit_cases():
         total = "%" + "x" * (1048576 - len(main) // 4 - 2) + "\n"
         yield f"total bytes +{more}", [("f.cc", main + " " * (3 + more) + "\n" if more else main), ("a", total)]
         steps = ":- sorts s. :- objects " + many("o", 100) + " :: s. :- variables X, Y, Z, W :: s.\n"
-        yield f"law instances +{more}", [
-            ("f.cc", steps + f"caused false if X=X & Y=Y & Z=Z where false.\n" + ("caused false where false.\n" if more else ""))
-        ]
+        steps += "caused false if X=X & Y=Y & Z=Z where false.\n" + ("caused false where false.\n" if more else "")
+        yield f"law instances +{more}", [("f.cc", steps)]
     deep = ":- sorts s. :- objects " + many("o", 10) + " :: s. :- variables X :: s. :- constants p :: simpleFluent.\n"
     yield "ground nodes", [("f.cc", deep + "constraint " + "[/\\X | " * 8 + "p" + "]" * 8 + ".\n")]
-    yield "ground nodes of a query", [("f.cc", deep + ":- query maxstep :: 0; 0: " + "[\\/X | " * 8 + "p" + "]" * 8 + ".\n")]
-    yield "pairs of actions", [
-        ("f.cc", ":- sorts s. :- objects " + many("o", 1500) + " :: s. :- constants g(s) :: action.\nnoconcurrency.\n")
-    ]
+    query = ":- query maxstep :: 0; 0: " + "[\\/X | " * 8 + "p" + "]" * 8 + ".\n"
+    yield "ground nodes of a query", [("f.cc", deep + query)]
+    actions = ":- sorts s. :- objects " + many("o", 1500) + " :: s. :- constants g(s) :: action.\nnoconcurrency.\n"
+    yield "pairs of actions", [("f.cc", actions)]
 
 
 def main():

@@ -744,7 +744,8 @@ def is_misfit(table, part):
 def arguments_fit(table, term):
     if not is_constant(table, term):
         return True
-    return all(is_of_sort(table, argument, sort) for argument, sort in zip(term.arguments, table.symbols[term.name].sorts))
+    pairs = zip(term.arguments, table.symbols[term.name].sorts)
+    return all(is_of_sort(table, argument, sort) for argument, sort in pairs)
 
 
 def is_of_sort(table, term, sort):
@@ -902,7 +903,7 @@ def has_determined_fluent(table, tree):
 
 
 def definite_parts(table, head):
-    """11: the parts of a definite head in order, each False or a constant with its value; None where it is not definite."""
+    """11: the parts of a definite head in order, each False or a constant with its value; None for another head."""
     if head[0] == "&":
         left, right = definite_parts(table, head[1]), definite_parts(table, head[2])
         return None if left is None or right is None else left + right
