@@ -11,7 +11,7 @@ ghost use Rattle.cc_sorts.specs.Declaring.{plain_declaration};
 ghost use Rattle.cc_sorts.specs.Dictionaries.{number_of};
 ghost use Rattle.cc_sorts.specs.Lefts.{IsLeft, Adds, AddsUpper, new_uppers, has_sort as table_has_sort, has_name as table_has_name, left_has_sort, left_has_name, left_has_pair, left_has_upper, table_symbol, left_constant, arguments_of, plain_constant, action_fits, shaped_fits, numbers_fit, is_boolean_kind, is_boolean_action_symbol, is_numbered, are_numbered};
 ghost use Rattle.cc_sorts.specs.Lists.{AreBelow};
-ghost use Rattle.cc_sorts.specs.Searches.{Grows, IsClosed, table_uppers, all_uppers};
+ghost use Rattle.cc_sorts.specs.Searches.{Grows, IsClosed, AreClosed, table_uppers, all_uppers};
 ghost use Rattle.cc_sorts.specs.SortViews.{name_at};
 ghost use Rattle.cc_sorts.specs.Tables.{IsTable};
 
@@ -252,22 +252,49 @@ impl<'d, 't, 's> Left<'d, 't, 's> {
     {
         let mut found: IndexSet<&'a str> = IndexSet::new(alloc);
         found.insert(lower)?;
+        let mut closed: IndexSet<&'a str> = IndexSet::new(alloc);
         let mut done = 0;
         'search: while done < found.len() {
             let sort: &'a str = found[done];
-            self.add_above(sort, &mut found)?;
+            self.add_above(sort, &mut found, &mut closed)?;
             done += 1;
         }
         Ok(found)
     }
 
     /// Adds the sorts above a sort by the table, and its new upper sorts.
-    fn add_above<'a>(&'a self, sort: &str, found: &mut IndexSet<&'a str>) -> Result<(), OutOfMemory>
-        ensures { OnOk result (Grows found.old.keys found.new.keys (all_uppers self.now sort.now)) }
+    fn add_above<'a>(
+        &'a self,
+        sort: &str,
+        found: &mut IndexSet<&'a str>,
+        closed: &mut IndexSet<&'a str>,
+    ) -> Result<(), OutOfMemory>
+        requires { AreClosed self.now closed.old.keys found.old.keys }
+        ensures grown { OnOk result (Grows found.old.keys found.new.keys (all_uppers self.now sort.now)) }
+        ensures closed { OnOk result (AreClosed self.now closed.new.keys found.new.keys) }
     {
+        self.add_by_table(sort, found, closed)?;
+        self.add_new_uppers(sort, found)?;
+        Ok(())
+    }
+
+    /// Adds the sorts above a sort by the table. Those above one of these are among them, and are not asked for again.
+    fn add_by_table<'a>(
+        &'a self,
+        sort: &str,
+        found: &mut IndexSet<&'a str>,
+        closed: &mut IndexSet<&'a str>,
+    ) -> Result<(), OutOfMemory>
+        requires { AreClosed self.now closed.old.keys found.old.keys }
+        ensures grown { OnOk result (Grows found.old.keys found.new.keys (table_uppers self.now.table.now.sorts sort.now)) }
+        ensures closed { OnOk result (AreClosed self.now closed.new.keys found.new.keys) }
+    {
+        if closed.contains(sort) {
+            return Ok(());
+        }
         let table: &'a Register = self.table;
         add_table_uppers(&table.sorts, sort, found)?;
-        self.add_new_uppers(sort, found)?;
+        add_table_uppers(&table.sorts, sort, closed)?;
         Ok(())
     }
 
