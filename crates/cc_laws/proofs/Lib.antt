@@ -4,8 +4,10 @@ pub mod Atoms
 pub mod Copies
 pub mod Expanded
 pub mod Expansions
+pub mod Failing
 pub mod Fitted
 pub mod Gathered
+pub mod HeadTests
 pub mod ItemLaws
 pub mod Meant
 pub mod Mentions
