@@ -12,7 +12,9 @@ pub mod ItemLaws
 pub mod Meant
 pub mod Mentions
 pub mod Rows
+pub mod Scopes
 pub mod TermRows
+pub mod TreeSizes
 pub mod Unbound
 pub mod Valued
 pub mod Verdicts
