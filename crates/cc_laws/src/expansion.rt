@@ -78,11 +78,7 @@ fn written(
 }
 
 /// What the base laws of a law have in common.
-fn law_frame(
-    alloc: Global,
-    table: &Table,
-    source: Source<'_, '_>,
-) -> Result<Frame, OutOfMemory>
+fn law_frame(alloc: Global, table: &Table, source: Source<'_, '_>) -> Result<Frame, OutOfMemory>
     ensures { IfOk result (λ made. frame_of made ≡ frame_from (vocabulary_of table.now) source.entry) }
 {
     let ranges = sort_ranges(alloc, table, source.variables)?;

@@ -106,7 +106,10 @@ fn add_equation(
 ) -> Result<bool, OutOfMemory>
     ensures { IfOk result (λ definite. only_if definite (Some (map plain_head found.new.items)) ≡ both_heads (Some (map plain_head found.old.items)) (words.definite_heads (vocabulary_of table.now) (scope_of names.now) (equation (plain_term left.now) (plain_term right.now)))) }
 {
-    match (is_constant_term(table, left), is_constant_term(table, right)) {
+    match (
+        is_constant_term(table, left),
+        is_constant_term(table, right),
+    ) {
         (true, false) => add_value(alloc, table, names, left, right, found),
         (false, true) => add_value(alloc, table, names, right, left, found),
         (true, true) | (false, false) => Ok(false),

@@ -34,11 +34,7 @@ pub(crate) fn is_falsity_term(table: &Table, term: &TermTree<'_>) -> bool
 }
 
 /// Whether a Boolean constant is compared with `false` or `true`.
-pub(crate) fn compares_boolean(
-    table: &Table,
-    constant: &TermTree<'_>,
-    value: &TermTree<'_>,
-) -> bool
+pub(crate) fn compares_boolean(table: &Table, constant: &TermTree<'_>, value: &TermTree<'_>) -> bool
     ensures { result ≡ words.is_boolean_term (vocabulary_of table.now) (plain_term constant.now) && words.is_truth_term (vocabulary_of table.now) (plain_term value.now) }
 {
     is_boolean_term(table, constant) && is_truth_term(table, value)
