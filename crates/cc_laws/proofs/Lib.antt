@@ -5,6 +5,7 @@ pub mod Copies
 pub mod EachOf
 pub mod Expanded
 pub mod Expansions
+pub mod Failing
 pub mod Fitted
 pub mod FormsOfConstants
 pub mod FormsOfLaws
@@ -12,14 +13,17 @@ pub mod FormsOfSplits
 pub mod FormsOfValues
 pub mod Gathered
 pub mod HeadSymbols
+pub mod HeadTests
 pub mod ItemLaws
 pub mod Meant
 pub mod Mentions
 pub mod MoreSymbols
 pub mod QueryForms
 pub mod Rows
+pub mod Scopes
 pub mod SymbolsMeant
 pub mod TermRows
+pub mod TreeSizes
 pub mod Unbound
 pub mod Valued
 pub mod Verdicts
