@@ -5,6 +5,7 @@ pub mod Copies
 pub mod EachOf
 pub mod Expanded
 pub mod Expansions
+pub mod Failing
 pub mod Fitted
 pub mod FormsOfConstants
 pub mod FormsOfLaws
@@ -12,6 +13,7 @@ pub mod FormsOfSplits
 pub mod FormsOfValues
 pub mod Gathered
 pub mod HeadSymbols
+pub mod HeadTests
 pub mod ItemLaws
 pub mod Meant
 pub mod Mentions

@@ -2,8 +2,8 @@
 ghost use Rattle.std.specs.Prelude.{◌≡◌};
 ghost use Rattle.cc_defs.specs.Declarations as declared;
 ghost use Rattle.cc_defs.specs.Trees.{plain_term};
-ghost use Rattle.cc_laws.specs.FormulaFaults.{is_miscounted as has_other_count, meaning_has, stands_alone as may_stand_alone, term_meaning};
-ghost use Rattle.cc_laws.specs.Meanings.{plain_meaning};
+ghost use Rattle.cc_laws.specs.FormulaFaults.{is_miscounted as has_other_count, stands_alone as may_stand_alone, term_meaning};
+ghost use Rattle.cc_laws.specs.Views.{asks, plain_meaning};
 ghost use Rattle.cc_laws.specs.Vocabulary as words;
 ghost use Rattle.cc_laws.specs.Vocabulary.{vocabulary_of};
 
@@ -74,7 +74,7 @@ fn is_determined(kind: Kind) -> bool
 }
 
 impl<'t> Meaning<'t> {
-    fn is_unknown(&self) -> bool
+    pub(crate) fn is_unknown(&self) -> bool
         ensures { result ≡ words.is_unknown (plain_meaning self.now) }
     {
         match self {
@@ -178,7 +178,7 @@ impl<'t> Meaning<'t> {
 
     /// Whether a name with this meaning and so many arguments has the property.
     pub(crate) fn has(&self, property: Property, count: usize) -> bool
-        ensures { result ≡ meaning_has property (plain_meaning self.now) count }
+        ensures { result ≡ asks property (plain_meaning self.now) count }
     {
         match property {
             Property::Unknown => self.is_unknown(),

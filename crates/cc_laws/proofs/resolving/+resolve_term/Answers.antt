@@ -1,7 +1,7 @@
 use Rattle.std.proofs.Common.{List, ap, ◌∙◌}
 use Rattle.cc_defs.specs.declared.tree.TermTree.{TermTree}
 use Rattle.cc_laws.specs.Resolving.{resolve_terms}
-use Rattle.cc_laws.specs.TermLists.{plain_terms}
+use Rattle.cc_laws.specs.Views.{plain_terms}
 use Rattle.cc_laws.specs.Vocabulary.{vocabulary_of}
 use Rattle.cc_laws.proofs.TermRows.{resolved_more, resolved_all, term_resolved}
 use Rattle.cc_laws.proofs.resolving.+resolve_term.Goals as goal

@@ -1,6 +1,6 @@
 use Rattle.std.proofs.Common.{◌≡◌, drop}
 use Rattle.cc_laws.specs.Resolving.{resolve_terms}
-use Rattle.cc_laws.specs.TermLists.{plain_terms, row_terms}
+use Rattle.cc_laws.specs.Views.{plain_terms, row_terms}
 use Rattle.cc_laws.specs.Vocabulary.{vocabulary_of}
 use Rattle.cc_laws.proofs.TermRows.{behind}
 use Rattle.cc_laws.proofs.resolving.resolve_terms.Given as goal

@@ -1,22 +1,25 @@
 //! The faults of laws.
-ghost use Rattle.std.specs.Prelude.{◌≡◌, ◌++◌, List as Items, None, length, IfOk, IfErr, OnOk};
+ghost use Rattle.std.specs.Prelude.{◌≡◌, ◌++◌, List as Items, None, flat_map, IfOk, IfErr, OnOk};
 ghost use Rattle.std.specs.List.{list_any};
 ghost use Rattle.std.specs.Option.{option_map};
 ghost use Rattle.cc_defs.specs.Declarations.{Declaration as Declared};
 ghost use Rattle.cc_defs.specs.Trees.{plain_term, plain_tree, plain_law, plain_part, plain_statement};
-ghost use Rattle.cc_laws.specs.Checked.{IsRefusedLaw, refused_at};
-ghost use Rattle.cc_laws.specs.FormulaFaults.{formula_fails as tree_fails, has_constant};
+ghost use Rattle.cc_defs.specs.declared.refusal.Fault.TheVariants as faulty;
+ghost use Rattle.cc_defs.specs.Refusals as refusals;
+ghost use Rattle.cc_defs.specs.Refusals.{IsRefusedBy, least};
 ghost use Rattle.cc_laws.specs.LawFaults as faults;
-ghost use Rattle.cc_laws.specs.FreeVariables.{optional};
+ghost use Rattle.cc_laws.specs.FormulaFaults.{term_has};
+ghost use Rattle.cc_laws.specs.FreeVariables.{free, optional, unbound};
 ghost use Rattle.cc_laws.specs.LawFaults.{law_refusal};
+ghost use Rattle.cc_laws.specs.Views.{asks, fails};
 ghost use Rattle.cc_laws.specs.Vocabulary.{vocabulary, vocabulary_of};
 ghost use Rattle.cc_sorts.specs.Tables.{IsTable};
 
 use crate::forms::{has_determined_head, has_indefinite_head, lacks_form};
 use crate::meaning::meaning_of_term;
-use crate::mention::{Property, term_has};
+use crate::mention::{Property, term_has as has};
 use crate::misfits::term_misfits;
-use crate::variables::{add_free, add_unbound, firsts, free, some_is_new};
+use crate::variables::{add_free, add_unbound, firsts, free as free_in, some_is_new};
 use crate::walk::{Check, formula_fails};
 use cc_defs::{Fault, LawTree, OutOfMemory, Part, Refusal, Statement, TermTree, Tree};
 use cc_sorts::Table;
@@ -24,7 +27,7 @@ use std::alloc::Global;
 
 /// Whether a part that may be missing fails the check.
 fn part_fails(table: &Table, check: Check, part: &Option<Tree<'_>>) -> bool
-    ensures { result ≡ list_any (tree_fails (vocabulary_of table.now) check) (optional (option_map plain_tree part.now)) }
+    ensures { result ≡ list_any (fails (vocabulary_of table.now) check) (optional (option_map plain_tree part.now)) }
 {
     match part {
         Some(formula) => formula_fails(table, check, formula),
@@ -34,7 +37,7 @@ fn part_fails(table: &Table, check: Check, part: &Option<Tree<'_>>) -> bool
 
 /// Whether a formula of a law before `where` fails the check.
 fn formulas_fail(table: &Table, check: Check, law: &LawTree<'_>) -> bool
-    ensures { result ≡ list_any (tree_fails (vocabulary_of table.now) check) (faults.formulas (plain_law law.now)) }
+    ensures { result ≡ list_any (fails (vocabulary_of table.now) check) (faults.formulas (plain_law law.now)) }
 {
     match law {
         LawTree::Caused(first, body, after) | LawTree::Default(first, body, after) => {
@@ -70,16 +73,35 @@ fn subject<'t, 's>(law: &'t LawTree<'s>) -> Option<&'t TermTree<'s>>
     }
 }
 
-/// Whether a law or its test has a name with the property.
-fn law_has(table: &Table, property: Property, law: &LawTree<'_>, test: &Option<Tree<'_>>) -> bool
-    ensures { result ≡ faults.law_has (vocabulary_of table.now) property (plain_law law.now) (optional (option_map plain_tree test.now)) }
+/// Whether a formula of a law or its test fails the check.
+fn law_fails(table: &Table, check: Check, law: &LawTree<'_>, test: &Option<Tree<'_>>) -> bool
+    ensures { result ≡ list_any (fails (vocabulary_of table.now) check) (faults.formulas (plain_law law.now) ++ optional (option_map plain_tree test.now)) }
 {
-    let in_formulas = formulas_fail(table, Check::Mentions(property), law)
-        || part_fails(table, Check::Mentions(property), test);
+    formulas_fail(table, check, law) || part_fails(table, check, test)
+}
+
+/// Whether what is exogenous or inertial has a name with the property.
+fn subject_has(table: &Table, property: Property, law: &LawTree<'_>) -> bool
+    ensures { result ≡ faults.subject_satisfies (term_has (vocabulary_of table.now) (asks property)) (faults.subject (plain_law law.now)) }
+{
     match subject(law) {
-        Some(constant) => in_formulas || term_has(table, property, constant),
-        None => in_formulas,
+        Some(constant) => has(table, property, constant),
+        None => false,
     }
+}
+
+#[tactic(auto, using(crate::proofs::Failing::some_unknown))]
+fn law_has_unknown(table: &Table, law: &LawTree<'_>, test: &Option<Tree<'_>>) -> bool
+    ensures { result ≡ faults.law_has_unknown (vocabulary_of table.now) (plain_law law.now) (optional (option_map plain_tree test.now)) }
+{
+    law_fails(table, Check::Unknown, law, test) || subject_has(table, Property::Unknown, law)
+}
+
+fn law_has_miscounted(table: &Table, law: &LawTree<'_>, test: &Option<Tree<'_>>) -> bool
+    ensures { result ≡ faults.law_has_miscounted (vocabulary_of table.now) (plain_law law.now) (optional (option_map plain_tree test.now)) }
+{
+    law_fails(table, Check::Mentions(Property::Miscounted), law, test)
+        || subject_has(table, Property::Miscounted, law)
 }
 
 /// Whether what is exogenous or inertial is no constant, or has an argument that does not fit.
@@ -93,13 +115,12 @@ fn subject_misfits(table: &Table, constant: &TermTree<'_>) -> bool
 fn law_misfits(table: &Table, law: &LawTree<'_>, test: &Option<Tree<'_>>) -> bool
     ensures { result ≡ faults.law_misfits (vocabulary_of table.now) (plain_law law.now) (optional (option_map plain_tree test.now)) }
 {
-    let in_formulas = formulas_fail(table, Check::Misfits, law)
-        || part_fails(table, Check::Misfits, test);
     let in_subject = match subject(law) {
         Some(constant) => subject_misfits(table, constant),
         None => false,
     };
-    (in_formulas || in_subject) || part_fails(table, Check::Mentions(Property::Constant), test)
+    (law_fails(table, Check::Misfits, law, test) || in_subject)
+        || part_fails(table, Check::Mentions(Property::Constant), test)
 }
 
 /// Adds the free occurrences of variables in a part that may be missing.
@@ -109,7 +130,7 @@ fn add_part(
     part: &Option<Tree<'_>>,
     found: &mut Vec<u32>,
 ) -> Result<(), OutOfMemory>
-    ensures added { OnOk result (found.new.items ≡ found.old.items ++ faults.free_in (vocabulary_of table.now) bound.old.items (optional (option_map plain_tree part.now))) }
+    ensures added { OnOk result (found.new.items ≡ found.old.items ++ flat_map (free (vocabulary_of table.now) bound.old.items) (optional (option_map plain_tree part.now))) }
     ensures closed { OnOk result (bound.new.items ≡ bound.old.items) }
 {
     match part {
@@ -125,7 +146,7 @@ fn add_law(
     law: &LawTree<'_>,
     found: &mut Vec<u32>,
 ) -> Result<(), OutOfMemory>
-    ensures { OnOk result (found.new.items ≡ found.old.items ++ faults.occurrences (vocabulary_of table.now) bound.old.items (plain_law law.now)) }
+    ensures { OnOk result (found.new.items ≡ found.old.items ++ (flat_map (free (vocabulary_of table.now) bound.old.items) (faults.formulas (plain_law law.now)) ++ unbound bound.old.items (faults.subject_variables (vocabulary_of table.now) (faults.subject (plain_law law.now))))) }
 {
     match law {
         LawTree::Caused(first, body, after) | LawTree::Default(first, body, after) => {
@@ -152,6 +173,7 @@ fn add_law(
     }
 }
 
+#[tactic(auto, using(crate::proofs::Unbound::unbound_none))]
 /// The variables of a law, by their numbers in the table: those that are free in it, in the order of their first free
 /// occurrences before `where`.
 pub(crate) fn law_variables(
@@ -177,7 +199,7 @@ fn has_unbound(
     ensures { IfOk result (λ unbound. unbound ≡ faults.has_unbound (vocabulary_of table.now) (faults.law_variables (vocabulary_of table.now) (plain_law law.now)) (plain_tree test.now)) }
 {
     let variables = law_variables(alloc, table, law)?;
-    let used = free(alloc, table, test)?;
+    let used = free_in(alloc, table, test)?;
     Ok(some_is_new(&used, &variables))
 }
 
@@ -203,12 +225,12 @@ fn law_fault(
     law: &LawTree<'_>,
     test: &Option<Tree<'_>>,
 ) -> Result<Option<u8>, OutOfMemory>
-    ensures { IfOk result (λ fault. fault ≡ faults.law_fault (vocabulary_of table.now) (plain_law law.now) (option_map plain_tree test.now)) }
+    ensures { IfOk result (λ fault. fault ≡ least (faults.law_faults (vocabulary_of table.now) (plain_law law.now) (optional (option_map plain_tree test.now)))) }
 {
-    if law_has(table, Property::Unknown, law, test) {
+    if law_has_unknown(table, law, test) {
         return Ok(Some(5));
     }
-    if law_has(table, Property::Miscounted, law, test) {
+    if law_has_miscounted(table, law, test) {
         return Ok(Some(6));
     }
     if law_misfits(table, law, test) {
@@ -246,7 +268,7 @@ fn part_fault(alloc: Global, table: &Table, part: &Part<'_>) -> Result<Option<u8
 
 /// The refusal of a number without a limit, at a line of a file.
 pub(crate) fn refused(number: u8, file: u32, line: u32) -> Fault
-    ensures { result ≡ refused_at number file line }
+    ensures { result ≡ faulty.Refused (refusals.refused number file line) }
 {
     Fault::Refused(Refusal {
         number,
@@ -261,14 +283,14 @@ pub(crate) fn refused(number: u8, file: u32, line: u32) -> Fault
 /// is not free in the law before it (8), a law of none of the three forms or a part of the wrong kind (9), a statically
 /// determined fluent in the head of a fluent dynamic law (10), a head that is not definite (11). A statement that is no law
 /// has no such fault. `file` is the number of the file in refusals.
-pub fn check(
+pub(crate) fn check(
     alloc: Global,
     file: u32,
     table: &Table,
     statement: &Statement<'_>,
 ) -> Result<(), Fault>
     ensures checked { (left : Items Declared) → IsTable table.now left → IfOk result (λ nothing. law_refusal file (vocabulary left) (plain_statement statement.now) ≡ None) }
-    ensures refused { (left : Items Declared) → IsTable table.now left → IfErr result (IsRefusedLaw file left (plain_statement statement.now)) }
+    ensures refused { (left : Items Declared) → IsTable table.now left → IfErr result (IsRefusedBy (law_refusal file (vocabulary left) (plain_statement statement.now))) }
 {
     match part_fault(alloc, table, &statement.part)? {
         Some(number) => Err(refused(number, file, statement.line)),
