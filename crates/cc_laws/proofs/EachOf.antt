@@ -20,10 +20,6 @@ module _ {X : Type 0} where
   none_passes test [] all = refl
   none_passes test (x ∷ xs) all = rw (all.0) (none_passes test xs all.1)
 
-  pub each_fails : (test : X → Bool) (xs : List X) → list_any test xs ≡ false → AllByRecursion (λ x. test x ≡ false) xs
-  each_fails test [] e = tt
-  each_fails test (x ∷ xs) e = let parts = or_parts (test x) (list_any test xs) e in (parts.0, each_fails test xs parts.1)
-
   pub slice_front : (xs ys : List X) (k : ℕ) (x : X) → slice_get xs k ≡ Some x → slice_get (xs ++ ys) k ≡ Some x
   slice_front [] ys k x e = absurd cc
   slice_front (y ∷ xs) ys zero x e = e

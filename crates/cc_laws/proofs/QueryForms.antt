@@ -19,7 +19,7 @@ use Rattle.cc_laws.specs.Laws.{HasFormulas, HasStep, HasSteps, QueriesHaveFormul
 use Rattle.cc_laws.specs.Questions.{Asked, brackets_asked, claim_fails, claims_in, condition_asked, condition_fails, conditions_asked, conditions_in, first, items_of, joined, joined_behind, query_of, range_refusal, refusal_in_range, step_fails, step_refusal}
 use Rattle.cc_laws.specs.Resolving.{brackets, brackets_in, resolve_all}
 use Rattle.cc_laws.specs.Vocabulary.{Vocabulary, vocabulary}
-use Rattle.cc_laws.proofs.EachOf.{each_of_both, each_so, each_fails}
+use Rattle.cc_laws.proofs.EachOf.{each_of_both}
 use Rattle.cc_laws.proofs.FormsOfSplits.{GoesOn, is_formula}
 use Rattle.cc_laws.proofs.MoreSymbols.{goes_on}
 
@@ -62,21 +62,25 @@ queries_formulas file left more statement = has_formulas (vocabulary left) _ (go
 -- ---- steps
 
 module _ (symbols : List Symbol) (lo : ℕ) where
-  step_fits : (at : At) (formula : Formula) → step_fails symbols lo at formula ≡ false → HasStep symbols lo (record { at = at; formula = formula })
-  step_fits (ats.Number step) formula e horizon more =
+  step_fits : (at : At) (formula : Formula) → IsFormula symbols formula → step_fails symbols lo at formula ≡ false → HasStep symbols lo (record { at = at; formula = formula })
+  step_fits (ats.Number step) formula is e horizon more =
       let parts = or_parts (nat_lt lo step) ((step == lo) && names_action symbols formula) e in
       let least : step ≤ lo = ltb-false lo step parts.0 in (
         omega arith,
-        λ is. let same : step ≡ lo = omega arith in sym (ap (λ (w : Bool). w && names_action symbols formula) (eq-eqb step lo same)) ∙ parts.1,
+        λ last. let same : step ≡ lo = omega arith in (is, sym (ap (λ (w : Bool). w && names_action symbols formula) (eq-eqb step lo same)) ∙ parts.1),
       )
-  step_fits ats.Last formula e horizon more = (omega arith, λ is. e)
+  step_fits ats.Last formula is e horizon more = (omega arith, λ last. (is, e))
 
-  condition_fits : (condition : Condition) → condition_fails symbols lo condition ≡ false → HasStep symbols lo condition
-  condition_fits condition e = step_fits condition.at condition.formula e
+  conditions_fit : (conditions : List Condition) → AllByRecursion (λ condition. IsFormula symbols condition.formula) conditions → list_any (condition_fails symbols lo) conditions ≡ false →
+      AllByRecursion (HasStep symbols lo) conditions
+  conditions_fit [] are e = tt
+  conditions_fit (condition ∷ conditions) are e =
+      let parts = or_parts (condition_fails symbols lo condition) (list_any (condition_fails symbols lo) conditions) e in
+      (step_fits condition.at condition.formula are.0 parts.0, conditions_fit conditions are.1 parts.1)
 
-  claim_fits : (claim : Option Condition) → claim_fails symbols lo claim ≡ false → IfSome claim (HasStep symbols lo)
-  claim_fits None e = tt
-  claim_fits (Some claim) e = condition_fits claim e
+  claim_fits : (claim : Option Condition) → IfSome claim (λ claim. IsFormula symbols claim.formula) → claim_fails symbols lo claim ≡ false → IfSome claim (HasStep symbols lo)
+  claim_fits None is e = tt
+  claim_fits (Some claim) is e = step_fits claim.at claim.formula is e
 
 -- two tests that do not refuse
 neither : (first second : Bool) (one other : Refusal) → (if first then Some one else (if second then Some other else None)) ≡ None → (first ≡ false) × (second ≡ false)
@@ -84,8 +88,9 @@ neither true second one other e = absurd cc
 neither false true one other e = absurd cc
 neither false false one other e = (refl, refl)
 
-range_fits : (symbols : List Symbol) (query : Query) (range : ℕ × ℕ) → query.range ≡ Some range → range_refusal symbols query range.0 range.1 ≡ None → HasSteps symbols query
-range_fits symbols query range is e =
+range_fits : (symbols : List Symbol) (query : Query) (range : ℕ × ℕ) → HasFormulas symbols query → query.range ≡ Some range → range_refusal symbols query range.0 range.1 ≡ None →
+    HasSteps symbols query
+range_fits symbols query range are is e =
     let fails = list_any (condition_fails symbols range.0) query.conditions || claim_fails symbols range.0 query.claim in
     let tests = neither (nat_lt range.1 range.0 || fails) (nat_lt (limit_number limits.Horizon) range.1) (step_refusal query) (past limits.Horizon) e in
     let parts = or_parts (nat_lt range.1 range.0) fails tests.0 in
@@ -95,14 +100,13 @@ range_fits symbols query range is e =
       is = is;
       ordered = ltb-false range.1 range.0 parts.0;
       within = ltb-false (limit_number limits.Horizon) range.1 tests.1;
-      conditions = each_so (λ condition. condition_fails symbols range.0 condition ≡ false) (HasStep symbols range.0) (condition_fits symbols range.0) query.conditions
-          (each_fails (condition_fails symbols range.0) query.conditions steps.0);
-      claim = claim_fits symbols range.0 query.claim steps.1;
+      conditions = conditions_fit symbols range.0 query.conditions are.conditions steps.0;
+      claim = claim_fits symbols range.0 query.claim are.claim steps.1;
     }
 
 pub steps_of_query : StepsFit
-steps_of_query symbols query e = choose query.range refl e
+steps_of_query symbols query are e = choose query.range refl e
   where
     choose : (found : Option (ℕ × ℕ)) → query.range ≡ found → refusal_in_range symbols query found ≡ None → HasSteps symbols query
     choose None is f = absurd cc
-    choose (Some range) is f = range_fits symbols query range is f
+    choose (Some range) is f = range_fits symbols query range are is f

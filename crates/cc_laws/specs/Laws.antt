@@ -1,11 +1,11 @@
 -- Laws of what statements stand for.
-use Rattle.std.specs.Prelude.{◌≡◌, ℕ, ◌≤◌, List, ◌++◌, Option, Some, None, IfSome, IsFalse}
+use Rattle.std.specs.Prelude.{◌≡◌, ℕ, ◌≤◌, List, ◌++◌, Option, Some, None, IfSome}
 use Rattle.std.specs.List.{AllByRecursion}
 use Rattle.cc_defs.specs.declared.refusal.LimitAt.TheVariants as limits
 use Rattle.cc_defs.specs.declared.signature.Symbol.{Symbol}
 use Rattle.cc_defs.specs.DeclarationFaults.{declaration_refusal}
 use Rattle.cc_defs.specs.Declarations.{Declaration, declarations_of, symbols}
-use Rattle.cc_defs.specs.Forms.{HaveForms, IsFormula, names_action}
+use Rattle.cc_defs.specs.Forms.{HaveForms, IsFormula, IsFluentFormula}
 use Rattle.cc_defs.specs.Histories.{step_of}
 use Rattle.cc_defs.specs.Limits.{limit_number}
 use Rattle.cc_defs.specs.Resolved.{Condition, Query}
@@ -44,10 +44,10 @@ pub record HasFormulas (symbols : List Symbol) (query : Query) : Type 0 where
 abbrev pub QueriesHaveFormulas : Type 0
 QueriesHaveFormulas = (file : ℕ) (left more : List Declaration) (statement : PlainStatement) → HasFormulas (symbols (left ++ more)) (query_asked file (vocabulary left) statement)
 
--- At each horizon from this one on, the step is one of its steps, and where it is the last there is no action.
+-- At each horizon from this one on, the step is one of its steps, and where it is the last the formula is one of fluents.
 abbrev pub HasStep : List Symbol → ℕ → Condition → Type 0
 HasStep symbols lo condition =
-    (horizon : ℕ) → lo ≤ horizon → (step_of condition.at horizon ≤ horizon) × (step_of condition.at horizon ≡ horizon → IsFalse (names_action symbols condition.formula))
+    (horizon : ℕ) → lo ≤ horizon → (step_of condition.at horizon ≤ horizon) × (step_of condition.at horizon ≡ horizon → IsFluentFormula symbols condition.formula)
 
 -- the query has a range of horizons, and its steps are among those of each of them
 pub record HasSteps (symbols : List Symbol) (query : Query) : Type 0 where
@@ -59,4 +59,4 @@ pub record HasSteps (symbols : List Symbol) (query : Query) : Type 0 where
   pub claim : IfSome query.claim (HasStep symbols range.0)
 
 abbrev pub StepsFit : Type 0
-StepsFit = (symbols : List Symbol) (query : Query) → steps_refusal symbols query ≡ None → HasSteps symbols query
+StepsFit = (symbols : List Symbol) (query : Query) → HasFormulas symbols query → steps_refusal symbols query ≡ None → HasSteps symbols query

@@ -4,10 +4,10 @@
 mod checks;
 mod classes;
 mod expansion;
-pub mod form_laws;
 mod forms;
 mod head_parts;
 mod heads;
+pub mod laws;
 mod meaning;
 mod mention;
 mod misfits;

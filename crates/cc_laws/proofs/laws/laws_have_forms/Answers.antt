@@ -5,7 +5,7 @@ use Rattle.cc_laws.specs.LawFaults.{part_fault}
 use Rattle.cc_laws.specs.Vocabulary.{vocabulary}
 use Rattle.cc_laws.proofs.FormsOfLaws.{law_forms, no_number}
 use Rattle.cc_laws.proofs.MoreSymbols.{goes_on}
-use Rattle.cc_laws.proofs.form_laws.laws_have_forms.Goals as goal
+use Rattle.cc_laws.proofs.laws.laws_have_forms.Goals as goal
 
 pub returns : goal.returns
 returns c file line left more law test none =
