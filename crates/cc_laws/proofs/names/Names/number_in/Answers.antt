@@ -1,6 +1,4 @@
 use Rattle.std.proofs.Common.{◌∙◌, [], None, ap}
-use Rattle.cc_laws.specs.Views.{inside}
-use Rattle.cc_laws.specs.Resolving.{number_in}
 use Rattle.cc_laws.proofs.Scopes.{found_in, found_inside}
 use Rattle.cc_laws.proofs.names.Names.number_in.Goals as goal
 
