@@ -8,6 +8,7 @@ mod fault;
 pub mod laws;
 mod left;
 mod lists;
+mod names;
 mod numbers;
 mod signature;
 mod sorts;
