@@ -1,38 +1,9 @@
 //! The causal calculator: reads a description of actions and change, and lists its histories.
 #![tactic(auto)]
 
-mod describe;
-#[cfg(test)]
-mod descriptions;
-mod files;
-#[cfg(test)]
-mod groundings;
-mod labels;
-#[cfg(test)]
-mod law_statements;
-pub mod laws;
-mod lister;
-mod listing;
-mod parser;
-mod printing;
-mod progress;
-mod reader;
-mod run;
-mod scanner;
-mod small;
-#[cfg(test)]
-mod statements;
-mod status;
-#[cfg(test)]
-mod tests;
-#[cfg(test)]
-mod trees;
-mod words;
-
+pub use cc_describe::{DescribeStop, Described, describe};
 use cc_ports::RealDesk;
-pub use describe::{DescribeStop, Described, describe};
-pub use run::{run, run_still};
-pub use status::Status;
+pub use cc_run::{Status, run, run_still};
 use std::io;
 use std::process::ExitCode;
 

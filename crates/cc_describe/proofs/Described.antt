@@ -1,0 +1,135 @@
+-- What a description answers, by what was gone through.
+use Rattle.std.proofs.Common.{◌≡◌, ◌≢◌, ◌∙◌, ℕ, List, [], length, Option, Some, None, IfSome, Result, Ok, Err, IfOk, IfErr, IsErrOf, refl, sym, ap, subst}
+use Rattle.std.specs.Option.{option_or}
+use Rattle.cc_defs.specs.DeclarationFaults.{signature_refusal}
+use Rattle.cc_defs.specs.Limits.{limit_number}
+use Rattle.cc_defs.specs.declared.refusal.Fault.{Fault}
+use Rattle.cc_defs.specs.declared.refusal.Fault.TheVariants as faults
+use Rattle.cc_defs.specs.declared.refusal.LimitAt.TheVariants.{IncludeDepth}
+use Rattle.cc_ports.specs.Contents.{Contents}
+use Rattle.cc_sorts.specs.Tables.{IsRefusedSignature}
+use Rattle.cc_describe.specs.declared.description.Described.{Described}
+use Rattle.cc_describe.specs.declared.description.DescribeStop.{DescribeStop}
+use Rattle.cc_describe.specs.declared.description.DescribeStop.TheVariants as stops
+use Rattle.cc_describe.specs.declared.files.Halt.{Halt}
+use Rattle.cc_describe.specs.declared.files.Halt.TheVariants as halts
+use Rattle.cc_describe.specs.declared.progress.Progress.{Progress}
+use Rattle.cc_describe.specs.Describing.{Describes, HasSignature, HasStopped, IsDescribed, IsRefusedWhole}
+use Rattle.cc_describe.specs.FirstRefusal.{declared_in, file_named, opened_until}
+use Rattle.cc_describe.specs.Places.{Files, Place, opened_in, ArePlaces, AreAllPlaces, AreThere}
+use Rattle.cc_describe.specs.ProgressViews.{IsProgress, FindsFiles, GoesThrough, StopsAs, halt_of}
+use Rattle.cc_describe.proofs.PlacesAppended.{opened_where_none}
+
+-- ---- all declarations are refused
+
+stops_whole : (places : List Place) (names : List (List ℕ)) (fault : Fault) (stop : DescribeStop) → names ≡ opened_in places
+    → IsRefusedSignature (declared_in places) fault → StopsAs names (halt_of fault) stop → IsRefusedWhole places stop
+stops_whole places names faults.OutOfMemory stop are refused is = subst (IsRefusedWhole places) (sym is) tt
+stops_whole places names (faults.Refused refusal) (stops.Refused told file) are refused is =
+    (refused ∙ ap Some (sym is.0), is.1 ∙ ap (λ l. file_named l refusal) are ∙ ap (file_named (opened_in places)) (sym is.0))
+stops_whole places names (faults.Refused refusal) stops.ReadFault are refused is = is
+stops_whole places names (faults.Refused refusal) stops.OutOfMemory are refused is = tt
+
+pub refused_whole : (places : List Place) (names : List (List ℕ)) (fault : Fault) (halt : Halt) (stop : DescribeStop) → names ≡ opened_in places
+    → IsRefusedSignature (declared_in places) fault → halt ≡ halt_of fault → StopsAs names halt stop → IsRefusedWhole places stop
+refused_whole places names fault halt stop are refused halt_is is = stops_whole places names fault stop are refused (subst (λ h. StopsAs names h stop) halt_is is)
+
+-- ---- a fault of the desk is told where there is one
+
+fault_was : (names : List (List ℕ)) (halt : Halt) (stop : DescribeStop) → StopsAs names halt stop → stop ≡ stops.ReadFault → halt ≡ halts.ReadFault
+fault_was names (halts.Refused refusal) (stops.Refused told file) is fault = absurd cc
+fault_was names (halts.Refused refusal) stops.ReadFault is fault = absurd is
+fault_was names (halts.Refused refusal) stops.OutOfMemory is fault = absurd cc
+fault_was names halts.ReadFault stop is fault = refl
+fault_was names halts.OutOfMemory stop is fault = absurd cc
+
+pub fault_told : (names : List (List ℕ)) (halt : Halt) (stop : DescribeStop) → StopsAs names halt stop → IsErrOf {T = Described} (Err stop) stops.ReadFault → halt ≡ halts.ReadFault
+fault_told names halt stop is told = fault_was names halt stop is cc
+
+pub tells_no_fault : (names : List (List ℕ)) (fault : Fault) (halt : Halt) (stop : DescribeStop) → halt ≡ halt_of fault → StopsAs names halt stop → stop ≢ stops.ReadFault
+tells_no_fault names (faults.Refused refusal) halt stop halt_is is told = let was = fault_was names halt stop is told in absurd cc
+tells_no_fault names faults.OutOfMemory halt stop halt_is is told = let was = fault_was names halt stop is told in absurd cc
+
+-- ---- a description
+
+-- The places of a file that is read while no other is; `progress` is that of nothing.
+abbrev Goes : ℕ → Option Contents → List ℕ → Progress → Result (Unit {0}) Halt → Progress → Type 0
+Goes deep told name progress result new =
+    (contents : Contents) (before : List Place) → told ≡ Some contents → IsProgress progress before
+    → GoesThrough (ArePlaces deep contents.files progress.around.items (length (opened_in before)) name) before result new
+
+-- the files opened are there, where no other was opened before
+abbrev Finds : Option Contents → Progress → Result (Unit {0}) Halt → Progress → Type 0
+Finds told progress result new =
+    (contents : Contents) → told ≡ Some contents → AreThere contents.files progress.names.items → FindsFiles contents.files result new.names.items
+
+none_opened : (files : Files) (progress : Progress) → IsProgress progress [] → AreThere files progress.names.items
+none_opened files progress begun = subst (AreThere files) (sym begun.names) tt
+
+all_places : (deep : ℕ) (files : Files) (around : List (List ℕ)) (name : List ℕ) (places : List Place) → deep ≡ limit_number IncludeDepth → around ≡ []
+    → ArePlaces deep files around 0 name places → AreAllPlaces files name places
+all_places deep files around name places deep_is around_is are =
+    subst (λ d. ArePlaces d files [] 0 name places) deep_is (subst (λ a. ArePlaces deep files a 0 name places) around_is are)
+
+-- all places were gone through, and so were all declarations
+pub is_described : (deep : ℕ) (told : Option Contents) (name : List ℕ) (progress new : Progress) (done : Unit {0}) (result : Result Described DescribeStop)
+    → deep ≡ limit_number IncludeDepth → IsProgress progress [] → progress.around.items ≡ [] → Goes deep told name progress (Ok done) new → Finds told progress (Ok done) new
+    → ((places : List Place) → IsProgress new places → IfOk result (λ described. (signature_refusal (declared_in places) ≡ None) × IsDescribed places described))
+    → IfSome told (λ contents. IfOk result (Describes contents.files name))
+is_described deep None name progress new done result deep_is begun outside goes found finished = tt
+is_described deep (Some contents) name progress new done (Err stop) deep_is begun outside goes found finished = tt
+is_described deep (Some contents) name progress new done (Ok described) deep_is begun outside goes found finished =
+    let gone = goes contents [] refl begun in
+    let places = gone.0 in
+    let whole = finished places gone.3 in (
+      places,
+      all_places deep contents.files progress.around.items name places deep_is outside gone.1,
+      ap (λ one. option_or one (signature_refusal (declared_in places))) gone.2 ∙ whole.0,
+      whole.1,
+      subst (AreThere contents.files) gone.3.names (found contents refl (none_opened contents.files progress begun)),
+    )
+
+-- all places were gone through, and all declarations are refused
+pub is_refused_whole : (deep : ℕ) (told : Option Contents) (name : List ℕ) (progress new : Progress) (done : Unit {0}) (result : Result Described DescribeStop)
+    → deep ≡ limit_number IncludeDepth → IsProgress progress [] → progress.around.items ≡ [] → Goes deep told name progress (Ok done) new → Finds told progress (Ok done) new
+    → ((places : List Place) → IsProgress new places → IfErr result (IsRefusedWhole places))
+    → IfSome told (λ contents. IfErr result (HasStopped contents.files name))
+is_refused_whole deep None name progress new done result deep_is begun outside goes found finished = tt
+is_refused_whole deep (Some contents) name progress new done (Ok described) deep_is begun outside goes found finished = tt
+is_refused_whole deep (Some contents) name progress new done (Err stops.ReadFault) deep_is begun outside goes found finished = tt
+is_refused_whole deep (Some contents) name progress new done (Err stops.OutOfMemory) deep_is begun outside goes found finished = tt
+is_refused_whole deep (Some contents) name progress new done (Err (stops.Refused refusal file)) deep_is begun outside goes found finished =
+    let gone = goes contents [] refl begun in
+    let places = gone.0 in
+    let whole = finished places gone.3 in (
+      places,
+      all_places deep contents.files progress.around.items name places deep_is outside gone.1,
+      ap (λ one. option_or one (signature_refusal (declared_in places))) gone.2 ∙ whole.0,
+      whole.1 ∙ ap (λ names. file_named names refusal) (sym (opened_where_none [] places gone.2)),
+      subst (AreThere contents.files) (gone.3.names ∙ sym (opened_where_none [] places gone.2)) (found contents refl (none_opened contents.files progress begun)),
+    )
+
+-- a place is refused
+pub is_refused : (deep : ℕ) (told : Option Contents) (name : List ℕ) (names : List (List ℕ)) (progress new : Progress) (halt : Halt) (stop : DescribeStop)
+    → deep ≡ limit_number IncludeDepth → IsProgress progress [] → progress.around.items ≡ [] → Goes deep told name progress (Err halt) new → Finds told progress (Err halt) new
+    → names ≡ new.names.items → StopsAs names halt stop → IfSome told (λ contents. HasStopped contents.files name stop)
+is_refused deep None name names progress new halt stop deep_is begun outside goes found names_are is = tt
+is_refused deep (Some contents) name names progress new halts.ReadFault stop deep_is begun outside goes found names_are is = subst (HasStopped contents.files name) (sym is) tt
+is_refused deep (Some contents) name names progress new halts.OutOfMemory stop deep_is begun outside goes found names_are is = subst (HasStopped contents.files name) (sym is) tt
+is_refused deep (Some contents) name names progress new (halts.Refused refusal) stops.ReadFault deep_is begun outside goes found names_are is = tt
+is_refused deep (Some contents) name names progress new (halts.Refused refusal) stops.OutOfMemory deep_is begun outside goes found names_are is = tt
+is_refused deep (Some contents) name names progress new (halts.Refused refusal) (stops.Refused told file) deep_is begun outside goes found names_are is =
+    let gone = goes contents [] refl begun in
+    let places = gone.0 in (
+      places,
+      all_places deep contents.files progress.around.items name places deep_is outside gone.1,
+      ap (λ one. option_or one (signature_refusal (declared_in places))) gone.2 ∙ ap Some (sym is.0),
+      is.1 ∙ ap (λ l. file_named l refusal) (names_are ∙ gone.3) ∙ ap (file_named (opened_until [] places)) (sym is.0),
+      subst (AreThere contents.files) gone.3 (found contents refl (none_opened contents.files progress begun)),
+    )
+
+-- the places may be any
+pub has_signature : (result : Result Described DescribeStop) (places : List Place)
+    → IfOk result (λ described. (signature_refusal (declared_in places) ≡ None) × IsDescribed places described) → IfOk result HasSignature
+has_signature (Ok described) places whole = (declared_in places, whole.1.table, whole.1.signature)
+has_signature (Err stop) places whole = tt

@@ -1,0 +1,104 @@
+-- What the places of a list with more behind it say is what its own say with what those behind it say.
+use Rattle.std.proofs.Common.{◌≡◌, ◌∙◌, ℕ, ◌+◌, List, [], ◌∷◌, ◌++◌, Option, Some, None, refl, sym, ap, append_assoc, append-nil, arith}
+use Rattle.std.specs.Option.{option_or}
+use Rattle.std.proofs.lemmas.Grind.{flat_map-append}
+use Rattle.std.proofs.lemmas.List.Concat.{flat_map-cons}
+use Rattle.cc_defs.specs.declared.refusal.Refusal.{Refusal}
+use Rattle.cc_describe.specs.Describing.{laws_at, laws_behind, queries_at, queries_behind}
+use Rattle.cc_describe.specs.FirstRefusal.{declared_at, declared_in, labels_at, labelled_in, bytes_at, bytes_in, refusal_at, first_behind, opened_behind, opened_until}
+use Rattle.cc_describe.specs.Places.{Place, opened_at, opened_in}
+
+-- ---- lists behind others
+
+pub declared_in_all : (before after : List Place) → declared_in (before ++ after) ≡ declared_in before ++ declared_in after
+declared_in_all before after = flat_map-append declared_at before after
+
+pub labelled_in_all : (before after : List Place) → labelled_in (before ++ after) ≡ labelled_in before ++ labelled_in after
+labelled_in_all before after = flat_map-append labels_at before after
+
+pub opened_in_all : (before after : List Place) → opened_in (before ++ after) ≡ opened_in before ++ opened_in after
+opened_in_all before after = flat_map-append opened_at before after
+
+pub bytes_in_all : (before after : List Place) → bytes_in (before ++ after) ≡ bytes_in before + bytes_in after
+bytes_in_all [] after = omega arith
+bytes_in_all (place ∷ before) after = let more = bytes_in_all before after in omega arith
+
+-- before one place and others is before the one, and then before the others
+pub one_more : (before : List Place) (place : Place) (places : List Place) → (before ++ place ∷ []) ++ places ≡ before ++ place ∷ places
+one_more before place places = append_assoc before (place ∷ []) places
+
+pub laws_behind_all : (before places after : List Place) →
+    laws_behind before (places ++ after) ≡ laws_behind before places ++ laws_behind (before ++ places) after
+laws_behind_all before [] after = ap (λ all. laws_behind all after) (sym (append-nil before))
+laws_behind_all before (place ∷ places) after =
+    ap (λ laws. laws_at before place ++ laws) (laws_behind_all (before ++ place ∷ []) places after)
+    ∙ ap (λ all. laws_at before place ++ (laws_behind (before ++ place ∷ []) places ++ laws_behind all after)) (one_more before place places)
+    ∙ sym (append_assoc (laws_at before place) (laws_behind (before ++ place ∷ []) places) (laws_behind (before ++ place ∷ places) after))
+
+pub queries_behind_all : (before places after : List Place) →
+    queries_behind before (places ++ after) ≡ queries_behind before places ++ queries_behind (before ++ places) after
+queries_behind_all before [] after = ap (λ all. queries_behind all after) (sym (append-nil before))
+queries_behind_all before (place ∷ places) after =
+    ap (λ queries. queries_at before place ++ queries) (queries_behind_all (before ++ place ∷ []) places after)
+    ∙ ap (λ all. queries_at before place ++ (queries_behind (before ++ place ∷ []) places ++ queries_behind all after)) (one_more before place places)
+    ∙ sym (append_assoc (queries_at before place) (queries_behind (before ++ place ∷ []) places) (queries_behind (before ++ place ∷ places) after))
+
+-- the first refusal, and the names opened up to it
+
+option_or_assoc : (one two three : Option Refusal) → option_or (option_or one two) three ≡ option_or one (option_or two three)
+option_or_assoc None two three = refl
+option_or_assoc (Some refusal) two three = refl
+
+pub first_behind_all : (before places after : List Place) →
+    first_behind before (places ++ after) ≡ option_or (first_behind before places) (first_behind (before ++ places) after)
+first_behind_all before [] after = ap (λ all. first_behind all after) (sym (append-nil before))
+first_behind_all before (place ∷ places) after =
+    ap (option_or (refusal_at before place)) (first_behind_all (before ++ place ∷ []) places after)
+    ∙ ap (λ all. option_or (refusal_at before place) (option_or (first_behind (before ++ place ∷ []) places) (first_behind all after))) (one_more before place places)
+    ∙ sym (option_or_assoc (refusal_at before place) (first_behind (before ++ place ∷ []) places) (first_behind (before ++ place ∷ places) after))
+
+opened_step : (names : List (List ℕ)) (refused first : Option Refusal) (behind after : List (List ℕ)) →
+    names ++ opened_behind refused (behind ++ opened_behind first after)
+    ≡ (names ++ opened_behind refused behind) ++ opened_behind (option_or refused first) after
+opened_step names None first behind after = sym (append_assoc names behind (opened_behind first after))
+opened_step names (Some refusal) first behind after = sym (append-nil (names ++ []))
+
+pub opened_until_all : (before places after : List Place) →
+    opened_until before (places ++ after) ≡ opened_until before places ++ opened_behind (first_behind before places) (opened_until (before ++ places) after)
+opened_until_all before [] after = ap (λ all. opened_until all after) (sym (append-nil before))
+opened_until_all before (place ∷ places) after =
+    let next = before ++ place ∷ [] in
+    ap (λ names. opened_at place ++ opened_behind (refusal_at before place) names) (opened_until_all next places after)
+    ∙ ap (λ all. opened_at place ++ opened_behind (refusal_at before place) (opened_until next places ++ opened_behind (first_behind next places) (opened_until all after))) (one_more before place places)
+    ∙ opened_step (opened_at place) (refusal_at before place) (first_behind next places) (opened_until next places) (opened_until (before ++ place ∷ places) after)
+
+-- where nothing is refused, these are all names
+pub opened_where_none : (before places : List Place) → first_behind before places ≡ None → opened_until before places ≡ opened_in places
+opened_where_none before [] none = refl
+opened_where_none before (place ∷ places) none = step (refusal_at before place) none (opened_where_none (before ++ place ∷ []) places)
+  where
+    step : (refused : Option Refusal) → option_or refused (first_behind (before ++ place ∷ []) places) ≡ None →
+        (first_behind (before ++ place ∷ []) places ≡ None → opened_until (before ++ place ∷ []) places ≡ opened_in places) →
+        opened_at place ++ opened_behind refused (opened_until (before ++ place ∷ []) places) ≡ opened_in (place ∷ places)
+    step None none more = ap (λ names. opened_at place ++ names) (more none) ∙ sym (flat_map-cons opened_at place places)
+    step (Some refusal) none more = absurd cc
+
+-- ---- one place behind others
+
+pub declared_in_behind : (before : List Place) (place : Place) → declared_in (before ++ place ∷ []) ≡ declared_in before ++ declared_at place
+declared_in_behind before place = declared_in_all before (place ∷ []) ∙ ap (λ more. declared_in before ++ more) (append-nil (declared_at place))
+
+pub labelled_in_behind : (before : List Place) (place : Place) → labelled_in (before ++ place ∷ []) ≡ labelled_in before ++ labels_at place
+labelled_in_behind before place = labelled_in_all before (place ∷ []) ∙ ap (λ more. labelled_in before ++ more) (append-nil (labels_at place))
+
+pub opened_in_behind : (before : List Place) (place : Place) → opened_in (before ++ place ∷ []) ≡ opened_in before ++ opened_at place
+opened_in_behind before place = opened_in_all before (place ∷ []) ∙ ap (λ more. opened_in before ++ more) (append-nil (opened_at place))
+
+pub bytes_in_behind : (before : List Place) (place : Place) → bytes_in (before ++ place ∷ []) ≡ bytes_in before + bytes_at place
+bytes_in_behind before place = let all = bytes_in_all before (place ∷ []) in omega arith
+
+pub laws_behind_one : (before : List Place) (place : Place) → laws_behind [] (before ++ place ∷ []) ≡ laws_behind [] before ++ laws_at before place
+laws_behind_one before place = laws_behind_all [] before (place ∷ []) ∙ ap (λ more. laws_behind [] before ++ more) (append-nil (laws_at before place))
+
+pub queries_behind_one : (before : List Place) (place : Place) → queries_behind [] (before ++ place ∷ []) ≡ queries_behind [] before ++ queries_at before place
+queries_behind_one before place = queries_behind_all [] before (place ∷ []) ∙ ap (λ more. queries_behind [] before ++ more) (append-nil (queries_at before place))

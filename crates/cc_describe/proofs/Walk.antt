@@ -1,0 +1,470 @@
+-- A file is opened, and gone through statement by statement.
+use Rattle.std.proofs.Common.{◌≡◌, ◌∙◌, ℕ, zero, suc, ◌+◌, ◌-◌, ◌<◌, ◌≤◌, List, [], ◌∷◌, ◌++◌, length, take, drop, map, slice_index_or, unwrap_or, Option, Some, None, option_map, IfSome, IsSome, Result, Ok, Err, IsErrAnd, refl, sym, ap, subst, inl, inr, append_assoc, append-nil, length-append, arith}
+use Rattle.std.specs.Option.{option_or}
+use Rattle.std.specs.List.{AllByRecursion}
+use Rattle.std.proofs.lemmas.List.{take_all, take_more, take-append-drop}
+use Rattle.std.proofs.Math.Seq.{drop-cons}
+use Rattle.std.proofs.lemmas.Bool.Decides.{nat_tests}
+use Rattle.cc_defs.specs.Limits.{limit_number}
+use Rattle.cc_defs.specs.declared.refusal.LimitAt.TheVariants as limits
+use Rattle.cc_defs.specs.declared.refusal.Fault.{Fault}
+use Rattle.cc_defs.specs.declared.refusal.Fault.TheVariants as faults
+use Rattle.cc_defs.specs.declared.refusal.Refusal.{Refusal}
+use Rattle.cc_defs.specs.Resolved.{plain_base_law, plain_query}
+use Rattle.cc_defs.specs.Tokens.{TokenView, AreTokens, statements as statements_of}
+use Rattle.cc_ports.specs.Contents.{Contents, with_rest}
+use Rattle.cc_text.specs.Laws.{CutOrStop, StatementsAreTokens}
+use Rattle.cc_text.specs.Reading.{HasRead, HasStopped}
+use Rattle.cc_syntax.specs.Parsing.{TreeOrRefusal}
+use Rattle.cc_describe.specs.declared.files.Halt.{Halt}
+use Rattle.cc_describe.specs.declared.files.Halt.TheVariants as halts
+use Rattle.cc_describe.specs.declared.progress.Progress.{Progress}
+use Rattle.cc_describe.specs.FirstRefusal.{declared_in, bytes_in, opening_refusal, first_behind, opened_behind, opened_until}
+use Rattle.cc_describe.specs.Places.{Files, Place, Opened, Barred, Said, AreThere, content, included, opened_in, AreBehind, AreOfStatement, AreOfStatements, AreOfText, NoPlaces, ArePlaces}
+use Rattle.cc_describe.specs.ProgressViews.{IsProgress, IsOpened, IsRefusedOpening, IsRefusedStatement, IsTaken, FindsFiles, GoesThrough, halt_of}
+use Rattle.cc_describe.proofs.HasPlaces.{Has, behind_exists, statements_exist, text_places_exist, places_exist}
+use Rattle.cc_describe.proofs.ProgressLemmas.{step, nothing_more}
+use Rattle.cc_sorts.specs.Tables.{IsTable}
+use Rattle.cc_describe.proofs.PlacesAppended.{opened_in_behind, opened_in_all, first_behind_all, opened_until_all, opened_where_none}
+
+-- ---- what the desk tells
+
+-- a desk that was not asked tells what it told
+pub untouched : (told : Option Contents) → (rest : List ℕ) × (told ≡ option_map (with_rest rest) told)
+untouched None = ([], refl)
+untouched (Some contents) = (contents.rest, refl)
+
+pub touched_again : (rest : List ℕ) (old now new : Option Contents) → now ≡ option_map (with_rest rest) old → (more : List ℕ)
+    → new ≡ option_map (with_rest more) now → (left : List ℕ) × (new ≡ option_map (with_rest left) old)
+touched_again rest None now new first more second = ([], rw (second, first) refl)
+touched_again rest (Some contents) now new first more second = (more, rw (second, first) refl)
+
+-- the files stay
+pub tells_still : (rest : List ℕ) (old now : Option Contents) (contents : Contents) → now ≡ option_map (with_rest rest) old
+    → old ≡ Some contents → now ≡ Some (with_rest rest contents)
+tells_still rest old now contents after told = rw (after, told) refl
+
+pub content_is : (told : Option Contents) (contents : Contents) (name bytes : List ℕ) → told ≡ Some contents
+    → IfSome told (λ c. c.files name ≡ Some bytes) → bytes ≡ content contents.files name
+content_is told contents name bytes is there =
+    let found = rw is at there in
+    ap (λ file. unwrap_or file []) (sym found)
+
+-- ---- a file is opened
+
+opened_progress : (before : List Place) (name bytes : List ℕ) (old entered new : Progress) → IsProgress old before
+    → entered.names.items ≡ old.names.items ++ name ∷ [] → entered ≡ record old { names = entered.names; around = entered.around }
+    → new.bytes ≡ entered.bytes + length bytes → new ≡ record entered { bytes = new.bytes }
+    → IsProgress new (before ++ Opened name bytes ∷ [])
+opened_progress before name bytes old entered new was names entering counted counting =
+    step before (Opened name bytes) old new was
+    (subst (λ table. IsTable table (declared_in before ++ [])) (sym (ap (λ p. p.table) counting ∙ ap (λ p. p.table) entering)) (rw append-nil was.table))
+    (nothing_more _ _ _ (ap (λ p. map plain_base_law p.laws.items) counting ∙ ap (λ p. map plain_base_law p.laws.items) entering) refl)
+    (nothing_more _ _ _ (ap (λ p. map plain_query p.queries.items) counting ∙ ap (λ p. map plain_query p.queries.items) entering) refl)
+    (nothing_more _ _ _ (ap (λ p. p.labels) counting ∙ ap (λ p. p.labels) entering) refl)
+    (ap (λ p. p.names.items) counting ∙ names)
+    (counted ∙ ap (λ p. p.bytes + length bytes) entering)
+
+unrefused_opening : (before : List Place) (bytes : List ℕ) → length bytes ≤ limit_number limits.FileBytes
+    → bytes_in before + length bytes ≤ limit_number limits.TotalBytes → opening_refusal before bytes ≡ None
+unrefused_opening before bytes short few = grind (arith, nat_tests)
+
+pub is_opened : (before : List Place) (name bytes : List ℕ) (old entered new : Progress) (count : ℕ) → IsProgress old before
+    → entered.names.items ≡ old.names.items ++ name ∷ [] → entered ≡ record old { names = entered.names; around = entered.around }
+    → count ≡ length bytes → length bytes ≤ limit_number limits.FileBytes
+    → (new.bytes ≡ entered.bytes + count) × (entered.bytes + count ≤ limit_number limits.TotalBytes) → new ≡ record entered { bytes = new.bytes }
+    → IsOpened before name bytes new
+is_opened before name bytes old entered new count was names entering is short counted counting =
+    let bytes_were : entered.bytes ≡ old.bytes = ap (λ (p : Progress). p.bytes) entering in
+    record {
+      unrefused = unrefused_opening before bytes short (omega (arith, was.bytes, counted.1));
+      opened = opened_progress before name bytes old entered new was names entering (counted.0 ∙ ap (λ n. entered.bytes + n) is) counting;
+    }
+
+-- ---- the places of a file with their statements gone through
+
+-- the places of what is included, so many files deep
+abbrev pub AreInside : ℕ → Files → List (List ℕ) → ℕ → List ℕ → List Place → Type 0
+AreInside zero files around = NoPlaces
+AreInside (suc deep) files around = ArePlaces deep files around
+
+inside_exist : CutOrStop → StatementsAreTokens → TreeOrRefusal → (deep : ℕ) (files : Files) (around : List (List ℕ)) → Has (AreInside deep files around)
+inside_exist cut are read zero files around number name = ([], refl)
+inside_exist cut are read (suc deep) files around number name = places_exist cut are read deep files around number name
+
+of_file : (deep : ℕ) (files : Files) (around : List (List ℕ)) (file : ℕ) (name : List ℕ) (behind : List Place)
+    → AreOfText (AreInside deep files (around ++ name ∷ [])) file (around ++ name ∷ []) (content files name) behind
+    → ArePlaces deep files around file name (Opened name (content files name) ∷ behind)
+of_file zero files around file name behind are = (behind, are, refl)
+of_file (suc deep) files around file name behind are = (behind, are, refl)
+
+-- ---- one statement
+
+-- where a statement is refused
+pub statement_refused : CutOrStop → StatementsAreTokens → TreeOrRefusal → (deep : ℕ) (files : Files) (around : List (List ℕ)) (file : ℕ)
+    (before : List Place) (tokens : List TokenView) (fault : Fault) (old new : Progress) → IsProgress old before → new.names ≡ old.names
+    → IsRefusedStatement before file around tokens fault
+    → GoesThrough (AreOfStatement (AreInside deep files around) file around (length (opened_in before)) tokens) before {T = Unit {0}} (Err (halt_of fault)) new
+statement_refused cut are read deep files around file before tokens faults.OutOfMemory old new was names refused = tt
+statement_refused cut are read deep files around file before tokens (faults.Refused refusal) old new was names (inl refused) =
+    (Barred refusal ∷ [], inl (refusal, refused, refl), refl, ap (λ l. l.items) names ∙ was.names ∙ sym (append-nil (opened_in before)))
+statement_refused cut are read deep files around file before tokens (faults.Refused refusal) old new was names (inr (statement, parsed, refused)) =
+    let behind = behind_exists (AreInside deep files around) (inside_exist cut are read deep files around) (length (opened_in before)) (included statement.part) in (
+      Said file around statement ∷ behind.0,
+      inr (statement, behind.0, parsed, behind.1, refl),
+      ap (λ one. option_or one (first_behind (before ++ Said file around statement ∷ []) behind.0)) refused,
+      ap (λ l. l.items) names ∙ was.names ∙ sym (append-nil (opened_in before))
+          ∙ ap (λ one. opened_in before ++ opened_behind one (opened_until (before ++ Said file around statement ∷ []) behind.0)) (sym refused),
+    )
+
+-- where it includes nothing
+pub statement_alone : (Inside : ℕ → List ℕ → List Place → Type 0) (around : List (List ℕ)) (file : ℕ)
+    (before : List Place) (tokens : List TokenView) (done : Unit {0}) (new : Progress) → IsTaken before file around tokens None new
+    → GoesThrough (AreOfStatement Inside file around (length (opened_in before)) tokens) before (Ok done) new
+statement_alone Inside around file before tokens done new (statement, parsed, is, says) = (
+  Said file around statement ∷ [],
+  inr (statement, [], parsed, subst (λ name. AreBehind Inside (length (opened_in before)) name []) is refl, refl),
+  ap (λ one. option_or one None) says.unrefused,
+  says.taken,
+)
+
+-- where it includes a file, which was gone through
+pub statement_includes : (Inside : ℕ → List ℕ → List Place → Type 0) (around : List (List ℕ)) (file : ℕ)
+    (before : List Place) (tokens : List TokenView) (name : List ℕ) (result : Result (Unit {0}) Halt) (now new : Progress) → IsTaken before file around tokens (Some name) now
+    → ((more : List Place) → IsProgress now more → GoesThrough (Inside (length (opened_in more)) name) more result new)
+    → GoesThrough (AreOfStatement Inside file around (length (opened_in before)) tokens) before result new
+statement_includes Inside around file before tokens name result now new (statement, parsed, is, says) goes =
+    let place = Said file around statement in
+    let more = before ++ place ∷ [] in
+    let number : length (opened_in more) ≡ length (opened_in before) = ap length (opened_in_behind before place ∙ append-nil (opened_in before)) in
+    let are : (behind : List Place) → Inside (length (opened_in more)) name behind → AreOfStatement Inside file around (length (opened_in before)) tokens (place ∷ behind) =
+    λ behind inside. inr (
+      statement,
+      behind,
+      parsed,
+      subst (λ name. AreBehind Inside (length (opened_in before)) name behind) is (subst (λ n. Inside n name behind) number inside),
+      refl,
+    ) in
+    step result are (goes more says.taken)
+  where
+    place : Place
+    place = Said file around statement
+
+    step : (result : Result (Unit {0}) Halt)
+        → ((behind : List Place) → Inside (length (opened_in (before ++ place ∷ []))) name behind → AreOfStatement Inside file around (length (opened_in before)) tokens (place ∷ behind))
+        → GoesThrough (Inside (length (opened_in (before ++ place ∷ []))) name) (before ++ place ∷ []) result new
+        → GoesThrough (AreOfStatement Inside file around (length (opened_in before)) tokens) before result new
+    step (Ok done) are (behind, inside, none, kept) = (
+      place ∷ behind,
+      are behind inside,
+      ap (λ one. option_or one (first_behind (before ++ place ∷ []) behind)) says.unrefused ∙ none,
+      subst (IsProgress new) (append_assoc before (place ∷ []) behind) kept,
+    )
+    step (Err (halts.Refused refusal)) are (behind, inside, some, names) = (
+      place ∷ behind,
+      are behind inside,
+      ap (λ one. option_or one (first_behind (before ++ place ∷ []) behind)) says.unrefused ∙ some,
+      names ∙ ap (λ l. l ++ opened_until (before ++ place ∷ []) behind) (opened_in_behind before place ∙ append-nil (opened_in before))
+          ∙ ap (λ one. opened_in before ++ opened_behind one (opened_until (before ++ place ∷ []) behind)) (sym says.unrefused),
+    )
+    step (Err halts.ReadFault) are goes = tt
+    step (Err halts.OutOfMemory) are goes = tt
+
+-- ---- the statements of a file
+
+statements_all : (Inside : ℕ → List ℕ → List Place → Type 0) (file : ℕ) (around : List (List ℕ)) (number : ℕ) (all more : List (List TokenView)) (done rest : List Place)
+    → AreOfStatements Inside file around number all done → AreOfStatements Inside file around (number + length (opened_in done)) more rest
+    → AreOfStatements Inside file around number (all ++ more) (done ++ rest)
+statements_all Inside file around number [] more done rest none are =
+    let number_is : number + length (opened_in done) ≡ number = rw none (omega arith) in
+    subst (λ places. AreOfStatements Inside file around number more (places ++ rest)) (sym none)
+    (subst (λ n. AreOfStatements Inside file around n more rest) number_is are)
+statements_all Inside file around number (tokens ∷ all) more done rest (first, later, is_first, are_later, is) are =
+    let number_is : number + length (opened_in done) ≡ (number + length (opened_in first)) + length (opened_in later) =
+    rw (is, opened_in_all first later, length-append) (omega arith) in (
+      first,
+      later ++ rest,
+      is_first,
+      statements_all Inside file around (number + length (opened_in first)) all more later rest are_later
+          (subst (λ n. AreOfStatements Inside file around n more rest) number_is are),
+      ap (λ places. places ++ rest) is ∙ append_assoc first later rest,
+    )
+
+all_later : {X : Type 0} (P : X → Type 0) (xs ys : List X) → AllByRecursion P (xs ++ ys) → AllByRecursion P ys
+all_later P [] ys all = all
+all_later P (x ∷ xs) ys all = all_later P xs ys all.1
+
+-- what comes before a statement, the statement, and what comes behind it
+parted : (statements : List (List TokenView)) (i : ℕ) → i < length statements
+    → statements ≡ take i statements ++ (slice_index_or statements i [] ∷ drop (suc i) statements)
+parted statements i within =
+    sym (take-append-drop i statements) ∙ ap (λ l. take i statements ++ l) (drop-cons statements i [] within)
+
+-- Before a statement: the file was opened, and the places of the statements before it were gone through.
+pub record Midway (deep : ℕ) (files : Files) (before : List Place) (name : List ℕ) (file : ℕ) (around : List (List ℕ)) (statements : List (List TokenView)) (i : ℕ) (progress : Progress) : Type 0 where
+  pub unrefused : opening_refusal before (content files name) ≡ None
+  pub number : file ≡ length (opened_in before)
+  pub done : List Place
+  pub are : AreOfStatements (AreInside deep files around) file around (file + 1) (take i statements) done
+  pub none : first_behind (before ++ Opened name (content files name) ∷ []) done ≡ None
+  pub kept : IsProgress progress ((before ++ Opened name (content files name) ∷ []) ++ done)
+
+-- the places up to there
+abbrev pub up_to : {deep : ℕ} {files : Files} {before : List Place} {name : List ℕ} {file : ℕ} {around : List (List ℕ)} {statements : List (List TokenView)} {i : ℕ} {progress : Progress}
+    → Midway deep files before name file around statements i progress → List Place
+up_to {files = files} {before = before} {name = name} m = (before ++ Opened name (content files name) ∷ []) ++ m.done
+
+-- the number of the next file
+next_number : (before done : List Place) (name bytes : List ℕ) (file : ℕ) → file ≡ length (opened_in before)
+    → length (opened_in ((before ++ Opened name bytes ∷ []) ++ done)) ≡ (file + 1) + length (opened_in done)
+next_number before done name bytes file number =
+    let all = ap length (opened_in_all (before ++ Opened name bytes ∷ []) done ∙ ap (λ l. l ++ opened_in done) (opened_in_behind before (Opened name bytes))) in
+    omega (arith, all, length-append (opened_in before ++ name ∷ []) (opened_in done), length-append (opened_in before) (name ∷ []))
+
+-- before the first statement
+pub midway_begins : {deep : ℕ} {files : Files} {before : List Place} {name bytes : List ℕ} {file : ℕ} {around : List (List ℕ)} {statements : List (List TokenView)} {progress : Progress}
+    → bytes ≡ content files name → IsOpened before name bytes progress → file ≡ length (opened_in before)
+    → Midway deep files before name file around statements 0 progress
+midway_begins {deep} {files} {before} {name} {bytes} {file} {around} {statements} {progress} is opened number =
+    let opened_is = subst (λ b. IsOpened before name b progress) is opened in
+    record {
+      unrefused = opened_is.unrefused;
+      number = number;
+      done = [];
+      are = refl;
+      none = refl;
+      kept = subst (IsProgress progress) (sym (append-nil (before ++ Opened name (content files name) ∷ []))) opened_is.opened;
+    }
+
+-- behind a statement that was gone through
+pub midway_goes : {deep : ℕ} {files : Files} {before : List Place} {name : List ℕ} {file : ℕ} {around : List (List ℕ)} {statements : List (List TokenView)} {i : ℕ} {old : Progress} (new : Progress)
+    (done : Unit {0}) → i < length statements → (m : Midway deep files before name file around statements i old)
+    → GoesThrough (AreOfStatement (AreInside deep files around) file around (length (opened_in (up_to m))) (slice_index_or statements i []))
+    (up_to m) (Ok done) new
+    → Midway deep files before name file around statements (i + 1) new
+midway_goes {deep} {files} {before} {name} {file} {around} {statements} {i} {old} new done within m (places, are, none, kept) =
+    let start = before ++ Opened name (content files name) ∷ [] in
+    let tokens = slice_index_or statements i [] in
+    let one : AreOfStatements (AreInside deep files around) file around ((file + 1) + length (opened_in m.done)) (tokens ∷ []) places =
+    (places, [], subst (λ n. AreOfStatement (AreInside deep files around) file around n tokens places) (next_number before m.done name (content files name) file m.number) are, refl, sym (append-nil places)) in
+    record {
+      unrefused = m.unrefused;
+      number = m.number;
+      done = m.done ++ places;
+      are = subst (λ all. AreOfStatements (AreInside deep files around) file around (file + 1) all (m.done ++ places)) (sym (take_more statements i [] within))
+          (statements_all (AreInside deep files around) file around (file + 1) (take i statements) (tokens ∷ []) m.done places m.are one);
+      none = first_behind_all start m.done places ∙ ap (λ first. option_or first (first_behind (start ++ m.done) places)) m.none ∙ none;
+      kept = subst (IsProgress new) (append_assoc start m.done places) kept;
+    }
+
+-- behind the last statement
+-- what is kept is that of some places
+abbrev pub Kept : Progress → Type 0
+Kept progress = (places : List Place) × IsProgress progress places
+
+pub progress_left : (places : List Place) (old new : Progress) → IsProgress old places → new ≡ record old { around = new.around } → IsProgress new places
+progress_left places old new kept left =
+    subst (λ p. IsProgress p places) (sym left)
+    (record { table = kept.table; laws = kept.laws; queries = kept.queries; labels = kept.labels; names = kept.names; bytes = kept.bytes })
+
+pub midway_ends : {deep : ℕ} {files : Files} {before : List Place} {name : List ℕ} {file : ℕ} {statements : List (List TokenView)} {i : ℕ} {old : Progress} (around : List (List ℕ)) (new : Progress)
+    (done : Unit {0}) → length statements ≤ i → HasRead (content files name) statements
+    → Midway deep files before name file (around ++ name ∷ []) statements i old → new ≡ record old { around = new.around }
+    → GoesThrough (ArePlaces deep files around (length (opened_in before)) name) before (Ok done) new
+midway_ends {deep} {files} {before} {name} {file} {statements} {i} {old} around new done past (tokens, cut, short, read) m left =
+    let are = subst (λ all. AreOfStatements (AreInside deep files (around ++ name ∷ [])) file (around ++ name ∷ []) (file + 1) all m.done) (take_all i statements past ∙ read) m.are in
+    let bytes = content files name in (
+      Opened name bytes ∷ m.done,
+      subst (λ n. ArePlaces deep files around n name (Opened name bytes ∷ m.done)) m.number
+          (of_file deep files around file name m.done (inr (tokens, cut, short, are))),
+      ap (λ one. option_or one (first_behind (before ++ Opened name bytes ∷ []) m.done)) m.unrefused ∙ m.none,
+      progress_left (before ++ Opened name bytes ∷ m.done) old new (subst (IsProgress old) (append_assoc before (Opened name bytes ∷ []) m.done) m.kept) left,
+    )
+
+-- the names opened up to a statement that is refused
+names_stopped : (before done places rest : List Place) (name bytes : List ℕ) (refusal : Refusal) → opening_refusal before bytes ≡ None
+    → first_behind (before ++ Opened name bytes ∷ []) done ≡ None
+    → first_behind ((before ++ Opened name bytes ∷ []) ++ done) places ≡ Some refusal
+    → opened_in ((before ++ Opened name bytes ∷ []) ++ done) ++ opened_until ((before ++ Opened name bytes ∷ []) ++ done) places
+    ≡ opened_in before ++ opened_until before (Opened name bytes ∷ (done ++ (places ++ rest)))
+names_stopped before done places rest name bytes refusal unrefused none some =
+    let start = before ++ Opened name bytes ∷ [] in
+    let until_one : opened_until (start ++ done) (places ++ rest) ≡ opened_until (start ++ done) places =
+    opened_until_all (start ++ done) places rest
+    ∙ ap (λ one. opened_until (start ++ done) places ++ opened_behind one (opened_until ((start ++ done) ++ places) rest)) some
+    ∙ append-nil (opened_until (start ++ done) places) in
+    let until_all : opened_until start (done ++ (places ++ rest)) ≡ opened_in done ++ opened_until (start ++ done) places =
+    opened_until_all start done (places ++ rest)
+    ∙ ap (λ one. opened_until start done ++ opened_behind one (opened_until (start ++ done) (places ++ rest))) none
+    ∙ ap (λ l. l ++ opened_until (start ++ done) (places ++ rest)) (opened_where_none start done none)
+    ∙ ap (λ l. opened_in done ++ l) until_one in
+    ap (λ l. l ++ opened_until (start ++ done) places) (opened_in_all start done ∙ ap (λ l. l ++ opened_in done) (opened_in_behind before (Opened name bytes)))
+    ∙ append_assoc (opened_in before ++ name ∷ []) (opened_in done) (opened_until (start ++ done) places)
+    ∙ append_assoc (opened_in before) (name ∷ []) (opened_in done ++ opened_until (start ++ done) places)
+    ∙ ap (λ l. opened_in before ++ name ∷ l) (sym until_all)
+    ∙ ap (λ one. opened_in before ++ name ∷ opened_behind one (opened_until start (done ++ (places ++ rest)))) (sym unrefused)
+
+-- at a statement that is refused
+pub midway_stops : CutOrStop → StatementsAreTokens → TreeOrRefusal
+    → {deep : ℕ} {files : Files} {before : List Place} {name : List ℕ} {file : ℕ} {statements : List (List TokenView)} {i : ℕ} {old : Progress} (around : List (List ℕ)) (new : Progress)
+    (halt : Halt) → i < length statements → HasRead (content files name) statements
+    → (m : Midway deep files before name file (around ++ name ∷ []) statements i old)
+    → GoesThrough (AreOfStatement (AreInside deep files (around ++ name ∷ [])) file (around ++ name ∷ []) (length (opened_in (up_to m))) (slice_index_or statements i []))
+    (up_to m) {T = Unit {0}} (Err halt) new
+    → GoesThrough (ArePlaces deep files around (length (opened_in before)) name) before {T = Unit {0}} (Err halt) new
+midway_stops cut are read {deep} {files} {before} {name} {file} {statements} {i} {old} around new halts.ReadFault within has m goes = tt
+midway_stops cut are read {deep} {files} {before} {name} {file} {statements} {i} {old} around new halts.OutOfMemory within has m goes = tt
+midway_stops cut are read {deep} {files} {before} {name} {file} {statements} {i} {old} around new (halts.Refused refusal) within (tokens, is_cut, short, is) m (places, first, some, names) =
+    let bytes = content files name in
+    let start = before ++ Opened name bytes ∷ [] in
+    let mid = start ++ m.done in
+    let within_file = around ++ name ∷ [] in
+    let Inside = AreInside deep files within_file in
+    let number = (file + 1) + length (opened_in m.done) in
+    let one = slice_index_or statements i [] in
+    let later = drop (suc i) statements in
+    let all_are : AllByRecursion AreTokens statements = subst (AllByRecursion AreTokens) (sym is) (are 1 bytes tokens is_cut short) in
+    let later_are : AllByRecursion AreTokens (one ∷ later) = all_later AreTokens (take i statements) (one ∷ later) (subst (AllByRecursion AreTokens) (parted statements i within) all_are) in
+    let rest = statements_exist read Inside (inside_exist cut are read deep files within_file) file within_file (number + length (opened_in places)) later later_are.1 in
+    let behind = m.done ++ (places ++ rest.0) in
+    let here : AreOfStatements Inside file within_file number (one ∷ later) (places ++ rest.0) =
+    (places, rest.0, subst (λ n. AreOfStatement Inside file within_file n one places) (next_number before m.done name bytes file m.number) first, rest.1, refl) in
+    let whole : AreOfStatements Inside file within_file (file + 1) (statements_of tokens) behind =
+    subst (λ all. AreOfStatements Inside file within_file (file + 1) all behind) (sym (parted statements i within) ∙ is)
+    (statements_all Inside file within_file (file + 1) (take i statements) (one ∷ later) m.done (places ++ rest.0) m.are here) in (
+      Opened name bytes ∷ behind,
+      subst (λ n. ArePlaces deep files around n name (Opened name bytes ∷ behind)) m.number
+          (of_file deep files around file name behind (inr (tokens, is_cut, short, whole))),
+      ap (λ refused. option_or refused (first_behind start behind)) m.unrefused ∙ first_behind_all start m.done (places ++ rest.0)
+          ∙ ap (λ refused. option_or refused (first_behind mid (places ++ rest.0))) m.none ∙ first_behind_all mid places rest.0
+          ∙ ap (λ refused. option_or refused (first_behind (mid ++ places) rest.0)) some,
+      names ∙ names_stopped before m.done places rest.0 name bytes refusal m.unrefused m.none some,
+    )
+
+-- ---- a file that is not gone through
+
+-- its opening is refused
+pub opening_stops : CutOrStop → StatementsAreTokens → TreeOrRefusal
+    → (deep : ℕ) (files : Files) (before : List Place) (name : List ℕ) (around : List (List ℕ)) (halt : Halt) (new : Progress)
+    → IsRefusedOpening before name (content files name) halt new
+    → GoesThrough (ArePlaces deep files around (length (opened_in before)) name) before {T = Unit {0}} (Err halt) new
+opening_stops cut are read deep files before name around halts.ReadFault new refused = tt
+opening_stops cut are read deep files before name around halts.OutOfMemory new refused = tt
+opening_stops cut are read deep files before name around (halts.Refused refusal) new (refused, names) =
+    let bytes = content files name in
+    let within_file = around ++ name ∷ [] in
+    let file = length (opened_in before) in
+    let behind = text_places_exist cut are read (AreInside deep files within_file) (inside_exist cut are read deep files within_file) file within_file bytes in (
+      Opened name bytes ∷ behind.0,
+      of_file deep files around file name behind.0 behind.1,
+      ap (λ one. option_or one (first_behind (before ++ Opened name bytes ∷ []) behind.0)) refused,
+      names ∙ ap (λ one. opened_in before ++ name ∷ opened_behind one (opened_until (before ++ Opened name bytes ∷ []) behind.0)) (sym refused),
+    )
+
+-- its text is no tokens
+text_refused : (deep : ℕ) (files : Files) (before : List Place) (name : List ℕ) (file : ℕ) (around : List (List ℕ)) (fault : Fault) (new : Progress)
+    → IsOpened before name (content files name) new → file ≡ length (opened_in before) → HasStopped file (content files name) fault
+    → GoesThrough (ArePlaces deep files around (length (opened_in before)) name) before {T = Unit {0}} (Err (halt_of fault)) new
+text_refused deep files before name file around faults.OutOfMemory new opened number stopped = tt
+text_refused deep files before name file around (faults.Refused refusal) new opened number stopped =
+    let there = content files name in (
+      Opened name there ∷ Barred refusal ∷ [],
+      subst (λ n. ArePlaces deep files around n name (Opened name there ∷ Barred refusal ∷ [])) number
+          (of_file deep files around file name (Barred refusal ∷ []) (inl (stopped.0, refusal, stopped.1, refl))),
+      ap (λ one. option_or one (Some refusal)) opened.unrefused,
+      opened.opened.names ∙ opened_in_behind before (Opened name there) ∙ ap (λ one. opened_in before ++ name ∷ opened_behind one []) (sym opened.unrefused),
+    )
+
+pub text_stops : (deep : ℕ) (files : Files) (before : List Place) (name bytes text : List ℕ) (file : ℕ) (around : List (List ℕ)) (fault : Fault) (halt : Halt) (new : Progress)
+    → bytes ≡ content files name → text ≡ bytes → halt ≡ halt_of fault → IsOpened before name bytes new → file ≡ length (opened_in before) → HasStopped file text fault
+    → GoesThrough (ArePlaces deep files around (length (opened_in before)) name) before {T = Unit {0}} (Err halt) new
+text_stops deep files before name bytes text file around fault halt new is text_is halt_is opened number stopped =
+    subst (λ h. GoesThrough (ArePlaces deep files around (length (opened_in before)) name) before {T = Unit {0}} (Err h) new) (sym halt_is)
+    (text_refused deep files before name file around fault new (subst (λ b. IsOpened before name b new) is opened) number
+    (subst (λ b. HasStopped file b fault) (text_is ∙ is) stopped))
+
+pub has_read : (text bytes there : List ℕ) (read statements : List (List TokenView)) → text ≡ bytes → bytes ≡ there → statements ≡ read → HasRead text read → HasRead there statements
+has_read text bytes there read statements text_is is are has = subst (HasRead there) (sym are) (subst (λ b. HasRead b read) (text_is ∙ is) has)
+
+-- what an error is told as
+pub told_as : (Are : List Place → Type 0) (before : List Place) (result : Result (Unit {0}) Halt) (halt : Halt) (new : Progress)
+    → IsErrAnd result (λ told. told ≡ halt) → GoesThrough Are before {T = Unit {0}} (Err halt) new → GoesThrough Are before result new
+told_as Are before (Ok done) halt new is goes = elim is [ ]
+told_as Are before (Err told) halt new is goes = subst (λ h. GoesThrough Are before {T = Unit {0}} (Err h) new) (sym is) goes
+
+-- ---- as the calls say it
+
+pub taken_as : (before : List Place) (file : ℕ) (other around : List (List ℕ)) (taken tokens : List TokenView) (name named : Option (List ℕ)) (new : Progress)
+    → other ≡ around → taken ≡ tokens → name ≡ named → IsTaken before file other taken name new → IsTaken before file around tokens named new
+taken_as before file other around taken tokens name named new other_is tokens_are name_is is_taken =
+    subst (λ a. IsTaken before file a tokens named new) other_is (subst (λ l. IsTaken before file other l named new) tokens_are
+    (subst (λ o. IsTaken before file other taken o new) name_is is_taken))
+
+pub refused_as : (before : List Place) (file : ℕ) (other around : List (List ℕ)) (taken tokens : List TokenView) (fault : Fault)
+    → other ≡ around → taken ≡ tokens → IsRefusedStatement before file other taken fault → IsRefusedStatement before file around tokens fault
+refused_as before file other around taken tokens fault other_is tokens_are refused =
+    subst (λ a. IsRefusedStatement before file a tokens fault) other_is (subst (λ l. IsRefusedStatement before file other l fault) tokens_are refused)
+
+inside_is : (deep : ℕ) (files : Files) (around : List (List ℕ)) → 0 < deep → ArePlaces (deep - 1) files around ≡ AreInside deep files around
+inside_is zero files around some = absurd (omega arith)
+inside_is (suc deep) files around some = ap (λ d. ArePlaces d files around) (omega arith)
+
+-- what is included was read
+pub statement_reads : (deep : ℕ) (files : Files) (around behind : List (List ℕ)) (file : ℕ) (before : List Place) (tokens : List TokenView) (name : List ℕ)
+    (result : Result (Unit {0}) Halt) (now new : Progress) → 0 < deep → behind ≡ around → IsTaken before file around tokens (Some name) now
+    → ((more : List Place) → IsProgress now more → GoesThrough (ArePlaces (deep - 1) files behind (length (opened_in more)) name) more result new)
+    → GoesThrough (AreOfStatement (AreInside deep files around) file around (length (opened_in before)) tokens) before result new
+statement_reads deep files around behind file before tokens name result now new some behind_is taken goes =
+    statement_includes (AreInside deep files around) around file before tokens name result now new taken
+    (λ more kept. subst (λ Inside. GoesThrough (Inside (length (opened_in more)) name) more result new) (inside_is deep files around some)
+    (subst (λ a. GoesThrough (ArePlaces (deep - 1) files a (length (opened_in more)) name) more result new) behind_is (goes more kept)))
+
+-- a deeper include has no places
+pub statement_ends : (deep : ℕ) (files : Files) (around : List (List ℕ)) (file : ℕ) (before : List Place) (tokens : List TokenView) (name : List ℕ)
+    (done : Unit {0}) (now : Progress) → deep ≡ 0 → IsTaken before file around tokens (Some name) now
+    → GoesThrough (AreOfStatement (AreInside deep files around) file around (length (opened_in before)) tokens) before (Ok done) now
+statement_ends deep files around file before tokens name done now none taken =
+    subst (λ d. GoesThrough (AreOfStatement (AreInside d files around) file around (length (opened_in before)) tokens) before (Ok done) now) (sym none)
+    (statement_includes NoPlaces around file before tokens name (Ok done) now now taken
+    (λ more kept. ([], refl, refl, subst (IsProgress now) (sym (append-nil more)) kept)))
+
+-- a statement that is refused is no fault of the desk
+pub no_fault : (result : Result (Unit {0}) Halt) (fault : Fault) → IsErrAnd result (λ told. told ≡ halt_of fault) → result ≡ Err halts.ReadFault → ⊥
+no_fault (Ok done) fault is same = elim is [ ]
+no_fault (Err told) (faults.Refused refusal) is same = absurd cc
+no_fault (Err told) faults.OutOfMemory is same = absurd cc
+
+-- ---- the files that are opened are there
+
+pub there_too : (files : Files) (names : List (List ℕ)) (name : List ℕ) → AreThere files names → IsSome (files name) → AreThere files (names ++ name ∷ [])
+there_too files [] name are is = (is, tt)
+there_too files (first ∷ names) name are is = (are.0, there_too files names name are.1 is)
+
+-- a name that was read is
+pub read_there : (told : Option Contents) (contents : Contents) (name bytes : List ℕ) → told ≡ Some contents
+    → IfSome told (λ c. c.files name ≡ Some bytes) → IsSome (contents.files name)
+read_there told contents name bytes is there = let found = rw is at there in rw found refl
+
+pub long_there : (told : Option Contents) (contents : Contents) (name : List ℕ) (most : ℕ) → told ≡ Some contents
+    → IfSome told (λ c. (bytes : List ℕ) × (c.files name ≡ Some bytes) × (most < length bytes)) → IsSome (contents.files name)
+long_there told contents name most is there = let found = rw is at there in rw (found.1) refl
+
+pub finds : {T : Type 0} (files : Files) (result : Result T Halt) (names : List (List ℕ)) → AreThere files names → FindsFiles files result names
+finds files (Ok done) names are = are
+finds files (Err (halts.Refused refusal)) names are = are
+finds files (Err halts.ReadFault) names are = tt
+finds files (Err halts.OutOfMemory) names are = tt
+
+-- what an error is told as
+pub finds_as : {T : Type 0} (U : Type 0) (files : Files) (result : Result T Halt) (halt : Halt) (names : List (List ℕ))
+    → IsErrAnd result (λ told. told ≡ halt) → FindsFiles files {T = U} (Err halt) names → FindsFiles files result names
+finds_as U files (Ok done) halt names is found = elim is [ ]
+finds_as {T} U files (Err told) halt names is found = moved told is
+  where
+    at : (h : Halt) → FindsFiles files {T = U} (Err h) names → FindsFiles files {T = T} (Err h) names
+    at (halts.Refused refusal) found = found
+    at halts.ReadFault found = tt
+    at halts.OutOfMemory found = tt
+
+    moved : (told : Halt) → told ≡ halt → FindsFiles files {T = T} (Err told) names
+    moved told is = subst (λ h. FindsFiles files {T = T} (Err h) names) (sym is) (at halt found)

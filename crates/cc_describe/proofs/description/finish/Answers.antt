@@ -1,0 +1,12 @@
+use Rattle.std.proofs.Common.{◌∙◌}
+use Rattle.cc_describe.specs.FirstRefusal.{declared_in}
+use Rattle.cc_describe.proofs.Described.{refused_whole, tells_no_fault}
+use Rattle.cc_describe.proofs.description.finish.Goals as goal
+
+pub returns-in-Err-clause-refused : goal.returns-in-Err-clause-refused
+returns-in-Err-clause-refused c places is =
+    refused_whole places c.deref.result.now c.in-Err.fault c.from.result c.stop_of.result (c.deref.ensures.value ∙ is.names)
+    (c.in-Err.ensures.refused (declared_in places) is.table) c.from.ensures c.stop_of.ensures
+
+pub returns-in-Err-clause-no_read_fault : goal.returns-in-Err-clause-no_read_fault
+returns-in-Err-clause-no_read_fault c = tells_no_fault c.deref.result.now c.in-Err.fault c.from.result c.stop_of.result c.from.ensures c.stop_of.ensures

@@ -1,0 +1,195 @@
+use Rattle.std.proofs.Common.{ℕ, List, ◌+◌, ◌<◌, ◌≤◌, ◌≡◌, ◌++◌, ◌∷◌, [], Some, None, length, slice_index_or, arith, sym, ap, subst, ◌∙◌, Ok, Err}
+use Rattle.std.specs.Option.{option_copied}
+use Rattle.cc_ports.specs.Contents.{with_rest}
+use Rattle.cc_text.specs.Views.{token_views, cut_at}
+use Rattle.cc_describe.specs.Places.{AreThere}
+use Rattle.cc_describe.proofs.Walk.{AreInside, Kept, Midway, up_to, progress_left, opening_stops, text_stops, told_as, no_fault, finds, finds_as, has_read, taken_as, refused_as, touched_again, tells_still, midway_begins, midway_goes, midway_ends, midway_stops, statement_refused, statement_alone, statement_reads, statement_ends}
+use Rattle.cc_describe.proofs.files.+read_file.Goals.{in-Some+then-deep-gt0+in_ok-read_file-in-Some, in-Some+else-deep-gt0, in-None}
+use Rattle.cc_describe.proofs.files.+read_file.Goals as goal
+
+pub returns-in_err-bytes-clause-gone : goal.returns-in_err-bytes-clause-gone
+returns-in_err-bytes-clause-gone g t c contents before told was =
+    told_as _ before c.from_residual.result _ _ c.from_residual.ensures.1
+    (opening_stops c.cut_or_stop.ensures c.statements_are_tokens.ensures c.tree_or_refusal.ensures c.args.deep contents.files before c.args.name.now
+    c.args.progress.now.around.items _ _ (c.in_err-bytes.ensures.refused contents before told was))
+
+pub returns-in-Err-clause-gone : goal.returns-in-Err-clause-gone
+returns-in-Err-clause-gone g t c contents before told was =
+    let opened = c.in_ok-bytes.ensures.opened contents before told was in
+    text_stops c.args.deep contents.files before c.args.name.now c.in_ok-bytes.bytes c.items.result.now c.in_ok-bytes.file c.args.progress.now.around.items c.in-Err.fault c.from.result c.open.new.progress
+    opened.0 c.items.ensures c.from.ensures opened.1 opened.2 c.in-Err.ensures.refused
+
+pub loop-i-init : goal.loop-i-init
+loop-i-init g t c = record {
+  around = c.in_ok-bytes.ensures.around;
+  gone = λ contents before told was.
+      let opened = c.in_ok-bytes.ensures.opened contents before told was in
+      midway_begins {around = c.args.progress.now.around.items ++ c.args.name.now ∷ []} {statements = cut_at 0 c.tokens.inside.ends.items (token_views c.tokens.inside.tokens.items)} opened.0 opened.1 opened.2;
+  kept = λ before was. c.in_ok-bytes.ensures.kept before was;
+  there = λ contents told are. c.in_ok-bytes.ensures.there contents told are;
+  told = c.open.ensures.after;
+  begun = c.open.ensures.begun;
+  reads_count = c.open.ensures.reads_count;
+  writes_count = c.open.ensures.writes_count;
+}
+
+pub returns-in_err-included-clause-gone : goal.returns-in_err-included-clause-gone
+returns-in_err-included-clause-gone g t c contents before told was =
+    let opened = c.in_ok-bytes.ensures.opened contents before told was in
+    let m = c.loop-i.invariant.gone contents before told was in
+    let name = c.args.name.now in
+    let around = c.args.progress.now.around.items ++ name ∷ [] in
+    let statements = cut_at 0 c.tokens.inside.ends.items (token_views c.tokens.inside.tokens.items) in
+    let tokens = slice_index_or statements c.loop-i.i [] in
+    let mid = up_to m in
+    let within : c.loop-i.i < length statements = omega (arith, c.count-i-end.ensures, ap length c.tokens.view_is) in
+    told_as _ before c.from_residual-in_err-included.result _ _ c.from_residual-in_err-included.ensures.1
+    (midway_stops c.cut_or_stop.ensures c.statements_are_tokens.ensures c.tree_or_refusal.ensures c.args.progress.now.around.items c.take.new.self _ within (has_read _ _ _ _ _ c.items.ensures opened.0 c.tokens.view_is c.in-Ok.ensures.read) m
+    (statement_refused c.cut_or_stop.ensures c.statements_are_tokens.ensures c.tree_or_refusal.ensures c.args.deep contents.files around c.in_ok-bytes.file mid tokens _
+    c.loop-i.progress c.take.new.self m.kept c.in_err-included.ensures.names
+    (refused_as mid c.in_ok-bytes.file _ around _ tokens _ c.loop-i.invariant.around
+    (c.statement.ensures.tokens ∙ ap (λ s. slice_index_or s c.loop-i.i []) (sym c.tokens.view_is)) (c.in_err-included.ensures.refused mid m.kept))))
+
+pub returns-in_err-included-clause-failed : goal.returns-in_err-included-clause-failed
+returns-in_err-included-clause-failed g t c is =
+    absurd (no_fault c.from_residual-in_err-included.result _ c.from_residual-in_err-included.ensures.1 is)
+
+pub returns-clause-gone : goal.returns-clause-gone
+returns-clause-gone g t c contents before told was =
+    let opened = c.in_ok-bytes.ensures.opened contents before told was in
+    let m = c.loop-i.invariant.gone contents before told was in
+    let statements = cut_at 0 c.tokens.inside.ends.items (token_views c.tokens.inside.tokens.items) in
+    let past : length statements ≤ c.loop-i.i = omega (arith, c.count-i-end.ensures, ap length c.tokens.view_is) in
+    midway_ends c.args.progress.now.around.items c.leave.new.self tt past
+    (has_read _ _ _ _ _ c.items.ensures opened.0 c.tokens.view_is c.in-Ok.ensures.read) m c.leave.ensures.rest
+
+pub returns-in_err-read_file-in-Some-clause-gone : goal.returns-in_err-read_file-in-Some-clause-gone
+returns-in_err-read_file-in-Some-clause-gone g t c contents before told was =
+    let opened = c.in_ok-bytes.ensures.opened contents before told was in
+    let m = c.loop-i.invariant.gone contents before told was in
+    let name = c.args.name.now in
+    let around = c.args.progress.now.around.items ++ name ∷ [] in
+    let statements = cut_at 0 c.tokens.inside.ends.items (token_views c.tokens.inside.tokens.items) in
+    let tokens = slice_index_or statements c.loop-i.i [] in
+    let mid = up_to m in
+    let within : c.loop-i.i < length statements = omega (arith, c.count-i-end.ensures, ap length c.tokens.view_is) in
+    let after = c.loop-i.invariant.told in
+    told_as _ before c.from_residual-in_err-read_file-in-Some.result _ _ c.from_residual-in_err-read_file-in-Some.ensures.1
+    (midway_stops c.cut_or_stop.ensures c.statements_are_tokens.ensures c.tree_or_refusal.ensures c.args.progress.now.around.items c.read_file.new.progress _ within (has_read _ _ _ _ _ c.items.ensures opened.0 c.tokens.view_is c.in-Ok.ensures.read) m
+    (statement_reads c.args.deep contents.files around _ c.in_ok-bytes.file mid tokens c.in-Some.included.now (Err c.in_err-read_file-in-Some.field-0.0) c.take.new.self c.read_file.new.progress
+    (omega arith) (ap (λ a. a.items) c.in_ok-included.ensures.around ∙ c.loop-i.invariant.around)
+    (taken_as mid c.in_ok-bytes.file _ around _ tokens _ (Some c.in-Some.included.now) c.take.new.self c.loop-i.invariant.around
+    (c.statement.ensures.tokens ∙ ap (λ s. slice_index_or s c.loop-i.i []) (sym c.tokens.view_is)) (ap option_copied c.in-Some.is) (c.in_ok-included.ensures.taken mid m.kept))
+    (λ more kept. c.in_err-read_file-in-Some.ensures.gone (with_rest after.0 contents) more (tells_still after.0 _ _ contents after.1 told) kept)))
+
+pub loop-i-preserved : goal.loop-i-preserved
+loop-i-preserved g t c =
+    let name = c.args.name.now in
+    let around = c.args.progress.now.around.items ++ name ∷ [] in
+    let statements = cut_at 0 c.tokens.inside.ends.items (token_views c.tokens.inside.tokens.items) in
+    let tokens = slice_index_or statements c.loop-i.i [] in
+    let file = c.in_ok-bytes.file in
+    let within : c.loop-i.i < length statements = omega (arith, c.count-i-end.ensures, ap length c.tokens.view_is) in
+    let tokens_are : token_views c.statement.result.now ≡ tokens = c.statement.ensures.tokens ∙ ap (λ s. slice_index_or s c.loop-i.i []) (sym c.tokens.view_is) in
+    let after = c.loop-i.invariant.told in
+    let taken_around : c.take.new.self.around.items ≡ around = ap (λ a. a.items) c.in_ok-included.ensures.around ∙ c.loop-i.invariant.around in
+    elim c.match-branch-3.branch [
+      | in-Some+then-deep-gt0+in_ok-read_file-in-Some w ↦
+          let read = w.in_ok-read_file-in-Some.ensures in
+          record {
+            around = ap (λ p. p.around.items) w.progress-is ∙ read.around ∙ taken_around;
+            gone = λ contents before told was.
+                let m = c.loop-i.invariant.gone contents before told was in
+                let mid = up_to m in
+                subst (Midway c.args.deep contents.files before name file around statements (c.loop-i.i + 1)) (sym w.progress-is)
+                (midway_goes w.read_file.new.progress tt within m
+                (statement_reads c.args.deep contents.files around _ file mid tokens w.in-Some.included.now (Ok tt) c.take.new.self w.read_file.new.progress
+                (omega arith) taken_around
+                (taken_as mid file _ around _ tokens _ (Some w.in-Some.included.now) c.take.new.self c.loop-i.invariant.around
+                tokens_are (ap option_copied w.in-Some.is) (c.in_ok-included.ensures.taken mid m.kept))
+                (λ more kept. read.gone (with_rest after.0 contents) more (tells_still after.0 _ _ contents after.1 told) kept)));
+            kept = λ before was.
+                let was_kept = c.loop-i.invariant.kept before was in
+                subst Kept (sym w.progress-is) (read.kept _ (c.in_ok-included.ensures.taken was_kept.0 was_kept.1).3.taken);
+            there = λ contents told are.
+                subst (λ p. AreThere contents.files p.names.items) (sym w.progress-is)
+                (read.there (with_rest after.0 contents) (tells_still after.0 _ _ contents after.1 told)
+                (subst (λ l. AreThere contents.files l.items) (sym c.in_ok-included.ensures.names) (c.loop-i.invariant.there contents told are)));
+            told = touched_again after.0 _ _ _ after.1 read.after.0 (ap g.D.Desk.told w.desk-is ∙ read.after.1);
+            begun = ap g.D.Desk.begun w.desk-is ∙ read.begun ∙ c.loop-i.invariant.begun;
+            reads_count = rw w.desk-is (omega (arith, read.reads_count));
+            writes_count = rw w.desk-is (omega (arith, read.writes_count));
+          }
+      | in-Some+else-deep-gt0 w ↦
+          record {
+            around = ap (λ p. p.around.items) w.progress-is ∙ taken_around;
+            gone = λ contents before told was.
+                let m = c.loop-i.invariant.gone contents before told was in
+                let mid = up_to m in
+                subst (Midway c.args.deep contents.files before name file around statements (c.loop-i.i + 1)) (sym w.progress-is)
+                (midway_goes c.take.new.self tt within m
+                (statement_ends c.args.deep contents.files around file mid tokens w.in-Some.included.now tt c.take.new.self (omega arith)
+                (taken_as mid file _ around _ tokens _ (Some w.in-Some.included.now) c.take.new.self c.loop-i.invariant.around
+                tokens_are (ap option_copied w.in-Some.is) (c.in_ok-included.ensures.taken mid m.kept))));
+            kept = λ before was.
+                let was_kept = c.loop-i.invariant.kept before was in
+                subst Kept (sym w.progress-is) (_, (c.in_ok-included.ensures.taken was_kept.0 was_kept.1).3.taken);
+            there = λ contents told are.
+                subst (λ p. AreThere contents.files p.names.items) (sym w.progress-is)
+                (subst (λ l. AreThere contents.files l.items) (sym c.in_ok-included.ensures.names) (c.loop-i.invariant.there contents told are));
+            told = (after.0, ap g.D.Desk.told w.desk-is ∙ after.1);
+            begun = ap g.D.Desk.begun w.desk-is ∙ c.loop-i.invariant.begun;
+            reads_count = rw w.desk-is (omega arith);
+            writes_count = rw w.desk-is (omega arith);
+          }
+      | in-None w ↦
+          record {
+            around = ap (λ p. p.around.items) w.progress-is ∙ taken_around;
+            gone = λ contents before told was.
+                let m = c.loop-i.invariant.gone contents before told was in
+                let mid = up_to m in
+                subst (Midway c.args.deep contents.files before name file around statements (c.loop-i.i + 1)) (sym w.progress-is)
+                (midway_goes c.take.new.self tt within m
+                (statement_alone (AreInside c.args.deep contents.files around) around file mid tokens tt c.take.new.self
+                (taken_as mid file _ around _ tokens _ None c.take.new.self c.loop-i.invariant.around
+                tokens_are (ap option_copied w.in-None.is) (c.in_ok-included.ensures.taken mid m.kept))));
+            kept = λ before was.
+                let was_kept = c.loop-i.invariant.kept before was in
+                subst Kept (sym w.progress-is) (_, (c.in_ok-included.ensures.taken was_kept.0 was_kept.1).3.taken);
+            there = λ contents told are.
+                subst (λ p. AreThere contents.files p.names.items) (sym w.progress-is)
+                (subst (λ l. AreThere contents.files l.items) (sym c.in_ok-included.ensures.names) (c.loop-i.invariant.there contents told are));
+            told = (after.0, ap g.D.Desk.told w.desk-is ∙ after.1);
+            begun = ap g.D.Desk.begun w.desk-is ∙ c.loop-i.invariant.begun;
+            reads_count = rw w.desk-is (omega arith);
+            writes_count = rw w.desk-is (omega arith);
+          }
+    ]
+
+pub returns-clause-kept : goal.returns-clause-kept
+returns-clause-kept g t c before was =
+    let was_kept = c.loop-i.invariant.kept before was in
+    (was_kept.0, progress_left was_kept.0 _ c.leave.new.self was_kept.1 c.leave.ensures.rest)
+
+pub returns-in_err-bytes-clause-there : goal.returns-in_err-bytes-clause-there
+returns-in_err-bytes-clause-there g t c contents told are =
+    finds_as (List ℕ × ℕ) contents.files c.from_residual.result _ _ c.from_residual.ensures.1 (c.in_err-bytes.ensures.there contents told are)
+
+pub returns-in-Err-clause-there : goal.returns-in-Err-clause-there
+returns-in-Err-clause-there g t c contents told are = finds {T = Unit {0}} contents.files (Err c.from.result) _ (c.in_ok-bytes.ensures.there contents told are)
+
+pub returns-in_err-included-clause-there : goal.returns-in_err-included-clause-there
+returns-in_err-included-clause-there g t c contents told are =
+    finds contents.files c.from_residual-in_err-included.result _
+    (subst (λ l. AreThere contents.files l.items) (sym c.in_err-included.ensures.names) (c.loop-i.invariant.there contents told are))
+
+pub returns-in_err-read_file-in-Some-clause-there : goal.returns-in_err-read_file-in-Some-clause-there
+returns-in_err-read_file-in-Some-clause-there g t c contents told are =
+    let after = c.loop-i.invariant.told in
+    finds_as (Unit {0}) contents.files c.from_residual-in_err-read_file-in-Some.result _ _ c.from_residual-in_err-read_file-in-Some.ensures.1
+    (c.in_err-read_file-in-Some.ensures.there (with_rest after.0 contents) (tells_still after.0 _ _ contents after.1 told)
+    (subst (λ l. AreThere contents.files l.items) (sym c.in_ok-included.ensures.names) (c.loop-i.invariant.there contents told are)))
+
+pub returns-clause-there : goal.returns-clause-there
+returns-clause-there g t c contents told are =
+    subst (λ p. AreThere contents.files p.names.items) (sym c.leave.ensures.rest) (c.loop-i.invariant.there contents told are)

@@ -1,0 +1,10 @@
+use Rattle.std.proofs.Common.{option_copied}
+use Rattle.cc_defs.specs.Trees.{plain_statement}
+use Rattle.cc_text.specs.Views.{token_views}
+use Rattle.cc_describe.proofs.ProgressLemmas.{taken_by_tree}
+use Rattle.cc_describe.proofs.progress.Progress.take.Goals as goal
+
+pub returns-in-Ok-clause-taken : goal.returns-in-Ok-clause-taken
+returns-in-Ok-clause-taken c = λ before is.
+    taken_by_tree option_copied c.take_tree-taken.result before c.args.file c.args.self.now.around.items (token_views c.args.tokens.now) (plain_statement c.in-Ok.statement) c.take_tree-taken.new.self
+    c.in-Ok.ensures.parsed (c.take_tree-taken.ensures.said before is) c.take_tree-taken.ensures.name

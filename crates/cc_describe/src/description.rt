@@ -1,0 +1,118 @@
+//! Descriptions: a file with the files that it includes, as a table of names, a signature, base laws and queries.
+ghost use Rattle.std.specs.Prelude.{◌≡◌, ◌≢◌, ◌≤◌, ℕ, List as Items, None, option_map, IfOk, IfErr, IfSome, IsErrOf};
+ghost use Rattle.cc_defs.specs.DeclarationFaults.{signature_refusal};
+ghost use Rattle.cc_ports.specs.Contents.{with_rest, Rose};
+ghost use Rattle.cc_describe.specs.Describing.{Describes, HasSignature, HasStopped, IsDescribed, IsRefusedWhole};
+ghost use Rattle.cc_describe.specs.FirstRefusal.{declared_in, file_named};
+ghost use Rattle.cc_describe.specs.Places.{Place};
+ghost use Rattle.cc_describe.specs.ProgressViews.{IsProgress, StopsAs};
+
+use crate::files::{Halt, read_file};
+use crate::progress::Progress;
+use cc_defs::{BaseLaws, LimitAt, List, Name, Names, OutOfMemory, Queries, Refusal, Sig};
+use cc_ports::Desk;
+use cc_sorts::Table;
+use std::alloc::Global;
+
+/// What a description says. Laws and queries stand in the order of its text, those of an included file in place of its
+/// include; their names are numbers of the table. A file's number is its place in `files`, which has each file as often as
+/// it was opened, the main file first.
+#[derive(Drop)]
+pub struct Described {
+    pub table: Table,
+    pub sig: Sig,
+    pub laws: BaseLaws,
+    pub queries: Queries,
+    pub files: Names,
+}
+
+/// Why a file is no description.
+#[derive(Drop)]
+pub enum DescribeStop {
+    /// The first refusal, and the name of the file that it speaks of; an empty one where the refusal has no place.
+    Refused { refusal: Refusal, file: Name },
+    /// The desk failed, or a file is not there.
+    ReadFault,
+    OutOfMemory,
+}
+
+/// Reads a description: the file with this name and the files that it includes, each in place of its include. Each file is
+/// read once for each time it is opened, to its end, before its statements are looked at. Refuses the first place that has a
+/// fault: a file that is too long (14, file bytes or total bytes), a token (2, 14), then each statement (14, 13, 3, then the
+/// least of 4 to 11; an include 17, then 14, include depth); then all declarations together (12, then 14, domain values or
+/// ground constants).
+pub fn describe<D: Desk>(alloc: Global, desk: &mut D, name: &str) -> Result<Described, DescribeStop>
+    // Where the desk tells its files, Ok is what they describe, and a refusal is exactly the first that they have; the files
+    // that were opened are there.
+    ensures described { IfSome (D.told desk.old) (λ contents. IfOk result (Describes contents.files name.now)) }
+    ensures refused { IfSome (D.told desk.old) (λ contents. IfErr result (HasStopped contents.files name.now)) }
+    ensures signature { IfOk result HasSignature }
+    // A fault is answered only where the desk counted one.
+    ensures failed { IsErrOf result DescribeStop.ReadFault → Rose (D.read_faults desk.old) (D.read_faults desk.new) }
+    ensures after { (rest : Items ℕ) × (D.told desk.new ≡ option_map (with_rest rest) (D.told desk.old)) }
+    ensures begun { D.begun desk.new ≡ D.begun desk.old }
+    ensures reads_count { D.read_faults desk.old ≤ D.read_faults desk.new }
+    ensures writes_count { D.write_faults desk.old ≤ D.write_faults desk.new }
+{
+    let mut progress = match Progress::new(alloc) {
+        Ok(progress) => progress,
+        Err(_) => return Err(DescribeStop::OutOfMemory),
+    };
+    match read_file(
+        alloc,
+        desk,
+        &mut progress,
+        name,
+        LimitAt::IncludeDepth.number(),
+    ) {
+        Ok(()) => finish(alloc, progress),
+        Err(halt) => Err(stop_of(alloc, &progress.names, halt)),
+    }
+}
+
+/// The name of the file that a refusal speaks of.
+fn file_of(alloc: Global, names: &[Name], refusal: Refusal) -> Result<Name, OutOfMemory>
+    ensures { IfOk result (λ name. name ≡ file_named names.now refusal) }
+{
+    let mut text = String::new(alloc);
+    if refusal.line > 0 {
+        if let Some(name) = names.get(refusal.file as usize) {
+            text.push_str(name.text())?;
+        }
+    }
+    Ok(Name::of(text))
+}
+
+/// Why a description stops, by why its reading ended.
+fn stop_of(alloc: Global, names: &[Name], halt: Halt) -> DescribeStop
+    ensures { StopsAs names.now halt result }
+{
+    match halt {
+        Halt::Refused(refusal) => match file_of(alloc, names, refusal) {
+            Ok(file) => DescribeStop::Refused { refusal, file },
+            Err(OutOfMemory) => DescribeStop::OutOfMemory,
+        },
+        Halt::ReadFault => DescribeStop::ReadFault,
+        Halt::OutOfMemory => DescribeStop::OutOfMemory,
+    }
+}
+
+/// What all statements say together.
+fn finish(alloc: Global, progress: Progress) -> Result<Described, DescribeStop>
+    ensures described { (places : Items Place) → IsProgress progress places →
+        IfOk result (λ described. (signature_refusal (declared_in places) ≡ None) × IsDescribed places described) }
+    ensures refused { (places : Items Place) → IsProgress progress places → IfErr result (IsRefusedWhole places) }
+    ensures no_read_fault { IfErr result (λ stop. stop ≢ DescribeStop.ReadFault) }
+{
+    let sig = match progress.table.signature(alloc) {
+        Ok(sig) => sig,
+        Err(fault) => return Err(stop_of(alloc, &progress.names, Halt::from(fault))),
+    };
+    Ok(Described {
+        table: progress.table,
+        sig,
+        laws: List::of(progress.laws),
+        queries: List::of(progress.queries),
+        files: List::of(progress.names),
+    })
+}

@@ -1,0 +1,127 @@
+//! Reads a file and the files that it includes.
+ghost use Rattle.std.specs.Prelude.{◌≡◌, ◌++◌, ◌∷◌, ◌≤◌, ◌+◌, [], ℕ, List as Items, Some, length, option_map, IfOk, IfErr, OnOk, IsErrOf};
+ghost use Rattle.cc_defs.specs.Limits.{limit_number};
+ghost use Rattle.cc_defs.specs.declared.refusal.LimitAt.TheVariants as limits;
+ghost use Rattle.cc_ports.specs.Contents.{Contents, with_rest, Rose};
+ghost use Rattle.cc_describe.specs.FirstRefusal.{opening_refusal};
+ghost use Rattle.cc_describe.specs.Places.{Place, ArePlaces, AreThere, content, opened_in};
+ghost use Rattle.cc_describe.specs.ProgressViews.{FindsFiles, GoesThrough, IsOpened, IsProgress, IsRefusedOpening};
+
+use crate::progress::{Progress, past};
+use cc_defs::{Bytes, Fault, LimitAt, OutOfMemory, Refusal};
+use cc_ports::{Desk, ReadStop, read_all};
+use cc_syntax::laws::tree_or_refusal;
+use cc_text::Tokens;
+use cc_text::laws::{cut_or_stop, statements_are_tokens};
+use std::alloc::Global;
+
+/// Why the reading of a description ends before its end.
+#[derive(Clone, Copy, Debug, PartialEq, Eq)]
+pub(crate) enum Halt {
+    Refused(Refusal),
+    ReadFault,
+    OutOfMemory,
+}
+
+impl From<Fault> for Halt {
+    ghost use Rattle.std.specs.Prelude.{◌≡◌};
+    ghost use Rattle.cc_describe.specs.ProgressViews.{halt_of};
+
+    ghost from_gives = { λ fault halt. halt ≡ halt_of fault };
+
+    fn from(fault: Fault) -> Self {
+        match fault {
+            Fault::Refused(refusal) => Halt::Refused(refusal),
+            Fault::OutOfMemory => Halt::OutOfMemory,
+        }
+    }
+}
+
+impl From<OutOfMemory> for Halt {
+    ghost use Rattle.std.specs.Prelude.{◌≡◌};
+    ghost use Rattle.cc_describe.specs.declared.files.Halt.TheVariants as halts;
+
+    ghost from_gives = { λ _ halt. halt ≡ halts.OutOfMemory };
+
+    fn from(_: OutOfMemory) -> Self {
+        Halt::OutOfMemory
+    }
+}
+
+/// Opens a file and reads its bytes; answers them with its number.
+fn open<D: Desk>(
+    alloc: Global,
+    desk: &mut D,
+    progress: &mut Progress,
+    name: &str,
+) -> Result<(Bytes, u32), Halt>
+    ensures opened { (contents : Contents) (before : Items Place) → D.told desk.old ≡ Some contents → IsProgress progress.old before →
+        IfOk result (λ read. (read.0 ≡ content contents.files name.now) × IsOpened before name.now read.0 progress.new × (read.1 ≡ length (opened_in before))) }
+    ensures refused { (contents : Contents) (before : Items Place) → D.told desk.old ≡ Some contents → IsProgress progress.old before →
+        IfErr result (λ halt. IsRefusedOpening before name.now (content contents.files name.now) halt progress.new) }
+    ensures kept { (before : Items Place) → IsProgress progress.old before → OnOk result ((places : Items Place) × IsProgress progress.new places) }
+    ensures there { (contents : Contents) → D.told desk.old ≡ Some contents → AreThere contents.files progress.old.names.items →
+        FindsFiles contents.files result progress.new.names.items }
+    ensures within { IfOk result (λ read. length read.0 ≤ limit_number limits.FileBytes) }
+    ensures around { OnOk result (progress.new.around.items ≡ progress.old.around.items ++ name.now ∷ []) }
+    ensures failed { IsErrOf result Halt.ReadFault → Rose (D.read_faults desk.old) (D.read_faults desk.new) }
+    ensures after { (rest : Items ℕ) × (D.told desk.new ≡ option_map (with_rest rest) (D.told desk.old)) }
+    ensures begun { D.begun desk.new ≡ D.begun desk.old }
+    ensures reads_count { D.read_faults desk.old ≤ D.read_faults desk.new }
+    ensures writes_count { D.write_faults desk.old ≤ D.write_faults desk.new }
+{
+    let file = progress.enter(alloc, name)?;
+    let bytes = match read_all(alloc, desk, name, LimitAt::FileBytes.number() as usize) {
+        Ok(bytes) => bytes,
+        Err(ReadStop::Limit) => return Err(Halt::from(past(LimitAt::FileBytes, file, 1))),
+        Err(ReadStop::Failed) => return Err(Halt::ReadFault),
+        Err(ReadStop::OutOfMemory) => return Err(Halt::OutOfMemory),
+    };
+    progress.count(file, bytes.items().len())?;
+    Ok((bytes, file))
+}
+
+/// Reads a file to its end, statement by statement, and where a statement includes a file that one before the next
+/// statement. `deep` is how many files deep includes may still go.
+pub(crate) fn read_file<D: Desk>(
+    alloc: Global,
+    desk: &mut D,
+    progress: &mut Progress,
+    name: &str,
+    deep: u32,
+) -> Result<(), Halt>
+    requires { length progress.now.around.items + deep ≡ limit_number limits.IncludeDepth }
+    ensures gone { (contents : Contents) (before : Items Place) → D.told desk.old ≡ Some contents → IsProgress progress.old before →
+        GoesThrough (ArePlaces deep contents.files progress.old.around.items (length (opened_in before)) name.now) before result progress.new }
+    ensures kept { (before : Items Place) → IsProgress progress.old before → OnOk result ((places : Items Place) × IsProgress progress.new places) }
+    ensures there { (contents : Contents) → D.told desk.old ≡ Some contents → AreThere contents.files progress.old.names.items →
+        FindsFiles contents.files result progress.new.names.items }
+    ensures around { OnOk result (progress.new.around.items ≡ progress.old.around.items) }
+    ensures failed { IsErrOf result Halt.ReadFault → Rose (D.read_faults desk.old) (D.read_faults desk.new) }
+    ensures after { (rest : Items ℕ) × (D.told desk.new ≡ option_map (with_rest rest) (D.told desk.old)) }
+    ensures begun { D.begun desk.new ≡ D.begun desk.old }
+    ensures reads_count { D.read_faults desk.old ≤ D.read_faults desk.new }
+    ensures writes_count { D.write_faults desk.old ≤ D.write_faults desk.new }
+{
+    cut_or_stop();
+    statements_are_tokens();
+    tree_or_refusal();
+    let (bytes, file) = open(alloc, desk, progress, name)?;
+    let tokens = match Tokens::read(alloc, file, bytes.items()) {
+        Ok(tokens) => tokens,
+        Err(fault) => return Err(Halt::from(fault)),
+    };
+    for i in 0..tokens.count() {
+        match progress.take(alloc, file, tokens.statement(i))? {
+            // A deeper include was refused.
+            Some(included) => {
+                if deep > 0 {
+                    read_file(alloc, desk, progress, included, deep - 1)?;
+                }
+            }
+            None => {}
+        }
+    }
+    progress.leave();
+    Ok(())
+}

@@ -1,0 +1,36 @@
+//! Laws over the definitions. Their functions call the laws that they rest on.
+ghost use Rattle.cc_describe.specs.Heads.{HeadsAreThere};
+ghost use Rattle.cc_describe.specs.Places.{HasPlaces, OneListOfPlaces};
+
+use cc_sorts::laws::{below_goes_on, declared_is_known, numbers_are_places, numbers_stay};
+use cc_syntax::laws::{one_tree, tree_or_refusal};
+use cc_text::laws::{cut_or_stop, cuts_or_stops, one_cut, one_stop, statements_are_tokens};
+
+/// The files of a description have one list of places.
+pub fn one_list_of_places()
+    ensures { OneListOfPlaces }
+{
+    one_cut();
+    one_stop();
+    cuts_or_stops();
+    one_tree();
+}
+
+/// The files of a description have a list of places, whatever is in them.
+pub fn has_places()
+    ensures { HasPlaces }
+{
+    cut_or_stop();
+    statements_are_tokens();
+    tree_or_refusal();
+}
+
+/// Each base law of a description that is not refused has a head under each of its environments.
+pub fn heads_are_there()
+    ensures { HeadsAreThere }
+{
+    below_goes_on();
+    declared_is_known();
+    numbers_are_places();
+    numbers_stay();
+}

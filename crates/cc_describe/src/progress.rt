@@ -1,0 +1,309 @@
+//! What was read of a description, statement by statement.
+ghost use Rattle.std.specs.Prelude.{◌≡◌, ◌++◌, ◌∷◌, ◌<◌, ◌≤◌, ◌+◌, ◌-◌, [], List as Items, None, false, length, map, flat_map, take, option_copied, IfOk, IfErr, IfSome, OnOk, IsTrue};
+ghost use Rattle.std.specs.List.{list_any};
+ghost use Rattle.cc_defs.specs.Declarations.{Declaration};
+ghost use Rattle.cc_defs.specs.DeclarationFaults.{declaration_refusal};
+ghost use Rattle.cc_defs.specs.Resolved.{plain_base_law, plain_query};
+ghost use Rattle.cc_defs.specs.Tokens.{AreTokens};
+ghost use Rattle.cc_defs.specs.Limits.{limit_number};
+ghost use Rattle.cc_defs.specs.declared.refusal.LimitAt.TheVariants as limits;
+ghost use Rattle.cc_defs.specs.Trees.{Query as asks, plain_part, plain_query_item, plain_statement};
+ghost use Rattle.cc_laws.specs.Expansion.{base_laws};
+ghost use Rattle.cc_laws.specs.FreeVariables.{optional};
+ghost use Rattle.cc_laws.specs.LawFaults.{law_refusal};
+ghost use Rattle.cc_laws.specs.Questions.{labels_in};
+ghost use Rattle.cc_laws.specs.Vocabulary.{vocabulary};
+ghost use Rattle.cc_sorts.specs.Tables.{IsTable};
+ghost use Rattle.cc_text.specs.Views.{token_views};
+ghost use Rattle.cc_describe.specs.FirstRefusal.{declared_in, is_among, asking_refusal, include_refusal, limit_at, number_at, statement_refusal};
+ghost use Rattle.cc_describe.specs.Places.{Place, included};
+ghost use Rattle.cc_ground.specs.Views.{IsRefusedBy};
+ghost use Rattle.cc_describe.specs.ProgressViews.{IsProgress, IsRefusedStatement, IsTaken, Says, declares};
+
+use crate::labels::Labels;
+use cc_defs::{
+    BaseLaw, Fault, LimitAt, Name, OutOfMemory, Part, Query, QueryItem, Refusal, Statement, Token,
+};
+use cc_laws::{expand, question};
+use cc_sorts::Table;
+use cc_syntax::parse;
+use std::alloc::Global;
+
+/// What the statements that were read so far say.
+#[derive(Drop)]
+pub(crate) struct Progress {
+    pub(crate) table: Table,
+    pub(crate) laws: Vec<BaseLaw>,
+    pub(crate) queries: Vec<Query>,
+    labels: Labels,
+    /// The names of the files that were opened; a file's number is its place here.
+    pub(crate) names: Vec<Name>,
+    /// The bytes of these files.
+    pub(crate) bytes: usize,
+    /// The names of the files that are being read, each included by the one before it.
+    pub(crate) around: Vec<Name>,
+}
+
+fn refused(number: u8, file: u32, line: u32) -> Fault
+    ensures { result ≡ Fault.Refused (number_at number file line) }
+{
+    Fault::Refused(Refusal {
+        number,
+        file,
+        line,
+        limit: None,
+    })
+}
+
+pub(crate) fn past(limit: LimitAt, file: u32, line: u32) -> Fault
+    ensures { result ≡ Fault.Refused (limit_at limit file line) }
+{
+    Fault::Refused(Refusal {
+        number: 14,
+        file,
+        line,
+        limit: Some(limit),
+    })
+}
+
+/// Whether one of the names is this one.
+fn has_name(names: &[Name], name: &str) -> bool
+    ensures { result ≡ is_among names.now name.now }
+{
+    names.iter().any(|other| name == other.text())
+}
+
+/// Whether the part of a query gives a label that is there.
+fn has_taken_label(labels: &Labels, item: &QueryItem<'_>) -> bool
+    ensures { result ≡ list_any (is_among labels.now) (labels_in (plain_query_item item.now)) }
+{
+    match item {
+        QueryItem::Label(label) => labels.has(label),
+        QueryItem::Range(..) | QueryItem::Condition { .. } => false,
+    }
+}
+
+/// Whether a query gives a label that is there.
+fn gives_taken_label(labels: &Labels, items: &[QueryItem<'_>]) -> bool
+    ensures { result ≡ list_any (is_among labels.now) (flat_map labels_in (map plain_query_item items.now)) }
+{
+    items.iter().any(|item| has_taken_label(labels, item))
+}
+
+impl Progress {
+    /// Nothing was read.
+    pub(crate) fn new(alloc: Global) -> Result<Progress, OutOfMemory>
+        ensures begun { IfOk result (λ progress. IsProgress progress []) }
+        ensures outside { IfOk result (λ progress. progress.around.items ≡ []) }
+    {
+        Ok(Progress {
+            table: Table::new(alloc)?,
+            laws: Vec::new(alloc),
+            queries: Vec::new(alloc),
+            labels: Labels::new(alloc),
+            names: Vec::new(alloc),
+            bytes: 0,
+            around: Vec::new(alloc),
+        })
+    }
+
+    /// Adds the base laws of a statement whose declarations are in the table.
+    fn expand(&mut self, alloc: Global, file: u32, statement: &Statement<'_>) -> Result<(), Fault>
+        ensures expanded { (left : Items Declaration) → IsTable self.old.table left → OnOk result
+            ((law_refusal file (vocabulary left) (plain_statement statement.now) ≡ None)
+            × (map plain_base_law self.new.laws.items ≡ map plain_base_law self.old.laws.items
+            ++ base_laws file (vocabulary left) (plain_statement statement.now).line (plain_statement statement.now).part)) }
+        ensures refused { (left : Items Declaration) → IsTable self.old.table left →
+            IfErr result (IsRefusedBy (law_refusal file (vocabulary left) (plain_statement statement.now))) }
+        ensures rest { self.new ≡ record self.old { laws = self.new.laws } }
+    {
+        let laws = expand(alloc, file, &self.table, statement)?;
+        self.laws.append(&mut laws.into_items())?;
+        Ok(())
+    }
+
+    /// Takes up a statement of declarations.
+    fn declare(&mut self, alloc: Global, file: u32, statement: &Statement<'_>) -> Result<(), Fault>
+        requires { IsTrue (declares (plain_statement statement.now).part) }
+        ensures said { (before : Items Place) → IsProgress self.old before →
+            OnOk result (Says before file self.old.around.items (plain_statement statement.now) self.new) }
+        ensures refused { (before : Items Place) → IsProgress self.old before →
+            IfErr result (IsRefusedBy (declaration_refusal file (declared_in before) (plain_statement statement.now))) }
+        ensures around { self.new.around ≡ self.old.around }
+        ensures names { self.new.names ≡ self.old.names }
+    {
+        self.table.declare(alloc, file, statement)?;
+        self.expand(alloc, file, statement)
+    }
+
+    /// Keeps a query, and its label if that is not there.
+    fn keep(&mut self, alloc: Global, query: Query) -> Result<(), OutOfMemory>
+        ensures kept { OnOk result (map plain_query self.new.queries.items ≡ map plain_query self.old.queries.items ++ plain_query query ∷ []) }
+        ensures labelled { IfSome query.label (λ label. is_among self.old.labels label ≡ false) → OnOk result (self.new.labels ≡ self.old.labels ++ optional query.label) }
+        ensures rest { self.new ≡ record self.old { queries = self.new.queries; labels = self.new.labels } }
+    {
+        if let Some(label) = &query.label {
+            self.labels.add(alloc, label.text())?;
+        }
+        self.queries.push(query)?;
+        Ok(())
+    }
+
+    /// Takes up a query.
+    fn ask(
+        &mut self,
+        alloc: Global,
+        file: u32,
+        statement: &Statement<'_>,
+        items: &[QueryItem<'_>],
+    ) -> Result<(), Fault>
+        requires { (plain_statement statement.now).part ≡ asks (map plain_query_item items.now) }
+        ensures said { (before : Items Place) → IsProgress self.old before →
+            OnOk result (Says before file self.old.around.items (plain_statement statement.now) self.new) }
+        ensures refused { (before : Items Place) → IsProgress self.old before →
+            IfErr result (IsRefusedBy (asking_refusal before file (plain_statement statement.now))) }
+        ensures around { self.new.around ≡ self.old.around }
+        ensures names { self.new.names ≡ self.old.names }
+    {
+        if gives_taken_label(&self.labels, items) {
+            return Err(refused(4, file, statement.line));
+        }
+        let query = question(alloc, file, &self.table, statement)?;
+        self.keep(alloc, query)?;
+        Ok(())
+    }
+
+    /// Whether a file may be included where it is named.
+    fn include(&self, file: u32, line: u32, name: &str) -> Result<(), Fault>
+        ensures included { OnOk result (include_refusal file self.now.around.items line name.now ≡ None) }
+        ensures refused { IfErr result (IsRefusedBy (include_refusal file self.now.around.items line name.now)) }
+    {
+        let around: &[Name] = &self.around;
+        if has_name(around, name) {
+            return Err(refused(17, file, line));
+        }
+        if around.len() > LimitAt::IncludeDepth.number() as usize {
+            return Err(past(LimitAt::IncludeDepth, file, line));
+        }
+        Ok(())
+    }
+
+    /// Takes up a statement, whose tree this is.
+    fn say(&mut self, alloc: Global, file: u32, statement: &Statement<'_>) -> Result<(), Fault>
+        ensures said { (before : Items Place) → IsProgress self.old before →
+            OnOk result (Says before file self.old.around.items (plain_statement statement.now) self.new) }
+        ensures refused { (before : Items Place) → IsProgress self.old before →
+            IfErr result (IsRefusedBy (statement_refusal before file self.old.around.items (plain_statement statement.now) (plain_statement statement.now).part)) }
+        ensures around { self.new.around ≡ self.old.around }
+        ensures names { self.new.names ≡ self.old.names }
+    {
+        match &statement.part {
+            Part::Sorts(_) | Part::Objects(_) | Part::Variables(_) | Part::Constants(_) => {
+                self.declare(alloc, file, statement)
+            }
+            Part::Law(..) => self.expand(alloc, file, statement),
+            Part::Query(items) => self.ask(alloc, file, statement, items.items()),
+            Part::Include(name) => self.include(file, statement.line, name),
+        }
+    }
+
+    /// Takes up a statement, whose tree this is, and answers the name of the file that it includes, if it does.
+    fn take_tree<'s>(
+        &mut self,
+        alloc: Global,
+        file: u32,
+        statement: &Statement<'s>,
+    ) -> Result<Option<&'s str>, Fault>
+        ensures said { (before : Items Place) → IsProgress self.old before →
+            OnOk result (Says before file self.old.around.items (plain_statement statement.now) self.new) }
+        ensures name { IfOk result (λ name. option_copied name ≡ included (plain_statement statement.now).part) }
+        ensures refused { (before : Items Place) → IsProgress self.old before →
+            IfErr result (IsRefusedBy (statement_refusal before file self.old.around.items (plain_statement statement.now) (plain_statement statement.now).part)) }
+        ensures around { self.new.around ≡ self.old.around }
+        ensures names { self.new.names ≡ self.old.names }
+    {
+        self.say(alloc, file, statement)?;
+        Ok(included_by(&statement.part))
+    }
+
+    /// Takes up a statement, and answers the name of the file that it includes, if it does. Refuses it at its place.
+    pub(crate) fn take<'s>(
+        &mut self,
+        alloc: Global,
+        file: u32,
+        tokens: &[Token<'s>],
+    ) -> Result<Option<&'s str>, Fault>
+        requires some { 0 < length tokens.now }
+        requires are { AreTokens (token_views tokens.now) }
+        ensures taken { (before : Items Place) → IsProgress self.old before →
+            IfOk result (λ name. IsTaken before file self.old.around.items (token_views tokens.now) (option_copied name) self.new) }
+        ensures refused { (before : Items Place) → IsProgress self.old before →
+            IfErr result (IsRefusedStatement before file self.old.around.items (token_views tokens.now)) }
+        ensures around { self.new.around ≡ self.old.around }
+        ensures names { self.new.names ≡ self.old.names }
+    {
+        match parse(alloc, file, tokens) {
+            Ok(statement) => {
+                let taken = self.take_tree(alloc, file, &statement);
+                drop(statement);
+                taken
+            }
+            Err(fault) => Err(fault),
+        }
+    }
+
+    /// Notes the name of a file that is opened, and answers its number.
+    pub(crate) fn enter(&mut self, alloc: Global, name: &str) -> Result<u32, OutOfMemory>
+        ensures number { IfOk result (λ file. file ≡ length self.old.names.items) }
+        ensures names { OnOk result (self.new.names.items ≡ self.old.names.items ++ name.now ∷ []) }
+        ensures around { OnOk result (self.new.around.items ≡ self.old.around.items ++ name.now ∷ []) }
+        ensures rest { self.new ≡ record self.old { names = self.new.names; around = self.new.around } }
+    {
+        let number = self.names.len();
+        if number >= 4_000_000_000 {
+            return Err(OutOfMemory);
+        }
+        let again = Name::of(String::from_str(alloc, name)?);
+        self.names.push(Name::of(String::from_str(alloc, name)?))?;
+        self.around.push(again)?;
+        Ok(number as u32)
+    }
+
+    /// Notes that a file was read to its end.
+    pub(crate) fn leave(&mut self)
+        ensures around { self.new.around.items ≡ take (length self.old.around.items - 1) self.old.around.items }
+        ensures rest { self.new ≡ record self.old { around = self.new.around } }
+    {
+        drop(self.around.pop());
+    }
+
+    /// Adds to the bytes of all files, as far as the limit goes.
+    pub(crate) fn count(&mut self, file: u32, bytes: usize) -> Result<(), Fault>
+        requires { bytes ≤ limit_number limits.FileBytes }
+        ensures counted { OnOk result ((self.new.bytes ≡ self.old.bytes + bytes) × (self.old.bytes + bytes ≤ limit_number limits.TotalBytes)) }
+        ensures refused { IfErr result (λ fault. (fault ≡ Fault.Refused (limit_at limits.TotalBytes file 1)) × (limit_number limits.TotalBytes < self.old.bytes + bytes)) }
+        ensures rest { self.new ≡ record self.old { bytes = self.new.bytes } }
+    {
+        let all = self.bytes.saturating_add(bytes);
+        if all > LimitAt::TotalBytes.number() as usize {
+            return Err(past(LimitAt::TotalBytes, file, 1));
+        }
+        self.bytes = all;
+        Ok(())
+    }
+}
+
+/// The name of the file that a statement includes, if it does.
+fn included_by<'s>(part: &Part<'s>) -> Option<&'s str>
+    ensures { option_copied result ≡ included (plain_part part.now) }
+{
+    match part {
+        Part::Include(name) => Some(name),
+        Part::Sorts(_)
+        | Part::Objects(_)
+        | Part::Variables(_)
+        | Part::Constants(_)
+        | Part::Query(_)
+        | Part::Law(..) => None,
+    }
+}

@@ -1,0 +1,17 @@
+pub mod AllRows
+pub mod BooleanRows
+pub mod Cuts
+pub mod Fair
+pub mod Fronts
+pub mod Grammar
+pub mod Histories
+pub mod ListerLemmas
+pub mod ListingTexts
+pub mod Literals
+pub mod Parsing
+pub mod Reading
+pub mod Reducts
+pub mod Runs
+pub mod Scanning
+pub mod States
+pub mod Steps

@@ -1,0 +1,19 @@
+//! A run, from words and files to the printed answer.
+#![tactic(auto)]
+
+pub mod laws;
+mod lister;
+mod listing;
+mod parser;
+mod printing;
+mod reader;
+mod scanner;
+mod small;
+mod status;
+#[cfg(test)]
+mod tests;
+mod top;
+mod words;
+
+pub use status::Status;
+pub use top::{run, run_still};

@@ -1,0 +1,86 @@
+//! How a run ends.
+ghost use Rattle.std.specs.Prelude.{◌≡◌};
+ghost use Rattle.cc_run.specs.Codes.{code_of};
+
+use cc_defs::OutOfMemory;
+use std::alloc::{AllocError, AllocFailed};
+
+/// How a run ends.
+#[derive(Clone, Copy, Debug, PartialEq, Eq)]
+pub enum Status {
+    /// The listing is complete.
+    Right,
+    /// No horizon of the range has a history.
+    Not,
+    /// The words, the text or the query were refused.
+    Refused,
+    /// The budget of conflicts is spent.
+    Spent,
+    /// A file is not there, or could not be read.
+    ReadFault,
+    /// An output could not be written.
+    WriteFault,
+    /// Memory was wanting.
+    OutOfMemory,
+    /// As many histories as were asked for were printed.
+    Asked,
+}
+
+impl Status {
+    /// The exit code of the program.
+    pub fn code(self) -> u8
+        ensures { result ≡ code_of self }
+    {
+        match self {
+            Status::Right => 0,
+            Status::Not => 1,
+            Status::Refused => 2,
+            Status::Spent => 3,
+            Status::ReadFault => 4,
+            Status::WriteFault => 5,
+            Status::OutOfMemory => 6,
+            Status::Asked => 7,
+        }
+    }
+}
+
+/// Why a run stops before its end.
+#[derive(Clone, Copy, Debug, PartialEq, Eq)]
+pub(crate) enum Stop {
+    ReadFault,
+    WriteFault,
+    OutOfMemory,
+}
+
+impl From<OutOfMemory> for Stop {
+    ghost use Rattle.std.specs.Prelude.{◌≡◌};
+    ghost use Rattle.cc_run.specs.declared.status.Stop.TheVariants as stops;
+
+    ghost from_gives = { λ _ stop. stop ≡ stops.OutOfMemory };
+
+    fn from(_: OutOfMemory) -> Self {
+        Stop::OutOfMemory
+    }
+}
+
+impl From<AllocError> for Stop {
+    ghost use Rattle.std.specs.Prelude.{◌≡◌};
+    ghost use Rattle.cc_run.specs.declared.status.Stop.TheVariants as stops;
+
+    ghost from_gives = { λ _ stop. stop ≡ stops.OutOfMemory };
+
+    fn from(_: AllocError) -> Self {
+        Stop::OutOfMemory
+    }
+}
+
+impl<T: Drop> From<AllocFailed<T>> for Stop {
+    ghost use Rattle.std.specs.Prelude.{◌≡◌};
+    ghost use Rattle.cc_run.specs.declared.status.Stop.TheVariants as stops;
+
+    ghost from_gives = { λ _ stop. stop ≡ stops.OutOfMemory };
+
+    fn from(_: AllocFailed<T>) -> Self {
+        Stop::OutOfMemory
+    }
+}

@@ -1,5 +1,0 @@
-use Rattle.ccalc.proofs.Reading.{one_small}
-use Rattle.ccalc.proofs.laws.texts_declare_one_thing.Goals as goal
-
-pub returns : goal.returns
-returns c = one_small

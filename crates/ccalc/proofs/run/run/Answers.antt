@@ -1,5 +1,0 @@
-use Rattle.ccalc.proofs.Runs.{run_stopped}
-use Rattle.ccalc.proofs.run.run.Goals as goal
-
-pub returns-in-Err-clause-answer : goal.returns-in-Err-clause-answer
-returns-in-Err-clause-answer g c = run_stopped _ _ _ _ _ _ c.in-Err.ensures c.tell_stop.ensures
