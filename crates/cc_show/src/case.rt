@@ -2,6 +2,7 @@
 ghost use Rattle.cc_ground.specs.Views.{IsSignatureFor};
 
 use crate::book::{files, head};
+use crate::counts::counted;
 use crate::ground_laws::show_ground;
 use crate::laws::show_laws;
 use crate::queries::show_queries;
@@ -62,14 +63,11 @@ fn show_description(
     }
 }
 
-/// What is printed of the part of a book that is a case.
-pub(crate) fn shown(alloc: Global, case: &[u8]) -> Result<String, OutOfMemory> {
-    let title = head(case);
-    let mut out = String::from_str(alloc, "=== ")?;
-    out.push_str(title)?;
-    out.push_str("\n")?;
-    let files = files(alloc, case)?;
+/// What is printed of a case behind its title.
+fn shown_behind(alloc: Global, title: &str, case: &[u8]) -> Result<String, OutOfMemory> {
+    let mut out = String::new(alloc);
     let mut main = String::new(alloc);
+    let files = files(alloc, case)?;
     if let Some((name, text)) = files.items().first() {
         main.push_str(name.text())?;
         if title.starts_with("tree") {
@@ -77,5 +75,20 @@ pub(crate) fn shown(alloc: Global, case: &[u8]) -> Result<String, OutOfMemory> {
         }
     }
     show_description(alloc, &mut out, files, main.as_str())?;
+    Ok(out)
+}
+
+/// What is printed of the part of a book that is a case.
+pub(crate) fn shown(alloc: Global, case: &[u8]) -> Result<String, OutOfMemory> {
+    let title = head(case);
+    let mut out = String::from_str(alloc, "=== ")?;
+    out.push_str(title)?;
+    out.push_str("\n")?;
+    let lines = shown_behind(alloc, title, case)?;
+    if title.starts_with("count") {
+        out.push_str(counted(alloc, lines.as_str())?.as_str())?;
+    } else {
+        out.push_str(lines.as_str())?;
+    }
     Ok(out)
 }

@@ -10,8 +10,9 @@
 //! # What is printed
 //!
 //! For each case `=== ` and its title. Where the title begins with `tree`, a line `tree LINE TREE` for each statement of
-//! the main file up to the first that has no tree; an operator stands before its operands, in parentheses. Then, where
-//! describing the main file stops, one of these lines:
+//! the main file up to the first that has no tree; an operator stands before its operands, in parentheses. Where it begins
+//! with `count`, a line `count WORD N` stands in place of each N lines that follow each other and begin with the same word,
+//! refusals left as they are. Then, where describing the main file stops, one of these lines:
 //!
 //! ```text
 //! refused NUMBER NAME FILE:LINE
@@ -46,6 +47,7 @@
 
 mod book;
 mod case;
+mod counts;
 mod formulas;
 mod ground_laws;
 mod laws;

@@ -1,5 +1,5 @@
 //! Sorts by number, which of them stand below which, and the objects of each.
-ghost use Rattle.std.specs.Prelude.{◌≡◌, ◌<◌, false, None, Some, length, slice_get, IfOk, OnOk, OnErr};
+ghost use Rattle.std.specs.Prelude.{◌≡◌, ◌<◌, false, None, length, IfOk, OnOk, OnErr};
 ghost use Rattle.std.specs.List.{list_any};
 ghost use Rattle.cc_defs.specs.DeclarationFaults.{same_pair};
 ghost use Rattle.cc_defs.specs.Declarations.{is_below, numbers_where};
@@ -86,14 +86,6 @@ impl Sorts {
         ensures { result ≡ number_of self.now.names name.now }
     {
         self.names.find(name)
-    }
-
-    /// The name of a sort.
-    pub(crate) fn name(&self, sort: usize) -> &str
-        requires { sort < length self.now.names }
-        ensures { Some result.now ≡ slice_get self.now.names sort }
-    {
-        self.names.name(sort)
     }
 
     /// The objects of a sort and of those below it, in declared order. It takes no memory.

@@ -1,6 +1,7 @@
 //! Names by number.
 ghost use Rattle.std.specs.Prelude.{◌≡◌, ◌<◌, Some, length, slice_get};
 ghost use Rattle.cc_sorts.specs.Dictionaries.{names_of};
+ghost use Rattle.cc_sorts.specs.SortViews.{name_at};
 
 use crate::table::Table;
 
@@ -8,7 +9,7 @@ impl Table {
     /// The name of a sort.
     pub fn sort_name(&self, sort: u32) -> &str
         requires { sort < length self.now.sorts.names }
-        ensures { Some result.now ≡ slice_get self.now.sorts.names sort }
+        ensures { result.now ≡ name_at self.now.sorts sort }
     {
         self.sorts.name(sort as usize)
     }
