@@ -1,8 +1,8 @@
+pub mod AsDescribed
 pub mod CheckedHeads
 pub mod CheckedLaws
 pub mod CheckedTerms
 pub mod ConstantsFit
-pub mod Described
 pub mod Fitting
 pub mod FittingHeads
 pub mod GroundConstants

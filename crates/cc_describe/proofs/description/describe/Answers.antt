@@ -1,6 +1,6 @@
 use Rattle.std.proofs.Common.{ap, [], Err}
 use Rattle.cc_describe.proofs.Walk.{untouched}
-use Rattle.cc_describe.proofs.Described.{has_signature, is_described, is_refused_whole, is_refused, fault_told}
+use Rattle.cc_describe.proofs.AsDescribed.{has_signature, is_described, is_refused_whole, is_refused, fault_told}
 use Rattle.cc_describe.proofs.description.describe.Goals as goal
 
 pub returns-in-Err-clause-after : goal.returns-in-Err-clause-after

@@ -1,6 +1,6 @@
 use Rattle.std.proofs.Common.{◌∙◌}
 use Rattle.cc_describe.specs.FirstRefusal.{declared_in}
-use Rattle.cc_describe.proofs.Described.{refused_whole, tells_no_fault}
+use Rattle.cc_describe.proofs.AsDescribed.{refused_whole, tells_no_fault}
 use Rattle.cc_describe.proofs.description.finish.Goals as goal
 
 pub returns-in-Err-clause-refused : goal.returns-in-Err-clause-refused
