@@ -7,9 +7,7 @@ use crate::ground_laws::show_ground;
 use crate::laws::show_laws;
 use crate::queries::show_queries;
 use crate::refusals::show_stop;
-use crate::tables::{
-    show_constants, show_files, show_sorts, show_symbols, show_variables,
-};
+use crate::tables::{show_constants, show_files, show_sorts, show_symbols, show_variables};
 use crate::trees::show_trees;
 use cc_defs::{Nums, OutOfMemory};
 use cc_describe::{DescribeStop, Described, describe};
@@ -20,11 +18,7 @@ use std::alloc::Global;
 const MOST: usize = 65_536;
 
 /// What a description says.
-fn show_described(
-    alloc: Global,
-    out: &mut String,
-    described: &Described,
-) -> Result<(), OutOfMemory>
+fn show_described(alloc: Global, out: &mut String, described: &Described) -> Result<(), OutOfMemory>
     requires { IsSignatureFor described.now.table described.now.sig }
 {
     let files = described.files.items();

@@ -12,12 +12,7 @@ use cc_sorts::Table;
 use std::alloc::Global;
 use std::fmt::Write;
 
-fn show_node(
-    out: &mut String,
-    table: &Table,
-    sig: &Sig,
-    node: Node,
-) -> Result<(), OutOfMemory> {
+fn show_node(out: &mut String, table: &Table, sig: &Sig, node: Node) -> Result<(), OutOfMemory> {
     match node {
         Node::True => out.push_str("true")?,
         Node::False => out.push_str("false")?,

@@ -323,11 +323,7 @@ fn show_statement(
 }
 
 /// The tree of a statement, with its line, in a line.
-fn show_whole(
-    alloc: Global,
-    out: &mut String,
-    statement: &Statement,
-) -> Result<(), OutOfMemory> {
+fn show_whole(alloc: Global, out: &mut String, statement: &Statement) -> Result<(), OutOfMemory> {
     out.push_str(&format!(in alloc; "tree {} ", statement.line)?)?;
     show_statement(alloc, out, statement)?;
     out.push_str("\n")?;
