@@ -20,17 +20,24 @@ pub(crate) fn show_term(out: &mut String, table: &Table, term: &Term) -> Result<
             if !args.is_empty() {
                 out.push_str(")")?;
             }
-            Ok(())
         }
-        Term::Object(object) => {
-            out.push_str(object_name(table, *object))?;
-            Ok(())
-        }
-        Term::Variable(number) => show_variable(out, *number),
-        Term::Nothing => {
-            out.push_str("none")?;
-            Ok(())
-        }
+        Term::Object(object) => out.push_str(object_name(table, *object))?,
+        Term::Variable(number) => show_variable(out, *number)?,
+        Term::Nothing => out.push_str("none")?,
+    }
+    Ok(())
+}
+
+/// The operator between two formulas, or what a bracket begins with.
+fn sign_of(formula: &Formula) -> &'static str {
+    match formula {
+        Formula::Both(..) => " & ",
+        Formula::Either(..) => " ++ ",
+        Formula::Implies(..) => " ->> ",
+        Formula::Same(..) => " <-> ",
+        Formula::ForAll(..) => "[/\\",
+        Formula::Exists(..) => "[\\/",
+        Formula::True | Formula::False | Formula::Equal(..) | Formula::Not(_) => "",
     }
 }
 
@@ -38,11 +45,11 @@ pub(crate) fn show_term(out: &mut String, table: &Table, term: &Term) -> Result<
 fn show_opening(
     out: &mut String,
     table: &Table,
-    mark: &str,
+    sign: &str,
     number: u32,
     sort: u32,
 ) -> Result<(), OutOfMemory> {
-    out.push_str(mark)?;
+    out.push_str(sign)?;
     show_variable(out, number)?;
     out.push_str(":")?;
     out.push_str(sort_name(table, sort))?;
@@ -56,66 +63,32 @@ pub(crate) fn show_formula(
     formula: &Formula,
 ) -> Result<(), OutOfMemory> {
     match formula {
-        Formula::True => {
-            out.push_str("true")?;
-            Ok(())
-        }
-        Formula::False => {
-            out.push_str("false")?;
-            Ok(())
-        }
+        Formula::True => out.push_str("true")?,
+        Formula::False => out.push_str("false")?,
         Formula::Equal(left, right) => {
             show_term(out, table, left)?;
             out.push_str("=")?;
-            show_term(out, table, right)
+            show_term(out, table, right)?;
         }
         Formula::Not(inner) => {
             out.push_str("-")?;
-            show_formula(out, table, inner)
+            show_formula(out, table, inner)?;
         }
-        Formula::Both(left, right) => {
+        Formula::Both(left, right)
+        | Formula::Either(left, right)
+        | Formula::Implies(left, right)
+        | Formula::Same(left, right) => {
             out.push_str("(")?;
             show_formula(out, table, left)?;
-            out.push_str(" & ")?;
+            out.push_str(sign_of(formula))?;
             show_formula(out, table, right)?;
             out.push_str(")")?;
-            Ok(())
         }
-        Formula::Either(left, right) => {
-            out.push_str("(")?;
-            show_formula(out, table, left)?;
-            out.push_str(" ++ ")?;
-            show_formula(out, table, right)?;
-            out.push_str(")")?;
-            Ok(())
-        }
-        Formula::Implies(left, right) => {
-            out.push_str("(")?;
-            show_formula(out, table, left)?;
-            out.push_str(" ->> ")?;
-            show_formula(out, table, right)?;
-            out.push_str(")")?;
-            Ok(())
-        }
-        Formula::Same(left, right) => {
-            out.push_str("(")?;
-            show_formula(out, table, left)?;
-            out.push_str(" <-> ")?;
-            show_formula(out, table, right)?;
-            out.push_str(")")?;
-            Ok(())
-        }
-        Formula::ForAll(number, sort, inner) => {
-            show_opening(out, table, "[/\\", *number, *sort)?;
+        Formula::ForAll(number, sort, inner) | Formula::Exists(number, sort, inner) => {
+            show_opening(out, table, sign_of(formula), *number, *sort)?;
             show_formula(out, table, inner)?;
             out.push_str("]")?;
-            Ok(())
-        }
-        Formula::Exists(number, sort, inner) => {
-            show_opening(out, table, "[\\/", *number, *sort)?;
-            show_formula(out, table, inner)?;
-            out.push_str("]")?;
-            Ok(())
         }
     }
+    Ok(())
 }

@@ -51,72 +51,50 @@ fn show_sides(
     Ok(())
 }
 
+/// What stands before the operands of a formula.
+fn sign_of(tree: &Tree) -> &'static str {
+    match tree {
+        Tree::Paren(_) => "(paren ",
+        Tree::Not(_) => "(- ",
+        Tree::Both(..) => "(& ",
+        Tree::Either(..) => "(++ ",
+        Tree::Implies(..) => "(->> ",
+        Tree::Same(..) => "(<-> ",
+        Tree::ForAll(..) => "(all ",
+        Tree::Exists(..) => "(some ",
+        Tree::Bare(_) | Tree::Equal(..) | Tree::Differ(..) => "",
+    }
+}
+
 fn show_tree(out: &mut String, tree: &Tree) -> Result<(), OutOfMemory> {
     match tree {
-        Tree::Bare(term) => show_term(out, term),
-        Tree::Equal(left, right) => show_sides(out, "(= ", left, right),
-        Tree::Differ(left, right) => show_sides(out, "(\\= ", left, right),
-        Tree::Paren(inner) => {
-            out.push_str("(paren ")?;
+        Tree::Bare(term) => show_term(out, term)?,
+        Tree::Equal(left, right) => show_sides(out, "(= ", left, right)?,
+        Tree::Differ(left, right) => show_sides(out, "(\\= ", left, right)?,
+        Tree::Paren(inner) | Tree::Not(inner) => {
+            out.push_str(sign_of(tree))?;
             show_tree(out, inner)?;
             out.push_str(")")?;
-            Ok(())
         }
-        Tree::Not(inner) => {
-            out.push_str("(- ")?;
-            show_tree(out, inner)?;
-            out.push_str(")")?;
-            Ok(())
-        }
-        Tree::Both(left, right) => {
-            out.push_str("(& ")?;
+        Tree::Both(left, right)
+        | Tree::Either(left, right)
+        | Tree::Implies(left, right)
+        | Tree::Same(left, right) => {
+            out.push_str(sign_of(tree))?;
             show_tree(out, left)?;
             out.push_str(" ")?;
             show_tree(out, right)?;
             out.push_str(")")?;
-            Ok(())
         }
-        Tree::Either(left, right) => {
-            out.push_str("(++ ")?;
-            show_tree(out, left)?;
-            out.push_str(" ")?;
-            show_tree(out, right)?;
-            out.push_str(")")?;
-            Ok(())
-        }
-        Tree::Implies(left, right) => {
-            out.push_str("(->> ")?;
-            show_tree(out, left)?;
-            out.push_str(" ")?;
-            show_tree(out, right)?;
-            out.push_str(")")?;
-            Ok(())
-        }
-        Tree::Same(left, right) => {
-            out.push_str("(<-> ")?;
-            show_tree(out, left)?;
-            out.push_str(" ")?;
-            show_tree(out, right)?;
-            out.push_str(")")?;
-            Ok(())
-        }
-        Tree::ForAll(variable, inner) => {
-            out.push_str("(all ")?;
+        Tree::ForAll(variable, inner) | Tree::Exists(variable, inner) => {
+            out.push_str(sign_of(tree))?;
             out.push_str(variable)?;
             out.push_str(" ")?;
             show_tree(out, inner)?;
             out.push_str(")")?;
-            Ok(())
-        }
-        Tree::Exists(variable, inner) => {
-            out.push_str("(some ")?;
-            out.push_str(variable)?;
-            out.push_str(" ")?;
-            show_tree(out, inner)?;
-            out.push_str(")")?;
-            Ok(())
         }
     }
+    Ok(())
 }
 
 fn show_part(out: &mut String, word: &str, part: &Option<Tree>) -> Result<(), OutOfMemory> {
@@ -215,58 +193,86 @@ fn show_query_item(alloc: Global, out: &mut String, item: &QueryItem) -> Result<
     }
 }
 
+/// The word of a law.
+fn word_of(law: &LawTree) -> &'static str {
+    match law {
+        LawTree::Caused(..) => "caused ",
+        LawTree::Constraint(_) => "constraint ",
+        LawTree::Always(_) => "always ",
+        LawTree::Nonexecutable(..) => "nonexecutable ",
+        LawTree::Default(..) => "default ",
+        LawTree::Exogenous(_) => "exogenous ",
+        LawTree::Inertial(_) => "inertial ",
+        LawTree::Causes(..) => " causes ",
+        LawTree::MayCause(..) => " may cause ",
+        LawTree::NoConcurrency => "noconcurrency",
+    }
+}
+
 fn show_law(out: &mut String, law: &LawTree) -> Result<(), OutOfMemory> {
     match law {
-        LawTree::Caused(head, body, after) => {
-            out.push_str("caused ")?;
+        LawTree::Caused(head, body, after) | LawTree::Default(head, body, after) => {
+            out.push_str(word_of(law))?;
             show_tree(out, head)?;
             show_part(out, " if ", body)?;
             show_part(out, " after ", after)
         }
-        LawTree::Constraint(formula) => {
-            out.push_str("constraint ")?;
-            show_tree(out, formula)
-        }
-        LawTree::Always(formula) => {
-            out.push_str("always ")?;
+        LawTree::Constraint(formula) | LawTree::Always(formula) => {
+            out.push_str(word_of(law))?;
             show_tree(out, formula)
         }
         LawTree::Nonexecutable(formula, body) => {
-            out.push_str("nonexecutable ")?;
+            out.push_str(word_of(law))?;
             show_tree(out, formula)?;
             show_part(out, " if ", body)
         }
-        LawTree::Default(head, body, after) => {
-            out.push_str("default ")?;
-            show_tree(out, head)?;
-            show_part(out, " if ", body)?;
-            show_part(out, " after ", after)
-        }
-        LawTree::Exogenous(term) => {
-            out.push_str("exogenous ")?;
+        LawTree::Exogenous(term) | LawTree::Inertial(term) => {
+            out.push_str(word_of(law))?;
             show_term(out, term)
         }
-        LawTree::Inertial(term) => {
-            out.push_str("inertial ")?;
-            show_term(out, term)
-        }
-        LawTree::Causes(action, effect, body) => {
+        LawTree::Causes(action, effect, body) | LawTree::MayCause(action, effect, body) => {
             show_tree(out, action)?;
-            out.push_str(" causes ")?;
-            show_tree(out, effect)?;
-            show_part(out, " if ", body)
-        }
-        LawTree::MayCause(action, effect, body) => {
-            show_tree(out, action)?;
-            out.push_str(" may cause ")?;
+            out.push_str(word_of(law))?;
             show_tree(out, effect)?;
             show_part(out, " if ", body)
         }
         LawTree::NoConcurrency => {
-            out.push_str("noconcurrency")?;
+            out.push_str(word_of(law))?;
             Ok(())
         }
     }
+}
+
+fn show_sorts(out: &mut String, items: &[SortItem]) -> Result<(), OutOfMemory> {
+    out.push_str("sorts")?;
+    for item in items {
+        show_sort_item(out, item)?;
+    }
+    Ok(())
+}
+
+fn show_lists(out: &mut String, word: &str, items: &[ListItem]) -> Result<(), OutOfMemory> {
+    out.push_str(word)?;
+    for item in items {
+        show_list_item(out, item)?;
+    }
+    Ok(())
+}
+
+fn show_constants(out: &mut String, items: &[ConstItem]) -> Result<(), OutOfMemory> {
+    out.push_str("constants")?;
+    for item in items {
+        show_const_item(out, item)?;
+    }
+    Ok(())
+}
+
+fn show_query(alloc: Global, out: &mut String, items: &[QueryItem]) -> Result<(), OutOfMemory> {
+    out.push_str("query")?;
+    for item in items {
+        show_query_item(alloc, out, item)?;
+    }
+    Ok(())
 }
 
 fn show_statement(
@@ -275,41 +281,11 @@ fn show_statement(
     statement: &Statement,
 ) -> Result<(), OutOfMemory> {
     match &statement.part {
-        Part::Sorts(items) => {
-            out.push_str("sorts")?;
-            for item in items.items() {
-                show_sort_item(out, item)?;
-            }
-            Ok(())
-        }
-        Part::Objects(items) => {
-            out.push_str("objects")?;
-            for item in items.items() {
-                show_list_item(out, item)?;
-            }
-            Ok(())
-        }
-        Part::Variables(items) => {
-            out.push_str("variables")?;
-            for item in items.items() {
-                show_list_item(out, item)?;
-            }
-            Ok(())
-        }
-        Part::Constants(items) => {
-            out.push_str("constants")?;
-            for item in items.items() {
-                show_const_item(out, item)?;
-            }
-            Ok(())
-        }
-        Part::Query(items) => {
-            out.push_str("query")?;
-            for item in items.items() {
-                show_query_item(alloc, out, item)?;
-            }
-            Ok(())
-        }
+        Part::Sorts(items) => show_sorts(out, items.items()),
+        Part::Objects(items) => show_lists(out, "objects", items.items()),
+        Part::Variables(items) => show_lists(out, "variables", items.items()),
+        Part::Constants(items) => show_constants(out, items.items()),
+        Part::Query(items) => show_query(alloc, out, items.items()),
         Part::Include(file) => {
             out.push_str("include ")?;
             out.push_str(file)?;
