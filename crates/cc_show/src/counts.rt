@@ -26,14 +26,15 @@ fn show_count(out: &mut String, word: &str, count: u64) -> Result<(), OutOfMemor
 /// A text in which lines that follow each other and begin with the same word are counted; refusals stand as they are.
 pub(crate) fn counted(alloc: Global, text: &str) -> Result<String, OutOfMemory> {
     let mut out = String::new(alloc);
-    let mut word = "";
+    let mut word = String::new(alloc);
     let mut count = 0u64;
     for line in text.lines() {
         let refused = is_refusal(line);
         let first = first_word(line);
-        if refused || first != word {
-            show_count(&mut out, word, count)?;
-            word = first;
+        if refused || word.as_str() != first {
+            show_count(&mut out, &word, count)?;
+            word.clear();
+            word.push_str(first)?;
             count = 0;
         }
         if refused {
@@ -43,6 +44,6 @@ pub(crate) fn counted(alloc: Global, text: &str) -> Result<String, OutOfMemory> 
             count = count.saturating_add(1);
         }
     }
-    show_count(&mut out, word, count)?;
+    show_count(&mut out, &word, count)?;
     Ok(out)
 }

@@ -41,7 +41,11 @@
 //! asks refused 14 Limit LIMITNAME LIMITNUMBER
 //! ```
 //!
-//! A variable is `X` and its number, NODES stand behind their operands, and all other names are those of the description.
+//! NODES stand behind their operands, and names are those of the description; a variable is `X` and its number. The variables
+//! of a law are numbered from 0 in the order in which they first come before `where`; behind these n the variable of a value has
+//! the number n; those of brackets are numbered from n + 1 on as they stand, first those of the `where` part, then of the `if`
+//! part, then of the `after` part. In a query those of brackets are numbered from 0 on, the claim last.
+//!
 //! Want of memory ends the program.
 #![tactic(auto)]
 

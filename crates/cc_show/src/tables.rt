@@ -1,6 +1,6 @@
 //! The files and the declarations of a description.
 use crate::names::{constant_at, kind_name, object_name, show_constant, sort_name, symbol_name};
-use cc_defs::{Name, OutOfMemory, Sig, Symbol};
+use cc_defs::{Const, Name, OutOfMemory, Sig, Symbol};
 use cc_sorts::Table;
 
 pub(crate) fn show_files(out: &mut String, files: &[Name]) -> Result<(), OutOfMemory> {
@@ -21,12 +21,30 @@ fn show_objects(out: &mut String, table: &Table, objects: &[u32]) -> Result<(), 
     Ok(())
 }
 
+fn show_sort(out: &mut String, table: &Table, sort: u32) -> Result<(), OutOfMemory> {
+    out.push_str("sort ")?;
+    out.push_str(sort_name(table, sort))?;
+    out.push_str(":")?;
+    show_objects(out, table, table.members(sort))?;
+    out.push_str("\n")?;
+    Ok(())
+}
+
 pub(crate) fn show_sorts(out: &mut String, table: &Table) -> Result<(), OutOfMemory> {
     for number in 0..table.sort_count() {
-        out.push_str("sort ")?;
-        out.push_str(sort_name(table, number as u32))?;
-        out.push_str(":")?;
-        show_objects(out, table, table.members(number as u32))?;
+        if let Ok(sort) = u32::try_from(number) {
+            show_sort(out, table, sort)?;
+        }
+    }
+    Ok(())
+}
+
+fn show_variable(out: &mut String, table: &Table, variable: u32) -> Result<(), OutOfMemory> {
+    if (variable as usize) < table.variable_count() {
+        out.push_str("variable ")?;
+        out.push_str(table.variable_name(variable))?;
+        out.push_str(": ")?;
+        out.push_str(sort_name(table, table.sort_of(variable)))?;
         out.push_str("\n")?;
     }
     Ok(())
@@ -34,11 +52,9 @@ pub(crate) fn show_sorts(out: &mut String, table: &Table) -> Result<(), OutOfMem
 
 pub(crate) fn show_variables(out: &mut String, table: &Table) -> Result<(), OutOfMemory> {
     for number in 0..table.variable_count() {
-        out.push_str("variable ")?;
-        out.push_str(table.variable_name(number as u32))?;
-        out.push_str(": ")?;
-        out.push_str(sort_name(table, table.sort_of(number as u32)))?;
-        out.push_str("\n")?;
+        if let Ok(variable) = u32::try_from(number) {
+            show_variable(out, table, variable)?;
+        }
     }
     Ok(())
 }
@@ -79,21 +95,27 @@ pub(crate) fn show_symbols(out: &mut String, table: &Table) -> Result<(), OutOfM
     Ok(())
 }
 
+/// A ground constant, its kind and its values, in a line.
+fn show_values(out: &mut String, table: &Table, constant: &Const) -> Result<(), OutOfMemory> {
+    out.push_str("constant ")?;
+    show_constant(out, table, constant)?;
+    out.push_str(": ")?;
+    out.push_str(kind_name(constant.kind))?;
+    out.push_str(":")?;
+    show_objects(out, table, constant.domain.items())?;
+    out.push_str("\n")?;
+    Ok(())
+}
+
 pub(crate) fn show_constants(
     out: &mut String,
     table: &Table,
     sig: &Sig,
 ) -> Result<(), OutOfMemory> {
-    let count = u64::from(sig.fluents()) + u64::from(sig.actions());
-    for number in 0..count {
-        if let Some(constant) = constant_at(sig, number as u32) {
-            out.push_str("constant ")?;
-            show_constant(out, table, constant)?;
-            out.push_str(": ")?;
-            out.push_str(kind_name(constant.kind))?;
-            out.push_str(":")?;
-            show_objects(out, table, constant.domain.items())?;
-            out.push_str("\n")?;
+    for number in 0..u32::MAX {
+        match constant_at(sig, number) {
+            Some(constant) => show_values(out, table, constant)?,
+            None => return Ok(()),
         }
     }
     Ok(())
