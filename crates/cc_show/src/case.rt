@@ -1,5 +1,5 @@
 //! A case: what describing its main file gives.
-ghost use Rattle.cc_ground.specs.Views.{IsSignatureFor};
+ghost use Rattle.cc_sorts.specs.Tables.{IsSignatureFor};
 
 use crate::book::{files, head};
 use crate::counts::counted;

@@ -1,5 +1,5 @@
 //! Ground laws.
-ghost use Rattle.cc_ground.specs.Views.{IsSignatureFor};
+ghost use Rattle.cc_sorts.specs.Tables.{IsSignatureFor};
 
 use crate::names::{law_kind_name, show_atom};
 use crate::refusals::show_fault;

@@ -1,5 +1,5 @@
 //! Queries.
-ghost use Rattle.cc_ground.specs.Views.{IsSignatureFor};
+ghost use Rattle.cc_sorts.specs.Tables.{IsSignatureFor};
 
 use crate::formulas::show_formula;
 use crate::ground_laws::show_nodes;

@@ -1,7 +1,7 @@
 //! What books of cases do not show: laws, other desks, desks that fail, long files, many nodes, and calls on values that are made
 //! here. What is expected is taken from the description of the language.
 ghost use Rattle.std.specs.Prelude.{◌<◌, IfOk};
-ghost use Rattle.cc_ground.specs.Views.{IsSignatureFor};
+ghost use Rattle.cc_sorts.specs.Tables.{IsSignatureFor};
 
 use bumpalo::Bump;
 use cc_arena::Terms;
