@@ -9,7 +9,6 @@ pub mod laws;
 mod left;
 mod lists;
 mod numbers;
-mod readers;
 mod register;
 mod signature;
 mod sorts;

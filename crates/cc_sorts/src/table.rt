@@ -125,6 +125,29 @@ impl Table {
         self.register.members(sort)
     }
 
+    /// The name of a sort.
+    pub fn sort_name(&self, sort: u32) -> &str
+        requires { sort < length self.now.sorts.names }
+        ensures { result.now ≡ name_at self.now.sorts sort }
+    {
+        self.register.sort_name(sort)
+    }
+
+    /// The name of a variable.
+    pub fn variable_name(&self, variable: u32) -> &str
+        requires { variable < length self.now.variables }
+        ensures { Some result.now ≡ slice_get (names_of self.now.variables) variable }
+    {
+        self.register.variable_name(variable)
+    }
+
+    /// How many objects there are.
+    pub fn object_count(&self) -> usize
+        ensures { result ≡ length self.now.objects }
+    {
+        self.register.object_count()
+    }
+
     /// The name of an object.
     pub fn object_name(&self, object: u32) -> &str
         requires { object < length self.now.objects }
