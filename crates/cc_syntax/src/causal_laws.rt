@@ -1,5 +1,5 @@
 //! Readers of laws.
-ghost use Rattle.std.specs.Prelude.{◌≡◌, drop, Option};
+ghost use Rattle.std.specs.Prelude.{◌≡◌, drop, IfOk, Option};
 ghost use Rattle.std.specs.Option.{option_map};
 ghost use Rattle.cc_defs.specs.Trees.{PlainTree, PlainLaw, plain_tree, plain_law, plain_part};
 ghost use Rattle.cc_defs.specs.Trees as trees;
@@ -20,12 +20,6 @@ use std::alloc::Global;
 #[derive(Drop)]
 struct Kept<'s> {
     formula: Tree<'s>,
-}
-
-/// A law that is kept, in the same way.
-#[derive(Drop)]
-struct KeptLaw<'s> {
-    law: LawTree<'s>,
 }
 
 /// `F if G`
@@ -281,16 +275,19 @@ fn law<'s>(alloc: Global, tokens: &[Token<'s>], at: usize) -> Result<(LawTree<'s
     worded(alloc, tokens, at)
 }
 
-/// A law that is kept.
-fn read_law<'s>(
+/// A formula behind the word, if the word is there, while something else is kept: of any type, so that its drop is one call.
+fn optional_behind<'s, K: Drop>(
     alloc: Global,
     tokens: &[Token<'s>],
     at: usize,
-) -> Result<(KeptLaw<'s>, usize), Stop>
-    ensures { Reads (λ read. plain_law read.law) tokens.now result (law_at (drop at (seen tokens.now))) }
+    text: &str,
+    kept: K,
+) -> Result<((K, Option<Tree<'s>>), usize), Stop>
+    ensures kept { IfOk result (λ read. read.0.0 ≡ kept) }
+    ensures read { Reads (λ read. option_map plain_tree read.1) tokens.now result (optional_at formula_at text.now (drop at (seen tokens.now))) }
 {
-    let (law, next) = law(alloc, tokens, at)?;
-    Ok((KeptLaw { law }, next))
+    let (read, next) = optional(alloc, tokens, at, text)?;
+    Ok(((kept, read), next))
 }
 
 /// A law with its test.
@@ -305,7 +302,7 @@ pub(crate) fn tested_law<'s>(
     if let Ok(next) = word(tokens, at, "noconcurrency") {
         return Ok((Part::Law(LawTree::NoConcurrency, None), next));
     }
-    let (kept, next) = read_law(alloc, tokens, at)?;
-    let (test, next) = optional(alloc, tokens, next, "where")?;
-    Ok((Part::Law(kept.law, test), next))
+    let (law, next) = law(alloc, tokens, at)?;
+    let ((law, test), next) = optional_behind(alloc, tokens, next, "where", law)?;
+    Ok((Part::Law(law, test), next))
 }
