@@ -4,7 +4,7 @@ ghost use Rattle.std.specs.Prelude.{List as Items, ℕ};
 ghost use Rattle.cc_text.specs.Reading.{HasRead};
 
 use cc_defs::{Fault, Kind, LimitAt, OutOfMemory, Part, Query, Sig, Statement};
-use cc_laws::{check, query_steps, question};
+use cc_laws::{expand, query_steps, question};
 use cc_sorts::Table;
 use cc_syntax::parse;
 use cc_text::Tokens;
@@ -41,6 +41,17 @@ fn ask(alloc: Global, table: &Table, statement: &Statement) -> Result<(), Fault>
     }
 }
 
+/// Checks a law.
+fn checked(alloc: Global, table: &Table, statement: &Statement) -> Result<(), Fault> {
+    match expand(alloc, 0, table, statement) {
+        Ok(laws) => {
+            drop(laws);
+            Ok(())
+        }
+        Err(fault) => Err(fault),
+    }
+}
+
 /// Declares what a statement says, or checks it where it is a law or a query.
 pub(crate) fn answer_to(
     alloc: Global,
@@ -48,7 +59,7 @@ pub(crate) fn answer_to(
     statement: &Statement,
 ) -> Result<(), Fault> {
     match &statement.part {
-        Part::Law(..) => check(alloc, 0, table, statement),
+        Part::Law(..) => checked(alloc, table, statement),
         Part::Query(_) => ask(alloc, table, statement),
         Part::Sorts(_)
         | Part::Objects(_)

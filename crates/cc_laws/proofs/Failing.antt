@@ -1,10 +1,10 @@
 -- Unknown names, in terms and of brackets, found by one walk.
-use Rattle.std.proofs.Common.{◌≡◌, ◌∙◌, Bool, true, false, ◌||◌, List, [], ◌∷◌, refl, sym, ap}
+use Rattle.std.proofs.Common.{◌≡◌, ◌∙◌, Bool, true, false, ◌||◌, List, [], ◌∷◌, refl, ap}
 use Rattle.std.specs.List.{list_any}
 use Rattle.cc_defs.specs.Trees.{PlainTree}
 use Rattle.cc_laws.specs.declared.walk.Check.TheVariants as checks
 use Rattle.cc_laws.specs.FormulaFaults.{has_unknown, leaf_has, is_unknown_name, bracket_unknown}
-use Rattle.cc_laws.specs.Leaves.{Leaf, leaves}
+use Rattle.cc_laws.specs.Leaves.{leaves}
 use Rattle.cc_laws.specs.Views.{fails}
 use Rattle.cc_laws.specs.Vocabulary.{Vocabulary}
 

@@ -20,8 +20,10 @@ pub mod Mentions
 pub mod MoreSymbols
 pub mod QueryForms
 pub mod Rows
+pub mod Scopes
 pub mod SymbolsMeant
 pub mod TermRows
+pub mod TreeSizes
 pub mod Unbound
 pub mod Valued
 pub mod Verdicts

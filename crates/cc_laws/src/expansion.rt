@@ -78,11 +78,7 @@ fn written(
 }
 
 /// What the base laws of a law have in common.
-fn law_frame(
-    alloc: Global,
-    table: &Table,
-    source: Source<'_, '_>,
-) -> Result<Frame, OutOfMemory>
+fn law_frame(alloc: Global, table: &Table, source: Source<'_, '_>) -> Result<Frame, OutOfMemory>
     ensures { IfOk result (λ made. frame_of made ≡ frame_from (vocabulary_of table.now) source.entry) }
 {
     let ranges = sort_ranges(alloc, table, source.variables)?;
@@ -132,6 +128,13 @@ fn is_falsity_head(head: &Head) -> bool
     }
 }
 
+/// Whether a part of a head denies a step, where the law denies steps.
+fn denies_step(denying: bool, head: &Head) -> bool
+    ensures { result ≡ denying && words.is_falsity_head (plain_head head.now) }
+{
+    denying && is_falsity_head(head)
+}
+
 /// The base law of a part of a head.
 fn law_for(
     alloc: Global,
@@ -145,7 +148,7 @@ fn law_for(
     ensures { IfOk result (λ made. plain_base_law made ≡ words.law_for (vocabulary_of table.now) (frame_of frame) (plain_caused law.entry) (plain_head head)) }
 {
     let body = written(alloc, table, &mut frame.names, law.body)?;
-    if denying && is_falsity_head(&head) {
+    if denies_step(denying, &head) {
         return Ok(base_law(table, frame, head, Formula::True, Some(body)));
     }
     let after = resolve_piece(alloc, table, &mut frame.names, law.after)?;

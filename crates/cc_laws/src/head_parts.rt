@@ -8,7 +8,7 @@ ghost use Rattle.cc_laws.specs.Resolving as resolving;
 ghost use Rattle.cc_laws.specs.Views.{plain_meaning, scope_of};
 ghost use Rattle.cc_laws.specs.Vocabulary.{vocabulary_of};
 
-use crate::heads::{is_boolean_term, is_constant_term, is_falsity_term, is_truth_term};
+use crate::heads::{compares_boolean, is_boolean_term, is_constant_term, is_falsity_term};
 use crate::meaning::{Meaning, meaning_of, meaning_of_term};
 use crate::names::Names;
 use crate::resolving::{resolve_term, resolve_terms};
@@ -94,6 +94,7 @@ fn add_value(
     add_atom(alloc, table, names, constant, value, found)
 }
 
+#[tactic(auto, using(crate::proofs::HeadTests::or_none))]
 /// Adds the head of an equation: the constant on one side has the value on the other.
 fn add_equation(
     alloc: Global,
@@ -105,7 +106,10 @@ fn add_equation(
 ) -> Result<bool, OutOfMemory>
     ensures { IfOk result (λ definite. only_if definite (Some (map plain_head found.new.items)) ≡ both_heads (Some (map plain_head found.old.items)) (words.definite_heads (vocabulary_of table.now) (scope_of names.now) (equation (plain_term left.now) (plain_term right.now)))) }
 {
-    match (is_constant_term(table, left), is_constant_term(table, right)) {
+    match (
+        is_constant_term(table, left),
+        is_constant_term(table, right),
+    ) {
         (true, false) => add_value(alloc, table, names, left, right, found),
         (false, true) => add_value(alloc, table, names, right, left, found),
         (true, true) | (false, false) => Ok(false),
@@ -123,7 +127,7 @@ fn add_denial(
 ) -> Result<bool, OutOfMemory>
     ensures { IfOk result (λ definite. only_if definite (Some (map plain_head found.new.items)) ≡ both_heads (Some (map plain_head found.old.items)) (words.definite_heads (vocabulary_of table.now) (scope_of names.now) (denial (plain_term left.now) (plain_term right.now)))) }
 {
-    if is_boolean_term(table, left) && is_truth_term(table, right) {
+    if compares_boolean(table, left, right) {
         return add_atom(alloc, table, names, left, opposite(table, right), found);
     }
     Ok(false)
@@ -156,10 +160,10 @@ fn add_denied_equation(
 ) -> Result<bool, OutOfMemory>
     ensures { IfOk result (λ definite. only_if definite (Some (map plain_head found.new.items)) ≡ both_heads (Some (map plain_head found.old.items)) (words.denied_heads (vocabulary_of table.now) (scope_of names.now) (equation (plain_term left.now) (plain_term right.now)))) }
 {
-    if is_boolean_term(table, left) && is_truth_term(table, right) {
+    if compares_boolean(table, left, right) {
         return add_atom(alloc, table, names, left, opposite(table, right), found);
     }
-    if is_truth_term(table, left) && is_boolean_term(table, right) {
+    if compares_boolean(table, right, left) {
         return add_atom(alloc, table, names, right, opposite(table, left), found);
     }
     Ok(false)

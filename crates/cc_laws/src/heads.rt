@@ -1,5 +1,5 @@
 //! Which formulas are definite: conjunctions of what a head may be.
-ghost use Rattle.std.specs.Prelude.{◌≡◌, [], is_some};
+ghost use Rattle.std.specs.Prelude.{◌≡◌, ◌&&◌, [], is_some};
 ghost use Rattle.cc_defs.specs.Trees.{plain_term, plain_tree, Bare as bare, Equal as equation, Differ as denial};
 ghost use Rattle.cc_laws.specs.Heads as words;
 ghost use Rattle.cc_laws.specs.LawFaults as faults;
@@ -21,7 +21,7 @@ pub(crate) fn is_boolean_term(table: &Table, term: &TermTree<'_>) -> bool
     meaning_of_term(table, term).is_boolean_constant()
 }
 
-pub(crate) fn is_truth_term(table: &Table, term: &TermTree<'_>) -> bool
+fn is_truth_term(table: &Table, term: &TermTree<'_>) -> bool
     ensures { result ≡ words.is_truth_term (vocabulary_of table.now) (plain_term term.now) }
 {
     meaning_of_term(table, term).is_truth_value()
@@ -31,6 +31,13 @@ pub(crate) fn is_falsity_term(table: &Table, term: &TermTree<'_>) -> bool
     ensures { result ≡ words.is_falsity_term (vocabulary_of table.now) (plain_term term.now) }
 {
     meaning_of_term(table, term).is_falsity()
+}
+
+/// Whether a Boolean constant is compared with `false` or `true`.
+pub(crate) fn compares_boolean(table: &Table, constant: &TermTree<'_>, value: &TermTree<'_>) -> bool
+    ensures { result ≡ words.is_boolean_term (vocabulary_of table.now) (plain_term constant.now) && words.is_truth_term (vocabulary_of table.now) (plain_term value.now) }
+{
+    is_boolean_term(table, constant) && is_truth_term(table, value)
 }
 
 /// Whether a term alone is a head: `false` or a Boolean constant.
@@ -55,7 +62,7 @@ fn is_atom(table: &Table, left: &TermTree<'_>, right: &TermTree<'_>) -> bool
 fn is_definite_denial(table: &Table, left: &TermTree<'_>, right: &TermTree<'_>) -> bool
     ensures { result ≡ faults.is_definite (vocabulary_of table.now) (denial (plain_term left.now) (plain_term right.now)) }
 {
-    is_boolean_term(table, left) && is_truth_term(table, right)
+    compares_boolean(table, left, right)
 }
 
 #[tactic(auto, using(crate::proofs::HeadTests::bare_deniable))]
@@ -69,8 +76,7 @@ fn is_deniable_term(table: &Table, term: &TermTree<'_>) -> bool
 fn is_deniable_equation(table: &Table, left: &TermTree<'_>, right: &TermTree<'_>) -> bool
     ensures { result ≡ is_some (words.denied_heads (vocabulary_of table.now) [] (equation (plain_term left.now) (plain_term right.now))) }
 {
-    (is_boolean_term(table, left) && is_truth_term(table, right))
-        || (is_truth_term(table, left) && is_boolean_term(table, right))
+    compares_boolean(table, left, right) || compares_boolean(table, right, left)
 }
 
 /// Whether a head may be the denial of the formula.
