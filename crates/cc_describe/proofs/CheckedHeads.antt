@@ -1,8 +1,8 @@
 -- The parts of a head that no check of a law refuses fit.
 use Rattle.std.proofs.Common.{◌≡◌, ◌∙◌, ℕ, zero, suc, ◌<◌, Bool, true, false, not, ◌&&◌, ◌||◌, List, [], ◌∷◌, ◌++◌, length, slice_get, Option, Some, None, refl, sym, ap, subst, arith}
-use Rattle.std.specs.Prelude.{unwrap_or}
+use Rattle.std.specs.Prelude.{◌==◌, is_none, unwrap_or}
 use Rattle.std.specs.List.{AllByRecursion, list_any}
-use Rattle.std.proofs.lemmas.Bool.{eqb-true, ltb-true, not-false, not-true, and_parts, or_parts}
+use Rattle.std.proofs.lemmas.Bool.{eqb-true, not-false, not-true, and_parts, or_parts}
 use Rattle.std.proofs.lemmas.List.Folds.{list_any-append}
 use Rattle.cc_defs.specs.declared.law.Range.{Range}
 use Rattle.cc_defs.specs.declared.signature.Symbol.{Symbol}
@@ -10,13 +10,14 @@ use Rattle.cc_defs.specs.Resolved.{Term, Head}
 use Rattle.cc_defs.specs.Resolved as resolved
 use Rattle.cc_defs.specs.Trees.{PlainTerm, Applied, PlainTerms, PlainTree}
 use Rattle.cc_defs.specs.Trees as trees
+use Rattle.cc_defs.specs.Universe.{is_boolean_symbol}
 use Rattle.cc_laws.specs.Expansion.{head_parts, sort_ranges}
 use Rattle.cc_laws.specs.FormulaFaults.{term_misfits, term_meaning, is_miscounted, arguments_misfit, value_misfits, sides_misfit, stands_alone, formula_has, is_unknown_name, has_miscounted, has_misfit}
 use Rattle.cc_laws.specs.FreeVariables.{term_variables, free, unbound}
 use Rattle.cc_laws.specs.Heads.{listed, is_constant_term, is_boolean_term, is_truth_term, is_falsity_term, atom, atom_meant, opposite_of, opposite, only_if, or_else, both_heads, denied_heads, definite_heads}
 use Rattle.cc_laws.specs.Leaves.{Leaf, leaves, term_count}
 use Rattle.cc_laws.specs.Resolving.{resolve_term, resolve_terms}
-use Rattle.cc_laws.specs.Vocabulary.{Vocabulary, Meaning, Unknown, Nothing, Object, Variable, Constant, meaning, is_unknown, is_constant, is_boolean_symbol, is_boolean_constant, sort_of_entry, sort_below}
+use Rattle.cc_laws.specs.Vocabulary.{Vocabulary, Meaning, Unknown, Nothing, Object, Variable, Constant, meaning, is_unknown, is_constant, is_boolean_constant, sort_of_entry, sort_below}
 use Rattle.cc_describe.proofs.Members.{each_of_both}
 use Rattle.cc_describe.proofs.CheckedTerms.{IsIn, meaning_in, args_variables, variables_of_args, args_fit, value_fits}
 use Rattle.cc_describe.proofs.Fitting.{FitSorts, FitsValue, FitsAtom, HeadFits}
@@ -98,19 +99,19 @@ atom_fits v scope (Applied name args) value checked fits =
 
 -- ---- the values of Boolean constants
 
-boolean_is_first : (symbol : Symbol) → is_boolean_symbol symbol ≡ true → symbol.domain ≡ 0
-boolean_is_first symbol e = let below : symbol.domain < 1 = ltb-true symbol.domain 1 (and_parts _ _ e).0 in omega arith
+boolean_is_first : (symbol : Symbol) → is_boolean_symbol (Some symbol) ≡ true → symbol.domain ≡ 0
+boolean_is_first symbol e = eqb-true symbol.domain 0 (and_parts (is_none symbol.attribute) (symbol.domain == 0) e).1
 
-truth_fits : (v : Vocabulary) → IsSane v → (over : List Range) (number : ℕ) (symbol : Symbol) → is_boolean_symbol symbol ≡ true → FitsValue v over number symbol (resolved.Object 1)
+truth_fits : (v : Vocabulary) → IsSane v → (over : List Range) (number : ℕ) (symbol : Symbol) → is_boolean_symbol (Some symbol) ≡ true → FitsValue v over number symbol (resolved.Object 1)
 truth_fits v sane over number symbol e =
     (sane.two, subst (λ (domain : ℕ). sort_below v (sort_of_entry v.objects 1) domain ≡ true) (sym (boolean_is_first symbol e)) sane.truth)
 
-denial_fits : (v : Vocabulary) → IsSane v → (over : List Range) (number : ℕ) (symbol : Symbol) → is_boolean_symbol symbol ≡ true → FitsValue v over number symbol (resolved.Object 0)
+denial_fits : (v : Vocabulary) → IsSane v → (over : List Range) (number : ℕ) (symbol : Symbol) → is_boolean_symbol (Some symbol) ≡ true → FitsValue v over number symbol (resolved.Object 0)
 denial_fits v sane over number symbol e =
     let two : 1 < length v.objects = sane.two in
     (omega arith, subst (λ (domain : ℕ). sort_below v (sort_of_entry v.objects 0) domain ≡ true) (sym (boolean_is_first symbol e)) sane.denial)
 
-opposite_fits : (v : Vocabulary) → IsSane v → (over : List Range) (number : ℕ) (symbol : Symbol) (means : Meaning) → is_boolean_symbol symbol ≡ true → FitsValue v over number symbol (opposite_of means)
+opposite_fits : (v : Vocabulary) → IsSane v → (over : List Range) (number : ℕ) (symbol : Symbol) (means : Meaning) → is_boolean_symbol (Some symbol) ≡ true → FitsValue v over number symbol (opposite_of means)
 opposite_fits v sane over number symbol Unknown e = denial_fits v sane over number symbol e
 opposite_fits v sane over number symbol Nothing e = denial_fits v sane over number symbol e
 opposite_fits v sane over number symbol (Object zero sort) e = truth_fits v sane over number symbol e
@@ -118,7 +119,7 @@ opposite_fits v sane over number symbol (Object (suc object) sort) e = denial_fi
 opposite_fits v sane over number symbol (Variable variable sort) e = denial_fits v sane over number symbol e
 opposite_fits v sane over number symbol (Constant other own) e = denial_fits v sane over number symbol e
 
-is_boolean : (v : Vocabulary) (term : PlainTerm) (number : ℕ) (symbol : Symbol) → is_boolean_term v term ≡ true → term_meaning v term ≡ Constant number symbol → is_boolean_symbol symbol ≡ true
+is_boolean : (v : Vocabulary) (term : PlainTerm) (number : ℕ) (symbol : Symbol) → is_boolean_term v term ≡ true → term_meaning v term ≡ Constant number symbol → is_boolean_symbol (Some symbol) ≡ true
 is_boolean v term number symbol boolean e = ap is_boolean_constant (sym e) ∙ boolean
 
 truth_atom : (v : Vocabulary) → IsSane v → (scope : List ℕ) (term : PlainTerm) → IsChecked v scope term → is_boolean_term v term ≡ true → AreFit v scope (atom v (numbers_of scope) term (resolved.Object 1))

@@ -1,7 +1,7 @@
 -- Members of lists: at the first place that passes a test, among choices, and among the numbers of what passes.
 use Rattle.std.proofs.Common.{◌≡◌, ◌∙◌, ◌⊎◌, inl, inr, ℕ, zero, suc, ◌+◌, Bool, true, false, cond, List, [], ◌∷◌, ◌++◌, map, flat_map, Option, Some, slice_get, position, refl, ap, subst, arith}
 use Rattle.std.specs.Prelude.{if◌then◌else◌}
-use Rattle.std.specs.List.{AllByRecursion, filter, position_from}
+use Rattle.std.specs.List.{AllByRecursion, position_from}
 use Rattle.std.proofs.lemmas.Iterator.Adapters.{position_from-zero}
 use Rattle.cc_defs.specs.Declarations.{numbers_where}
 use Rattle.cc_defs.specs.Environments.{choices}
@@ -23,14 +23,6 @@ module _ {X : Type 0} where
   pub in_behind : (x : X) (xs ys : List X) → In x ys → In x (xs ++ ys)
   in_behind x [] ys there = there
   in_behind x (y ∷ xs) ys there = inr (in_behind x xs ys there)
-
-  pub all_filter : (P : X → Type 0) (test : X → Bool) (xs : List X) → AllByRecursion P xs → AllByRecursion P (filter test xs)
-  all_filter P test [] all = tt
-  all_filter P test (x ∷ xs) all =
-      elim (test x) as (λ here. AllByRecursion P (cond here (x ∷ filter test xs) (filter test xs))) [
-        | true ↦ (all.0, all_filter P test xs all.1)
-        | false ↦ all_filter P test xs all.1
-      ]
 
   pub all_slice : (P : X → Type 0) (xs : List X) (k : ℕ) (x : X) → AllByRecursion P xs → slice_get xs k ≡ Some x → P x
   all_slice P [] k x all e = absurd cc

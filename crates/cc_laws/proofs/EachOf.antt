@@ -1,7 +1,6 @@
 -- What holds of each element of a list, and elements by their numbers.
-use Rattle.std.proofs.Common.{◌≡◌, ℕ, zero, suc, Bool, false, List, [], ◌∷◌, ◌++◌, map, flat_map, Some, slice_get, refl}
+use Rattle.std.proofs.Common.{◌≡◌, ℕ, zero, suc, Bool, false, List, [], ◌∷◌, ◌++◌, map, Some, slice_get, refl}
 use Rattle.std.specs.List.{AllByRecursion, list_any}
-use Rattle.std.proofs.lemmas.Bool.{or_parts}
 
 module _ {X : Type 0} where
   pub each_of_both : (P : X → Type 0) (xs ys : List X) → AllByRecursion P xs → AllByRecursion P ys → AllByRecursion P (xs ++ ys)
@@ -29,10 +28,6 @@ module _ {X Y : Type 0} where
   pub each_mapped : (P : Y → Type 0) (f : X → Y) (xs : List X) → AllByRecursion (λ x. P (f x)) xs → AllByRecursion P (map f xs)
   each_mapped P f [] all = tt
   each_mapped P f (x ∷ xs) all = (all.0, each_mapped P f xs all.1)
-
-  pub each_flat : (P : Y → Type 0) (f : X → List Y) (xs : List X) → AllByRecursion (λ x. AllByRecursion P (f x)) xs → AllByRecursion P (flat_map f xs)
-  each_flat P f [] all = tt
-  each_flat P f (x ∷ xs) all = each_of_both P (f x) (flat_map f xs) all.0 (each_flat P f xs all.1)
 
   pub slice_mapped : (f : X → Y) (xs : List X) (k : ℕ) (y : Y) → slice_get (map f xs) k ≡ Some y → (x : X) × (slice_get xs k ≡ Some x) × (y ≡ f x)
   slice_mapped f [] k y e = absurd cc
