@@ -2,7 +2,7 @@
 ghost use Rattle.std.specs.Prelude.{◌≡◌, ◌+◌, IfOk, OnOk};
 ghost use Rattle.std.specs.Option.{option_map};
 ghost use Rattle.cc_defs.specs.Resolved.{plain_formula};
-ghost use Rattle.cc_defs.specs.Trees.{Not as not, plain_tree};
+ghost use Rattle.cc_defs.specs.Trees.{Not as denied, plain_tree};
 ghost use Rattle.cc_laws.specs.Expansion as words;
 ghost use Rattle.cc_laws.specs.Resolving as resolving;
 ghost use Rattle.cc_laws.specs.Views.{head_piece, plain_caused, plain_piece, scope_of};
@@ -100,7 +100,7 @@ fn resolve_denied(
     names: &mut Names,
     formula: &Tree<'_>,
 ) -> Result<Formula, OutOfMemory>
-    ensures made { IfOk result (λ made. plain_formula made ≡ resolving.resolve (vocabulary_of table.now) (scope_of names.old) names.old.next (not (plain_tree formula.now))) }
+    ensures made { IfOk result (λ made. plain_formula made ≡ resolving.resolve (vocabulary_of table.now) (scope_of names.old) names.old.next (denied (plain_tree formula.now))) }
     ensures kept { OnOk result (names.new.bindings.items ≡ names.old.bindings.items) }
     ensures next { OnOk result (names.new.next ≡ names.old.next + resolving.brackets (plain_tree formula.now)) }
 {
