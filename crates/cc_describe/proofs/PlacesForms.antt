@@ -12,7 +12,7 @@ use Rattle.cc_laws.specs.Expansion.{base_laws}
 use Rattle.cc_laws.specs.LawFaults.{law_refusal}
 use Rattle.cc_laws.specs.Laws.{ConstantsHaveForms, HasFormulas, LawsHaveForms, QueriesHaveFormulas}
 use Rattle.cc_laws.specs.Vocabulary.{vocabulary}
-use Rattle.cc_sorts.specs.Tables.{TableView, IsTable, placed_from}
+use Rattle.cc_sorts.specs.Tables.{TableView, IsTable, placed_of}
 use Rattle.cc_describe.specs.declared.description.Described.{Described}
 use Rattle.cc_describe.specs.Describing.{AsksFormulas, HasForms, IsDescribed, asked_in, laws_at, laws_behind, queries_at, queries_behind}
 use Rattle.cc_describe.specs.FirstRefusal.{declared_at, declared_in, refusal_at, statement_refusal, first_behind}
@@ -90,12 +90,12 @@ module _ (of_queries : QueriesHaveFormulas) where
 
 -- ---- a description
 
-placed_symbols : (f : Declared → Symbol) (all : List Declared) → map (λ placed. placed.symbol) (placed_from (map f all) all) ≡ map f all
-placed_symbols f [] = refl
-placed_symbols f (first ∷ others) = ap (λ (w : List Symbol). f first ∷ w) (placed_symbols f others)
+placed_symbols : (declarations : List Declaration) (all : List Declared) → map (λ placed. placed.symbol) (placed_of declarations all) ≡ map (symbol_of declarations) all
+placed_symbols declarations [] = refl
+placed_symbols declarations (first ∷ others) = ap (λ (w : List Symbol). symbol_of declarations first ∷ w) (placed_symbols declarations others)
 
 table_symbols : (table : TableView) (declarations : List Declaration) → IsTable table declarations → map (λ placed. placed.symbol) table.symbols ≡ symbols declarations
-table_symbols table declarations is = ap (map (λ placed. placed.symbol)) is.symbols_are ∙ placed_symbols (symbol_of declarations) (constants declarations)
+table_symbols table declarations is = ap (map (λ placed. placed.symbol)) is.symbols_are ∙ placed_symbols declarations (constants declarations)
 
 -- two lists of declarations of one table have the same symbols
 same_symbols : (table : TableView) (declarations others : List Declaration) → IsTable table declarations → IsTable table others → symbols declarations ≡ symbols others
