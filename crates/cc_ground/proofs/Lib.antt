@@ -1,4 +1,5 @@
 pub mod Actions
+pub mod Binding
 pub mod Choosing
 pub mod FromDeclarations
 pub mod Making

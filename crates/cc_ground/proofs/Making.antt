@@ -5,7 +5,8 @@ use Rattle.cc_arena.specs.declared.ground_laws.GroundLaw.{GroundLaw}
 use Rattle.cc_ground.specs.declared.maker.Halt.{Halt}
 use Rattle.cc_ground.specs.declared.maker.Maker.{Maker}
 use Rattle.cc_ground.specs.Counting.{nodes_in}
-use Rattle.cc_arena.specs.Grounding.{PlainGroundLaw, pair_law, plain_ground_law}
+use Rattle.cc_defs.specs.GroundLaws.{PlainGroundLaw, pair_law}
+use Rattle.cc_arena.specs.GroundViews.{plain_ground_law}
 use Rattle.cc_defs.specs.Environments.{pairs_of}
 use Rattle.cc_ground.specs.Views.{HasMade, IsLike, LacksRoom}
 use Rattle.cc_ground.proofs.Putting.{lacks_more, like_both}

@@ -3,8 +3,14 @@ use Rattle.std.proofs.Common.{◌≡◌, ◌∙◌, ℕ, List, map, rules, refl,
 use Rattle.std.specs.Global.{Box, Vec}
 use Rattle.cc_defs.specs.declared.formula.Formula as kept
 use Rattle.cc_defs.specs.declared.formula.Term.{Term, Constant, Row_of-Term, end_of-Term, more_of-Term, items-the_row-Term, items_hidden-the_row-Term-0}
+use Rattle.cc_defs.specs.declared.law.Head.{Head as HeadTree}
+use Rattle.cc_defs.specs.declared.law.Head.TheVariants as head_trees
+use Rattle.cc_defs.specs.GroundLaws.{ground_head, head_of_sides}
+use Rattle.cc_defs.specs.Nodes.{Side, side}
 use Rattle.cc_defs.specs.Resolved as resolved
-use Rattle.cc_defs.specs.Resolved.{MoreTerms, plain_formula, plain_term, plain_row, terms_of}
+use Rattle.cc_defs.specs.Satisfaction.{Environment}
+use Rattle.cc_defs.specs.Universe.{Universe}
+use Rattle.cc_defs.specs.Resolved.{MoreTerms, plain_formula, plain_head, plain_term, plain_row, terms_of}
 
 row_is : (n : _) (row : Row_of-Term n) → plain_row row ≡ terms_of (map plain_term (items-the_row-Term n row))
 row_is _ end_of-Term = refl
@@ -26,3 +32,12 @@ all_is tree inner variable sort box is same = ap plain_formula is ∙ ap (λ f. 
 pub some_is : (tree inner : kept.Formula) (variable sort : ℕ) (box : Box kept.Formula) → tree ≡ kept.Exists variable sort box → inner ≡ box.value →
     plain_formula tree ≡ resolved.Exists variable sort (plain_formula inner)
 some_is tree inner variable sort box is same = ap plain_formula is ∙ ap (λ f. resolved.Exists variable sort (plain_formula f)) (sym same)
+
+-- the head that a constant's side and a value's have
+pub head_as : (u : Universe) (env : Environment) (symbol : ℕ) (args given : List Term) (value : Term) (tree : HeadTree) (left right : Side) → tree ≡ head_trees.Atom symbol args value → given ≡ args →
+    left ≡ side u env (resolved.Constant symbol (terms_of (map plain_term given))) → right ≡ side u env (plain_term value) → head_of_sides left right ≡ ground_head u env (plain_head tree)
+head_as u env symbol args given value tree left right is same l r =
+    ap (λ (w : Side). head_of_sides w right) l
+    ∙ ap (head_of_sides (side u env (resolved.Constant symbol (terms_of (map plain_term given))))) r
+    ∙ ap (λ (w : List Term). head_of_sides (side u env (resolved.Constant symbol (terms_of (map plain_term w)))) (side u env (plain_term value))) same
+    ∙ sym (ap (λ (w : HeadTree). ground_head u env (plain_head w)) is)

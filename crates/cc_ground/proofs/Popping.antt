@@ -3,10 +3,10 @@ use Rattle.std.proofs.Common.{◌≡◌, ◌∙◌, ℕ, ◌-◌, List, [], ◌�
 use Rattle.std.proofs.Math.Seq.{take-append_seam}
 use Rattle.std.specs.Global.{Vec}
 
-pub popped : (whole left : Vec ℕ) (xs : List ℕ) (x : ℕ) → left.items ≡ take (whole.len - 1) whole.items → whole.items ≡ xs ++ x ∷ [] → left.items ≡ xs
-popped whole left xs x rest e =
+pub popped : {X : Type 0} → (whole left : Vec X) (xs : List X) (x : X) → left.items ≡ take (whole.len - 1) whole.items → whole.items ≡ xs ++ x ∷ [] → left.items ≡ xs
+popped {X} whole left xs x rest e =
     rest
     ∙ ap (λ (n : ℕ). take (n - 1) whole.items) (whole.ok.0 ∙ ap length e)
-    ∙ ap (λ (l : List ℕ). take (length (xs ++ x ∷ []) - 1) l) e
+    ∙ ap (λ (l : List X). take (length (xs ++ x ∷ []) - 1) l) e
     ∙ ap (λ (n : ℕ). take n (xs ++ x ∷ [])) (omega (arith, length-append xs (x ∷ [])))
     ∙ take-append_seam xs (x ∷ [])

@@ -1,11 +1,11 @@
 -- Nodes that are put behind others, and the room that is left for them.
-use Rattle.std.proofs.Common.{◌≡◌, ◌∙◌, ℕ, ◌+◌, ◌-◌, ◌<◌, ◌≤◌, List, [], ◌∷◌, ◌++◌, length, drop, take, get_or, position, nat_eq, slice_get, Option, Some, None, Result, Ok, Err, zero, suc, refl, sym, ap, subst, append_assoc, append-nil, length-append, arith}
+use Rattle.std.proofs.Common.{◌≡◌, ◌∙◌, ℕ, ◌+◌, ◌-◌, ◌<◌, ◌≤◌, List, [], ◌∷◌, ◌++◌, length, drop, map, get_or, position, nat_eq, slice_get, Option, Some, None, Result, Ok, Err, zero, suc, refl, sym, ap, subst, append_assoc, append-nil, length-append, arith}
 use Rattle.std.proofs.lemmas.List.{at_drop_more}
 use Rattle.std.specs.List.{AllByRecursion}
 use Rattle.std.specs.Global.{Vec}
 use Rattle.std.specs.Result.{IfErr, OnOk, IsErrAnd}
-use Rattle.cc_arena.specs.Terms.{Ground, Operands, nothing, and_then, operand_count, postfix, postfixes}
-use Rattle.cc_arena.specs.Terms as terms
+use Rattle.cc_defs.specs.Terms.{Ground, Operands, all_of, nothing, and_then, operand_count, operands_behind, postfix, postfixes}
+use Rattle.cc_defs.specs.Terms as terms
 use Rattle.cc_defs.specs.declared.node.Node.{Node}
 use Rattle.cc_defs.specs.declared.signature.Const.{Const}
 use Rattle.cc_defs.specs.Resolved.{Term, Formula}
@@ -13,12 +13,12 @@ use Rattle.cc_defs.specs.Resolved as resolved
 use Rattle.cc_ground.specs.declared.maker.Halt.{Halt}
 use Rattle.cc_ground.specs.declared.maker.Halt.TheVariants as halts
 use Rattle.cc_ground.specs.declared.maker.Maker.{Maker}
-use Rattle.cc_arena.specs.Grounding.{nodes_of}
-use Rattle.cc_arena.specs.Nodes.{Side, add_common, commons, equation, instances, two, constant_side, numbered_side, side, term_of, value_side}
+use Rattle.cc_defs.specs.Nodes.{nodes_of}
+use Rattle.cc_defs.specs.Nodes.{Side, both_have, common_values, equation, constant_side, numbered_side, side, term_of, value_side}
 use Rattle.cc_defs.specs.Universe.{Universe, constants_in, objects_of}
-use Rattle.cc_defs.specs.Satisfaction.{constant_meant}
+use Rattle.cc_defs.specs.Satisfaction.{Environment, bind, constant_meant}
+use Rattle.cc_ground.specs.Bindings.{BindingsView, environment_of, with_bound}
 use Rattle.cc_ground.specs.Views.{AreSearchable, HasPut, IsLike, IsSearchable, IsSideSearchable, LacksRoom, universe_in, universe_of}
-use Rattle.cc_ground.proofs.Popping.{popped}
 
 -- ---- one behind another
 
@@ -67,11 +67,15 @@ lacks_so count room halt (Ok done) is lacks = absurd is
 
 -- ---- instances
 
+-- those of these objects, behind others
+abbrev pub behind : (ℕ → Ground) → Operands → List ℕ → Operands
+behind instance made objects = operands_behind made (map instance objects)
+
 -- the instances for the first objects are put
 pub record InstancesSoFar (instance : ℕ → Ground) (objects : List ℕ) (i : ℕ) (old new : Maker) : Type 0 where
   pub made : Operands
   pub put : HasPut (postfixes made) old new
-  pub rest : instances instance made (drop i objects) ≡ instances instance nothing objects
+  pub rest : behind instance made (drop i objects) ≡ behind instance nothing objects
 
 pub instances_begin : (instance : ℕ → Ground) (objects : List ℕ) (maker : Maker) → InstancesSoFar instance objects 0 maker maker
 instances_begin instance objects maker = record { made = nothing; put = put_none maker; rest = refl }
@@ -82,62 +86,63 @@ pub instances_more : {instance : ℕ → Ground} {objects : List ℕ} {i : ℕ} 
 instances_more {instance} {objects} {i} so within put = record {
   made = and_then so.made (instance (get_or objects i 0));
   put = put_both so.put put;
-  rest = sym (at_drop_more (instances instance so.made) objects i 0 within) ∙ so.rest;
+  rest = sym (at_drop_more (behind instance so.made) objects i 0 within) ∙ so.rest;
 }
 
-instances_grow : (instance : ℕ → Ground) (made : Operands) (objects : List ℕ) → length (postfixes made) ≤ length (postfixes (instances instance made objects))
+instances_grow : (instance : ℕ → Ground) (made : Operands) (objects : List ℕ) → length (postfixes made) ≤ length (postfixes (behind instance made objects))
 instances_grow instance made [] = omega arith
 instances_grow instance made (object ∷ objects) =
     omega (arith, length-append (postfixes made) (postfix (instance object)), instances_grow instance (and_then made (instance object)) objects)
 
 pub instances_lack : {instance : ℕ → Ground} {objects : List ℕ} {i : ℕ} {old new : Maker} (halt : Halt) → InstancesSoFar instance objects i old new →
     i < length objects → LacksRoom (length (postfix (instance (get_or objects i 0)))) new.room halt →
-    LacksRoom (length (postfixes (instances instance nothing objects))) old.room halt
+    LacksRoom (length (postfixes (behind instance nothing objects))) old.room halt
 instances_lack {instance} {objects} {i} halt so within lacks =
     let one = instance (get_or objects i 0) in
-    let whole = ap (λ (l : Operands). length (postfixes l)) (sym (at_drop_more (instances instance so.made) objects i 0 within) ∙ so.rest) in
+    let whole = ap (λ (l : Operands). length (postfixes l)) (sym (at_drop_more (behind instance so.made) objects i 0 within) ∙ so.rest) in
     lacks_behind _ _ halt so.put (omega (arith, whole, length-append (postfixes so.made) (postfix one), instances_grow instance (and_then so.made one) (drop (i + 1) objects))) lacks
 
-pub instances_counted : (instance : ℕ → Ground) (made : Operands) (objects : List ℕ) → operand_count (instances instance made objects) ≡ operand_count made + length objects
+pub instances_counted : (instance : ℕ → Ground) (made : Operands) (objects : List ℕ) → operand_count (behind instance made objects) ≡ operand_count made + length objects
 instances_counted instance made [] = omega arith
 instances_counted instance made (object ∷ objects) = omega (arith, instances_counted instance (and_then made (instance object)) objects)
 
--- ---- instances of a formula, each with a value behind the environment
+-- ---- instances of a formula, each with its variable bound to an object
 
-abbrev pub instance_at : Maker → Formula → ℕ → Ground
-instance_at maker formula object = term_of (universe_in maker) (maker.env.items ++ object ∷ []) formula
+abbrev pub instance_at : Maker → Formula → ℕ → ℕ → Ground
+instance_at maker formula variable object = term_of (universe_in maker) (bind variable object (environment_of maker.env)) formula
 
--- while the value of an instance stands there
-instance_nodes : (formula : Formula) (old now : Maker) (object : ℕ) (env : List ℕ) → IsLike old now → env ≡ now.env.items ++ object ∷ [] →
-    nodes_of (universe_in now) env formula ≡ postfix (instance_at old formula object)
-instance_nodes formula old now object env like e =
-    ap (λ (l : List ℕ). nodes_of (universe_in now) l formula) (e ∙ ap (λ (l : List ℕ). l ++ object ∷ []) like.env)
-    ∙ ap (λ (u : Universe). nodes_of u (old.env.items ++ object ∷ []) formula) (sym (same_universe old now like.table like.sig))
+-- while the variable is bound to it
+instance_nodes : (formula : Formula) (old now : Maker) (variable object : ℕ) (env : BindingsView) → IsLike old now → environment_of env ≡ bind variable object (environment_of now.env) →
+    nodes_of (universe_in now) (environment_of env) formula ≡ postfix (instance_at old formula variable object)
+instance_nodes formula old now variable object env like e =
+    ap (λ (w : Environment). nodes_of (universe_in now) w formula) (e ∙ ap (λ (w : BindingsView). bind variable object (environment_of w)) like.env)
+    ∙ ap (λ (u : Universe). nodes_of u (bind variable object (environment_of old.env)) formula) (sym (same_universe old now like.table like.sig))
 
-pub instance_lacks : (formula : Formula) {objects : List ℕ} {i : ℕ} {old now : Maker} (env : List ℕ) (halt : Halt) → InstancesSoFar (instance_at old formula) objects i old now →
-    i < length objects → env ≡ now.env.items ++ get_or objects i 0 ∷ [] → LacksRoom (length (nodes_of (universe_in now) env formula)) now.room halt →
-    LacksRoom (length (postfixes (instances (instance_at old formula) nothing objects))) old.room halt
-instance_lacks formula {objects} {i} {old} {now} env halt so within e lacks =
-    instances_lack halt so within (subst (λ (l : List Node). LacksRoom (length l) now.room halt) (instance_nodes formula old now (get_or objects i 0) env so.put.like e) lacks)
+pub instance_lacks : (formula : Formula) (variable : ℕ) {objects : List ℕ} {i : ℕ} {old now : Maker} (env : BindingsView) (halt : Halt) → InstancesSoFar (instance_at old formula variable) objects i old now →
+    i < length objects → environment_of env ≡ bind variable (get_or objects i 0) (environment_of now.env) → LacksRoom (length (nodes_of (universe_in now) (environment_of env) formula)) now.room halt →
+    LacksRoom (length (postfixes (behind (instance_at old formula variable) nothing objects))) old.room halt
+instance_lacks formula variable {objects} {i} {old} {now} env halt so within e lacks =
+    instances_lack halt so within (subst (λ (l : List Node). LacksRoom (length l) now.room halt) (instance_nodes formula old now variable (get_or objects i 0) env so.put.like e) lacks)
 
-pub instance_put : (formula : Formula) {objects : List ℕ} {i : ℕ} {old now : Maker} (after : Maker) (env left : Vec ℕ) → InstancesSoFar (instance_at old formula) objects i old now →
-    i < length objects → env.items ≡ now.env.items ++ get_or objects i 0 ∷ [] → HasPut (nodes_of (universe_in now) env.items formula) (record now { env = env }) after →
-    left.items ≡ take (after.env.len - 1) after.env.items →
-    InstancesSoFar (instance_at old formula) objects (i + 1) old (record after { env = left })
-instance_put formula {objects} {i} {old} {now} after env left so within e put rest =
+pub instance_put : (formula : Formula) (variable : ℕ) {objects : List ℕ} {i : ℕ} {old now : Maker} (after : Maker) (env left : BindingsView) → InstancesSoFar (instance_at old formula variable) objects i old now →
+    i < length objects → env ≡ with_bound variable (get_or objects i 0) now.env → environment_of env ≡ bind variable (get_or objects i 0) (environment_of now.env) →
+    HasPut (nodes_of (universe_in now) (environment_of env) formula) (record now { env = env }) after →
+    (after.env ≡ with_bound variable (get_or objects i 0) now.env → left ≡ now.env) →
+    InstancesSoFar (instance_at old formula variable) objects (i + 1) old (record after { env = left })
+instance_put formula variable {objects} {i} {old} {now} after env left so within bound e put unbound =
     let object = get_or objects i 0 in
-    let here : HasPut (nodes_of (universe_in now) env.items formula) now (record after { env = left }) = record {
+    let here : HasPut (nodes_of (universe_in now) (environment_of env) formula) now (record after { env = left }) = record {
       put = put.put;
       room = put.room;
-      like = record { table = put.like.table; sig = put.like.sig; env = popped after.env left now.env.items object rest (put.like.env ∙ e) };
+      like = record { table = put.like.table; sig = put.like.sig; env = unbound (put.like.env ∙ bound) };
     } in
-    instances_more so within (put_as (instance_nodes formula old now object env.items so.put.like e) here)
+    instances_more so within (put_as (instance_nodes formula old now variable object env so.put.like e) here)
 
-abbrev pub instances_in : Maker → Formula → ℕ → Operands
-instances_in maker formula sort = instances (instance_at maker formula) nothing (objects_of (universe_in maker) sort)
+abbrev pub instances_in : Maker → Formula → ℕ → ℕ → Operands
+instances_in maker formula variable sort = behind (instance_at maker formula variable) nothing (objects_of (universe_in maker) sort)
 
-pub count_is : (maker : Maker) (formula : Formula) (sort : ℕ) {count : ℕ} → count ≡ length (objects_of (universe_in maker) sort) → count ≡ operand_count (instances_in maker formula sort)
-count_is maker formula sort e = omega (arith, instances_counted (instance_at maker formula) nothing (objects_of (universe_in maker) sort))
+pub count_is : (maker : Maker) (formula : Formula) (variable sort : ℕ) {count : ℕ} → count ≡ length (objects_of (universe_in maker) sort) → count ≡ operand_count (instances_in maker formula variable sort)
+count_is maker formula variable sort e = omega (arith, instances_counted (instance_at maker formula variable) nothing (objects_of (universe_in maker) sort))
 
 -- ---- a bracket
 
@@ -161,6 +166,22 @@ bracket_lacks node ops room halt result e is lacks = lacks_so _ _ halt result is
 
 -- ---- common values
 
+-- those from this index on, behind others
+abbrev pub commons : Operands → ℕ → ℕ → List ℕ → ℕ → List ℕ → Operands
+commons made constant i values other others = operands_behind made (common_values constant i values other others)
+
+abbrev add_common : Operands → ℕ → ℕ → ℕ → Option ℕ → Operands
+add_common made constant i other found = operands_behind made (both_have constant i other found)
+
+behind_both : (made : Operands) (xs ys : List Ground) → operands_behind made (xs ++ ys) ≡ operands_behind (operands_behind made xs) ys
+behind_both made [] ys = refl
+behind_both made (x ∷ xs) ys = behind_both (and_then made x) xs ys
+
+commons_next : (made : Operands) (constant i value : ℕ) (values : List ℕ) (other : ℕ) (others : List ℕ) →
+    commons made constant i (value ∷ values) other others ≡ commons (add_common made constant i other (position (nat_eq value) others)) constant (i + 1) values other others
+commons_next made constant i value values other others =
+    behind_both made (both_have constant i other (position (nat_eq value) others)) (common_values constant (i + 1) values other others)
+
 -- the first values are put, as far as they are common
 pub record CommonsSoFar (constant : ℕ) (values : List ℕ) (other : ℕ) (others : List ℕ) (i count : ℕ) (old new : Maker) : Type 0 where
   pub made : Operands
@@ -177,16 +198,17 @@ common_rest : {constant : ℕ} {values : List ℕ} {other : ℕ} {others : List 
     commons (add_common so.made constant i other found) constant (i + 1) (drop (i + 1) values) other others ≡ commons nothing constant 0 values other others
 common_rest {constant} {values} {other} {others} {i} found so within at =
     ap (λ (o : Option ℕ). commons (add_common so.made constant i other o) constant (i + 1) (drop (i + 1) values) other others) at
+    ∙ sym (commons_next so.made constant i (get_or values i 0) (drop (i + 1) values) other others)
     ∙ sym (at_drop_more (λ (l : List ℕ). commons so.made constant i l other others) values i 0 within) ∙ so.rest
 
 pub commons_more : {constant : ℕ} {values : List ℕ} {other : ℕ} {others : List ℕ} {i count : ℕ} {old new next : Maker} (index place found : ℕ) →
     CommonsSoFar constant values other others i count old new → i < length values → Some found ≡ position (nat_eq (get_or values i 0)) others →
     index ≡ i → place ≡ found →
-    HasPut (postfix (terms.All (two (terms.Atom constant index) (terms.Atom other place)))) new next →
+    HasPut (postfix (all_of (terms.Atom constant index ∷ terms.Atom other place ∷ []))) new next →
     CommonsSoFar constant values other others (i + 1) (count + 1) old next
 commons_more {constant} {values} {other} {others} {i} {count} {old} {new} {next} index place found so within at e f put = record {
-  made = and_then so.made (terms.All (two (terms.Atom constant i) (terms.Atom other found)));
-  put = put_both so.put (put_as (ap (λ (k : ℕ). postfix (terms.All (two (terms.Atom constant k) (terms.Atom other place)))) e ∙ ap (λ (k : ℕ). postfix (terms.All (two (terms.Atom constant i) (terms.Atom other k)))) f) put);
+  made = and_then so.made (all_of (terms.Atom constant i ∷ terms.Atom other found ∷ []));
+  put = put_both so.put (put_as (ap (λ (k : ℕ). postfix (all_of (terms.Atom constant k ∷ terms.Atom other place ∷ []))) e ∙ ap (λ (k : ℕ). postfix (all_of (terms.Atom constant i ∷ terms.Atom other k ∷ []))) f) put);
   counted = ap (λ (n : ℕ). n + 1) so.counted;
   few = omega (arith, so.few);
   rest = common_rest (Some found) so within at;
@@ -210,20 +232,21 @@ commons_so {constant} {values} {other} {others} {i} {count} {number} {old} {new}
 
 added_grow : (made : Operands) (constant i other : ℕ) (found : Option ℕ) → length (postfixes made) ≤ length (postfixes (add_common made constant i other found))
 added_grow made constant i other None = omega arith
-added_grow made constant i other (Some place) = omega (arith, length-append (postfixes made) (postfix (terms.All (two (terms.Atom constant i) (terms.Atom other place)))))
+added_grow made constant i other (Some place) = omega (arith, length-append (postfixes made) (postfix (all_of (terms.Atom constant i ∷ terms.Atom other place ∷ []))))
 
 commons_grow : (made : Operands) (constant i : ℕ) (values : List ℕ) (other : ℕ) (others : List ℕ) → length (postfixes made) ≤ length (postfixes (commons made constant i values other others))
 commons_grow made constant i [] other others = omega arith
 commons_grow made constant i (value ∷ values) other others =
     let found = position (nat_eq value) others in
-    omega (arith, added_grow made constant i other found, commons_grow (add_common made constant i other found) constant (i + 1) values other others)
+    let next = ap (λ (l : Operands). length (postfixes l)) (commons_next made constant i value values other others) in
+    omega (arith, next, added_grow made constant i other found, commons_grow (add_common made constant i other found) constant (i + 1) values other others)
 
 pub commons_lack : {constant : ℕ} {values : List ℕ} {other : ℕ} {others : List ℕ} {i count : ℕ} {old new : Maker} (found : ℕ) (halt : Halt) →
     CommonsSoFar constant values other others i count old new → i < length values → Some found ≡ position (nat_eq (get_or values i 0)) others →
     LacksRoom 3 new.room halt →
     LacksRoom (length (postfixes (commons nothing constant 0 values other others))) old.room halt
 commons_lack {constant} {values} {other} {others} {i} found halt so within at lacks =
-    let one = terms.All (two (terms.Atom constant i) (terms.Atom other found)) in
+    let one = all_of (terms.Atom constant i ∷ terms.Atom other found ∷ []) in
     let whole = ap (λ (l : Operands). length (postfixes l)) (common_rest (Some found) so within at) in
     lacks_behind _ _ halt so.put (omega (arith, whole, length-append (postfixes so.made) (postfix one), commons_grow (and_then so.made one) constant (i + 1) (drop (i + 1) values) other others)) lacks
 
@@ -243,13 +266,13 @@ value_searchable : (found : Option ℕ) → IsSideSearchable (value_side found)
 value_searchable None = tt
 value_searchable (Some value) = tt
 
-pub side_searchable : (u : Universe) (env : List ℕ) (term : Term) → AreSearchable u → IsSideSearchable (side u env term)
+pub side_searchable : (u : Universe) (env : Environment) (term : Term) → AreSearchable u → IsSideSearchable (side u env term)
 side_searchable u env (resolved.Constant symbol args) all = numbered_searchable u (constant_meant u env symbol args) all
 side_searchable u env (resolved.Object object) all = tt
-side_searchable u env (resolved.Variable variable) all = value_searchable (slice_get env variable)
+side_searchable u env (resolved.Variable variable) all = value_searchable (env variable)
 side_searchable u env resolved.Nothing all = tt
 
-pub sides_as : (u : Universe) (env one other : List ℕ) (s t : Term) (left right : Side) → one ≡ env → other ≡ env → left ≡ side u one s → right ≡ side u other t →
+pub sides_as : (u : Universe) (env one other : Environment) (s t : Term) (left right : Side) → one ≡ env → other ≡ env → left ≡ side u one s → right ≡ side u other t →
     equation left right ≡ equation (side u env s) (side u env t)
 sides_as u env one other s t left right e f l r =
-    ap (λ (w : Side). equation w right) (l ∙ ap (λ (v : List ℕ). side u v s) e) ∙ ap (equation (side u env s)) (r ∙ ap (λ (v : List ℕ). side u v t) f)
+    ap (λ (w : Side). equation w right) (l ∙ ap (λ (v : Environment). side u v s) e) ∙ ap (equation (side u env s)) (r ∙ ap (λ (v : Environment). side u v t) f)

@@ -6,7 +6,6 @@ use Rattle.cc_defs.specs.declared.law.Condition.{Condition as ConditionTree}
 use Rattle.cc_defs.specs.declared.refusal.Fault.{Fault}
 use Rattle.cc_defs.specs.declared.refusal.Fault.TheVariants as faults
 use Rattle.cc_defs.specs.declared.refusal.LimitAt.TheVariants as limits
-use Rattle.cc_defs.specs.DeclarationFaults.{limit_refusal}
 use Rattle.cc_defs.specs.Declarations.{Declaration}
 use Rattle.cc_defs.specs.Limits.{limit_number}
 use Rattle.cc_defs.specs.Resolved.{Query, plain_condition}
@@ -16,9 +15,11 @@ use Rattle.cc_ground.specs.declared.maker.Halt.{Halt}
 use Rattle.cc_ground.specs.declared.maker.Halt.TheVariants as halts
 use Rattle.cc_ground.specs.declared.maker.Maker.{Maker}
 use Rattle.cc_ground.specs.Counting.{node_refusal, nodes_of_conditions}
-use Rattle.cc_arena.specs.Grounding.{PlainGroundCondition, ground_condition, ground_query, plain_ground_condition}
+use Rattle.cc_defs.specs.GroundLaws.{PlainGroundCondition, ground_condition, ground_query}
+use Rattle.cc_arena.specs.GroundViews.{plain_ground_condition}
 use Rattle.cc_defs.specs.Universe.{Universe, universe}
-use Rattle.cc_ground.specs.Views.{IsLike, IsRefusedBy, LacksRoom, universe_in}
+use Rattle.cc_defs.specs.Refusals.{IsRefusedBy, past}
+use Rattle.cc_ground.specs.Views.{IsLike, LacksRoom, universe_in}
 use Rattle.cc_ground.proofs.FromDeclarations.{maker_universe, universe_is}
 use Rattle.cc_ground.proofs.Putting.{lacks_more, same_universe}
 
@@ -63,10 +64,10 @@ asked_is maker table signature declarations found given range query t s is of g 
 pub few_nodes : (count room : ℕ) → count ≤ room → room ≡ limit_number limits.GroundNodes → node_refusal count ≡ None
 few_nodes count room few is = search (rules, tests)
 
-many_of : (count room : ℕ) (fault : Fault) → room < count → room ≡ limit_number limits.GroundNodes → fault ≡ faults.Refused (limit_refusal limits.GroundNodes) →
+many_of : (count room : ℕ) (fault : Fault) → room < count → room ≡ limit_number limits.GroundNodes → fault ≡ faults.Refused (past limits.GroundNodes) →
     IsRefusedBy (node_refusal count) fault
 many_of count room fault many is refused = search (rules, tests)
 
 pub many_nodes : (count room : ℕ) (halt : Halt) (fault : Fault) → LacksRoom count room halt → halt ≡ halts.Full → room ≡ limit_number limits.GroundNodes →
-    fault ≡ faults.Refused (limit_refusal limits.GroundNodes) → IsRefusedBy (node_refusal count) fault
+    fault ≡ faults.Refused (past limits.GroundNodes) → IsRefusedBy (node_refusal count) fault
 many_nodes count room halt fault lacks full is refused = many_of count room fault (subst (LacksRoom count room) full lacks) is refused

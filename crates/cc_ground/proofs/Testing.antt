@@ -3,13 +3,14 @@ use Rattle.std.proofs.Common.{◌≡◌, ◌∙◌, ℕ, ◌+◌, ◌<◌, ◌�
 use Rattle.std.proofs.lemmas.List.{at_drop_more, at_drop_all}
 use Rattle.std.specs.List.{list_all, list_any}
 use Rattle.cc_defs.specs.Resolved.{Formula}
-use Rattle.cc_defs.specs.Environments.{passes}
+use Rattle.cc_defs.specs.Satisfaction.{Environment, bind}
 use Rattle.cc_defs.specs.Universe.{Universe}
+use Rattle.cc_ground.specs.Views.{passes_in}
 
--- with the object behind the environment
-pub passed_here : (u : Universe) (test : Formula) (env now pushed : List ℕ) (object : ℕ) (passed : Bool) → passed ≡ passes u test pushed → pushed ≡ now ++ object ∷ [] → now ≡ env →
-    passed ≡ passes u test (env ++ object ∷ [])
-passed_here u test env now pushed object passed is push same = is ∙ ap (passes u test) (push ∙ ap (λ (l : List ℕ). l ++ object ∷ []) same)
+-- with the variable bound to the object
+pub passed_here : (u : Universe) (test : Formula) (env now bound : Environment) (variable object : ℕ) (passed : Bool) → passed ≡ passes_in u test bound → bound ≡ bind variable object now → now ≡ env →
+    passed ≡ passes_in u test (bind variable object env)
+passed_here u test env now bound variable object passed is binds same = is ∙ ap (passes_in u test) (binds ∙ ap (bind variable object) same)
 
 pub all_more : (p : ℕ → Bool) (objects : List ℕ) (i : ℕ) (passed : Bool) → i < length objects → passed ≡ p (get_or objects i 0) → passed ≡ true →
     list_all p (drop i objects) ≡ list_all p objects → list_all p (drop (i + 1) objects) ≡ list_all p objects

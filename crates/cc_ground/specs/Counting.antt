@@ -3,12 +3,12 @@ use Rattle.std.specs.Prelude.{ℕ, ◌+◌, nat_lt, if◌then◌else◌, List, [
 use Rattle.cc_defs.specs.declared.refusal.LimitAt.TheVariants as limits
 use Rattle.cc_defs.specs.declared.refusal.Refusal.{Refusal}
 use Rattle.cc_defs.specs.declared.node.Node.{Node}
-use Rattle.cc_defs.specs.DeclarationFaults.{limit_refusal}
 use Rattle.cc_defs.specs.Limits.{limit_number}
+use Rattle.cc_defs.specs.Refusals.{past}
 use Rattle.cc_defs.specs.Resolved.{BaseLaw}
 use Rattle.cc_defs.specs.Resolved as resolved
 use Rattle.cc_defs.specs.Environments.{choices, range_values, pairs_of}
-use Rattle.cc_arena.specs.Grounding.{PlainGroundLaw, PlainGroundCondition, PlainGroundQuery, ground_laws}
+use Rattle.cc_defs.specs.GroundLaws.{PlainGroundLaw, PlainGroundCondition, PlainGroundQuery, ground_laws}
 use Rattle.cc_defs.specs.Universe.{boolean_actions, Universe}
 
 -- lists of values of a law's ranges, or pairs of Boolean actions
@@ -41,10 +41,10 @@ abbrev pub nodes_in_query : PlainGroundQuery → ℕ
 nodes_in_query query = nodes_of_conditions query.conditions + nodes_of_claim query.claim
 
 abbrev pub node_refusal : ℕ → Option Refusal
-node_refusal count = if nat_lt (limit_number limits.GroundNodes) count then Some (limit_refusal limits.GroundNodes) else None
+node_refusal count = if nat_lt (limit_number limits.GroundNodes) count then Some (past limits.GroundNodes) else None
 
 -- the refusal of base laws: too many instances, then too many nodes
 abbrev pub laws_refusal : Universe → List BaseLaw → Option Refusal
 laws_refusal u laws =
-    if nat_lt (limit_number limits.LawInstances) (instances_of_all u laws) then Some (limit_refusal limits.LawInstances)
+    if nat_lt (limit_number limits.LawInstances) (instances_of_all u laws) then Some (past limits.LawInstances)
     else node_refusal (nodes_in (ground_laws u laws))

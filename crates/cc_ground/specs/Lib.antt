@@ -1,3 +1,4 @@
+pub mod Bindings
 pub mod Counting
 pub mod Laws
 pub mod Views

@@ -1,16 +1,14 @@
 -- What a table and a signature are about, and what the makers of terms leave.
-use Rattle.std.specs.Prelude.{◌≡◌, ℕ, ◌+◌, ◌<◌, List, [], ◌∷◌, ◌++◌, length, map, flat_map, ◌==◌, if◌then◌else◌, Option, Some}
+use Rattle.std.specs.Prelude.{◌≡◌, ℕ, Bool, ◌+◌, ◌<◌, List, [], ◌∷◌, ◌++◌, length, map, flat_map, ◌==◌, if◌then◌else◌, Option, Some}
 use Rattle.std.specs.List.{AllByRecursion, filter}
 use Rattle.std.specs.List.Sorted.{IsStrictlySortedBy}
 use Rattle.std.specs.Ordering.{nat_cmp}
 use Rattle.cc_arena.specs.declared.ground_laws.GroundLaw.{GroundLaw}
 use Rattle.cc_defs.specs.declared.law.Range.{Range}
 use Rattle.cc_defs.specs.declared.node.Node.{Node}
-use Rattle.cc_defs.specs.declared.refusal.Fault.{Fault}
-use Rattle.cc_defs.specs.declared.refusal.Fault.TheVariants as faults
-use Rattle.cc_defs.specs.declared.refusal.Refusal.{Refusal}
 use Rattle.cc_defs.specs.Declarations.{Declaration}
-use Rattle.cc_defs.specs.Resolved.{Law}
+use Rattle.cc_defs.specs.Resolved.{BaseLaw, Formula, Law}
+use Rattle.cc_defs.specs.Satisfaction.{Environment, satisfied}
 use Rattle.cc_defs.specs.Signatures.{Signature, none_value}
 use Rattle.cc_sorts.specs.Tables.{TableView, IsTable, IsSignatureOf}
 use Rattle.cc_ground.specs.declared.maker.Halt.{Halt}
@@ -19,9 +17,10 @@ use Rattle.cc_ground.specs.declared.maker.Maker.{Maker}
 use Rattle.cc_ground.specs.declared.sides.Side.{Side as SideKept}
 use Rattle.cc_ground.specs.declared.sides.Side.TheVariants as sides
 use Rattle.cc_ground.specs.Counting.{nodes_in}
-use Rattle.cc_defs.specs.Environments.{choices, passes, range_values}
-use Rattle.cc_arena.specs.Grounding.{PlainGroundLaw, plain_ground_law, instance_of}
-use Rattle.cc_arena.specs.Nodes.{Side, Constant, Value, Absent}
+use Rattle.cc_defs.specs.Environments.{Under, choices, has_instance, instances_from, instances_of, range_values, without_constants}
+use Rattle.cc_defs.specs.GroundLaws.{PlainGroundLaw, law_of_instance}
+use Rattle.cc_arena.specs.GroundViews.{plain_ground_law}
+use Rattle.cc_defs.specs.Nodes.{Side, Constant, Value, Absent}
 use Rattle.cc_defs.specs.Universe.{Universe, constants_in}
 
 -- what a table and a signature are about
@@ -62,7 +61,7 @@ IsSideSearchable other = Unit {0}
 pub record IsLike (old new : Maker) : Type 0 where
   pub table : new.table.now ≡ old.table.now
   pub sig : new.sig.now ≡ old.sig.now
-  pub env : new.env.items ≡ old.env.items
+  pub env : new.env ≡ old.env
 
 -- these nodes were put behind those that are there
 pub record HasPut (nodes : List Node) (old new : Maker) : Type 0 where
@@ -81,12 +80,21 @@ pub record HasMade (laws : List PlainGroundLaw) (was is_now : List GroundLaw) (o
   pub room : new.room + nodes_in laws ≡ old.room
   pub like : IsLike old new
 
--- the instances for all values of the ranges that are left, behind an environment
-abbrev pub instances_behind : Universe → ℕ → Law → List ℕ → List Range → List PlainGroundLaw
-instances_behind u base law env ranges =
-    flat_map (instance_of u base law) (filter (passes u law.test) (map (λ more. env ++ more) (choices (map (range_values u) ranges))))
+-- the ground laws of a law, for those of these lists of values that make an instance
+abbrev pub laws_under : Universe → ℕ → Law → List (List ℕ) → List PlainGroundLaw
+laws_under u base law lists = flat_map (λ values. law_of_instance u (Under base law values)) (filter (has_instance u law) lists)
 
--- exactly this refusal, or memory was wanting
-abbrev pub IsRefusedBy : Option Refusal → Fault → Type 0
-IsRefusedBy refused (faults.Refused refusal) = refused ≡ Some refusal
-IsRefusedBy refused faults.OutOfMemory = Unit {0}
+-- for all values of the ranges that are left, behind these
+abbrev pub laws_behind : Universe → ℕ → Law → List ℕ → List Range → List PlainGroundLaw
+laws_behind u base law values ranges = laws_under u base law (map (λ more. values ++ more) (choices (map (range_values u) ranges)))
+
+-- the ground laws of a base law, and of base laws whose numbers begin with this one
+abbrev pub laws_of : Universe → ℕ → BaseLaw → List PlainGroundLaw
+laws_of u base law = flat_map (law_of_instance u) (instances_of u base law)
+
+abbrev pub laws_from : Universe → ℕ → List BaseLaw → List PlainGroundLaw
+laws_from u base laws = flat_map (law_of_instance u) (instances_from u base laws)
+
+-- the truth of a formula in which no constant has a value
+abbrev pub passes_in : Universe → Formula → Environment → Bool
+passes_in u test env = satisfied (without_constants u) (λ number. 0) env test

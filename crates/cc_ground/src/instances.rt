@@ -1,37 +1,41 @@
 //! The ground laws of base laws.
-ghost use Rattle.std.specs.Prelude.{◌≡◌, ◌+◌, ◌∷◌, [], List as Items, None, Some, length, map, flat_map, IfOk, IfErr, OnOk};
-ghost use Rattle.std.specs.List.{filter};
+ghost use Rattle.std.specs.Prelude.{◌≡◌, ◌+◌, ◌∷◌, [], List as Items, None, Some, length, map, IfOk, IfErr, OnOk};
 ghost use Rattle.std.specs.Option.{option_map};
-ghost use Rattle.cc_defs.specs.DeclarationFaults.{limit_refusal};
-ghost use Rattle.cc_defs.specs.Declarations.{Declaration};
-ghost use Rattle.cc_defs.specs.declared.refusal.Fault.TheVariants as faults;
-ghost use Rattle.cc_defs.specs.Resolved.{plain_base_law, plain_formula, plain_head, plain_law};
-ghost use Rattle.cc_sorts.specs.Tables.{IsTable, IsSignatureOf};
-ghost use Rattle.cc_ground.specs.Counting.{length_of_part, laws_refusal, nodes_in};
-ghost use Rattle.cc_defs.specs.Environments.{passes as is_passed};
-ghost use Rattle.cc_arena.specs.Grounding as words;
+ghost use Rattle.cc_arena.specs.GroundViews.{plain_ground_laws};
 ghost use Rattle.cc_arena.specs.Meanings.{MeanLaws};
-ghost use Rattle.cc_arena.specs.Grounding.{nodes_of, plain_ground_laws};
-ghost use Rattle.cc_defs.specs.Universe.{universe};
-ghost use Rattle.cc_ground.specs.Views.{AreSearchable, HasMade, IsLike, IsRefusedBy, IsSideSearchable, IsSignatureFor, LacksRoom, instances_behind, plain_side, universe_in, universe_of};
+ghost use Rattle.cc_defs.specs.Conditions.{AreGroundLaws};
+ghost use Rattle.cc_defs.specs.Declarations.{Declaration, symbols};
+ghost use Rattle.cc_defs.specs.declared.refusal.Fault.TheVariants as faults;
+ghost use Rattle.cc_defs.specs.Forms.{HaveForms};
+ghost use Rattle.cc_defs.specs.GroundLaws as words;
+ghost use Rattle.cc_defs.specs.Nodes.{nodes_of};
+ghost use Rattle.cc_defs.specs.Refusals.{IsRefusedBy, past as refusal_past};
+ghost use Rattle.cc_defs.specs.Resolved.{plain_base_law, plain_formula, plain_head, plain_law};
+ghost use Rattle.cc_defs.specs.Universe.{boolean_actions, universe};
+ghost use Rattle.cc_sorts.specs.Tables.{IsTable, IsSignatureOf};
+ghost use Rattle.cc_ground.specs.Bindings.{environment_of, no_bindings};
+ghost use Rattle.cc_ground.specs.Counting.{length_of_part, laws_refusal, nodes_in};
+ghost use Rattle.cc_ground.specs.Views.{AreSearchable, HasMade, IsLike, IsSideSearchable, IsSignatureFor, LacksRoom, laws_behind, laws_of, laws_under, plain_side, universe_in, universe_of};
 
 use crate::conditions::passes;
-use crate::counting::count_all;
-use crate::laws::declared_have_own_values;
+use crate::counting::{choice_count, count_all};
+use crate::laws::{
+    declared_have_own_values, declared_have_their_kinds, declared_have_their_values,
+};
 use crate::maker::{Halt, Maker, narrow};
 use crate::pairs::boolean_actions_of;
 use crate::sides::{Side, constant_side, term_side};
 use crate::values::{index_in, values_in_range};
-use cc_arena::laws::ground_laws_mean_laws;
-use cc_arena::{GroundHead, GroundLaw, Laws, Terms};
+use cc_arena::laws::{ground_laws_fit, ground_laws_mean_laws, heads_there_are_ground};
+use cc_arena::{GroundLaw, Laws, Terms};
 use cc_defs::{
-    BaseLaw, BaseLaws, Fault, Formula, Head, Law, LimitAt, Node, OutOfMemory, Range, Refusal, Sig,
+    BaseLaw, BaseLaws, Fault, Formula, GroundHead, Head, Law, LimitAt, Node, OutOfMemory, Range, Refusal, Sig,
 };
 use cc_sorts::Table;
 use std::alloc::Global;
 
 pub(crate) fn past(limit: LimitAt) -> Fault
-    ensures { result ≡ faults.Refused (limit_refusal limit) }
+    ensures { result ≡ faults.Refused (refusal_past limit) }
 {
     Fault::Refused(Refusal {
         number: 14,
@@ -62,7 +66,7 @@ impl<'t> Maker<'t> {
     /// The head of a law under the environment, if there is one.
     fn head(&self, alloc: Global, head: &Head) -> Result<Option<GroundHead>, OutOfMemory>
         requires { AreSearchable (universe_in self.now) }
-        ensures { IfOk result (λ found. found ≡ words.ground_head (universe_in self.now) self.now.env.items (plain_head head.now)) }
+        ensures { IfOk result (λ found. found ≡ words.ground_head (universe_in self.now) (environment_of self.now.env) (plain_head head.now)) }
     {
         let Head::Atom {
             symbol,
@@ -85,10 +89,10 @@ impl<'t> Maker<'t> {
         part: &Option<Formula>,
     ) -> Result<Option<&'a [Node]>, Halt>
         requires { AreSearchable (universe_in self.now) }
-        ensures term { IfOk result (λ term. option_map (λ nodes. nodes.now) term ≡ option_map (λ f. nodes_of (universe_in self.old) self.old.env.items (plain_formula f)) part.now) }
-        ensures room { OnOk result (self.new.room + length_of_part (option_map (λ f. nodes_of (universe_in self.old) self.old.env.items (plain_formula f)) part.now) ≡ self.old.room) }
+        ensures term { IfOk result (λ term. option_map (λ nodes. nodes.now) term ≡ option_map (λ f. nodes_of (universe_in self.old) (environment_of self.old.env) (plain_formula f)) part.now) }
+        ensures room { OnOk result (self.new.room + length_of_part (option_map (λ f. nodes_of (universe_in self.old) (environment_of self.old.env) (plain_formula f)) part.now) ≡ self.old.room) }
         ensures like { OnOk result (IsLike self.old self.new) }
-        ensures full { IfErr result (LacksRoom (length_of_part (option_map (λ f. nodes_of (universe_in self.old) self.old.env.items (plain_formula f)) part.now)) self.old.room) }
+        ensures full { IfErr result (LacksRoom (length_of_part (option_map (λ f. nodes_of (universe_in self.old) (environment_of self.old.env) (plain_formula f)) part.now)) self.old.room) }
     {
         match part {
             Some(formula) => Ok(Some(self.term(alloc, terms, formula)?)),
@@ -107,8 +111,8 @@ impl<'t> Maker<'t> {
         head: GroundHead,
     ) -> Result<(), Halt>
         requires { AreSearchable (universe_in self.now) }
-        ensures made { OnOk result (HasMade (words.law_with (universe_in self.old) base (plain_law law.now) self.old.env.items (Some head)) made.old.items made.new.items self.old self.new) }
-        ensures full { IfErr result (LacksRoom (nodes_in (words.law_with (universe_in self.old) base (plain_law law.now) self.old.env.items (Some head))) self.old.room) }
+        ensures made { OnOk result (HasMade (words.law_with (universe_in self.old) base (plain_law law.now) (environment_of self.old.env) (Some head)) made.old.items made.new.items self.old self.new) }
+        ensures full { IfErr result (LacksRoom (nodes_in (words.law_with (universe_in self.old) base (plain_law law.now) (environment_of self.old.env) (Some head))) self.old.room) }
     {
         let body = self.term(alloc, terms, &law.body)?;
         let after = self.part(alloc, terms, &law.after)?;
@@ -122,7 +126,8 @@ impl<'t> Maker<'t> {
         Ok(())
     }
 
-    /// The instance of a law under the environment, where the law's test is true.
+    /// The instance of a law for these values of its variables, if they make one: where the law's test is true, and its head
+    /// is there.
     fn add_instance<'a>(
         &mut self,
         alloc: Global,
@@ -131,11 +136,12 @@ impl<'t> Maker<'t> {
         base: u32,
         law: &Law,
     ) -> Result<(), Halt>
-        requires { AreSearchable (universe_in self.now) }
-        ensures made { OnOk result (HasMade (flat_map (words.instance_of (universe_in self.old) base (plain_law law.now)) (filter (is_passed (universe_in self.old) (plain_law law.now).test) (self.old.env.items ∷ [])))
-            made.old.items made.new.items self.old self.new) }
-        ensures full { IfErr result (LacksRoom (nodes_in (flat_map (words.instance_of (universe_in self.old) base (plain_law law.now)) (filter (is_passed (universe_in self.old) (plain_law law.now).test) (self.old.env.items ∷ [])))) self.old.room) }
+        requires searchable { AreSearchable (universe_in self.now) }
+        requires unbound { self.now.env.bound ≡ [] }
+        ensures made { OnOk result (HasMade (laws_under (universe_in self.old) base (plain_law law.now) (self.old.env.values ∷ [])) made.old.items made.new.items self.old self.new) }
+        ensures full { IfErr result (LacksRoom (nodes_in (laws_under (universe_in self.old) base (plain_law law.now) (self.old.env.values ∷ []))) self.old.room) }
     {
+        heads_there_are_ground();
         if !passes(self.table, &mut self.env, &law.test)? {
             return Ok(());
         }
@@ -145,7 +151,7 @@ impl<'t> Maker<'t> {
         }
     }
 
-    /// The instances of a law for all values of the ranges that are left, behind the environment.
+    /// The instances of a law for all values of the ranges that are left, behind those that are given.
     fn add_choices<'a>(
         &mut self,
         alloc: Global,
@@ -155,62 +161,82 @@ impl<'t> Maker<'t> {
         law: &Law,
         ranges: &[Range],
     ) -> Result<(), Halt>
-        requires { AreSearchable (universe_in self.now) }
-        ensures made { OnOk result (HasMade (instances_behind (universe_in self.old) base (plain_law law.now) self.old.env.items ranges.now) made.old.items made.new.items self.old self.new) }
-        ensures full { IfErr result (LacksRoom (nodes_in (instances_behind (universe_in self.old) base (plain_law law.now) self.old.env.items ranges.now)) self.old.room) }
+        requires searchable { AreSearchable (universe_in self.now) }
+        requires unbound { self.now.env.bound ≡ [] }
+        ensures made { OnOk result (HasMade (laws_behind (universe_in self.old) base (plain_law law.now) self.old.env.values ranges.now) made.old.items made.new.items self.old self.new) }
+        ensures full { IfErr result (LacksRoom (nodes_in (laws_behind (universe_in self.old) base (plain_law law.now) self.old.env.values ranges.now)) self.old.room) }
     {
         let Some((range, others)) = ranges.split_first() else {
             return self.add_instance(alloc, terms, made, base, law);
         };
         let values = values_in_range(self.table, self.sig, *range);
         for index in 0..values.len() {
-            self.env.push(values.at(index))?;
+            self.env.give(values.at(index))?;
             self.add_choices(alloc, terms, made, base, law, others)?;
-            self.env.pop();
+            self.env.take_back();
         }
         Ok(())
     }
 
-    /// The ground laws of a base law. The environment is empty.
+    /// The instances of a law. Where there is no list of values none is looked for, value by value of the first ranges.
+    fn add_instances<'a>(
+        &mut self,
+        alloc: Global,
+        terms: Terms<'a>,
+        made: &mut Vec<GroundLaw<'a>>,
+        base: u32,
+        law: &Law,
+    ) -> Result<(), Halt>
+        requires searchable { AreSearchable (universe_in self.now) }
+        requires empty { self.now.env ≡ no_bindings }
+        ensures made { OnOk result (HasMade (laws_behind (universe_in self.old) base (plain_law law.now) [] law.now.ranges) made.old.items made.new.items self.old self.new) }
+        ensures full { IfErr result (LacksRoom (nodes_in (laws_behind (universe_in self.old) base (plain_law law.now) [] law.now.ranges)) self.old.room) }
+    {
+        if choice_count(self.table, self.sig, law.ranges.items()) == 0 {
+            return Ok(());
+        }
+        self.add_choices(alloc, terms, made, base, law, law.ranges.items())
+    }
+
+    /// The ground laws of a base law; the actions are the Boolean ones. No variable has a value yet.
     fn add_base_law<'a>(
         &mut self,
         alloc: Global,
         terms: Terms<'a>,
         made: &mut Vec<GroundLaw<'a>>,
         base: u32,
+        actions: &[u32],
         law: &BaseLaw,
     ) -> Result<(), Halt>
         requires searchable { AreSearchable (universe_in self.now) }
-        requires empty { self.now.env.items ≡ [] }
-        ensures made { OnOk result (HasMade (words.ground_laws_of (universe_in self.old) base (plain_base_law law.now)) made.old.items made.new.items self.old self.new) }
-        ensures full { IfErr result (LacksRoom (nodes_in (words.ground_laws_of (universe_in self.old) base (plain_base_law law.now))) self.old.room) }
+        requires empty { self.now.env ≡ no_bindings }
+        requires actions { actions.now ≡ boolean_actions (universe_in self.now) }
+        ensures made { OnOk result (HasMade (laws_of (universe_in self.old) base (plain_base_law law.now)) made.old.items made.new.items self.old self.new) }
+        ensures full { IfErr result (LacksRoom (nodes_in (laws_of (universe_in self.old) base (plain_base_law law.now))) self.old.room) }
     {
         match law {
-            BaseLaw::One(law) => {
-                self.add_choices(alloc, terms, made, base, law, law.ranges.items())
-            }
-            BaseLaw::NoConcurrency { .. } => {
-                let actions = boolean_actions_of(alloc, self.table, self.sig)?;
-                self.add_pairs(terms, made, base, &actions)
-            }
+            BaseLaw::One(law) => self.add_instances(alloc, terms, made, base, law),
+            BaseLaw::NoConcurrency { .. } => self.add_pairs(terms, made, base, actions),
         }
     }
 
-    /// The ground laws of base laws, in order.
+    /// The ground laws of base laws, in order; the actions are the Boolean ones.
     fn add_all<'a>(
         &mut self,
         alloc: Global,
         terms: Terms<'a>,
         made: &mut Vec<GroundLaw<'a>>,
+        actions: &[u32],
         laws: &[BaseLaw],
     ) -> Result<(), Halt>
         requires searchable { AreSearchable (universe_in self.now) }
-        requires empty { self.now.env.items ≡ [] }
+        requires empty { self.now.env ≡ no_bindings }
+        requires actions { actions.now ≡ boolean_actions (universe_in self.now) }
         ensures made { OnOk result (HasMade (words.ground_laws (universe_in self.old) (map plain_base_law laws.now)) made.old.items made.new.items self.old self.new) }
         ensures full { IfErr result (LacksRoom (nodes_in (words.ground_laws (universe_in self.old) (map plain_base_law laws.now))) self.old.room) }
     {
         for (base, law) in laws.iter().enumerate() {
-            self.add_base_law(alloc, terms, made, narrow(base)?, law)?;
+            self.add_base_law(alloc, terms, made, narrow(base)?, actions, law)?;
         }
         Ok(())
     }
@@ -229,22 +255,24 @@ fn ground_laws<'a>(
     ensures unrefused { OnOk result (laws_refusal (universe_of table.now sig.now) (map plain_base_law laws.now) ≡ None) }
     ensures refused { IfErr result (IsRefusedBy (laws_refusal (universe_of table.now sig.now) (map plain_base_law laws.now))) }
 {
-    if count_all(alloc, table, sig, laws.items())? > LimitAt::LawInstances.number() as usize {
+    let actions = boolean_actions_of(alloc, table, sig)?;
+    if count_all(table, sig, &actions, laws.items()) > LimitAt::LawInstances.number() as usize {
         return Err(past(LimitAt::LawInstances));
     }
     let mut made = Vec::new(alloc);
     let mut maker = Maker::new(alloc, table, sig, LimitAt::GroundNodes.number() as usize);
-    match maker.add_all(alloc, *terms, &mut made, laws.items()) {
+    match maker.add_all(alloc, *terms, &mut made, &actions, laws.items()) {
         Ok(()) => Ok(Laws::of(made)),
         Err(Halt::Full) => Err(past(LimitAt::GroundNodes)),
         Err(Halt::OutOfMemory) => Err(Fault::OutOfMemory),
     }
 }
 
-/// The ground laws of base laws: for each base law in order, and each environment of it in order, the law's instance. An
-/// environment is a list of a value for each range of the law, for which the law's test is true; the values of a sort are the
-/// objects of it and of those below it in declared order, and earlier variables change slowest. `noconcurrency` has a law for
-/// each two Boolean actions. Each part of an instance is true exactly where that of its law is satisfied under the environment.
+/// The ground laws of base laws: for each base law in order, and each instance of it in order, the instance's law. A causal law
+/// has an instance for each list of a value for each range of it for which its test is true and its head is there; the values
+/// of a sort are the objects of it and of those below it in declared order, and earlier variables change slowest.
+/// `noconcurrency` has one for each two Boolean actions. Each part of a ground law is true exactly where that of its base law
+/// is satisfied. Laws of base laws that have the forms of their kinds have these forms too.
 /// Terms are placed in the arena; none is longer than what is left of the limit of ground nodes.
 /// Refuses more than 1,000,000 lists of values before the tests (14, law instances), then more than 16,000,000 nodes (14,
 /// ground nodes).
@@ -264,8 +292,13 @@ pub fn ground<'a>(
         IfErr result (IsRefusedBy (laws_refusal (universe declarations) (map plain_base_law laws.now))) }
     ensures meant { (declarations : Items Declaration) → IsTable table.now declarations → IsSignatureOf declarations sig.now →
         IfOk result (λ made. MeanLaws (universe declarations) (map plain_base_law laws.now) (plain_ground_laws made)) }
+    ensures fits { (declarations : Items Declaration) → IsTable table.now declarations → IsSignatureOf declarations sig.now → HaveForms (symbols declarations) (map plain_base_law laws.now) →
+        IfOk result (λ made. AreGroundLaws (universe declarations) (plain_ground_laws made)) }
 {
     declared_have_own_values();
+    declared_have_their_kinds();
+    declared_have_their_values();
     ground_laws_mean_laws();
+    ground_laws_fit();
     ground_laws(alloc, table, sig, laws, terms)
 }

@@ -3,6 +3,7 @@
 //! `laws` that the two agree.
 #![tactic(auto)]
 
+mod bindings;
 mod conditions;
 mod counting;
 mod instances;

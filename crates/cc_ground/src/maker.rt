@@ -1,14 +1,17 @@
 //! Makes the nodes of terms, in one list that grows.
-ghost use Rattle.std.specs.Prelude.{◌≡◌, ◌∷◌, ◌++◌, ◌+◌, ◌<◌, [], ℕ, length, position, nat_eq, OnOk, IfErr, IfOk};
-ghost use Rattle.cc_arena.specs.Terms.{postfix, postfixes, operand_count, nothing};
-ghost use Rattle.cc_arena.specs.Terms as terms;
+ghost use Rattle.std.specs.Prelude.{◌≡◌, ◌∷◌, ◌++◌, ◌+◌, ◌<◌, [], ℕ, length, map, position, nat_eq, OnOk, IfErr, IfOk};
+ghost use Rattle.cc_defs.specs.Terms.{all_of, postfix, postfixes, operand_count, operands_behind, nothing};
+ghost use Rattle.cc_defs.specs.Terms as terms;
 ghost use Rattle.cc_defs.specs.Resolved.{plain_formula, plain_term};
 ghost use Rattle.cc_defs.specs.Resolved as resolved;
-ghost use Rattle.cc_arena.specs.Grounding.{nodes_of};
-ghost use Rattle.cc_arena.specs.Nodes as words;
+ghost use Rattle.cc_defs.specs.Nodes.{nodes_of};
+ghost use Rattle.cc_defs.specs.Nodes as words;
 ghost use Rattle.cc_defs.specs.Universe.{objects_of as objects_in};
+ghost use Rattle.cc_defs.specs.Satisfaction.{bind};
+ghost use Rattle.cc_ground.specs.Bindings.{environment_of, no_bindings};
 ghost use Rattle.cc_ground.specs.Views.{AreSearchable, HasPut, IsLike, IsSearchable, IsSideSearchable, LacksRoom, plain_side, universe_in};
 
+use crate::bindings::Bindings;
 use crate::sides::{Side, term_side};
 use crate::values::{index_in, objects_of};
 use cc_arena::Terms;
@@ -58,8 +61,8 @@ pub(crate) fn narrow(number: usize) -> Result<u32, OutOfMemory>
 pub(crate) struct Maker<'t> {
     pub(crate) table: &'t Table,
     pub(crate) sig: &'t Sig,
-    /// The values of the variables, by number.
-    pub(crate) env: Vec<u32>,
+    /// What the variables stand for.
+    pub(crate) env: Bindings,
     /// The nodes of the term that is being made.
     pub(crate) nodes: Vec<Node>,
     /// How many nodes may still be made.
@@ -71,14 +74,14 @@ impl<'t> Maker<'t> {
     pub(crate) fn new(alloc: Global, table: &'t Table, sig: &'t Sig, room: usize) -> Maker<'t>
         ensures table { result.table.now ≡ table.now }
         ensures sig { result.sig.now ≡ sig.now }
-        ensures env { result.env.items ≡ [] }
+        ensures env { result.env ≡ no_bindings }
         ensures nodes { result.nodes.items ≡ [] }
         ensures room { result.room ≡ room }
     {
         Maker {
             table,
             sig,
-            env: Vec::new(alloc),
+            env: Bindings::new(alloc),
             nodes: Vec::new(alloc),
             room,
         }
@@ -119,7 +122,7 @@ impl<'t> Maker<'t> {
         other: u32,
         place: u32,
     ) -> Result<(), Halt>
-        ensures put { OnOk result (HasPut (postfix (terms.All (words.two (terms.Atom constant value) (terms.Atom other place)))) self.old self.new) }
+        ensures put { OnOk result (HasPut (postfix (all_of (terms.Atom constant value ∷ terms.Atom other place ∷ []))) self.old self.new) }
         ensures full { IfErr result (LacksRoom 3 self.old.room) }
     {
         self.push(Node::Atom { constant, value })?;
@@ -139,9 +142,9 @@ impl<'t> Maker<'t> {
         others: &[u32],
     ) -> Result<u32, Halt>
         requires { IsSearchable others.now }
-        ensures put { OnOk result (HasPut (postfixes (words.commons nothing constant 0 values.now other others.now)) self.old self.new) }
-        ensures count { IfOk result (λ count. count ≡ operand_count (words.commons nothing constant 0 values.now other others.now)) }
-        ensures full { IfErr result (LacksRoom (length (postfixes (words.commons nothing constant 0 values.now other others.now))) self.old.room) }
+        ensures put { OnOk result (HasPut (postfixes (operands_behind nothing (words.common_values constant 0 values.now other others.now))) self.old self.new) }
+        ensures count { IfOk result (λ count. count ≡ operand_count (operands_behind nothing (words.common_values constant 0 values.now other others.now))) }
+        ensures full { IfErr result (LacksRoom (length (postfixes (operands_behind nothing (words.common_values constant 0 values.now other others.now)))) self.old.room) }
     {
         let mut count: usize = 0;
         for (index, value) in values.iter().enumerate() {
@@ -199,8 +202,8 @@ impl<'t> Maker<'t> {
 
     fn put_equation(&mut self, alloc: Global, left: &Term, right: &Term) -> Result<(), Halt>
         requires { AreSearchable (universe_in self.now) }
-        ensures put { OnOk result (HasPut (nodes_of (universe_in self.old) self.old.env.items (resolved.Equal (plain_term left.now) (plain_term right.now))) self.old self.new) }
-        ensures full { IfErr result (LacksRoom (length (nodes_of (universe_in self.old) self.old.env.items (resolved.Equal (plain_term left.now) (plain_term right.now)))) self.old.room) }
+        ensures put { OnOk result (HasPut (nodes_of (universe_in self.old) (environment_of self.old.env) (resolved.Equal (plain_term left.now) (plain_term right.now))) self.old self.new) }
+        ensures full { IfErr result (LacksRoom (length (nodes_of (universe_in self.old) (environment_of self.old.env) (resolved.Equal (plain_term left.now) (plain_term right.now)))) self.old.room) }
     {
         let left = term_side(alloc, self.sig, &self.env, left)?;
         let right = term_side(alloc, self.sig, &self.env, right)?;
@@ -209,17 +212,23 @@ impl<'t> Maker<'t> {
 
     /// The instances of a formula, one for each object of a sort. Answers how many there are.
     #[cycle(formula)]
-    fn put_instances(&mut self, alloc: Global, sort: u32, formula: &Formula) -> Result<u32, Halt>
+    fn put_instances(
+        &mut self,
+        alloc: Global,
+        variable: u32,
+        sort: u32,
+        formula: &Formula,
+    ) -> Result<u32, Halt>
         requires { AreSearchable (universe_in self.now) }
-        ensures put { OnOk result (HasPut (postfixes (words.instances (λ object. words.term_of (universe_in self.old) (self.old.env.items ++ object ∷ []) (plain_formula formula.now)) nothing (objects_in (universe_in self.old) sort))) self.old self.new) }
+        ensures put { OnOk result (HasPut (postfixes (operands_behind nothing (map (λ object. words.term_of (universe_in self.old) (bind variable object (environment_of self.old.env)) (plain_formula formula.now)) (objects_in (universe_in self.old) sort)))) self.old self.new) }
         ensures count { IfOk result (λ count. count ≡ length (objects_in (universe_in self.old) sort)) }
-        ensures full { IfErr result (LacksRoom (length (postfixes (words.instances (λ object. words.term_of (universe_in self.old) (self.old.env.items ++ object ∷ []) (plain_formula formula.now)) nothing (objects_in (universe_in self.old) sort)))) self.old.room) }
+        ensures full { IfErr result (LacksRoom (length (postfixes (operands_behind nothing (map (λ object. words.term_of (universe_in self.old) (bind variable object (environment_of self.old.env)) (plain_formula formula.now)) (objects_in (universe_in self.old) sort))))) self.old.room) }
     {
         let objects = objects_of(self.table, sort);
         for object in objects {
-            self.env.push(*object)?;
+            self.env.bind(variable, *object)?;
             self.put(alloc, formula)?;
-            self.env.pop();
+            self.env.unbind();
         }
         Ok(narrow(objects.len())?)
     }
@@ -228,8 +237,8 @@ impl<'t> Maker<'t> {
     #[cycle(formula)]
     pub(crate) fn put(&mut self, alloc: Global, formula: &Formula) -> Result<(), Halt>
         requires { AreSearchable (universe_in self.now) }
-        ensures put { OnOk result (HasPut (nodes_of (universe_in self.old) self.old.env.items (plain_formula formula.now)) self.old self.new) }
-        ensures full { IfErr result (LacksRoom (length (nodes_of (universe_in self.old) self.old.env.items (plain_formula formula.now))) self.old.room) }
+        ensures put { OnOk result (HasPut (nodes_of (universe_in self.old) (environment_of self.old.env) (plain_formula formula.now)) self.old self.new) }
+        ensures full { IfErr result (LacksRoom (length (nodes_of (universe_in self.old) (environment_of self.old.env) (plain_formula formula.now))) self.old.room) }
     {
         match formula {
             Formula::True => self.push(Node::True),
@@ -260,12 +269,12 @@ impl<'t> Maker<'t> {
                 self.put(alloc, right)?;
                 self.push(Node::Same)
             }
-            Formula::ForAll(_, sort, inner) => {
-                let count = self.put_instances(alloc, *sort, inner)?;
+            Formula::ForAll(variable, sort, inner) => {
+                let count = self.put_instances(alloc, *variable, *sort, inner)?;
                 self.push(Node::All(count))
             }
-            Formula::Exists(_, sort, inner) => {
-                let count = self.put_instances(alloc, *sort, inner)?;
+            Formula::Exists(variable, sort, inner) => {
+                let count = self.put_instances(alloc, *variable, *sort, inner)?;
                 self.push(Node::Any(count))
             }
         }
@@ -279,10 +288,10 @@ impl<'t> Maker<'t> {
         formula: &Formula,
     ) -> Result<&'a [Node], Halt>
         requires { AreSearchable (universe_in self.now) }
-        ensures term { IfOk result (λ term. term.now ≡ nodes_of (universe_in self.old) self.old.env.items (plain_formula formula.now)) }
-        ensures room { OnOk result (self.new.room + length (nodes_of (universe_in self.old) self.old.env.items (plain_formula formula.now)) ≡ self.old.room) }
+        ensures term { IfOk result (λ term. term.now ≡ nodes_of (universe_in self.old) (environment_of self.old.env) (plain_formula formula.now)) }
+        ensures room { OnOk result (self.new.room + length (nodes_of (universe_in self.old) (environment_of self.old.env) (plain_formula formula.now)) ≡ self.old.room) }
         ensures like { OnOk result (IsLike self.old self.new) }
-        ensures full { IfErr result (LacksRoom (length (nodes_of (universe_in self.old) self.old.env.items (plain_formula formula.now))) self.old.room) }
+        ensures full { IfErr result (LacksRoom (length (nodes_of (universe_in self.old) (environment_of self.old.env) (plain_formula formula.now))) self.old.room) }
     {
         self.nodes.clear();
         self.put(alloc, formula)?;

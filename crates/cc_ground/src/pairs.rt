@@ -2,14 +2,14 @@
 ghost use Rattle.std.specs.Prelude.{◌≡◌, ◌∷◌, [], length, map, slice_get, IfOk, IfErr, OnOk};
 ghost use Rattle.cc_defs.specs.Signatures.{Signature, ground_constants};
 ghost use Rattle.cc_ground.specs.Counting.{nodes_in};
-ghost use Rattle.cc_arena.specs.Grounding.{pair_law};
+ghost use Rattle.cc_defs.specs.GroundLaws.{pair_law};
 ghost use Rattle.cc_defs.specs.Environments.{pairs_of};
 ghost use Rattle.cc_defs.specs.Universe.{boolean_actions, is_boolean_action as is_boolean, is_boolean_symbol as is_boolean_kind};
 ghost use Rattle.cc_ground.specs.Views.{universe_of, HasMade, LacksRoom};
 
 use crate::maker::{Halt, Maker, narrow};
-use cc_arena::{GroundHead, GroundLaw, Terms};
-use cc_defs::{Const, Kind, LawKind, Node, OutOfMemory, Sig};
+use cc_arena::{GroundLaw, Terms};
+use cc_defs::{Const, GroundHead, Kind, LawKind, Node, OutOfMemory, Sig};
 use cc_sorts::Table;
 use std::alloc::Global;
 

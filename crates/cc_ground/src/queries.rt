@@ -4,19 +4,22 @@ ghost use Rattle.std.specs.Option.{option_map};
 ghost use Rattle.cc_defs.specs.Declarations.{Declaration};
 ghost use Rattle.cc_defs.specs.Resolved.{plain_condition, plain_query};
 ghost use Rattle.cc_sorts.specs.Tables.{IsTable, IsSignatureOf};
+ghost use Rattle.cc_defs.specs.Conditions.{IsGroundQuery};
+ghost use Rattle.cc_defs.specs.Refusals.{IsRefusedBy};
+ghost use Rattle.cc_ground.specs.Bindings.{no_bindings};
 ghost use Rattle.cc_ground.specs.Counting.{node_refusal, nodes_in_query, nodes_of_claim, nodes_of_conditions};
-ghost use Rattle.cc_arena.specs.Grounding as words;
+ghost use Rattle.cc_defs.specs.GroundLaws as words;
 ghost use Rattle.cc_arena.specs.Meanings.{MeansQuery};
 ghost use Rattle.cc_defs.specs.Universe.{universe};
-ghost use Rattle.cc_arena.specs.Grounding.{plain_ground_condition, plain_ground_query};
-ghost use Rattle.cc_ground.specs.Views.{AreSearchable, IsLike, IsRefusedBy, IsSignatureFor, LacksRoom, universe_in, universe_of};
+ghost use Rattle.cc_arena.specs.GroundViews.{plain_ground_condition, plain_ground_query};
+ghost use Rattle.cc_ground.specs.Views.{AreSearchable, IsLike, IsSignatureFor, LacksRoom, universe_in, universe_of};
 
 use crate::instances::past;
 use crate::laws::declared_have_own_values;
 use crate::maker::{Halt, Maker};
-use cc_arena::laws::ground_queries_mean_queries;
-use cc_arena::{GroundCondition, GroundConditions, GroundQuery, Terms};
-use cc_defs::{Condition, Fault, LimitAt, Query, Sig};
+use cc_arena::laws::{ground_queries_fit, ground_queries_mean_queries};
+use cc_arena::{GroundCondition, GroundQuery, Terms};
+use cc_defs::{Condition, Fault, LimitAt, List, Query, Sig};
 use cc_sorts::Table;
 use std::alloc::Global;
 
@@ -29,7 +32,7 @@ impl<'t> Maker<'t> {
         condition: &Condition,
     ) -> Result<GroundCondition<'a>, Halt>
         requires searchable { AreSearchable (universe_in self.now) }
-        requires empty { self.now.env.items ≡ [] }
+        requires empty { self.now.env ≡ no_bindings }
         ensures made { IfOk result (λ made. plain_ground_condition made ≡ words.ground_condition (universe_in self.old) (plain_condition condition.now)) }
         ensures room { OnOk result (self.new.room + length (words.ground_condition (universe_in self.old) (plain_condition condition.now)).nodes ≡ self.old.room) }
         ensures like { OnOk result (IsLike self.old self.new) }
@@ -49,7 +52,7 @@ impl<'t> Maker<'t> {
         conditions: &[Condition],
     ) -> Result<Vec<GroundCondition<'a>>, Halt>
         requires searchable { AreSearchable (universe_in self.now) }
-        requires empty { self.now.env.items ≡ [] }
+        requires empty { self.now.env ≡ no_bindings }
         ensures made { IfOk result (λ made. map plain_ground_condition made.items ≡ map (words.ground_condition (universe_in self.old)) (map plain_condition conditions.now)) }
         ensures room { OnOk result (self.new.room + nodes_of_conditions (map (words.ground_condition (universe_in self.old)) (map plain_condition conditions.now)) ≡ self.old.room) }
         ensures like { OnOk result (IsLike self.old self.new) }
@@ -70,7 +73,7 @@ impl<'t> Maker<'t> {
         claim: &Option<Condition>,
     ) -> Result<Option<GroundCondition<'a>>, Halt>
         requires searchable { AreSearchable (universe_in self.now) }
-        requires empty { self.now.env.items ≡ [] }
+        requires empty { self.now.env ≡ no_bindings }
         ensures made { IfOk result (λ made. option_map plain_ground_condition made ≡ option_map (words.ground_condition (universe_in self.old)) (option_map plain_condition claim.now)) }
         ensures full { IfErr result (LacksRoom (nodes_of_claim (option_map (words.ground_condition (universe_in self.old)) (option_map plain_condition claim.now))) self.old.room) }
         ensures within { OnOk result (nodes_of_claim (option_map (words.ground_condition (universe_in self.old)) (option_map plain_condition claim.now)) ≤ self.old.room) }
@@ -90,7 +93,7 @@ impl<'t> Maker<'t> {
         query: &Query,
     ) -> Result<GroundQuery<'a>, Halt>
         requires searchable { AreSearchable (universe_in self.now) }
-        requires empty { self.now.env.items ≡ [] }
+        requires empty { self.now.env ≡ no_bindings }
         ensures made { IfOk result (λ made. plain_ground_query made ≡ words.ground_query (universe_in self.old) range (plain_query query.now)) }
         ensures within { OnOk result (nodes_in_query (words.ground_query (universe_in self.old) range (plain_query query.now)) ≤ self.old.room) }
         ensures full { IfErr result (LacksRoom (nodes_in_query (words.ground_query (universe_in self.old) range (plain_query query.now))) self.old.room) }
@@ -100,7 +103,7 @@ impl<'t> Maker<'t> {
         Ok(GroundQuery {
             lo: range.0,
             hi: range.1,
-            conditions: GroundConditions::of(conditions),
+            conditions: List::of(conditions),
             claim,
         })
     }
@@ -126,9 +129,12 @@ pub fn ground_query<'a>(
         IfErr result (IsRefusedBy (node_refusal (nodes_in_query (words.ground_query (universe declarations) range (plain_query query.now))))) }
     ensures meant { (declarations : Items Declaration) (range : ℕ × ℕ) → IsTable table.now declarations → IsSignatureOf declarations sig.now → query.now.range ≡ Some range →
         IfOk result (λ made. MeansQuery (universe declarations) (plain_query query.now) (plain_ground_query made)) }
+    ensures fits { (declarations : Items Declaration) (range : ℕ × ℕ) → IsTable table.now declarations → IsSignatureOf declarations sig.now → query.now.range ≡ Some range →
+        IfOk result (λ made. IsGroundQuery (universe declarations) (plain_ground_query made)) }
 {
     declared_have_own_values();
     ground_queries_mean_queries();
+    ground_queries_fit();
     let range = query.range.unwrap_or((0, 0));
     let mut maker = Maker::new(alloc, table, sig, LimitAt::GroundNodes.number() as usize);
     match maker.query(alloc, *terms, range, query) {

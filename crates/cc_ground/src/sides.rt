@@ -1,13 +1,15 @@
 //! Terms under an environment, and the sides of equations.
-ghost use Rattle.std.specs.Prelude.{◌≡◌, IfOk, length, map, nat_lt, option_map, slice_get};
+ghost use Rattle.std.specs.Prelude.{◌≡◌, IfOk, length, map, nat_lt, option_map};
 ghost use Rattle.cc_defs.specs.Signatures.{ground_constants};
 ghost use Rattle.cc_defs.specs.Resolved.{plain_term, terms_of};
 ghost use Rattle.cc_defs.specs.Resolved as resolved;
-ghost use Rattle.cc_arena.specs.Nodes.{side as side_of, numbered_side as numbered};
+ghost use Rattle.cc_defs.specs.Nodes.{side as side_of, numbered_side as numbered};
 ghost use Rattle.cc_sorts.specs.Tables.{TableView};
 ghost use Rattle.cc_defs.specs.Satisfaction as words;
+ghost use Rattle.cc_ground.specs.Bindings.{environment_of};
 ghost use Rattle.cc_ground.specs.Views.{universe_of, plain_side};
 
+use crate::bindings::Bindings;
 use crate::values::NONE;
 use cc_defs::{OutOfMemory, Sig, Term};
 use cc_sorts::Table;
@@ -24,27 +26,20 @@ pub(crate) enum Side<'t> {
     Absent,
 }
 
-/// The value of a variable.
-pub(crate) fn value_of(env: &[u32], variable: u32) -> Option<u32>
-    ensures { result ≡ slice_get env.now variable }
-{
-    env.get(variable as usize).copied()
-}
-
 /// The object that an argument stands for.
-fn argument(env: &[u32], term: &Term) -> Option<u32>
-    ensures { result ≡ words.argument env.now (plain_term term.now) }
+fn argument(env: &Bindings, term: &Term) -> Option<u32>
+    ensures { result ≡ words.argument (environment_of env.now) (plain_term term.now) }
 {
     match term {
         Term::Object(object) => Some(*object),
-        Term::Variable(variable) => value_of(env, *variable),
+        Term::Variable(variable) => env.value(*variable),
         Term::Constant { .. } | Term::Nothing => None,
     }
 }
 
 /// The objects that arguments stand for, where all of them stand for one.
-fn arguments(alloc: Global, env: &[u32], terms: &[Term]) -> Result<Option<Vec<u32>>, OutOfMemory>
-    ensures { IfOk result (λ found. option_map (λ args. args.items) found ≡ words.arguments env.now (terms_of (map plain_term terms.now))) }
+fn arguments(alloc: Global, env: &Bindings, terms: &[Term]) -> Result<Option<Vec<u32>>, OutOfMemory>
+    ensures { IfOk result (λ found. option_map (λ args. args.items) found ≡ words.arguments (environment_of env.now) (terms_of (map plain_term terms.now))) }
 {
     let mut args = Vec::with_capacity(alloc, terms.len())?;
     for term in terms {
@@ -60,11 +55,11 @@ fn arguments(alloc: Global, env: &[u32], terms: &[Term]) -> Result<Option<Vec<u3
 fn constant_meant(
     alloc: Global,
     sig: &Sig,
-    env: &[u32],
+    env: &Bindings,
     symbol: u32,
     terms: &[Term],
 ) -> Result<Option<u32>, OutOfMemory>
-    ensures { (table : TableView) → IfOk result (λ found. found ≡ words.constant_meant (universe_of table sig.now) env.now symbol (terms_of (map plain_term terms.now))) }
+    ensures { (table : TableView) → IfOk result (λ found. found ≡ words.constant_meant (universe_of table sig.now) (environment_of env.now) symbol (terms_of (map plain_term terms.now))) }
 {
     match arguments(alloc, env, terms)? {
         Some(args) => Ok(sig.ground_number(symbol, &args)),
@@ -96,11 +91,11 @@ fn numbered_side<'t>(sig: &'t Sig, found: Option<u32>) -> Side<'t>
 pub(crate) fn constant_side<'t>(
     alloc: Global,
     sig: &'t Sig,
-    env: &[u32],
+    env: &Bindings,
     symbol: u32,
     terms: &[Term],
 ) -> Result<Side<'t>, OutOfMemory>
-    ensures { (table : TableView) → IfOk result (λ side. plain_side side ≡ side_of (universe_of table sig.now) env.now (resolved.Constant symbol (terms_of (map plain_term terms.now)))) }
+    ensures { (table : TableView) → IfOk result (λ side. plain_side side ≡ side_of (universe_of table sig.now) (environment_of env.now) (resolved.Constant symbol (terms_of (map plain_term terms.now)))) }
 {
     Ok(numbered_side(sig, constant_meant(alloc, sig, env, symbol, terms)?))
 }
@@ -109,15 +104,15 @@ pub(crate) fn constant_side<'t>(
 pub(crate) fn term_side<'t>(
     alloc: Global,
     sig: &'t Sig,
-    env: &[u32],
+    env: &Bindings,
     term: &Term,
 ) -> Result<Side<'t>, OutOfMemory>
-    ensures { (table : TableView) → IfOk result (λ side. plain_side side ≡ side_of (universe_of table sig.now) env.now (plain_term term.now)) }
+    ensures { (table : TableView) → IfOk result (λ side. plain_side side ≡ side_of (universe_of table sig.now) (environment_of env.now) (plain_term term.now)) }
 {
     match term {
         Term::Constant { symbol, args } => constant_side(alloc, sig, env, *symbol, args),
         Term::Object(object) => Ok(Side::Value(*object)),
-        Term::Variable(variable) => Ok(match value_of(env, *variable) {
+        Term::Variable(variable) => Ok(match env.value(*variable) {
             Some(value) => Side::Value(value),
             None => Side::Absent,
         }),

@@ -1,10 +1,11 @@
 use Rattle.std.proofs.Common.{◌≡◌, ◌∙◌, subst, sym}
 use Rattle.cc_defs.specs.Resolved.{plain_query}
 use Rattle.cc_ground.specs.Counting.{node_refusal, nodes_in_query}
-use Rattle.cc_arena.specs.Grounding.{PlainGroundQuery}
+use Rattle.cc_defs.specs.GroundLaws.{PlainGroundQuery}
 use Rattle.cc_arena.specs.Meanings.{MeansQuery}
+use Rattle.cc_defs.specs.Conditions.{IsGroundQuery}
 use Rattle.cc_defs.specs.Universe.{universe}
-use Rattle.cc_ground.specs.Views.{IsRefusedBy}
+use Rattle.cc_defs.specs.Refusals.{IsRefusedBy}
 use Rattle.std.specs.Prelude.{None}
 use Rattle.cc_ground.proofs.FromDeclarations.{maker_searchable}
 use Rattle.cc_ground.proofs.Querying.{asked_is, few_nodes, many_nodes}
@@ -42,3 +43,12 @@ returns-in-Ok-clause-meant c = λ declarations range is of e.
     ∙ asked_is c.new-maker.result c.args.table.now c.args.sig.now declarations c.args.query.now.range c.unwrap_or-range.result range query
     c.new-maker.ensures.table c.new-maker.ensures.sig is of c.unwrap_or-range.ensures e))
     (c.ground_queries_mean_queries.ensures (universe declarations) (c.declared_have_own_values.ensures declarations of.2) range query)
+
+pub returns-in-Ok-clause-fits : goal.returns-in-Ok-clause-fits
+returns-in-Ok-clause-fits c = λ declarations range is of e.
+    let query = plain_query c.args.query.now in
+    subst (IsGroundQuery (universe declarations))
+    (sym (c.in-Ok.ensures.made
+    ∙ asked_is c.new-maker.result c.args.table.now c.args.sig.now declarations c.args.query.now.range c.unwrap_or-range.result range query
+    c.new-maker.ensures.table c.new-maker.ensures.sig is of c.unwrap_or-range.ensures e))
+    (c.ground_queries_fit.ensures (universe declarations) range query)

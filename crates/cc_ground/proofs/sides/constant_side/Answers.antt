@@ -1,5 +1,5 @@
 use Rattle.std.proofs.Common.{◌∙◌, ap}
-use Rattle.cc_arena.specs.Nodes.{numbered_side as numbered}
+use Rattle.cc_defs.specs.Nodes.{numbered_side as numbered}
 use Rattle.cc_ground.specs.Views.{universe_of}
 use Rattle.cc_ground.proofs.sides.constant_side.Goals as goal
 

@@ -1,4 +1,4 @@
-use Rattle.cc_ground.proofs.Choosing.{laws_lack, laws_more}
+use Rattle.cc_ground.proofs.Choosing.{laws_lack, laws_more, same_actions}
 use Rattle.cc_ground.proofs.Putting.{lacks_so}
 use Rattle.cc_ground.proofs.maker.Maker.add_all.Goals as goal
 
@@ -13,3 +13,6 @@ pub loop-base-preserved : goal.loop-base-preserved
 loop-base-preserved c =
     laws_more c.args.laws.now c.index-laws-base.result c.in_ok-narrow.field-0 c.loop-base.base c.loop-base.invariant c.loop-base-test.true c.index-laws-base.is c.in_ok-narrow.ensures
     c.in_ok-add_base_law.ensures.made
+
+pub add_base_law-requires-clause-actions : goal.add_base_law-requires-clause-actions
+add_base_law-requires-clause-actions c = same_actions _ _ _ c.requires.actions c.loop-base.invariant.like

@@ -1,5 +1,5 @@
 use Rattle.std.proofs.Common.{map}
-use Rattle.cc_arena.specs.Grounding.{pair_law}
+use Rattle.cc_defs.specs.GroundLaws.{pair_law}
 use Rattle.cc_defs.specs.Environments.{pairs_of}
 use Rattle.cc_ground.proofs.Making.{first_pairs, made_lacks, made_more}
 use Rattle.cc_ground.proofs.Putting.{lacks_so}

@@ -1,5 +1,5 @@
 use Rattle.std.proofs.Common.{length, map}
-use Rattle.cc_arena.specs.Grounding.{pair_law}
+use Rattle.cc_defs.specs.GroundLaws.{pair_law}
 use Rattle.cc_defs.specs.Environments.{pairs_of}
 use Rattle.cc_ground.proofs.Making.{MadeSoFar}
 use Rattle.cc_ground.proofs.maker.Maker.add_pairs.Given as goal
