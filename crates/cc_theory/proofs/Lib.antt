@@ -1,0 +1,3 @@
+mod Cases
+mod Lists
+mod Supported

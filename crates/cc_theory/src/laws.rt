@@ -1,14 +1,17 @@
 //! Laws of models, each the contract of a function that does nothing, or calls the laws that it rests on.
 ghost use Rattle.cc_theory.specs.Laws.{ModelsArePaths, ModelsMeetCompletion};
 
-use cc_arena::laws::{ground_laws_mean_laws, terms_mean_formulas};
+use cc_arena::laws::{heads_mean_heads, heads_there_are_ground, terms_mean_formulas};
+use cc_arena::one_formula;
 
 /// The completion theorem: a row is a model of a horizon exactly where it meets the completion of its rules.
 pub fn models_meet_completion()
     ensures { ModelsMeetCompletion }
 {
     terms_mean_formulas();
-    ground_laws_mean_laws();
+    one_formula();
+    heads_mean_heads();
+    heads_there_are_ground();
 }
 
 /// The path theorem: the models of a horizon are exactly the paths.
@@ -16,5 +19,7 @@ pub fn models_are_paths()
     ensures { ModelsArePaths }
 {
     terms_mean_formulas();
-    ground_laws_mean_laws();
+    one_formula();
+    heads_mean_heads();
+    heads_there_are_ground();
 }
