@@ -1,3 +1,5 @@
 mod Cases
 mod Lists
+mod Places
+mod Same
 mod Supported
