@@ -1,5 +1,7 @@
 mod Cases
 mod Lists
+mod Members
 mod Places
 mod Same
 mod Supported
+mod Theorems

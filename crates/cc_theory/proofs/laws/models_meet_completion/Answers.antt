@@ -1,7 +1,10 @@
-use Rattle.cc_theory.proofs.Supported.{supported_model, completion_supported}
-use Rattle.cc_theory.proofs.Places.{place_of}
-use Rattle.cc_theory.proofs.Same.{rules_same}
+use Rattle.cc_theory.proofs.Theorems.{completion}
 use Rattle.cc_theory.proofs.laws.models_meet_completion.Goals as goal
 
 pub returns : goal.returns
-returns c = let x = place_of in let y = rules_same in ?
+returns c = completion (record {
+  terms_mean = c.terms_mean_formulas.ensures;
+  one = c.one_formula.ensures;
+  heads_mean = c.heads_mean_heads.ensures;
+  there = c.heads_there_are_ground.ensures;
+})
