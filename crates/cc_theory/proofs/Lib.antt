@@ -1,5 +1,6 @@
 mod Cases
 mod Lists
+mod Local
 mod Members
 mod Places
 mod Same
