@@ -2,6 +2,7 @@ mod Cases
 mod Lists
 mod Local
 mod Members
+mod Origins
 mod Places
 mod Same
 mod Supported

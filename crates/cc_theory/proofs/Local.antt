@@ -97,11 +97,11 @@ module _ (d : Description) where
         IsTrue (holds row (timed_case d c now before).body) → IsTrue (meets_head row (timed_case d c now before).head)
     rule_met c now before met h = head_at d row now c.head ∙ met (sym (body_at d row now before c.now c.before) ∙ h)
 
-    met_rule : (c : Case) (now before : ℕ) → (IsTrue (holds row (timed_case d c now before).body) → IsTrue (meets_head row (timed_case d c now before).head)) →
+    pub met_rule : (c : Case) (now before : ℕ) → (IsTrue (holds row (timed_case d c now before).body) → IsTrue (meets_head row (timed_case d c now before).head)) →
         IsTrue (truth (valued row now) c.now && truth (valued row before) c.before) → IsTrue (head_truth (valued row now) c.head)
     met_rule c now before met h = sym (head_at d row now c.head) ∙ met (body_at d row now before c.now c.before ∙ h)
 
-    abbrev RuleMet : TimedRule → Type 0
+    abbrev pub RuleMet : TimedRule → Type 0
     RuleMet t = IsTrue (holds row t.body) → IsTrue (meets_head row t.head)
 
     -- ---- from local to supported
@@ -154,7 +154,7 @@ module _ (d : Description) where
     found_step : (step : ℕ) (head : GroundHead) → step < horizon → HasStepCause (valued row step) (valued row (step + 1)) head → Found (by_cases d horizon) row (head_at_step d (step + 1) head)
     found_step step head less cause = found_at step cause.0 (head_at_step d (step + 1) head) (omega arith) cause.1 (step_rule cause.0.kind step cause.0 head less cause.2)
 
-    abbrev CausedAt : ℕ → Type 0
+    abbrev pub CausedAt : ℕ → Type 0
     CausedAt p = Found (by_cases d horizon) row (heads.Atom p (slice_index row p))
 
     module _ (is : IsRow (sizes_at d horizon) row) (local : IsLocal horizon row) where
