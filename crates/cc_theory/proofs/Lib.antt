@@ -7,3 +7,4 @@ mod Places
 mod Same
 mod Supported
 mod Theorems
+mod Windows

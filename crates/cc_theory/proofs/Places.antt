@@ -13,7 +13,7 @@ pub further : (step n number : ℕ) → suc step * n + number ≡ n + (step * n 
 further step n number = let e = suc-mul step n in omega arith
 
 module _ (d : Description) where
-  abbrev at_first : List ℕ
+  abbrev pub at_first : List ℕ
   at_first = domain_sizes d.universe.fluents ++ domain_sizes d.universe.actions
 
   pub first_count : length at_first ≡ stride d
