@@ -1,26 +1,23 @@
 -- Supported rows are local: the valuation of each step is a state's, and each two neighbours are a step's.
-use Rattle.std.proofs.Common.{◌≡◌, ◌∙◌, ℕ, zero, suc, ◌+◌, ◌*◌, ◌<◌, ◌≤◌, ◌⊎◌, inl, inr, Bool, true, false, ◌&&◌, List, [], ◌∷◌, length, nat_lt, slice_get, Option, Some, None, refl, sym, ap, subst, arith}
-use Rattle.std.specs.Prelude.{◌==◌, IsTrue, slice_index, if◌then◌else◌}
+use Rattle.std.proofs.Common.{◌≡◌, ◌∙◌, ℕ, zero, suc, ◌+◌, ◌*◌, ◌<◌, ◌≤◌, ◌⊎◌, inl, inr, Bool, true, false, ◌&&◌, List, length, slice_get, Some, refl, sym, ap, subst, arith}
+use Rattle.std.specs.Prelude.{IsTrue, slice_index}
 use Rattle.std.proofs.lemmas.Bool.{eq-eqb}
-use Rattle.std.proofs.lemmas.Option.{slice_get_within}
 use Rattle.cc_arena.specs.Meanings.{head_truth}
 use Rattle.cc_defs.specs.declared.node.GroundHead.{GroundHead}
 use Rattle.cc_defs.specs.declared.node.GroundHead.TheVariants as heads
 use Rattle.cc_defs.specs.declared.signature.Const.{Const}
 use Rattle.cc_defs.specs.declared.signature.LawKind.{LawKind}
 use Rattle.cc_defs.specs.declared.signature.LawKind.TheVariants as law_kinds
-use Rattle.cc_defs.specs.Conditions.{IsGroundFluentHead, IsGroundSimpleHead, IsGroundActionHead}
 use Rattle.cc_defs.specs.Description.{Description, sizes_at, stride, values_at}
 use Rattle.cc_defs.specs.Forms.{is_simple}
 use Rattle.cc_defs.specs.Rows.{IsRow}
-use Rattle.cc_defs.specs.Terms.{Ground, truth}
+use Rattle.cc_defs.specs.Terms.{truth}
 use Rattle.cc_defs.specs.TimedRules.{TimedRule, head_at_step}
-use Rattle.cc_defs.specs.Universe.{Universe, constants_in}
 use Rattle.cc_theory.specs.Completion.{holds}
-use Rattle.cc_theory.proofs.Cases.{Case, IsFit, body_at, by_cases, cases, head_at, of_case, of_kind, timed_case}
+use Rattle.cc_theory.proofs.Cases.{Case, body_at, by_cases, cases, head_at, of_kind, timed_case}
 use Rattle.cc_theory.proofs.Lists.{In, row_at}
 use Rattle.cc_theory.proofs.Members.{before_last, first_in, in_before, initial, of_at, of_initial, rule_of}
-use Rattle.cc_theory.proofs.Places.{action_place, fluent_place, one_place, place_of, size_of}
+use Rattle.cc_theory.proofs.Places.{fluent_place, place_of, size_of}
 use Rattle.cc_theory.proofs.Supported.{Found, IsSupported, meets_head}
 
 abbrev pub Valuation : Type 0

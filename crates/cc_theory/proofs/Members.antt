@@ -1,6 +1,6 @@
 -- What the rules of a horizon are: initial ones, and those of cases at steps. Their heads name positions and values of these.
-use Rattle.std.proofs.Common.{◌≡◌, ◌∙◌, ℕ, zero, suc, ◌+◌, ◌*◌, ◌<◌, ◌≤◌, ◌⊎◌, inl, inr, Bool, true, false, List, [], ◌∷◌, ◌++◌, length, map, flat_map, nat_lt, slice_get, Option, Some, None, refl, sym, ap, subst, arith}
-use Rattle.std.specs.Prelude.{IsTrue, slice_index, if◌then◌else◌}
+use Rattle.std.proofs.Common.{◌≡◌, ◌∙◌, ℕ, zero, suc, ◌+◌, ◌*◌, ◌<◌, ◌≤◌, ◌⊎◌, inl, inr, Bool, true, false, List, [], ◌∷◌, flat_map, nat_lt, slice_get, Some, refl, sym, ap, subst, arith}
+use Rattle.std.specs.Prelude.{if◌then◌else◌}
 use Rattle.std.proofs.lemmas.Bool.{lt-ltb, ltb-true}
 use Rattle.std.proofs.lemmas.Option.{slice_get_within}
 use Rattle.cc_defs.specs.declared.node.GroundHead.{GroundHead}
@@ -16,7 +16,6 @@ use Rattle.cc_defs.specs.Forms.{is_simple}
 use Rattle.cc_defs.specs.Rules.{upto}
 use Rattle.cc_defs.specs.Terms as terms
 use Rattle.cc_defs.specs.TimedRules.{TimedRule, all_initial_timed, head_at_step, initial_timed}
-use Rattle.cc_defs.specs.Universe.{Universe, constants_in}
 use Rattle.cc_theory.proofs.Cases.{Case, IsFit, by_cases, cases, of_case, of_kind, timed_case}
 use Rattle.cc_theory.proofs.Lists.{In, flat_in, got_either, in_either, in_flat, in_left, in_map, in_right, in_upto, map_in, upto_in}
 use Rattle.cc_theory.proofs.Places.{action_place, fluent_place, size_of}
@@ -54,7 +53,12 @@ initial_of start (c ∷ cs) t i = elim (in_either (initial_timed c.kind start (s
       let found = initial_of (start + 1) cs t later in
       let at : start + suc found.place ≡ start + 1 + found.place = omega arith in
       record {
-        place = suc found.place; value = found.value; constant = found.constant; there = found.there; simple = found.simple; below = found.below;
+        place = suc found.place;
+        value = found.value;
+        constant = found.constant;
+        there = found.there;
+        simple = found.simple;
+        below = found.below;
         is = ap (λ (n : ℕ). initial n found.value) at ∙ found.is;
       }
 ]
@@ -139,10 +143,10 @@ module _ (d : Description) (horizon : ℕ) where
   action_fits step (heads.Atom number value) within is = elim (got_either d.universe.fluents d.universe.actions number is.0 is.2) [
     | inl fluent ↦ let less = slice_get_within d.universe.fluents number is.0 fluent in let more = is.1 in absurd (omega arith)
     | inr behind ↦ (
-        size_of is.0,
-        ap (λ (n : ℕ). slice_get (sizes_at d horizon) (step * stride d + n)) behind.1 ∙ action_place d horizon step behind.0 is.0 within behind.2,
-        is.3,
-      )
+      size_of is.0,
+      ap (λ (n : ℕ). slice_get (sizes_at d horizon) (step * stride d + n)) behind.1 ∙ action_place d horizon step behind.0 is.0 within behind.2,
+      is.3,
+    )
   ]
   action_fits step heads.Falsity within is = tt
 

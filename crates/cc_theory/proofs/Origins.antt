@@ -1,6 +1,6 @@
 -- Where the causes of a supported row come from: so it is local.
-use Rattle.std.proofs.Common.{◌≡◌, ◌∙◌, ℕ, zero, suc, ◌+◌, ◌*◌, ◌<◌, ◌≤◌, ◌⊎◌, inl, inr, Bool, true, false, ◌&&◌, List, [], ◌∷◌, length, slice_get, Option, Some, None, refl, sym, ap, subst, arith}
-use Rattle.std.specs.Prelude.{IsTrue, slice_index}
+use Rattle.std.proofs.Common.{◌≡◌, ◌∙◌, ℕ, ◌+◌, ◌*◌, ◌<◌, ◌≤◌, ◌⊎◌, inl, inr, true, false, List, length, slice_get, Some, refl, sym, ap, subst, arith}
+use Rattle.std.specs.Prelude.{IsTrue}
 use Rattle.std.proofs.lemmas.Option.{slice_get_within}
 use Rattle.cc_defs.specs.declared.node.GroundHead.{GroundHead}
 use Rattle.cc_defs.specs.declared.node.GroundHead.TheVariants as heads
@@ -11,11 +11,10 @@ use Rattle.cc_defs.specs.Conditions.{IsGroundFluentHead, IsGroundSimpleHead, IsG
 use Rattle.cc_defs.specs.Description.{Description, sizes_at, stride}
 use Rattle.cc_defs.specs.Forms.{is_simple}
 use Rattle.cc_defs.specs.TimedRules.{TimedRule, head_at_step}
-use Rattle.cc_defs.specs.Universe.{constants_in}
 use Rattle.cc_theory.specs.Completion.{holds}
 use Rattle.cc_theory.proofs.Cases.{Case, IsFit, body_at, by_cases, cases, of_kind, timed_case}
 use Rattle.cc_theory.proofs.Lists.{In, got_either}
-use Rattle.cc_theory.proofs.Local.{ActionCause, CausedAt, HasActionCause, HasStateCause, HasStepCause, IsLocal, IsStateOf, IsStepOf, RuleMet, StateCause, StateMet, StepCause, StepMet, met_rule, next_holds, now_holds, valued}
+use Rattle.cc_theory.proofs.Local.{ActionCause, HasActionCause, HasStateCause, HasStepCause, IsLocal, RuleMet, StateCause, StateMet, StepCause, StepMet, met_rule, next_holds, now_holds, valued}
 use Rattle.cc_theory.proofs.Members.{before_last, in_before, of_at, rule_of}
 use Rattle.cc_theory.proofs.Places.{action_place, fluent_place, one_place, size_of}
 use Rattle.cc_theory.proofs.Supported.{Found, IsSupported}
@@ -97,7 +96,7 @@ module _ (d : Description) where
         let same = located c.head (s + 1) step k v less (ap (λ (w : TimedRule). w.head) e ∙ is) (simple_below c.head fit.0) in
         let simple : IsGroundSimpleHead d.universe (heads.Atom k v) = subst (IsGroundSimpleHead d.universe) same.1 fit.0 in
         let body : IsTrue (next_holds c (valued d row s) (valued d row (s + 1))) =
-            sym (body_at d row (s + 1) s c.now c.before) ∙ ap (λ (w : TimedRule). holds row w.body) e ∙ h in
+        sym (body_at d row (s + 1) s c.now c.before) ∙ ap (λ (w : TimedRule). holds row w.body) e ∙ h in
         inr (inr (s, same.0, (simple.0, simple.1, simple.3), (same.1, body)))
 
     -- ---- the origins of a cause

@@ -1,7 +1,6 @@
 -- The positions of a horizon: the fluents of each step, and the actions of each but the last.
-use Rattle.std.proofs.Common.{◌≡◌, ◌∙◌, ℕ, zero, suc, ◌+◌, ◌*◌, ◌<◌, ◌≤◌, ◌⊎◌, inl, inr, List, [], ◌∷◌, ◌++◌, length, map, slice_get, Option, Some, None, refl, sym, ap, subst, arith, length-append, suc-mul, add_assoc, add_comm}
+use Rattle.std.proofs.Common.{◌≡◌, ◌∙◌, ℕ, zero, suc, ◌+◌, ◌*◌, ◌<◌, ◌≤◌, ◌⊎◌, inl, inr, List, ◌++◌, length, slice_get, Some, refl, sym, ap, arith, length-append, suc-mul}
 use Rattle.std.proofs.lemmas.List.{length-map}
-use Rattle.std.proofs.lemmas.Option.{slice_get_within}
 use Rattle.cc_defs.specs.declared.signature.Const.{Const}
 use Rattle.cc_defs.specs.Description.{Description, domain_sizes, sizes_at, stride}
 use Rattle.cc_theory.proofs.Lists.{got_either, got_left, got_map, got_right, map_got}
@@ -49,7 +48,7 @@ module _ (d : Description) where
   action_place zero step number constant less e = absurd (omega arith)
   action_place (suc horizon) zero number constant less e =
       let start : 0 * stride d + (length d.universe.fluents + number) ≡ length (domain_sizes d.universe.fluents) + number =
-          let f = length-map d.universe.fluents size_of in omega arith in
+      let f = length-map d.universe.fluents size_of in omega arith in
       ap (slice_get (sizes_at d (suc horizon))) start
       ∙ got_left at_first (sizes_at d horizon) (length (domain_sizes d.universe.fluents) + number) (size_of constant)
       (got_right (domain_sizes d.universe.fluents) (domain_sizes d.universe.actions) number ∙ got_map size_of d.universe.actions number constant e)
@@ -81,15 +80,23 @@ module _ (d : Description) where
       let c = first_count in
       elim place [
         | inl f ↦ inl (record {
-            step = suc f.step; number = f.number; constant = f.constant; there = f.there; sized = f.sized;
-            within = let w = f.within in omega arith;
-            at = let at = f.at in let more = further f.step (stride d) f.number in omega arith;
-          })
+          step = suc f.step;
+          number = f.number;
+          constant = f.constant;
+          there = f.there;
+          sized = f.sized;
+          within = let w = f.within in omega arith;
+          at = let at = f.at in let more = further f.step (stride d) f.number in omega arith;
+        })
         | inr a ↦ inr (record {
-            step = suc a.step; number = a.number; constant = a.constant; there = a.there; sized = a.sized;
-            within = let w = a.within in omega arith;
-            at = let at = a.at in let more = further a.step (stride d) (length d.universe.fluents + a.number) in omega arith;
-          })
+          step = suc a.step;
+          number = a.number;
+          constant = a.constant;
+          there = a.there;
+          sized = a.sized;
+          within = let w = a.within in omega arith;
+          at = let at = a.at in let more = further a.step (stride d) (length d.universe.fluents + a.number) in omega arith;
+        })
       ]
 
   fluent_first : (horizon p size : ℕ) → slice_get (domain_sizes d.universe.fluents) p ≡ Some size → FluentAt horizon p size

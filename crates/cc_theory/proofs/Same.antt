@@ -1,9 +1,8 @@
 -- The rules of a horizon as data have the tests of its theory.
-use Rattle.std.proofs.Common.{◌≡◌, ◌∙◌, ℕ, ◌+◌, Bool, true, false, ◌&&◌, List, [], ◌∷◌, ◌++◌, length, map, flat_map, nat_lt, Option, Some, None, refl, sym, ap, subst, is_some}
-use Rattle.std.specs.Prelude.{◌==◌, IsTrue, slice_index, if◌then◌else◌}
+use Rattle.std.proofs.Common.{◌≡◌, ◌∙◌, ℕ, ◌+◌, Bool, true, false, ◌&&◌, List, [], ◌∷◌, length, map, flat_map, nat_lt, Option, Some, None, refl, sym, ap, subst, is_some}
+use Rattle.std.specs.Prelude.{slice_index, if◌then◌else◌}
 use Rattle.std.specs.List.{AllByRecursion, AllZip}
 use Rattle.cc_arena.specs.Laws.{TermsMeanFormulas, HeadsMeanHeads, HeadsThereAreGround}
-use Rattle.cc_arena.specs.Meanings.{head_truth}
 use Rattle.cc_arena.specs.Walks.{OneFormula}
 use Rattle.cc_defs.specs.declared.node.GroundHead.{GroundHead}
 use Rattle.cc_defs.specs.declared.signature.Const.{Const}
@@ -18,15 +17,14 @@ use Rattle.cc_defs.specs.Nodes.{term_of}
 use Rattle.cc_defs.specs.Resolved.{Formula, Law, BaseLaw}
 use Rattle.cc_defs.specs.Resolved as resolved
 use Rattle.cc_defs.specs.Rules.{upto, initial_rule, initial_rules, initial_rules_of, part_satisfied, rule_at, rules_of_kind, rules_of_instance, rules_at_step, rules_at, not_together}
-use Rattle.cc_defs.specs.Satisfaction.{Environment, giving, satisfied, head_satisfied, head_is_there}
+use Rattle.cc_defs.specs.Satisfaction.{Environment, giving, satisfied, head_is_there}
 use Rattle.cc_defs.specs.Terms.{Ground, truth}
-use Rattle.cc_defs.specs.Terms as terms
 use Rattle.cc_defs.specs.Theories.{Rule}
-use Rattle.cc_defs.specs.TimedRules.{TimedRule, all_initial_timed, initial_timed, at_step, head_at_step, joined_parts, part_at, timed_at, timed_of_kind, timed_of_instance, timed_rules, timed_together, timed_with}
+use Rattle.cc_defs.specs.TimedRules.{TimedRule, all_initial_timed, initial_timed, at_step, part_at, timed_at, timed_of_kind, timed_of_instance, timed_rules, timed_together, timed_with}
 use Rattle.cc_defs.specs.Universe.{HaveOwnValues, boolean_actions}
 use Rattle.cc_theory.specs.Completion.{holds}
 use Rattle.cc_theory.proofs.Cases.{head_at, joined_truth, step_truth}
-use Rattle.cc_theory.proofs.Lists.{In, all_append, all_in, all_map, all_passing, both_hold, zip_append, zip_flat, zip_map}
+use Rattle.cc_theory.proofs.Lists.{all_append, all_in, all_map, all_passing, both_hold, zip_append, zip_flat, zip_map}
 use Rattle.cc_theory.proofs.Supported.{SameRule}
 
 -- what terms and heads mean
@@ -72,8 +70,7 @@ module _ (meaning : Meaning) (d : Description) (own : HaveOwnValues d.universe) 
   rule_same : (law : Law) (env : Environment) (now before : ℕ) (head : GroundHead) → ground_head d.universe env law.head ≡ Some head →
       AllZip SameRule (rule_at d law env now before ∷ []) (timed_at d law env now before)
   rule_same law env now before head e =
-      subst (λ (o : Option GroundHead). AllZip SameRule (rule_at d law env now before ∷ []) (timed_with d law env now before o)) (sym e)
-      (
+      subst (λ (o : Option GroundHead). AllZip SameRule (rule_at d law env now before ∷ []) (timed_with d law env now before o)) (sym e) (
         record {
           head = λ row. sym (head_at d row now head ∙ meaning.heads_mean d.universe own env law.head head e (λ number. values_at d row now number));
           body = λ row.
@@ -119,5 +116,5 @@ module _ (meaning : Meaning) (d : Description) (own : HaveOwnValues d.universe) 
       (all_initial_timed 0 d.universe.fluents) (flat_map (λ step. flat_map (timed_of_instance d horizon step) is) (upto (horizon + 1)))
       (initial_same 0 d.universe.fluents)
       (zip_flat SameRule (rules_at_step d horizon) (λ step. flat_map (timed_of_instance d horizon step) is) (upto (horizon + 1)) (λ step here.
-        zip_flat SameRule (rules_of_instance d horizon step) (timed_of_instance d horizon step) is (λ instance there.
-          instance_same horizon step instance (all_in HasHead is (have_from 0 d.laws) instance there))))
+      zip_flat SameRule (rules_of_instance d horizon step) (timed_of_instance d horizon step) is (λ instance there.
+      instance_same horizon step instance (all_in HasHead is (have_from 0 d.laws) instance there))))

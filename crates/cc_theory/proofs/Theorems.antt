@@ -1,5 +1,5 @@
 -- The completion theorem and the path theorem.
-use Rattle.std.proofs.Common.{◌≡◌, ℕ, zero, suc, List, sym, subst}
+use Rattle.std.proofs.Common.{ℕ, zero, suc, List, sym, subst}
 use Rattle.cc_defs.specs.Description.{Description, sizes_at}
 use Rattle.cc_defs.specs.Environments.{instances}
 use Rattle.cc_defs.specs.Paths.{window}
@@ -45,8 +45,7 @@ completion meaning d well horizon row is =
     let sizes = sizes_at d horizon in
     let rules = rules_at d horizon in
     let timed = timed_rules d horizon in
-    let same = rules_same meaning d well.values horizon in
-    (
+    let same = rules_same meaning d well.values horizon in (
       λ m. supported_completion sizes rules timed same row (supported meaning d well horizon row m),
       λ meets. model meaning d well horizon row is (completion_supported sizes rules timed same row
           (λ t i. heads_fit d horizon (fits d well) t (subst (λ (l : List TimedRule). In l t) (rules_by_cases d horizon) i)) is meets),
@@ -55,9 +54,12 @@ completion meaning d well horizon row is =
 pub paths : Meaning → ModelsArePaths
 paths meaning d well zero row = (λ m. m, λ path. path)
 paths meaning d well (suc last) row = (
-  λ m. (m.interprets, λ i less.
-      local_model meaning d well 1 (window d row i) (window_row d (suc last) i row less m.interprets)
-      (window_local d (fits d well) row i (suc last) less (model_local meaning d well (suc last) row m))),
+  λ m. (
+    m.interprets,
+    λ i less.
+        local_model meaning d well 1 (window d row i) (window_row d (suc last) i row less m.interprets)
+        (window_local d (fits d well) row i (suc last) less (model_local meaning d well (suc last) row m)),
+  ),
   λ path. local_model meaning d well (suc last) row path.0
       (windows_local d (fits d well) row last (λ i less. model_local meaning d well 1 (window d row i) (path.1 i less))),
 )

@@ -1,12 +1,11 @@
 -- A row is local exactly where its windows are: states and steps read no more than the values that a window has.
-use Rattle.std.proofs.Common.{◌≡◌, ◌∙◌, ℕ, zero, suc, ◌+◌, ◌*◌, ◌<◌, ◌≤◌, ◌⊎◌, inl, inr, Bool, ◌&&◌, List, [], ◌++◌, length, get_or, take, drop, slice_get, Some, refl, sym, ap, subst, arith, length-append, append-nil}
-use Rattle.std.specs.Prelude.{◌==◌, IsTrue, slice_index}
+use Rattle.std.proofs.Common.{◌≡◌, ◌∙◌, ℕ, zero, suc, ◌+◌, ◌*◌, ◌<◌, ◌≤◌, inl, inr, Bool, ◌&&◌, List, [], ◌++◌, length, take, drop, refl, sym, ap, subst, arith, length-append, append-nil}
+use Rattle.std.specs.Prelude.{◌==◌, slice_index}
 use Rattle.std.proofs.lemmas.List.{drop-drop, get_or-drop, get_or-take, length-map}
 use Rattle.std.proofs.lemmas.Option.{slice_get_within}
 use Rattle.cc_arena.specs.Meanings.{head_truth}
 use Rattle.cc_defs.specs.declared.node.GroundHead.{GroundHead}
 use Rattle.cc_defs.specs.declared.node.GroundHead.TheVariants as heads
-use Rattle.cc_defs.specs.declared.signature.Const.{Const}
 use Rattle.cc_defs.specs.declared.signature.LawKind.{LawKind}
 use Rattle.cc_defs.specs.declared.signature.LawKind.TheVariants as law_kinds
 use Rattle.cc_defs.specs.Conditions.{IsGroundFluentHead, IsGroundSimpleHead, IsGroundActionHead}
@@ -15,8 +14,8 @@ use Rattle.cc_defs.specs.Paths.{window}
 use Rattle.cc_defs.specs.Rows.{IsRow}
 use Rattle.cc_defs.specs.Terms.{truth}
 use Rattle.cc_theory.proofs.Cases.{Case, IsFit, cases}
-use Rattle.cc_theory.proofs.Lists.{In, append_three, got_either, row_drop, row_take}
-use Rattle.cc_theory.proofs.Local.{ActionCause, HasActionCause, HasStateCause, HasStepCause, IsLocal, IsStateOf, IsStepOf, StateCause, StateMet, StepCause, StepMet, Valuation, next_holds, now_holds, valued}
+use Rattle.cc_theory.proofs.Lists.{In, append_three, row_drop, row_take}
+use Rattle.cc_theory.proofs.Local.{ActionCause, HasActionCause, HasStateCause, HasStepCause, IsLocal, IsStateOf, IsStepOf, StateCause, StateMet, StepCause, StepMet, Valuation, valued}
 use Rattle.cc_theory.proofs.Places.{at_first, first_count, further, size_of}
 
 module _ (d : Description) where
@@ -198,9 +197,9 @@ module _ (d : Description) where
       let start : 0 ≡ 0 * stride d = omega arith in
       let rest = begins horizon in
       let sizes : sizes_at d (suc horizon) ≡ sizes_at d 1 ++ rest.0 =
-          ap (λ (l : List ℕ). at_first d ++ l) rest.1 ∙ append_three (at_first d) (domain_sizes d.universe.fluents) rest.0 in
+      ap (λ (l : List ℕ). at_first d ++ l) rest.1 ∙ append_three (at_first d) (domain_sizes d.universe.fluents) rest.0 in
       let same : take (length (sizes_at d 1)) row ≡ window d row 0 =
-          ap (λ (n : ℕ). take n row) transition_count ∙ ap (λ (n : ℕ). take (length d.universe.fluents + stride d) (drop n row)) start in
+      ap (λ (n : ℕ). take n row) transition_count ∙ ap (λ (n : ℕ). take (length d.universe.fluents + stride d) (drop n row)) start in
       subst (IsRow (sizes_at d 1)) same (row_take (sizes_at d 1) rest.0 row (subst (λ (l : List ℕ). IsRow l row) sizes is))
   window_row (suc horizon) (suc i) row less is =
       let later = row_drop (at_first d) (sizes_at d horizon) row is in
@@ -208,6 +207,6 @@ module _ (d : Description) where
       let count = first_count d in
       let at : length (at_first d) + i * stride d ≡ suc i * stride d = let e = further i (stride d) 0 in omega arith in
       let same : window d (drop (length (at_first d)) row) i ≡ window d row (suc i) =
-          ap (λ (l : List ℕ). take (length d.universe.fluents + stride d) l)
-          (drop-drop (i * stride d) (length (at_first d)) row ∙ ap (λ (n : ℕ). drop n row) at) in
+      ap (λ (l : List ℕ). take (length d.universe.fluents + stride d) l)
+      (drop-drop (i * stride d) (length (at_first d)) row ∙ ap (λ (n : ℕ). drop n row) at) in
       subst (IsRow (sizes_at d 1)) same more
