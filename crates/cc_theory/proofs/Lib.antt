@@ -1,0 +1,10 @@
+mod Cases
+mod Lists
+mod Local
+mod Members
+mod Origins
+mod Places
+mod Same
+mod Supported
+mod Theorems
+mod Windows

@@ -1,0 +1,27 @@
+-- What the completion and paths have to do with models (Clark, 1978; Giunchiglia, Lee, Lifschitz, McCain and Turner, 2004).
+use Rattle.std.specs.Prelude.{ℕ, List, ◌↔◌}
+use Rattle.cc_defs.specs.Conditions.{AreGroundLaws}
+use Rattle.cc_defs.specs.Description.{Description, sizes_at}
+use Rattle.cc_defs.specs.GroundLaws.{ground_laws}
+use Rattle.cc_defs.specs.Paths.{IsPath}
+use Rattle.cc_defs.specs.Rows.{IsRow}
+use Rattle.cc_defs.specs.Rules.{rules_at}
+use Rattle.cc_defs.specs.Theories.{IsModel}
+use Rattle.cc_defs.specs.TimedRules.{timed_rules}
+use Rattle.cc_defs.specs.Universe.{HaveOwnValues}
+use Rattle.cc_theory.specs.Completion.{MeetsCompletion}
+
+-- the values of each ground constant are different, and the ground laws are as their kinds ask
+pub record IsGroundedWell (d : Description) : Type 0 where
+  pub values : HaveOwnValues d.universe
+  pub laws : AreGroundLaws d.universe (ground_laws d.universe d.laws)
+
+-- The completion theorem: a row is a model exactly where it meets the completion of the rules.
+abbrev pub ModelsMeetCompletion : Type 0
+ModelsMeetCompletion = (d : Description) → IsGroundedWell d → (horizon : ℕ) (row : List ℕ) → IsRow (sizes_at d horizon) row →
+    IsModel (sizes_at d horizon) (rules_at d horizon) row ↔ MeetsCompletion (sizes_at d horizon) (timed_rules d horizon) row
+
+-- The path theorem: the models of a horizon are the paths of so many transitions.
+abbrev pub ModelsArePaths : Type 0
+ModelsArePaths = (d : Description) → IsGroundedWell d → (horizon : ℕ) (row : List ℕ) →
+    IsModel (sizes_at d horizon) (rules_at d horizon) row ↔ IsPath d horizon row

@@ -1,0 +1,25 @@
+//! Laws of models, each the contract of a function that does nothing, or calls the laws that it rests on.
+ghost use Rattle.cc_theory.specs.Laws.{ModelsArePaths, ModelsMeetCompletion};
+
+use cc_arena::laws::{heads_mean_heads, heads_there_are_ground, terms_mean_formulas};
+use cc_arena::one_formula;
+
+/// The completion theorem: a row is a model of a horizon exactly where it meets the completion of its rules.
+pub fn models_meet_completion()
+    ensures { ModelsMeetCompletion }
+{
+    terms_mean_formulas();
+    one_formula();
+    heads_mean_heads();
+    heads_there_are_ground();
+}
+
+/// The path theorem: the models of a horizon are exactly the paths.
+pub fn models_are_paths()
+    ensures { ModelsArePaths }
+{
+    terms_mean_formulas();
+    one_formula();
+    heads_mean_heads();
+    heads_there_are_ground();
+}
