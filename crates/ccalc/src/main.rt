@@ -1,6 +1,9 @@
 //! The causal calculator: reads a description of actions and change, and lists its histories.
 #![tactic(auto)]
 
+ghost use Rattle.std.specs.Prelude.{◌≢◌};
+ghost use Rattle.cc_run.specs.Codes as codes;
+
 #[cfg(test)]
 mod tests;
 
@@ -10,8 +13,15 @@ pub use cc_run::{Status, run, run_still};
 use std::io;
 use std::process::ExitCode;
 
-/// The code where the machine does not hand the words over as texts. It is no answer of `run`.
+/// The code where the machine does not hand the words over as texts.
 const NO_WORDS: u8 = 8;
+
+/// It is that of no status of `run`.
+fn no_words() -> u8
+    ensures { (status : Status) → codes.code_of status ≢ result }
+{
+    NO_WORDS
+}
 
 /// The words behind the program's own name, or the code to end with where there are none to be had.
 fn words_of(rt: &HostRuntime) -> Result<Vec<String>, u8> {
@@ -24,7 +34,7 @@ fn words_of(rt: &HostRuntime) -> Result<Vec<String>, u8> {
 fn code_of(error: io::Error) -> u8 {
     match error.kind() {
         io::ErrorKind::OutOfMemory => Status::OutOfMemory.code(),
-        _ => NO_WORDS,
+        _ => no_words(),
     }
 }
 
