@@ -1,0 +1,4 @@
+//! Values of variables, and unit propagation over watch links.
+#![tactic(auto)]
+
+mod links;
