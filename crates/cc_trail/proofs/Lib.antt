@@ -1,2 +1,6 @@
 mod Chains
 mod Linked
+mod StepLists
+mod Kept
+mod EntryViews
+mod Backs

@@ -109,6 +109,14 @@ module _ (variables : ℕ) (heads next : List ℕ) (watched : List Literal) (lin
           let count = links.next_count in
           let within : x < length next = chain.1 in ((xs, rw (← same) is), omega arith)
 
+  pub taken_once : (node : ℕ) → BeginsWith (chain_of (length next) next (get_or heads 0 0)) node →
+      IsIn (drop 1 (chain_of (length next) next (get_or heads 0 0))) node → ⊥
+  taken_once node begins =
+      let l = links.linked in
+      let chain = l.chains 0 in
+      let is : l.nodes 0 ≡ node ∷ begins.0 = sym (chain_is next (get_or heads 0 0) (l.nodes 0) chain) ∙ begins.1 in
+      rw (begins.1) (first_once next (get_or heads 0 0) node (begins.0) (subst (λ (xs : List ℕ). IsChain next (get_or heads 0 0) xs) is chain))
+
   pub none_first : get_or heads 0 0 ≡ 0 → chain_of (length next) next (get_or heads 0 0) ≡ []
   none_first head = rw head (chain_is next 0 [] refl)
 

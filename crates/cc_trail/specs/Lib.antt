@@ -1,2 +1,5 @@
-pub mod Links
+pub mod EntrySteps
+pub mod EntryParts
 pub mod LinkParts
+pub mod Links
+pub mod Steps

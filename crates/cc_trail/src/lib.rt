@@ -1,4 +1,5 @@
 //! Values of variables, and unit propagation over watch links.
 #![tactic(auto)]
 
+mod entries;
 mod links;

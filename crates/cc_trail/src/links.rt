@@ -1,7 +1,7 @@
 //! Watch links: for each literal the chain of the nodes that watch it.
 ghost use Rattle.std.specs.Prelude.{◌≡◌, ℕ, ◌+◌, ◌*◌, ◌<◌, ◌≤◌, ◌++◌, [], ◌∷◌, length, set, drop, Contains, IfOk, IfSome, IfNone, OnOk, OnErr, Ok};
 ghost use Rattle.cc_defs.specs.Clauses.{Literal};
-ghost use Rattle.cc_trail.specs.Links.{LinksView, AreTaken, BeginsWith, IsLiteralOver, code_of, watched_at};
+ghost use Rattle.cc_trail.specs.Links.{IsIn, LinksView, AreTaken, BeginsWith, IsLiteralOver, code_of, watched_at};
 
 use cc_defs::{Lit, OutOfMemory};
 use std::alloc::Global;
@@ -86,6 +86,7 @@ impl Links {
     pub fn first_taken(&self) -> Option<u32>
         ensures some { IfSome result (λ node. BeginsWith self.now.taken node) }
         ensures within { IfSome result (λ node. node < length self.now.watched) }
+        ensures once { IfSome result (λ node. IsIn (drop 1 self.now.taken) node → ⊥) }
         ensures none { IfNone result (self.now.taken ≡ []) }
     {
         self.heads[0].checked_sub(1)
