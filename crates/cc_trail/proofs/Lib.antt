@@ -4,3 +4,4 @@ mod StepLists
 mod Kept
 mod EntryViews
 mod Backs
+mod Adding

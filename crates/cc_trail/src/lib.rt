@@ -2,4 +2,5 @@
 #![tactic(auto)]
 
 mod entries;
+pub mod laws;
 mod links;
