@@ -50,4 +50,5 @@ going_ends old now level going done are =
           (λ step here. let most = levels_most 0 now.steps are.rising step here in let levels = are.levels in omega (arith, most)) going.high ∙
           ap (λ (steps : List Step). steps_to level steps) (sym going.front);
       front = going.front;
+      high = going.high;
     }

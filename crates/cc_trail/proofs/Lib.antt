@@ -5,3 +5,5 @@ mod Kept
 mod EntryViews
 mod Backs
 mod Adding
+mod Values
+mod TrailViews

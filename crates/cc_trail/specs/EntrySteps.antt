@@ -1,6 +1,7 @@
 -- What changes of entries do.
-use Rattle.std.specs.Prelude.{◌≡◌, ℕ, ◌+◌, ◌≤◌, List, [], ◌∷◌, ◌++◌}
+use Rattle.std.specs.Prelude.{◌≡◌, ℕ, ◌+◌, ◌<◌, ◌≤◌, List, [], ◌∷◌, ◌++◌}
 use Rattle.cc_trail.specs.declared.entries.Step.{Step}
+use Rattle.cc_trail.specs.Links.{IsIn}
 use Rattle.cc_trail.specs.Steps.{EntriesView, steps_to}
 
 -- the last step was taken away
@@ -19,3 +20,4 @@ pub record IsBack (old new : EntriesView) (level : ℕ) : Type 0 where
   pub level_count : new.level_count ≡ level
   pub steps : new.steps ≡ steps_to level old.steps
   pub front : old.steps ≡ new.steps ++ gone
+  pub high : (step : Step) → IsIn gone step → level < step.level

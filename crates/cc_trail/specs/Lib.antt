@@ -4,5 +4,6 @@ pub mod LinkParts
 pub mod Links
 pub mod Steps
 pub mod TrailLaws
+pub mod TrailParts
 pub mod Trails
 pub mod Watches

@@ -1,11 +1,11 @@
 -- What the holder of a trail sees of it.
-use Rattle.std.specs.Prelude.{◌≡◌, ◌≢◌, ℕ, ◌+◌, ◌*◌, ◌/◌, ◌<◌, ◌≤◌, ◌⊎◌, List, [], ◌∷◌, ◌++◌, length, Contains, take, get_or, Option, Some, None, option_map, option_and_then, Bool, not, if◌then◌else◌}
+use Rattle.std.specs.Prelude.{◌≡◌, ◌≢◌, ℕ, ◌+◌, ◌*◌, ◌/◌, ◌<◌, ◌≤◌, ◌⊎◌, List, [], ◌∷◌, ◌++◌, length, Contains, take, get_or, min, Option, Some, None, option_map, option_and_then, Bool, not, if◌then◌else◌}
 use Rattle.cc_defs.specs.Clauses.{Literal}
 use Rattle.cc_defs.specs.Assignments.{IsClosed, IsTrueIn, HasNoValue}
 use Rattle.cc_kernel.specs.Kernels.{KernelView, clauses_of}
 use Rattle.cc_trail.specs.declared.entries.Step.{Step}
 use Rattle.cc_trail.specs.Links.{IsIn}
-use Rattle.cc_trail.specs.Steps.{AreSteps, step_of, values_of, values_to}
+use Rattle.cc_trail.specs.Steps.{AreSteps, step_of, steps_to, values_of, values_to}
 use Rattle.cc_trail.specs.Watches.{IsWatched, Watches, AreReasoned, IsShort}
 
 -- The number of variables, the steps in order, how many levels were opened, how many clauses are attached, the numbers of
@@ -69,3 +69,18 @@ IsMild steps level_count clause = (level : ℕ) → level < level_count →
     ((literal : Literal) × Contains clause literal × IsTrueIn (values_to level steps) literal) ⊎
     ((one : Literal) × (two : Literal) × (one ≢ two) × Contains clause one × Contains clause two ×
     HasNoValue (values_to level steps) one × HasNoValue (values_to level steps) two)
+
+-- a level was opened, whose one entry is this literal
+abbrev pub decided : TrailView → Literal → TrailView
+decided trail literal = record trail {
+  steps = trail.steps ++ (record { lit = literal; level = trail.level_count + 1; reason = None }) ∷ [];
+  level_count = trail.level_count + 1;
+}
+
+-- just the steps of the levels up to this one are left
+abbrev pub back_at : TrailView → ℕ → TrailView
+back_at trail level = record trail {
+  steps = steps_to level trail.steps;
+  level_count = level;
+  visited = min trail.visited (length (steps_to level trail.steps));
+}

@@ -193,7 +193,8 @@ impl Entries {
     /// Takes the entries of the levels above this one away.
     pub fn back_to(&mut self, level: u32)
         requires { level ≤ self.old.level_count }
-        ensures { IsBack self.old self.new level }
+        ensures back { IsBack self.old self.new level }
+        ensures steps { AreSteps self.new.variables self.new.steps self.new.level_count }
     {
         while self.level_count() > level {
             self.pop();

@@ -4,3 +4,6 @@
 mod entries;
 pub mod laws;
 mod links;
+mod trail;
+
+pub use trail::Trail;

@@ -13,7 +13,10 @@ loop-self-preserved c =
 pub loop-self-smaller : goal.loop-self-smaller
 loop-self-smaller c = fewer c.loop-self.self c.pop.new.self c.pop.ensures
 
-pub returns : goal.returns
-returns c =
+pub returns-clause-back : goal.returns-clause-back
+returns-clause-back c =
     going_ends c.args.self.now c.loop-self.self c.args.level c.loop-self.invariant
     (subst (λ (n : ℕ). n ≤ c.args.level) c.level_count.ensures.levels c.loop-self-test.false) c.level_count.ensures.steps
+
+pub returns-clause-steps : goal.returns-clause-steps
+returns-clause-steps c = c.level_count.ensures.steps
