@@ -7,3 +7,5 @@ mod Backs
 mod Adding
 mod Values
 mod TrailViews
+mod Attaching
+mod Starting

@@ -84,3 +84,42 @@ back_at trail level = record trail {
   level_count = level;
   visited = min trail.visited (length (steps_to level trail.steps));
 }
+
+-- one clause more is attached, and what became true is as before
+pub record IsAttached (old new : TrailView) : Type 0 where
+  pub variables : new.variables ≡ old.variables
+  pub steps : new.steps ≡ old.steps
+  pub level_count : new.level_count ≡ old.level_count
+  pub attached : new.attached ≡ old.attached + 1
+
+-- a clause of two or more literals is attached, which watches these two, and no visited step is of their variables
+pub record IsLong (old new : TrailView) (number : ℕ) (first second : Literal) : Type 0 where
+  pub variables : new.variables ≡ old.variables
+  pub steps : new.steps ≡ old.steps
+  pub level_count : new.level_count ≡ old.level_count
+  pub attached : new.attached ≡ number
+  pub shorts : new.shorts ≡ old.shorts
+  pub longs : new.longs ≡ old.longs ++ number ∷ []
+  pub watched : new.watched ≡ old.watched ++ first ∷ second ∷ []
+  pub fewer : new.visited ≤ old.visited
+  pub first_open : (step : Step) → IsIn (take new.visited new.steps) step → step.lit.variable ≢ first.variable
+  pub second_open : (step : Step) → IsIn (take new.visited new.steps) step → step.lit.variable ≢ second.variable
+
+-- no clause is attached, and no variable has a value
+abbrev pub empty_over : ℕ → TrailView
+empty_over variables = record {
+  variables = variables;
+  steps = [];
+  level_count = 0;
+  attached = 0;
+  shorts = [];
+  longs = [];
+  watched = [];
+  visited = 0;
+}
+
+-- every clause of a kernel is attached, and no variable has a value
+pub record IsNew (trail : TrailView) (kernel : KernelView) : Type 0 where
+  pub steps : trail.steps ≡ []
+  pub level_count : trail.level_count ≡ 0
+  pub attached : trail.attached ≡ length kernel.entries

@@ -4,6 +4,9 @@
 mod entries;
 pub mod laws;
 mod links;
+#[cfg(test)]
+mod tests;
 mod trail;
+mod watches;
 
 pub use trail::Trail;

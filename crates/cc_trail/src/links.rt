@@ -57,7 +57,8 @@ impl Links {
 
     /// How many nodes there are.
     pub fn count(&self) -> usize
-        ensures { result ≡ length self.now.watched }
+        ensures count { result ≡ length self.now.watched }
+        ensures few { result ≤ 4294967000 }
     {
         self.watched.len()
     }

@@ -1,15 +1,18 @@
 //! A trail: what is true and false, by levels of decisions, and propagation over the clauses of a kernel.
-ghost use Rattle.std.specs.Prelude.{◌≡◌, ℕ, ◌+◌, ◌<◌, ◌≤◌, [], map, None, option_map, option_and_then};
+ghost use Rattle.std.specs.Prelude.{◌≡◌, ℕ, ◌+◌, ◌<◌, ◌≤◌, [], ◌∷◌, ◌++◌, map, None, IfOk, OnOk, OnErr, option_map, option_and_then};
 ghost use Rattle.cc_defs.specs.Assignments.{IsClosed};
-ghost use Rattle.cc_kernel.specs.Kernels.{KernelView, clauses_of};
+ghost use Rattle.cc_kernel.specs.Kernels.{KernelView, clauses_of, IsThere};
 ghost use Rattle.cc_trail.specs.EntryParts.{literal_of_step};
 ghost use Rattle.cc_trail.specs.Links.{IsLiteralOver};
 ghost use Rattle.cc_trail.specs.Steps.{AreSteps, step_of, values_of};
-ghost use Rattle.cc_trail.specs.Trails.{TrailView, Fits, IsSettled, value_of, level_of_step, reason_of_step, decided, back_at};
+ghost use Rattle.cc_trail.specs.Trails.{TrailView, Fits, IsSettled, IsNew, empty_over, IsAttached, IsLong, value_of, level_of_step, reason_of_step, decided, back_at};
 
 use crate::entries::Entries;
 use crate::links::Links;
-use cc_defs::Lit;
+use crate::watches::{Pair, best_two};
+use cc_defs::{Lit, OutOfMemory};
+use cc_kernel::Kernel;
+use std::alloc::Global;
 use std::marker::Model;
 
 /// What is true and false, in the order in which it became so, and the watch links of the attached clauses.
@@ -39,6 +42,85 @@ impl Model for Trail {
 }
 
 impl Trail {
+    // A trail to which no clause is attached.
+    fn empty(alloc: Global, variables: u32) -> Result<Trail, OutOfMemory>
+        requires { variables ≤ 4000000 }
+        ensures { IfOk result (λ trail. trail ≡ empty_over variables) }
+    {
+        Ok(Trail {
+            entries: Entries::new(alloc, variables)?,
+            links: Links::new(alloc, variables)?,
+            attached: 0,
+            shorts: Vec::new(alloc),
+            longs: Vec::new(alloc),
+            visited: 0,
+        })
+    }
+
+    /// A trail to which every clause of a kernel is attached, and in which no variable has a value.
+    pub fn new(alloc: Global, kernel: &Kernel) -> Result<Trail, OutOfMemory>
+        ensures new { IfOk result (λ trail. IsNew trail kernel.now) }
+        ensures fits { IfOk result (λ trail. Fits trail kernel.now) }
+        ensures settled { IfOk result (λ trail. IsSettled trail kernel.now) }
+    {
+        let mut trail = Trail::empty(alloc, kernel.variables())?;
+        for index in 0..kernel.count() {
+            trail.attach(kernel, index + 1)?;
+        }
+        Ok(trail)
+    }
+
+    // Attaches a clause of fewer than two literals.
+    fn attach_short(&mut self, id: u32) -> Result<(), OutOfMemory>
+        requires { id ≡ self.old.attached + 1 }
+        ensures attached { OnOk result (self.new ≡ record self.old { attached = id; shorts = self.old.shorts ++ id ∷ [] }) }
+        ensures kept { OnErr result (self.new ≡ self.old) }
+    {
+        self.shorts.push(id)?;
+        self.attached = id;
+        Ok(())
+    }
+
+    // Attaches a clause of two or more literals, which watches two of them.
+    fn attach_long(&mut self, id: u32, pair: Pair) -> Result<(), OutOfMemory>
+        requires next { id ≡ self.old.attached + 1 }
+        requires first { IsLiteralOver self.old.variables pair.first }
+        requires second { IsLiteralOver self.old.variables pair.second }
+        ensures attached { OnOk result (IsLong self.old self.new id pair.first pair.second) }
+        ensures kept { OnErr result (self.new ≡ self.old) }
+    {
+        let node = self.links.count() as u32;
+        self.longs.reserve(1)?;
+        self.links.add_two(pair.first, pair.second)?;
+        self.links.put(node, pair.first);
+        self.links.put(node + 1, pair.second);
+        self.longs.push(id)?;
+        self.visited = self
+            .visited
+            .min(self.entries.place(pair.first.variable()))
+            .min(self.entries.place(pair.second.variable()));
+        self.attached = id;
+        Ok(())
+    }
+
+    /// Attaches the next clause of a kernel.
+    pub fn attach(&mut self, kernel: &Kernel, id: u32) -> Result<(), OutOfMemory>
+        requires fits { Fits self.old kernel.now }
+        requires next { id ≡ self.old.attached + 1 }
+        requires there { IsThere kernel.now id }
+        ensures attached { OnOk result (IsAttached self.old self.new) }
+        ensures fits { OnOk result (Fits self.new kernel.now) }
+        ensures settled { OnOk result ((other : KernelView) → IsSettled self.old other → IsSettled self.new other) }
+        ensures kept { OnErr result (self.new ≡ self.old) }
+    {
+        let clause = kernel.clause(id);
+        if clause.len() < 2 {
+            return self.attach_short(id);
+        }
+        let pair = best_two(&self.entries, clause);
+        self.attach_long(id, pair)
+    }
+
     /// Opens a level, and makes a literal true at it.
     pub fn decide(&mut self, lit: Lit)
         requires over { IsLiteralOver self.old.variables lit }
