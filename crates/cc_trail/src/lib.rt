@@ -4,8 +4,6 @@
 mod entries;
 pub mod laws;
 mod links;
-#[cfg(test)]
-mod tests;
 mod trail;
 mod watches;
 
