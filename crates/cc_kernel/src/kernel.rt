@@ -165,7 +165,8 @@ impl Kernel {
 
     /// How many variables there are.
     pub fn variables(&self) -> u32
-        ensures { result ≡ self.now.variables }
+        ensures variables { result ≡ self.now.variables }
+        ensures most { result ≤ 4000000 }
     {
         self.variables
     }

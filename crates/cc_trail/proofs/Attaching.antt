@@ -1,0 +1,228 @@
+-- One clause more is attached: the fit stays.
+use Rattle.std.proofs.Common.{◌≡◌, ◌≢◌, ◌∙◌, ℕ, ◌+◌, ◌-◌, ◌*◌, ◌/◌, ◌%◌, ◌<◌, ◌≤◌, zero, suc, inl, inr, Bool, true, false, List, [], ◌∷◌, ◌++◌, length, get_or, set, take, Option, Some, None, Result, Ok, Err, refl, sym, subst, ap, arith, length-append}
+use Rattle.std.specs.Prelude.{◌⊎◌, OnOk, All, Contains, if◌then◌else◌}
+use Rattle.std.proofs.lemmas.Bool.Decides.{eqb_tells, leb_tells, nat_tests}
+use Rattle.std.proofs.lemmas.List.{length-map, set-get_or, get_or_append_left, get_or-append-add}
+use Rattle.std.proofs.lemmas.List.Elements.{All-nil, All-cons}
+use Rattle.cc_defs.specs.Clauses.{Literal, opposite, IsClause, IsOver, IsBefore, IsNumbered}
+use Rattle.cc_kernel.specs.Kernels.{KernelView, Entry, clauses_of, IsThere}
+use Rattle.cc_trail.specs.declared.entries.Step.{Step}
+use Rattle.cc_trail.specs.Links.{IsIn, IsLiteralOver, no_literal, watched_at}
+use Rattle.cc_trail.specs.Watches.{IsTrueBy, IsWatched, Watches, IsShort, partner}
+use Rattle.cc_trail.specs.Trails.{TrailView, FitsClauses, Fits, IsTrail, IsLong, number_of}
+use Rattle.cc_trail.proofs.StepLists.{in_left, in_right, in_push}
+
+pub on_ok : {T E : Type 0} (r : Result T E) {P Q : Type 0} → (P → Q) → OnOk r P → OnOk r Q
+on_ok (Ok x) f p = f p
+on_ok (Err e) f p = tt
+
+pub all_over : (variables : ℕ) (clause : List Literal) → IsOver variables clause → All (λ (literal : Literal). IsLiteralOver variables literal) clause
+all_over variables [] over = All-nil (λ (literal : Literal). IsLiteralOver variables literal)
+all_over variables (literal ∷ clause) over =
+    All-cons (λ (literal : Literal). IsLiteralOver variables literal) literal clause (over.0, over.1) (all_over variables clause over.2)
+
+different : (a b : Literal) → IsBefore a b → a ≡ b → ⊥
+different a b (inl lower) same = let variable : a.variable ≡ b.variable = ap (λ (l : Literal). l.variable) same in absurd (omega (arith, lower))
+different a b (inr (variable, negative, positive)) same =
+    let sign : a.positive ≡ b.positive = ap (λ (l : Literal). l.positive) same in true_is_false (sym negative ∙ sign ∙ positive)
+  where
+    true_is_false : false ≡ true → ⊥
+    true_is_false e = cc
+
+pub first_two : (clause : List Literal) (one two d e : Literal) → IsClause clause → 2 ≤ length clause → one ≡ get_or clause 0 d → two ≡ get_or clause 1 e → two ≡ one → ⊥
+first_two [] one two d e is long one_is two_is same = absurd (omega arith)
+first_two (a ∷ []) one two d e is long one_is two_is same = absurd (omega arith)
+first_two (a ∷ b ∷ clause) one two d e is long one_is two_is same = different a b is.0 (sym one_is ∙ sym same ∙ two_is)
+
+-- what is written in the place of what is there already
+pub written_two : (watched : List Literal) (a b : Literal) (node : ℕ) → node ≡ length watched →
+    set (set (watched ++ a ∷ b ∷ []) node a) (node + 1) b ≡ watched ++ a ∷ b ∷ []
+written_two watched a b node is =
+    let first : get_or (watched ++ a ∷ b ∷ []) (length watched + 0) no_literal ≡ a = get_or-append-add watched (a ∷ b ∷ []) 0 no_literal in
+    let second : get_or (watched ++ a ∷ b ∷ []) (length watched + 1) no_literal ≡ b = get_or-append-add watched (a ∷ b ∷ []) 1 no_literal in
+    let zero_more : length watched + 0 ≡ node = omega arith in
+    let one_more : length watched + 1 ≡ node + 1 = omega arith in
+    ap (λ (ls : List Literal). set ls (node + 1) b) (same_set (watched ++ a ∷ b ∷ []) node a (rw (← zero_more) first)) ∙
+    same_set (watched ++ a ∷ b ∷ []) (node + 1) b (rw (← one_more) second)
+  where
+    same_set : (ls : List Literal) (k : ℕ) (x : Literal) → get_or ls k no_literal ≡ x → set ls k x ≡ ls
+    same_set ls k x at = subst (λ (y : Literal). set ls k y ≡ ls) at (set-get_or ls k no_literal)
+
+-- ---- the fit
+
+module _ (old new : TrailView) (kernel : KernelView) (fits : Fits old kernel) (number : ℕ) (next : number ≡ old.attached + 1) (there : IsThere kernel number)
+    (clause : List Literal) (numbered : IsNumbered (clauses_of kernel) number clause) where
+  within : number ≤ length (clauses_of kernel)
+  within =
+      let most : number ≤ length kernel.entries = there.1 in
+      let count : length (clauses_of kernel) ≡ length kernel.entries = length-map kernel.entries (λ (entry : Entry). entry.clause) in
+      omega arith
+
+  each_or : (k : ℕ) → 0 < k → k ≤ number → (IsIn old.shorts k ⊎ IsIn old.longs k) ⊎ (k ≡ number)
+  each_or k some most = elim (eqb_tells k number) [
+    | inl same ↦ inr (same.1)
+    | inr other ↦ let apart : k ≢ number = other.1 in inl (fits.clauses.each k some (omega arith))
+  ]
+
+  pub fits_short : length clause < 2 → new ≡ record old { attached = number; shorts = old.shorts ++ number ∷ [] } → Fits new kernel
+  fits_short short is = rw is (record {
+    variables = fits.variables;
+    clauses = record {
+      attached = within;
+      reasons = fits.clauses.reasons;
+      shorts = λ k here. elim (in_push old.shorts number k here) [
+        | inl before ↦ fits.clauses.shorts k before
+        | inr same ↦ rw (← same) (clause, numbered, short)
+      ];
+      longs = fits.clauses.longs;
+      each = λ k some most. elim (each_or k some most) [
+        | inl before ↦ elim before [
+          | inl left ↦ inl (in_left old.shorts (number ∷ []) k left)
+          | inr right ↦ inr right
+        ]
+        | inr last ↦ inl (in_right old.shorts (number ∷ []) k (inl (sym last)))
+      ];
+      watches = fits.clauses.watches;
+    };
+  })
+
+partner_below : (node half : ℕ) → node < 2 * half → partner node < 2 * half
+partner_below node half within = grind (arith, nat_tests)
+
+half_below : (node half : ℕ) → node < 2 * half → node / 2 < half
+half_below node half within = omega arith
+
+partner_first : (half : ℕ) → partner (2 * half) ≡ 2 * half + 1
+partner_first half = grind (arith, nat_tests)
+
+partner_second : (half : ℕ) → partner (2 * half + 1) ≡ 2 * half
+partner_second half = grind (arith, nat_tests)
+
+half_first : (half : ℕ) → (2 * half) / 2 ≡ half
+half_first half = omega arith
+
+half_second : (half : ℕ) → (2 * half + 1) / 2 ≡ half
+half_second half = omega arith
+
+pub take_fewer_in : (m n : ℕ) (steps : List Step) (step : Step) → m ≤ n → IsIn (take m steps) step → IsIn (take n steps) step
+take_fewer_in zero n steps step few here = elim here [ ]
+take_fewer_in (suc m) zero steps step few here = absurd (omega arith)
+take_fewer_in (suc m) (suc n) [] step few here = elim here [ ]
+take_fewer_in (suc m) (suc n) (first ∷ steps) step few (inl same) = inl same
+take_fewer_in (suc m) (suc n) (first ∷ steps) step few (inr here) = inr (take_fewer_in m n steps step (omega arith) here)
+
+module _ (old new : TrailView) (kernel : KernelView) (fits : Fits old kernel) (trail : IsTrail old) (number : ℕ) (next : number ≡ old.attached + 1) (there : IsThere kernel number)
+    (clause : List Literal) (numbered : IsNumbered (clauses_of kernel) number clause) (first second : Literal)
+    (first_in : Contains clause first) (second_in : Contains clause second) (apart : first ≢ second) (long : IsLong old new number first second) where
+  half : ℕ
+  half = length old.longs
+
+  nodes_then : length new.watched ≡ 2 * length old.longs + 2
+  nodes_then = let before = trail.nodes in omega (arith, ap length long.watched, length-append old.watched (first ∷ second ∷ []))
+
+  old_at : (node : ℕ) → node < length old.watched → watched_at new.watched node ≡ watched_at old.watched node
+  old_at node low = rw long.watched (get_or_append_left old.watched (first ∷ second ∷ []) no_literal node low)
+
+  old_number : (node : ℕ) → node < length old.watched → number_of new.longs node ≡ number_of old.longs node
+  old_number node low =
+      let before = trail.nodes in
+      rw long.longs (get_or_append_left old.longs (number ∷ []) 0 (node / 2) (half_below node (length old.longs) (omega arith)))
+
+  old_partner : (node : ℕ) → node < length old.watched → partner node < length old.watched
+  old_partner node low =
+      let before = trail.nodes in
+      let below : partner node < 2 * length old.longs = partner_below node (length old.longs) (omega arith) in
+      omega (arith, below)
+
+  first_at : watched_at new.watched (2 * length old.longs) ≡ first
+  first_at =
+      let before = trail.nodes in
+      let place : length old.watched + 0 ≡ 2 * length old.longs = omega arith in
+      rw (long.watched, ← place) (get_or-append-add old.watched (first ∷ second ∷ []) 0 no_literal)
+
+  second_at : watched_at new.watched (2 * length old.longs + 1) ≡ second
+  second_at =
+      let before = trail.nodes in
+      let place : length old.watched + 1 ≡ 2 * length old.longs + 1 = omega arith in
+      rw (long.watched, ← place) (get_or-append-add old.watched (first ∷ second ∷ []) 1 no_literal)
+
+  number_at : get_or new.longs (length old.longs) 0 ≡ number
+  number_at =
+      let place : length old.longs + 0 ≡ length old.longs = omega arith in
+      rw long.longs (subst (λ (k : ℕ). get_or (old.longs ++ number ∷ []) k 0 ≡ number) place (get_or-append-add old.longs (number ∷ []) 0 0))
+
+  -- a node is an old one, or one of the two
+  which : (node : ℕ) → node < length new.watched → (node < length old.watched) ⊎ ((node ≡ 2 * length old.longs) ⊎ (node ≡ 2 * length old.longs + 1))
+  which node low =
+      let before = trail.nodes in
+      let count = nodes_then in
+      elim (leb_tells (length old.watched) node) [
+        | inr below ↦ inl (below.1)
+        | inl past ↦ elim (eqb_tells node (2 * length old.longs)) [
+          | inl same ↦ inr (inl (same.1))
+          | inr other ↦ let far : length old.watched ≤ node = past.1 in let apart : node ≢ 2 * length old.longs = other.1 in inr (inr (omega arith))
+        ]
+      ]
+
+  longs_then : (node : ℕ) → node < length new.watched → Watches (clauses_of kernel) (number_of new.longs node) new.watched node
+  longs_then node low = elim (which node low) [
+    | inl before ↦
+        let watches = fits.clauses.longs node before in
+        record {
+          clause = watches.clause;
+          numbered = rw (old_number node before) watches.numbered;
+          here = rw (old_at node before) watches.here;
+          there = rw (old_at (partner node) (old_partner node before)) watches.there;
+          apart = rw (old_at node before, old_at (partner node) (old_partner node before)) watches.apart;
+        }
+    | inr one_of ↦ elim one_of [
+      | inl is ↦ rw is (record {
+        clause = clause;
+        numbered = rw (half_first (length old.longs), number_at) numbered;
+        here = rw first_at first_in;
+        there = rw (partner_first (length old.longs), second_at) second_in;
+        apart = rw (partner_first (length old.longs), first_at, second_at) apart;
+      })
+      | inr is ↦ rw is (record {
+        clause = clause;
+        numbered = rw (half_second (length old.longs), number_at) numbered;
+        here = rw second_at second_in;
+        there = rw (partner_second (length old.longs), first_at) first_in;
+        apart = rw (partner_second (length old.longs), first_at, second_at) (λ same. apart (sym same));
+      })
+    ]
+  ]
+
+  watches_then : (node : ℕ) → node < length new.watched → IsWatched (take new.visited new.steps) new.steps new.watched node
+  watches_then node low = elim (which node low) [
+    | inl before ↦ λ step here is.
+        rw (old_at (partner node) (old_partner node before), long.steps)
+        (fits.clauses.watches node before step
+        (take_fewer_in new.visited old.visited old.steps step long.fewer (subst (λ (ss : List Step). IsIn (take new.visited ss) step) long.steps here))
+        (is ∙ ap opposite (old_at node before)))
+    | inr one_of ↦ elim one_of [
+      | inl at_first ↦ λ step here is.
+          absurd (long.first_open step here (ap (λ (l : Literal). l.variable) is ∙ ap (λ (k : ℕ). (watched_at new.watched k).variable) at_first ∙ ap (λ (l : Literal). l.variable) first_at))
+      | inr at_second ↦ λ step here is.
+          absurd (long.second_open step here (ap (λ (l : Literal). l.variable) is ∙ ap (λ (k : ℕ). (watched_at new.watched k).variable) at_second ∙ ap (λ (l : Literal). l.variable) second_at))
+    ]
+  ]
+
+  pub fits_long : Fits new kernel
+  fits_long = record {
+    variables = long.variables ∙ fits.variables;
+    clauses = record {
+      attached = rw long.attached (within old new kernel fits number next there clause numbered);
+      reasons = rw long.steps fits.clauses.reasons;
+      shorts = rw long.shorts fits.clauses.shorts;
+      longs = longs_then;
+      each = rw (long.attached, long.shorts, long.longs) (λ k some most. elim (each_or old new kernel fits number next there clause numbered k some most) [
+        | inl before ↦ elim before [
+          | inl left ↦ inl left
+          | inr right ↦ inr (in_left old.longs (number ∷ []) k right)
+        ]
+        | inr last ↦ inr (in_right old.longs (number ∷ []) k (inl (sym last)))
+      ]);
+      watches = watches_then;
+    };
+  }

@@ -1,0 +1,11 @@
+mod Chains
+mod Linked
+mod StepLists
+mod Kept
+mod EntryViews
+mod Backs
+mod Adding
+mod Values
+mod TrailViews
+mod Attaching
+mod Starting

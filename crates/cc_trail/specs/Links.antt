@@ -1,0 +1,40 @@
+-- Watch links as their holder sees them. Each node of a link stands for one of the two watched literals of a clause.
+use Rattle.std.specs.Prelude.{◌≡◌, ℕ, ◌+◌, ◌*◌, ◌<◌, ◌≤◌, ◌↔◌, ◌⊎◌, false, if◌then◌else◌, List, [], ◌∷◌, length, get_or}
+use Rattle.cc_defs.specs.Clauses.{Literal}
+
+-- a member of a list
+abbrev pub IsIn : {X : Type 0} → List X → X → Type 0
+IsIn [] x = ⊥
+IsIn (y ∷ ys) x = (y ≡ x) ⊎ IsIn ys x
+
+-- the number of variables, the literal that each node watches, and the nodes that were taken out of their links
+pub record LinksView : Type 0 where
+  pub variables : ℕ
+  pub watched : List Literal
+  pub taken : List ℕ
+
+-- what is read past the end
+abbrev pub no_literal : Literal
+no_literal = record { variable = 0; positive = false }
+
+-- the literal that a node watches
+abbrev pub watched_at : List Literal → ℕ → Literal
+watched_at watched node = get_or watched node no_literal
+
+-- a literal as a number: twice its variable, and one more where it is positive
+abbrev pub code_of : Literal → ℕ
+code_of literal = 2 * literal.variable + (if literal.positive then 1 else 0)
+
+-- a literal of one of the variables 1, .., variables
+abbrev pub IsLiteralOver : ℕ → Literal → Type 0
+IsLiteralOver variables literal = (0 < literal.variable) × (literal.variable ≤ variables)
+
+-- a list that begins with this number
+abbrev pub BeginsWith : List ℕ → ℕ → Type 0
+BeginsWith numbers first = (rest : List ℕ) × (numbers ≡ first ∷ rest)
+
+-- just the nodes that watch a literal were taken out
+pub record AreTaken (old new : LinksView) (literal : Literal) : Type 0 where
+  pub variables : new.variables ≡ old.variables
+  pub watched : new.watched ≡ old.watched
+  pub nodes : (node : ℕ) → IsIn new.taken node ↔ ((node < length old.watched) × (watched_at old.watched node ≡ literal))

@@ -1,0 +1,125 @@
+-- What the holder of a trail sees of it.
+use Rattle.std.specs.Prelude.{◌≡◌, ◌≢◌, ℕ, ◌+◌, ◌*◌, ◌/◌, ◌<◌, ◌≤◌, ◌⊎◌, List, [], ◌∷◌, ◌++◌, length, Contains, take, get_or, min, Option, Some, None, option_map, option_and_then, Bool, not, if◌then◌else◌}
+use Rattle.cc_defs.specs.Clauses.{Literal}
+use Rattle.cc_defs.specs.Assignments.{IsClosed, IsTrueIn, HasNoValue}
+use Rattle.cc_kernel.specs.Kernels.{KernelView, clauses_of}
+use Rattle.cc_trail.specs.declared.entries.Step.{Step}
+use Rattle.cc_trail.specs.Links.{IsIn}
+use Rattle.cc_trail.specs.Steps.{AreSteps, step_of, steps_to, values_of, values_to}
+use Rattle.cc_trail.specs.Watches.{IsWatched, Watches, AreReasoned, IsShort}
+
+-- The number of variables, the steps in order, how many levels were opened, how many clauses are attached, the numbers of
+-- those of fewer than two literals and of the others, the literal that each node of the watch links watches, and how many
+-- steps were visited. The nodes of a long clause are twice its place among them, and the next one.
+pub record TrailView : Type 0 where
+  pub variables : ℕ
+  pub steps : List Step
+  pub level_count : ℕ
+  pub attached : ℕ
+  pub shorts : List ℕ
+  pub longs : List ℕ
+  pub watched : List Literal
+  pub visited : ℕ
+
+-- the number of the long clause of a node
+abbrev pub number_of : List ℕ → ℕ → ℕ
+number_of longs node = get_or longs (node / 2) 0
+
+-- What is true of each trail, whatever kernel it fits.
+pub record IsTrail (trail : TrailView) : Type 0 where
+  pub are_steps : AreSteps trail.variables trail.steps trail.level_count
+  pub visited : trail.visited ≤ length trail.steps
+  pub nodes : length trail.watched ≡ 2 * length trail.longs
+
+-- the attached clauses are the first ones of these, the reasons hold for them, and they are watched rightly
+pub record FitsClauses (trail : TrailView) (clauses : List (List Literal)) : Type 0 where
+  pub attached : trail.attached ≤ length clauses
+  pub reasons : AreReasoned clauses trail.steps
+  pub shorts : (number : ℕ) → IsIn trail.shorts number → IsShort clauses number
+  pub longs : (node : ℕ) → node < length trail.watched → Watches clauses (number_of trail.longs node) trail.watched node
+  pub each : (number : ℕ) → 0 < number → number ≤ trail.attached → IsIn trail.shorts number ⊎ IsIn trail.longs number
+  pub watches : (node : ℕ) → node < length trail.watched → IsWatched (take trail.visited trail.steps) trail.steps trail.watched node
+
+-- a trail fits a kernel
+pub record Fits (trail : TrailView) (kernel : KernelView) : Type 0 where
+  pub variables : trail.variables ≡ kernel.variables
+  pub clauses : FitsClauses trail (clauses_of kernel)
+
+-- at each level below the last one, what is true up to it is closed
+abbrev pub IsSettledOver : List Step → ℕ → List (List Literal) → Type 0
+IsSettledOver steps level_count clauses = (level : ℕ) → level < level_count → IsClosed (values_to level steps) clauses
+
+-- a trail is settled over a kernel
+abbrev pub IsSettled : TrailView → KernelView → Type 0
+IsSettled trail kernel = IsSettledOver trail.steps trail.level_count (clauses_of kernel)
+
+-- whether a literal is true, where its variable has a value
+abbrev pub value_of : List Step → Literal → Option Bool
+value_of steps literal = option_map (λ sign. if literal.positive then sign else not sign) (values_of steps literal.variable)
+
+abbrev pub level_of_step : Step → ℕ
+level_of_step step = step.level
+
+abbrev pub reason_of_step : Step → Option ℕ
+reason_of_step step = step.reason
+
+-- At each level below the last one a clause has a literal that is true up to it, or two that have no value.
+abbrev pub IsMild : List Step → ℕ → List Literal → Type 0
+IsMild steps level_count clause = (level : ℕ) → level < level_count →
+    ((literal : Literal) × Contains clause literal × IsTrueIn (values_to level steps) literal) ⊎
+    ((one : Literal) × (two : Literal) × (one ≢ two) × Contains clause one × Contains clause two ×
+    HasNoValue (values_to level steps) one × HasNoValue (values_to level steps) two)
+
+-- a level was opened, whose one entry is this literal
+abbrev pub decided : TrailView → Literal → TrailView
+decided trail literal = record trail {
+  steps = trail.steps ++ (record { lit = literal; level = trail.level_count + 1; reason = None }) ∷ [];
+  level_count = trail.level_count + 1;
+}
+
+-- just the steps of the levels up to this one are left
+abbrev pub back_at : TrailView → ℕ → TrailView
+back_at trail level = record trail {
+  steps = steps_to level trail.steps;
+  level_count = level;
+  visited = min trail.visited (length (steps_to level trail.steps));
+}
+
+-- one clause more is attached, and what became true is as before
+pub record IsAttached (old new : TrailView) : Type 0 where
+  pub variables : new.variables ≡ old.variables
+  pub steps : new.steps ≡ old.steps
+  pub level_count : new.level_count ≡ old.level_count
+  pub attached : new.attached ≡ old.attached + 1
+
+-- a clause of two or more literals is attached, which watches these two, and no visited step is of their variables
+pub record IsLong (old new : TrailView) (number : ℕ) (first second : Literal) : Type 0 where
+  pub variables : new.variables ≡ old.variables
+  pub steps : new.steps ≡ old.steps
+  pub level_count : new.level_count ≡ old.level_count
+  pub attached : new.attached ≡ number
+  pub shorts : new.shorts ≡ old.shorts
+  pub longs : new.longs ≡ old.longs ++ number ∷ []
+  pub watched : new.watched ≡ old.watched ++ first ∷ second ∷ []
+  pub fewer : new.visited ≤ old.visited
+  pub first_open : (step : Step) → IsIn (take new.visited new.steps) step → step.lit.variable ≢ first.variable
+  pub second_open : (step : Step) → IsIn (take new.visited new.steps) step → step.lit.variable ≢ second.variable
+
+-- no clause is attached, and no variable has a value
+abbrev pub empty_over : ℕ → TrailView
+empty_over variables = record {
+  variables = variables;
+  steps = [];
+  level_count = 0;
+  attached = 0;
+  shorts = [];
+  longs = [];
+  watched = [];
+  visited = 0;
+}
+
+-- every clause of a kernel is attached, and no variable has a value
+pub record IsNew (trail : TrailView) (kernel : KernelView) : Type 0 where
+  pub steps : trail.steps ≡ []
+  pub level_count : trail.level_count ≡ 0
+  pub attached : trail.attached ≡ length kernel.entries

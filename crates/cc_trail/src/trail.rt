@@ -1,0 +1,198 @@
+//! A trail: what is true and false, by levels of decisions, and propagation over the clauses of a kernel.
+ghost use Rattle.std.specs.Prelude.{◌≡◌, ℕ, ◌+◌, ◌<◌, ◌≤◌, [], ◌∷◌, ◌++◌, map, None, IfOk, OnOk, OnErr, option_map, option_and_then};
+ghost use Rattle.cc_defs.specs.Assignments.{IsClosed};
+ghost use Rattle.cc_kernel.specs.Kernels.{KernelView, clauses_of, IsThere};
+ghost use Rattle.cc_trail.specs.EntryParts.{literal_of_step};
+ghost use Rattle.cc_trail.specs.Links.{IsLiteralOver};
+ghost use Rattle.cc_trail.specs.Steps.{AreSteps, step_of, values_of};
+ghost use Rattle.cc_trail.specs.Trails.{TrailView, Fits, IsSettled, IsNew, empty_over, IsAttached, IsLong, value_of, level_of_step, reason_of_step, decided, back_at};
+
+use crate::entries::Entries;
+use crate::links::Links;
+use crate::watches::{Pair, best_two};
+use cc_defs::{Lit, OutOfMemory};
+use cc_kernel::Kernel;
+use std::alloc::Global;
+use std::marker::Model;
+
+/// What is true and false, in the order in which it became so, and the watch links of the attached clauses.
+#[derive(Drop)]
+pub struct Trail {
+    entries: Entries,
+    links: Links,
+    // How many clauses are attached.
+    attached: u32,
+    // The numbers of the attached clauses of fewer than two literals, and of the others.
+    shorts: Vec<u32>,
+    longs: Vec<u32>,
+    // How many entries have been visited by propagation.
+    visited: usize,
+}
+
+impl Model for Trail {
+    ghost use Rattle.cc_trail.specs.Trails.{TrailView};
+
+    ghost Value = { TrailView };
+
+    ghost use Rattle.cc_trail.specs.TrailParts.{view_of, AreParts};
+
+    ghost view = { view_of };
+
+    ghost invariant = { AreParts };
+}
+
+impl Trail {
+    // A trail to which no clause is attached.
+    fn empty(alloc: Global, variables: u32) -> Result<Trail, OutOfMemory>
+        requires { variables ≤ 4000000 }
+        ensures { IfOk result (λ trail. trail ≡ empty_over variables) }
+    {
+        Ok(Trail {
+            entries: Entries::new(alloc, variables)?,
+            links: Links::new(alloc, variables)?,
+            attached: 0,
+            shorts: Vec::new(alloc),
+            longs: Vec::new(alloc),
+            visited: 0,
+        })
+    }
+
+    /// A trail to which every clause of a kernel is attached, and in which no variable has a value.
+    pub fn new(alloc: Global, kernel: &Kernel) -> Result<Trail, OutOfMemory>
+        ensures new { IfOk result (λ trail. IsNew trail kernel.now) }
+        ensures fits { IfOk result (λ trail. Fits trail kernel.now) }
+        ensures settled { IfOk result (λ trail. IsSettled trail kernel.now) }
+    {
+        let mut trail = Trail::empty(alloc, kernel.variables())?;
+        for index in 0..kernel.count() {
+            trail.attach(kernel, index + 1)?;
+        }
+        Ok(trail)
+    }
+
+    // Attaches a clause of fewer than two literals.
+    fn attach_short(&mut self, id: u32) -> Result<(), OutOfMemory>
+        requires { id ≡ self.old.attached + 1 }
+        ensures attached { OnOk result (self.new ≡ record self.old { attached = id; shorts = self.old.shorts ++ id ∷ [] }) }
+        ensures kept { OnErr result (self.new ≡ self.old) }
+    {
+        self.shorts.push(id)?;
+        self.attached = id;
+        Ok(())
+    }
+
+    // Attaches a clause of two or more literals, which watches two of them.
+    fn attach_long(&mut self, id: u32, pair: Pair) -> Result<(), OutOfMemory>
+        requires next { id ≡ self.old.attached + 1 }
+        requires first { IsLiteralOver self.old.variables pair.first }
+        requires second { IsLiteralOver self.old.variables pair.second }
+        ensures attached { OnOk result (IsLong self.old self.new id pair.first pair.second) }
+        ensures kept { OnErr result (self.new ≡ self.old) }
+    {
+        let node = self.links.count() as u32;
+        self.longs.reserve(1)?;
+        self.links.add_two(pair.first, pair.second)?;
+        self.links.put(node, pair.first);
+        self.links.put(node + 1, pair.second);
+        self.longs.push(id)?;
+        self.visited = self
+            .visited
+            .min(self.entries.place(pair.first.variable()))
+            .min(self.entries.place(pair.second.variable()));
+        self.attached = id;
+        Ok(())
+    }
+
+    /// Attaches the next clause of a kernel.
+    pub fn attach(&mut self, kernel: &Kernel, id: u32) -> Result<(), OutOfMemory>
+        requires fits { Fits self.old kernel.now }
+        requires next { id ≡ self.old.attached + 1 }
+        requires there { IsThere kernel.now id }
+        ensures attached { OnOk result (IsAttached self.old self.new) }
+        ensures fits { OnOk result (Fits self.new kernel.now) }
+        ensures settled { OnOk result ((other : KernelView) → IsSettled self.old other → IsSettled self.new other) }
+        ensures kept { OnErr result (self.new ≡ self.old) }
+    {
+        let clause = kernel.clause(id);
+        if clause.len() < 2 {
+            return self.attach_short(id);
+        }
+        let pair = best_two(&self.entries, clause);
+        self.attach_long(id, pair)
+    }
+
+    /// Opens a level, and makes a literal true at it.
+    pub fn decide(&mut self, lit: Lit)
+        requires over { IsLiteralOver self.old.variables lit }
+        requires open { step_of self.old.steps lit.variable ≡ None }
+        ensures decided { self.new ≡ decided self.old lit }
+        ensures fits { (kernel : KernelView) → Fits self.old kernel → Fits self.new kernel }
+        ensures settled { (kernel : KernelView) → IsClosed (values_of self.old.steps) (clauses_of kernel) → IsSettled self.old kernel → IsSettled self.new kernel }
+    {
+        self.entries.decide(lit);
+    }
+
+    /// Takes the entries of the levels above this one away.
+    pub fn back_to(&mut self, level: u32)
+        requires { level ≤ self.old.level_count }
+        ensures back { self.new ≡ back_at self.old level }
+        ensures fits { (kernel : KernelView) → Fits self.old kernel → Fits self.new kernel }
+        ensures settled { (kernel : KernelView) → IsSettled self.old kernel → IsSettled self.new kernel }
+    {
+        self.entries.back_to(level);
+        self.visited = self.visited.min(self.entries.count());
+    }
+
+    /// Whether a literal is true, if its variable has a value.
+    pub fn value(&self, lit: Lit) -> Option<bool>
+        requires { lit.variable ≤ self.now.variables }
+        ensures { result ≡ value_of self.now.steps lit }
+    {
+        match self.entries.find(lit.variable()) {
+            Some(step) => {
+                let sign = step.lit.is_positive();
+                Some(if lit.is_positive() { sign } else { !sign })
+            },
+            None => None,
+        }
+    }
+
+    /// The level at which a variable got its value.
+    pub fn level_of(&self, variable: u32) -> Option<u32>
+        requires { variable ≤ self.now.variables }
+        ensures { result ≡ option_map level_of_step (step_of self.now.steps variable) }
+    {
+        match self.entries.find(variable) {
+            Some(step) => Some(step.level),
+            None => None,
+        }
+    }
+
+    /// The number of the clause by which a variable got its value; none for a decision.
+    pub fn reason(&self, variable: u32) -> Option<u32>
+        requires { variable ≤ self.now.variables }
+        ensures { result ≡ option_and_then reason_of_step (step_of self.now.steps variable) }
+    {
+        match self.entries.find(variable) {
+            Some(step) => step.reason,
+            None => None,
+        }
+    }
+
+    /// How many levels were opened.
+    pub fn level_count(&self) -> u32
+        ensures level_count { result ≡ self.now.level_count }
+        ensures steps { AreSteps self.now.variables self.now.steps self.now.level_count }
+    {
+        self.entries.level_count()
+    }
+
+    /// The true literals, in the order in which they became so.
+    pub fn entries(&self) -> &[Lit]
+        ensures entries { result.now ≡ map literal_of_step self.now.steps }
+        ensures steps { AreSteps self.now.variables self.now.steps self.now.level_count }
+    {
+        let _count = self.entries.count();
+        self.entries.literals()
+    }
+}
