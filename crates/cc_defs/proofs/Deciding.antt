@@ -1,6 +1,6 @@
 -- Tests that decide claims about finite clauses and assignments, so that each claim about given ones is a computation.
-use Rattle.std.proofs.Common.{◌≡◌, ◌<◌, ◌≤◌, ℕ, zero, suc, ◌+◌, ◌-◌, ◌==◌, Bool, true, false, not, ◌&&◌, ◌||◌, ◌⊎◌, ◌↔◌, inl, inr, nat_lt, List, [], ◌∷◌, ◌++◌, length, slice_get, if◌then◌else◌, Option, Some, None, refl, sym, ap, ap₂, ◌∙◌, subst, arith}
-use Rattle.std.specs.Bool.{IsTrue, IsFalse, Decides, beq}
+use Rattle.std.proofs.Common.{◌≡◌, ◌<◌, ◌≤◌, ℕ, zero, suc, ◌-◌, ◌==◌, Bool, true, false, not, ◌&&◌, ◌||◌, ◌⊎◌, inl, inr, nat_lt, List, [], ◌∷◌, ◌++◌, slice_get, if◌then◌else◌, Option, Some, None, refl, sym, ap, ap₂, ◌∙◌, subst, arith}
+use Rattle.std.specs.Bool.{IsTrue, Decides, beq}
 use Rattle.std.specs.Cmp.{booleans_Decides}
 use Rattle.std.specs.List.{AllByRecursion, Contains, filter, list_all, list_any}
 use Rattle.std.specs.declared.cmp.Ordering.{Ordering}
@@ -9,9 +9,9 @@ use Rattle.std.proofs.lemmas.Bool.Decides.{Decides-eqb, Decides-ltb, Decides-and
 use Rattle.std.proofs.lemmas.List.Elements.{All-contains, All-contains_itself, All-weaker, Contains-from_at, at_from_Contains}
 use Rattle.std.specs.List.Sorted.{IsStrictlySortedBy}
 use Rattle.std.specs.Ordering.{nat_cmp}
-use Rattle.cc_defs.specs.Assignments.{Values, IsTrueIn, IsFalseIn, HasNoValue, IsFailed, IsUnit, IsClosed, IsEarned, IsOpen, AreOpen}
+use Rattle.cc_defs.specs.Assignments.{Values, IsTrueIn, HasNoValue, IsFailed, IsUnit, IsClosed, IsEarned, AreOpen}
 use Rattle.cc_defs.specs.ClauseForms.{same_literal, is_before, in_order}
-use Rattle.cc_defs.specs.Clauses.{Literal, opposite, IsBefore, IsClause, HasAlone, Clash, IsResolvent, IsNumbered, Reaches, ReachesFrom}
+use Rattle.cc_defs.specs.Clauses.{Literal, opposite, IsBefore, IsClause, HasAlone, IsResolvent, IsNumbered, Reaches, ReachesFrom}
 use Rattle.cc_defs.specs.Sections.{HasNoEmpty}
 
 -- ---- lists
@@ -123,7 +123,7 @@ resolved sign a b pivot r passes =
       clause = (ascends-Decides r).0 two.0;
       members = λ literal. (
         got a b pivot r three.0 literal,
-        λ h. elim h.0 [ | inl in_a ↦ kept r pivot a four.0 literal in_a h.1 | inr in_b ↦ kept r pivot b four.1 literal in_b h.1 ],
+        λ h. elim h.0 [ inl in_a ↦ kept r pivot a four.0 literal in_a h.1 | inr in_b ↦ kept r pivot b four.1 literal in_b h.1 ],
       );
     }
 
@@ -334,6 +334,7 @@ told clauses found (suc n) variable e some most =
     last_or_before zero n most = inr (omega arith)
     last_or_before (suc v) zero most = inl (omega arith)
     last_or_before (suc v) (suc n) most = elim (last_or_before v n (omega arith)) [ inl e ↦ inl (ap suc e) | inr p ↦ inr (omega arith) ]
+
     by : (b : Bool) → is_among found (suc n) ≡ b → IsTrue (b || has_alone_clause clauses (suc n)) → Contains found (suc n) ⊎ HasAloneClause clauses (suc n)
     by true is e = inl (among found (suc n) is)
     by false is e = inr (alone_found clauses (suc n) e)
@@ -458,6 +459,7 @@ reached_from clauses from (pivot ∷ number ∷ chain) clause e = by (clause_at 
     by_test other next at is false true yes_true yes_false e more =
         (other, next, numbered clauses number other at, resolved false from other pivot next yes_false, more next e)
     by_test other next at is false false yes_true yes_false e more = absurd cc
+
     by : (found : Option (List Literal)) → clause_at clauses number ≡ found → reach_from clauses (next_of pivot from found) chain ≡ Some clause →
         ((rest : List Literal) → reach_from clauses (Some rest) chain ≡ Some clause → ReachesFrom clauses rest chain clause) →
         ReachesFrom clauses from (pivot ∷ number ∷ chain) clause

@@ -1,23 +1,21 @@
 -- Whether a row is a history of a query, with a claim or without, is decided by going through all rows; so is whether there is any.
-use Rattle.std.proofs.Common.{◌≡◌, ◌<◌, ℕ, Bool, true, false, not, ◌&&◌, ◌||◌, nat_eq, List, [], ◌∷◌, zero, suc, refl, sym, ap, inl, inr, ◌⊎◌, ◌↔◌, Option, Some, None, arith, subst}
+use Rattle.std.proofs.Common.{◌≡◌, ℕ, Bool, true, false, not, ◌&&◌, ◌||◌, nat_eq, List, [], ◌∷◌, zero, suc, refl, sym, inl, inr, ◌⊎◌, Option, Some, None, arith, subst}
 use Rattle.std.specs.Bool.{IsTrue, IsFalse, Decides}
 use Rattle.std.specs.Option.{IfSome}
 use Rattle.std.specs.List.{Contains, list_all}
 use Rattle.std.specs.List.Sorted.{IsStrictlySortedBy}
 use Rattle.std.specs.Cmp.Lexicographic.{pointwise}
-use Rattle.std.specs.declared.cmp.Ordering.{Ordering}
-use Rattle.std.specs.declared.cmp.Ordering.TheVariants.{Less}
 use Rattle.std.proofs.lemmas.Bool.Decides.{Decides-and, Decides-or, Decides-not, Decides-like}
 use Rattle.std.proofs.lemmas.Slice.Eq.{bytes_eq-Decides}
 use Rattle.cc_defs.specs.Rows.{IsRow, row_cmp, IsBelow}
 use Rattle.cc_defs.specs.Description.{Description, sizes_at}
-use Rattle.cc_defs.specs.Histories.{IsHistory, IsListing, AreFirst, Meets, condition_holds}
+use Rattle.cc_defs.specs.Histories.{IsHistory, AreFirst, condition_holds}
 use Rattle.cc_defs.specs.Paths.{IsPath}
 use Rattle.cc_defs.specs.Resolved.{Condition, Query}
 use Rattle.cc_defs.specs.Rules.{rules_at}
 use Rattle.cc_defs.specs.Runs.{HasNone, HasSome}
 use Rattle.cc_defs.proofs.Deciding.{is_less, less-Decides}
-use Rattle.cc_defs.proofs.Finite.{is_row, each_row, Decides-each_row, is_model, Decides-is_model, is_path, Decides-is_path, implies, Decides-implies}
+use Rattle.cc_defs.proofs.Finite.{each_row, Decides-each_row, is_model, Decides-is_model, is_path, Decides-is_path, implies, Decides-implies}
 
 abbrev pub is_path_at : Description → ℕ → List ℕ → Bool
 is_path_at d zero row = is_model (sizes_at d 0) (rules_at d 0) row
@@ -65,7 +63,7 @@ none_there d q horizon passes = record {
   members = λ row. (
     (λ c. absurd (none_in_empty row c)),
     (λ history. absurd ((Decides-each_row (λ row. IsHistory d q horizon None row → ⊥) (sizes_at d horizon) (λ row. not (is_told d q horizon row))
-    (λ row. Decides-not (is_told d q horizon row) (told-Decides d q horizon row))).0 passes row (row_of_path d horizon row history.path) history)),
+        (λ row. Decides-not (is_told d q horizon row) (told-Decides d q horizon row))).0 passes row (row_of_path d horizon row history.path) history)),
   );
 }
 

@@ -1,5 +1,5 @@
 -- Terms as clauses: each conjunction, disjunction and equivalence gets a variable of its own (Tseitin, 1968), in both directions.
-use Rattle.std.specs.Prelude.{ℕ, zero, suc, ◌+◌, Bool, true, false, not, ◌&&◌, ◌||◌, ◌==◌, nat_lt, if◌then◌else◌, List, [], ◌∷◌, ◌++◌, map}
+use Rattle.std.specs.Prelude.{ℕ, zero, suc, ◌+◌, Bool, true, not, ◌&&◌, ◌||◌, ◌==◌, nat_lt, if◌then◌else◌, List, [], ◌∷◌, ◌++◌, map}
 use Rattle.std.specs.Bool.{beq}
 use Rattle.std.specs.List.{list_any, sum}
 use Rattle.cc_defs.specs.Clauses.{Literal, opposite}

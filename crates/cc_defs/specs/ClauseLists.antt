@@ -153,10 +153,10 @@ clauses_over sizes rules conditions claim key =
     in record {
       variables = later.last;
       clauses = (positive (true_variable sizes) ∷ []) ∷ positions_from 1 sizes
-      ++ bodies.clauses
-      ++ all_written (completion_from sizes bodies.rules 0 sizes)
-      ++ all_written (denials_of bodies.rules)
-      ++ query.clauses ++ denied.clauses ++ later.clauses;
+          ++ bodies.clauses
+          ++ all_written (completion_from sizes bodies.rules 0 sizes)
+          ++ all_written (denials_of bodies.rules)
+          ++ query.clauses ++ denied.clauses ++ later.clauses;
     }
 
 abbrev pub claim_if : Bool → Option Ground → Option Ground

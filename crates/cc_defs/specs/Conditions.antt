@@ -1,5 +1,5 @@
 -- What is true of the ground laws and queries that a grounder makes, and what the theory of a horizon asks of them.
-use Rattle.std.specs.Prelude.{◌≡◌, ℕ, ◌+◌, ◌<◌, ◌≤◌, List, ◌∷◌, length, slice_get, Option, Some, None, IsTrue, IsFalse, IsNone, IfSome}
+use Rattle.std.specs.Prelude.{◌≡◌, ℕ, ◌<◌, ◌≤◌, List, ◌∷◌, length, slice_get, Some, IsTrue, IsFalse, IsNone, IfSome}
 use Rattle.std.specs.List.{AllByRecursion}
 use Rattle.cc_defs.specs.declared.node.GroundHead.{GroundHead}
 use Rattle.cc_defs.specs.declared.node.GroundHead.TheVariants as heads
@@ -11,7 +11,7 @@ use Rattle.cc_defs.specs.declared.signature.Symbol.{Symbol}
 use Rattle.cc_defs.specs.Declarations.{is_action}
 use Rattle.cc_defs.specs.Description.{Description, domain_sizes}
 use Rattle.cc_defs.specs.Forms.{is_simple}
-use Rattle.cc_defs.specs.GroundLaws.{PlainGroundLaw, PlainGroundCondition, PlainGroundQuery}
+use Rattle.cc_defs.specs.GroundLaws.{PlainGroundLaw, PlainGroundQuery}
 use Rattle.cc_defs.specs.Signatures.{Signature}
 use Rattle.cc_defs.specs.Terms.{IsTermOver}
 use Rattle.cc_defs.specs.Universe.{Universe, constants_in, objects_of, values_of}

@@ -1,16 +1,18 @@
 -- The faults of declarations, each judged by what is declared to its left, and of all of them together.
-use Rattle.std.specs.Prelude.{ℕ, ◌-◌, Bool, true, false, ◌&&◌, ◌||◌, ◌==◌, not, nat_lt, if◌then◌else◌, List, [], ◌∷◌, ◌++◌, length, slice_get, Option, Some, None}
+use Rattle.std.specs.Prelude.{ℕ, ◌+◌, ◌-◌, Bool, true, false, ◌&&◌, ◌||◌, ◌==◌, not, nat_lt, if◌then◌else◌, List, [], ◌∷◌, ◌++◌, length, map, Option, Some, None}
 use Rattle.std.specs.List.{list_any, list_all, find}
 use Rattle.std.specs.Cmp.Lexicographic.{pointwise}
 use Rattle.cc_defs.specs.declared.refusal.LimitAt.{LimitAt}
 use Rattle.cc_defs.specs.declared.refusal.LimitAt.TheVariants as limits
 use Rattle.cc_defs.specs.declared.refusal.Refusal.{Refusal}
 use Rattle.cc_defs.specs.declared.signature.Const.{Const}
+use Rattle.cc_defs.specs.declared.signature.Kind.{Kind}
 use Rattle.cc_defs.specs.Limits.{limit_number}
+use Rattle.cc_defs.specs.Refusals.{refused, past_at, past, least}
 use Rattle.cc_defs.specs.Trees.{PlainShape, PlainKind, PlainStatement}
 use Rattle.cc_defs.specs.Trees as trees
 use Rattle.cc_defs.specs.Grammar.{same_text}
-use Rattle.cc_defs.specs.Declarations.{Declaration, Sort, Link, Subsort, Object, Variable, Constant, Kinds, Declared, Pair, declarations_of, boolean, sort_names, pairs, is_below, objects, variables, constants, constant_names, value_sort, kind_of_constant, is_action, ground_fluents, ground_actions}
+use Rattle.cc_defs.specs.Declarations.{Declaration, Sort, Link, Subsort, Object, Variable, Constant, Kinds, Declared, Pair, declarations_of, boolean, sort_names, pairs, is_below, objects, variables, constants, constant_names, value_sort, kind_of_constant, is_action, ground_of, ground_fluents, ground_actions}
 
 abbrev pub is_sort : List Declaration → List ℕ → Bool
 is_sort left name = list_any (same_text name) (sort_names left)
@@ -36,15 +38,21 @@ is_twice left (Kinds shapes kind) = false
 abbrev pub are_sorts : List Declaration → List (List ℕ) → Bool
 are_sorts left names = list_all (is_sort left) names
 
+abbrev pub lacks_sort : List Declaration → List ℕ → Bool
+lacks_sort left name = not (is_sort left name)
+
+abbrev pub lacks_any : List Declaration → List (List ℕ) → Bool
+lacks_any left names = list_any (lacks_sort left) names
+
 abbrev pub has_unknown : List Declaration → PlainKind → Bool
-has_unknown left (trees.Plain word sort) = not (is_sort left (value_sort (trees.Plain word sort)))
-has_unknown left (trees.Attribute sort action) = not (is_sort left sort && (are_sorts left action.sorts && is_taken left action.name))
+has_unknown left (trees.Plain word sort) = lacks_sort left (value_sort (trees.Plain word sort))
+has_unknown left (trees.Attribute sort action) = lacks_sort left sort || (lacks_any left action.sorts || not (is_taken left action.name))
 
 -- 5: a sort, or the action of an attribute, is not declared
 abbrev pub is_unknown : List Declaration → Declaration → Bool
-is_unknown left (Object name sort) = not (is_sort left sort)
-is_unknown left (Variable name sort) = not (is_sort left sort)
-is_unknown left (Constant shape kind file line) = not (are_sorts left shape.sorts)
+is_unknown left (Object name sort) = lacks_sort left sort
+is_unknown left (Variable name sort) = lacks_sort left sort
+is_unknown left (Constant shape kind file line) = lacks_any left shape.sorts
 is_unknown left (Kinds shapes kind) = has_unknown left kind
 is_unknown left declaration = false
 
@@ -62,7 +70,8 @@ declared_sorts left name = sorts_of_constant (constant_named left name)
 abbrev pub has_other_count : List Declaration → List PlainShape → PlainKind → Bool
 has_other_count left shapes (trees.Plain word sort) = false
 has_other_count left shapes (trees.Attribute sort action) =
-    not ((length action.sorts == length (declared_sorts left action.name)) && list_all (λ shape. length shape.sorts == length action.sorts) shapes)
+    let count = length action.sorts
+    in not (count == length (declared_sorts left action.name)) || list_any (λ shape. not (length shape.sorts == count)) shapes
 
 -- 6: the action of an attribute has another number of arguments than its own declaration, or than the attribute
 abbrev pub has_wrong_count : List Declaration → Declaration → Bool
@@ -85,7 +94,8 @@ abbrev pub has_other_sorts : List Declaration → List PlainShape → PlainKind 
 has_other_sorts left shapes (trees.Plain word sort) = false
 has_other_sorts left shapes (trees.Attribute sort action) =
     let own = declared_sorts left action.name
-    in not (is_boolean_action (constant_named left action.name) && (same_sorts action.sorts own && list_all (λ shape. same_sorts shape.sorts own) shapes))
+    in not (is_boolean_action (constant_named left action.name))
+    || (not (same_sorts action.sorts own) || list_any (λ shape. not (same_sorts shape.sorts own)) shapes)
 
 -- 7: a sort would stand below itself; `boolean` in a chain; objects of `boolean`; an attribute whose action is no Boolean
 -- action, or that has arguments of other sorts
@@ -103,19 +113,20 @@ any_has fault left (declaration ∷ others) = fault left declaration || any_has 
 
 -- the least number that has a fault in the statement
 abbrev pub declaration_fault : List Declaration → List Declaration → Option ℕ
-declaration_fault left new =
-    if any_has is_twice left new then Some 4
-    else (if any_has is_unknown left new then Some 5
-    else (if any_has has_wrong_count left new then Some 6
-    else (if any_has has_wrong_sort left new then Some 7 else None)))
+declaration_fault left new = least (
+    (4, any_has is_twice left new)
+    ∷ (5, any_has is_unknown left new)
+    ∷ (6, any_has has_wrong_count left new)
+    ∷ (7, any_has has_wrong_sort left new)
+    ∷ [])
 
 -- the objects that count: `false` and `true` do not
 abbrev pub object_count : List Declaration → ℕ
 object_count declarations = length (objects declarations) - 2
 
 abbrev pub refusal_for : ℕ → ℕ → Bool → Option ℕ → Option Refusal
-refusal_for file line many (Some number) = Some (record { number = number; file = file; line = line; limit = None })
-refusal_for file line true None = Some (record { number = 14; file = file; line = line; limit = Some limits.Objects })
+refusal_for file line many (Some number) = Some (refused number file line)
+refusal_for file line true None = Some (past_at limits.Objects file line)
 refusal_for file line false None = None
 
 -- the refusal of a statement of declarations behind others, if there is one
@@ -132,28 +143,35 @@ ground_constants_of declarations = ground_fluents declarations ++ ground_actions
 abbrev pub is_empty : Const → Bool
 is_empty constant = length constant.domain == 0
 
--- 12: a ground constant has no value; the place is that of its declaration
-abbrev pub empty_refusal : Option Declared → Refusal
-empty_refusal (Some constant) = record { number = 12; file = constant.file; line = constant.line; limit = None }
-empty_refusal None = record { number = 12; file = 0; line = 0; limit = None }
-
 abbrev pub limit_refusal : LimitAt → Refusal
-limit_refusal limit = record { number = 14; file = 0; line = 0; limit = Some limit }
+limit_refusal limit = past limit
 
 abbrev pub passes_domain_values : List Const → Bool
 passes_domain_values instances = list_any (λ constant. nat_lt (limit_number limits.DomainValues) (length constant.domain)) instances
 
 abbrev pub count_refusal : List Const → Option Refusal
 count_refusal instances =
-    if passes_domain_values instances then Some (limit_refusal limits.DomainValues)
-    else (if nat_lt (limit_number limits.GroundConstants) (length instances) then Some (limit_refusal limits.GroundConstants) else None)
+    if passes_domain_values instances then Some (past limits.DomainValues)
+    else (if nat_lt (limit_number limits.GroundConstants) (length instances) then Some (past limits.GroundConstants) else None)
 
-abbrev pub refusal_of_first : List Declaration → List Const → Option Const → Option Refusal
-refusal_of_first declarations instances (Some constant) = Some (empty_refusal (slice_get (constants declarations) constant.symbol))
-refusal_of_first declarations instances None = count_refusal instances
+-- the ground constants of declared ones, from this number on, each with its declaration
+abbrev pub declared_from : List Declaration → (Kind → Bool) → ℕ → List Declared → List (Declared × Const)
+declared_from declarations passes number [] = []
+declared_from declarations passes number (constant ∷ others) =
+    (if passes (kind_of_constant constant.kind) then map (λ instance. (constant, instance)) (ground_of declarations number constant) else [])
+    ++ declared_from declarations passes (number + 1) others
+
+-- all of them, as they stand in `ground_constants_of`
+abbrev pub declared_ground : List Declaration → List (Declared × Const)
+declared_ground declarations =
+    declared_from declarations (λ kind. not (is_action kind)) 0 (constants declarations) ++ declared_from declarations is_action 0 (constants declarations)
+
+-- 12: a ground constant has no value; the place is that of its declaration
+abbrev pub empty_or : Option (Declared × Const) → Option Refusal → Option Refusal
+empty_or (Some found) refusal = Some (refused 12 found.0.file found.0.line)
+empty_or None refusal = refusal
 
 -- the refusal of all declarations together, if there is one: the first ground constant without a value, or a limit
 abbrev pub signature_refusal : List Declaration → Option Refusal
 signature_refusal declarations =
-    let instances = ground_constants_of declarations
-    in refusal_of_first declarations instances (find is_empty instances)
+    empty_or (find (λ found. is_empty found.1) (declared_ground declarations)) (count_refusal (ground_constants_of declarations))

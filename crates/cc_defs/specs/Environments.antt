@@ -3,7 +3,7 @@ use Rattle.std.specs.Prelude.{ℕ, ◌+◌, Bool, ◌&&◌, List, [], ◌∷◌,
 use Rattle.std.specs.List.{filter}
 use Rattle.cc_defs.specs.declared.law.Range.{Range}
 use Rattle.cc_defs.specs.declared.law.Range.TheVariants as ranges
-use Rattle.cc_defs.specs.Resolved.{Formula, Head, Law, BaseLaw, One, NoConcurrency}
+use Rattle.cc_defs.specs.Resolved.{Formula, Law, BaseLaw, One, NoConcurrency}
 use Rattle.cc_defs.specs.Satisfaction.{satisfied, giving, head_is_there}
 use Rattle.cc_defs.specs.Universe.{Universe, objects_of, values_of, boolean_actions}
 

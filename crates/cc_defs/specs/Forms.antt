@@ -1,5 +1,5 @@
 -- The three forms of causal laws, by the kinds of the constants that stand in them.
-use Rattle.std.specs.Prelude.{◌≡◌, ℕ, ◌<◌, Bool, true, false, not, ◌&&◌, List, [], ◌∷◌, ◌++◌, length, slice_get, Option, Some, None, IsTrue, IsFalse, IfSome, IsNone}
+use Rattle.std.specs.Prelude.{◌≡◌, ℕ, ◌<◌, Bool, true, false, List, [], ◌∷◌, ◌++◌, length, slice_get, Option, Some, None, IsTrue, IsFalse, IsNone}
 use Rattle.std.specs.List.{AllByRecursion, list_any}
 use Rattle.cc_defs.specs.declared.signature.Kind.{Kind}
 use Rattle.cc_defs.specs.declared.signature.Kind.TheVariants as kinds

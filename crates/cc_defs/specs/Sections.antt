@@ -1,13 +1,12 @@
 -- The sections of a log over clauses: right lines, right sections, and the first line of a section that is not right.
-use Rattle.std.specs.Prelude.{◌≡◌, ◌≢◌, ℕ, ◌+◌, ◌<◌, ◌≤◌, ◌⊎◌, ◌↔◌, List, [], ◌∷◌, ◌++◌, length, map, Contains}
-use Rattle.std.specs.List.{AllByRecursion}
+use Rattle.std.specs.Prelude.{◌≡◌, ◌≢◌, ℕ, ◌+◌, ◌<◌, ◌≤◌, ◌⊎◌, ◌↔◌, List, [], ◌∷◌, ◌++◌, length, Contains}
 use Rattle.cc_defs.specs.declared.log.Cause.{Cause}
 use Rattle.cc_defs.specs.declared.log.Cause.TheVariants as causes
 use Rattle.cc_defs.specs.declared.log.EndWord.{EndWord}
 use Rattle.cc_defs.specs.declared.log.EndWord.TheVariants as words
 use Rattle.cc_defs.specs.declared.log.LogLine.{LogLine}
 use Rattle.cc_defs.specs.declared.log.LogLine.TheVariants as lines
-use Rattle.cc_defs.specs.ClauseForms.{positive, atom_variable}
+use Rattle.cc_defs.specs.ClauseForms.{positive}
 use Rattle.cc_defs.specs.Clauses.{Literal, IsClause, IsOver, Reaches, opposite}
 use Rattle.cc_defs.specs.LogTexts.{IsLine}
 use Rattle.cc_defs.specs.Rows.{IsRow}

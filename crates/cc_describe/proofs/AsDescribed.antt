@@ -7,6 +7,7 @@ use Rattle.cc_defs.specs.declared.refusal.Fault.{Fault}
 use Rattle.cc_defs.specs.declared.refusal.Fault.TheVariants as faults
 use Rattle.cc_defs.specs.declared.refusal.LimitAt.TheVariants.{IncludeDepth}
 use Rattle.cc_ports.specs.Contents.{Contents}
+use Rattle.cc_laws.specs.Laws.{ConstantsHaveForms, LawsHaveForms, QueriesHaveFormulas}
 use Rattle.cc_sorts.specs.Tables.{IsRefusedSignature}
 use Rattle.cc_describe.specs.declared.description.Described.{Described}
 use Rattle.cc_describe.specs.declared.description.DescribeStop.{DescribeStop}
@@ -14,11 +15,12 @@ use Rattle.cc_describe.specs.declared.description.DescribeStop.TheVariants as st
 use Rattle.cc_describe.specs.declared.files.Halt.{Halt}
 use Rattle.cc_describe.specs.declared.files.Halt.TheVariants as halts
 use Rattle.cc_describe.specs.declared.progress.Progress.{Progress}
-use Rattle.cc_describe.specs.Describing.{Describes, HasSignature, HasStopped, IsDescribed, IsRefusedWhole}
+use Rattle.cc_describe.specs.Describing.{AsksFormulas, Describes, HasForms, HasStopped, IsDescribed, IsOfSome, IsRefusedWhole, SaysAll}
 use Rattle.cc_describe.specs.FirstRefusal.{declared_in, file_named, opened_until}
 use Rattle.cc_describe.specs.Places.{Files, Place, opened_in, ArePlaces, AreAllPlaces, AreThere}
-use Rattle.cc_describe.specs.ProgressViews.{IsProgress, FindsFiles, GoesThrough, StopsAs, halt_of}
+use Rattle.cc_describe.specs.ProgressViews.{IsProgress, FindsFiles, GoesSomewhere, GoesThrough, StopsAs, halt_of}
 use Rattle.cc_describe.proofs.PlacesAppended.{opened_where_none}
+use Rattle.cc_describe.proofs.PlacesForms.{asks_formulas, has_forms}
 
 -- ---- all declarations are refused
 
@@ -128,8 +130,49 @@ is_refused deep (Some contents) name names progress new (halts.Refused refusal) 
       subst (AreThere contents.files) gone.3 (found contents refl (none_opened contents.files progress begun)),
     )
 
--- the places may be any
-pub has_signature : (result : Result Described DescribeStop) (places : List Place)
-    → IfOk result (λ described. (signature_refusal (declared_in places) ≡ None) × IsDescribed places described) → IfOk result HasSignature
-has_signature (Ok described) places whole = (declared_in places, whole.1.table, whole.1.signature)
-has_signature (Err stop) places whole = tt
+-- ---- whatever the desk tells
+
+-- all statements were gone through, and so were all declarations
+abbrev Finishes : Progress → Result Described DescribeStop → Type 0
+Finishes new result =
+    (places : List Place) → IsProgress new places → IfOk result (λ described. (signature_refusal (declared_in places) ≡ None) × IsDescribed places described)
+
+pub says_all : (new : Progress) (done : Unit {0}) (result : Result Described DescribeStop) → GoesSomewhere [] {T = Unit {0}} (Ok done) new → Finishes new result → IfOk result SaysAll
+says_all new done (Err stop) gone finished = tt
+says_all new done (Ok described) (places, any, none, kept) finished =
+    let whole = finished places kept in (places, ap (λ one. option_or one (signature_refusal (declared_in places))) none ∙ whole.0, whole.1)
+
+pub says_forms : LawsHaveForms → ConstantsHaveForms → (new : Progress) (done : Unit {0}) (result : Result Described DescribeStop) → GoesSomewhere [] {T = Unit {0}} (Ok done) new → Finishes new result
+    → IfOk result HasForms
+says_forms of_laws of_constants new done (Err stop) gone finished = tt
+says_forms of_laws of_constants new done (Ok described) (places, any, none, kept) finished = has_forms of_laws of_constants places described none (finished places kept).1
+
+pub says_formulas : QueriesHaveFormulas → (new : Progress) (done : Unit {0}) (result : Result Described DescribeStop) → GoesSomewhere [] {T = Unit {0}} (Ok done) new → Finishes new result
+    → IfOk result AsksFormulas
+says_formulas of_queries new done (Err stop) gone finished = tt
+says_formulas of_queries new done (Ok described) (places, any, none, kept) finished = asks_formulas of_queries places described (finished places kept).1
+
+-- all places were gone through, and all declarations are refused
+pub of_some_whole : (new : Progress) (done : Unit {0}) (result : Result Described DescribeStop) → GoesSomewhere [] {T = Unit {0}} (Ok done) new
+    → ((places : List Place) → IsProgress new places → IfErr result (IsRefusedWhole places)) → IfErr result IsOfSome
+of_some_whole new done (Ok described) gone finished = tt
+of_some_whole new done (Err stops.ReadFault) gone finished = tt
+of_some_whole new done (Err stops.OutOfMemory) gone finished = tt
+of_some_whole new done (Err (stops.Refused refusal file)) (places, any, none, kept) finished =
+    let whole = finished places kept in (
+      places,
+      ap (λ one. option_or one (signature_refusal (declared_in places))) none ∙ whole.0,
+      whole.1 ∙ ap (λ names. file_named names refusal) (sym (opened_where_none [] places none)),
+    )
+
+-- a place is refused
+pub of_some : (names : List (List ℕ)) (new : Progress) (halt : Halt) (stop : DescribeStop) → GoesSomewhere [] {T = Unit {0}} (Err halt) new → names ≡ new.names.items → StopsAs names halt stop → IsOfSome stop
+of_some names new halts.ReadFault stop gone names_are is = subst IsOfSome (sym is) tt
+of_some names new halts.OutOfMemory stop gone names_are is = subst IsOfSome (sym is) tt
+of_some names new (halts.Refused refusal) stops.ReadFault gone names_are is = tt
+of_some names new (halts.Refused refusal) stops.OutOfMemory gone names_are is = tt
+of_some names new (halts.Refused refusal) (stops.Refused told file) (places, any, some, opened) names_are is = (
+  places,
+  ap (λ one. option_or one (signature_refusal (declared_in places))) some ∙ ap Some (sym is.0),
+  is.1 ∙ ap (λ l. file_named l refusal) (names_are ∙ opened) ∙ ap (file_named (opened_until [] places)) (sym is.0),
+)

@@ -10,15 +10,16 @@ use Rattle.cc_defs.specs.Grammar.{same_text}
 use Rattle.cc_defs.specs.Resolved.{Terms}
 use Rattle.cc_defs.specs.Resolved as resolved
 use Rattle.cc_defs.specs.Trees.{PlainTerm, Applied, PlainTerms, NoTerms, MoreTerms}
-use Rattle.cc_laws.specs.Expansion.{listed, sort_ranges}
+use Rattle.cc_laws.specs.Expansion.{sort_ranges}
+use Rattle.cc_laws.specs.Heads.{listed}
 use Rattle.cc_laws.specs.FormulaFaults.{argument_misfits, some_argument_misfits, term_meaning, value_misfits}
 use Rattle.cc_laws.specs.FreeVariables.{variable_meant, term_variables}
 use Rattle.cc_laws.specs.Leaves.{Mention, mentions, argument_mentions, term_count}
-use Rattle.cc_laws.specs.Resolving.{place_in, variable_at, term_meant, resolve_term, resolve_terms}
+use Rattle.cc_laws.specs.Resolving.{number_in, variable_at, term_meant, resolve_term, resolve_terms}
 use Rattle.cc_laws.specs.Vocabulary.{Vocabulary, Meaning, Unknown, Nothing, Object, Variable, Constant, meaning, as_object, as_variable, as_constant, constant_at, is_constant, is_unknown, sort_of_entry, sort_below}
 use Rattle.cc_sorts.specs.Dictionaries.{number_of, names_of}
 use Rattle.cc_describe.proofs.Fitting.{FitsSort, FitSorts, FitsValue}
-use Rattle.cc_describe.proofs.VariablesInScope.{Within, within_first, within_second, HasRange, has_range}
+use Rattle.cc_describe.proofs.VariablesInScope.{Within, within_first, within_second, HasRange, has_range, numbers_of}
 
 -- ---- what a name means is declared
 
@@ -70,7 +71,7 @@ variables_of_args v scope name args all = within_second (variable_meant (meaning
 variables_parted : (v : Vocabulary) (first : PlainTerm) (others : PlainTerms) → args_variables v (MoreTerms first others) ≡ term_variables v first ++ args_variables v others
 variables_parted v first others = flat_map-append (λ (mention : Mention). variable_meant (meaning v mention.name)) (mentions first) (argument_mentions others)
 
-variable_has_range : (v : Vocabulary) (scope : List ℕ) (number : ℕ) → Within (number ∷ []) scope → HasRange v scope number (place_in scope number)
+variable_has_range : (v : Vocabulary) (scope : List ℕ) (number : ℕ) → Within (number ∷ []) scope → HasRange v scope number (number_in (numbers_of scope) number)
 variable_has_range v scope number all = has_range v scope number (all number (or_left (eqb number number) false (eq-eqb number number refl)))
 
 -- ---- arguments
@@ -79,13 +80,13 @@ fits_below : (v : Vocabulary) (own sort other : ℕ) → own ≡ other → not (
 fits_below v own sort other same e = subst (λ (n : ℕ). sort_below v n sort ≡ true) same (not-false (sort_below v own sort) e)
 
 variable_fits : (v : Vocabulary) (scope : List ℕ) (number own sort : ℕ) → own ≡ sort_of_entry v.variables number → Within (number ∷ []) scope →
-    not (sort_below v own sort) ≡ false → (place : ℕ) × (place_in scope number ≡ Some place) × FitsSort v (sort_ranges v scope) (resolved.Variable place) sort
+    not (sort_below v own sort) ≡ false → (place : ℕ) × (number_in (numbers_of scope) number ≡ Some place) × FitsSort v (sort_ranges v scope) (resolved.Variable place) sort
 variable_fits v scope number own sort same all e =
     let found = variable_has_range v scope number all in
     (found.place, found.is, (sort_of_entry v.variables number, found.range, fits_below v own sort (sort_of_entry v.variables number) same e))
 
 meant_fits : (v : Vocabulary) (scope : List ℕ) (sort : ℕ) (means : Meaning) (args : Terms) → IsIn v means → Within (variable_meant means) scope →
-    argument_misfits v sort means ≡ false → FitsSort v (sort_ranges v scope) (term_meant scope means args) sort
+    argument_misfits v sort means ≡ false → FitsSort v (sort_ranges v scope) (term_meant (numbers_of scope) means args) sort
 meant_fits v scope sort Unknown args is all e = absurd cc
 meant_fits v scope sort Nothing args is all e = absurd cc
 meant_fits v scope sort (Object number own) args is all e = (is.0, fits_below v own sort (sort_of_entry v.objects number) is.1 e)
@@ -95,13 +96,13 @@ meant_fits v scope sort (Variable number own) args is all e =
 meant_fits v scope sort (Constant number symbol) args is all e = absurd cc
 
 argument_fits : (v : Vocabulary) (scope : List ℕ) (sort : ℕ) (term : PlainTerm) → Within (term_variables v term) scope →
-    argument_misfits v sort (term_meaning v term) ≡ false → FitsSort v (sort_ranges v scope) (resolve_term v scope term) sort
+    argument_misfits v sort (term_meaning v term) ≡ false → FitsSort v (sort_ranges v scope) (resolve_term v (numbers_of scope) term) sort
 argument_fits v scope sort (Applied name args) all e =
-    meant_fits v scope sort (meaning v name) (resolve_terms v scope args) (meaning_in v name) (own_variable v scope name args all) e
+    meant_fits v scope sort (meaning v name) (resolve_terms v (numbers_of scope) args) (meaning_in v name) (own_variable v scope name args all) e
 
 -- so many arguments as there are sorts, each of which fits
 pub args_fit : (v : Vocabulary) (scope : List ℕ) (sorts : List ℕ) (args : PlainTerms) → Within (args_variables v args) scope →
-    term_count args ≡ length sorts → some_argument_misfits v sorts args ≡ false → FitSorts v (sort_ranges v scope) (listed (resolve_terms v scope args)) sorts
+    term_count args ≡ length sorts → some_argument_misfits v sorts args ≡ false → FitSorts v (sort_ranges v scope) (listed (resolve_terms v (numbers_of scope) args)) sorts
 args_fit v scope [] NoTerms all count e = tt
 args_fit v scope [] (MoreTerms first others) all count e = absurd (omega arith)
 args_fit v scope (sort ∷ sorts) NoTerms all count e = absurd (omega arith)
@@ -115,7 +116,7 @@ args_fit v scope (sort ∷ sorts) (MoreTerms first others) all count e =
 -- ---- values
 
 meant_value_fits : (v : Vocabulary) (scope : List ℕ) (constant : ℕ) (symbol : Symbol) (means : Meaning) (args : Terms) → IsIn v means → Within (variable_meant means) scope →
-    is_unknown means ≡ false → is_constant means ≡ false → value_misfits v symbol means ≡ false → FitsValue v (sort_ranges v scope) constant symbol (term_meant scope means args)
+    is_unknown means ≡ false → is_constant means ≡ false → value_misfits v symbol means ≡ false → FitsValue v (sort_ranges v scope) constant symbol (term_meant (numbers_of scope) means args)
 meant_value_fits v scope constant symbol Unknown args is all known apart e = absurd cc
 meant_value_fits v scope constant symbol Nothing args is all known apart e = there symbol.attribute e
   where
@@ -131,6 +132,6 @@ meant_value_fits v scope constant symbol (Constant number other) args is all kno
 
 pub value_fits : (v : Vocabulary) (scope : List ℕ) (constant : ℕ) (symbol : Symbol) (term : PlainTerm) → Within (term_variables v term) scope →
     is_unknown (term_meaning v term) ≡ false → is_constant (term_meaning v term) ≡ false → value_misfits v symbol (term_meaning v term) ≡ false →
-    FitsValue v (sort_ranges v scope) constant symbol (resolve_term v scope term)
+    FitsValue v (sort_ranges v scope) constant symbol (resolve_term v (numbers_of scope) term)
 value_fits v scope constant symbol (Applied name args) all known apart e =
-    meant_value_fits v scope constant symbol (meaning v name) (resolve_terms v scope args) (meaning_in v name) (own_variable v scope name args all) known apart e
+    meant_value_fits v scope constant symbol (meaning v name) (resolve_terms v (numbers_of scope) args) (meaning_in v name) (own_variable v scope name args all) known apart e

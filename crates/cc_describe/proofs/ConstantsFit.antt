@@ -9,7 +9,8 @@ use Rattle.cc_defs.specs.DeclarationFaults.{is_sort, are_sorts}
 use Rattle.cc_defs.specs.Declarations.{Declaration, Declared, sort_names, number_in, constants, symbols, symbol_of}
 use Rattle.cc_defs.specs.Trees.{PlainKind, PlainShape, PlainConstItem}
 use Rattle.cc_defs.specs.Trees as trees
-use Rattle.cc_laws.specs.Expansion.{Persistence, Exogenous, Frame, persistence_for, listed, places, shape_frame, value_law, attribute_laws, lasting_laws, kind_laws, constant_laws, item_laws, base_laws}
+use Rattle.cc_laws.specs.Expansion.{Persistence, Exogenous, Frame, persistence_for, places, shape_frame, value_law, attribute_laws, lasting_laws, kind_laws, constant_laws, item_laws, base_laws}
+use Rattle.cc_laws.specs.Heads.{listed}
 use Rattle.cc_laws.specs.Vocabulary.{Vocabulary, vocabulary, Meaning, Unknown, Nothing, Object, Variable, Constant, meaning, sort_below}
 use Rattle.cc_sorts.specs.Tables.{AreKnown}
 use Rattle.cc_describe.proofs.CheckedLaws.{at_end, sort_below_self, value_law_fits}

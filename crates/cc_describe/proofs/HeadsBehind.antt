@@ -11,7 +11,7 @@ use Rattle.cc_defs.specs.Trees.{PlainPart}
 use Rattle.cc_defs.specs.Trees as trees
 use Rattle.cc_defs.specs.Universe.{universe}
 use Rattle.cc_laws.specs.Expansion.{base_laws}
-use Rattle.cc_laws.specs.LawFaults.{law_fault, refusal_of}
+use Rattle.cc_laws.specs.LawFaults.{part_fault}
 use Rattle.cc_laws.specs.Vocabulary.{vocabulary}
 use Rattle.cc_sorts.specs.Tables.{AreKnown}
 use Rattle.cc_describe.specs.Describing.{laws_at, laws_behind}
@@ -25,13 +25,10 @@ use Rattle.cc_describe.proofs.Fitting.{LawFits}
 use Rattle.cc_describe.proofs.FittingHeads.{law_there}
 use Rattle.cc_describe.proofs.KnownPlaces.{known_behind, known_first}
 use Rattle.cc_describe.proofs.NameLaws.{NameLaws}
+use Rattle.cc_describe.proofs.NoFault.{no_number}
 use Rattle.cc_describe.proofs.PlacesAppended.{declared_in_behind}
 
-no_fault : (file line : ℕ) (fault : Option ℕ) → refusal_of file line fault ≡ None → fault ≡ None
-no_fault file line None e = refl
-no_fault file line (Some number) e = absurd cc
-
-both_none : (one other : Option Refusal) → option_or one other ≡ None → (one ≡ None) × (other ≡ None)
+pub both_none : (one other : Option Refusal) → option_or one other ≡ None → (one ≡ None) × (other ≡ None)
 both_none None other e = (refl, e)
 both_none (Some refusal) other e = absurd cc
 
@@ -48,8 +45,8 @@ module _ (name_laws : NameLaws) where
   part_fits before file line around (trees.Include name) none known = tt
   part_fits before file line around (trees.Law law test) none known =
       let left = declared_in before in
-      let fault : law_fault (vocabulary left) law test ≡ None = no_fault file line (law_fault (vocabulary left) law test) none in
-      let P : List Declaration → Type 0 = λ w. law_fault (vocabulary w) law test ≡ None in
+      let P : List Declaration → Type 0 = λ w. part_fault (vocabulary w) (trees.Law law test) ≡ None in
+      let fault : P left = no_number file line (part_fault (vocabulary left) (trees.Law law test)) none in
       checked_laws_fit file (vocabulary (left ++ [])) (sane (left ++ [])) line law test (subst P (sym (append-nil left)) fault)
 
   place_fits : (before : List Place) (place : Place) → refusal_at before place ≡ None → AreKnown (declared_in before ++ declared_at place) →

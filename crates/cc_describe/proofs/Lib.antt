@@ -13,8 +13,11 @@ pub mod KnownPlaces
 pub mod LabelLemmas
 pub mod Members
 pub mod NameLaws
+pub mod NoFault
 pub mod OnePlaces
 pub mod PlacesAppended
+pub mod PlacesForms
 pub mod ProgressLemmas
+pub mod SomePlaces
 pub mod VariablesInScope
 pub mod Walk

@@ -6,6 +6,7 @@ use Rattle.std.proofs.lemmas.List.Concat.{flat_map-cons}
 use Rattle.std.proofs.lemmas.List.Folds.{list_any-append}
 use Rattle.cc_defs.specs.DeclarationFaults.{declaration_refusal}
 use Rattle.cc_defs.specs.Declarations.{Declaration, declarations_of, part_declarations}
+use Rattle.cc_defs.specs.Refusals.{least, refused}
 use Rattle.cc_defs.specs.Resolved.{Query, plain_base_law, plain_query}
 use Rattle.cc_defs.specs.Statements.{IsParsed}
 use Rattle.cc_defs.specs.Tokens.{TokenView}
@@ -13,15 +14,16 @@ use Rattle.cc_defs.specs.Trees.{PlainPart, PlainQueryItem, PlainLaw, PlainTree, 
 use Rattle.cc_defs.specs.Trees as trees
 use Rattle.cc_laws.specs.Expansion.{base_laws}
 use Rattle.cc_laws.specs.FreeVariables.{optional}
-use Rattle.cc_laws.specs.LawFaults.{law_refusal, refusal_of}
-use Rattle.cc_laws.specs.Questions.{labels_in, gives_twice, has_two, first, items_of, query_fault, query_refusal, Asks}
+use Rattle.cc_laws.specs.LawFaults.{law_refusal}
+use Rattle.cc_laws.specs.Questions.{labels_in, has_two, first, items_of, query_faults, query_refusal, Asks}
 use Rattle.cc_laws.specs.Vocabulary.{Vocabulary, vocabulary}
 use Rattle.cc_sorts.specs.Tables.{TableView, IsTable, Declares}
 use Rattle.cc_describe.specs.declared.progress.Progress.{Progress}
 use Rattle.cc_describe.specs.Describing.{laws_at, queries_at, asked_in}
-use Rattle.cc_describe.specs.FirstRefusal.{declared_at, declared_in, labels_at, labelled_in, bytes_at, is_among, number_at, asking_refusal, include_refusal, statement_refusal}
+use Rattle.cc_describe.specs.FirstRefusal.{declared_at, declared_in, labels_at, labelled_in, bytes_at, is_among, asking_refusal, include_refusal, statement_refusal}
 use Rattle.cc_describe.specs.Places.{Place, Said, included, opened_at}
 use Rattle.cc_describe.specs.ProgressViews.{IsProgress, IsTaken, Says, declares}
+use Rattle.cc_describe.proofs.NoFault.{none_holds, no_number}
 use Rattle.cc_describe.proofs.PlacesAppended.{declared_in_behind, labelled_in_behind, opened_in_behind, bytes_in_behind, laws_behind_one, queries_behind_one}
 
 -- ---- tests over lists of lists
@@ -159,18 +161,10 @@ module _ (before : List Place) (file : ℕ) (around : List (List ℕ)) where
 
 -- ---- queries
 
-no_number : (file line : ℕ) (fault : Option ℕ) → refusal_of file line fault ≡ None → fault ≡ None
-no_number file line None none = refl
-no_number file line (Some number) none = absurd cc
-
 one_at_most : {X : Type 0} (xs : List X) → has_two xs ≡ false → xs ≡ optional (first xs)
 one_at_most [] few = refl
 one_at_most (x ∷ []) few = refl
 one_at_most (x ∷ y ∷ xs) few = absurd (true≢false (sym (lt-ltb 1 (length (x ∷ y ∷ xs)) (omega arith)) ∙ few))
-
-not_twice : (twice : Bool) (fault : Option ℕ) → (cond twice (Some 4) fault) ≡ None → twice ≡ false
-not_twice true fault none = absurd cc
-not_twice false fault none = refl
 
 first_false : (a b : Bool) → (a || b) ≡ false → a ≡ false
 first_false true b none = none
@@ -181,21 +175,21 @@ pub one_label : (file : ℕ) (v : Vocabulary) (statement : PlainStatement) → q
     flat_map labels_in (items_of statement.part) ≡ optional (first (flat_map labels_in (items_of statement.part)))
 one_label file v statement none =
     one_at_most (flat_map labels_in (items_of statement.part)) (first_false (has_two (flat_map labels_in (items_of statement.part))) _
-    (not_twice (gives_twice (items_of statement.part)) _ (no_number file statement.line (query_fault v (items_of statement.part)) none)))
+    (none_holds (query_faults v (items_of statement.part)) (no_number file statement.line (least (query_faults v (items_of statement.part))) none)).0)
 
 -- an earlier query has one of the labels
 pub is_taken_label : (before : List Place) (file : ℕ) (statement : PlainStatement) →
     list_any (is_among (labelled_in before)) (flat_map labels_in (items_of statement.part)) ≡ true →
-    asking_refusal before file statement ≡ Some (number_at 4 file statement.line)
+    asking_refusal before file statement ≡ Some (refused 4 file statement.line)
 is_taken_label before file statement taken =
-    ap (λ found. cond found (Some (number_at 4 file statement.line)) (query_refusal file (vocabulary (declared_in before)) statement)) taken
+    ap (λ found. cond found (Some (refused 4 file statement.line)) (query_refusal file (vocabulary (declared_in before)) statement)) taken
 
 -- none has
 pub no_taken_label : (before : List Place) (file : ℕ) (statement : PlainStatement) →
     list_any (is_among (labelled_in before)) (flat_map labels_in (items_of statement.part)) ≡ false →
     asking_refusal before file statement ≡ query_refusal file (vocabulary (declared_in before)) statement
 no_taken_label before file statement free =
-    ap (λ found. cond found (Some (number_at 4 file statement.line)) (query_refusal file (vocabulary (declared_in before)) statement)) free
+    ap (λ found. cond found (Some (refused 4 file statement.line)) (query_refusal file (vocabulary (declared_in before)) statement)) free
 
 -- the label of a query that gives none of these is new
 pub new_label : (labels : List (List ℕ)) (left : List Declaration) (file : ℕ) (statement : PlainStatement) (items : List PlainQueryItem) (query : Query) →

@@ -1,5 +1,5 @@
--- The variables of a law are in its scope, each at a place.
-use Rattle.std.proofs.Common.{◌≡◌, ◌∙◌, ◌⊎◌, inl, inr, ℕ, suc, ◌+◌, Bool, true, false, ◌||◌, List, [], ◌∷◌, ◌++◌, slice_get, Option, Some, None, nat_eq, eqb, refl, sym, ap, subst, arith}
+-- The variables of a law are in its scope, each with its place as its number.
+use Rattle.std.proofs.Common.{◌≡◌, ◌∙◌, ℕ, suc, ◌+◌, Bool, true, false, ◌||◌, List, [], ◌∷◌, ◌++◌, slice_get, Option, Some, nat_eq, eqb, refl, sym, ap, subst, arith}
 use Rattle.std.specs.Prelude.{if◌then◌else◌, option_map}
 use Rattle.std.proofs.lemmas.Bool.{eqb-true, eqb-false, ne_eqb, or_left, or_right}
 use Rattle.std.proofs.lemmas.List.Folds.{list_any-append}
@@ -7,7 +7,7 @@ use Rattle.std.proofs.lemmas.Option.{slice_get-map}
 use Rattle.cc_defs.specs.declared.law.Range.TheVariants as ranges
 use Rattle.cc_laws.specs.Expansion.{sort_ranges}
 use Rattle.cc_laws.specs.FreeVariables.{is_among, unbound, firsts, firsts_after}
-use Rattle.cc_laws.specs.Resolving.{place_from, place_in}
+use Rattle.cc_laws.specs.Resolving.{Binding, number_in, numbered_from}
 use Rattle.cc_laws.specs.Vocabulary.{Vocabulary, sort_of_entry}
 
 -- each of the numbers is in the scope
@@ -55,47 +55,49 @@ kept_after seen (x ∷ xs) number new e =
 pub within_firsts : (numbers : List ℕ) → Within numbers (firsts numbers)
 within_firsts numbers number e = kept_after [] numbers number refl e
 
--- ---- the place of a variable
+-- ---- the number of a variable
 
--- none of the scope is it, or there it stands
-abbrev Placed : ℕ → List ℕ → ℕ → Option ℕ → Option ℕ → Type 0
-Placed index scope number found result =
-    ((result ≡ found) × (is_among scope number ≡ false)) ⊎ ((place : ℕ) × (result ≡ Some (index + place)) × (slice_get scope place ≡ Some number))
+-- the variables of a law, by their numbers
+abbrev pub numbers_of : List ℕ → List Binding
+numbers_of scope = numbered_from 0 scope
 
-placed : (index : ℕ) (scope : List ℕ) (number : ℕ) (found : Option ℕ) → Placed index scope number found (place_from index scope number found)
-placed index [] number found = inl (refl, refl)
-placed index (variable ∷ scope) number found =
-    step index variable scope number found (eqb variable number) refl (place_from (index + 1) scope number (if eqb variable number then Some index else found))
-    (placed (index + 1) scope number (if eqb variable number then Some index else found))
+-- it is its place
+record Placed (n : ℕ) (scope : List ℕ) (number : ℕ) (found : Option ℕ) : Type 0 where
+  place : ℕ
+  is : found ≡ Some (n + place)
+  there : slice_get scope place ≡ Some number
+
+placed : (n : ℕ) (scope : List ℕ) (number : ℕ) → is_among scope number ≡ true → Placed n scope number (number_in (numbered_from n scope) number)
+placed n [] number e = absurd cc
+placed n (variable ∷ scope) number e = step n variable scope number (eqb variable number) refl e (placed (n + 1) scope number)
   where
-    step : (index variable : ℕ) (scope : List ℕ) (number : ℕ) (found : Option ℕ) (here : Bool) → eqb variable number ≡ here → (result : Option ℕ) →
-        Placed (index + 1) scope number (if here then Some index else found) result → Placed index (variable ∷ scope) number found result
-    step index variable scope number found here same result (inr there) =
-        let place = there.0 in
-        let e : index + 1 + place ≡ index + suc place = omega arith in
-        inr (suc place, there.1 ∙ ap (λ (n : ℕ). Some n) e, there.2)
-    step index variable scope number found true same result (inl (is, none)) =
-        let e : index ≡ index + 0 = omega arith in
-        inr (0, is ∙ ap (λ (n : ℕ). Some n) e, ap (λ (n : ℕ). Some n) (eqb-true variable number same))
-    step index variable scope number found false same result (inl (is, none)) =
-        inl (is, ap (λ (w : Bool). w || is_among scope number) (ne_eqb number variable (λ e. eqb-false variable number same (sym e))) ∙ none)
+    step : (n variable : ℕ) (scope : List ℕ) (number : ℕ) (here : Bool) → eqb variable number ≡ here → (eqb number variable || is_among scope number) ≡ true →
+        (is_among scope number ≡ true → Placed (n + 1) scope number (number_in (numbered_from (n + 1) scope) number)) →
+        Placed n (variable ∷ scope) number (if here then Some n else number_in (numbered_from (n + 1) scope) number)
+    step n variable scope number true same e rest = record {
+      place = 0;
+      is = let same : n ≡ n + 0 = omega arith in ap (λ (k : ℕ). Some k) same;
+      there = ap (λ (k : ℕ). Some k) (eqb-true variable number same);
+    }
+    step n variable scope number false same e rest =
+        let other : eqb number variable ≡ false = ne_eqb number variable (λ e. eqb-false variable number same (sym e)) in
+        let more = rest (ap (λ (w : Bool). w || is_among scope number) (sym other) ∙ e) in
+        let next : n + 1 + more.place ≡ n + suc more.place = omega arith in
+        record { place = suc more.place; is = more.is ∙ ap (λ (k : ℕ). Some k) next; there = more.there }
 
--- its place, and the sort that it goes over
+-- its number, and the sort that it goes over
 pub record HasRange (v : Vocabulary) (scope : List ℕ) (number : ℕ) (found : Option ℕ) : Type 0 where
   pub place : ℕ
   pub is : found ≡ Some place
   pub range : slice_get (sort_ranges v scope) place ≡ Some (ranges.Sort (sort_of_entry v.variables number))
 
-pub has_range : (v : Vocabulary) (scope : List ℕ) (number : ℕ) → is_among scope number ≡ true → HasRange v scope number (place_in scope number)
-has_range v scope number there = made (placed 0 scope number None)
-  where
-    made : Placed 0 scope number None (place_in scope number) → HasRange v scope number (place_in scope number)
-    made (inl (is, none)) = absurd cc
-    made (inr (place, is, at)) =
-        let e : 0 + place ≡ place = omega arith in
-        record {
-          place = place;
-          is = is ∙ ap (λ (n : ℕ). Some n) e;
-          range = slice_get-map (λ (variable : ℕ). ranges.Sort (sort_of_entry v.variables variable)) scope place
-              ∙ ap (option_map (λ (variable : ℕ). ranges.Sort (sort_of_entry v.variables variable))) at;
-        }
+pub has_range : (v : Vocabulary) (scope : List ℕ) (number : ℕ) → is_among scope number ≡ true → HasRange v scope number (number_in (numbers_of scope) number)
+has_range v scope number e =
+    let at = placed 0 scope number e in
+    let same : 0 + at.place ≡ at.place = omega arith in
+    record {
+      place = at.place;
+      is = at.is ∙ ap (λ (n : ℕ). Some n) same;
+      range = slice_get-map (λ (variable : ℕ). ranges.Sort (sort_of_entry v.variables variable)) scope at.place
+          ∙ ap (option_map (λ (variable : ℕ). ranges.Sort (sort_of_entry v.variables variable))) at.there;
+    }

@@ -258,10 +258,6 @@ midway_goes {deep} {files} {before} {name} {file} {around} {statements} {i} {old
     }
 
 -- behind the last statement
--- what is kept is that of some places
-abbrev pub Kept : Progress → Type 0
-Kept progress = (places : List Place) × IsProgress progress places
-
 pub progress_left : (places : List Place) (old new : Progress) → IsProgress old places → new ≡ record old { around = new.around } → IsProgress new places
 progress_left places old new kept left =
     subst (λ p. IsProgress p places) (sym left)

@@ -1,11 +1,14 @@
 -- What a description that is not refused says, and what `describe` answers.
 use Rattle.std.specs.Prelude.{◌≡◌, ℕ, List, [], ◌∷◌, ◌++◌, map, Some, None}
+use Rattle.std.specs.List.{AllByRecursion}
 use Rattle.cc_defs.specs.DeclarationFaults.{signature_refusal}
-use Rattle.cc_defs.specs.Declarations.{Declaration, declarations_of}
+use Rattle.cc_defs.specs.Declarations.{Declaration, declarations_of, symbols}
+use Rattle.cc_defs.specs.Forms.{HaveForms}
 use Rattle.cc_defs.specs.Resolved.{BaseLaw, Query, plain_base_law, plain_query}
 use Rattle.cc_defs.specs.Trees.{PlainPart, PlainStatement}
 use Rattle.cc_defs.specs.Trees as trees
 use Rattle.cc_laws.specs.Expansion.{base_laws}
+use Rattle.cc_laws.specs.Laws.{HasFormulas}
 use Rattle.cc_laws.specs.Questions.{query_asked}
 use Rattle.cc_laws.specs.Vocabulary.{vocabulary}
 use Rattle.cc_sorts.specs.Tables.{IsTable, IsSignatureOf}
@@ -46,9 +49,17 @@ pub record IsDescribed (places : List Place) (described : Described) : Type 0 wh
   pub queries : map plain_query described.queries ≡ queries_behind [] places
   pub names : described.files ≡ opened_in places
 
--- the signature is that of the table, whatever the files were
-abbrev pub HasSignature : Described → Type 0
-HasSignature described = (declarations : List Declaration) × IsTable described.table declarations × IsSignatureOf declarations described.sig
+-- Whatever the desk told: some places have no refusal, and this is what they say.
+abbrev pub SaysAll : Described → Type 0
+SaysAll described = (places : List Place) × (first_refusal places ≡ None) × IsDescribed places described
+
+-- its base laws have the forms of their kinds, at the declarations that its table is of
+abbrev pub HasForms : Described → Type 0
+HasForms described = (declarations : List Declaration) → IsTable described.table declarations → HaveForms (symbols declarations) (map plain_base_law described.laws)
+
+-- what its queries ask are formulas of these
+abbrev pub AsksFormulas : Described → Type 0
+AsksFormulas described = (declarations : List Declaration) → IsTable described.table declarations → AllByRecursion (HasFormulas (symbols declarations)) (map plain_query described.queries)
 
 -- the places of the description have no refusal, this is what they say, and its files are there
 abbrev pub Describes : Files → List ℕ → Described → Type 0
@@ -64,6 +75,13 @@ HasStopped files name (stops.Refused refusal file) =
     × AreThere files (opened_until [] places)
 HasStopped files name stops.ReadFault = Unit {0}
 HasStopped files name stops.OutOfMemory = Unit {0}
+
+-- Whatever the desk told: the refusal is exactly that of some places.
+abbrev pub IsOfSome : DescribeStop → Type 0
+IsOfSome (stops.Refused refusal file) =
+    (places : List Place) × (first_refusal places ≡ Some refusal) × (file ≡ file_named (opened_until [] places) refusal)
+IsOfSome stops.ReadFault = Unit {0}
+IsOfSome stops.OutOfMemory = Unit {0}
 
 -- all declarations together are refused so, or there is another reason
 abbrev pub IsRefusedWhole : List Place → DescribeStop → Type 0

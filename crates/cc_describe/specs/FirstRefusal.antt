@@ -3,13 +3,13 @@
 use Rattle.std.specs.Prelude.{ℕ, ◌+◌, ◌==◌, nat_lt, if◌then◌else◌, Bool, List, [], ◌∷◌, ◌++◌, length, flat_map, slice_index_or, Option, Some, None}
 use Rattle.std.specs.Option.{option_or}
 use Rattle.std.specs.List.{list_any}
-use Rattle.cc_defs.specs.declared.refusal.LimitAt.{LimitAt}
 use Rattle.cc_defs.specs.declared.refusal.LimitAt.TheVariants as limits
 use Rattle.cc_defs.specs.declared.refusal.Refusal.{Refusal}
 use Rattle.cc_defs.specs.DeclarationFaults.{declaration_refusal, signature_refusal}
 use Rattle.cc_defs.specs.Declarations.{Declaration, declarations_of}
 use Rattle.cc_defs.specs.Grammar.{same_text}
 use Rattle.cc_defs.specs.Limits.{limit_number}
+use Rattle.cc_defs.specs.Refusals.{past_at, refused}
 use Rattle.cc_defs.specs.Trees.{PlainQueryItem, PlainPart, PlainStatement}
 use Rattle.cc_defs.specs.Trees as trees
 use Rattle.cc_laws.specs.LawFaults.{law_refusal}
@@ -45,17 +45,11 @@ bytes_in (place ∷ places) = bytes_at place + bytes_in places
 
 -- ---- the refusal of a place
 
-abbrev pub number_at : ℕ → ℕ → ℕ → Refusal
-number_at number file line = record { number = number; file = file; line = line; limit = None }
-
-abbrev pub limit_at : LimitAt → ℕ → ℕ → Refusal
-limit_at limit file line = record { number = 14; file = file; line = line; limit = Some limit }
-
 -- a file is too long, or all files so far are
 abbrev pub opening_refusal : List Place → List ℕ → Option Refusal
 opening_refusal before bytes =
-    if nat_lt (limit_number limits.FileBytes) (length bytes) then Some (limit_at limits.FileBytes (length (opened_in before)) 1)
-    else (if nat_lt (limit_number limits.TotalBytes) (bytes_in before + length bytes) then Some (limit_at limits.TotalBytes (length (opened_in before)) 1)
+    if nat_lt (limit_number limits.FileBytes) (length bytes) then Some (past_at limits.FileBytes (length (opened_in before)) 1)
+    else (if nat_lt (limit_number limits.TotalBytes) (bytes_in before + length bytes) then Some (past_at limits.TotalBytes (length (opened_in before)) 1)
     else None)
 
 abbrev pub is_among : List (List ℕ) → List ℕ → Bool
@@ -64,14 +58,14 @@ is_among names name = list_any (same_text name) names
 -- an earlier query has the label, which is 4 as a label given twice is; then the query's own faults
 abbrev pub asking_refusal : List Place → ℕ → PlainStatement → Option Refusal
 asking_refusal before file statement =
-    if list_any (is_among (labelled_in before)) (flat_map labels_in (items_of statement.part)) then Some (number_at 4 file statement.line)
+    if list_any (is_among (labelled_in before)) (flat_map labels_in (items_of statement.part)) then Some (refused 4 file statement.line)
     else query_refusal file (vocabulary (declared_in before)) statement
 
 -- the file is being read; or it would be too deep
 abbrev pub include_refusal : ℕ → List (List ℕ) → ℕ → List ℕ → Option Refusal
 include_refusal file around line name =
-    if is_among around name then Some (number_at 17 file line)
-    else (if nat_lt (limit_number limits.IncludeDepth) (length around) then Some (limit_at limits.IncludeDepth file line)
+    if is_among around name then Some (refused 17 file line)
+    else (if nat_lt (limit_number limits.IncludeDepth) (length around) then Some (past_at limits.IncludeDepth file line)
     else None)
 
 abbrev pub statement_refusal : List Place → ℕ → List (List ℕ) → PlainStatement → PlainPart → Option Refusal

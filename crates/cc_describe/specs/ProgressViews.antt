@@ -77,6 +77,10 @@ GoesThrough Are before (Err (halts.Refused refusal)) new =
 GoesThrough Are before (Err halts.ReadFault) new = Unit {0}
 GoesThrough Are before (Err halts.OutOfMemory) new = Unit {0}
 
+-- whichever places they are
+abbrev pub GoesSomewhere : List Place → {T : Type 0} → Result T Halt → Progress → Type 0
+GoesSomewhere before result new = GoesThrough (λ places. Unit {0}) before result new
+
 -- The files with these names are there; nothing is said of a fault of the desk or want of memory.
 abbrev pub FindsFiles : Files → {T : Type 0} → Result T Halt → List (List ℕ) → Type 0
 FindsFiles files (Ok done) names = AreThere files names

@@ -2,7 +2,7 @@
 ghost use Rattle.std.specs.Prelude.{◌≡◌, ◌≢◌, ◌≤◌, ℕ, List as Items, None, option_map, IfOk, IfErr, IfSome, IsErrOf};
 ghost use Rattle.cc_defs.specs.DeclarationFaults.{signature_refusal};
 ghost use Rattle.cc_ports.specs.Contents.{with_rest, Rose};
-ghost use Rattle.cc_describe.specs.Describing.{Describes, HasSignature, HasStopped, IsDescribed, IsRefusedWhole};
+ghost use Rattle.cc_describe.specs.Describing.{AsksFormulas, Describes, HasForms, HasStopped, IsDescribed, IsOfSome, IsRefusedWhole, SaysAll};
 ghost use Rattle.cc_describe.specs.FirstRefusal.{declared_in, file_named};
 ghost use Rattle.cc_describe.specs.Places.{Place};
 ghost use Rattle.cc_describe.specs.ProgressViews.{IsProgress, StopsAs};
@@ -10,6 +10,7 @@ ghost use Rattle.cc_describe.specs.ProgressViews.{IsProgress, StopsAs};
 use crate::files::{Halt, read_file};
 use crate::progress::Progress;
 use cc_defs::{BaseLaws, LimitAt, List, Name, Names, OutOfMemory, Queries, Refusal, Sig};
+use cc_laws::laws::{constants_have_forms, laws_have_forms, queries_have_formulas};
 use cc_ports::Desk;
 use cc_sorts::Table;
 use std::alloc::Global;
@@ -46,7 +47,11 @@ pub fn describe<D: Desk>(alloc: Global, desk: &mut D, name: &str) -> Result<Desc
     // that were opened are there.
     ensures described { IfSome (D.told desk.old) (λ contents. IfOk result (Describes contents.files name.now)) }
     ensures refused { IfSome (D.told desk.old) (λ contents. IfErr result (HasStopped contents.files name.now)) }
-    ensures signature { IfOk result HasSignature }
+    // Whatever it told, Ok is what some places say, and a refusal is the first of some places.
+    ensures whole { IfOk result SaysAll }
+    ensures stopped { IfErr result IsOfSome }
+    ensures forms { IfOk result HasForms }
+    ensures formulas { IfOk result AsksFormulas }
     // A fault is answered only where the desk counted one.
     ensures failed { IsErrOf result DescribeStop.ReadFault → Rose (D.read_faults desk.old) (D.read_faults desk.new) }
     ensures after { (rest : Items ℕ) × (D.told desk.new ≡ option_map (with_rest rest) (D.told desk.old)) }
@@ -54,6 +59,9 @@ pub fn describe<D: Desk>(alloc: Global, desk: &mut D, name: &str) -> Result<Desc
     ensures reads_count { D.read_faults desk.old ≤ D.read_faults desk.new }
     ensures writes_count { D.write_faults desk.old ≤ D.write_faults desk.new }
 {
+    laws_have_forms();
+    constants_have_forms();
+    queries_have_formulas();
     let mut progress = match Progress::new(alloc) {
         Ok(progress) => progress,
         Err(_) => return Err(DescribeStop::OutOfMemory),

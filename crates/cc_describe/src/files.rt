@@ -5,7 +5,7 @@ ghost use Rattle.cc_defs.specs.declared.refusal.LimitAt.TheVariants as limits;
 ghost use Rattle.cc_ports.specs.Contents.{Contents, with_rest, Rose};
 ghost use Rattle.cc_describe.specs.FirstRefusal.{opening_refusal};
 ghost use Rattle.cc_describe.specs.Places.{Place, ArePlaces, AreThere, content, opened_in};
-ghost use Rattle.cc_describe.specs.ProgressViews.{FindsFiles, GoesThrough, IsOpened, IsProgress, IsRefusedOpening};
+ghost use Rattle.cc_describe.specs.ProgressViews.{FindsFiles, GoesSomewhere, GoesThrough, IsOpened, IsProgress, IsRefusedOpening};
 
 use crate::progress::{Progress, past};
 use cc_defs::{Bytes, Fault, LimitAt, OutOfMemory, Refusal};
@@ -59,7 +59,10 @@ fn open<D: Desk>(
         IfOk result (λ read. (read.0 ≡ content contents.files name.now) × IsOpened before name.now read.0 progress.new × (read.1 ≡ length (opened_in before))) }
     ensures refused { (contents : Contents) (before : Items Place) → D.told desk.old ≡ Some contents → IsProgress progress.old before →
         IfErr result (λ halt. IsRefusedOpening before name.now (content contents.files name.now) halt progress.new) }
-    ensures kept { (before : Items Place) → IsProgress progress.old before → OnOk result ((places : Items Place) × IsProgress progress.new places) }
+    // Whatever the desk told, some bytes were read.
+    ensures kept { (before : Items Place) → IsProgress progress.old before → IfOk result (λ read. IsOpened before name.now read.0 progress.new) }
+    ensures stopped { (before : Items Place) → IsProgress progress.old before →
+        IfErr result (λ halt. (bytes : Items ℕ) × IsRefusedOpening before name.now bytes halt progress.new) }
     ensures there { (contents : Contents) → D.told desk.old ≡ Some contents → AreThere contents.files progress.old.names.items →
         FindsFiles contents.files result progress.new.names.items }
     ensures within { IfOk result (λ read. length read.0 ≤ limit_number limits.FileBytes) }
@@ -93,7 +96,7 @@ pub(crate) fn read_file<D: Desk>(
     requires { length progress.now.around.items + deep ≡ limit_number limits.IncludeDepth }
     ensures gone { (contents : Contents) (before : Items Place) → D.told desk.old ≡ Some contents → IsProgress progress.old before →
         GoesThrough (ArePlaces deep contents.files progress.old.around.items (length (opened_in before)) name.now) before result progress.new }
-    ensures kept { (before : Items Place) → IsProgress progress.old before → OnOk result ((places : Items Place) × IsProgress progress.new places) }
+    ensures kept { (before : Items Place) → IsProgress progress.old before → GoesSomewhere before result progress.new }
     ensures there { (contents : Contents) → D.told desk.old ≡ Some contents → AreThere contents.files progress.old.names.items →
         FindsFiles contents.files result progress.new.names.items }
     ensures around { OnOk result (progress.new.around.items ≡ progress.old.around.items) }

@@ -25,7 +25,7 @@ pub fn has_places()
     tree_or_refusal();
 }
 
-/// Each base law of a description that is not refused has a head under each of its environments.
+/// Each base law of a description that is not refused has a head, whatever values its variables have.
 pub fn heads_are_there()
     ensures { HeadsAreThere }
 {

@@ -3,6 +3,8 @@ ghost use Rattle.std.specs.Prelude.{◌≡◌, ◌++◌, ◌∷◌, ◌<◌, ◌
 ghost use Rattle.std.specs.List.{list_any};
 ghost use Rattle.cc_defs.specs.Declarations.{Declaration};
 ghost use Rattle.cc_defs.specs.DeclarationFaults.{declaration_refusal};
+ghost use Rattle.cc_defs.specs.Refusals.{IsRefusedBy};
+ghost use Rattle.cc_defs.specs.Refusals as words;
 ghost use Rattle.cc_defs.specs.Resolved.{plain_base_law, plain_query};
 ghost use Rattle.cc_defs.specs.Tokens.{AreTokens};
 ghost use Rattle.cc_defs.specs.Limits.{limit_number};
@@ -15,9 +17,8 @@ ghost use Rattle.cc_laws.specs.Questions.{labels_in};
 ghost use Rattle.cc_laws.specs.Vocabulary.{vocabulary};
 ghost use Rattle.cc_sorts.specs.Tables.{IsTable};
 ghost use Rattle.cc_text.specs.Views.{token_views};
-ghost use Rattle.cc_describe.specs.FirstRefusal.{declared_in, is_among, asking_refusal, include_refusal, limit_at, number_at, statement_refusal};
+ghost use Rattle.cc_describe.specs.FirstRefusal.{declared_in, is_among, asking_refusal, include_refusal, statement_refusal};
 ghost use Rattle.cc_describe.specs.Places.{Place, included};
-ghost use Rattle.cc_ground.specs.Views.{IsRefusedBy};
 ghost use Rattle.cc_describe.specs.ProgressViews.{IsProgress, IsRefusedStatement, IsTaken, Says, declares};
 
 use crate::labels::Labels;
@@ -45,7 +46,7 @@ pub(crate) struct Progress {
 }
 
 fn refused(number: u8, file: u32, line: u32) -> Fault
-    ensures { result ≡ Fault.Refused (number_at number file line) }
+    ensures { result ≡ Fault.Refused (words.refused number file line) }
 {
     Fault::Refused(Refusal {
         number,
@@ -56,7 +57,7 @@ fn refused(number: u8, file: u32, line: u32) -> Fault
 }
 
 pub(crate) fn past(limit: LimitAt, file: u32, line: u32) -> Fault
-    ensures { result ≡ Fault.Refused (limit_at limit file line) }
+    ensures { result ≡ Fault.Refused (words.past_at limit file line) }
 {
     Fault::Refused(Refusal {
         number: 14,
@@ -281,7 +282,7 @@ impl Progress {
     pub(crate) fn count(&mut self, file: u32, bytes: usize) -> Result<(), Fault>
         requires { bytes ≤ limit_number limits.FileBytes }
         ensures counted { OnOk result ((self.new.bytes ≡ self.old.bytes + bytes) × (self.old.bytes + bytes ≤ limit_number limits.TotalBytes)) }
-        ensures refused { IfErr result (λ fault. (fault ≡ Fault.Refused (limit_at limits.TotalBytes file 1)) × (limit_number limits.TotalBytes < self.old.bytes + bytes)) }
+        ensures refused { IfErr result (λ fault. (fault ≡ Fault.Refused (words.past_at limits.TotalBytes file 1)) × (limit_number limits.TotalBytes < self.old.bytes + bytes)) }
         ensures rest { self.new ≡ record self.old { bytes = self.new.bytes } }
     {
         let all = self.bytes.saturating_add(bytes);

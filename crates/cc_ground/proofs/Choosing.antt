@@ -1,5 +1,5 @@
 -- The instances of a law, value by value of its first range, and the laws of a list of base laws.
-use Rattle.std.proofs.Common.{◌≡◌, ◌∙◌, ℕ, zero, suc, ◌+◌, ◌<◌, ◌≤◌, Bool, true, false, ◌&&◌, cond, List, [], ◌∷◌, ◌++◌, length, drop, map, min, get_or, Option, Some, None, is_some, Result, Ok, Err, slice_get, filter, refl, sym, ap, subst, append_assoc, append-nil, arith}
+use Rattle.std.proofs.Common.{◌≡◌, ◌∙◌, ℕ, ◌+◌, ◌<◌, ◌≤◌, Bool, true, false, ◌&&◌, cond, List, [], ◌∷◌, ◌++◌, length, drop, map, min, get_or, Option, Some, None, is_some, Result, Ok, Err, slice_get, filter, refl, sym, ap, subst, append_assoc, append-nil, arith}
 use Rattle.std.specs.List.{flat_map}
 use Rattle.std.specs.Result.{OnOk}
 use Rattle.std.proofs.lemmas.List.{at_drop_all, at_drop_more, map-append, map-id}
@@ -12,7 +12,7 @@ use Rattle.cc_defs.specs.declared.law.BaseLaw.TheVariants as base_laws
 use Rattle.cc_defs.specs.declared.law.Law.{Law as LawTree}
 use Rattle.cc_defs.specs.declared.law.Range.{Range}
 use Rattle.cc_defs.specs.declared.node.GroundHead.{GroundHead}
-use Rattle.cc_defs.specs.Environments.{Instance, Under, Together, choices, has_instance, instances, instances_from, instances_of, passes, pairs_of, range_values}
+use Rattle.cc_defs.specs.Environments.{Under, Together, choices, has_instance, instances_from, instances_of, passes, pairs_of, range_values}
 use Rattle.cc_defs.specs.GroundLaws.{PlainGroundLaw, ground_head, ground_laws, law_of_instance, law_with, pair_law}
 use Rattle.cc_defs.specs.Resolved.{Law, plain_base_law, plain_law}
 use Rattle.cc_defs.specs.Satisfaction.{Environment, giving, head_is_there}

@@ -24,15 +24,16 @@ use Rattle.cc_defs.specs.Signatures.{Signature, none_value}
 use Rattle.cc_defs.specs.Trees.{PlainKind}
 use Rattle.cc_defs.specs.Trees as trees
 use Rattle.cc_sorts.specs.declared.table.Placed.{Placed}
-use Rattle.cc_sorts.specs.Tables.{AreKnown, TableView, IsTable, IsSignatureOf, placed_from}
+use Rattle.cc_sorts.specs.Tables.{AreKnown, TableView, IsTable, IsSignatureOf, placed_of}
 use Rattle.cc_ground.specs.declared.maker.Maker.{Maker}
 use Rattle.cc_defs.specs.Universe.{Universe, HaveOwnValues, constants_in, objects_of, universe, values_of, values_of_symbol, with_none}
-use Rattle.cc_ground.specs.Views.{universe_in, universe_of, IsSignatureFor, IsSearchable, AreSearchable}
+use Rattle.cc_ground.specs.Views.{universe_in, universe_of, IsSearchable, AreSearchable}
+use Rattle.cc_sorts.specs.Tables.{IsSignatureFor}
 
 -- ---- the universe of a table and a signature
 
 symbols_placed : (declarations : List Declaration) (found : List Declared) →
-    map (λ placed. placed.symbol) (placed_from (map (symbol_of declarations) found) found) ≡ map (symbol_of declarations) found
+    map (λ placed. placed.symbol) (placed_of declarations found) ≡ map (symbol_of declarations) found
 symbols_placed declarations [] = refl
 symbols_placed declarations (constant ∷ others) = ap (λ (w : List Symbol). symbol_of declarations constant ∷ w) (symbols_placed declarations others)
 
@@ -287,7 +288,7 @@ module _ (declarations : List Declaration) where
     others = numbers_where (is_member declarations boolean) 2 (flat_map object_declared declarations);
     booleans = first_two (is_below (pairs declarations) boolean boolean) (below_itself (pairs declarations)) _ _ _;
     values = both_kinds declarations (λ (c : Const). c.domain ≡ values_of (universe declarations) c.symbol)
-    (λ number constant e args. values_at constant.kind (known_at number constant e) ∙ sym (ap (values_of_symbol (universe declarations)) (symbol_at declarations number constant e)));
+        (λ number constant e args. values_at constant.kind (known_at number constant e) ∙ sym (ap (values_of_symbol (universe declarations)) (symbol_at declarations number constant e)));
   }
     where
       first_two : (b : Bool) → b ≡ true → (rest other : List ℕ) (more : List ℕ) → (if b then 0 ∷ (if b then 1 ∷ rest else other) else more) ≡ 0 ∷ 1 ∷ rest

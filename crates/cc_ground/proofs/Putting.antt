@@ -1,8 +1,7 @@
 -- Nodes that are put behind others, and the room that is left for them.
-use Rattle.std.proofs.Common.{◌≡◌, ◌∙◌, ℕ, ◌+◌, ◌-◌, ◌<◌, ◌≤◌, List, [], ◌∷◌, ◌++◌, length, drop, map, get_or, position, nat_eq, slice_get, Option, Some, None, Result, Ok, Err, zero, suc, refl, sym, ap, subst, append_assoc, append-nil, length-append, arith}
+use Rattle.std.proofs.Common.{◌≡◌, ◌∙◌, ℕ, ◌+◌, ◌<◌, ◌≤◌, List, [], ◌∷◌, ◌++◌, length, drop, map, get_or, position, nat_eq, slice_get, Option, Some, None, Result, Ok, Err, zero, suc, refl, sym, ap, subst, append_assoc, append-nil, length-append, arith}
 use Rattle.std.proofs.lemmas.List.{at_drop_more}
 use Rattle.std.specs.List.{AllByRecursion}
-use Rattle.std.specs.Global.{Vec}
 use Rattle.std.specs.Result.{IfErr, OnOk, IsErrAnd}
 use Rattle.cc_defs.specs.Terms.{Ground, Operands, all_of, nothing, and_then, operand_count, operands_behind, postfix, postfixes}
 use Rattle.cc_defs.specs.Terms as terms

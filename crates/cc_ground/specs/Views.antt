@@ -1,16 +1,15 @@
 -- What a table and a signature are about, and what the makers of terms leave.
-use Rattle.std.specs.Prelude.{◌≡◌, ℕ, Bool, ◌+◌, ◌<◌, List, [], ◌∷◌, ◌++◌, length, map, flat_map, ◌==◌, if◌then◌else◌, Option, Some}
+use Rattle.std.specs.Prelude.{◌≡◌, ℕ, Bool, ◌+◌, ◌<◌, List, [], ◌∷◌, ◌++◌, length, map, flat_map, ◌==◌, if◌then◌else◌}
 use Rattle.std.specs.List.{AllByRecursion, filter}
 use Rattle.std.specs.List.Sorted.{IsStrictlySortedBy}
 use Rattle.std.specs.Ordering.{nat_cmp}
 use Rattle.cc_arena.specs.declared.ground_laws.GroundLaw.{GroundLaw}
 use Rattle.cc_defs.specs.declared.law.Range.{Range}
 use Rattle.cc_defs.specs.declared.node.Node.{Node}
-use Rattle.cc_defs.specs.Declarations.{Declaration}
 use Rattle.cc_defs.specs.Resolved.{BaseLaw, Formula, Law}
 use Rattle.cc_defs.specs.Satisfaction.{Environment, satisfied}
 use Rattle.cc_defs.specs.Signatures.{Signature, none_value}
-use Rattle.cc_sorts.specs.Tables.{TableView, IsTable, IsSignatureOf}
+use Rattle.cc_sorts.specs.Tables.{TableView}
 use Rattle.cc_ground.specs.declared.maker.Halt.{Halt}
 use Rattle.cc_ground.specs.declared.maker.Halt.TheVariants as halts
 use Rattle.cc_ground.specs.declared.maker.Maker.{Maker}
@@ -31,10 +30,6 @@ universe_of table signature = record {
   fluents = signature.fluents;
   actions = signature.actions;
 }
-
--- the signature was got from the table
-abbrev pub IsSignatureFor : TableView → Signature → Type 0
-IsSignatureFor table signature = (declarations : List Declaration) × IsTable table declarations × IsSignatureOf declarations signature
 
 -- values that can be searched by halves: objects in ascending order, with `none` before them or without
 abbrev pub IsSearchable : List ℕ → Type 0

@@ -15,7 +15,8 @@ ghost use Rattle.cc_defs.specs.Universe.{boolean_actions, universe};
 ghost use Rattle.cc_sorts.specs.Tables.{IsTable, IsSignatureOf};
 ghost use Rattle.cc_ground.specs.Bindings.{environment_of, no_bindings};
 ghost use Rattle.cc_ground.specs.Counting.{length_of_part, laws_refusal, nodes_in};
-ghost use Rattle.cc_ground.specs.Views.{AreSearchable, HasMade, IsLike, IsSideSearchable, IsSignatureFor, LacksRoom, laws_behind, laws_of, laws_under, plain_side, universe_in, universe_of};
+ghost use Rattle.cc_ground.specs.Views.{AreSearchable, HasMade, IsLike, IsSideSearchable, LacksRoom, laws_behind, laws_of, laws_under, plain_side, universe_in, universe_of};
+ghost use Rattle.cc_sorts.specs.Tables.{IsSignatureFor};
 
 use crate::conditions::passes;
 use crate::counting::{choice_count, count_all};
@@ -29,7 +30,8 @@ use crate::values::{index_in, values_in_range};
 use cc_arena::laws::{ground_laws_fit, ground_laws_mean_laws, heads_there_are_ground};
 use cc_arena::{GroundLaw, Laws, Terms};
 use cc_defs::{
-    BaseLaw, BaseLaws, Fault, Formula, GroundHead, Head, Law, LimitAt, Node, OutOfMemory, Range, Refusal, Sig,
+    BaseLaw, BaseLaws, Fault, Formula, GroundHead, Head, Law, LimitAt, Node, OutOfMemory, Range,
+    Refusal, Sig,
 };
 use cc_sorts::Table;
 use std::alloc::Global;

@@ -1,6 +1,6 @@
-//! Grounding: the laws of ground constants that base laws stand for, one for each environment, and the same of a query.
-//! `specs/Satisfaction.antt` says when a formula is true under an environment, `specs/Nodes.antt` what its term is, and
-//! `laws` that the two agree.
+//! Grounding: the laws of ground constants that base laws stand for, one for each instance, and the same of a query. Which
+//! these are is said in cc_defs: `specs/Environments.antt` has the instances, `specs/Nodes.antt` the terms of formulas and
+//! `specs/GroundLaws.antt` the ground laws. That they mean what they stand for are laws of cc_arena.
 #![tactic(auto)]
 
 mod bindings;

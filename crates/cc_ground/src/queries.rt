@@ -12,7 +12,8 @@ ghost use Rattle.cc_defs.specs.GroundLaws as words;
 ghost use Rattle.cc_arena.specs.Meanings.{MeansQuery};
 ghost use Rattle.cc_defs.specs.Universe.{universe};
 ghost use Rattle.cc_arena.specs.GroundViews.{plain_ground_condition, plain_ground_query};
-ghost use Rattle.cc_ground.specs.Views.{AreSearchable, IsLike, IsSignatureFor, LacksRoom, universe_in, universe_of};
+ghost use Rattle.cc_ground.specs.Views.{AreSearchable, IsLike, LacksRoom, universe_in, universe_of};
+ghost use Rattle.cc_sorts.specs.Tables.{IsSignatureFor};
 
 use crate::instances::past;
 use crate::laws::declared_have_own_values;

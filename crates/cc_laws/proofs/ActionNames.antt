@@ -7,8 +7,8 @@ use Rattle.std.specs.Global.{Vec}
 use Rattle.cc_defs.specs.declared.formula.Term.{Term, Constant, Row_of-Term, end_of-Term, more_of-Term, items-the_row-Term, items_hidden-the_row-Term-0}
 use Rattle.cc_defs.specs.Resolved as resolved
 use Rattle.cc_defs.specs.Resolved.{Terms, MoreTerms, plain_term, plain_row}
-use Rattle.cc_laws.specs.Questions.{is_action_symbol, term_symbols, terms_symbols}
-use Rattle.cc_laws.specs.TermLists.{row_terms}
+use Rattle.cc_defs.specs.Forms.{is_action_symbol, term_symbols, terms_symbols}
+use Rattle.cc_laws.specs.Views.{row_terms}
 
 row_is : (n : _) (row : Row_of-Term n) → plain_row row ≡ row_terms (items-the_row-Term n row)
 row_is _ end_of-Term = refl

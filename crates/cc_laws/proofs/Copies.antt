@@ -4,7 +4,7 @@ use Rattle.std.proofs.lemmas.List.{at_drop_all}
 use Rattle.std.specs.Global.{Vec}
 use Rattle.cc_defs.specs.declared.formula.Term as kept
 use Rattle.cc_defs.specs.Resolved.{Term, Terms, Constant, MoreTerms, plain_term}
-use Rattle.cc_laws.specs.TermLists.{row_terms}
+use Rattle.cc_laws.specs.Views.{row_terms}
 use Rattle.cc_laws.proofs.ActionNames.{plain_constant}
 use Rattle.cc_laws.proofs.TermRows.{behind, behind_last, behind_none, next_item}
 

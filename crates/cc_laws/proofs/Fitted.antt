@@ -5,7 +5,7 @@ use Rattle.cc_defs.specs.declared.tree.TermTree.{TermTree, out-TermTree}
 use Rattle.cc_defs.specs.Trees.{plain_term}
 use Rattle.cc_laws.specs.FormulaFaults.{argument_misfits, some_argument_misfits, term_meaning, arguments_misfit, term_misfits}
 use Rattle.cc_laws.specs.Leaves.{term_name}
-use Rattle.cc_laws.specs.TermLists.{plain_terms}
+use Rattle.cc_laws.specs.Views.{plain_terms}
 use Rattle.cc_laws.specs.Vocabulary.{Vocabulary, Meaning, meaning}
 use Rattle.cc_laws.proofs.Mentions.{plain_parts}
 

@@ -5,10 +5,9 @@ use Rattle.std.proofs.lemmas.List.Folds.{list_any-append}
 use Rattle.cc_defs.specs.declared.tree.TermTree.{TermTree, TermTree-F, roll-TermTree, out-TermTree, rolls-TermTree', Row_of-TermTree, end_of-TermTree, more_of-TermTree, items-the_row-TermTree, items_hidden-the_row-TermTree-0}
 use Rattle.cc_defs.specs.declared.tree.TermTree.TheViews.{roll-out-TermTree}
 use Rattle.cc_defs.specs.Trees.{Applied, MoreTerms, plain_term, plain_row}
-use Rattle.cc_laws.specs.declared.mention.Property.{Property}
-use Rattle.cc_laws.specs.FormulaFaults.{meaning_has, mention_has, term_has}
+use Rattle.cc_laws.specs.FormulaFaults.{NameTest, mention_has, term_has}
 use Rattle.cc_laws.specs.Leaves.{mentions, argument_mentions, term_count}
-use Rattle.cc_laws.specs.TermLists.{plain_terms}
+use Rattle.cc_laws.specs.Views.{plain_terms}
 use Rattle.cc_laws.specs.Vocabulary.{Vocabulary, Meaning, meaning}
 
 row_is : (n : _) (row : Row_of-TermTree n) → plain_row row ≡ plain_terms (items-the_row-TermTree n row)
@@ -26,28 +25,28 @@ term_count_is : (terms : List TermTree) → term_count (plain_terms terms) ≡ l
 term_count_is [] = refl
 term_count_is (term ∷ terms) = rw (term_count_is terms) (omega arith)
 
--- whether one of the terms has a name with the property
-abbrev pub terms_have : Vocabulary → Property → List TermTree → Bool
-terms_have v property terms = list_any (λ term. term_has v property (plain_term term)) terms
+-- whether one of the terms has a name of which the test is true
+abbrev pub terms_have : Vocabulary → NameTest → List TermTree → Bool
+terms_have v test terms = list_any (λ term. term_has v test (plain_term term)) terms
 
-terms_have_is : (v : Vocabulary) (property : Property) (terms : List TermTree) → list_any (mention_has v property) (argument_mentions (plain_terms terms)) ≡ terms_have v property terms
-terms_have_is v property [] = refl
-terms_have_is v property (term ∷ terms) =
-    list_any-append (mention_has v property) (mentions (plain_term term)) (argument_mentions (plain_terms terms)) ∙ ap (λ others. term_has v property (plain_term term) || others) (terms_have_is v property terms)
+terms_have_is : (v : Vocabulary) (test : NameTest) (terms : List TermTree) → list_any (mention_has v test) (argument_mentions (plain_terms terms)) ≡ terms_have v test terms
+terms_have_is v test [] = refl
+terms_have_is v test (term ∷ terms) =
+    list_any-append (mention_has v test) (mentions (plain_term term)) (argument_mentions (plain_terms terms)) ∙ ap (λ others. term_has v test (plain_term term) || others) (terms_have_is v test terms)
 
 -- a term has what its name has or one of its arguments
-term_has_is : (v : Vocabulary) (property : Property) (term : TermTree)
-    → term_has v property (plain_term term) ≡ (meaning_has property (meaning v (out-TermTree term).name.now) (length (out-TermTree term).args.items) || terms_have v property (out-TermTree term).args.items)
-term_has_is v property term =
+term_has_is : (v : Vocabulary) (test : NameTest) (term : TermTree)
+    → term_has v test (plain_term term) ≡ (test (meaning v (out-TermTree term).name.now) (length (out-TermTree term).args.items) || terms_have v test (out-TermTree term).args.items)
+term_has_is v test term =
     let name = (out-TermTree term).name.now in
     let items = (out-TermTree term).args.items in
-    ap (term_has v property) (plain_parts term)
-    ∙ ap (λ (count : ℕ). meaning_has property (meaning v name) count || list_any (mention_has v property) (argument_mentions (plain_terms items))) (term_count_is items)
-    ∙ ap (λ (others : Bool). meaning_has property (meaning v name) (length items) || others) (terms_have_is v property items)
+    ap (term_has v test) (plain_parts term)
+    ∙ ap (λ (count : ℕ). test (meaning v name) count || list_any (mention_has v test) (argument_mentions (plain_terms items))) (term_count_is items)
+    ∙ ap (λ (others : Bool). test (meaning v name) (length items) || others) (terms_have_is v test items)
 
 -- by what is known of its name
-pub has_by : (v : Vocabulary) (property : Property) (term : TermTree) (means : Meaning) (count : ℕ) (holds : Bool) → means ≡ meaning v (out-TermTree term).name.now → count ≡ length (out-TermTree term).args.items → meaning_has property means count ≡ holds
-    → term_has v property (plain_term term) ≡ (holds || terms_have v property (out-TermTree term).args.items)
-has_by v property term means count holds e f h =
-    let same : meaning_has property means count ≡ meaning_has property (meaning v (out-TermTree term).name.now) (length (out-TermTree term).args.items) = ap (λ (m : Meaning). meaning_has property m count) e ∙ ap (meaning_has property (meaning v (out-TermTree term).name.now)) f in
-    term_has_is v property term ∙ ap (λ (b : Bool). b || terms_have v property (out-TermTree term).args.items) (sym same ∙ h)
+pub has_by : (v : Vocabulary) (test : NameTest) (term : TermTree) (means : Meaning) (count : ℕ) (holds : Bool) → means ≡ meaning v (out-TermTree term).name.now → count ≡ length (out-TermTree term).args.items → test means count ≡ holds
+    → term_has v test (plain_term term) ≡ (holds || terms_have v test (out-TermTree term).args.items)
+has_by v test term means count holds e f h =
+    let same : test means count ≡ test (meaning v (out-TermTree term).name.now) (length (out-TermTree term).args.items) = ap (λ (m : Meaning). test m count) e ∙ ap (test (meaning v (out-TermTree term).name.now)) f in
+    term_has_is v test term ∙ ap (λ (b : Bool). b || terms_have v test (out-TermTree term).args.items) (sym same ∙ h)

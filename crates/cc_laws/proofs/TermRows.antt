@@ -9,8 +9,8 @@ use Rattle.cc_defs.specs.declared.tree.TermTree.{TermTree, out-TermTree}
 use Rattle.cc_defs.specs.Resolved.{Term, Terms, NoTerms, MoreTerms, plain_term}
 use Rattle.cc_defs.specs.Resolved as resolved
 use Rattle.cc_defs.specs.Trees as trees
-use Rattle.cc_laws.specs.Resolving.{resolve_term, resolve_terms, term_meant}
-use Rattle.cc_laws.specs.TermLists.{plain_terms, row_terms}
+use Rattle.cc_laws.specs.Resolving.{Binding, resolve_term, resolve_terms, term_meant}
+use Rattle.cc_laws.specs.Views.{plain_terms, row_terms}
 use Rattle.cc_laws.specs.Vocabulary.{Vocabulary, Meaning, meaning}
 use Rattle.cc_laws.proofs.Mentions.{plain_parts}
 
@@ -30,7 +30,7 @@ pub behind_none : (terms : Terms) → behind terms NoTerms ≡ terms
 behind_none NoTerms = refl
 behind_none (MoreTerms first others) = ap (MoreTerms first) (behind_none others)
 
-pub resolved_more : (v : Vocabulary) (scope : List ℕ) (args : List TermTree) (i : ℕ) (d : TermTree) (made pushed : List kept.Term) (one : kept.Term) (whole : Terms) →
+pub resolved_more : (v : Vocabulary) (scope : List Binding) (args : List TermTree) (i : ℕ) (d : TermTree) (made pushed : List kept.Term) (one : kept.Term) (whole : Terms) →
     i < length args → d ≡ get_or args i d → pushed ≡ made ++ one ∷ [] → plain_term one ≡ resolve_term v scope (trees.plain_term d) →
     behind (row_terms made) (resolve_terms v scope (plain_terms (drop i args))) ≡ whole →
     behind (row_terms pushed) (resolve_terms v scope (plain_terms (drop (i + 1) args))) ≡ whole
@@ -42,7 +42,7 @@ resolved_more v scope args i d made pushed one whole within is push e q =
     ∙ ap (behind (row_terms made)) (sym (next_item (λ (l : List TermTree). resolve_terms v scope (plain_terms l)) args i d within is))
     ∙ q
 
-pub resolved_all : (v : Vocabulary) (scope : List ℕ) (args : List TermTree) (i : ℕ) (made : List kept.Term) (whole : Terms) → length args ≤ i →
+pub resolved_all : (v : Vocabulary) (scope : List Binding) (args : List TermTree) (i : ℕ) (made : List kept.Term) (whole : Terms) → length args ≤ i →
     behind (row_terms made) (resolve_terms v scope (plain_terms (drop i args))) ≡ whole →
     row_terms made ≡ whole
 resolved_all v scope args i made whole past q =
@@ -59,7 +59,7 @@ row_kept _ (kept.more_of-Term term rest) = ap (MoreTerms (plain_term term)) (row
 pub row_made : (args : Vec kept.Term Global) → resolved.plain_row (hidden-the_row-Term-0 args) ≡ row_terms args.items
 row_made args = search (rules, row_kept, items_hidden-the_row-Term-0)
 
-pub term_resolved : (v : Vocabulary) (scope : List ℕ) (term : TermTree) (means : Meaning) (args : Terms) →
+pub term_resolved : (v : Vocabulary) (scope : List Binding) (term : TermTree) (means : Meaning) (args : Terms) →
     means ≡ meaning v (out-TermTree term).name.now →
     args ≡ resolve_terms v scope (plain_terms (out-TermTree term).args.items) →
     term_meant scope means args ≡ resolve_term v scope (trees.plain_term term)

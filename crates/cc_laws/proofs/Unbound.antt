@@ -6,7 +6,7 @@ use Rattle.cc_defs.specs.declared.tree.TermTree.{TermTree, out-TermTree}
 use Rattle.cc_defs.specs.Trees.{PlainTerm, plain_term}
 use Rattle.cc_laws.specs.FreeVariables.{is_among, variable_meant, term_variables, unbound}
 use Rattle.cc_laws.specs.Leaves.{Mention, mentions, argument_mentions}
-use Rattle.cc_laws.specs.TermLists.{plain_terms}
+use Rattle.cc_laws.specs.Views.{plain_terms}
 use Rattle.cc_laws.specs.Vocabulary.{Vocabulary, meaning}
 use Rattle.cc_laws.proofs.Mentions.{plain_parts}
 
@@ -53,3 +53,8 @@ begun v bound term old new items added are =
     ∙ ap (λ (terms : List TermTree). (old ++ own) ++ unbound_in v bound terms) are
     ∙ append_assoc old own (unbound_in v bound (out-TermTree term).args.items)
     ∙ ap (λ (more : List ℕ). old ++ more) (sym (unbound_term v bound term))
+
+-- no bracket binds
+pub unbound_none : (numbers : List ℕ) → unbound [] numbers ≡ numbers
+unbound_none [] = refl
+unbound_none (number ∷ numbers) = ap (λ (others : List ℕ). number ∷ others) (unbound_none numbers)

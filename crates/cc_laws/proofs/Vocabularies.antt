@@ -3,13 +3,13 @@ use Rattle.std.proofs.Common.{◌≡◌, ◌∙◌, ℕ, List, [], ◌∷◌, ma
 use Rattle.cc_defs.specs.declared.signature.Symbol.{Symbol}
 use Rattle.cc_defs.specs.Declarations.{Declaration, Declared, Pair, sort_names, pairs, objects, variables, symbols, symbol_of, constants}
 use Rattle.cc_sorts.specs.declared.table.Placed.{Placed}
-use Rattle.cc_sorts.specs.Tables.{TableView, Numbered, numbered, IsTable, placed_from}
+use Rattle.cc_sorts.specs.Tables.{TableView, Numbered, numbered, IsTable, place_symbol}
 use Rattle.cc_laws.specs.Vocabulary.{Vocabulary, vocabulary, vocabulary_of}
 
 abbrev symbols_in : List Placed → List Symbol
 symbols_in placed = map (λ placed. placed.symbol) placed
 
-symbols_placed : (of : Declared → Symbol) (constants : List Declared) → symbols_in (placed_from (map of constants) constants) ≡ map of constants
+symbols_placed : (of : Declared → Symbol) (constants : List Declared) → symbols_in (map (λ constant. place_symbol (of constant) constant) constants) ≡ map of constants
 symbols_placed of [] = refl
 symbols_placed of (constant ∷ constants) = ap (λ (rest : List Symbol). of constant ∷ rest) (symbols_placed of constants)
 

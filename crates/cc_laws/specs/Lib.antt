@@ -1,14 +1,11 @@
-pub mod Expanding
 pub mod Expansion
 pub mod FormulaFaults
 pub mod FreeVariables
 pub mod Heads
-pub mod Joints
 pub mod LawFaults
+pub mod Laws
 pub mod Leaves
-pub mod Meanings
-pub mod Pieces
 pub mod Questions
 pub mod Resolving
-pub mod TermLists
+pub mod Views
 pub mod Vocabulary

@@ -1,10 +1,11 @@
 -- What the names of a description mean, as far as it has been read.
-use Rattle.std.specs.Prelude.{ℕ, Bool, true, false, not, ◌&&◌, nat_lt, if◌then◌else◌, List, [], map, length, codes, slice_get, slice_index_or, Option, Some, None, is_none}
+use Rattle.std.specs.Prelude.{ℕ, Bool, true, false, not, ◌&&◌, ◌||◌, ◌==◌, nat_lt, if◌then◌else◌, List, [], map, length, codes, slice_get, slice_index_or, Option, Some, None}
 use Rattle.cc_defs.specs.declared.signature.Kind.{Kind}
 use Rattle.cc_defs.specs.declared.signature.Kind.TheVariants as kinds
 use Rattle.cc_defs.specs.declared.signature.Symbol.{Symbol}
 use Rattle.cc_defs.specs.Grammar.{same_text}
 use Rattle.cc_defs.specs.Declarations.{Declaration, Pair, sort_names, pairs, is_below, objects, variables, symbols, is_action}
+use Rattle.cc_defs.specs.Universe.{is_boolean_symbol}
 use Rattle.cc_sorts.specs.Dictionaries.{number_of, names_of, values_of}
 use Rattle.cc_sorts.specs.Tables.{TableView, Numbered, numbered}
 
@@ -99,20 +100,16 @@ abbrev pub is_determined_constant : Meaning → Bool
 is_determined_constant (Constant number symbol) = is_determined_kind symbol.kind
 is_determined_constant meaning = false
 
--- a constant with the values `false` and `true`; `boolean` is sort 0, and an attribute has `none` besides
-abbrev pub is_boolean_symbol : Symbol → Bool
-is_boolean_symbol symbol = nat_lt symbol.domain 1 && is_none symbol.attribute
-
 abbrev pub is_boolean_constant : Meaning → Bool
-is_boolean_constant (Constant number symbol) = is_boolean_symbol symbol
+is_boolean_constant (Constant number symbol) = is_boolean_symbol (Some symbol)
 is_boolean_constant meaning = false
 
 -- `true` or `false`: these are the objects 0 and 1
 abbrev pub is_truth_value : Meaning → Bool
-is_truth_value (Object number sort) = nat_lt number 2
+is_truth_value (Object number sort) = (number == 0) || (number == 1)
 is_truth_value meaning = false
 
 -- `false`
 abbrev pub is_falsity : Meaning → Bool
-is_falsity (Object number sort) = nat_lt number 1
+is_falsity (Object number sort) = number == 0
 is_falsity meaning = false

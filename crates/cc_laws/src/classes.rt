@@ -2,46 +2,38 @@
 ghost use Rattle.std.specs.Prelude.{◌≡◌};
 ghost use Rattle.cc_defs.specs.Resolved.{plain_base_law, plain_formula, plain_head, plain_law, plain_term};
 ghost use Rattle.std.specs.Option.{option_map};
-ghost use Rattle.cc_laws.specs.Classes as words;
+ghost use Rattle.cc_defs.specs.declared.signature.LawKind.{LawKind as Kind};
+ghost use Rattle.cc_defs.specs.Forms.{IsOfKind, is_definite_law, is_value as is_no_constant};
+ghost use Rattle.cc_laws.specs.Expansion.{class_of};
 ghost use Rattle.cc_laws.specs.Vocabulary.{vocabulary_of};
 
 use crate::steps::is_action_symbol;
 use cc_defs::{BaseLaw, Formula, Head, Law, LawKind, Term};
 use cc_sorts::Table;
 
-/// Whether a head has an action.
-fn head_acts(table: &Table, head: &Head) -> bool
-    ensures { result ≡ words.head_acts (vocabulary_of table.now).symbols (plain_head head.now) }
-{
-    match head {
-        Head::Atom { symbol, .. } => is_action_symbol(table, *symbol),
-        Head::Falsity => false,
-    }
-}
-
 /// The class of a law with this head and this `after` part.
 pub(crate) fn class(table: &Table, head: &Head, after: &Option<Formula>) -> LawKind
-    ensures { result ≡ words.class_of (vocabulary_of table.now).symbols (plain_head head.now) (option_map plain_formula after.now) }
+    ensures { result ≡ class_of (vocabulary_of table.now).symbols (plain_head head.now) (option_map plain_formula after.now) }
 {
     if after.is_some() {
         return LawKind::FluentDynamic;
     }
-    if head_acts(table, head) {
-        return LawKind::ActionDynamic;
+    match head {
+        Head::Atom { symbol, .. } if is_action_symbol(table, *symbol) => LawKind::ActionDynamic,
+        Head::Atom { .. } | Head::Falsity => LawKind::Static,
     }
-    LawKind::Static
 }
 
 /// The class of a law of one of the three forms: fluent dynamic with an `after` part; else action dynamic where its head
 /// has an action, and static where it has not. It takes no memory.
 pub fn classify(table: &Table, law: &Law) -> LawKind
-    ensures { result ≡ words.class_of (vocabulary_of table.now).symbols (plain_law law.now).head (plain_law law.now).after }
+    ensures { (kind : Kind) → IsOfKind kind (vocabulary_of table.now).symbols (plain_law law.now) → result ≡ kind }
 {
     class(table, &law.head, &law.after)
 }
 
 fn is_value(term: &Term) -> bool
-    ensures { result ≡ words.is_value (plain_term term.now) }
+    ensures { result ≡ is_no_constant (plain_term term.now) }
 {
     match term {
         Term::Constant { .. } => false,
@@ -51,7 +43,7 @@ fn is_value(term: &Term) -> bool
 
 /// Whether a law is definite: its head is an atom whose value is no constant, or falsity. It takes no memory.
 pub fn definite(law: &BaseLaw) -> bool
-    ensures { result ≡ words.is_definite_law (plain_base_law law.now) }
+    ensures { result ≡ is_definite_law (plain_base_law law.now) }
 {
     match law {
         BaseLaw::One(law) => match &law.head {

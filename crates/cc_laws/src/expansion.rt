@@ -1,28 +1,27 @@
 //! The base laws that a statement stands for.
-ghost use Rattle.std.specs.Prelude.{◌≡◌, ◌++◌, ◌∷◌, ◌<◌, List as Items, [], Some, length, map, flat_map, is_none, IfOk, IfErr, OnOk};
+ghost use Rattle.std.specs.Prelude.{◌≡◌, ◌+◌, ◌++◌, ◌∷◌, ◌<◌, ◌&&◌, List as Items, [], length, map, flat_map, is_none, IfOk, IfErr, OnOk};
 ghost use Rattle.std.specs.Option.{option_map};
 ghost use Rattle.cc_defs.specs.Declarations.{Declaration as Declared};
+ghost use Rattle.cc_defs.specs.Refusals.{IsRefusedBy};
 ghost use Rattle.cc_defs.specs.Resolved.{plain_base_law, plain_formula, plain_head};
 ghost use Rattle.cc_defs.specs.Resolved as resolved;
-ghost use Rattle.cc_defs.specs.Trees.{plain_const_item, plain_kind, plain_law, plain_part, plain_shape, plain_statement, plain_term, plain_tree};
-ghost use Rattle.cc_laws.specs.Checked.{IsRefusedLaw};
-ghost use Rattle.cc_laws.specs.Expanding.{persistence_of, frame_of};
+ghost use Rattle.cc_defs.specs.Trees.{plain_const_item, plain_kind, plain_law, plain_part, plain_statement, plain_term, plain_tree};
 ghost use Rattle.cc_laws.specs.Expansion as words;
 ghost use Rattle.cc_laws.specs.Expansion.{Expands};
-ghost use Rattle.cc_laws.specs.Meanings.{plain_meaning};
-ghost use Rattle.cc_laws.specs.Pieces.{plain_piece, plain_caused, plain_head as head_piece};
+ghost use Rattle.cc_laws.specs.LawFaults.{law_refusal};
 ghost use Rattle.cc_laws.specs.Resolving.{alone};
-ghost use Rattle.cc_laws.specs.TermLists.{row_terms};
-ghost use Rattle.cc_laws.specs.Vocabulary.{vocabulary_of};
+ghost use Rattle.cc_laws.specs.Views.{frame_from, frame_of, head_piece, persistence_of, plain_caused, plain_meaning, plain_piece, row_terms, scope_of};
+ghost use Rattle.cc_laws.specs.Vocabulary.{vocabulary, vocabulary_of};
 ghost use Rattle.cc_sorts.specs.Tables.{IsTable};
 
-use crate::forms::has;
-use crate::head_parts::add_heads;
-use crate::laws::{check, law_variables};
+use crate::checks::{check, law_variables};
+use crate::forms::{has, is_fluent_formula};
+use crate::head_parts::heads_of;
 use crate::meaning::{Meaning, meaning_of};
 use crate::mention::Property;
-use crate::pieces::{Caused, HeadPiece, Piece, resolve_piece, short_for};
-use crate::resolving::{Joint, join, negated, resolve, resolve_terms};
+use crate::names::{Names, names_of};
+use crate::pieces::{Caused, HeadPiece, Piece, effect, law_of, resolve_piece};
+use crate::resolving::{Joint, join, negated, resolve_terms};
 use crate::values::{Frame, Persistence, base_law, value_law};
 use cc_defs::{
     BaseLaw, BaseLaws, ConstItem, Fault, Formula, Head, KindTree, KindWord, LawTree, List,
@@ -30,6 +29,15 @@ use cc_defs::{
 };
 use cc_sorts::Table;
 use std::alloc::Global;
+
+/// What the base laws of a law are made from: where it stands, its variables by their numbers in the table, and its test.
+#[derive(Clone, Copy)]
+pub(crate) struct Source<'t, 's> {
+    pub(crate) file: u32,
+    pub(crate) line: u32,
+    pub(crate) variables: &'t [u32],
+    pub(crate) test: &'t Option<Tree<'s>>,
+}
 
 /// The sort of a variable; 0 where there is none.
 fn sort_of(table: &Table, variable: u32) -> u32
@@ -52,43 +60,36 @@ fn sort_ranges(alloc: Global, table: &Table, variables: &[u32]) -> Result<Vec<Ra
     Ok(ranges)
 }
 
-/// A part that is true where it is not written.
-fn part(
+/// A part of a law, true where it is missing.
+fn written(
     alloc: Global,
     table: &Table,
-    scope: &mut Vec<u32>,
-    formula: &Option<Tree<'_>>,
+    names: &mut Names,
+    piece: Piece<'_, '_>,
 ) -> Result<Formula, OutOfMemory>
-    requires { length scope.old.items < 4000000000 }
-    ensures made { IfOk result (λ made. plain_formula made ≡ words.part (vocabulary_of table.now) scope.old.items (option_map plain_tree formula.now)) }
-    ensures closed { OnOk result (scope.new.items ≡ scope.old.items) }
+    ensures made { IfOk result (λ made. plain_formula made ≡ words.part (vocabulary_of table.now) (scope_of names.old) names.old.next (plain_piece piece.entry)) }
+    ensures kept { OnOk result (names.new.bindings.items ≡ names.old.bindings.items) }
+    ensures next { OnOk result (names.new.next ≡ names.old.next + words.part_brackets (plain_piece piece.entry)) }
 {
-    match formula {
-        Some(formula) => resolve(alloc, table, scope, formula),
+    match resolve_piece(alloc, table, names, piece)? {
+        Some(formula) => Ok(formula),
         None => Ok(Formula::True),
     }
 }
 
 /// What the base laws of a law have in common.
-fn law_frame(
-    alloc: Global,
-    file: u32,
-    table: &Table,
-    line: u32,
-    scope: &mut Vec<u32>,
-    test: &Option<Tree<'_>>,
-) -> Result<Frame, OutOfMemory>
-    requires { length scope.old.items < 4000000000 }
-    ensures made { IfOk result (λ made. frame_of made ≡ words.law_frame file (vocabulary_of table.now) line scope.old.items (option_map plain_tree test.now)) }
-    ensures closed { OnOk result (scope.new.items ≡ scope.old.items) }
+fn law_frame(alloc: Global, table: &Table, source: Source<'_, '_>) -> Result<Frame, OutOfMemory>
+    ensures { IfOk result (λ made. frame_of made ≡ frame_from (vocabulary_of table.now) source.entry) }
 {
-    let ranges = sort_ranges(alloc, table, scope)?;
-    let test = part(alloc, table, scope, test)?;
+    let ranges = sort_ranges(alloc, table, source.variables)?;
+    let mut names = names_of(alloc, source.variables)?;
+    let test = written(alloc, table, &mut names, Piece::Maybe(source.test))?;
     Ok(Frame {
         ranges,
         test,
-        file,
-        line,
+        names,
+        file: source.file,
+        line: source.line,
     })
 }
 
@@ -101,13 +102,21 @@ fn is_missing(piece: Piece<'_, '_>) -> bool
     }
 }
 
+/// Whether a head has an action.
 fn head_acts(table: &Table, head: HeadPiece<'_, '_>) -> bool
-    ensures { result ≡ words.head_acts (vocabulary_of table.now) (head_piece head.entry) }
+    ensures { result ≡ words.part_acts (vocabulary_of table.now) (head_piece head.entry) }
 {
     match head {
         HeadPiece::Falsity => false,
         HeadPiece::One(formula) => has(table, Property::Action, formula),
     }
+}
+
+/// Whether a law denies a step where a part of its head is `false`. It goes through the whole head: asked once for a law.
+fn denies(table: &Table, law: Caused<'_, '_>) -> bool
+    ensures { result ≡ is_none (plain_caused law.entry).after && words.part_acts (vocabulary_of table.now) (plain_caused law.entry).head }
+{
+    is_missing(law.after) && head_acts(table, law.head)
 }
 
 fn is_falsity_head(head: &Head) -> bool
@@ -119,48 +128,30 @@ fn is_falsity_head(head: &Head) -> bool
     }
 }
 
-/// Whether a law denies a step where a part of its head is false.
-fn denies_step(table: &Table, law: Caused<'_, '_>, head: &Head) -> bool
-    ensures { result ≡ words.denies_step (vocabulary_of table.now) (plain_caused law.entry) (plain_head head.now) }
+/// Whether a part of a head denies a step, where the law denies steps.
+fn denies_step(denying: bool, head: &Head) -> bool
+    ensures { result ≡ denying && words.is_falsity_head (plain_head head.now) }
 {
-    is_missing(law.after) && (head_acts(table, law.head) && is_falsity_head(head))
-}
-
-/// A part of a law, true where it is missing.
-fn written(
-    alloc: Global,
-    table: &Table,
-    scope: &mut Vec<u32>,
-    piece: Piece<'_, '_>,
-) -> Result<Formula, OutOfMemory>
-    requires { length scope.old.items < 4000000000 }
-    ensures made { IfOk result (λ made. plain_formula made ≡ words.part (vocabulary_of table.now) scope.old.items (plain_piece piece.entry)) }
-    ensures closed { OnOk result (scope.new.items ≡ scope.old.items) }
-{
-    match resolve_piece(alloc, table, scope, piece)? {
-        Some(formula) => Ok(formula),
-        None => Ok(Formula::True),
-    }
+    denying && is_falsity_head(head)
 }
 
 /// The base law of a part of a head.
 fn law_for(
     alloc: Global,
     table: &Table,
-    frame: Frame,
-    scope: &mut Vec<u32>,
+    mut frame: Frame,
     law: Caused<'_, '_>,
+    denying: bool,
     head: Head,
 ) -> Result<BaseLaw, OutOfMemory>
-    requires { length scope.old.items < 4000000000 }
-    ensures made { IfOk result (λ made. plain_base_law made ≡ words.law_for (vocabulary_of table.now) (frame_of frame) scope.old.items (plain_caused law.entry) (plain_head head)) }
-    ensures closed { OnOk result (scope.new.items ≡ scope.old.items) }
+    requires { denying ≡ is_none (plain_caused law).after && words.part_acts (vocabulary_of table.now) (plain_caused law).head }
+    ensures { IfOk result (λ made. plain_base_law made ≡ words.law_for (vocabulary_of table.now) (frame_of frame) (plain_caused law.entry) (plain_head head)) }
 {
-    let body = written(alloc, table, scope, law.body)?;
-    if denies_step(table, law, &head) {
+    let body = written(alloc, table, &mut frame.names, law.body)?;
+    if denies_step(denying, &head) {
         return Ok(base_law(table, frame, head, Formula::True, Some(body)));
     }
-    let after = resolve_piece(alloc, table, scope, law.after)?;
+    let after = resolve_piece(alloc, table, &mut frame.names, law.after)?;
     Ok(base_law(table, frame, head, body, after))
 }
 
@@ -168,43 +159,37 @@ fn law_for(
 fn head_parts(
     alloc: Global,
     table: &Table,
-    scope: &[u32],
+    names: &Names,
     head: HeadPiece<'_, '_>,
 ) -> Result<Vec<Head>, OutOfMemory>
-    requires { length scope.now < 4000000000 }
-    ensures { IfOk result (λ found. map plain_head found.items ≡ words.head_parts (vocabulary_of table.now) scope.now (head_piece head.entry)) }
+    ensures { IfOk result (λ found. map plain_head found.items ≡ words.head_parts (vocabulary_of table.now) (scope_of names.now) (head_piece head.entry)) }
 {
-    let mut found = Vec::new(alloc);
     match head {
         HeadPiece::Falsity => {
+            let mut found = Vec::new(alloc);
             found.push(Head::Falsity)?;
             Ok(found)
         }
-        HeadPiece::One(formula) => {
-            add_heads(alloc, table, scope, formula, &mut found)?;
-            Ok(found)
-        }
+        HeadPiece::One(formula) => heads_of(alloc, table, names, formula),
     }
 }
 
-/// The base laws of a law that is short for another one.
+/// The base laws of a law that is short for another one: one for each part of the head.
 fn split(
     alloc: Global,
-    file: u32,
     table: &Table,
-    line: u32,
-    scope: &mut Vec<u32>,
+    source: Source<'_, '_>,
     law: Caused<'_, '_>,
-    test: &Option<Tree<'_>>,
 ) -> Result<Vec<BaseLaw>, OutOfMemory>
-    requires { length scope.old.items < 4000000000 }
-    ensures { IfOk result (λ made. map plain_base_law made.items ≡ words.split (vocabulary_of table.now) (words.law_frame file (vocabulary_of table.now) line scope.old.items (option_map plain_tree test.now)) scope.old.items (Some (plain_caused law.entry))) }
+    ensures { IfOk result (λ made. map plain_base_law made.items ≡ words.split (vocabulary_of table.now) (frame_from (vocabulary_of table.now) source.entry) (plain_caused law.entry)) }
 {
-    let heads = head_parts(alloc, table, scope, law.head)?;
+    let names = names_of(alloc, source.variables)?;
+    let heads = head_parts(alloc, table, &names, law.head)?;
+    let denying = denies(table, law);
     let mut made = Vec::with_capacity(alloc, heads.len())?;
     for head in heads {
-        let frame = law_frame(alloc, file, table, line, scope, test)?;
-        made.push(law_for(alloc, table, frame, scope, law, head)?)?;
+        let frame = law_frame(alloc, table, source)?;
+        made.push(law_for(alloc, table, frame, law, denying, head)?)?;
     }
     Ok(made)
 }
@@ -218,43 +203,22 @@ fn only(alloc: Global, law: BaseLaw) -> Result<Vec<BaseLaw>, OutOfMemory>
     Ok(made)
 }
 
-/// The base laws of a law about formulas.
-fn formula_laws(
-    alloc: Global,
-    file: u32,
-    table: &Table,
-    line: u32,
-    scope: &mut Vec<u32>,
-    law: &LawTree<'_>,
-    test: &Option<Tree<'_>>,
-) -> Result<Vec<BaseLaw>, OutOfMemory>
-    requires { length scope.old.items < 4000000000 }
-    ensures { IfOk result (λ made. map plain_base_law made.items ≡ words.split (vocabulary_of table.now) (words.law_frame file (vocabulary_of table.now) line scope.old.items (option_map plain_tree test.now)) scope.old.items (words.short_for (vocabulary_of table.now) (plain_law law.now))) }
-{
-    match short_for(table, law) {
-        Some(short) => split(alloc, file, table, line, scope, short, test),
-        None => Ok(Vec::new(alloc)),
-    }
-}
-
 /// The base law of what is exogenous or inertial.
 #[tactic(auto, using(crate::proofs::Expanded::subject_parts))]
 fn subject_laws(
     alloc: Global,
     table: &Table,
-    frame: Frame,
-    scope: &[u32],
+    source: Source<'_, '_>,
     persistence: Persistence,
     constant: &TermTree<'_>,
 ) -> Result<Vec<BaseLaw>, OutOfMemory>
-    requires scope { length scope.now < 4000000000 }
-    requires ranges { length frame.ranges.items < 4000000000 }
-    ensures { IfOk result (λ made. map plain_base_law made.items ≡ words.subject_laws (vocabulary_of table.now) (frame_of frame) scope.now (persistence_of persistence) (plain_term constant.now)) }
+    ensures { IfOk result (λ made. map plain_base_law made.items ≡ words.subject_laws (vocabulary_of table.now) (frame_from (vocabulary_of table.now) source.entry) (persistence_of persistence) (plain_term constant.now)) }
 {
     let Meaning::Constant(symbol, _) = meaning_of(table, constant.name) else {
         return Ok(Vec::new(alloc));
     };
-    let args = resolve_terms(alloc, table, scope, &constant.args)?;
+    let frame = law_frame(alloc, table, source)?;
+    let args = resolve_terms(alloc, table, &frame.names, &constant.args)?;
     only(
         alloc,
         value_law(alloc, table, frame, persistence, symbol, args)?,
@@ -262,6 +226,57 @@ fn subject_laws(
 }
 
 /// The base laws of a law.
+fn laws_with(
+    alloc: Global,
+    table: &Table,
+    source: Source<'_, '_>,
+    law: &LawTree<'_>,
+) -> Result<Vec<BaseLaw>, OutOfMemory>
+    ensures { IfOk result (λ made. map plain_base_law made.items ≡ words.laws_with (vocabulary_of table.now) (frame_from (vocabulary_of table.now) source.entry) (plain_law law.now)) }
+{
+    match law {
+        LawTree::Exogenous(constant) => {
+            subject_laws(alloc, table, source, Persistence::Exogenous, constant)
+        }
+        LawTree::Inertial(constant) => {
+            subject_laws(alloc, table, source, Persistence::Inertial, constant)
+        }
+        LawTree::NoConcurrency => {
+            let (file, line) = (source.file, source.line);
+            only(alloc, BaseLaw::NoConcurrency { file, line })
+        }
+        LawTree::Caused(f, g, h) => {
+            let short = law_of(HeadPiece::One(f), Piece::Maybe(g), Piece::Maybe(h));
+            split(alloc, table, source, short)
+        }
+        LawTree::Constraint(f) => {
+            let short = law_of(HeadPiece::Falsity, Piece::Denied(f), Piece::Missing);
+            split(alloc, table, source, short)
+        }
+        LawTree::Always(f) => {
+            let short = law_of(HeadPiece::Falsity, Piece::Missing, Piece::Denied(f));
+            split(alloc, table, source, short)
+        }
+        LawTree::Nonexecutable(f, g) => {
+            let short = law_of(HeadPiece::Falsity, Piece::Missing, Piece::Both(f, g));
+            split(alloc, table, source, short)
+        }
+        LawTree::Default(f, g, h) => {
+            let short = law_of(HeadPiece::One(f), Piece::Both(f, g), Piece::Maybe(h));
+            split(alloc, table, source, short)
+        }
+        LawTree::Causes(a, f, g) => {
+            let short = effect(is_fluent_formula(table, f), a, f, g);
+            split(alloc, table, source, short)
+        }
+        LawTree::MayCause(a, f, g) => {
+            let short = law_of(HeadPiece::One(f), Piece::One(f), Piece::Both(a, g));
+            split(alloc, table, source, short)
+        }
+    }
+}
+
+/// The base laws of a law and its test.
 fn laws_in(
     alloc: Global,
     file: u32,
@@ -272,35 +287,14 @@ fn laws_in(
 ) -> Result<Vec<BaseLaw>, OutOfMemory>
     ensures { IfOk result (λ made. map plain_base_law made.items ≡ words.laws_in file (vocabulary_of table.now) line (plain_law law.now) (option_map plain_tree test.now)) }
 {
-    let mut scope = law_variables(alloc, table, law)?;
-    if scope.len() >= 4_000_000_000 {
-        return Err(OutOfMemory);
-    }
-    match law {
-        LawTree::Exogenous(constant) => {
-            let frame = law_frame(alloc, file, table, line, &mut scope, test)?;
-            subject_laws(
-                alloc,
-                table,
-                frame,
-                &scope,
-                Persistence::Exogenous,
-                constant,
-            )
-        }
-        LawTree::Inertial(constant) => {
-            let frame = law_frame(alloc, file, table, line, &mut scope, test)?;
-            subject_laws(alloc, table, frame, &scope, Persistence::Inertial, constant)
-        }
-        LawTree::NoConcurrency => only(alloc, BaseLaw::NoConcurrency { file, line }),
-        LawTree::Caused(..)
-        | LawTree::Constraint(_)
-        | LawTree::Always(_)
-        | LawTree::Nonexecutable(..)
-        | LawTree::Default(..)
-        | LawTree::Causes(..)
-        | LawTree::MayCause(..) => formula_laws(alloc, file, table, line, &mut scope, law, test),
-    }
+    let variables = law_variables(alloc, table, law)?;
+    let source = Source {
+        file,
+        line,
+        variables: &variables,
+        test,
+    };
+    laws_with(alloc, table, source, law)
 }
 
 /// Variables by their places from 0 on, one for each sort.
@@ -317,15 +311,21 @@ fn places(alloc: Global, sorts: &[u32]) -> Result<Vec<Term>, OutOfMemory>
 
 /// What the base laws of a constant have in common.
 fn shape_frame(alloc: Global, file: u32, line: u32, sorts: &[u32]) -> Result<Frame, OutOfMemory>
+    requires { length sorts.now < 4000000000 }
     ensures { IfOk result (λ made. frame_of made ≡ words.shape_frame file line sorts.now) }
 {
     let mut ranges = Vec::with_capacity(alloc, sorts.len())?;
     for sort in sorts {
         ranges.push(Range::Sort(*sort))?;
     }
+    let names = Names {
+        bindings: Vec::new(alloc),
+        next: sorts.len() as u32 + 1,
+    };
     Ok(Frame {
         ranges,
         test: Formula::True,
+        names,
         file,
         line,
     })
@@ -542,7 +542,11 @@ fn base_laws(
 }
 
 /// The base laws that a law, or a statement of constants that was declared, stands for, in order, at the table as it
-/// stands. Refuses exactly what `check` refuses, as it does. Another statement stands for none.
+/// stands. Another statement stands for none. Refuses, at the statement's line, the least number of a fault of the
+/// law: an unknown name (5), another number of arguments (6), a term where its sort or kind does not fit (7), a `where` test
+/// with a variable that is not free in the law before it (8), a law of none of the three forms or a part of the wrong kind
+/// (9), a statically determined fluent in the head of a fluent dynamic law (10), a head that is not definite (11). A
+/// statement that is no law has no such fault. `file` is the number of the file in refusals.
 pub fn expand(
     alloc: Global,
     file: u32,
@@ -550,7 +554,7 @@ pub fn expand(
     statement: &Statement<'_>,
 ) -> Result<BaseLaws, Fault>
     ensures expanded { (left : Items Declared) → IsTable table.now left → IfOk result (λ laws. Expands file left (plain_statement statement.now) (map plain_base_law laws)) }
-    ensures refused { (left : Items Declared) → IsTable table.now left → IfErr result (IsRefusedLaw file left (plain_statement statement.now)) }
+    ensures refused { (left : Items Declared) → IsTable table.now left → IfErr result (IsRefusedBy (law_refusal file (vocabulary left) (plain_statement statement.now))) }
 {
     check(alloc, file, table, statement)?;
     let laws = base_laws(alloc, file, table, statement.line, &statement.part)?;

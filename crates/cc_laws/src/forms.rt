@@ -6,6 +6,7 @@ ghost use Rattle.cc_defs.specs.Trees.{plain_tree, plain_law};
 ghost use Rattle.cc_laws.specs.FormulaFaults as formulas;
 ghost use Rattle.cc_laws.specs.LawFaults as faults;
 ghost use Rattle.cc_laws.specs.FreeVariables.{optional};
+ghost use Rattle.cc_laws.specs.Views.{asks};
 ghost use Rattle.cc_laws.specs.Vocabulary.{vocabulary_of};
 
 use crate::heads::is_definite;
@@ -16,7 +17,7 @@ use cc_defs::{LawTree, Tree};
 use cc_sorts::Table;
 
 pub(crate) fn has(table: &Table, property: Property, formula: &Tree<'_>) -> bool
-    ensures { result ≡ formulas.formula_has (vocabulary_of table.now) property (plain_tree formula.now) }
+    ensures { result ≡ formulas.formula_has (vocabulary_of table.now) (asks property) (plain_tree formula.now) }
 {
     formula_fails(table, Check::Mentions(property), formula)
 }

@@ -1,19 +1,22 @@
-//! The parts of a definite head.
-ghost use Rattle.std.specs.Prelude.{◌≡◌, ◌++◌, ◌<◌, length, map, IfOk, OnOk};
+//! The heads that a definite formula stands for.
+ghost use Rattle.std.specs.Prelude.{◌≡◌, [], Some, map, unwrap_or, IfOk};
 ghost use Rattle.cc_defs.specs.Resolved.{plain_head, plain_term as resolved_term};
-ghost use Rattle.cc_defs.specs.Trees.{plain_term, plain_tree, Bare as bare, Equal as equation};
-ghost use Rattle.cc_laws.specs.Expansion as words;
-ghost use Rattle.cc_laws.specs.Meanings.{plain_meaning};
+ghost use Rattle.cc_defs.specs.Trees.{plain_term, plain_tree, Bare as bare, Equal as equation, Differ as denial};
+ghost use Rattle.cc_laws.specs.Heads as words;
+ghost use Rattle.cc_laws.specs.Heads.{both_heads, only_if};
+ghost use Rattle.cc_laws.specs.Resolving as resolving;
+ghost use Rattle.cc_laws.specs.Views.{plain_meaning, scope_of};
 ghost use Rattle.cc_laws.specs.Vocabulary.{vocabulary_of};
 
-use crate::heads::{is_boolean_term, is_constant_term};
+use crate::heads::{compares_boolean, is_boolean_term, is_constant_term, is_falsity_term};
 use crate::meaning::{Meaning, meaning_of, meaning_of_term};
+use crate::names::Names;
 use crate::resolving::{resolve_term, resolve_terms};
 use cc_defs::{Head, List, OutOfMemory, Term, TermTree, Tree};
 use cc_sorts::Table;
 use std::alloc::Global;
 
-/// What a Boolean constant is where it is not the value with this meaning.
+/// The other one of `false` and `true`.
 fn opposite_of(value: &Meaning<'_>) -> Term
     ensures { resolved_term result ≡ words.opposite_of (plain_meaning value.now) }
 {
@@ -33,101 +36,153 @@ fn opposite(table: &Table, value: &TermTree<'_>) -> Term
     opposite_of(&meaning_of_term(table, value))
 }
 
-/// Adds the head that a constant has a value.
+/// Adds the head that a constant has a value; answers whether the term is a constant.
 fn add_atom(
     alloc: Global,
     table: &Table,
-    scope: &[u32],
+    names: &Names,
     constant: &TermTree<'_>,
     value: Term,
     found: &mut Vec<Head>,
-) -> Result<(), OutOfMemory>
-    requires { length scope.now < 4000000000 }
-    ensures { OnOk result (map plain_head found.new.items ≡ map plain_head found.old.items ++ words.atom (vocabulary_of table.now) scope.now (plain_term constant.now) (resolved_term value)) }
+) -> Result<bool, OutOfMemory>
+    ensures { IfOk result (λ definite. only_if definite (Some (map plain_head found.new.items)) ≡ both_heads (Some (map plain_head found.old.items)) (words.atom (vocabulary_of table.now) (scope_of names.now) (plain_term constant.now) (resolved_term value))) }
 {
     let Meaning::Constant(symbol, _) = meaning_of(table, constant.name) else {
-        return Ok(());
+        return Ok(false);
     };
-    let args = List::of(resolve_terms(alloc, table, scope, &constant.args)?);
+    let args = List::of(resolve_terms(alloc, table, names, &constant.args)?);
     found.push(Head::Atom {
         symbol,
         args,
         value,
     })?;
-    Ok(())
+    Ok(true)
 }
 
-/// Adds the head of a term alone: falsity, or that a constant is true.
+/// Adds the head of a term alone: falsity, or that a Boolean constant is true.
 fn add_bare(
     alloc: Global,
     table: &Table,
-    scope: &[u32],
+    names: &Names,
     term: &TermTree<'_>,
     found: &mut Vec<Head>,
-) -> Result<(), OutOfMemory>
-    requires { length scope.now < 4000000000 }
-    ensures { OnOk result (map plain_head found.new.items ≡ map plain_head found.old.items ++ words.heads (vocabulary_of table.now) scope.now (bare (plain_term term.now))) }
+) -> Result<bool, OutOfMemory>
+    ensures { IfOk result (λ definite. only_if definite (Some (map plain_head found.new.items)) ≡ both_heads (Some (map plain_head found.old.items)) (words.definite_heads (vocabulary_of table.now) (scope_of names.now) (bare (plain_term term.now)))) }
 {
-    if meaning_of_term(table, term).is_falsity() {
+    if is_falsity_term(table, term) {
         found.push(Head::Falsity)?;
-        return Ok(());
+        return Ok(true);
     }
-    add_atom(alloc, table, scope, term, Term::Object(1), found)
+    if is_boolean_term(table, term) {
+        return add_atom(alloc, table, names, term, Term::Object(1), found);
+    }
+    Ok(false)
 }
 
-/// Adds the head of an equation: that the constant on one side has the value on the other.
+/// Adds the head that a constant has the value that a term names.
+fn add_value(
+    alloc: Global,
+    table: &Table,
+    names: &Names,
+    constant: &TermTree<'_>,
+    value: &TermTree<'_>,
+    found: &mut Vec<Head>,
+) -> Result<bool, OutOfMemory>
+    ensures { IfOk result (λ definite. only_if definite (Some (map plain_head found.new.items)) ≡ both_heads (Some (map plain_head found.old.items)) (words.atom (vocabulary_of table.now) (scope_of names.now) (plain_term constant.now) (resolving.resolve_term (vocabulary_of table.now) (scope_of names.now) (plain_term value.now)))) }
+{
+    let value = resolve_term(alloc, table, names, value)?;
+    add_atom(alloc, table, names, constant, value, found)
+}
+
+#[tactic(auto, using(crate::proofs::HeadTests::or_none))]
+/// Adds the head of an equation: the constant on one side has the value on the other.
 fn add_equation(
     alloc: Global,
     table: &Table,
-    scope: &[u32],
+    names: &Names,
     left: &TermTree<'_>,
     right: &TermTree<'_>,
     found: &mut Vec<Head>,
-) -> Result<(), OutOfMemory>
-    requires { length scope.now < 4000000000 }
-    ensures { OnOk result (map plain_head found.new.items ≡ map plain_head found.old.items ++ words.heads (vocabulary_of table.now) scope.now (equation (plain_term left.now) (plain_term right.now))) }
+) -> Result<bool, OutOfMemory>
+    ensures { IfOk result (λ definite. only_if definite (Some (map plain_head found.new.items)) ≡ both_heads (Some (map plain_head found.old.items)) (words.definite_heads (vocabulary_of table.now) (scope_of names.now) (equation (plain_term left.now) (plain_term right.now)))) }
 {
-    if is_constant_term(table, left) {
-        let value = resolve_term(alloc, table, scope, right)?;
-        return add_atom(alloc, table, scope, left, value, found);
+    match (
+        is_constant_term(table, left),
+        is_constant_term(table, right),
+    ) {
+        (true, false) => add_value(alloc, table, names, left, right, found),
+        (false, true) => add_value(alloc, table, names, right, left, found),
+        (true, true) | (false, false) => Ok(false),
     }
-    let value = resolve_term(alloc, table, scope, left)?;
-    add_atom(alloc, table, scope, right, value, found)
 }
 
-/// Adds the head of a denied equation of a Boolean constant and a truth value.
+/// Adds the head of the denial of an equation of a Boolean constant with a truth value.
+fn add_denial(
+    alloc: Global,
+    table: &Table,
+    names: &Names,
+    left: &TermTree<'_>,
+    right: &TermTree<'_>,
+    found: &mut Vec<Head>,
+) -> Result<bool, OutOfMemory>
+    ensures { IfOk result (λ definite. only_if definite (Some (map plain_head found.new.items)) ≡ both_heads (Some (map plain_head found.old.items)) (words.definite_heads (vocabulary_of table.now) (scope_of names.now) (denial (plain_term left.now) (plain_term right.now)))) }
+{
+    if compares_boolean(table, left, right) {
+        return add_atom(alloc, table, names, left, opposite(table, right), found);
+    }
+    Ok(false)
+}
+
+/// Adds the head of `-c`, c a Boolean constant.
+fn add_denied_term(
+    alloc: Global,
+    table: &Table,
+    names: &Names,
+    term: &TermTree<'_>,
+    found: &mut Vec<Head>,
+) -> Result<bool, OutOfMemory>
+    ensures { IfOk result (λ definite. only_if definite (Some (map plain_head found.new.items)) ≡ both_heads (Some (map plain_head found.old.items)) (words.denied_heads (vocabulary_of table.now) (scope_of names.now) (bare (plain_term term.now)))) }
+{
+    if is_boolean_term(table, term) {
+        return add_atom(alloc, table, names, term, Term::Object(0), found);
+    }
+    Ok(false)
+}
+
+/// Adds the head of `-s=t`, one of s and t a Boolean constant and the other a truth value.
 fn add_denied_equation(
     alloc: Global,
     table: &Table,
-    scope: &[u32],
+    names: &Names,
     left: &TermTree<'_>,
     right: &TermTree<'_>,
     found: &mut Vec<Head>,
-) -> Result<(), OutOfMemory>
-    requires { length scope.now < 4000000000 }
-    ensures { OnOk result (map plain_head found.new.items ≡ map plain_head found.old.items ++ words.denied_heads (vocabulary_of table.now) scope.now (equation (plain_term left.now) (plain_term right.now))) }
+) -> Result<bool, OutOfMemory>
+    ensures { IfOk result (λ definite. only_if definite (Some (map plain_head found.new.items)) ≡ both_heads (Some (map plain_head found.old.items)) (words.denied_heads (vocabulary_of table.now) (scope_of names.now) (equation (plain_term left.now) (plain_term right.now)))) }
 {
-    if is_boolean_term(table, left) {
-        return add_atom(alloc, table, scope, left, opposite(table, right), found);
+    if compares_boolean(table, left, right) {
+        return add_atom(alloc, table, names, left, opposite(table, right), found);
     }
-    add_atom(alloc, table, scope, right, opposite(table, left), found)
+    if compares_boolean(table, right, left) {
+        return add_atom(alloc, table, names, right, opposite(table, left), found);
+    }
+    Ok(false)
 }
 
-/// Adds the head of what a `-` stands before.
+/// Adds the head of what a `-` stands before; answers whether it may stand there.
 fn add_denied(
     alloc: Global,
     table: &Table,
-    scope: &[u32],
+    names: &Names,
     formula: &Tree<'_>,
     found: &mut Vec<Head>,
-) -> Result<(), OutOfMemory>
-    requires { length scope.now < 4000000000 }
-    ensures { OnOk result (map plain_head found.new.items ≡ map plain_head found.old.items ++ words.denied_heads (vocabulary_of table.now) scope.now (plain_tree formula.now)) }
+) -> Result<bool, OutOfMemory>
+    ensures { IfOk result (λ definite. only_if definite (Some (map plain_head found.new.items)) ≡ both_heads (Some (map plain_head found.old.items)) (words.denied_heads (vocabulary_of table.now) (scope_of names.now) (plain_tree formula.now))) }
 {
     match formula {
-        Tree::Bare(term) => add_atom(alloc, table, scope, term, Term::Object(0), found),
-        Tree::Equal(left, right) => add_denied_equation(alloc, table, scope, left, right, found),
-        Tree::Paren(inner) => add_denied(alloc, table, scope, inner, found),
+        Tree::Bare(term) => add_denied_term(alloc, table, names, term, found),
+        Tree::Equal(left, right) => add_denied_equation(alloc, table, names, left, right, found),
+        Tree::Paren(inner) => add_denied(alloc, table, names, inner, found),
         Tree::Differ(..)
         | Tree::Not(..)
         | Tree::Both(..)
@@ -135,37 +190,53 @@ fn add_denied(
         | Tree::Implies(..)
         | Tree::Same(..)
         | Tree::ForAll(..)
-        | Tree::Exists(..) => Ok(()),
+        | Tree::Exists(..) => Ok(false),
     }
 }
 
-/// Adds the parts of a definite head, in order.
-pub(crate) fn add_heads(
+/// Adds the heads of a definite formula, in order; answers whether it is definite.
+fn add_heads(
     alloc: Global,
     table: &Table,
-    scope: &[u32],
+    names: &Names,
     formula: &Tree<'_>,
     found: &mut Vec<Head>,
-) -> Result<(), OutOfMemory>
-    requires { length scope.now < 4000000000 }
-    ensures { OnOk result (map plain_head found.new.items ≡ map plain_head found.old.items ++ words.heads (vocabulary_of table.now) scope.now (plain_tree formula.now)) }
+) -> Result<bool, OutOfMemory>
+    ensures { IfOk result (λ definite. only_if definite (Some (map plain_head found.new.items)) ≡ both_heads (Some (map plain_head found.old.items)) (words.definite_heads (vocabulary_of table.now) (scope_of names.now) (plain_tree formula.now))) }
 {
     match formula {
-        Tree::Bare(term) => add_bare(alloc, table, scope, term, found),
-        Tree::Equal(left, right) => add_equation(alloc, table, scope, left, right, found),
-        Tree::Differ(left, right) => {
-            add_atom(alloc, table, scope, left, opposite(table, right), found)
-        }
-        Tree::Paren(inner) => add_heads(alloc, table, scope, inner, found),
-        Tree::Not(inner) => add_denied(alloc, table, scope, inner, found),
+        Tree::Bare(term) => add_bare(alloc, table, names, term, found),
+        Tree::Equal(left, right) => add_equation(alloc, table, names, left, right, found),
+        Tree::Differ(left, right) => add_denial(alloc, table, names, left, right, found),
+        Tree::Paren(inner) => add_heads(alloc, table, names, inner, found),
+        Tree::Not(inner) => add_denied(alloc, table, names, inner, found),
         Tree::Both(first, second) => {
-            add_heads(alloc, table, scope, first, found)?;
-            add_heads(alloc, table, scope, second, found)
+            if add_heads(alloc, table, names, first, found)? {
+                add_heads(alloc, table, names, second, found)
+            } else {
+                Ok(false)
+            }
         }
         Tree::Either(..)
         | Tree::Implies(..)
         | Tree::Same(..)
         | Tree::ForAll(..)
-        | Tree::Exists(..) => Ok(()),
+        | Tree::Exists(..) => Ok(false),
     }
+}
+
+/// The heads of a definite formula, in order; none of one that is not.
+pub(crate) fn heads_of(
+    alloc: Global,
+    table: &Table,
+    names: &Names,
+    formula: &Tree<'_>,
+) -> Result<Vec<Head>, OutOfMemory>
+    ensures { IfOk result (λ heads. map plain_head heads.items ≡ unwrap_or (words.definite_heads (vocabulary_of table.now) (scope_of names.now) (plain_tree formula.now)) []) }
+{
+    let mut found = Vec::new(alloc);
+    if add_heads(alloc, table, names, formula, &mut found)? {
+        return Ok(found);
+    }
+    Ok(Vec::new(alloc))
 }

@@ -1,15 +1,17 @@
 //! Laws and queries: whether their statements have a fault, and what they say, with numbers in place of names.
 #![tactic(auto)]
 
+mod checks;
 mod classes;
 mod expansion;
 mod forms;
 mod head_parts;
 mod heads;
-mod laws;
+pub mod laws;
 mod meaning;
 mod mention;
 mod misfits;
+mod names;
 mod pieces;
 mod questions;
 mod resolving;
@@ -20,6 +22,5 @@ mod walk;
 
 pub use classes::{classify, definite};
 pub use expansion::expand;
-pub use laws::check;
 pub use questions::question;
 pub use steps::query_steps;

@@ -1,9 +1,10 @@
 //! What a name means.
-ghost use Rattle.std.specs.Prelude.{◌≡◌};
+ghost use Rattle.std.specs.Prelude.{◌≡◌, Some};
 ghost use Rattle.cc_defs.specs.Declarations as declared;
 ghost use Rattle.cc_defs.specs.Trees.{plain_term};
-ghost use Rattle.cc_laws.specs.FormulaFaults.{is_miscounted as has_other_count, meaning_has, stands_alone as may_stand_alone, term_meaning};
-ghost use Rattle.cc_laws.specs.Meanings.{plain_meaning};
+ghost use Rattle.cc_defs.specs.Universe.{is_boolean_symbol as is_boolean};
+ghost use Rattle.cc_laws.specs.FormulaFaults.{is_miscounted as has_other_count, stands_alone as may_stand_alone, term_meaning};
+ghost use Rattle.cc_laws.specs.Views.{asks, plain_meaning};
 ghost use Rattle.cc_laws.specs.Vocabulary as words;
 ghost use Rattle.cc_laws.specs.Vocabulary.{vocabulary_of};
 
@@ -50,9 +51,9 @@ pub(crate) fn meaning_of_term<'t>(table: &'t Table, term: &TermTree<'_>) -> Mean
 
 /// Whether a symbol has the values `false` and `true` alone.
 fn is_boolean_symbol(symbol: &Symbol) -> bool
-    ensures { result ≡ words.is_boolean_symbol symbol.now }
+    ensures { result ≡ is_boolean (Some symbol.now) }
 {
-    symbol.domain < 1 && symbol.attribute.is_none()
+    symbol.attribute.is_none() && symbol.domain == 0
 }
 
 pub(crate) fn is_action(kind: Kind) -> bool
@@ -74,7 +75,7 @@ fn is_determined(kind: Kind) -> bool
 }
 
 impl<'t> Meaning<'t> {
-    fn is_unknown(&self) -> bool
+    pub(crate) fn is_unknown(&self) -> bool
         ensures { result ≡ words.is_unknown (plain_meaning self.now) }
     {
         match self {
@@ -152,7 +153,7 @@ impl<'t> Meaning<'t> {
         ensures { result ≡ words.is_truth_value (plain_meaning self.now) }
     {
         match self {
-            Meaning::Object(number, _) => *number < 2,
+            Meaning::Object(number, _) => *number == 0 || *number == 1,
             Meaning::Unknown | Meaning::Nothing | Meaning::Variable(..) | Meaning::Constant(..) =>
                 false,
         }
@@ -163,7 +164,7 @@ impl<'t> Meaning<'t> {
         ensures { result ≡ words.is_falsity (plain_meaning self.now) }
     {
         match self {
-            Meaning::Object(number, _) => *number < 1,
+            Meaning::Object(number, _) => *number == 0,
             Meaning::Unknown | Meaning::Nothing | Meaning::Variable(..) | Meaning::Constant(..) =>
                 false,
         }
@@ -178,7 +179,7 @@ impl<'t> Meaning<'t> {
 
     /// Whether a name with this meaning and so many arguments has the property.
     pub(crate) fn has(&self, property: Property, count: usize) -> bool
-        ensures { result ≡ meaning_has property (plain_meaning self.now) count }
+        ensures { result ≡ asks property (plain_meaning self.now) count }
     {
         match property {
             Property::Unknown => self.is_unknown(),

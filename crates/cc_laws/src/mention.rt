@@ -2,6 +2,7 @@
 ghost use Rattle.std.specs.Prelude.{◌≡◌};
 ghost use Rattle.cc_defs.specs.Trees.{plain_term};
 ghost use Rattle.cc_laws.specs.FormulaFaults as faults;
+ghost use Rattle.cc_laws.specs.Views.{asks};
 ghost use Rattle.cc_laws.specs.Vocabulary.{vocabulary_of};
 
 use crate::meaning::meaning_of;
@@ -27,7 +28,7 @@ pub(crate) enum Property {
 
 /// Whether a term has a name with the property, in its arguments too.
 pub(crate) fn term_has(table: &Table, property: Property, term: &TermTree<'_>) -> bool
-    ensures { result ≡ faults.term_has (vocabulary_of table.now) property (plain_term term.now) }
+    ensures { result ≡ faults.term_has (vocabulary_of table.now) (asks property) (plain_term term.now) }
 {
     if meaning_of(table, term.name).has(property, term.args.len()) {
         return true;

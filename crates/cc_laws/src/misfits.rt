@@ -3,8 +3,7 @@ ghost use Rattle.std.specs.Prelude.{◌≡◌};
 ghost use Rattle.cc_defs.specs.Trees.{plain_term};
 ghost use Rattle.cc_laws.specs.FormulaFaults as faults;
 ghost use Rattle.cc_laws.specs.Leaves.{Bare, Equation};
-ghost use Rattle.cc_laws.specs.Meanings.{plain_meaning};
-ghost use Rattle.cc_laws.specs.TermLists.{plain_terms};
+ghost use Rattle.cc_laws.specs.Views.{plain_meaning, plain_terms};
 ghost use Rattle.cc_laws.specs.Vocabulary as words;
 ghost use Rattle.cc_laws.specs.Vocabulary.{vocabulary_of};
 

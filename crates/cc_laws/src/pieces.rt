@@ -1,16 +1,16 @@
 //! The law `caused F if G after H` that a law is short for.
-ghost use Rattle.std.specs.Prelude.{◌≡◌, ◌<◌, length, IfOk, OnOk};
+ghost use Rattle.std.specs.Prelude.{◌≡◌, ◌+◌, IfOk, OnOk};
 ghost use Rattle.std.specs.Option.{option_map};
 ghost use Rattle.cc_defs.specs.Resolved.{plain_formula};
-ghost use Rattle.cc_defs.specs.Trees.{plain_law, plain_tree};
+ghost use Rattle.cc_defs.specs.Trees.{Not as not, plain_tree};
 ghost use Rattle.cc_laws.specs.Expansion as words;
-ghost use Rattle.cc_laws.specs.Pieces.{plain_piece, plain_caused, plain_head};
 ghost use Rattle.cc_laws.specs.Resolving as resolving;
+ghost use Rattle.cc_laws.specs.Views.{head_piece, plain_caused, plain_piece, scope_of};
 ghost use Rattle.cc_laws.specs.Vocabulary.{vocabulary_of};
 
-use crate::forms::is_fluent_formula;
+use crate::names::Names;
 use crate::resolving::{Joint, join, negated, resolve};
-use cc_defs::{Formula, LawTree, OutOfMemory, Tree};
+use cc_defs::{Formula, OutOfMemory, Tree};
 use cc_sorts::Table;
 use std::alloc::Global;
 
@@ -43,8 +43,19 @@ pub(crate) struct Caused<'t, 's> {
     pub(crate) after: Piece<'t, 's>,
 }
 
+/// `caused head if body after after`
+pub(crate) fn law_of<'t, 's>(
+    head: HeadPiece<'t, 's>,
+    body: Piece<'t, 's>,
+    after: Piece<'t, 's>,
+) -> Caused<'t, 's>
+    ensures { plain_caused result ≡ words.caused (head_piece head.entry) (plain_piece body.entry) (plain_piece after.entry) }
+{
+    Caused { head, body, after }
+}
+
 /// The effect of actions: on fluents one step later, on actions at once.
-fn effect<'t, 's>(
+pub(crate) fn effect<'t, 's>(
     fluent: bool,
     actions: &'t Tree<'s>,
     head: &'t Tree<'s>,
@@ -55,108 +66,67 @@ fn effect<'t, 's>(
     let cause = Piece::Both(actions, body);
     let head = HeadPiece::One(head);
     if fluent {
-        return Caused {
-            head,
-            body: Piece::Missing,
-            after: cause,
-        };
+        return law_of(head, Piece::Missing, cause);
     }
-    Caused {
-        head,
-        body: cause,
-        after: Piece::Missing,
-    }
-}
-
-/// The law that a law is short for, where it is about formulas.
-pub(crate) fn short_for<'t, 's>(table: &Table, law: &'t LawTree<'s>) -> Option<Caused<'t, 's>>
-    ensures { option_map plain_caused result ≡ words.short_for (vocabulary_of table.now) (plain_law law.now) }
-{
-    match law {
-        LawTree::Caused(head, body, after) => Some(Caused {
-            head: HeadPiece::One(head),
-            body: Piece::Maybe(body),
-            after: Piece::Maybe(after),
-        }),
-        LawTree::Constraint(formula) => Some(Caused {
-            head: HeadPiece::Falsity,
-            body: Piece::Denied(formula),
-            after: Piece::Missing,
-        }),
-        LawTree::Always(formula) => Some(Caused {
-            head: HeadPiece::Falsity,
-            body: Piece::Missing,
-            after: Piece::Denied(formula),
-        }),
-        LawTree::Nonexecutable(actions, body) => Some(Caused {
-            head: HeadPiece::Falsity,
-            body: Piece::Missing,
-            after: Piece::Both(actions, body),
-        }),
-        LawTree::Default(head, body, after) => Some(Caused {
-            head: HeadPiece::One(head),
-            body: Piece::Both(head, body),
-            after: Piece::Maybe(after),
-        }),
-        LawTree::Causes(actions, head, body) => Some(effect(
-            is_fluent_formula(table, head),
-            actions,
-            head,
-            body,
-        )),
-        LawTree::MayCause(actions, head, body) => Some(Caused {
-            head: HeadPiece::One(head),
-            body: Piece::One(head),
-            after: Piece::Both(actions, body),
-        }),
-        LawTree::Exogenous(_) | LawTree::Inertial(_) | LawTree::NoConcurrency => None,
-    }
+    law_of(head, cause, Piece::Missing)
 }
 
 /// `F & G`, where G may be missing, with numbers in place of names.
 fn resolve_both(
     alloc: Global,
     table: &Table,
-    scope: &mut Vec<u32>,
+    names: &mut Names,
     first: &Tree<'_>,
     second: &Option<Tree<'_>>,
 ) -> Result<Formula, OutOfMemory>
-    requires { length scope.old.items < 4000000000 }
-    ensures made { IfOk result (λ made. plain_formula made ≡ resolving.resolve (vocabulary_of table.now) scope.old.items (words.both (plain_tree first.now) (option_map plain_tree second.now))) }
-    ensures closed { OnOk result (scope.new.items ≡ scope.old.items) }
+    ensures made { IfOk result (λ made. plain_formula made ≡ resolving.resolve (vocabulary_of table.now) (scope_of names.old) names.old.next (words.both (plain_tree first.now) (option_map plain_tree second.now))) }
+    ensures kept { OnOk result (names.new.bindings.items ≡ names.old.bindings.items) }
+    ensures next { OnOk result (names.new.next ≡ names.old.next + resolving.brackets (words.both (plain_tree first.now) (option_map plain_tree second.now))) }
 {
-    let first = resolve(alloc, table, scope, first)?;
+    let first = resolve(alloc, table, names, first)?;
     match second {
         Some(second) => {
-            let second = resolve(alloc, table, scope, second)?;
+            let second = resolve(alloc, table, names, second)?;
             join(alloc, Joint::Both, first, second)
         }
         None => Ok(first),
     }
 }
 
+/// The denial of a formula, with numbers in place of names.
+fn resolve_denied(
+    alloc: Global,
+    table: &Table,
+    names: &mut Names,
+    formula: &Tree<'_>,
+) -> Result<Formula, OutOfMemory>
+    ensures made { IfOk result (λ made. plain_formula made ≡ resolving.resolve (vocabulary_of table.now) (scope_of names.old) names.old.next (not (plain_tree formula.now))) }
+    ensures kept { OnOk result (names.new.bindings.items ≡ names.old.bindings.items) }
+    ensures next { OnOk result (names.new.next ≡ names.old.next + resolving.brackets (plain_tree formula.now)) }
+{
+    let formula = resolve(alloc, table, names, formula)?;
+    negated(alloc, formula)
+}
+
 /// A part with numbers in place of names; nothing where it is missing.
 pub(crate) fn resolve_piece(
     alloc: Global,
     table: &Table,
-    scope: &mut Vec<u32>,
+    names: &mut Names,
     piece: Piece<'_, '_>,
 ) -> Result<Option<Formula>, OutOfMemory>
-    requires { length scope.old.items < 4000000000 }
-    ensures made { IfOk result (λ made. option_map plain_formula made ≡ option_map (resolving.resolve (vocabulary_of table.now) scope.old.items) (plain_piece piece.entry)) }
-    ensures closed { OnOk result (scope.new.items ≡ scope.old.items) }
+    ensures made { IfOk result (λ made. option_map plain_formula made ≡ option_map (resolving.resolve (vocabulary_of table.now) (scope_of names.old) names.old.next) (plain_piece piece.entry)) }
+    ensures kept { OnOk result (names.new.bindings.items ≡ names.old.bindings.items) }
+    ensures next { OnOk result (names.new.next ≡ names.old.next + words.part_brackets (plain_piece piece.entry)) }
 {
     match piece {
         Piece::Missing | Piece::Maybe(None) => Ok(None),
         Piece::One(formula) | Piece::Maybe(Some(formula)) => {
-            Ok(Some(resolve(alloc, table, scope, formula)?))
+            Ok(Some(resolve(alloc, table, names, formula)?))
         }
-        Piece::Denied(formula) => {
-            let formula = resolve(alloc, table, scope, formula)?;
-            Ok(Some(negated(alloc, formula)?))
-        }
+        Piece::Denied(formula) => Ok(Some(resolve_denied(alloc, table, names, formula)?)),
         Piece::Both(first, second) => {
-            Ok(Some(resolve_both(alloc, table, scope, first, second)?))
+            Ok(Some(resolve_both(alloc, table, names, first, second)?))
         }
     }
 }

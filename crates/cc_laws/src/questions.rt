@@ -1,19 +1,22 @@
 //! Queries: their faults, and what they ask.
-ghost use Rattle.std.specs.Prelude.{◌≡◌, ◌++◌, ◌<◌, List as Items, [], None, length, map, flat_map, IfOk, IfErr, OnOk, string_bytes};
+ghost use Rattle.std.specs.Prelude.{◌≡◌, ◌+◌, List as Items, [], length, map, flat_map, IfOk, IfErr, OnOk, string_bytes};
 ghost use Rattle.std.specs.List.{list_any};
 ghost use Rattle.std.specs.Option.{option_map};
 ghost use Rattle.cc_defs.specs.Declarations.{Declaration as Declared};
+ghost use Rattle.cc_defs.specs.Refusals.{IsRefusedBy, least};
 ghost use Rattle.cc_defs.specs.Resolved.{Both as both, plain_condition, plain_formula, plain_query};
 ghost use Rattle.cc_defs.specs.Trees.{plain_tree, plain_part, plain_query_item, plain_statement};
-ghost use Rattle.cc_laws.specs.FormulaFaults.{formula_fails as tree_fails};
+ghost use Rattle.cc_laws.specs.FormulaFaults.{has_unknown};
 ghost use Rattle.cc_laws.specs.Questions as words;
-ghost use Rattle.cc_laws.specs.Questions.{Asks, IsRefusedQuery};
+ghost use Rattle.cc_laws.specs.Questions.{Asks, query_refusal};
 ghost use Rattle.cc_laws.specs.Resolving as resolving;
+ghost use Rattle.cc_laws.specs.Views.{fails};
 ghost use Rattle.cc_laws.specs.Vocabulary.{vocabulary, vocabulary_of};
 ghost use Rattle.cc_sorts.specs.Tables.{IsTable};
 
-use crate::laws::refused;
+use crate::checks::refused;
 use crate::mention::Property;
+use crate::names::Names;
 use crate::resolving::resolve;
 use crate::variables::free;
 use crate::walk::{Check, formula_fails};
@@ -83,7 +86,7 @@ fn gives_twice(items: &[QueryItem<'_>]) -> bool
 
 /// Whether a formula fails the check.
 fn some_fails(table: &Table, check: Check, formulas: &[Tree<'_>]) -> bool
-    ensures { result ≡ list_any (tree_fails (vocabulary_of table.now) check) (map plain_tree formulas.now) }
+    ensures { result ≡ list_any (fails (vocabulary_of table.now) check) (map plain_tree formulas.now) }
 {
     formulas
         .iter()
@@ -102,7 +105,7 @@ fn formulas_in<'t, 's>(item: &'t QueryItem<'s>) -> &'t [Tree<'s>]
 
 /// Whether a formula of a query fails the check.
 fn query_fails(table: &Table, check: Check, items: &[QueryItem<'_>]) -> bool
-    ensures { result ≡ list_any (tree_fails (vocabulary_of table.now) check) (flat_map words.formulas_in (map plain_query_item items.now)) }
+    ensures { result ≡ list_any (fails (vocabulary_of table.now) check) (flat_map words.formulas_in (map plain_query_item items.now)) }
 {
     for item in items {
         if some_fails(table, check, formulas_in(item)) {
@@ -110,6 +113,13 @@ fn query_fails(table: &Table, check: Check, items: &[QueryItem<'_>]) -> bool
         }
     }
     false
+}
+
+#[tactic(auto, using(crate::proofs::Failing::some_unknown))]
+fn query_has_unknown(table: &Table, items: &[QueryItem<'_>]) -> bool
+    ensures { result ≡ list_any (has_unknown (vocabulary_of table.now)) (flat_map words.formulas_in (map plain_query_item items.now)) }
+{
+    query_fails(table, Check::Unknown, items)
 }
 
 /// Whether a formula has a free variable.
@@ -153,12 +163,12 @@ fn query_fault(
     table: &Table,
     items: &[QueryItem<'_>],
 ) -> Result<Option<u8>, OutOfMemory>
-    ensures { IfOk result (λ fault. fault ≡ words.query_fault (vocabulary_of table.now) (map plain_query_item items.now)) }
+    ensures { IfOk result (λ fault. fault ≡ least (words.query_faults (vocabulary_of table.now) (map plain_query_item items.now))) }
 {
     if gives_twice(items) {
         return Ok(Some(4));
     }
-    if query_fails(table, Check::Mentions(Property::Unknown), items) {
+    if query_has_unknown(table, items) {
         return Ok(Some(5));
     }
     if query_fails(table, Check::Mentions(Property::Miscounted), items) {
@@ -205,24 +215,24 @@ fn conjunction(alloc: Global, first: Formula, second: Formula) -> Result<Formula
     Ok(Formula::Both(first, Box::new(alloc, second)?))
 }
 
-/// A formula without free variables, with numbers in place of names.
-fn closed(alloc: Global, table: &Table, formula: &Tree<'_>) -> Result<Formula, OutOfMemory>
-    ensures { IfOk result (λ made. plain_formula made ≡ resolving.resolve (vocabulary_of table.now) [] (plain_tree formula.now)) }
-{
-    let mut scope = Vec::new(alloc);
-    resolve(alloc, table, &mut scope, formula)
-}
-
-/// The formulas, joined by `&`, which groups to the left.
-fn joined(alloc: Global, table: &Table, formulas: &[Tree<'_>]) -> Result<Formula, OutOfMemory>
-    ensures { IfOk result (λ made. plain_formula made ≡ words.joined (map (resolving.resolve (vocabulary_of table.now) []) (map plain_tree formulas.now))) }
+/// The formulas, joined by `&`, which groups to the left. Their brackets are numbered on.
+fn joined(
+    alloc: Global,
+    table: &Table,
+    names: &mut Names,
+    formulas: &[Tree<'_>],
+) -> Result<Formula, OutOfMemory>
+    requires { names.old.bindings.items ≡ [] }
+    ensures made { IfOk result (λ made. plain_formula made ≡ words.joined (resolving.resolve_all (vocabulary_of table.now) names.old.next (map plain_tree formulas.now))) }
+    ensures kept { OnOk result (names.new.bindings.items ≡ []) }
+    ensures next { OnOk result (names.new.next ≡ names.old.next + resolving.brackets_in (map plain_tree formulas.now)) }
 {
     let Some((first, others)) = formulas.split_first() else {
         return Ok(Formula::True);
     };
-    let mut made = closed(alloc, table, first)?;
+    let mut made = resolve(alloc, table, names, first)?;
     for formula in others {
-        let next = closed(alloc, table, formula)?;
+        let next = resolve(alloc, table, names, formula)?;
         made = conjunction(alloc, made, next)?;
     }
     Ok(made)
@@ -232,24 +242,32 @@ fn joined(alloc: Global, table: &Table, formulas: &[Tree<'_>]) -> Result<Formula
 fn condition(
     alloc: Global,
     table: &Table,
+    names: &mut Names,
     at: At,
     formulas: &[Tree<'_>],
 ) -> Result<Condition, OutOfMemory>
-    ensures { IfOk result (λ made. plain_condition made ≡ words.condition_asked (vocabulary_of table.now) (words.asked at (map plain_tree formulas.now))) }
+    requires { names.old.bindings.items ≡ [] }
+    ensures made { IfOk result (λ made. plain_condition made ≡ words.condition_asked (vocabulary_of table.now) names.old.next (words.asked at (map plain_tree formulas.now))) }
+    ensures kept { OnOk result (names.new.bindings.items ≡ []) }
+    ensures next { OnOk result (names.new.next ≡ names.old.next + resolving.brackets_in (map plain_tree formulas.now)) }
 {
     Ok(Condition {
         at,
-        formula: joined(alloc, table, formulas)?,
+        formula: joined(alloc, table, names, formulas)?,
     })
 }
 
-/// The conditions of a query.
+/// The conditions of a query. Their brackets are numbered on.
 fn conditions_of(
     alloc: Global,
     table: &Table,
+    names: &mut Names,
     items: &[QueryItem<'_>],
 ) -> Result<Vec<Condition>, OutOfMemory>
-    ensures { IfOk result (λ made. map plain_condition made.items ≡ map (words.condition_asked (vocabulary_of table.now)) (flat_map words.conditions_in (map plain_query_item items.now))) }
+    requires { names.old.bindings.items ≡ [] }
+    ensures made { IfOk result (λ made. map plain_condition made.items ≡ words.conditions_asked (vocabulary_of table.now) names.old.next (flat_map words.conditions_in (map plain_query_item items.now))) }
+    ensures kept { OnOk result (names.new.bindings.items ≡ []) }
+    ensures next { OnOk result (names.new.next ≡ names.old.next + words.brackets_asked (flat_map words.conditions_in (map plain_query_item items.now))) }
 {
     let mut made = Vec::new(alloc);
     for item in items {
@@ -259,7 +277,7 @@ fn conditions_of(
             parts,
         } = item
         {
-            made.push(condition(alloc, table, *at, parts.items())?)?;
+            made.push(condition(alloc, table, names, *at, parts.items())?)?;
         }
     }
     Ok(made)
@@ -269,9 +287,11 @@ fn conditions_of(
 fn claim_of(
     alloc: Global,
     table: &Table,
+    names: &mut Names,
     items: &[QueryItem<'_>],
 ) -> Result<Option<Condition>, OutOfMemory>
-    ensures { IfOk result (λ made. option_map plain_condition made ≡ option_map (words.condition_asked (vocabulary_of table.now)) (words.first (flat_map words.claims_in (map plain_query_item items.now)))) }
+    requires { names.old.bindings.items ≡ [] }
+    ensures { IfOk result (λ made. option_map plain_condition made ≡ option_map (words.condition_asked (vocabulary_of table.now) names.old.next) (words.first (flat_map words.claims_in (map plain_query_item items.now)))) }
 {
     for item in items {
         if let QueryItem::Condition {
@@ -280,13 +300,13 @@ fn claim_of(
             parts,
         } = item
         {
-            return Ok(Some(condition(alloc, table, *at, parts.items())?));
+            return Ok(Some(condition(alloc, table, names, *at, parts.items())?));
         }
     }
     Ok(None)
 }
 
-/// What a query asks.
+/// What a query asks. Each of its brackets has a number of its own: those of the claim come behind those of the conditions.
 fn query_of(
     alloc: Global,
     file: u32,
@@ -297,8 +317,12 @@ fn query_of(
     ensures { IfOk result (λ query. plain_query query ≡ words.query_of file (vocabulary_of table.now) line (map plain_query_item items.now)) }
 {
     let label = label_of(alloc, items)?;
-    let conditions = List::of(conditions_of(alloc, table, items)?);
-    let claim = claim_of(alloc, table, items)?;
+    let mut names = Names {
+        bindings: Vec::new(alloc),
+        next: 0,
+    };
+    let conditions = List::of(conditions_of(alloc, table, &mut names, items)?);
+    let claim = claim_of(alloc, table, &mut names, items)?;
     Ok(Query {
         label,
         range: range_of(items),
@@ -320,7 +344,7 @@ pub fn question(
     statement: &Statement<'_>,
 ) -> Result<Query, Fault>
     ensures asked { (left : Items Declared) → IsTable table.now left → IfOk result (λ query. Asks file left (plain_statement statement.now) (plain_query query)) }
-    ensures refused { (left : Items Declared) → IsTable table.now left → IfErr result (IsRefusedQuery file left (plain_statement statement.now)) }
+    ensures refused { (left : Items Declared) → IsTable table.now left → IfErr result (IsRefusedBy (query_refusal file (vocabulary left) (plain_statement statement.now))) }
 {
     let items = items_of(&statement.part);
     match query_fault(alloc, table, items)? {

@@ -1,91 +1,70 @@
 //! Formulas with numbers in place of names.
-ghost use Rattle.std.specs.Prelude.{◌≡◌, ◌<◌, ◌+◌, ◌++◌, ◌∷◌, [], length, IfOk, IfSome, OnOk, None};
-ghost use Rattle.std.specs.Option.{option_map};
+ghost use Rattle.std.specs.Prelude.{◌≡◌, ◌+◌, ◌∷◌, IfOk, OnOk};
 ghost use Rattle.cc_defs.specs.Resolved.{plain_term as resolved_term, plain_formula};
 ghost use Rattle.cc_defs.specs.Resolved as resolved;
 ghost use Rattle.cc_defs.specs.Trees.{plain_term, plain_tree};
-ghost use Rattle.cc_laws.specs.Meanings.{plain_meaning};
-ghost use Rattle.cc_laws.specs.TermLists.{plain_terms};
 ghost use Rattle.cc_laws.specs.Resolving as words;
-ghost use Rattle.cc_laws.specs.Joints.{joined_by, bracket_over};
-ghost use Rattle.cc_laws.specs.TermLists.{row_terms};
+ghost use Rattle.cc_laws.specs.Views.{bracket_over, joined_by, plain_binding, plain_meaning, plain_terms, row_terms, scope_of};
 ghost use Rattle.cc_laws.specs.Vocabulary as vocabulary;
 ghost use Rattle.cc_laws.specs.Vocabulary.{vocabulary_of};
 
 use crate::meaning::{Meaning, meaning_of};
+use crate::names::{Binding, Names};
 use cc_defs::{Formula, OutOfMemory, Term, TermTree, Tree};
 use cc_sorts::Table;
 use std::alloc::Global;
 
-/// The place of a variable's innermost binding.
-fn place_in(scope: &[u32], number: u32) -> Option<usize>
-    ensures found { result ≡ words.place_in scope.now number }
-    ensures within { IfSome result (λ place. place < length scope.now) }
+/// A variable, by the number that it has.
+fn variable_at(number: Option<u32>) -> Term
+    ensures { resolved_term result ≡ words.variable_at number }
 {
-    let mut found = None;
-    for (place, variable) in scope.iter().enumerate() {
-        if *variable == number {
-            found = Some(place);
-        }
-    }
-    found
-}
-
-/// A variable that stands in the scope.
-fn variable_at(scope: &[u32], number: u32) -> Term
-    requires { length scope.now < 4000000000 }
-    ensures { resolved_term result ≡ words.variable_at (words.place_in scope.now number) }
-{
-    match place_in(scope, number) {
-        Some(place) => Term::Variable(place as u32),
+    match number {
+        Some(number) => Term::Variable(number),
         None => Term::Nothing,
     }
 }
 
 /// A term that has this meaning and these arguments.
 #[tactic(auto, using(crate::proofs::TermRows::row_made))]
-fn term_meant(scope: &[u32], means: Meaning<'_>, args: Vec<Term>) -> Term
-    requires { length scope.now < 4000000000 }
-    ensures { resolved_term result ≡ words.term_meant scope.now (plain_meaning means.entry) (row_terms args.items) }
+fn term_meant(names: &Names, means: Meaning<'_>, args: Vec<Term>) -> Term
+    ensures { resolved_term result ≡ words.term_meant (scope_of names.now) (plain_meaning means.entry) (row_terms args.items) }
 {
     match means {
         Meaning::Unknown | Meaning::Nothing => Term::Nothing,
         Meaning::Object(number, _) => Term::Object(number),
-        Meaning::Variable(number, _) => variable_at(scope, number),
+        Meaning::Variable(number, _) => variable_at(names.number_in(number)),
         Meaning::Constant(symbol, _) => Term::Constant { symbol, args },
     }
 }
 
-/// The term with numbers in place of names, the variables by their places in the scope.
+/// The term with numbers in place of names.
 pub(crate) fn resolve_term(
     alloc: Global,
     table: &Table,
-    scope: &[u32],
+    names: &Names,
     term: &TermTree<'_>,
 ) -> Result<Term, OutOfMemory>
-    requires { length scope.now < 4000000000 }
-    ensures { IfOk result (λ made. resolved_term made ≡ words.resolve_term (vocabulary_of table.now) scope.now (plain_term term.now)) }
+    ensures { IfOk result (λ made. resolved_term made ≡ words.resolve_term (vocabulary_of table.now) (scope_of names.now) (plain_term term.now)) }
 {
     let mut args = Vec::with_capacity(alloc, term.args.len())?;
     for argument in &term.args {
-        args.push(resolve_term(alloc, table, scope, argument)?)?;
+        args.push(resolve_term(alloc, table, names, argument)?)?;
     }
-    Ok(term_meant(scope, meaning_of(table, term.name), args))
+    Ok(term_meant(names, meaning_of(table, term.name), args))
 }
 
 /// The terms with numbers in place of names.
 pub(crate) fn resolve_terms(
     alloc: Global,
     table: &Table,
-    scope: &[u32],
+    names: &Names,
     terms: &[TermTree<'_>],
 ) -> Result<Vec<Term>, OutOfMemory>
-    requires { length scope.now < 4000000000 }
-    ensures { IfOk result (λ made. row_terms made.items ≡ words.resolve_terms (vocabulary_of table.now) scope.now (plain_terms terms.now)) }
+    ensures { IfOk result (λ made. row_terms made.items ≡ words.resolve_terms (vocabulary_of table.now) (scope_of names.now) (plain_terms terms.now)) }
 {
     let mut made = Vec::with_capacity(alloc, terms.len())?;
     for term in terms {
-        made.push(resolve_term(alloc, table, scope, term)?)?;
+        made.push(resolve_term(alloc, table, names, term)?)?;
     }
     Ok(made)
 }
@@ -104,15 +83,14 @@ fn alone(term: Term) -> Formula
 fn resolve_equal(
     alloc: Global,
     table: &Table,
-    scope: &[u32],
+    names: &Names,
     left: &TermTree<'_>,
     right: &TermTree<'_>,
 ) -> Result<Formula, OutOfMemory>
-    requires { length scope.now < 4000000000 }
-    ensures { IfOk result (λ made. plain_formula made ≡ resolved.Equal (words.resolve_term (vocabulary_of table.now) scope.now (plain_term left.now)) (words.resolve_term (vocabulary_of table.now) scope.now (plain_term right.now))) }
+    ensures { IfOk result (λ made. plain_formula made ≡ resolved.Equal (words.resolve_term (vocabulary_of table.now) (scope_of names.now) (plain_term left.now)) (words.resolve_term (vocabulary_of table.now) (scope_of names.now) (plain_term right.now))) }
 {
-    let left = resolve_term(alloc, table, scope, left)?;
-    let right = resolve_term(alloc, table, scope, right)?;
+    let left = resolve_term(alloc, table, names, left)?;
+    let right = resolve_term(alloc, table, names, right)?;
     Ok(Formula::Equal(left, right))
 }
 
@@ -172,82 +150,150 @@ fn bracket_of(
     })
 }
 
-/// Puts a bracket's variable behind those of the scope, and answers its place.
-fn open(scope: &mut Vec<u32>, number: u32) -> Result<u32, OutOfMemory>
-    requires { length scope.old.items < 4000000000 }
-    ensures opened { OnOk result (scope.new.items ≡ scope.old.items ++ number ∷ []) }
-    ensures place { IfOk result (λ place. place ≡ length scope.old.items) }
-    ensures few { IfOk result (λ place. length scope.old.items + 1 < 4000000000) }
+/// The denial of an equation.
+fn resolve_differ(
+    alloc: Global,
+    table: &Table,
+    names: &Names,
+    left: &TermTree<'_>,
+    right: &TermTree<'_>,
+) -> Result<Formula, OutOfMemory>
+    ensures { IfOk result (λ made. plain_formula made ≡ resolved.Not (resolved.Equal (words.resolve_term (vocabulary_of table.now) (scope_of names.now) (plain_term left.now)) (words.resolve_term (vocabulary_of table.now) (scope_of names.now) (plain_term right.now)))) }
 {
-    let place = scope.len();
-    if place >= 3_999_999_999 {
-        return Err(OutOfMemory);
-    }
-    scope.push(number)?;
-    Ok(place as u32)
+    let equal = resolve_equal(alloc, table, names, left, right)?;
+    negated(alloc, equal)
 }
 
-/// The formula with numbers in place of names. The scope has the variables of the law and of the brackets around it, by
-/// their numbers in the table; a variable is named by its place there.
+fn resolve_alone(
+    alloc: Global,
+    table: &Table,
+    names: &Names,
+    term: &TermTree<'_>,
+) -> Result<Formula, OutOfMemory>
+    ensures { IfOk result (λ made. plain_formula made ≡ words.alone (words.resolve_term (vocabulary_of table.now) (scope_of names.now) (plain_term term.now))) }
+{
+    Ok(alone(resolve_term(alloc, table, names, term)?))
+}
+
+#[cycle(resolve)]
+#[inline(never)]
+fn resolve_not(
+    alloc: Global,
+    table: &Table,
+    names: &mut Names,
+    inner: &Tree<'_>,
+) -> Result<Formula, OutOfMemory>
+    ensures made { IfOk result (λ made. plain_formula made ≡ resolved.Not (words.resolve (vocabulary_of table.now) (scope_of names.old) names.old.next (plain_tree inner.now))) }
+    ensures kept { OnOk result (names.new.bindings.items ≡ names.old.bindings.items) }
+    ensures next { OnOk result (names.new.next ≡ names.old.next + words.brackets (plain_tree inner.now)) }
+{
+    let inner = resolve(alloc, table, names, inner)?;
+    negated(alloc, inner)
+}
+
+#[cycle(resolve)]
+#[inline(never)]
+fn resolve_two(
+    alloc: Global,
+    table: &Table,
+    names: &mut Names,
+    joint: Joint,
+    first: &Tree<'_>,
+    second: &Tree<'_>,
+) -> Result<Formula, OutOfMemory>
+    ensures made { IfOk result (λ made. plain_formula made ≡ joined_by joint (words.resolve (vocabulary_of table.now) (scope_of names.old) names.old.next (plain_tree first.now)) (words.resolve (vocabulary_of table.now) (scope_of names.old) (names.old.next + words.brackets (plain_tree first.now)) (plain_tree second.now))) }
+    ensures kept { OnOk result (names.new.bindings.items ≡ names.old.bindings.items) }
+    ensures next { OnOk result (names.new.next ≡ names.old.next + (words.brackets (plain_tree first.now) + words.brackets (plain_tree second.now))) }
+{
+    let first = resolve(alloc, table, names, first)?;
+    let second = resolve(alloc, table, names, second)?;
+    join(alloc, joint, first, second)
+}
+
+/// A formula inside a bracket, which sees the variable of the bracket.
+#[cycle(resolve)]
+fn resolve_inside(
+    alloc: Global,
+    table: &Table,
+    names: &mut Names,
+    binding: Binding,
+    inner: &Tree<'_>,
+) -> Result<Formula, OutOfMemory>
+    ensures made { IfOk result (λ made. plain_formula made ≡ words.resolve (vocabulary_of table.now) (plain_binding binding ∷ scope_of names.old) names.old.next (plain_tree inner.now)) }
+    ensures kept { OnOk result (names.new.bindings.items ≡ names.old.bindings.items) }
+    ensures next { OnOk result (names.new.next ≡ names.old.next + words.brackets (plain_tree inner.now)) }
+{
+    names.bindings.push(binding)?;
+    let made = resolve(alloc, table, names, inner)?;
+    names.bindings.pop();
+    Ok(made)
+}
+
+/// A bracket, which gets a number of its own. Where its name is no variable, which is refused before, its formula is
+/// resolved for the numbers of the brackets behind it alone.
+#[cycle(resolve)]
+#[inline(never)]
+fn resolve_bracket(
+    alloc: Global,
+    table: &Table,
+    names: &mut Names,
+    bracket: Bracket,
+    name: &str,
+    inner: &Tree<'_>,
+) -> Result<Formula, OutOfMemory>
+    ensures made { IfOk result (λ made. plain_formula made ≡ words.resolve_bracket (bracket_over bracket) (scope_of names.old) names.old.next (vocabulary.meaning (vocabulary_of table.now) name.now) (λ scope. words.resolve (vocabulary_of table.now) scope (names.old.next + 1) (plain_tree inner.now))) }
+    ensures kept { OnOk result (names.new.bindings.items ≡ names.old.bindings.items) }
+    ensures next { OnOk result (names.new.next ≡ names.old.next + (words.brackets (plain_tree inner.now) + 1)) }
+{
+    let number = names.fresh()?;
+    match meaning_of(table, name) {
+        Meaning::Variable(variable, sort) => {
+            let inner = resolve_inside(alloc, table, names, Binding { variable, number }, inner)?;
+            bracket_of(alloc, bracket, number, sort, inner)
+        }
+        Meaning::Unknown | Meaning::Nothing | Meaning::Object(..) | Meaning::Constant(..) => {
+            drop(resolve(alloc, table, names, inner)?);
+            Ok(Formula::False)
+        }
+    }
+}
+
+/// The formula with numbers in place of names. Each bracket gets a number of its own, in the order in which they stand.
+/// What allocates or joins is a function of its own, since formulas may be deep, and a level is to take little stack.
+#[cycle(resolve)]
 pub(crate) fn resolve(
     alloc: Global,
     table: &Table,
-    scope: &mut Vec<u32>,
+    names: &mut Names,
     formula: &Tree<'_>,
 ) -> Result<Formula, OutOfMemory>
-    requires { length scope.old.items < 4000000000 }
-    ensures made { IfOk result (λ made. plain_formula made ≡ words.resolve (vocabulary_of table.now) scope.old.items (plain_tree formula.now)) }
-    ensures closed { OnOk result (scope.new.items ≡ scope.old.items) }
+    ensures made { IfOk result (λ made. plain_formula made ≡ words.resolve (vocabulary_of table.now) (scope_of names.old) names.old.next (plain_tree formula.now)) }
+    ensures kept { OnOk result (names.new.bindings.items ≡ names.old.bindings.items) }
+    ensures next { OnOk result (names.new.next ≡ names.old.next + words.brackets (plain_tree formula.now)) }
 {
     match formula {
-        Tree::Bare(term) => Ok(alone(resolve_term(alloc, table, scope, term)?)),
-        Tree::Equal(left, right) => resolve_equal(alloc, table, scope, left, right),
-        Tree::Differ(left, right) => {
-            let equal = resolve_equal(alloc, table, scope, left, right)?;
-            negated(alloc, equal)
-        }
-        Tree::Paren(inner) => resolve(alloc, table, scope, inner),
-        Tree::Not(inner) => {
-            let inner = resolve(alloc, table, scope, inner)?;
-            negated(alloc, inner)
-        }
+        Tree::Bare(term) => resolve_alone(alloc, table, names, term),
+        Tree::Equal(left, right) => resolve_equal(alloc, table, names, left, right),
+        Tree::Differ(left, right) => resolve_differ(alloc, table, names, left, right),
+        Tree::Paren(inner) => resolve(alloc, table, names, inner),
+        Tree::Not(inner) => resolve_not(alloc, table, names, inner),
         Tree::Both(first, second) => {
-            let first = resolve(alloc, table, scope, first)?;
-            let second = resolve(alloc, table, scope, second)?;
-            join(alloc, Joint::Both, first, second)
+            resolve_two(alloc, table, names, Joint::Both, first, second)
         }
         Tree::Either(first, second) => {
-            let first = resolve(alloc, table, scope, first)?;
-            let second = resolve(alloc, table, scope, second)?;
-            join(alloc, Joint::Either, first, second)
+            resolve_two(alloc, table, names, Joint::Either, first, second)
         }
         Tree::Implies(first, second) => {
-            let first = resolve(alloc, table, scope, first)?;
-            let second = resolve(alloc, table, scope, second)?;
-            join(alloc, Joint::Implies, first, second)
+            resolve_two(alloc, table, names, Joint::Implies, first, second)
         }
         Tree::Same(first, second) => {
-            let first = resolve(alloc, table, scope, first)?;
-            let second = resolve(alloc, table, scope, second)?;
-            join(alloc, Joint::Same, first, second)
+            resolve_two(alloc, table, names, Joint::Same, first, second)
         }
         Tree::ForAll(name, inner) => {
-            let Meaning::Variable(number, sort) = meaning_of(table, name) else {
-                return Ok(Formula::False);
-            };
-            let place = open(scope, number)?;
-            let inner = resolve(alloc, table, scope, inner)?;
-            scope.pop();
-            bracket_of(alloc, Bracket::ForAll, place, sort, inner)
+            resolve_bracket(alloc, table, names, Bracket::ForAll, name, inner)
         }
         Tree::Exists(name, inner) => {
-            let Meaning::Variable(number, sort) = meaning_of(table, name) else {
-                return Ok(Formula::False);
-            };
-            let place = open(scope, number)?;
-            let inner = resolve(alloc, table, scope, inner)?;
-            scope.pop();
-            bracket_of(alloc, Bracket::Exists, place, sort, inner)
+            resolve_bracket(alloc, table, names, Bracket::Exists, name, inner)
         }
     }
 }

@@ -3,6 +3,7 @@ ghost use Rattle.std.specs.Prelude.{◌≡◌, map};
 ghost use Rattle.std.specs.List.{list_any};
 ghost use Rattle.std.specs.Option.{option_map};
 ghost use Rattle.cc_defs.specs.Resolved.{plain_condition, plain_formula, plain_query, plain_term};
+ghost use Rattle.cc_defs.specs.Forms as forms;
 ghost use Rattle.cc_laws.specs.Questions as words;
 ghost use Rattle.cc_laws.specs.Vocabulary.{vocabulary_of};
 
@@ -12,7 +13,7 @@ use cc_sorts::Table;
 
 /// Whether a symbol is that of an action; one that is not there is none.
 pub(crate) fn is_action_symbol(table: &Table, symbol: u32) -> bool
-    ensures { result ≡ words.is_action_symbol (vocabulary_of table.now).symbols symbol }
+    ensures { result ≡ forms.is_action_symbol (vocabulary_of table.now).symbols symbol }
 {
     if (symbol as usize) < table.symbol_count() {
         is_action(table.symbol_of(symbol).kind)
@@ -23,7 +24,7 @@ pub(crate) fn is_action_symbol(table: &Table, symbol: u32) -> bool
 
 /// Whether a term has an action.
 fn term_names_action(table: &Table, term: &Term) -> bool
-    ensures { result ≡ list_any (words.is_action_symbol (vocabulary_of table.now).symbols) (words.term_symbols (plain_term term.now)) }
+    ensures { result ≡ list_any (forms.is_action_symbol (vocabulary_of table.now).symbols) (forms.term_symbols (plain_term term.now)) }
 {
     match term {
         Term::Constant { symbol, args } => {
@@ -43,7 +44,7 @@ fn term_names_action(table: &Table, term: &Term) -> bool
 
 /// Whether a formula has an action.
 fn names_action(table: &Table, formula: &Formula) -> bool
-    ensures { result ≡ words.names_action (vocabulary_of table.now).symbols (plain_formula formula.now) }
+    ensures { result ≡ forms.names_action (vocabulary_of table.now).symbols (plain_formula formula.now) }
 {
     match formula {
         Formula::True | Formula::False => false,

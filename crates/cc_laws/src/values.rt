@@ -1,14 +1,14 @@
 //! Laws about each value of a constant.
-ghost use Rattle.std.specs.Prelude.{◌≡◌, ◌++◌, ◌∷◌, ◌<◌, [], length, IfOk};
+ghost use Rattle.std.specs.Prelude.{◌≡◌, IfOk};
 ghost use Rattle.std.specs.Option.{option_map};
 ghost use Rattle.cc_defs.specs.Resolved.{plain_base_law, plain_formula, plain_term as resolved_term};
 ghost use Rattle.cc_defs.specs.Resolved as resolved;
 ghost use Rattle.cc_laws.specs.Expansion as words;
-ghost use Rattle.cc_laws.specs.Expanding.{persistence_of, frame_of};
-ghost use Rattle.cc_laws.specs.TermLists.{row_terms};
+ghost use Rattle.cc_laws.specs.Views.{frame_of, persistence_of, row_terms};
 ghost use Rattle.cc_laws.specs.Vocabulary.{vocabulary_of};
 
 use crate::classes::class;
+use crate::names::Names;
 use cc_defs::{BaseLaw, Formula, Head, Law, List, OutOfMemory, Range, Term};
 use cc_sorts::Table;
 use std::alloc::Global;
@@ -24,11 +24,13 @@ pub(crate) enum Persistence {
     Rigid,
 }
 
-/// What the base laws of a statement have in common: what their variables go over, their test, and their place.
+/// What the base laws of a statement have in common: what their variables go over, their test, what their formulas see
+/// behind the test, and their place.
 #[derive(Drop)]
 pub(crate) struct Frame {
     pub(crate) ranges: Vec<Range>,
     pub(crate) test: Formula,
+    pub(crate) names: Names,
     pub(crate) file: u32,
     pub(crate) line: u32,
 }
@@ -142,10 +144,13 @@ pub(crate) fn value_law(
     symbol: u32,
     args: Vec<Term>,
 ) -> Result<BaseLaw, OutOfMemory>
-    requires { length frame.ranges.items < 4000000000 }
     ensures { IfOk result (λ made. plain_base_law made ≡ words.value_law (vocabulary_of table.now) (frame_of frame) (persistence_of persistence) symbol (row_terms args.items)) }
 {
-    let variable = frame.ranges.len() as u32;
+    let count = frame.ranges.len();
+    if count >= 4_000_000_000 {
+        return Err(OutOfMemory);
+    }
+    let variable = count as u32;
     frame.ranges.push(Range::Domain(symbol))?;
     let body = body_of(alloc, persistence, symbol, &args, variable)?;
     let after = after_of(alloc, persistence, symbol, &args, variable)?;

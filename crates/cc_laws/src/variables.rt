@@ -2,7 +2,7 @@
 ghost use Rattle.std.specs.Prelude.{◌≡◌, ◌++◌, [], IfOk, OnOk};
 ghost use Rattle.cc_defs.specs.Trees.{plain_term, plain_tree};
 ghost use Rattle.cc_laws.specs.FreeVariables as words;
-ghost use Rattle.cc_laws.specs.Meanings.{plain_meaning};
+ghost use Rattle.cc_laws.specs.Views.{plain_meaning};
 ghost use Rattle.cc_laws.specs.Vocabulary as vocabulary;
 ghost use Rattle.cc_laws.specs.Vocabulary.{vocabulary_of};
 

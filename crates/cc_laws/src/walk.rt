@@ -1,8 +1,9 @@
 //! A walk over the terms and brackets of a formula.
 ghost use Rattle.std.specs.Prelude.{◌≡◌};
 ghost use Rattle.cc_defs.specs.Trees.{plain_term, plain_tree};
-ghost use Rattle.cc_laws.specs.FormulaFaults as faults;
+ghost use Rattle.cc_laws.specs.FormulaFaults.{leaf_has};
 ghost use Rattle.cc_laws.specs.Leaves.{Bare, Equation, Bracket};
+ghost use Rattle.cc_laws.specs.Views.{asks, fails, leaf_test};
 ghost use Rattle.cc_laws.specs.Vocabulary.{vocabulary_of};
 
 use crate::meaning::meaning_of;
@@ -14,58 +15,59 @@ use cc_sorts::Table;
 /// What is asked of the terms and brackets of a formula.
 #[derive(Clone, Copy, PartialEq, Eq)]
 pub(crate) enum Check {
-    /// That a name has the property.
+    /// That a name in a term has the property.
     Mentions(Property),
+    /// That a name is unknown, in a term or of a bracket.
+    Unknown,
     /// That it does not fit.
     Misfits,
 }
 
 fn bare_fails(table: &Table, check: Check, term: &TermTree<'_>) -> bool
-    ensures { result ≡ faults.leaf_fails (vocabulary_of table.now) check (Bare (plain_term term.now)) }
+    ensures { result ≡ leaf_test (vocabulary_of table.now) check (Bare (plain_term term.now)) }
 {
     match check {
         Check::Mentions(property) => term_has(table, property, term),
+        Check::Unknown => term_has(table, Property::Unknown, term),
         Check::Misfits => bare_misfits(table, term),
     }
 }
 
+/// Whether one of two terms has a name with the property.
+fn equation_has(
+    table: &Table,
+    property: Property,
+    left: &TermTree<'_>,
+    right: &TermTree<'_>,
+) -> bool
+    ensures { result ≡ leaf_has (vocabulary_of table.now) (asks property) (Equation (plain_term left.now) (plain_term right.now)) }
+{
+    term_has(table, property, left) || term_has(table, property, right)
+}
+
 fn equation_fails(table: &Table, check: Check, left: &TermTree<'_>, right: &TermTree<'_>) -> bool
-    ensures { result ≡ faults.leaf_fails (vocabulary_of table.now) check (Equation (plain_term left.now) (plain_term right.now)) }
+    ensures { result ≡ leaf_test (vocabulary_of table.now) check (Equation (plain_term left.now) (plain_term right.now)) }
 {
     match check {
-        Check::Mentions(property) => {
-            term_has(table, property, left) || term_has(table, property, right)
-        }
+        Check::Mentions(property) => equation_has(table, property, left, right),
+        Check::Unknown => equation_has(table, Property::Unknown, left, right),
         Check::Misfits => equation_misfits(table, left, right),
     }
 }
 
-/// Whether a bracket's name has the property: it may be unknown.
-fn bracket_has(table: &Table, property: Property, name: &str) -> bool
-    ensures { result ≡ faults.bracket_has (vocabulary_of table.now) property name.now }
-{
-    match property {
-        Property::Unknown => meaning_of(table, name).has(property, 0),
-        Property::Miscounted
-        | Property::Constant
-        | Property::Action
-        | Property::Fluent
-        | Property::Determined => false,
-    }
-}
-
 fn bracket_fails(table: &Table, check: Check, name: &str) -> bool
-    ensures { result ≡ faults.leaf_fails (vocabulary_of table.now) check (Bracket name.now) }
+    ensures { result ≡ leaf_test (vocabulary_of table.now) check (Bracket name.now) }
 {
     match check {
-        Check::Mentions(property) => bracket_has(table, property, name),
+        Check::Mentions(_) => false,
+        Check::Unknown => meaning_of(table, name).is_unknown(),
         Check::Misfits => bracket_misfits(table, name),
     }
 }
 
 /// Whether a term or a bracket of a formula fails the check.
 pub(crate) fn formula_fails(table: &Table, check: Check, formula: &Tree<'_>) -> bool
-    ensures { result ≡ faults.formula_fails (vocabulary_of table.now) check (plain_tree formula.now) }
+    ensures { result ≡ fails (vocabulary_of table.now) check (plain_tree formula.now) }
 {
     match formula {
         Tree::Bare(term) => bare_fails(table, check, term),

@@ -85,6 +85,13 @@ impl MemoryDesk {
         }
     }
 
+    /// Whether a log was begun.
+    pub fn has_begun(&self) -> bool
+        ensures { result ≡ self.now.begun }
+    {
+        self.begun
+    }
+
     /// Counts a call, and answers whether it is to fail.
     fn begin_call(&mut self) -> bool
         ensures fails { IsTrue result ↔ CallFails self.old }

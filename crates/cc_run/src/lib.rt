@@ -10,8 +10,6 @@ mod reader;
 mod scanner;
 mod small;
 mod status;
-#[cfg(test)]
-mod tests;
 mod top;
 mod words;
 

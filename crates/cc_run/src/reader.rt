@@ -33,6 +33,3 @@ pub(crate) fn read_small<'s>(
 {
     read(alloc, bytes)
 }
-
-#[cfg(test)]
-mod tests;

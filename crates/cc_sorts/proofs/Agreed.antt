@@ -1,16 +1,18 @@
 -- The instances of a table are the instances of its declarations.
-use Rattle.std.proofs.Common.{◌≡◌, ◌∙◌, ℕ, zero, suc, ◌+◌, ◌<◌, ◌≤◌, ◌^◌, Bool, true, false, nat_lt, List, [], ◌∷◌, ◌++◌, length, map, flat_map, slice_get, slice_index_or, Option, Some, None, inl, inr, refl, sym, ap, arith, length-append}
+use Rattle.std.proofs.Common.{◌≡◌, ◌∙◌, ℕ, zero, suc, ◌+◌, ◌<◌, ◌≤◌, ◌^◌, Bool, true, false, not, cond, nat_lt, List, [], ◌∷◌, ◌++◌, length, map, flat_map, slice_get, slice_index_or, Option, Some, None, inl, inr, refl, sym, ap, subst, arith, append_assoc, length-append}
 use Rattle.std.specs.Prelude.{if◌then◌else◌}
 use Rattle.std.specs.List.{list_all, find}
+use Rattle.std.specs.Option.{option_or}
 use Rattle.std.proofs.lemmas.Bool.{cases_lt, lt-ltb}
 use Rattle.std.proofs.lemmas.List.{length-map}
-use Rattle.std.proofs.lemmas.List.Folds.{list_any-append}
+use Rattle.std.proofs.lemmas.List.Folds.{list_any-append, find-append}
 use Rattle.cc_defs.specs.declared.refusal.LimitAt.TheVariants as limits
 use Rattle.cc_defs.specs.declared.refusal.Refusal.{Refusal}
 use Rattle.cc_defs.specs.declared.signature.Const.{Const}
 use Rattle.cc_defs.specs.declared.signature.Kind.{Kind}
-use Rattle.cc_defs.specs.DeclarationFaults.{is_empty, empty_refusal, passes_domain_values, count_refusal, limit_refusal, refusal_of_first, signature_refusal}
-use Rattle.cc_defs.specs.Declarations.{Declaration, Declared, Named, sort_names, constants, constant_names, members, number_in, domain_of, instances, ground_of, ground_from, kind_of_constant, value_sort, ground_fluents, ground_actions, objects}
+use Rattle.cc_defs.specs.DeclarationFaults.{is_empty, declared_from, declared_ground, empty_or, passes_domain_values, count_refusal, limit_refusal, signature_refusal}
+use Rattle.cc_defs.specs.Refusals.{refused}
+use Rattle.cc_defs.specs.Declarations.{Declaration, Declared, Named, sort_names, constants, constant_names, members, number_in, domain_of, instances, ground_of, ground_from, is_action, kind_of_constant, value_sort, ground_fluents, ground_actions, objects}
 use Rattle.cc_defs.specs.Signatures.{Signature, IsSignature, AreOrdered, AreShort, none_value}
 use Rattle.cc_defs.specs.Trees.{PlainKind}
 use Rattle.cc_defs.specs.Trees as trees
@@ -23,6 +25,69 @@ use Rattle.cc_sorts.specs.Tables.{TableView, Numbered, IsTable, IsSignatureOf}
 use Rattle.cc_sorts.proofs.Names.{is_among, and_true, or_false, is_there}
 use Rattle.cc_sorts.proofs.Wheres.{at_map}
 use Rattle.cc_sorts.proofs.Grown.{has_of, placed_by, AreShaped, HaveValues}
+
+-- ---- the declaration of the first ground constant without a value
+
+-- the symbol of the one is the number of the declaration of the other
+abbrev IsPlace : List Declared → Option Const → Option (Declared × Const) → Type 0
+IsPlace all None None = Unit {0}
+IsPlace all None (Some pair) = ⊥
+IsPlace all (Some instance) None = ⊥
+IsPlace all (Some instance) (Some pair) = slice_get all instance.symbol ≡ Some pair.0
+
+place_or : (all : List Declared) (o o' : Option Const) (p p' : Option (Declared × Const)) → IsPlace all o p → IsPlace all o' p' → IsPlace all (option_or o o') (option_or p p')
+place_or all None o' None p' e f = f
+place_or all None o' (Some p) p' e f = absurd e
+place_or all (Some o) o' None p' e f = absurd e
+place_or all (Some o) o' (Some p) p' e f = e
+
+abbrev is_empty_pair : Declared × Const → Bool
+is_empty_pair pair = is_empty pair.1
+
+place_append : (all : List Declared) (xs ys : List Const) (ps qs : List (Declared × Const)) → IsPlace all (find is_empty xs) (find is_empty_pair ps) → IsPlace all (find is_empty ys) (find is_empty_pair qs) →
+    IsPlace all (find is_empty (xs ++ ys)) (find is_empty_pair (ps ++ qs))
+place_append all xs ys ps qs e f =
+    let P : Option Const → Type 0 = λ o. IsPlace all o (find is_empty_pair (ps ++ qs)) in
+    let Q : Option (Declared × Const) → Type 0 = λ p. IsPlace all (option_or (find is_empty xs) (find is_empty ys)) p in
+    subst P (sym (find-append is_empty xs ys))
+    (subst Q (sym (find-append is_empty_pair ps qs)) (place_or all (find is_empty xs) (find is_empty ys) (find is_empty_pair ps) (find is_empty_pair qs) e f))
+
+place_rows : (all : List Declared) (d : Declared) (f : List ℕ → Const) → ((row : List ℕ) → slice_get all (f row).symbol ≡ Some d) → (rows : List (List ℕ)) →
+    IsPlace all (find is_empty (map f rows)) (find is_empty_pair (map (λ (instance : Const). (d, instance)) (map f rows)))
+place_rows all d f e [] = tt
+place_rows all d f e (row ∷ rows) = step (is_empty (f row)) (place_rows all d f e rows)
+  where
+    step : (here : Bool) → IsPlace all (find is_empty (map f rows)) (find is_empty_pair (map (λ (instance : Const). (d, instance)) (map f rows))) →
+        IsPlace all (cond here (Some (f row)) (find is_empty (map f rows))) (cond here (Some (d, f row)) (find is_empty_pair (map (λ (instance : Const). (d, instance)) (map f rows))))
+    step true more = e row
+    step false more = more
+
+at_end : (front cs : List Declared) (d : Declared) → slice_get (front ++ d ∷ cs) (length front) ≡ Some d
+at_end [] cs d = refl
+at_end (x ∷ front) cs d = at_end front cs d
+
+place_from : (left : List Declaration) (passes : Kind → Bool) (front cs : List Declared) (number : ℕ) → number ≡ length front →
+    IsPlace (front ++ cs) (find is_empty (ground_from left passes number cs)) (find is_empty_pair (declared_from left passes number cs))
+place_from left passes front [] number e = tt
+place_from left passes front (d ∷ cs) number e =
+    let P : List Declared → Type 0 = λ w. IsPlace w (find is_empty (ground_from left passes (number + 1) cs)) (find is_empty_pair (declared_from left passes (number + 1) cs)) in
+    let count : number + 1 ≡ length (front ++ d ∷ []) = omega (arith, e, length-append front (d ∷ [])) in
+    place_append (front ++ d ∷ cs) (if passes (kind_of_constant d.kind) then ground_of left number d else []) (ground_from left passes (number + 1) cs)
+    (if passes (kind_of_constant d.kind) then map (λ (instance : Const). (d, instance)) (ground_of left number d) else []) (declared_from left passes (number + 1) cs)
+    (step (passes (kind_of_constant d.kind)))
+    (subst P (append_assoc front (d ∷ []) cs) (place_from left passes (front ++ d ∷ []) cs (number + 1) count))
+  where
+    there : slice_get (front ++ d ∷ cs) number ≡ Some d
+    there = ap (slice_get (front ++ d ∷ cs)) e ∙ at_end front cs d
+
+    step : (here : Bool) → IsPlace (front ++ d ∷ cs) (find is_empty (if here then ground_of left number d else [])) (find is_empty_pair (if here then map (λ (instance : Const). (d, instance)) (ground_of left number d) else []))
+    step true = place_rows (front ++ d ∷ cs) d (λ args. record { symbol = number; args = args; kind = kind_of_constant d.kind; domain = domain_of left d.kind }) (λ row. there) (instances left d.shape.sorts)
+    step false = tt
+
+place_ground : (left : List Declaration) → IsPlace (constants left) (find is_empty (ground_fluents left ++ ground_actions left)) (find is_empty_pair (declared_ground left))
+place_ground left =
+    place_append (constants left) (ground_fluents left) (ground_actions left) (declared_from left (λ kind. not (is_action kind)) 0 (constants left)) (declared_from left is_action 0 (constants left))
+    (place_from left (λ kind. not (is_action kind)) [] (constants left) 0 refl) (place_from left is_action [] (constants left) 0 refl)
 
 module _ (table : TableView) (left : List Declaration) (is : IsTable table left) where
   objects_are : (sort : List ℕ) → is_among (sort_names left) sort ≡ true → members_at table.sorts (number_in (sort_names left) sort) ≡ members left sort
@@ -69,22 +134,25 @@ module _ (table : TableView) (left : List Declaration) (is : IsTable table left)
   pub actions_are : instances_from table.sorts true 0 table.symbols ≡ ground_actions left
   actions_are = ap (λ (w : List Placed). instances_from table.sorts true 0 w) symbols_of ∙ all_constants true 0 (constants left) is.known.of_arguments is.known.of_values
 
-  place_at : (cs : List Declared) (i : ℕ) → refusal_at (slice_get (map (placed_by (sort_names left) (constant_names left)) cs) i) ≡ empty_refusal (slice_get cs i)
-  place_at [] i = refl
-  place_at (c ∷ cs) zero = refl
-  place_at (c ∷ cs) (suc i) = place_at cs i
+  place_at : (cs : List Declared) (i : ℕ) (d : Declared) → slice_get cs i ≡ Some d → refusal_at (slice_get (map (placed_by (sort_names left) (constant_names left)) cs) i) ≡ refused 12 d.file d.line
+  place_at [] i d e = absurd cc
+  place_at (c ∷ cs) zero d e = let same : c ≡ d = cc in ap (λ (w : Declared). refused 12 w.file w.line) same
+  place_at (c ∷ cs) (suc i) d e = place_at cs i d e
 
-  first_is : (all : List Const) (found : Option Const) → first_refusal table.symbols all found ≡ refusal_of_first left all found
-  first_is all None = refl
-  first_is all (Some c) =
-      ap (λ (w : List Placed). Some (refusal_at (slice_get w c.symbol))) symbols_of ∙ ap (λ (r : Refusal). Some r) (place_at (constants left) c.symbol)
+  first_is : (all : List Const) (found : Option Const) (pair : Option (Declared × Const)) → IsPlace (constants left) found pair →
+      first_refusal table.symbols all found ≡ empty_or pair (count_refusal all)
+  first_is all None None e = refl
+  first_is all None (Some p) e = absurd e
+  first_is all (Some c) None e = absurd e
+  first_is all (Some c) (Some p) e =
+      ap (λ (w : List Placed). Some (refusal_at (slice_get w c.symbol))) symbols_of ∙ ap (λ (r : Refusal). Some r) (place_at (constants left) c.symbol p.0 e)
 
   pub refusal_is : refusal_by table ≡ signature_refusal left
   refusal_is =
       let all : all_instances table ≡ ground_fluents left ++ ground_actions left =
       ap (λ (w : List Const). w ++ instances_from table.sorts true 0 table.symbols) fluents_are ∙ ap (λ (w : List Const). ground_fluents left ++ w) actions_are in
       ap (λ (w : List Const). first_refusal table.symbols w (find is_empty w)) all
-      ∙ first_is (ground_fluents left ++ ground_actions left) (find is_empty (ground_fluents left ++ ground_actions left))
+      ∙ first_is (ground_fluents left ++ ground_actions left) (find is_empty (ground_fluents left ++ ground_actions left)) (find (λ (p : Declared × Const). is_empty p.1) (declared_ground left)) (place_ground left)
 
 -- ---- without a refusal the instances are few, and their values too
 

@@ -1,5 +1,5 @@
 -- The table behind a declaration without a fault is the table of the declarations with it.
-use Rattle.std.proofs.Common.{◌≡◌, ◌∙◌, ℕ, Bool, true, false, ◌||◌, List, [], ◌∷◌, ◌++◌, map, flat_map, reverse, Option, Some, None, slice_index_or, codes, refl, sym, ap, subst, append_assoc}
+use Rattle.std.proofs.Common.{◌≡◌, ◌∙◌, ℕ, ◌<◌, length, Bool, true, false, ◌||◌, List, [], ◌∷◌, ◌++◌, map, flat_map, reverse, Option, Some, None, slice_index_or, codes, refl, sym, ap, subst, append_assoc}
 use Rattle.std.specs.Prelude.{if◌then◌else◌}
 use Rattle.std.specs.List.{list_any}
 use Rattle.std.proofs.lemmas.List.{append-nil, reverse-append}
@@ -8,11 +8,11 @@ use Rattle.cc_defs.specs.Declarations.{Declaration, Sort, Link, Subsort, Object,
 use Rattle.cc_defs.specs.DeclarationFaults.{is_sort}
 use Rattle.cc_defs.specs.Grammar.{same_text}
 use Rattle.cc_sorts.specs.Dictionaries.{number_of, names_of}
-use Rattle.cc_sorts.specs.SortViews.{name_at, with_sort, with_pair}
+use Rattle.cc_sorts.specs.SortViews.{name_at, with_sort}
 use Rattle.cc_sorts.specs.Steps.{with_sorts, put_sort, new_sort, put_pair, new_pair, found_pair, put_object, new_object, found_object, put_variable, new_variable, found_variable, put_symbol, new_symbol, found_symbol, placed_in, behind, behind_all, IsClear, IsClearPair, IsClearName, IsClearConstant, AllClear}
 use Rattle.cc_sorts.specs.Tables.{TableView, Numbered, IsTable, symbol_names}
 use Rattle.cc_sorts.proofs.Names.{is_among, any_front, any_map, or_false, or_right, same_self, not_there, is_there, firsts_end, flat_end}
-use Rattle.cc_sorts.proofs.Grown.{has_of, table_of, numbered_by, named_symbols, has_sort, has_pair, has_object, has_variable, has_symbol}
+use Rattle.cc_sorts.proofs.Grown.{Has, has_of, table_of, numbered_by, named_symbols, has_sort, has_pair, has_implied, has_object, has_variable, has_symbol}
 
 -- ---- the lists of one declaration more
 
@@ -98,6 +98,15 @@ link_is table left name true e is =
     (unchanged table left (Link name)
     (names_end left (Link name) name refl ∙ ap (λ (k : Bool). sort_names left ++ if_new k name) e ∙ append-nil (sort_names left)) refl refl refl refl is)
 
+new_pair_has : (table : TableView) (left : List Declaration) (above under : ℕ) (upper lower : List ℕ) → slice_index_or (sort_names left) above [] ≡ upper → slice_index_or (sort_names left) under [] ≡ lower →
+    under < length (sort_names left) → is_among (sort_names left) upper ≡ true → is_among (sort_names left) lower ≡ true →
+    Has table (sort_names left) (pairs left) (objects left) (variables left) (constants left) → (implied : Bool) → is_below (pairs left) lower upper ≡ implied →
+    Has (new_pair table above under false implied) (sort_names left) ((upper, lower) ∷ pairs left) (objects left) (variables left) (constants left)
+new_pair_has table left above under upper lower a u within p q has true e =
+    has_implied table (sort_names left) (pairs left) (objects left) (variables left) (constants left) above under upper lower a u e p q has
+new_pair_has table left above under upper lower a u within p q has false e =
+    has_pair table (sort_names left) (pairs left) (objects left) (variables left) (constants left) above under upper lower a u within p q has
+
 pair_is : (table : TableView) (left : List Declaration) (upper lower : List ℕ) → IsClearPair left upper lower → IsTable table left → IsTable (put_pair table upper lower) (left ++ Subsort upper lower ∷ [])
 pair_is table left upper lower clear is =
     let d = Subsort upper lower in
@@ -111,14 +120,17 @@ pair_is table left upper lower clear is =
     let apart : is_below table.sorts.pairs (name_at table.sorts u.number) (name_at table.sorts l.number) ≡ false =
     ap (λ (w : List Pair). is_below w (name_at table.sorts u.number) (name_at table.sorts l.number)) has.pairs_are
     ∙ ap (λ (w : List ℕ). is_below (pairs left) w (name_at table.sorts l.number)) name_u ∙ ap (λ (w : List ℕ). is_below (pairs left) upper w) name_l ∙ clear.apart in
-    let new = with_sorts table (with_pair table.sorts u.number l.number) in
-    same_table (put_pair table upper lower) new (left ++ d ∷ [])
+    let under : is_below table.sorts.pairs (name_at table.sorts l.number) (name_at table.sorts u.number) ≡ is_below (pairs left) lower upper =
+    ap (λ (w : List Pair). is_below w (name_at table.sorts l.number) (name_at table.sorts u.number)) has.pairs_are
+    ∙ ap (λ (w : List ℕ). is_below (pairs left) w (name_at table.sorts u.number)) name_l ∙ ap (λ (w : List ℕ). is_below (pairs left) lower w) name_u in
+    let grown : (new : TableView) → Has new (sort_names left) ((upper, lower) ∷ pairs left) (objects left) (variables left) (constants left) → IsTable new (left ++ d ∷ []) =
+    λ new is_new. table_of new (left ++ d ∷ []) (sort_names left) ((upper, lower) ∷ pairs left) (objects left) (variables left) (constants left)
+    (names_same left d refl) (pairs_end left upper lower) (objects_same left d refl) (flat_same variable_declared left d refl) (flat_same constant_declared left d refl) is_new in
+    same_table (put_pair table upper lower) (new_pair table u.number l.number false (is_below (pairs left) lower upper)) (left ++ d ∷ [])
     (ap (λ (f : Option ℕ). found_pair table f (number_of table.sorts.names lower)) found_u ∙ ap (λ (f : Option ℕ). found_pair table (Some u.number) f) found_l
-    ∙ ap (λ (b : Bool). new_pair table u.number l.number b) apart)
-    (table_of new (left ++ d ∷ []) (sort_names left) ((upper, lower) ∷ pairs left) (objects left) (variables left) (constants left)
-    (names_same left d refl) (pairs_end left upper lower) (objects_same left d refl) (flat_same variable_declared left d refl) (flat_same constant_declared left d refl)
-    (has_pair table (sort_names left) (pairs left) (objects left) (variables left) (constants left) u.number l.number upper lower u.named l.named l.within
-    clear.upper_known clear.lower_known has))
+    ∙ ap (λ (b : Bool). new_pair table u.number l.number b (is_below table.sorts.pairs (name_at table.sorts l.number) (name_at table.sorts u.number))) apart
+    ∙ ap (λ (b : Bool). new_pair table u.number l.number false b) under)
+    (grown (new_pair table u.number l.number false (is_below (pairs left) lower upper)) (new_pair_has table left u.number l.number upper lower u.named l.named l.within clear.upper_known clear.lower_known has (is_below (pairs left) lower upper) refl))
 
 names_numbered : (names : List (List ℕ)) (os : List Named) → names_of (numbered_by names os) ≡ map (λ (o : Named). o.0) os
 names_numbered names [] = refl

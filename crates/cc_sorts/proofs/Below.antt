@@ -1,9 +1,11 @@
 -- Sorts below others, by pairs of them.
-use Rattle.std.proofs.Common.{◌≡◌, ◌∙◌, ◌⊎◌, inl, inr, ℕ, Bool, true, false, ◌||◌, ◌&&◌, List, [], ◌∷◌, IsTrue, refl, ap, subst}
+use Rattle.std.proofs.Common.{◌≡◌, ◌∙◌, ◌⊎◌, inl, inr, ℕ, Bool, true, false, ◌||◌, ◌&&◌, List, [], ◌∷◌, IsTrue, refl, sym, ap, subst}
+use Rattle.std.proofs.lemmas.Bool.{false≢true}
 use Rattle.std.specs.Cmp.Lexicographic.{bytes_decides}
 use Rattle.std.specs.List.{list_any, AllByRecursion}
 use Rattle.cc_defs.specs.Declarations.{Pair, is_below}
 use Rattle.cc_defs.specs.Grammar.{same_text}
+use Rattle.cc_sorts.specs.Laws.{IsOrderOf, BelowIsLeast}
 use Rattle.cc_sorts.proofs.Lefts.{or_false, same_swap}
 
 pub and_false : (a : Bool) → (a && false) ≡ false
@@ -88,3 +90,26 @@ closed_above found (pair ∷ pairs) lower upper closed at_lower below =
         (found pair.0 ≡ true → is_below pairs pair.0 upper ≡ true → found upper ≡ true) → found upper ≡ true
     here (inl e) all up down = all e
     here (inr e) all up down = down (closed.0 (up (both (is_below pairs lower pair.1) (is_below pairs pair.0 upper) e).0)) (both (is_below pairs lower pair.1) (is_below pairs pair.0 upper) e).1
+
+goes_up : (below : List ℕ → List ℕ → Bool) (all some : List Pair) (lower : List ℕ) → IsOrderOf all below → AllByRecursion (λ pair. below pair.1 pair.0 ≡ true) some →
+    AllByRecursion (λ pair. IsTrue (below lower pair.1) → IsTrue (below lower pair.0)) some
+goes_up below all [] lower order each = tt
+goes_up below all (pair ∷ some) lower order each = (λ e. order.goes_on lower pair.1 pair.0 e each.0, goes_up below all some lower order each.1)
+
+pub below_least : BelowIsLeast
+below_least pairs = (
+  record { itself = below_self pairs; goes_on = below_through pairs; each = below_each pairs },
+  λ below order lower upper e. closed_above (below lower) pairs lower upper (goes_up below pairs pairs lower order order.each) (order.itself lower) e,
+)
+
+-- a pair of a sort that is below the other already changes nothing
+pub implied_same : (pairs : List Pair) (upper lower sort other : List ℕ) → is_below pairs lower upper ≡ true → is_below ((upper, lower) ∷ pairs) sort other ≡ is_below pairs sort other
+implied_same pairs upper lower sort other implied = by (is_below pairs sort other) refl (is_below pairs sort lower && is_below pairs upper other) refl
+  where
+    by : (a : Bool) → is_below pairs sort other ≡ a → (b : Bool) → (is_below pairs sort lower && is_below pairs upper other) ≡ b → (is_below pairs sort other || (is_below pairs sort lower && is_below pairs upper other)) ≡ is_below pairs sort other
+    by true e b f = ap (λ t. t || (is_below pairs sort lower && is_below pairs upper other)) e ∙ sym e
+    by false e false f = ap (λ t. is_below pairs sort other || t) f ∙ or_false (is_below pairs sort other)
+    by false e true f =
+        let parts = both (is_below pairs sort lower) (is_below pairs upper other) f in
+        ap (λ t. is_below pairs sort other || t) f
+        ∙ absurd (false≢true (sym e ∙ below_through pairs sort lower other parts.0 (below_through pairs lower upper other implied parts.1)))

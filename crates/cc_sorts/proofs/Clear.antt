@@ -1,15 +1,16 @@
 -- The declarations of a statement without a fault are clear.
 use Rattle.std.proofs.Common.{◌≡◌, ◌∙◌, ℕ, Bool, true, false, not, ◌&&◌, ◌||◌, cond, List, [], ◌∷◌, ◌++◌, map, flat_map, Option, Some, None, refl, sym, ap, subst, append_assoc}
 use Rattle.std.specs.Prelude.{if◌then◌else◌}
-use Rattle.std.specs.List.{list_any, find}
+use Rattle.std.specs.List.{list_any, list_all, find}
 use Rattle.std.proofs.lemmas.List.{append-nil}
 use Rattle.cc_defs.specs.Declarations.{Declaration, Sort, Link, Subsort, Object, Variable, Constant, Kinds, Declared, constants, constant_names, constant_declared, value_sort, chain_behind, sort_declarations, object_declarations, variable_declarations, constant_declarations, part_declarations, declarations_of}
-use Rattle.cc_defs.specs.DeclarationFaults.{is_sort, are_sorts, is_taken, is_twice, is_unknown, has_unknown, has_wrong_count, has_wrong_sort, any_has, declaration_fault, constant_named, is_plain, is_boolean_action}
+use Rattle.cc_defs.specs.DeclarationFaults.{is_sort, are_sorts, is_taken, is_twice, is_unknown, has_unknown, has_wrong_count, has_wrong_sort, any_has, declaration_fault, constant_named, declared_sorts, same_sorts, is_plain, is_boolean_action}
 use Rattle.cc_defs.specs.Grammar.{same_text}
 use Rattle.cc_defs.specs.Trees.{PlainShape, PlainSortItem, PlainListItem, PlainKind, PlainConstItem, PlainPart, PlainStatement}
 use Rattle.cc_defs.specs.Trees as trees
 use Rattle.cc_sorts.specs.Steps.{IsClearPair, IsClearName, IsClearConstant, AllClear}
 use Rattle.cc_sorts.specs.Tables.{has_action}
+use Rattle.cc_sorts.proofs.Denied.{not_all, not_third, not_middle}
 use Rattle.cc_sorts.proofs.Names.{is_among, or_false, and_true, flat_end}
 use Rattle.cc_sorts.proofs.Behind.{known_link, known_more, names_same}
 
@@ -162,7 +163,9 @@ item_of kind file line shapes all = map (of_kind kind file line) shapes ++ Kinds
 -- the sort of the values is known where the kind stands
 values_known : (left : List Declaration) (kind : PlainKind) → has_unknown left kind ≡ false → is_sort left (value_sort kind) ≡ true
 values_known left (trees.Plain word sort) e = not_false (is_sort left (value_sort (trees.Plain word sort))) e
-values_known left (trees.Attribute sort action) e = (and_true (is_sort left sort) (are_sorts left action.sorts && is_taken left action.name) (not_false _ e)).0
+values_known left (trees.Attribute sort action) e =
+    (and_true (is_sort left sort) (are_sorts left action.sorts && is_taken left action.name)
+    (not_false _ (not_middle (is_sort left sort) (is_taken left action.name) (is_sort left) action.sorts ∙ e))).0
 
 value_before : (left : List Declaration) (kind : PlainKind) (file line : ℕ) (shapes all : List PlainShape) → NoFault left (item_of kind file line shapes all) → is_sort left (value_sort kind) ≡ true
 value_before left kind file line [] all n = values_known left kind (no_fault_first left (Kinds all kind) [] n).1
@@ -174,7 +177,11 @@ value_before left kind file line (shape ∷ shapes) all n =
 boolean_before : (left : List Declaration) (sort : List ℕ) (action : PlainShape) (file line : ℕ) (shapes all : List PlainShape) →
     NoFault left (item_of (trees.Attribute sort action) file line shapes all) → is_boolean_action (constant_named left action.name) ≡ true
 boolean_before left sort action file line [] all n =
-    (and_true (is_boolean_action (constant_named left action.name)) _ (not_false _ (no_fault_first left (Kinds all (trees.Attribute sort action)) [] n).2)).0
+    let own = declared_sorts left action.name in
+    (and_true (is_boolean_action (constant_named left action.name)) (same_sorts action.sorts own && list_all (λ (shape : PlainShape). same_sorts shape.sorts own) all)
+    (not_false _
+    (not_third (is_boolean_action (constant_named left action.name)) (same_sorts action.sorts own) (λ (shape : PlainShape). same_sorts shape.sorts own) all
+    ∙ (no_fault_first left (Kinds all (trees.Attribute sort action)) [] n).2))).0
 boolean_before left sort action file line (shape ∷ shapes) all n =
     let kind = trees.Attribute sort action in
     let d = of_kind kind file line shape in
@@ -197,7 +204,7 @@ constants_clear left kind file line (shape ∷ shapes) all n =
     let first = no_fault_first left d (item_of kind file line shapes all) n in
     let clear : IsClearConstant left shape kind = record {
       is_new = first.0;
-      arguments_known = not_false (are_sorts left shape.sorts) first.1;
+      arguments_known = not_false (are_sorts left shape.sorts) (not_all (is_sort left) shape.sorts ∙ first.1);
       values_known = value_before left kind file line (shape ∷ shapes) all n;
       action_known = action_known left kind file line (shape ∷ shapes) all n;
     } in

@@ -13,7 +13,7 @@ use Rattle.cc_defs.specs.Declarations.{Declaration, Declared, constants, symbol_
 use Rattle.cc_defs.specs.Grammar.{same_text}
 use Rattle.cc_defs.specs.Trees.{plain_shape}
 use Rattle.cc_sorts.specs.Lefts.{Shaped, shaped, arguments_of, plain_constant, left_constant, table_symbol, IsLeft}
-use Rattle.cc_sorts.specs.Tables.{TableView, placed_from, IsTable}
+use Rattle.cc_sorts.specs.Tables.{TableView, placed_of, IsTable}
 use Rattle.cc_sorts.specs.declared.left.Constant.{Constant as Constant'}
 use Rattle.cc_sorts.specs.declared.left.Left.{Left}
 use Rattle.cc_sorts.proofs.Lefts.{or_none, same_swap}
@@ -31,15 +31,15 @@ sorts_shaped None = refl
 sorts_shaped (Some constant) = refl
 
 placed_find : (base : List Declaration) (name : List ℕ) (found : List Declared) →
-    option_map (λ placed. placed.symbol) (find (λ placed. same_text name placed.symbol.name) (placed_from (map (symbol_of base) found) found))
+    option_map (λ placed. placed.symbol) (find (λ placed. same_text name placed.symbol.name) (placed_of base found))
     ≡ option_map (symbol_of base) (find (λ constant. same_text name constant.shape.name) found)
 placed_find base name [] = refl
 placed_find base name (constant ∷ found) = here (same_text name constant.shape.name) (placed_find base name found)
   where
     here : (same : Bool) →
-        option_map (λ placed. placed.symbol) (find (λ placed. same_text name placed.symbol.name) (placed_from (map (symbol_of base) found) found))
+        option_map (λ placed. placed.symbol) (find (λ placed. same_text name placed.symbol.name) (placed_of base found))
         ≡ option_map (symbol_of base) (find (λ other. same_text name other.shape.name) found) →
-        option_map (λ placed. placed.symbol) (cond same (Some (record { symbol = symbol_of base constant; file = constant.file; line = constant.line })) (find (λ placed. same_text name placed.symbol.name) (placed_from (map (symbol_of base) found) found)))
+        option_map (λ placed. placed.symbol) (cond same (Some (record { symbol = symbol_of base constant; file = constant.file; line = constant.line })) (find (λ placed. same_text name placed.symbol.name) (placed_of base found)))
         ≡ option_map (symbol_of base) (cond same (Some constant) (find (λ other. same_text name other.shape.name) found))
     here true more = refl
     here false more = more

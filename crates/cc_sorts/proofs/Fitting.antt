@@ -16,7 +16,7 @@ use Rattle.cc_defs.specs.Grammar.{same_text}
 use Rattle.cc_defs.specs.Trees.{PlainShape, PlainKind, plain_shape}
 use Rattle.cc_defs.specs.Trees as trees
 use Rattle.cc_sorts.specs.Dictionaries.{number_of}
-use Rattle.cc_sorts.specs.Lefts.{shaped, left_constant, table_symbol, IsLeft, action_fits, shaped_fits, is_boolean_kind, is_boolean_symbol, is_numbered, are_numbered, numbers_fit}
+use Rattle.cc_sorts.specs.Lefts.{shaped, left_constant, table_symbol, IsLeft, action_fits, shaped_fits, is_boolean_kind, is_boolean_action_symbol, is_numbered, are_numbered, numbers_fit}
 use Rattle.cc_sorts.specs.Tables.{TableView}
 use Rattle.cc_sorts.specs.declared.left.Left.{Left}
 use Rattle.cc_sorts.proofs.Counts.{of_table, new_known}
@@ -106,7 +106,7 @@ no_action base (trees.Attribute sort action) = refl
 and_same : (a b c a' b' c' : Bool) → a ≡ a' → b ≡ b' → c ≡ c' → (a && (b && c)) ≡ (a' && (b' && c'))
 and_same a b c a' b' c' e f g = ap (λ t. t && (b && c)) e ∙ ap (λ t. a' && (t && c)) f ∙ ap (λ t. a' && (b' && t)) g
 
-boolean_kind : (base : List Declaration) (constant : Declared) → is_sort base (value_sort constant.kind) ≡ true → is_boolean_symbol (symbol_of base constant) ≡ is_boolean_kind constant.kind
+boolean_kind : (base : List Declaration) (constant : Declared) → is_sort base (value_sort constant.kind) ≡ true → is_boolean_action_symbol (symbol_of base constant) ≡ is_boolean_kind constant.kind
 boolean_kind base constant there =
     and_same _ _ _ _ _ _ (no_action base constant.kind) refl (boolean_domain base (value_sort constant.kind) there)
 

@@ -9,10 +9,11 @@ use Rattle.cc_defs.specs.Trees.{PlainShape, PlainKind}
 use Rattle.cc_defs.specs.Trees as trees
 use Rattle.cc_sorts.specs.declared.table.Placed.{Placed}
 use Rattle.cc_sorts.specs.Numbers.{union}
-use Rattle.cc_sorts.specs.SortViews.{name_at, members_at, with_sort, with_pair, changed_above}
+use Rattle.cc_sorts.specs.SortViews.{name_at, members_at, with_sort, with_pair, with_implied, changed_above}
 use Rattle.cc_sorts.specs.Steps.{with_sorts, new_object, new_variable, new_symbol, placed_in, symbol_in, action_in}
-use Rattle.cc_sorts.specs.Tables.{TableView, Numbered, IsTable, has_action, placed_from, symbol_names}
+use Rattle.cc_sorts.specs.Tables.{TableView, Numbered, IsTable, has_action, placed_of, symbol_names}
 use Rattle.cc_sorts.proofs.Names.{is_among, any_front, and_true, number_front, AreAmong, below_other}
+use Rattle.cc_sorts.proofs.Below.{implied_same}
 use Rattle.cc_sorts.proofs.Wheres.{where_end, where_same, where_none, where_or, changed_map, at_map}
 
 -- ---- a table by its names, pairs, objects, variables and constants
@@ -73,10 +74,10 @@ with_action left c action = record {
 }
 
 placed_same : (left : List Declaration) (constants : List Declared) →
-    placed_from (map (symbol_of left) constants) constants ≡ map (placed_by (sort_names left) (constant_names left)) constants
+    placed_of left constants ≡ map (placed_by (sort_names left) (constant_names left)) constants
 placed_same left [] = refl
 placed_same left (c ∷ cs) =
-    ap (λ (action : Option ℕ). with_action left c action ∷ placed_from (map (symbol_of left) cs) cs) (action_same left c.kind)
+    ap (λ (action : Option ℕ). with_action left c action ∷ placed_of left cs) (action_same left c.kind)
     ∙ ap (λ (w : List Placed). placed_by (sort_names left) (constant_names left) c ∷ w) (placed_same left cs)
 
 pub has_of : (table : TableView) (left : List Declaration) → IsTable table left → Has table (sort_names left) (pairs left) (objects left) (variables left) (constants left)
@@ -284,6 +285,32 @@ has_pair table names ps os vs cs upper lower above under a u within p q has =
           ∙ ap (λ (w : List (List ℕ)). changed_by ps os above (members_by ps os under) w table.sorts.members) has.names_are
           ∙ ap (λ (w : List (List ℕ)). changed_by ps os above (members_by ps os under) names w) has.members_are
           ∙ changed_map ps above (λ (w : List ℕ). union w (members_by ps os under)) (members_by ps os) (members_by ((above, under) ∷ ps) os) names (members_pair ps os above under);
+      objects_are = has.objects_are;
+      variables_are = has.variables_are;
+      symbols_are = has.symbols_are;
+      of_objects = has.of_objects;
+      of_variables = has.of_variables;
+      of_arguments = has.of_arguments;
+      of_values = has.of_values;
+      of_actions = has.of_actions;
+      of_pairs = (and_both (is_among names above) (is_among names under) p q, has.of_pairs);
+    }
+
+map_same : (f g : List ℕ → List ℕ) (names : List (List ℕ)) → ((name : List ℕ) → f name ≡ g name) → map f names ≡ map g names
+map_same f g [] e = refl
+map_same f g (name ∷ names) e = ap (λ (w : List ℕ). w ∷ map f names) (e name) ∙ ap (λ (w : List (List ℕ)). g name ∷ w) (map_same f g names e)
+
+pub has_implied : (table : TableView) (names : List (List ℕ)) (ps : List Pair) (os vs : List Named) (cs : List Declared) (upper lower : ℕ) (above under : List ℕ) →
+    slice_index_or names upper [] ≡ above → slice_index_or names lower [] ≡ under → is_below ps under above ≡ true → is_among names above ≡ true → is_among names under ≡ true →
+    Has table names ps os vs cs → Has (with_sorts table (with_implied table.sorts upper lower)) names ((above, under) ∷ ps) os vs cs
+has_implied table names ps os vs cs upper lower above under a u implied p q has =
+    let upper_name : name_at table.sorts upper ≡ above = ap (λ (w : List (List ℕ)). slice_index_or w upper []) has.names_are ∙ a in
+    let lower_name : name_at table.sorts lower ≡ under = ap (λ (w : List (List ℕ)). slice_index_or w lower []) has.names_are ∙ u in
+    record {
+      names_are = has.names_are;
+      pairs_are = ap (λ (w : List ℕ). (w, name_at table.sorts lower) ∷ table.sorts.pairs) upper_name ∙ ap (λ (w : List ℕ). (above, w) ∷ table.sorts.pairs) lower_name ∙ ap (λ (w : List Pair). (above, under) ∷ w) has.pairs_are;
+      members_are = has.members_are ∙ map_same (members_by ps os) (members_by ((above, under) ∷ ps) os) names
+          (λ sort. where_same (λ (o : Named). is_below ps o.1 sort) (λ (o : Named). is_below ((above, under) ∷ ps) o.1 sort) 0 os (λ o. sym (implied_same ps above under o.1 sort implied)));
       objects_are = has.objects_are;
       variables_are = has.variables_are;
       symbols_are = has.symbols_are;

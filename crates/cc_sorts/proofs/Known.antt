@@ -1,10 +1,10 @@
 -- What a statement without refusal names is declared.
 use Rattle.std.proofs.Common.{◌≡◌, ℕ, List, ◌++◌, map, None, refl}
 use Rattle.cc_defs.specs.DeclarationFaults.{declaration_refusal}
-use Rattle.cc_defs.specs.Declarations.{Declaration, sort_names, pairs, objects, variables, symbols, constants, members, declarations_of}
+use Rattle.cc_defs.specs.Declarations.{Declaration, sort_names, pairs, objects, variables, constants, members, declarations_of}
 use Rattle.cc_defs.specs.Trees.{PlainStatement}
 use Rattle.cc_sorts.specs.Steps.{behind_all}
-use Rattle.cc_sorts.specs.Tables.{TableView, IsTable, AreKnown, numbered, placed_from}
+use Rattle.cc_sorts.specs.Tables.{TableView, IsTable, AreKnown, numbered, placed_of}
 use Rattle.cc_sorts.proofs.Declared.{declares}
 
 -- the table that these declarations have
@@ -13,7 +13,7 @@ table_for left = record {
   sorts = record { names = sort_names left; pairs = pairs left; members = map (members left) (sort_names left) };
   objects = numbered left (objects left);
   variables = numbered left (variables left);
-  symbols = placed_from (symbols left) (constants left);
+  symbols = placed_of left (constants left);
 }
 
 is_table : (left : List Declaration) → AreKnown left → IsTable (table_for left) left

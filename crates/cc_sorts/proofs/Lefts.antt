@@ -8,10 +8,10 @@ use Rattle.std.proofs.lemmas.Grind.{flat_map-append}
 use Rattle.std.proofs.lemmas.List.{map-append, append-nil, reverse-append}
 use Rattle.std.proofs.lemmas.List.Folds.{list_any-append, find-append}
 use Rattle.cc_defs.specs.DeclarationFaults.{is_sort, are_sorts, is_taken, same_pair, constant_named}
-use Rattle.cc_defs.specs.Declarations.{Declaration, Sort, Link, Subsort, Object, Variable, Constant, Kinds, Declared, Named, Pair, boolean, firsts_behind, sort_named, pair_declared, pairs, object_declared, objects, variable_declared, variables, constant_declared, constants, constant_names, symbol_of}
+use Rattle.cc_defs.specs.Declarations.{Declaration, Sort, Link, Subsort, Object, Variable, Constant, Kinds, Declared, Named, Pair, boolean, firsts_behind, sort_named, pair_declared, pairs, object_declared, objects, variable_declared, variables, constant_declared, constants, constant_names}
 use Rattle.cc_defs.specs.Grammar.{same_text}
 use Rattle.cc_sorts.specs.Dictionaries.{names_of}
-use Rattle.cc_sorts.specs.Tables.{TableView, numbered, placed_from, IsTable}
+use Rattle.cc_sorts.specs.Tables.{TableView, numbered, placed_of, IsTable}
 use Rattle.cc_sorts.specs.Lefts.{plain_pair, uppers_in, has_sort, has_name, left_has_sort, IsLeft, Adds, takes, shaped, plain_constant, left_constant}
 use Rattle.cc_sorts.specs.declared.left.Constant.{Constant as Constant'}
 use Rattle.cc_sorts.specs.declared.left.Left.{Left}
@@ -173,7 +173,7 @@ names_numbered declarations name [] = refl
 names_numbered declarations name (entry ∷ named) = ap (λ had. same_text name entry.0 || had) (names_numbered declarations name named)
 
 names_placed : (declarations : List Declaration) (found : List Declared) →
-    map (λ placed. placed.symbol.name) (placed_from (map (symbol_of declarations) found) found) ≡ map (λ constant. constant.shape.name) found
+    map (λ placed. placed.symbol.name) (placed_of declarations found) ≡ map (λ constant. constant.shape.name) found
 names_placed declarations [] = refl
 names_placed declarations (constant ∷ found) = ap (λ names. constant.shape.name ∷ names) (names_placed declarations found)
 

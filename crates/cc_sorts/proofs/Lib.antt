@@ -9,6 +9,7 @@ pub mod Clear
 pub mod Counts
 pub mod Decided
 pub mod Declared
+pub mod Denied
 pub mod Entries
 pub mod Fitting
 pub mod Growing

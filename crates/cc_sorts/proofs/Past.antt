@@ -10,7 +10,7 @@ use Rattle.cc_sorts.specs.Dictionaries.{values_of}
 use Rattle.cc_sorts.specs.Steps.{HasRoom}
 use Rattle.cc_sorts.specs.Tables.{Fits, Numbered, TableView}
 use Rattle.cc_sorts.specs.declared.table.Placed.{Placed}
-use Rattle.cc_sorts.specs.SortViews.{SortsView, IsPast, changed_above, with_sort, with_pair, with_object, members_at, name_at, AllAscend}
+use Rattle.cc_sorts.specs.SortViews.{SortsView, IsPast, changed_above, with_sort, with_pair, with_implied, with_object, members_at, name_at, AllAscend}
 
 abbrev pub Below : ℕ → List ℕ → Type 0
 Below bound list = AllByRecursion (λ member. member < bound) list
@@ -155,6 +155,23 @@ fits_pair (Ok x) sorts new objects variables symbols upper lower fits added unch
       as_many = as_many_changed sorts.pairs (name_at sorts upper) (λ list. union list (members_at sorts lower)) sorts.names sorts.members fits.as_many;
     })
 fits_pair (Err e) sorts new objects variables symbols upper lower fits added unchanged =
+    let P : SortsView → Type 0 = λ w. Fits w objects variables symbols in subst P (sym unchanged) fits
+
+pub fits_implied : {A E : Type 0} (result : Result A E) (sorts new : SortsView) (objects variables : List Numbered) (symbols : List (List ℕ × Placed)) (upper lower : ℕ) →
+    Fits sorts objects variables symbols → OnOk result (new ≡ with_implied sorts upper lower) → OnErr result (new ≡ sorts) → Fits new objects variables symbols
+fits_implied (Ok x) sorts new objects variables symbols upper lower fits added unchanged =
+    let P : SortsView → Type 0 = λ w. Fits w objects variables symbols in
+    subst P (sym added) (record {
+      few_sorts = fits.few_sorts;
+      few_objects = fits.few_objects;
+      few_variables = fits.few_variables;
+      few_symbols = fits.few_symbols;
+      named = fits.named;
+      past = fits.past;
+      ascending = fits.ascending;
+      as_many = fits.as_many;
+    })
+fits_implied (Err e) sorts new objects variables symbols upper lower fits added unchanged =
     let P : SortsView → Type 0 = λ w. Fits w objects variables symbols in subst P (sym unchanged) fits
 
 fits_numbered : (sorts : SortsView) (objects variables : List Numbered) (symbols : List (List ℕ × Placed)) (table : TableView) (sort object : ℕ) (entry : Numbered) →

@@ -1,6 +1,7 @@
 -- A search upwards from a sort.
 use Rattle.std.proofs.Common.{◌≡◌, ◌∙◌, ◌⊎◌, inl, inr, ℕ, zero, suc, ◌+◌, ◌<◌, ◌≤◌, arith, Bool, true, false, cond, ◌||◌, ◌&&◌, List, [], ◌∷◌, ◌++◌, map, flat_map, take, length, get_or, slice_index_or, slice_get, Option, Some, None, is_some, IsTrue, refl, sym, ap, subst, append_assoc, append-nil, add-one}
 use Rattle.std.specs.Prelude.{if◌then◌else◌}
+use Rattle.std.proofs.lemmas.Bool.{false≢true}
 use Rattle.std.specs.Cmp.Lexicographic.{bytes_decides}
 use Rattle.std.specs.Cmp.{IsEquivalence}
 use Rattle.std.specs.List.{list_any, filter, position_from, AllByRecursion, IsDistinct}
@@ -20,7 +21,7 @@ use Rattle.cc_defs.specs.Grammar.{same_text}
 use Rattle.cc_sorts.specs.Dictionaries.{number_of}
 use Rattle.cc_sorts.specs.Lefts.{plain_pair, IsLeft, new_uppers, uppers_in, texts_of}
 use Rattle.cc_sorts.specs.Lists.{AreBelow}
-use Rattle.cc_sorts.specs.Searches.{is_in, Grows, table_uppers, all_uppers, IsSearched}
+use Rattle.cc_sorts.specs.Searches.{is_in, Grows, AreClosed, table_uppers, all_uppers, IsSearched}
 use Rattle.cc_sorts.specs.SortViews.{SortsView, name_at}
 use Rattle.cc_sorts.specs.declared.left.Left.{Left}
 use Rattle.cc_sorts.proofs.Below.{and_false, either, both, by_first, below_self, below_through, below_each, closed_above}
@@ -228,6 +229,49 @@ in_table sorts name upper there is below =
     ap (λ b. list_any (same_text upper) (if b then filter (is_below sorts.pairs name) sorts.names else [])) there
     ∙ has_filter upper (is_below sorts.pairs name) sorts.names
     ∙ ap (λ t. t && list_any (same_text upper) sorts.names) below ∙ is
+
+-- ---- what has its sorts above by the table
+
+or_known : (a b : Bool) → (b ≡ true → a ≡ true) → a ≡ (a || b)
+or_known true b f = refl
+or_known false true f = f refl
+or_known false false f = refl
+
+pub grows_known : (found : Keys) (names : List (List ℕ)) → ((name : List ℕ) → list_any (same_text name) names ≡ true → is_in name found ≡ true) → Grows found found names
+grows_known found names there = record {
+  more = [];
+  is_more = sym (append-nil found);
+  has = λ name. or_known (is_in name found) (list_any (same_text name) names) (there name);
+}
+
+pub closed_none : (left : Left) (closed found : Keys) → closed ≡ [] → AreClosed left closed found
+closed_none left closed found e = λ name upper h i. absurd (false≢true (sym (ap (is_in name) e) ∙ h))
+
+pub closed_more : (left : Left) (closed found new : Keys) (names : List (List ℕ)) → AreClosed left closed found → Grows found new names → AreClosed left closed new
+closed_more left closed found new names are grows = λ name upper h i. grows.has upper ∙ by_first (is_in upper found) (list_any (same_text upper) names) (are name upper h i)
+
+pub closed_step : (left : Left) (closed more found new : Keys) (sort : List ℕ) → AreClosed left closed found → Grows found new (table_uppers left.table.now.sorts sort) →
+    Grows closed more (table_uppers left.table.now.sorts sort) → AreClosed left more new
+closed_step left closed more found new sort are grows marked = λ name upper h i. here name upper i (either _ _ (sym (marked.has name) ∙ h))
+  where
+    sorts : SortsView
+    sorts = left.table.now.sorts
+
+    there : (name : List ℕ) → list_any (same_text name) (table_uppers sorts sort) ≡ true → list_any (same_text sort) sorts.names ≡ true
+    there name e = by (list_any (same_text sort) sorts.names) refl e
+      where
+        by : (b : Bool) → list_any (same_text sort) sorts.names ≡ b → list_any (same_text name) (if b then filter (is_below sorts.pairs sort) sorts.names else []) ≡ true → list_any (same_text sort) sorts.names ≡ true
+        by true f g = f
+        by false f g = absurd cc
+
+    here : (name upper : List ℕ) → list_any (same_text upper) (table_uppers sorts name) ≡ true → (is_in name closed ≡ true) ⊎ (list_any (same_text name) (table_uppers sorts sort) ≡ true) → is_in upper new ≡ true
+    here name upper i (inl h) = grows.has upper ∙ by_first (is_in upper found) (list_any (same_text upper) (table_uppers sorts sort)) (are name upper h i)
+    here name upper i (inr h) =
+        let first = of_table sorts sort name h in
+        let second = of_table sorts name upper i in
+        grows.has upper
+        ∙ by_second_one (is_in upper found) (list_any (same_text upper) (table_uppers sorts sort))
+        (in_table sorts sort upper (there name h) second.1 (below_through sorts.pairs sort name upper first.0 second.0))
 
 sound_uppers : (left : Left) (declarations : List Declaration) (name upper : List ℕ) → IsLeft left declarations → list_any (same_text upper) (all_uppers left name) ≡ true →
     is_below (pairs declarations) name upper ≡ true

@@ -66,12 +66,13 @@ longer table (Link name) = longer_sort table name (number_of table.sorts.names n
     longer_sort table name None = (omega (arith, len_last table.sorts.names name), omega arith, omega arith, omega arith)
 longer table (Subsort upper lower) = longer_found table (number_of table.sorts.names upper) (number_of table.sorts.names lower)
   where
-    longer_pair : (table : TableView) (upper lower : ℕ) (known : Bool) → Longer (new_pair table upper lower known) table
-    longer_pair table upper lower true = same_longer table
-    longer_pair table upper lower false = (omega arith, omega arith, omega arith, omega arith)
+    longer_pair : (table : TableView) (upper lower : ℕ) (known implied : Bool) → Longer (new_pair table upper lower known implied) table
+    longer_pair table upper lower true implied = same_longer table
+    longer_pair table upper lower false true = (omega arith, omega arith, omega arith, omega arith)
+    longer_pair table upper lower false false = (omega arith, omega arith, omega arith, omega arith)
 
     longer_found : (table : TableView) (upper lower : Option ℕ) → Longer (found_pair table upper lower) table
-    longer_found table (Some upper) (Some lower) = longer_pair table upper lower (is_below table.sorts.pairs (name_at table.sorts upper) (name_at table.sorts lower))
+    longer_found table (Some upper) (Some lower) = longer_pair table upper lower (is_below table.sorts.pairs (name_at table.sorts upper) (name_at table.sorts lower)) (is_below table.sorts.pairs (name_at table.sorts lower) (name_at table.sorts upper))
     longer_found table (Some upper) None = same_longer table
     longer_found table None lower = same_longer table
 longer table (Object name sort) = longer_object table name (number_of table.sorts.names sort) (number_of (names_of table.objects) name)

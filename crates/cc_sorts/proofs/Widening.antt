@@ -10,8 +10,9 @@ use Rattle.cc_sorts.specs.declared.sorts.SortPair.{SortPair}
 use Rattle.cc_sorts.specs.Lists.{list_at, at_each, AreBelow}
 use Rattle.cc_sorts.specs.Numbers.{Ascends, has, union}
 use Rattle.cc_sorts.specs.SortParts.{named_behind, named_pairs, same_numbers, IsWithin, AreThose, AreKept}
-use Rattle.cc_sorts.specs.SortViews.{SortsView, changed_above, with_pair}
+use Rattle.cc_sorts.specs.SortViews.{SortsView, changed_above, with_pair, with_implied}
 use Rattle.cc_sorts.proofs.Among.{has_union}
+use Rattle.cc_sorts.proofs.Below.{implied_same}
 use Rattle.cc_sorts.proofs.Changing.{each_at, length_each, ascend_each, each_is_above}
 use Rattle.cc_sorts.proofs.Growing.{seen}
 use Rattle.cc_sorts.proofs.Unions.{all_union, ascends_union}
@@ -174,3 +175,46 @@ each_same numbers read others again lists room new is same_numbers_read same_oth
 
 pub pushed : {X : Type 0} (old room new : List X) (x : X) → new ≡ room ++ x ∷ [] → room ≡ old → new ≡ old ++ x ∷ []
 pushed old room new x is same = is ∙ ap (λ xs. xs ++ x ∷ []) same
+
+-- ---- a pair that follows from the others
+
+those_same : (count : ℕ) (test more : ℕ → ℕ → Bool) (lists : List (List ℕ)) → AreThose count test lists → ((i j : ℕ) → more i j ≡ test i j) → AreThose count more lists
+those_same count test more lists are same = record {
+  as_many = are.as_many;
+  those = λ i j hi hj. are.those i j hi hj ∙ sym (same i j);
+  within = are.within;
+  ascend = are.ascend;
+}
+
+module _ (names : List (List ℕ)) (pairs known : List SortPair) (above below members : List (List ℕ)) (upper lower : ℕ)
+    (kept : AreKept names pairs known above below members) (hu : upper < length names) (hl : lower < length names) where
+  abbrev implied : SortPair
+  implied = record { upper = upper; lower = lower }
+
+  pub kept_implied : (upper == lower) ≡ false → is_below (named_pairs names pairs) (list_at names lower) (list_at names upper) ≡ true → (more_pairs more_known : List SortPair) →
+      more_pairs ≡ pairs ++ implied ∷ [] → more_known ≡ insert_key same_numbers known implied → AreKept names more_pairs more_known above below members
+  kept_implied apart follows more_pairs more_known is_pairs is_known = rw (is_pairs, is_known) more
+    where
+      same : (i j : ℕ) → is_below (named_pairs names (pairs ++ implied ∷ [])) (list_at names i) (list_at names j) ≡ is_below (named_pairs names pairs) (list_at names i) (list_at names j)
+      same i j =
+          ap (λ (ps : List Pair). is_below ps (list_at names i) (list_at names j)) (named_push names [] pairs implied)
+          ∙ implied_same (named_pairs names pairs) (list_at names upper) (list_at names lower) (list_at names i) (list_at names j) follows
+
+      more : AreKept names (pairs ++ implied ∷ []) (insert_key same_numbers known implied) above below members
+      more = record {
+        few = kept.few;
+        distinct = kept.distinct;
+        pairs_within = within_push (length names) pairs implied kept.pairs_within (hu, hl, apart);
+        known_are = λ q. inserted known implied q ∙ ap (λ (b : Bool). b || (same_numbers q implied || false)) (kept.known_are q) ∙ sym (list_any-append (same_numbers q) pairs (implied ∷ []));
+        above_are = those_same (length names) (λ i j. is_below (named_pairs names pairs) (list_at names i) (list_at names j))
+            (λ i j. is_below (named_pairs names (pairs ++ implied ∷ [])) (list_at names i) (list_at names j)) above kept.above_are same;
+        below_are = those_same (length names) (λ i j. is_below (named_pairs names pairs) (list_at names j) (list_at names i))
+            (λ i j. is_below (named_pairs names (pairs ++ implied ∷ [])) (list_at names j) (list_at names i)) below kept.below_are (λ i j. same j i);
+        members_count = kept.members_count;
+        members_ascend = kept.members_ascend;
+      }
+
+  pub seen_implied : (more_pairs : List SortPair) → more_pairs ≡ pairs ++ implied ∷ [] → seen names more_pairs members ≡ with_implied (seen names pairs members) upper lower
+  seen_implied more_pairs is_pairs =
+      ap (λ (ps : List SortPair). seen names ps members) is_pairs
+      ∙ ap (λ (ps : List Pair). (let view : SortsView = record { names = names; pairs = ps; members = members } in view)) (named_push names [] pairs implied)

@@ -7,6 +7,7 @@ use Rattle.cc_defs.specs.declared.signature.Kind.{Kind}
 use Rattle.cc_defs.specs.declared.signature.Symbol.{Symbol}
 use Rattle.cc_defs.specs.DeclarationFaults.{is_empty, count_refusal}
 use Rattle.cc_defs.specs.Declarations.{is_action}
+use Rattle.cc_defs.specs.Refusals.{refused}
 use Rattle.cc_defs.specs.Universe.{with_none}
 use Rattle.cc_sorts.specs.declared.table.Placed.{Placed}
 use Rattle.cc_sorts.specs.SortViews.{SortsView, members_at}
@@ -41,8 +42,8 @@ abbrev pub all_instances : TableView → List Const
 all_instances table = instances_from table.sorts false 0 table.symbols ++ instances_from table.sorts true 0 table.symbols
 
 abbrev pub refusal_at : Option Placed → Refusal
-refusal_at (Some placed) = record { number = 12; file = placed.file; line = placed.line; limit = None }
-refusal_at None = record { number = 12; file = 0; line = 0; limit = None }
+refusal_at (Some placed) = refused 12 placed.file placed.line
+refusal_at None = refused 12 0 0
 
 abbrev pub first_refusal : List Placed → List Const → Option Const → Option Refusal
 first_refusal symbols instances (Some constant) = Some (refusal_at (slice_get symbols constant.symbol))

@@ -137,9 +137,9 @@ are_numbered names [] (number ∷ numbers) = false
 are_numbered names (sort ∷ sorts) [] = false
 are_numbered names (sort ∷ sorts) (number ∷ numbers) = is_numbered (number_of names sort) number && are_numbered names sorts numbers
 
-abbrev pub is_boolean_symbol : Symbol → Bool
-is_boolean_symbol symbol = is_none symbol.attribute && (is_action symbol.kind && (symbol.domain == 0))
+abbrev pub is_boolean_action_symbol : Symbol → Bool
+is_boolean_action_symbol symbol = is_none symbol.attribute && (is_action symbol.kind && (symbol.domain == 0))
 
 abbrev pub numbers_fit : TableView → Symbol → List (List ℕ) → List PlainShape → Bool
 numbers_fit table symbol sorts shapes =
-    is_boolean_symbol symbol && (are_numbered table.sorts.names sorts symbol.sorts && list_all (λ shape. are_numbered table.sorts.names shape.sorts symbol.sorts) shapes)
+    is_boolean_action_symbol symbol && (are_numbered table.sorts.names sorts symbol.sorts && list_all (λ shape. are_numbered table.sorts.names shape.sorts symbol.sorts) shapes)

@@ -24,6 +24,11 @@ table_uppers sorts name = if list_any (same_text name) sorts.names then filter (
 abbrev pub all_uppers : Left → List ℕ → List (List ℕ)
 all_uppers left name = table_uppers left.table.now.sorts name ++ new_uppers left name
 
+-- the sorts above these by the table were found
+abbrev pub AreClosed : Left → List (Bor (List ℕ)) → List (Bor (List ℕ)) → Type 0
+AreClosed left closed found =
+    (name upper : List ℕ) → is_in name closed ≡ true → list_any (same_text upper) (table_uppers left.table.now.sorts name) ≡ true → is_in upper found ≡ true
+
 -- the sort was found, only sorts above it were, and those above the first ones
 pub record IsSearched (left : Left) (lower : List ℕ) (found : List (Bor (List ℕ))) (done : ℕ) : Type 0 where
   pub from : is_in lower found ≡ true

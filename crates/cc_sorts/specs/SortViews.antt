@@ -36,6 +36,14 @@ with_pair sorts upper lower = record {
   members = changed_above sorts.pairs (name_at sorts upper) (λ list. union list (members_at sorts lower)) sorts.names sorts.members;
 }
 
+-- Behind a pair that follows from the others only that pair is new.
+abbrev pub with_implied : SortsView → ℕ → ℕ → SortsView
+with_implied sorts upper lower = record {
+  names = sorts.names;
+  pairs = (name_at sorts upper, name_at sorts lower) ∷ sorts.pairs;
+  members = sorts.members;
+}
+
 -- Behind an object's declaration its sort and those above it have it last.
 abbrev pub with_object : SortsView → ℕ → ℕ → SortsView
 with_object sorts sort object = record {

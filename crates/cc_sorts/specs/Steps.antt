@@ -10,7 +10,7 @@ use Rattle.cc_defs.specs.Trees.{PlainShape, PlainKind, PlainStatement}
 use Rattle.cc_defs.specs.Trees as trees
 use Rattle.cc_sorts.specs.declared.table.Placed.{Placed}
 use Rattle.cc_sorts.specs.Dictionaries.{number_of, names_of}
-use Rattle.cc_sorts.specs.SortViews.{SortsView, name_at, with_sort, with_pair, with_object}
+use Rattle.cc_sorts.specs.SortViews.{SortsView, name_at, with_sort, with_pair, with_implied, with_object}
 use Rattle.cc_sorts.specs.Tables.{TableView, symbol_names, has_action}
 
 -- so many entries more fit
@@ -32,13 +32,16 @@ new_sort table name None = with_sorts table (with_sort table.sorts name)
 abbrev pub put_sort : TableView → List ℕ → TableView
 put_sort table name = new_sort table name (number_of table.sorts.names name)
 
-abbrev pub new_pair : TableView → ℕ → ℕ → Bool → TableView
-new_pair table upper lower true = table
-new_pair table upper lower false = with_sorts table (with_pair table.sorts upper lower)
+-- whether the upper sort is below the lower one, and whether the lower one is below the upper one
+abbrev pub new_pair : TableView → ℕ → ℕ → Bool → Bool → TableView
+new_pair table upper lower true implied = table
+new_pair table upper lower false true = with_sorts table (with_implied table.sorts upper lower)
+new_pair table upper lower false false = with_sorts table (with_pair table.sorts upper lower)
 
 abbrev pub found_pair : TableView → Option ℕ → Option ℕ → TableView
 found_pair table (Some upper) (Some lower) =
     new_pair table upper lower (is_below table.sorts.pairs (name_at table.sorts upper) (name_at table.sorts lower))
+    (is_below table.sorts.pairs (name_at table.sorts lower) (name_at table.sorts upper))
 found_pair table (Some upper) None = table
 found_pair table None lower = table
 

@@ -5,7 +5,8 @@ use Rattle.cc_defs.specs.declared.refusal.Fault.{Fault}
 use Rattle.cc_defs.specs.declared.refusal.Fault.TheVariants as faults
 use Rattle.cc_defs.specs.declared.signature.Symbol.{Symbol}
 use Rattle.cc_defs.specs.DeclarationFaults.{is_sort, are_sorts, declaration_refusal, signature_refusal}
-use Rattle.cc_defs.specs.Declarations.{Declaration, Declared, Named, sort_names, pairs, objects, variables, constants, symbols, constant_names, members, number_in, value_sort, declarations_of, ground_fluents, ground_actions}
+use Rattle.cc_defs.specs.Declarations.{Declaration, Declared, Named, sort_names, pairs, objects, variables, constants, symbol_of, constant_names, members, number_in, value_sort, declarations_of, ground_fluents, ground_actions}
+use Rattle.cc_defs.specs.Refusals.{IsRefusedBy}
 use Rattle.cc_defs.specs.Signatures.{Signature, none_value}
 use Rattle.cc_defs.specs.Grammar.{same_text}
 use Rattle.cc_defs.specs.Trees.{PlainKind, PlainStatement}
@@ -38,10 +39,9 @@ numbered declarations named = map (λ entry. (entry.0, number_in (sort_names dec
 abbrev pub place_symbol : Symbol → Declared → Placed
 place_symbol symbol constant = record { symbol = symbol; file = constant.file; line = constant.line }
 
-abbrev pub placed_from : List Symbol → List Declared → List Placed
-placed_from [] constants = []
-placed_from symbols [] = []
-placed_from (symbol ∷ symbols) (constant ∷ constants) = place_symbol symbol constant ∷ placed_from symbols constants
+-- the symbols of constants, each with its place
+abbrev pub placed_of : List Declaration → List Declared → List Placed
+placed_of declarations constants = map (λ constant. place_symbol (symbol_of declarations constant) constant) constants
 
 -- the numbers fit, a symbol stands under its own name, and the objects of each sort ascend
 pub record Fits (sorts : SortsView) (objects variables : List Numbered) (symbols : List (List ℕ × Placed)) : Type 0 where
@@ -75,7 +75,7 @@ pub record IsTable (table : TableView) (declarations : List Declaration) : Type 
   pub members_are : table.sorts.members ≡ map (members declarations) (sort_names declarations)
   pub objects_are : table.objects ≡ numbered declarations (objects declarations)
   pub variables_are : table.variables ≡ numbered declarations (variables declarations)
-  pub symbols_are : table.symbols ≡ placed_from (symbols declarations) (constants declarations)
+  pub symbols_are : table.symbols ≡ placed_of declarations (constants declarations)
   pub known : AreKnown declarations
 
 -- the table is that of some declarations
@@ -117,6 +117,6 @@ IsSignatureOf declarations signature =
 abbrev pub IsSignatureFor : TableView → Signature → Type 0
 IsSignatureFor table signature = (declarations : List Declaration) × IsTable table declarations × IsSignatureOf declarations signature
 
+-- exactly the refusal of these declarations, or memory was wanting
 abbrev pub IsRefusedSignature : List Declaration → Fault → Type 0
-IsRefusedSignature declarations faults.OutOfMemory = Unit {0}
-IsRefusedSignature declarations (faults.Refused refusal) = signature_refusal declarations ≡ Some refusal
+IsRefusedSignature declarations = IsRefusedBy (signature_refusal declarations)

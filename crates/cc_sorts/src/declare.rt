@@ -106,6 +106,9 @@ impl Register {
         if self.sorts.below(upper, lower) {
             return Ok(());
         }
+        if self.sorts.below(lower, upper) {
+            return self.sorts.add_implied(upper, lower);
+        }
         self.sorts.put_below(alloc, upper, lower)
     }
 

@@ -1,5 +1,5 @@
 //! Laws of declarations, each the contract of a function with no body.
-ghost use Rattle.cc_sorts.specs.Laws.{BelowGoesOn, DeclaredIsKnown, NumbersArePlaces, NumbersStay};
+ghost use Rattle.cc_sorts.specs.Laws.{BelowGoesOn, BelowIsLeast, DeclaredIsKnown, NumbersArePlaces, NumbersStay};
 
 /// What a statement that is not refused names is declared, before it or by it.
 pub fn declared_is_known()
@@ -9,6 +9,11 @@ pub fn declared_is_known()
 /// A sort below another is below those above that one.
 pub fn below_goes_on()
     ensures { BelowGoesOn }
+{}
+
+/// To be the same sort or below it is the least relation that has the pairs, and is reflexive and transitive.
+pub fn below_is_least()
+    ensures { BelowIsLeast }
 {}
 
 /// The number of a name that is there is its place.

@@ -9,9 +9,9 @@ ghost use Rattle.cc_defs.specs.Grammar.{same_text};
 ghost use Rattle.cc_defs.specs.Trees.{plain_shape, plain_kind};
 ghost use Rattle.cc_sorts.specs.Declaring.{plain_declaration};
 ghost use Rattle.cc_sorts.specs.Dictionaries.{number_of};
-ghost use Rattle.cc_sorts.specs.Lefts.{IsLeft, Adds, AddsUpper, new_uppers, has_sort as table_has_sort, has_name as table_has_name, left_has_sort, left_has_name, left_has_pair, left_has_upper, table_symbol, left_constant, arguments_of, plain_constant, action_fits, shaped_fits, numbers_fit, is_boolean_kind, is_boolean_symbol, is_numbered, are_numbered};
+ghost use Rattle.cc_sorts.specs.Lefts.{IsLeft, Adds, AddsUpper, new_uppers, has_sort as table_has_sort, has_name as table_has_name, left_has_sort, left_has_name, left_has_pair, left_has_upper, table_symbol, left_constant, arguments_of, plain_constant, action_fits, shaped_fits, numbers_fit, is_boolean_kind, is_boolean_action_symbol, is_numbered, are_numbered};
 ghost use Rattle.cc_sorts.specs.Lists.{AreBelow};
-ghost use Rattle.cc_sorts.specs.Searches.{Grows, IsClosed, table_uppers, all_uppers};
+ghost use Rattle.cc_sorts.specs.Searches.{Grows, IsClosed, AreClosed, table_uppers, all_uppers};
 ghost use Rattle.cc_sorts.specs.SortViews.{name_at};
 ghost use Rattle.cc_sorts.specs.Tables.{IsTable};
 
@@ -114,11 +114,11 @@ impl<'d, 't, 's> Left<'d, 't, 's> {
         self.has_each(names.items())
     }
 
-    /// Whether the action of an attribute and its sorts were declared.
-    fn is_action(&self, action: &Shape) -> bool
-        ensures { (left : Items Declared) → IsLeft self.now left → result ≡ (are_sorts left (map (λ sort. sort.now) action.now.sorts) && is_taken left action.now.name.now) }
+    /// Whether the sort of an attribute, its action and the sorts of that one were declared.
+    fn knows_attribute(&self, sort: &str, action: &Shape) -> bool
+        ensures { (left : Items Declared) → IsLeft self.now left → result ≡ (is_sort left sort.now && (are_sorts left (map (λ sort. sort.now) action.now.sorts) && is_taken left action.now.name.now)) }
     {
-        self.are_sorts(&action.sorts) && self.is_taken(action.name)
+        self.is_sort(sort) && (self.are_sorts(&action.sorts) && self.is_taken(action.name))
     }
 
     fn has_unknown(&self, kind: &KindTree) -> bool
@@ -127,7 +127,7 @@ impl<'d, 't, 's> Left<'d, 't, 's> {
         match kind {
             KindTree::Plain(_, Some(sort)) => !self.is_sort(sort),
             KindTree::Plain(_, None) => !self.is_sort("boolean"),
-            KindTree::Attribute(sort, action) => { !(self.is_sort(sort) && self.is_action(action)) }
+            KindTree::Attribute(sort, action) => !self.knows_attribute(sort, action),
         }
     }
 
@@ -252,22 +252,49 @@ impl<'d, 't, 's> Left<'d, 't, 's> {
     {
         let mut found: IndexSet<&'a str> = IndexSet::new(alloc);
         found.insert(lower)?;
+        let mut closed: IndexSet<&'a str> = IndexSet::new(alloc);
         let mut done = 0;
         'search: while done < found.len() {
             let sort: &'a str = found[done];
-            self.add_above(sort, &mut found)?;
+            self.add_above(sort, &mut found, &mut closed)?;
             done += 1;
         }
         Ok(found)
     }
 
     /// Adds the sorts above a sort by the table, and its new upper sorts.
-    fn add_above<'a>(&'a self, sort: &str, found: &mut IndexSet<&'a str>) -> Result<(), OutOfMemory>
-        ensures { OnOk result (Grows found.old.keys found.new.keys (all_uppers self.now sort.now)) }
+    fn add_above<'a>(
+        &'a self,
+        sort: &str,
+        found: &mut IndexSet<&'a str>,
+        closed: &mut IndexSet<&'a str>,
+    ) -> Result<(), OutOfMemory>
+        requires { AreClosed self.now closed.old.keys found.old.keys }
+        ensures grown { OnOk result (Grows found.old.keys found.new.keys (all_uppers self.now sort.now)) }
+        ensures closed { OnOk result (AreClosed self.now closed.new.keys found.new.keys) }
     {
+        self.add_by_table(sort, found, closed)?;
+        self.add_new_uppers(sort, found)?;
+        Ok(())
+    }
+
+    /// Adds the sorts above a sort by the table. Those above one of these are among them, and are not asked for again.
+    fn add_by_table<'a>(
+        &'a self,
+        sort: &str,
+        found: &mut IndexSet<&'a str>,
+        closed: &mut IndexSet<&'a str>,
+    ) -> Result<(), OutOfMemory>
+        requires { AreClosed self.now closed.old.keys found.old.keys }
+        ensures grown { OnOk result (Grows found.old.keys found.new.keys (table_uppers self.now.table.now.sorts sort.now)) }
+        ensures closed { OnOk result (AreClosed self.now closed.new.keys found.new.keys) }
+    {
+        if closed.contains(sort) {
+            return Ok(());
+        }
         let table: &'a Register = self.table;
         add_table_uppers(&table.sorts, sort, found)?;
-        self.add_new_uppers(sort, found)?;
+        add_table_uppers(&table.sorts, sort, closed)?;
         Ok(())
     }
 
@@ -478,14 +505,14 @@ fn is_boolean(sort: &str) -> bool
 fn symbol_fits(table: &Register, symbol: &Symbol, shapes: &List<Shape>, action: &Shape) -> bool
     ensures { result ≡ numbers_fit table.now symbol.now (map (λ sort. sort.now) action.now.sorts) (map plain_shape shapes.now) }
 {
-    is_boolean_symbol(symbol)
+    is_boolean_action_symbol(symbol)
         && (are_numbered(table, action.sorts.items(), symbol.sorts.items())
             && have_numbers(table, shapes, symbol.sorts.items()))
 }
 
 /// Whether a symbol is an action with Boolean values, and no attribute.
-fn is_boolean_symbol(symbol: &Symbol) -> bool
-    ensures { result ≡ is_boolean_symbol symbol.now }
+fn is_boolean_action_symbol(symbol: &Symbol) -> bool
+    ensures { result ≡ is_boolean_action_symbol symbol.now }
 {
     symbol.attribute.is_none() && (matches!(symbol.kind, Kind::Action) && symbol.domain == 0)
 }

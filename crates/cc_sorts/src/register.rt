@@ -90,6 +90,29 @@ impl Register {
         }
     }
 
+    /// The name of a sort.
+    pub(crate) fn sort_name(&self, sort: u32) -> &str
+        requires { sort < length self.now.sorts.names }
+        ensures { result.now ≡ name_at self.now.sorts sort }
+    {
+        self.sorts.name(sort as usize)
+    }
+
+    /// The name of a variable.
+    pub(crate) fn variable_name(&self, variable: u32) -> &str
+        requires { variable < length self.now.variables }
+        ensures { Some result.now ≡ slice_get (names_of self.now.variables) variable }
+    {
+        self.variables.name(variable as usize)
+    }
+
+    /// How many objects there are.
+    pub(crate) fn object_count(&self) -> usize
+        ensures { result ≡ length self.now.objects }
+    {
+        self.objects.len()
+    }
+
     /// The name of an object.
     pub(crate) fn object_name(&self, object: u32) -> &str
         requires { object < length self.now.objects }

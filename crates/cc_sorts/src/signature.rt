@@ -1,12 +1,13 @@
 //! The signature of what was declared.
 ghost use Rattle.std.specs.Prelude.{◌≡◌, ◌*◌, ◌<◌, ◌≤◌, ◌++◌, ℕ, List as Items, Some, [], ◌∷◌, min, length, map, flat_map, slice_get, option_map, nat_lt, IfOk, IfErr, OnOk};
 ghost use Rattle.std.specs.List.{find, list_any};
-ghost use Rattle.cc_defs.specs.DeclarationFaults.{is_empty, passes_domain_values, limit_refusal as refusal_of_limit};
+ghost use Rattle.cc_defs.specs.DeclarationFaults.{is_empty, passes_domain_values, signature_refusal};
 ghost use Rattle.cc_defs.specs.Declarations.{Declaration as Declared};
+ghost use Rattle.cc_defs.specs.Refusals.{past, IsRefusedBy};
 ghost use Rattle.cc_defs.specs.Signatures.{AreOrdered, none_value};
 ghost use Rattle.cc_sorts.specs.Instances.{values_by, rows_by, constant_by, passes as is_passed, instances_by, instances_from, all_instances, refusal_at, refusal_by};
 ghost use Rattle.cc_sorts.specs.SortViews.{members_at, AllAscend};
-ghost use Rattle.cc_sorts.specs.Tables.{IsTable, IsSignatureOf, IsRefusedSignature};
+ghost use Rattle.cc_sorts.specs.Tables.{IsTable, IsSignatureOf};
 
 use crate::register::Register;
 use crate::table::Placed;
@@ -71,7 +72,7 @@ fn with_objects(alloc: Global, rows: &[Nums], objects: &[u32]) -> Result<Vec<Num
 
 /// The refusal of all declarations for a limit. It has no place.
 fn limit_refusal(limit: LimitAt) -> Refusal
-    ensures { result ≡ refusal_of_limit limit }
+    ensures { result ≡ past limit }
 {
     Refusal {
         number: 14,
@@ -334,7 +335,7 @@ impl Register {
     /// The ground constants of all that was declared, or their refusal: `Table::signature`.
     pub(crate) fn signature(&self, alloc: Global) -> Result<Sig, Fault>
         ensures made { (declarations : Items Declared) → IsTable self.now declarations → IfOk result (IsSignatureOf declarations) }
-        ensures refused { (declarations : Items Declared) → IsTable self.now declarations → IfErr result (IsRefusedSignature declarations) }
+        ensures refused { (declarations : Items Declared) → IsTable self.now declarations → IfErr result (IsRefusedBy (signature_refusal declarations)) }
     {
         if let Some(refusal) = self.refusal() {
             return Err(Fault::Refused(refusal));

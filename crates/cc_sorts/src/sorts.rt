@@ -1,11 +1,11 @@
 //! Sorts by number, which of them stand below which, and the objects of each.
-ghost use Rattle.std.specs.Prelude.{◌≡◌, ◌<◌, false, None, length, IfOk, OnOk, OnErr};
+ghost use Rattle.std.specs.Prelude.{◌≡◌, ◌<◌, true, false, None, length, IfOk, OnOk, OnErr};
 ghost use Rattle.std.specs.List.{list_any};
 ghost use Rattle.cc_defs.specs.DeclarationFaults.{same_pair};
 ghost use Rattle.cc_defs.specs.Declarations.{is_below, numbers_where};
 ghost use Rattle.cc_defs.specs.Grammar.{same_text};
 ghost use Rattle.cc_sorts.specs.Dictionaries.{number_of};
-ghost use Rattle.cc_sorts.specs.SortViews.{SortsView, first_sorts, name_at, members_at, with_sort, with_pair, with_object, IsPast};
+ghost use Rattle.cc_sorts.specs.SortViews.{SortsView, first_sorts, name_at, members_at, with_sort, with_pair, with_implied, with_object, IsPast};
 
 use crate::dictionary::Dictionary;
 use crate::lists::{make_room, unite_each};
@@ -178,6 +178,27 @@ impl Sorts {
         self.above.push(above)?;
         self.below.push(below)?;
         self.members.push(Vec::new(alloc))?;
+        Ok(())
+    }
+
+    /// Adds the pair of a sort that is below the other already; after want of memory nothing is changed.
+    pub(crate) fn add_implied(&mut self, upper: usize, lower: usize) -> Result<(), OutOfMemory>
+        requires upper { upper < length self.now.names }
+        requires lower { lower < length self.now.names }
+        requires apart { is_below self.now.pairs (name_at self.now upper) (name_at self.now lower) ≡ false }
+        requires implied { is_below self.now.pairs (name_at self.now lower) (name_at self.now upper) ≡ true }
+        ensures added { OnOk result (self.new ≡ with_implied self.old upper lower) }
+        ensures unchanged { OnErr result (self.new ≡ self.old) }
+    {
+        self.pairs.reserve(1)?;
+        self.known.reserve(1)?;
+        // From here on there is room for it.
+        let pair = SortPair {
+            upper: upper as u32,
+            lower: lower as u32,
+        };
+        self.pairs.push(pair)?;
+        self.known.insert(pair)?;
         Ok(())
     }
 

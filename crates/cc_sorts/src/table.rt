@@ -2,10 +2,12 @@
 ghost use Rattle.std.specs.Prelude.{◌≡◌, ◌<◌, [], List as Items, Some, length, slice_get, option_map, IfOk, IfErr, OnOk};
 ghost use Rattle.cc_defs.specs.Declarations.{is_below};
 ghost use Rattle.cc_defs.specs.Declarations.{Declaration as Declared};
+ghost use Rattle.cc_defs.specs.DeclarationFaults.{signature_refusal};
+ghost use Rattle.cc_defs.specs.Refusals.{IsRefusedBy};
 ghost use Rattle.cc_defs.specs.Trees.{plain_statement};
 ghost use Rattle.cc_sorts.specs.Dictionaries.{number_of, names_of, values_of};
 ghost use Rattle.cc_sorts.specs.SortViews.{name_at, members_at};
-ghost use Rattle.cc_sorts.specs.Tables.{symbol_names, IsTable, IsOfDeclarations, Declares, HasRefused, IsUnchangedBy, IsSignatureOf, IsSignatureFor, IsRefusedSignature};
+ghost use Rattle.cc_sorts.specs.Tables.{symbol_names, IsTable, IsOfDeclarations, Declares, HasRefused, IsUnchangedBy, IsSignatureOf, IsSignatureFor};
 
 use crate::register::Register;
 use cc_defs::{Fault, OutOfMemory, Sig, Statement, Symbol};
@@ -68,7 +70,7 @@ impl Table {
     pub fn signature(&self, alloc: Global) -> Result<Sig, Fault>
         ensures its { IfOk result (IsSignatureFor self.now) }
         ensures made { (declarations : Items Declared) → IsTable self.now declarations → IfOk result (IsSignatureOf declarations) }
-        ensures refused { (declarations : Items Declared) → IsTable self.now declarations → IfErr result (IsRefusedSignature declarations) }
+        ensures refused { (declarations : Items Declared) → IsTable self.now declarations → IfErr result (IsRefusedBy (signature_refusal declarations)) }
     {
         self.register.signature(alloc)
     }
@@ -121,6 +123,29 @@ impl Table {
         ensures { result.now ≡ members_at self.now.sorts sort }
     {
         self.register.members(sort)
+    }
+
+    /// The name of a sort.
+    pub fn sort_name(&self, sort: u32) -> &str
+        requires { sort < length self.now.sorts.names }
+        ensures { result.now ≡ name_at self.now.sorts sort }
+    {
+        self.register.sort_name(sort)
+    }
+
+    /// The name of a variable.
+    pub fn variable_name(&self, variable: u32) -> &str
+        requires { variable < length self.now.variables }
+        ensures { Some result.now ≡ slice_get (names_of self.now.variables) variable }
+    {
+        self.register.variable_name(variable)
+    }
+
+    /// How many objects there are.
+    pub fn object_count(&self) -> usize
+        ensures { result ≡ length self.now.objects }
+    {
+        self.register.object_count()
     }
 
     /// The name of an object.

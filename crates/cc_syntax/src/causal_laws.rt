@@ -2,8 +2,9 @@
 ghost use Rattle.std.specs.Prelude.{◌≡◌, drop, Option};
 ghost use Rattle.std.specs.Option.{option_map};
 ghost use Rattle.cc_defs.specs.Trees.{PlainTree, PlainLaw, plain_tree, plain_law, plain_part};
+ghost use Rattle.cc_defs.specs.Trees as trees;
 ghost use Rattle.cc_syntax.specs.Formulas.{formula_at};
-ghost use Rattle.cc_syntax.specs.Laws.{caused_at, effect_at, worded_at, acting_at, opens_formula as opening, law_at, tested_law_at};
+ghost use Rattle.cc_syntax.specs.Laws.{caused_at, effect_at, alone_at, of_term_at, worded_at, acting_at, opens_formula as opening, law_at, tested_law_at};
 ghost use Rattle.cc_syntax.specs.Readers.{optional_at};
 ghost use Rattle.cc_syntax.specs.Views.{seen, Reads};
 
@@ -19,6 +20,12 @@ use std::alloc::Global;
 #[derive(Drop)]
 struct Kept<'s> {
     formula: Tree<'s>,
+}
+
+/// A law that is kept, in the same way.
+#[derive(Drop)]
+struct KeptLaw<'s> {
+    law: LawTree<'s>,
 }
 
 /// `F if G`
@@ -108,44 +115,124 @@ fn caused<'s>(
     ))
 }
 
+/// What is behind `caused`.
+#[tactic(auto, unfolding(crate::specs::Laws::caused_at))]
+fn caused_law<'s>(
+    alloc: Global,
+    tokens: &[Token<'s>],
+    at: usize,
+) -> Result<(LawTree<'s>, usize), Stop>
+    ensures { Reads plain_law tokens.now result (caused_at trees.Caused (drop at (seen tokens.now))) }
+{
+    let (parts, next) = caused(alloc, tokens, at)?;
+    Ok((
+        LawTree::Caused(parts.formula, parts.condition, parts.before),
+        next,
+    ))
+}
+
+/// What is behind `constraint`.
+#[tactic(auto, unfolding(crate::specs::Laws::alone_at))]
+fn constraint<'s>(
+    alloc: Global,
+    tokens: &[Token<'s>],
+    at: usize,
+) -> Result<(LawTree<'s>, usize), Stop>
+    ensures { Reads plain_law tokens.now result (alone_at trees.Constraint (drop at (seen tokens.now))) }
+{
+    let (formula, next) = formula(alloc, tokens, at)?;
+    Ok((LawTree::Constraint(formula), next))
+}
+
+/// What is behind `always`.
+#[tactic(auto, unfolding(crate::specs::Laws::alone_at))]
+fn always<'s>(alloc: Global, tokens: &[Token<'s>], at: usize) -> Result<(LawTree<'s>, usize), Stop>
+    ensures { Reads plain_law tokens.now result (alone_at trees.Always (drop at (seen tokens.now))) }
+{
+    let (formula, next) = formula(alloc, tokens, at)?;
+    Ok((LawTree::Always(formula), next))
+}
+
+/// What is behind `nonexecutable`.
+#[tactic(auto, unfolding(crate::specs::Laws::effect_at))]
+fn nonexecutable<'s>(
+    alloc: Global,
+    tokens: &[Token<'s>],
+    at: usize,
+) -> Result<(LawTree<'s>, usize), Stop>
+    ensures { Reads plain_law tokens.now result (effect_at trees.Nonexecutable (drop at (seen tokens.now))) }
+{
+    let (parts, next) = effect(alloc, tokens, at)?;
+    Ok((LawTree::Nonexecutable(parts.formula, parts.condition), next))
+}
+
+/// What is behind `default`.
+#[tactic(auto, unfolding(crate::specs::Laws::caused_at))]
+fn default_law<'s>(
+    alloc: Global,
+    tokens: &[Token<'s>],
+    at: usize,
+) -> Result<(LawTree<'s>, usize), Stop>
+    ensures { Reads plain_law tokens.now result (caused_at trees.Default (drop at (seen tokens.now))) }
+{
+    let (parts, next) = caused(alloc, tokens, at)?;
+    Ok((
+        LawTree::Default(parts.formula, parts.condition, parts.before),
+        next,
+    ))
+}
+
+/// What is behind `exogenous`.
+#[tactic(auto, unfolding(crate::specs::Laws::of_term_at))]
+fn exogenous<'s>(
+    alloc: Global,
+    tokens: &[Token<'s>],
+    at: usize,
+) -> Result<(LawTree<'s>, usize), Stop>
+    ensures { Reads plain_law tokens.now result (of_term_at trees.Exogenous (drop at (seen tokens.now))) }
+{
+    let (constant, next) = term(alloc, tokens, at)?;
+    Ok((LawTree::Exogenous(constant), next))
+}
+
+/// What is behind `inertial`.
+#[tactic(auto, unfolding(crate::specs::Laws::of_term_at))]
+fn inertial<'s>(
+    alloc: Global,
+    tokens: &[Token<'s>],
+    at: usize,
+) -> Result<(LawTree<'s>, usize), Stop>
+    ensures { Reads plain_law tokens.now result (of_term_at trees.Inertial (drop at (seen tokens.now))) }
+{
+    let (constant, next) = term(alloc, tokens, at)?;
+    Ok((LawTree::Inertial(constant), next))
+}
+
 /// A law that begins with its word.
-#[tactic(auto, unfolding(crate::specs::Laws::worded_at, crate::specs::Laws::alone_at, crate::specs::Laws::of_term_at))]
+#[tactic(auto, unfolding(crate::specs::Laws::worded_at))]
 fn worded<'s>(alloc: Global, tokens: &[Token<'s>], at: usize) -> Result<(LawTree<'s>, usize), Stop>
     ensures { Reads plain_law tokens.now result (worded_at (drop at (seen tokens.now))) }
 {
     if let Ok(next) = word(tokens, at, "caused") {
-        let (parts, next) = caused(alloc, tokens, next)?;
-        return Ok((
-            LawTree::Caused(parts.formula, parts.condition, parts.before),
-            next,
-        ));
+        return caused_law(alloc, tokens, next);
     }
     if let Ok(next) = word(tokens, at, "constraint") {
-        let (formula, next) = formula(alloc, tokens, next)?;
-        return Ok((LawTree::Constraint(formula), next));
+        return constraint(alloc, tokens, next);
     }
     if let Ok(next) = word(tokens, at, "always") {
-        let (formula, next) = formula(alloc, tokens, next)?;
-        return Ok((LawTree::Always(formula), next));
+        return always(alloc, tokens, next);
     }
     if let Ok(next) = word(tokens, at, "nonexecutable") {
-        let (parts, next) = effect(alloc, tokens, next)?;
-        return Ok((LawTree::Nonexecutable(parts.formula, parts.condition), next));
+        return nonexecutable(alloc, tokens, next);
     }
     if let Ok(next) = word(tokens, at, "default") {
-        let (parts, next) = caused(alloc, tokens, next)?;
-        return Ok((
-            LawTree::Default(parts.formula, parts.condition, parts.before),
-            next,
-        ));
+        return default_law(alloc, tokens, next);
     }
     if let Ok(next) = word(tokens, at, "exogenous") {
-        let (constant, next) = term(alloc, tokens, next)?;
-        return Ok((LawTree::Exogenous(constant), next));
+        return exogenous(alloc, tokens, next);
     }
     let next = word(tokens, at, "inertial")?;
-    let (constant, next) = term(alloc, tokens, next)?;
-    Ok((LawTree::Inertial(constant), next))
+    inertial(alloc, tokens, next)
 }
 
 /// A law that begins with a formula.
@@ -194,6 +281,18 @@ fn law<'s>(alloc: Global, tokens: &[Token<'s>], at: usize) -> Result<(LawTree<'s
     worded(alloc, tokens, at)
 }
 
+/// A law that is kept.
+fn read_law<'s>(
+    alloc: Global,
+    tokens: &[Token<'s>],
+    at: usize,
+) -> Result<(KeptLaw<'s>, usize), Stop>
+    ensures { Reads (λ read. plain_law read.law) tokens.now result (law_at (drop at (seen tokens.now))) }
+{
+    let (law, next) = law(alloc, tokens, at)?;
+    Ok((KeptLaw { law }, next))
+}
+
 /// A law with its test.
 #[tactic(auto, unfolding(crate::specs::Laws::tested_law_at))]
 pub(crate) fn tested_law<'s>(
@@ -206,7 +305,7 @@ pub(crate) fn tested_law<'s>(
     if let Ok(next) = word(tokens, at, "noconcurrency") {
         return Ok((Part::Law(LawTree::NoConcurrency, None), next));
     }
-    let (law, next) = law(alloc, tokens, at)?;
+    let (kept, next) = read_law(alloc, tokens, at)?;
     let (test, next) = optional(alloc, tokens, next, "where")?;
-    Ok((Part::Law(law, test), next))
+    Ok((Part::Law(kept.law, test), next))
 }

@@ -8,7 +8,10 @@ ghost use Rattle.cc_defs.specs.Grammar.{same_text, terminal, Spells};
 ghost use Rattle.cc_defs.specs.Statements.{IsParsed, begins_directive, is_query as IsQuery, token_limit as limit_of, is_not_yet_in_query as IsNotYetInQuery, is_not_yet as IsNotYet, has_not_yet as HasNotYet, refusal_at};
 ghost use Rattle.cc_defs.specs.Tokens.{AreTokens};
 ghost use Rattle.cc_defs.specs.Trees.{PlainPart, PlainStatement, plain_part, plain_statement};
-ghost use Rattle.cc_syntax.specs.Parsing.{HasRefused, directive_at, part_at, nothing_left, statement_at};
+ghost use Rattle.cc_defs.specs.Trees as trees;
+ghost use Rattle.cc_syntax.specs.Declarations.{sort_item_at, list_item_at, const_item_at};
+ghost use Rattle.cc_syntax.specs.Parsing.{HasRefused, items_at, include_at, directive_at, part_at, nothing_left, statement_at};
+ghost use Rattle.cc_syntax.specs.Queries.{query_item_at};
 ghost use Rattle.cc_syntax.specs.Readers.{given, sign_at};
 ghost use Rattle.cc_syntax.specs.Views.{seen, Reads};
 ghost use Rattle.cc_syntax.specs.declared.stop.Stop.TheVariants as stops;
@@ -22,6 +25,56 @@ use crate::tokens::{quoted, sign, token_at, word};
 use cc_defs::{Fault, LimitAt, List, Mark, Part, Refusal, Statement, Token, TokenKind};
 use std::alloc::Global;
 
+/// The items behind `sorts`.
+fn sorts<'s>(alloc: Global, tokens: &[Token<'s>], at: usize) -> Result<(Part<'s>, usize), Stop>
+    ensures { Reads plain_part tokens.now result (items_at trees.Sorts sort_item_at (drop at (seen tokens.now))) }
+{
+    let (items, next) = sort_items(alloc, tokens, at)?;
+    Ok((Part::Sorts(List::of(items)), next))
+}
+
+/// The items behind `objects`.
+fn objects<'s>(alloc: Global, tokens: &[Token<'s>], at: usize) -> Result<(Part<'s>, usize), Stop>
+    ensures { Reads plain_part tokens.now result (items_at trees.Objects list_item_at (drop at (seen tokens.now))) }
+{
+    let (items, next) = list_items(alloc, tokens, at)?;
+    Ok((Part::Objects(List::of(items)), next))
+}
+
+/// The items behind `variables`.
+fn variables<'s>(alloc: Global, tokens: &[Token<'s>], at: usize) -> Result<(Part<'s>, usize), Stop>
+    ensures { Reads plain_part tokens.now result (items_at trees.Variables list_item_at (drop at (seen tokens.now))) }
+{
+    let (items, next) = list_items(alloc, tokens, at)?;
+    Ok((Part::Variables(List::of(items)), next))
+}
+
+/// The items behind `constants`.
+fn constants<'s>(alloc: Global, tokens: &[Token<'s>], at: usize) -> Result<(Part<'s>, usize), Stop>
+    ensures { Reads plain_part tokens.now result (items_at trees.Constants const_item_at (drop at (seen tokens.now))) }
+{
+    let (items, next) = const_items(alloc, tokens, at)?;
+    Ok((Part::Constants(List::of(items)), next))
+}
+
+/// The items behind `query`.
+fn query<'s>(alloc: Global, tokens: &[Token<'s>], at: usize) -> Result<(Part<'s>, usize), Stop>
+    requires { AreTokens (token_views tokens.now) }
+    ensures { Reads plain_part tokens.now result (items_at trees.Query query_item_at (drop at (seen tokens.now))) }
+{
+    let (items, next) = query_items(alloc, tokens, at)?;
+    Ok((Part::Query(List::of(items)), next))
+}
+
+/// The name of the file behind `include`.
+fn include<'s>(tokens: &[Token<'s>], at: usize) -> Result<(Part<'s>, usize), Stop>
+    requires { AreTokens (token_views tokens.now) }
+    ensures { Reads plain_part tokens.now result (include_at (drop at (seen tokens.now))) }
+{
+    let (file, next) = quoted(tokens, at)?;
+    Ok((Part::Include(file), next))
+}
+
 /// What a directive says, behind its `:-`.
 #[tactic(auto, unfolding(crate::specs::Parsing::directive_at))]
 fn directive<'s>(alloc: Global, tokens: &[Token<'s>], at: usize) -> Result<(Part<'s>, usize), Stop>
@@ -29,28 +82,22 @@ fn directive<'s>(alloc: Global, tokens: &[Token<'s>], at: usize) -> Result<(Part
     ensures { Reads plain_part tokens.now result (directive_at (drop at (seen tokens.now))) }
 {
     if let Ok(next) = word(tokens, at, "sorts") {
-        let (items, next) = sort_items(alloc, tokens, next)?;
-        return Ok((Part::Sorts(List::of(items)), next));
+        return sorts(alloc, tokens, next);
     }
     if let Ok(next) = word(tokens, at, "objects") {
-        let (items, next) = list_items(alloc, tokens, next)?;
-        return Ok((Part::Objects(List::of(items)), next));
+        return objects(alloc, tokens, next);
     }
     if let Ok(next) = word(tokens, at, "variables") {
-        let (items, next) = list_items(alloc, tokens, next)?;
-        return Ok((Part::Variables(List::of(items)), next));
+        return variables(alloc, tokens, next);
     }
     if let Ok(next) = word(tokens, at, "constants") {
-        let (items, next) = const_items(alloc, tokens, next)?;
-        return Ok((Part::Constants(List::of(items)), next));
+        return constants(alloc, tokens, next);
     }
     if let Ok(next) = word(tokens, at, "query") {
-        let (items, next) = query_items(alloc, tokens, next)?;
-        return Ok((Part::Query(List::of(items)), next));
+        return query(alloc, tokens, next);
     }
     let next = word(tokens, at, "include")?;
-    let (file, next) = quoted(tokens, next)?;
-    Ok((Part::Include(file), next))
+    include(tokens, next)
 }
 
 /// What a statement says, before its dot.
@@ -196,11 +243,9 @@ pub fn parse<'s>(alloc: Global, file: u32, tokens: &[Token<'s>]) -> Result<State
     if has_not_yet(tokens) {
         return Err(refusal(13, file, None, tokens));
     }
+    let line = tokens[0].line;
     match whole(alloc, tokens) {
-        Ok(part) => Ok(Statement {
-            part,
-            line: tokens[0].line,
-        }),
+        Ok(part) => Ok(Statement { part, line }),
         Err(Stop::NoTree) => Err(refusal(3, file, None, tokens)),
         Err(Stop::OutOfMemory) => Err(Fault::OutOfMemory),
     }

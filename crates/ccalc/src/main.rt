@@ -1,6 +1,9 @@
 //! The causal calculator: reads a description of actions and change, and lists its histories.
 #![tactic(auto)]
 
+#[cfg(test)]
+mod tests;
+
 pub use cc_describe::{DescribeStop, Described, describe};
 use cc_ports::RealDesk;
 pub use cc_run::{Status, run, run_still};

@@ -18,8 +18,7 @@ returns c d signature is horizon =
     (subst (λ (actions : List Const). (length (sizes_at d horizon) ≡ length d.universe.fluents * (horizon + 1) + length actions * horizon)
     × ((p : ℕ) → p < length d.universe.fluents * (horizon + 1) + length actions * horizon →
     slice_get (sizes_at d horizon) p ≡ option_map size (slice_get (d.universe.fluents ++ actions) (p % length (d.universe.fluents ++ actions)))))
-    (sym is.actions)
-    (
+    (sym is.actions) (
       ap length (same_sizes d horizon) ∙ count_is d.universe.fluents d.universe.actions horizon,
       λ p less. ap (λ (l : List ℕ). slice_get l p) (same_sizes d horizon) ∙ sizes_are d.universe.fluents d.universe.actions horizon p less,
     ))

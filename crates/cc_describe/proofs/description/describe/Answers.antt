@@ -1,6 +1,6 @@
 use Rattle.std.proofs.Common.{ap, [], Err}
 use Rattle.cc_describe.proofs.Walk.{untouched}
-use Rattle.cc_describe.proofs.AsDescribed.{has_signature, is_described, is_refused_whole, is_refused, fault_told}
+use Rattle.cc_describe.proofs.AsDescribed.{fault_told, is_described, is_refused, is_refused_whole, of_some, of_some_whole, says_all, says_formulas, says_forms}
 use Rattle.cc_describe.proofs.description.describe.Goals as goal
 
 pub returns-in-Err-clause-after : goal.returns-in-Err-clause-after
@@ -25,7 +25,24 @@ pub returns-in-Err-read_file-clause-failed : goal.returns-in-Err-read_file-claus
 returns-in-Err-read_file-clause-failed g c is =
     c.in-Err-read_file.ensures.failed (ap Err (fault_told c.deref.result.now c.in-Err-read_file.halt c.stop_of.result c.stop_of.ensures is))
 
-pub returns-in-Ok-read_file-clause-signature : goal.returns-in-Ok-read_file-clause-signature
-returns-in-Ok-read_file-clause-signature g c =
-    let places = c.in-Ok-read_file.ensures.kept [] c.in-Ok.ensures.begun in
-    has_signature c.finish.result places.0 (c.finish.ensures.described places.0 places.1)
+pub returns-in-Ok-read_file-clause-whole : goal.returns-in-Ok-read_file-clause-whole
+returns-in-Ok-read_file-clause-whole g c =
+    says_all c.read_file.new.progress c.in-Ok-read_file.field-0 c.finish.result (c.in-Ok-read_file.ensures.kept [] c.in-Ok.ensures.begun) c.finish.ensures.described
+
+pub returns-in-Ok-read_file-clause-stopped : goal.returns-in-Ok-read_file-clause-stopped
+returns-in-Ok-read_file-clause-stopped g c =
+    of_some_whole c.read_file.new.progress c.in-Ok-read_file.field-0 c.finish.result (c.in-Ok-read_file.ensures.kept [] c.in-Ok.ensures.begun) c.finish.ensures.refused
+
+pub returns-in-Ok-read_file-clause-forms : goal.returns-in-Ok-read_file-clause-forms
+returns-in-Ok-read_file-clause-forms g c =
+    says_forms c.laws_have_forms.ensures c.constants_have_forms.ensures c.read_file.new.progress c.in-Ok-read_file.field-0 c.finish.result
+    (c.in-Ok-read_file.ensures.kept [] c.in-Ok.ensures.begun) c.finish.ensures.described
+
+pub returns-in-Ok-read_file-clause-formulas : goal.returns-in-Ok-read_file-clause-formulas
+returns-in-Ok-read_file-clause-formulas g c =
+    says_formulas c.queries_have_formulas.ensures c.read_file.new.progress c.in-Ok-read_file.field-0 c.finish.result
+    (c.in-Ok-read_file.ensures.kept [] c.in-Ok.ensures.begun) c.finish.ensures.described
+
+pub returns-in-Err-read_file-clause-stopped : goal.returns-in-Err-read_file-clause-stopped
+returns-in-Err-read_file-clause-stopped g c =
+    of_some c.deref.result.now c.read_file.new.progress c.in-Err-read_file.halt c.stop_of.result (c.in-Err-read_file.ensures.kept [] c.in-Ok.ensures.begun) c.deref.ensures.value c.stop_of.ensures

@@ -2,8 +2,10 @@ use Rattle.std.proofs.Common.{ℕ, List, ◌+◌, ◌<◌, ◌≤◌, ◌≡◌,
 use Rattle.std.specs.Option.{option_copied}
 use Rattle.cc_ports.specs.Contents.{with_rest}
 use Rattle.cc_text.specs.Views.{token_views, cut_at}
-use Rattle.cc_describe.specs.Places.{AreThere}
-use Rattle.cc_describe.proofs.Walk.{AreInside, Kept, Midway, up_to, progress_left, opening_stops, text_stops, told_as, no_fault, finds, finds_as, has_read, taken_as, refused_as, touched_again, tells_still, midway_begins, midway_goes, midway_ends, midway_stops, statement_refused, statement_alone, statement_reads, statement_ends}
+use Rattle.cc_describe.specs.Places.{AreThere, Place}
+use Rattle.cc_describe.specs.ProgressViews.{IsProgress, halt_of}
+use Rattle.cc_describe.proofs.SomePlaces.{Gone, barred_goes, opened_goes, opening_goes, refused_goes, said_goes, then_goes}
+use Rattle.cc_describe.proofs.Walk.{AreInside, Midway, up_to, progress_left, opening_stops, text_stops, told_as, no_fault, finds, finds_as, has_read, taken_as, refused_as, touched_again, tells_still, midway_begins, midway_goes, midway_ends, midway_stops, statement_refused, statement_alone, statement_reads, statement_ends}
 use Rattle.cc_describe.proofs.files.+read_file.Goals.{in-Some+then-deep-gt0+in_ok-read_file-in-Some, in-Some+else-deep-gt0, in-None}
 use Rattle.cc_describe.proofs.files.+read_file.Goals as goal
 
@@ -25,7 +27,7 @@ loop-i-init g t c = record {
   gone = λ contents before told was.
       let opened = c.in_ok-bytes.ensures.opened contents before told was in
       midway_begins {around = c.args.progress.now.around.items ++ c.args.name.now ∷ []} {statements = cut_at 0 c.tokens.inside.ends.items (token_views c.tokens.inside.tokens.items)} opened.0 opened.1 opened.2;
-  kept = λ before was. c.in_ok-bytes.ensures.kept before was;
+  kept = λ before was. opened_goes before c.args.name.now c.in_ok-bytes.bytes _ (c.in_ok-bytes.ensures.kept before was);
   there = λ contents told are. c.in_ok-bytes.ensures.there contents told are;
   told = c.open.ensures.after;
   begun = c.open.ensures.begun;
@@ -93,6 +95,9 @@ loop-i-preserved g t c =
     let tokens_are : token_views c.statement.result.now ≡ tokens = c.statement.ensures.tokens ∙ ap (λ s. slice_index_or s c.loop-i.i []) (sym c.tokens.view_is) in
     let after = c.loop-i.invariant.told in
     let taken_around : c.take.new.self.around.items ≡ around = ap (λ a. a.items) c.in_ok-included.ensures.around ∙ c.loop-i.invariant.around in
+    let went : (before : List Place) → IsProgress c.args.progress.now before → Gone before c.take.new.self =
+    λ before was. then_goes before c.loop-i.progress c.take.new.self (Ok (tt {0})) (c.loop-i.invariant.kept before was)
+    (λ more kept. let taken = c.in_ok-included.ensures.taken more kept in said_goes more file c.loop-i.progress.around.items taken.0 c.take.new.self taken.3) in
     elim c.match-branch-3.branch [
       | in-Some+then-deep-gt0+in_ok-read_file-in-Some w ↦
           let read = w.in_ok-read_file-in-Some.ensures in
@@ -109,8 +114,7 @@ loop-i-preserved g t c =
                 tokens_are (ap option_copied w.in-Some.is) (c.in_ok-included.ensures.taken mid m.kept))
                 (λ more kept. read.gone (with_rest after.0 contents) more (tells_still after.0 _ _ contents after.1 told) kept)));
             kept = λ before was.
-                let was_kept = c.loop-i.invariant.kept before was in
-                subst Kept (sym w.progress-is) (read.kept _ (c.in_ok-included.ensures.taken was_kept.0 was_kept.1).3.taken);
+                subst (Gone before) (sym w.progress-is) (then_goes before c.take.new.self w.read_file.new.progress (Ok (tt {0})) (went before was) read.kept);
             there = λ contents told are.
                 subst (λ p. AreThere contents.files p.names.items) (sym w.progress-is)
                 (read.there (with_rest after.0 contents) (tells_still after.0 _ _ contents after.1 told)
@@ -132,8 +136,7 @@ loop-i-preserved g t c =
                 (taken_as mid file _ around _ tokens _ (Some w.in-Some.included.now) c.take.new.self c.loop-i.invariant.around
                 tokens_are (ap option_copied w.in-Some.is) (c.in_ok-included.ensures.taken mid m.kept))));
             kept = λ before was.
-                let was_kept = c.loop-i.invariant.kept before was in
-                subst Kept (sym w.progress-is) (_, (c.in_ok-included.ensures.taken was_kept.0 was_kept.1).3.taken);
+                subst (Gone before) (sym w.progress-is) (went before was);
             there = λ contents told are.
                 subst (λ p. AreThere contents.files p.names.items) (sym w.progress-is)
                 (subst (λ l. AreThere contents.files l.items) (sym c.in_ok-included.ensures.names) (c.loop-i.invariant.there contents told are));
@@ -154,8 +157,7 @@ loop-i-preserved g t c =
                 (taken_as mid file _ around _ tokens _ None c.take.new.self c.loop-i.invariant.around
                 tokens_are (ap option_copied w.in-None.is) (c.in_ok-included.ensures.taken mid m.kept))));
             kept = λ before was.
-                let was_kept = c.loop-i.invariant.kept before was in
-                subst Kept (sym w.progress-is) (_, (c.in_ok-included.ensures.taken was_kept.0 was_kept.1).3.taken);
+                subst (Gone before) (sym w.progress-is) (went before was);
             there = λ contents told are.
                 subst (λ p. AreThere contents.files p.names.items) (sym w.progress-is)
                 (subst (λ l. AreThere contents.files l.items) (sym c.in_ok-included.ensures.names) (c.loop-i.invariant.there contents told are));
@@ -168,8 +170,31 @@ loop-i-preserved g t c =
 
 pub returns-clause-kept : goal.returns-clause-kept
 returns-clause-kept g t c before was =
-    let was_kept = c.loop-i.invariant.kept before was in
-    (was_kept.0, progress_left was_kept.0 _ c.leave.new.self was_kept.1 c.leave.ensures.rest)
+    let went = c.loop-i.invariant.kept before was in
+    (went.0, tt, went.2, progress_left (before ++ went.0) _ c.leave.new.self went.3 c.leave.ensures.rest)
+
+pub returns-in_err-bytes-clause-kept : goal.returns-in_err-bytes-clause-kept
+returns-in_err-bytes-clause-kept g t c before was =
+    let stopped = c.in_err-bytes.ensures.stopped before was in
+    told_as (λ places. Unit {0}) before c.from_residual.result _ _ c.from_residual.ensures.1 (opening_goes before c.args.name.now stopped.0 _ c.open.new.progress stopped.1)
+
+pub returns-in-Err-clause-kept : goal.returns-in-Err-clause-kept
+returns-in-Err-clause-kept g t c before was =
+    then_goes before c.open.new.progress c.open.new.progress (Err c.from.result) (opened_goes before c.args.name.now c.in_ok-bytes.bytes _ (c.in_ok-bytes.ensures.kept before was))
+    (λ more kept. barred_goes more c.in-Err.fault c.from.result c.open.new.progress c.from.ensures kept)
+
+pub returns-in_err-included-clause-kept : goal.returns-in_err-included-clause-kept
+returns-in_err-included-clause-kept g t c before was =
+    told_as (λ places. Unit {0}) before c.from_residual-in_err-included.result _ _ c.from_residual-in_err-included.ensures.1
+    (then_goes before c.loop-i.progress c.take.new.self (Err (halt_of c.in_err-included.field-0.0)) (c.loop-i.invariant.kept before was)
+    (λ more kept. refused_goes more c.in_ok-bytes.file c.loop-i.progress.around.items (token_views c.statement.result.now) c.in_err-included.field-0.0 c.loop-i.progress c.take.new.self kept c.in_err-included.ensures.names (c.in_err-included.ensures.refused more kept)))
+
+pub returns-in_err-read_file-in-Some-clause-kept : goal.returns-in_err-read_file-in-Some-clause-kept
+returns-in_err-read_file-in-Some-clause-kept g t c before was =
+    let went : Gone before c.take.new.self = then_goes before c.loop-i.progress c.take.new.self (Ok (tt {0})) (c.loop-i.invariant.kept before was)
+    (λ more kept. let taken = c.in_ok-included.ensures.taken more kept in said_goes more c.in_ok-bytes.file c.loop-i.progress.around.items taken.0 c.take.new.self taken.3) in
+    told_as (λ places. Unit {0}) before c.from_residual-in_err-read_file-in-Some.result _ _ c.from_residual-in_err-read_file-in-Some.ensures.1
+    (then_goes before c.take.new.self c.read_file.new.progress (Err c.in_err-read_file-in-Some.field-0.0) went c.in_err-read_file-in-Some.ensures.kept)
 
 pub returns-in_err-bytes-clause-there : goal.returns-in_err-bytes-clause-there
 returns-in_err-bytes-clause-there g t c contents told are =

@@ -1,6 +1,7 @@
-use Rattle.std.proofs.Common.{ℕ, List, ◌++◌, ◌∷◌, [], arith, ap, ◌∙◌, length, Ok, subst, sym}
-use Rattle.cc_describe.specs.Places.{Opened, AreThere}
+use Rattle.std.proofs.Common.{ℕ, List, arith, ap, ◌∙◌, length, Ok, subst, sym}
+use Rattle.cc_describe.specs.Places.{AreThere}
 use Rattle.cc_describe.proofs.Walk.{untouched, content_is, is_opened, there_too, read_there, finds}
+use Rattle.cc_describe.proofs.SomePlaces.{too_long}
 use Rattle.cc_describe.proofs.files.open.Goals as goal
 
 pub returns-in_err-file-clause-after : goal.returns-in_err-file-clause-after
@@ -17,11 +18,9 @@ returns-clause-opened g c contents before told was =
 
 pub returns-clause-kept : goal.returns-clause-kept
 returns-clause-kept g c before was =
-    let read = c.in-Ok.ensures in (
-      before ++ Opened c.args.name.now c.in-Ok.bytes ∷ [],
-      (is_opened before c.args.name.now c.in-Ok.bytes c.args.progress.now c.enter.new.self c.count.new.self (length c.items.result.now) was
-          c.in_ok-file.ensures.names c.in_ok-file.ensures.rest (ap length c.items.ensures) (omega (arith, read.within)) c.in_ok-count.ensures.counted c.in_ok-count.ensures.rest).opened,
-    )
+    let read = c.in-Ok.ensures in
+    is_opened before c.args.name.now c.in-Ok.bytes c.args.progress.now c.enter.new.self c.count.new.self (length c.items.result.now) was
+    c.in_ok-file.ensures.names c.in_ok-file.ensures.rest (ap length c.items.ensures) (omega (arith, read.within)) c.in_ok-count.ensures.counted c.in_ok-count.ensures.rest
 
 pub returns-clause-there : goal.returns-clause-there
 returns-clause-there g c contents told are =
@@ -29,3 +28,8 @@ returns-clause-there g c contents told are =
     (subst (λ p. AreThere contents.files p.names.items) (sym c.in_ok-count.ensures.rest)
     (subst (AreThere contents.files) (sym c.in_ok-file.ensures.names)
     (there_too contents.files c.args.progress.now.names.items c.args.name.now are (read_there _ contents c.args.name.now c.in-Ok.bytes told c.in-Ok.ensures.bytes))))
+
+pub returns-in-Err-Limit-clause-stopped : goal.returns-in-Err-Limit-clause-stopped
+returns-in-Err-Limit-clause-stopped g c before was =
+    too_long before c.args.name.now c.in_ok-file.file c.past.result c.from.result c.args.progress.now c.enter.new.self was
+    c.in_ok-file.ensures.number c.in_ok-file.ensures.names c.past.ensures c.from.ensures

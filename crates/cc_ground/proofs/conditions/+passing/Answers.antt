@@ -1,4 +1,4 @@
-use Rattle.std.proofs.Common.{◌≡◌, ◌∙◌, ◌∷◌, ◌++◌, [], IfOk, get_or, ap, rules, subst, sym}
+use Rattle.std.proofs.Common.{◌≡◌, ◌∙◌, IfOk, ap, rules, subst, sym}
 use Rattle.std.specs.List.{list_all, list_any}
 use Rattle.cc_defs.specs.Resolved.{plain_formula}
 use Rattle.cc_defs.specs.Satisfaction.{bind}
@@ -27,7 +27,7 @@ each_passes-returns-then-not-passed-clause-passed t c = λ signature.
     let test = plain_formula c.args.formula.now in
     all_stop (λ object. passes_in u test (bind c.args.variable object (environment_of c.args.env.now))) c.objects_of-object-items.result.now c.loop-object.object-index c.in_ok-passed.passed c.loop-object-test.true
     (passed_here u test (environment_of c.args.env.now) (environment_of c.loop-object.env) (environment_of c.bind.new.self) c.args.variable _ c.in_ok-passed.passed (c.in_ok-passed.ensures.passed signature)
-      c.in_ok-bind.ensures.binds (ap environment_of c.loop-object.invariant.env))
+    c.in_ok-bind.ensures.binds (ap environment_of c.loop-object.invariant.env))
     c.if-not-passed.true (c.loop-object.invariant.rest signature)
     ∙ ap (list_all (λ object. passes_in u test (bind c.args.variable object (environment_of c.args.env.now)))) c.objects_of-object-items.ensures
 
@@ -57,7 +57,7 @@ some_passes-returns-then-passed-clause-passed t c = λ signature.
     let test = plain_formula c.args.formula.now in
     any_stop (λ object. passes_in u test (bind c.args.variable object (environment_of c.args.env.now))) c.objects_of-object-items.result.now c.loop-object.object-index c.in_ok-passed.passed c.loop-object-test.true
     (passed_here u test (environment_of c.args.env.now) (environment_of c.loop-object.env) (environment_of c.bind.new.self) c.args.variable _ c.in_ok-passed.passed (c.in_ok-passed.ensures.passed signature)
-      c.in_ok-bind.ensures.binds (ap environment_of c.loop-object.invariant.env))
+    c.in_ok-bind.ensures.binds (ap environment_of c.loop-object.invariant.env))
     c.if-passed.true (c.loop-object.invariant.rest signature)
     ∙ ap (list_any (λ object. passes_in u test (bind c.args.variable object (environment_of c.args.env.now)))) c.objects_of-object-items.ensures
 

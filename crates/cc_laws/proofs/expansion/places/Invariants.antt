@@ -1,6 +1,6 @@
 use Rattle.std.proofs.Common.{◌≡◌, drop}
 use Rattle.cc_laws.specs.Expansion.{places}
-use Rattle.cc_laws.specs.TermLists.{row_terms}
+use Rattle.cc_laws.specs.Views.{row_terms}
 use Rattle.cc_laws.proofs.TermRows.{behind}
 use Rattle.cc_laws.proofs.expansion.places.Given as goal
 

@@ -1,4 +1,4 @@
-use Rattle.cc_laws.specs.Meanings.{plain_meaning}
+use Rattle.cc_laws.specs.Views.{plain_meaning}
 use Rattle.cc_laws.specs.Vocabulary.{vocabulary_of}
 use Rattle.cc_laws.proofs.Fitted.{means_name}
 use Rattle.cc_laws.proofs.meaning.meaning_of_term.Goals as goal

@@ -1,5 +1,5 @@
 use Rattle.std.proofs.Common.{◌∙◌}
-use Rattle.cc_laws.specs.Meanings.{plain_meaning}
+use Rattle.cc_laws.specs.Views.{plain_meaning}
 use Rattle.cc_laws.specs.Vocabulary.{vocabulary_of}
 use Rattle.cc_laws.proofs.Fitted.{misfits_by_parts}
 use Rattle.cc_laws.proofs.misfits.term_misfits.Goals as goal

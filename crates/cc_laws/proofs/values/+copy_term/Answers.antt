@@ -1,5 +1,5 @@
 use Rattle.std.proofs.Common.{◌∙◌, ap}
-use Rattle.cc_laws.specs.TermLists.{row_terms}
+use Rattle.cc_laws.specs.Views.{row_terms}
 use Rattle.cc_laws.proofs.Copies.{copied_more, copied_all, constant_copied}
 use Rattle.cc_laws.proofs.values.+copy_term.Goals as goal
 

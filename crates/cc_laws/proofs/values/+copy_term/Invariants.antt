@@ -1,5 +1,5 @@
 use Rattle.std.proofs.Common.{◌≡◌, drop}
-use Rattle.cc_laws.specs.TermLists.{row_terms}
+use Rattle.cc_laws.specs.Views.{row_terms}
 use Rattle.cc_laws.proofs.TermRows.{behind}
 use Rattle.cc_laws.proofs.values.+copy_term.Given as goal
 

@@ -2,7 +2,7 @@ use Rattle.std.proofs.Common.{◌∙◌, ap}
 use Rattle.std.specs.Option.{option_map}
 use Rattle.cc_defs.specs.Resolved.{plain_formula}
 use Rattle.cc_laws.specs.Expansion.{body_of, after_of}
-use Rattle.cc_laws.specs.Expanding.{persistence_of}
+use Rattle.cc_laws.specs.Views.{persistence_of, scope_of}
 use Rattle.cc_laws.specs.Vocabulary.{vocabulary_of}
 use Rattle.cc_laws.proofs.Valued.{value_made, equal_to}
 use Rattle.cc_laws.proofs.values.value_law.Goals as goal
@@ -11,9 +11,9 @@ pub returns : goal.returns
 returns c =
     let frame = c.args.frame in
     let p = persistence_of c.args.persistence in
-    value_made (vocabulary_of c.args.table.now) frame.ranges.items c.push.new.self.items (plain_formula frame.test) frame.file frame.line p c.args.symbol
-    c.args.args.items c.of.result c.len-variable.result (plain_formula c.in_ok-body.body) (option_map plain_formula c.in_ok-after.after) _
-    c.in_ok-push.ensures.items c.of.ensures (c.len-variable.ensures ∙ c.args.frame.ranges.ok.0)
-    (c.in_ok-body.ensures ∙ ap (λ args. body_of p (equal_to c.args.symbol args c.len-variable.result)) c.deref.ensures.value)
-    (c.in_ok-after.ensures ∙ ap (λ args. after_of p (equal_to c.args.symbol args c.len-variable.result)) c.deref-2.ensures.value)
+    value_made (vocabulary_of c.args.table.now) frame.ranges.items c.push.new.self.items (plain_formula frame.test) (scope_of frame.names) frame.names.next frame.file frame.line p c.args.symbol
+    c.args.args.items c.of.result c.len-count.result (plain_formula c.in_ok-body.body) (option_map plain_formula c.in_ok-after.after) _
+    c.in_ok-push.ensures.items c.of.ensures (c.len-count.ensures ∙ c.args.frame.ranges.ok.0)
+    (c.in_ok-body.ensures ∙ ap (λ args. body_of p (equal_to c.args.symbol args c.len-count.result)) c.deref.ensures.value)
+    (c.in_ok-after.ensures ∙ ap (λ args. after_of p (equal_to c.args.symbol args c.len-count.result)) c.deref-2.ensures.value)
     c.base_law.ensures

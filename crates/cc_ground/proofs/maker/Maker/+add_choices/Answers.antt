@@ -30,8 +30,7 @@ returns-clause-made t c =
 
 pub add_choices-requires : goal.add_choices-requires
 add_choices-requires t c =
-    let like = c.loop-index.invariant.like in
-    (
+    let like = c.loop-index.invariant.like in (
       omega (arith, ap length c.in-Some.ensures.cases.0),
       (subst AreSearchable (same_universe c.args.self.now c.loop-index.self like.table like.sig) c.requires.searchable, still_unbound c.args.self.now c.loop-index.self _ c.give.new.self c.requires.unbound like c.in_ok-give.ensures),
     )

@@ -1,14 +1,16 @@
 use Rattle.std.proofs.Common.{arith, subst, sym, ap, ◌∙◌}
 use Rattle.indexmap.specs.IndexSet.{insert_key}
 use Rattle.cc_sorts.specs.Searches.{IsSearched}
-use Rattle.cc_sorts.proofs.Upward.{searched_first, searched_step, searched_all, within_first, within_more, few_found, is_within, same_key, Keys}
+use Rattle.cc_sorts.proofs.Upward.{searched_first, searched_step, searched_all, within_first, within_more, few_found, closed_none, is_within, same_key, Keys}
 use Rattle.cc_sorts.proofs.left.Left.found_above.Goals as goal
 
 pub search-init : goal.search-init
 search-init c =
-    subst (λ (keys : Keys). IsSearched c.args.self.now c.args.lower.now keys 0 × is_within c.args.self.now c.args.lower.now keys)
-    (sym (c.in_ok-insert.ensures.keys ∙ ap (λ (keys : Keys). insert_key same_key keys c.args.lower) c.new-found.ensures.empty))
-    (searched_first c.args.self.now c.args.lower, within_first c.args.self.now c.args.lower)
+    let first = sym (c.in_ok-insert.ensures.keys ∙ ap (λ (keys : Keys). insert_key same_key keys c.args.lower) c.new-found.ensures.empty) in (
+      subst (λ (keys : Keys). IsSearched c.args.self.now c.args.lower.now keys 0) first (searched_first c.args.self.now c.args.lower),
+      subst (λ (keys : Keys). is_within c.args.self.now c.args.lower.now keys) first (within_first c.args.self.now c.args.lower),
+      closed_none c.args.self.now c.new-closed.result.keys c.insert.new.self.keys c.new-closed.ensures.empty,
+    )
 
 pub search-smaller : goal.search-smaller
 search-smaller c =
@@ -17,8 +19,9 @@ search-smaller c =
 
 pub search-preserved : goal.search-preserved
 search-preserved c = (
-  searched_step c.args.self.now c.args.lower.now c.search.found.keys c.add_above.new.found.keys c.search.done c.index-sort.result.now c.index-sort.ensures c.in_ok-add_above.ensures c.search.invariant.0,
-  within_more c.args.self.now c.args.lower.now c.index-sort.result.now.now c.search.found.keys c.add_above.new.found.keys c.in_ok-add_above.ensures c.search.invariant.1,
+  searched_step c.args.self.now c.args.lower.now c.search.found.keys c.add_above.new.found.keys c.search.done c.index-sort.result.now c.index-sort.ensures c.in_ok-add_above.ensures.grown c.search.invariant.0,
+  within_more c.args.self.now c.args.lower.now c.index-sort.result.now.now c.search.found.keys c.add_above.new.found.keys c.in_ok-add_above.ensures.grown c.search.invariant.1,
+  c.in_ok-add_above.ensures.closed,
 )
 
 pub returns : goal.returns

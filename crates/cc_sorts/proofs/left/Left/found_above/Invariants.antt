@@ -1,5 +1,5 @@
 use Rattle.std.proofs.Common.{◌-◌, length}
-use Rattle.cc_sorts.specs.Searches.{IsSearched}
+use Rattle.cc_sorts.specs.Searches.{IsSearched, AreClosed}
 use Rattle.cc_sorts.proofs.Upward.{bound, is_within}
 use Rattle.cc_sorts.proofs.left.Left.found_above.Given as goal
 
@@ -7,4 +7,4 @@ abbrev pub decreases-search : goal.decreases-search
 decreases-search l = length (bound l.self l.lower) - l.done
 
 abbrev pub invariant-search : goal.invariant-search
-invariant-search l = (IsSearched l.self l.lower l.found.keys l.done) × is_within l.self l.lower l.found.keys
+invariant-search l = (IsSearched l.self l.lower l.found.keys l.done) × is_within l.self l.lower l.found.keys × AreClosed l.self l.closed.keys l.found.keys

@@ -1,4 +1,0 @@
-use Rattle.cc_describe.proofs.trees.show_first.Goals as goal
-
-pub parse-requires-clause-are : goal.parse-requires-clause-are
-parse-requires-clause-are c = c.statement.ensures.are c.requires.0 c.requires.1

@@ -1,0 +1,124 @@
+-- The base laws about each value of a constant have the forms of their kinds.
+use Rattle.std.proofs.Common.{◌≡◌, ◌∙◌, ℕ, Bool, true, false, List, [], ◌∷◌, ◌++◌, length, slice_get, Option, Some, None, refl, sym, ap, subst, arith}
+use Rattle.std.specs.List.{AllByRecursion, list_any}
+use Rattle.std.proofs.lemmas.Bool.{eqb-true, not-false, or_parts}
+use Rattle.cc_defs.specs.declared.signature.Kind.{Kind}
+use Rattle.cc_defs.specs.declared.signature.Kind.TheVariants as kinds
+use Rattle.cc_defs.specs.declared.signature.Symbol.{Symbol}
+use Rattle.cc_defs.specs.Declarations.{is_action}
+use Rattle.cc_defs.specs.Forms.{IsDeclared, IsFormula, IsFluentFormula, HasForm, HaveForms, formula_symbols, term_symbols, terms_symbols, is_action_at, is_action_symbol, is_simple}
+use Rattle.cc_defs.specs.Resolved.{Terms, Formula}
+use Rattle.cc_defs.specs.Resolved as resolved
+use Rattle.cc_defs.specs.Trees.{PlainTerm, Applied, PlainTerms, NoTerms, MoreTerms}
+use Rattle.cc_laws.specs.Expansion.{Frame, Persistence, Exogenous, Inertial, Rigid, value_law, subject_meant, subject_laws}
+use Rattle.cc_laws.specs.FormulaFaults.{argument_misfits, some_argument_misfits, arguments_misfit, is_miscounted, term_has, term_meaning, term_misfits}
+use Rattle.cc_laws.specs.Leaves.{term_count}
+use Rattle.cc_laws.specs.Resolving.{Binding, number_in, variable_at, term_meant, resolve_term, resolve_terms}
+use Rattle.cc_laws.specs.Vocabulary.{Vocabulary, Meaning, Unknown, Nothing, Object, Variable, Constant, meaning}
+use Rattle.cc_laws.proofs.FormsOfSplits.{GoesOn, action_at, simple_at, declared_at}
+use Rattle.cc_laws.proofs.SymbolsMeant.{IsIn, meaning_in}
+
+-- ---- arguments that fit have no symbols
+
+no_variable_symbols : (found : Option ℕ) → term_symbols (variable_at found) ≡ []
+no_variable_symbols None = refl
+no_variable_symbols (Some number) = refl
+
+module _ (v : Vocabulary) (scope : List Binding) where
+  no_symbols_meant : (sort : ℕ) (means : Meaning) (args : Terms) → argument_misfits v sort means ≡ false → term_symbols (term_meant scope means args) ≡ []
+  no_symbols_meant sort (Object number own) args e = refl
+  no_symbols_meant sort (Variable number own) args e = no_variable_symbols (number_in scope number)
+  no_symbols_meant sort Unknown args e = absurd cc
+  no_symbols_meant sort Nothing args e = absurd cc
+  no_symbols_meant sort (Constant number symbol) args e = absurd cc
+
+  no_symbols_in : (sort : ℕ) (term : PlainTerm) → argument_misfits v sort (term_meaning v term) ≡ false → term_symbols (resolve_term v scope term) ≡ []
+  no_symbols_in sort (Applied name args) e = no_symbols_meant sort (meaning v name) (resolve_terms v scope args) e
+
+  no_symbols : (sorts : List ℕ) (args : PlainTerms) → term_count args ≡ length sorts → some_argument_misfits v sorts args ≡ false → terms_symbols (resolve_terms v scope args) ≡ []
+  no_symbols sorts NoTerms count e = refl
+  no_symbols [] (MoreTerms first others) count e = absurd (omega arith)
+  no_symbols (sort ∷ sorts) (MoreTerms first others) count e =
+      let parts = or_parts (argument_misfits v sort (term_meaning v first)) (some_argument_misfits v sorts others) e in
+      ap (λ (w : List ℕ). w ++ terms_symbols (resolve_terms v scope others)) (no_symbols_in sort first parts.0) ∙ no_symbols sorts others (omega arith) parts.1
+
+-- ---- the laws
+
+simple_is_fluent : (kind : Kind) → is_simple kind ≡ true → is_action kind ≡ false
+simple_is_fluent kinds.Simple e = refl
+simple_is_fluent kinds.Determined e = absurd cc
+simple_is_fluent kinds.Action e = absurd cc
+
+-- which kinds a law may be about
+abbrev pub MayLast : Persistence → Symbol → Type 0
+MayLast Exogenous symbol = Unit {0}
+MayLast Inertial symbol = is_simple symbol.kind ≡ true
+MayLast Rigid symbol = is_simple symbol.kind ≡ true
+
+module _ (v : Vocabulary) (symbols : List Symbol) (goes : GoesOn v.symbols symbols) where
+  module _ (number : ℕ) (symbol : Symbol) (is : slice_get v.symbols number ≡ Some symbol) (args : Terms) (bare : terms_symbols args ≡ []) (value : ℕ) where
+    abbrev equal : Formula
+    equal = resolved.Equal (resolved.Constant number args) (resolved.Variable value)
+
+    equal_symbols : formula_symbols equal ≡ number ∷ []
+    equal_symbols = ap (λ (w : List ℕ). (number ∷ w) ++ []) bare
+
+    equal_formula : IsFormula symbols equal
+    equal_formula = subst (λ (w : List ℕ). AllByRecursion (IsDeclared symbols) w) (sym equal_symbols) (declared_at v symbols goes number symbol is, tt)
+
+    equal_fluent : is_action symbol.kind ≡ false → IsFluentFormula symbols equal
+    equal_fluent free =
+        let P : List ℕ → Type 0 = λ w. list_any (is_action_symbol symbols) w ≡ false in
+        let one : P (number ∷ []) = rw (action_at v symbols goes number symbol is ∙ free) refl in
+        (equal_formula, subst P (sym equal_symbols) one)
+
+  module _ (number : ℕ) (symbol : Symbol) (is : slice_get v.symbols number ≡ Some symbol) (args : Terms) (bare : terms_symbols args ≡ []) (frame : Frame) where
+    now : is_action_symbol v.symbols number ≡ is_action symbol.kind
+    now = ap is_action_at is
+
+    exogenous : (acts : Bool) → is_action symbol.kind ≡ acts → HasForm symbols (value_law v frame Exogenous number args)
+    exogenous true e = rw (now ∙ e) (record { head = action_at v symbols goes number symbol is ∙ e; body = equal_formula number symbol is args bare (length frame.ranges); after = refl })
+    exogenous false e = rw (now ∙ e) (record {
+      head = (declared_at v symbols goes number symbol is, action_at v symbols goes number symbol is ∙ e);
+      body = equal_fluent number symbol is args bare (length frame.ranges) e;
+      after = refl;
+    })
+
+    pub value_form : (persistence : Persistence) → MayLast persistence symbol → HasForm symbols (value_law v frame persistence number args)
+    value_form Exogenous may = exogenous (is_action symbol.kind) refl
+    value_form Inertial may = record {
+      head = simple_at v symbols goes number symbol is ∙ may;
+      body = equal_fluent number symbol is args bare (length frame.ranges) (simple_is_fluent symbol.kind may);
+      after = equal number symbol is args bare (length frame.ranges);
+      written = refl;
+      declared = equal_formula number symbol is args bare (length frame.ranges);
+    }
+    value_form Rigid may = record {
+      head = simple_at v symbols goes number symbol is ∙ may;
+      body = (tt, refl);
+      after = equal number symbol is args bare (length frame.ranges);
+      written = refl;
+      declared = equal_formula number symbol is args bare (length frame.ranges);
+    }
+
+  -- ---- what is exogenous or inertial
+
+  subject_meant_forms : (frame : Frame) (persistence : Persistence) (means : Meaning) (args : PlainTerms) → IsIn v means →
+      is_miscounted means (term_count args) ≡ false → arguments_misfit v means args ≡ false →
+      ((number : ℕ) (symbol : Symbol) → means ≡ Constant number symbol → MayLast persistence symbol) →
+      HaveForms symbols (subject_meant v frame persistence means (resolve_terms v frame.scope args))
+  subject_meant_forms frame persistence Unknown args is count fit may = tt
+  subject_meant_forms frame persistence Nothing args is count fit may = tt
+  subject_meant_forms frame persistence (Object number sort) args is count fit may = tt
+  subject_meant_forms frame persistence (Variable number sort) args is count fit may = tt
+  subject_meant_forms frame persistence (Constant number symbol) args is count fit may =
+      let as_many : term_count args ≡ length symbol.sorts = eqb-true (term_count args) (length symbol.sorts) (not-false _ count) in
+      let bare = no_symbols v frame.scope symbol.sorts args as_many fit in
+      (value_form number symbol is (resolve_terms v frame.scope args) bare frame persistence (may number symbol refl), tt)
+
+  pub subject_forms : (frame : Frame) (persistence : Persistence) (c : PlainTerm) → term_has v is_miscounted c ≡ false → term_misfits v c ≡ false →
+      ((number : ℕ) (symbol : Symbol) → term_meaning v c ≡ Constant number symbol → MayLast persistence symbol) →
+      HaveForms symbols (subject_laws v frame persistence c)
+  subject_forms frame persistence (Applied name args) count fit may =
+      subject_meant_forms frame persistence (meaning v name) args (meaning_in v name)
+      (or_parts (is_miscounted (meaning v name) (term_count args)) _ count).0 fit may

@@ -1,0 +1,134 @@
+-- How the code's own types are seen, in the words of the definitions.
+use Rattle.std.specs.Prelude.{ℕ, Bool, ◌||◌, List, [], ◌∷◌, Option, Some, None}
+use Rattle.std.specs.List.{list_any}
+use Rattle.std.specs.Option.{option_map}
+use Rattle.cc_defs.specs.declared.formula.Term as kept_terms
+use Rattle.cc_defs.specs.declared.tree.TermTree.{TermTree}
+use Rattle.cc_defs.specs.Resolved.{Formula, plain_formula}
+use Rattle.cc_defs.specs.Resolved as resolved
+use Rattle.cc_defs.specs.Trees.{PlainTerms, NoTerms, MoreTerms, PlainTree, plain_term, plain_tree}
+use Rattle.cc_defs.specs.Trees as trees
+use Rattle.cc_laws.specs.declared.expansion.Source.{Source}
+use Rattle.cc_laws.specs.declared.meaning.Meaning.{Meaning as KeptMeaning}
+use Rattle.cc_laws.specs.declared.meaning.Meaning.TheVariants as kept_meanings
+use Rattle.cc_laws.specs.declared.mention.Property.{Property}
+use Rattle.cc_laws.specs.declared.mention.Property.TheVariants as properties
+use Rattle.cc_laws.specs.declared.names.Binding.{Binding as KeptBinding}
+use Rattle.cc_laws.specs.declared.names.Names.{Names}
+use Rattle.cc_laws.specs.declared.pieces.Piece.{Piece}
+use Rattle.cc_laws.specs.declared.pieces.Piece.TheVariants as pieces
+use Rattle.cc_laws.specs.declared.pieces.HeadPiece.{HeadPiece}
+use Rattle.cc_laws.specs.declared.pieces.HeadPiece.TheVariants as head_pieces
+use Rattle.cc_laws.specs.declared.pieces.Caused.{Caused as KeptCaused}
+use Rattle.cc_laws.specs.declared.resolving.Joint.{Joint}
+use Rattle.cc_laws.specs.declared.resolving.Joint.TheVariants as joints
+use Rattle.cc_laws.specs.declared.resolving.Bracket.{Bracket}
+use Rattle.cc_laws.specs.declared.resolving.Bracket.TheVariants as brackets
+use Rattle.cc_laws.specs.declared.values.Persistence.{Persistence as KeptPersistence}
+use Rattle.cc_laws.specs.declared.values.Persistence.TheVariants as kept_persistences
+use Rattle.cc_laws.specs.declared.values.Frame.{Frame as KeptFrame}
+use Rattle.cc_laws.specs.declared.walk.Check.{Check}
+use Rattle.cc_laws.specs.declared.walk.Check.TheVariants as checks
+use Rattle.cc_laws.specs.Expansion.{Caused, caused, both, Persistence, Exogenous, Inertial, Rigid, Frame, law_frame}
+use Rattle.cc_laws.specs.FormulaFaults.{NameTest, is_unknown_name, is_miscounted, leaf_has, bracket_unknown, leaf_misfits}
+use Rattle.cc_laws.specs.Leaves.{Leaf, leaves}
+use Rattle.cc_laws.specs.Resolving.{Binding}
+use Rattle.cc_laws.specs.Vocabulary.{Vocabulary, Meaning, Unknown, Nothing, Object, Variable, Constant, is_constant, is_action_constant, is_fluent_constant, is_determined_constant}
+
+-- ---- lists of terms
+
+abbrev pub plain_terms : List TermTree → PlainTerms
+plain_terms [] = NoTerms
+plain_terms (term ∷ terms) = MoreTerms (plain_term term) (plain_terms terms)
+
+abbrev pub row_terms : List kept_terms.Term → resolved.Terms
+row_terms [] = resolved.NoTerms
+row_terms (term ∷ terms) = resolved.MoreTerms (resolved.plain_term term) (row_terms terms)
+
+-- ---- names
+
+abbrev pub plain_meaning : KeptMeaning → Meaning
+plain_meaning kept_meanings.Unknown = Unknown
+plain_meaning kept_meanings.Nothing = Nothing
+plain_meaning (kept_meanings.Object number sort) = Object number sort
+plain_meaning (kept_meanings.Variable number sort) = Variable number sort
+plain_meaning (kept_meanings.Constant number symbol) = Constant number symbol.now
+
+-- what is asked of a name
+abbrev pub asks : Property → NameTest
+asks properties.Unknown = is_unknown_name
+asks properties.Miscounted = is_miscounted
+asks properties.Constant = λ means count. is_constant means
+asks properties.Action = λ means count. is_action_constant means
+asks properties.Fluent = λ means count. is_fluent_constant means
+asks properties.Determined = λ means count. is_determined_constant means
+
+-- what is asked of the terms and brackets of a formula
+abbrev pub leaf_test : Vocabulary → Check → Leaf → Bool
+leaf_test v (checks.Mentions property) = leaf_has v (asks property)
+leaf_test v checks.Unknown = λ leaf. leaf_has v is_unknown_name leaf || bracket_unknown v leaf
+leaf_test v checks.Misfits = leaf_misfits v
+
+abbrev pub fails : Vocabulary → Check → PlainTree → Bool
+fails v check formula = list_any (leaf_test v check) (leaves formula)
+
+-- ---- what a formula sees: the code keeps the innermost binding last
+
+abbrev pub plain_binding : KeptBinding → Binding
+plain_binding binding = record { variable = binding.variable; number = binding.number }
+
+abbrev pub inside : List Binding → List KeptBinding → List Binding
+inside scope [] = scope
+inside scope (binding ∷ bindings) = inside (plain_binding binding ∷ scope) bindings
+
+abbrev pub scope_of : Names → List Binding
+scope_of names = inside [] names.bindings.items
+
+-- ---- formulas
+
+abbrev pub joined_by : Joint → Formula → Formula → Formula
+joined_by joints.Both = resolved.Both
+joined_by joints.Either = resolved.Either
+joined_by joints.Implies = resolved.Implies
+joined_by joints.Same = resolved.Same
+
+abbrev pub bracket_over : Bracket → ℕ → ℕ → Formula → Formula
+bracket_over brackets.ForAll = resolved.ForAll
+bracket_over brackets.Exists = resolved.Exists
+
+-- ---- the law that a law is short for
+
+abbrev pub plain_piece : Piece → Option PlainTree
+plain_piece pieces.Missing = None
+plain_piece (pieces.One f) = Some (plain_tree f.now)
+plain_piece (pieces.Maybe f) = option_map plain_tree f.now
+plain_piece (pieces.Denied f) = Some (trees.Not (plain_tree f.now))
+plain_piece (pieces.Both f g) = Some (both (plain_tree f.now) (option_map plain_tree g.now))
+
+abbrev pub head_piece : HeadPiece → Option PlainTree
+head_piece head_pieces.Falsity = None
+head_piece (head_pieces.One f) = Some (plain_tree f.now)
+
+abbrev pub plain_caused : KeptCaused → Caused
+plain_caused law = caused (head_piece law.head) (plain_piece law.body) (plain_piece law.after)
+
+-- ---- base laws
+
+abbrev pub persistence_of : KeptPersistence → Persistence
+persistence_of kept_persistences.Exogenous = Exogenous
+persistence_of kept_persistences.Inertial = Inertial
+persistence_of kept_persistences.Rigid = Rigid
+
+abbrev pub frame_of : KeptFrame → Frame
+frame_of frame = record {
+  ranges = frame.ranges.items;
+  test = plain_formula frame.test;
+  scope = scope_of frame.names;
+  next = frame.names.next;
+  file = frame.file;
+  line = frame.line;
+}
+
+-- what the base laws of a law have in common
+abbrev pub frame_from : Vocabulary → Source → Frame
+frame_from v source = law_frame source.file v source.line source.variables.now (option_map plain_tree source.test.now)

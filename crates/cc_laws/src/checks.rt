@@ -1,0 +1,299 @@
+//! The faults of laws.
+ghost use Rattle.std.specs.Prelude.{◌≡◌, ◌++◌, List as Items, None, flat_map, IfOk, IfErr, OnOk};
+ghost use Rattle.std.specs.List.{list_any};
+ghost use Rattle.std.specs.Option.{option_map};
+ghost use Rattle.cc_defs.specs.Declarations.{Declaration as Declared};
+ghost use Rattle.cc_defs.specs.Trees.{plain_term, plain_tree, plain_law, plain_part, plain_statement};
+ghost use Rattle.cc_defs.specs.declared.refusal.Fault.TheVariants as faulty;
+ghost use Rattle.cc_defs.specs.Refusals as refusals;
+ghost use Rattle.cc_defs.specs.Refusals.{IsRefusedBy, least};
+ghost use Rattle.cc_laws.specs.LawFaults as faults;
+ghost use Rattle.cc_laws.specs.FormulaFaults.{term_has};
+ghost use Rattle.cc_laws.specs.FreeVariables.{free, optional, unbound};
+ghost use Rattle.cc_laws.specs.LawFaults.{law_refusal};
+ghost use Rattle.cc_laws.specs.Views.{asks, fails};
+ghost use Rattle.cc_laws.specs.Vocabulary.{vocabulary, vocabulary_of};
+ghost use Rattle.cc_sorts.specs.Tables.{IsTable};
+
+use crate::forms::{has_determined_head, has_indefinite_head, lacks_form};
+use crate::meaning::meaning_of_term;
+use crate::mention::{Property, term_has as has};
+use crate::misfits::term_misfits;
+use crate::variables::{add_free, add_unbound, firsts, free as free_in, some_is_new};
+use crate::walk::{Check, formula_fails};
+use cc_defs::{Fault, LawTree, OutOfMemory, Part, Refusal, Statement, TermTree, Tree};
+use cc_sorts::Table;
+use std::alloc::Global;
+
+/// Whether a part that may be missing fails the check.
+fn part_fails(table: &Table, check: Check, part: &Option<Tree<'_>>) -> bool
+    ensures { result ≡ list_any (fails (vocabulary_of table.now) check) (optional (option_map plain_tree part.now)) }
+{
+    match part {
+        Some(formula) => formula_fails(table, check, formula),
+        None => false,
+    }
+}
+
+/// Whether a formula of a law before `where` fails the check.
+fn formulas_fail(table: &Table, check: Check, law: &LawTree<'_>) -> bool
+    ensures { result ≡ list_any (fails (vocabulary_of table.now) check) (faults.formulas (plain_law law.now)) }
+{
+    match law {
+        LawTree::Caused(first, body, after) | LawTree::Default(first, body, after) => {
+            formula_fails(table, check, first)
+                || (part_fails(table, check, body) || part_fails(table, check, after))
+        }
+        LawTree::Constraint(first) | LawTree::Always(first) => formula_fails(table, check, first),
+        LawTree::Nonexecutable(first, body) => {
+            formula_fails(table, check, first) || part_fails(table, check, body)
+        }
+        LawTree::Causes(first, second, body) | LawTree::MayCause(first, second, body) => {
+            formula_fails(table, check, first)
+                || (formula_fails(table, check, second) || part_fails(table, check, body))
+        }
+        LawTree::Exogenous(_) | LawTree::Inertial(_) | LawTree::NoConcurrency => false,
+    }
+}
+
+/// What is exogenous or inertial.
+fn subject<'t, 's>(law: &'t LawTree<'s>) -> Option<&'t TermTree<'s>>
+    ensures { option_map (λ term. plain_term term.now) result ≡ faults.subject (plain_law law.now) }
+{
+    match law {
+        LawTree::Exogenous(constant) | LawTree::Inertial(constant) => Some(constant),
+        LawTree::Caused(..)
+        | LawTree::Constraint(_)
+        | LawTree::Always(_)
+        | LawTree::Nonexecutable(..)
+        | LawTree::Default(..)
+        | LawTree::Causes(..)
+        | LawTree::MayCause(..)
+        | LawTree::NoConcurrency => None,
+    }
+}
+
+/// Whether a formula of a law or its test fails the check.
+fn law_fails(table: &Table, check: Check, law: &LawTree<'_>, test: &Option<Tree<'_>>) -> bool
+    ensures { result ≡ list_any (fails (vocabulary_of table.now) check) (faults.formulas (plain_law law.now) ++ optional (option_map plain_tree test.now)) }
+{
+    formulas_fail(table, check, law) || part_fails(table, check, test)
+}
+
+/// Whether what is exogenous or inertial has a name with the property.
+fn subject_has(table: &Table, property: Property, law: &LawTree<'_>) -> bool
+    ensures { result ≡ faults.subject_satisfies (term_has (vocabulary_of table.now) (asks property)) (faults.subject (plain_law law.now)) }
+{
+    match subject(law) {
+        Some(constant) => has(table, property, constant),
+        None => false,
+    }
+}
+
+#[tactic(auto, using(crate::proofs::Failing::some_unknown))]
+fn law_has_unknown(table: &Table, law: &LawTree<'_>, test: &Option<Tree<'_>>) -> bool
+    ensures { result ≡ faults.law_has_unknown (vocabulary_of table.now) (plain_law law.now) (optional (option_map plain_tree test.now)) }
+{
+    law_fails(table, Check::Unknown, law, test) || subject_has(table, Property::Unknown, law)
+}
+
+fn law_has_miscounted(table: &Table, law: &LawTree<'_>, test: &Option<Tree<'_>>) -> bool
+    ensures { result ≡ faults.law_has_miscounted (vocabulary_of table.now) (plain_law law.now) (optional (option_map plain_tree test.now)) }
+{
+    law_fails(table, Check::Mentions(Property::Miscounted), law, test)
+        || subject_has(table, Property::Miscounted, law)
+}
+
+/// Whether what is exogenous or inertial is no constant, or has an argument that does not fit.
+fn subject_misfits(table: &Table, constant: &TermTree<'_>) -> bool
+    ensures { result ≡ faults.subject_misfits (vocabulary_of table.now) (plain_term constant.now) }
+{
+    !meaning_of_term(table, constant).is_constant() || term_misfits(table, constant)
+}
+
+/// Whether something in a law or its test does not fit.
+fn law_misfits(table: &Table, law: &LawTree<'_>, test: &Option<Tree<'_>>) -> bool
+    ensures { result ≡ faults.law_misfits (vocabulary_of table.now) (plain_law law.now) (optional (option_map plain_tree test.now)) }
+{
+    let in_subject = match subject(law) {
+        Some(constant) => subject_misfits(table, constant),
+        None => false,
+    };
+    (law_fails(table, Check::Misfits, law, test) || in_subject)
+        || part_fails(table, Check::Mentions(Property::Constant), test)
+}
+
+/// Adds the free occurrences of variables in a part that may be missing.
+fn add_part(
+    table: &Table,
+    bound: &mut Vec<u32>,
+    part: &Option<Tree<'_>>,
+    found: &mut Vec<u32>,
+) -> Result<(), OutOfMemory>
+    ensures added { OnOk result (found.new.items ≡ found.old.items ++ flat_map (free (vocabulary_of table.now) bound.old.items) (optional (option_map plain_tree part.now))) }
+    ensures closed { OnOk result (bound.new.items ≡ bound.old.items) }
+{
+    match part {
+        Some(formula) => add_free(table, bound, formula, found),
+        None => Ok(()),
+    }
+}
+
+/// Adds the free occurrences of variables in a law before `where`.
+fn add_law(
+    table: &Table,
+    bound: &mut Vec<u32>,
+    law: &LawTree<'_>,
+    found: &mut Vec<u32>,
+) -> Result<(), OutOfMemory>
+    ensures { OnOk result (found.new.items ≡ found.old.items ++ (flat_map (free (vocabulary_of table.now) bound.old.items) (faults.formulas (plain_law law.now)) ++ unbound bound.old.items (faults.subject_variables (vocabulary_of table.now) (faults.subject (plain_law law.now))))) }
+{
+    match law {
+        LawTree::Caused(first, body, after) | LawTree::Default(first, body, after) => {
+            add_free(table, bound, first, found)?;
+            add_part(table, bound, body, found)?;
+            add_part(table, bound, after, found)
+        }
+        LawTree::Constraint(first) | LawTree::Always(first) => {
+            add_free(table, bound, first, found)
+        }
+        LawTree::Nonexecutable(first, body) => {
+            add_free(table, bound, first, found)?;
+            add_part(table, bound, body, found)
+        }
+        LawTree::Causes(first, second, body) | LawTree::MayCause(first, second, body) => {
+            add_free(table, bound, first, found)?;
+            add_free(table, bound, second, found)?;
+            add_part(table, bound, body, found)
+        }
+        LawTree::Exogenous(constant) | LawTree::Inertial(constant) => {
+            add_unbound(table, bound, constant, found)
+        }
+        LawTree::NoConcurrency => Ok(()),
+    }
+}
+
+#[tactic(auto, using(crate::proofs::Unbound::unbound_none))]
+/// The variables of a law, by their numbers in the table: those that are free in it, in the order of their first free
+/// occurrences before `where`.
+pub(crate) fn law_variables(
+    alloc: Global,
+    table: &Table,
+    law: &LawTree<'_>,
+) -> Result<Vec<u32>, OutOfMemory>
+    ensures { IfOk result (λ variables. variables.items ≡ faults.law_variables (vocabulary_of table.now) (plain_law law.now)) }
+{
+    let mut found = Vec::new(alloc);
+    let mut bound = Vec::new(alloc);
+    add_law(table, &mut bound, law, &mut found)?;
+    firsts(alloc, &found)
+}
+
+/// Whether a `where` test has a variable that is not free in the law before it.
+fn has_unbound(
+    alloc: Global,
+    table: &Table,
+    law: &LawTree<'_>,
+    test: &Tree<'_>,
+) -> Result<bool, OutOfMemory>
+    ensures { IfOk result (λ unbound. unbound ≡ faults.has_unbound (vocabulary_of table.now) (faults.law_variables (vocabulary_of table.now) (plain_law law.now)) (plain_tree test.now)) }
+{
+    let variables = law_variables(alloc, table, law)?;
+    let used = free_in(alloc, table, test)?;
+    Ok(some_is_new(&used, &variables))
+}
+
+/// The same where there may be no test.
+fn has_unbound_part(
+    alloc: Global,
+    table: &Table,
+    law: &LawTree<'_>,
+    test: &Option<Tree<'_>>,
+) -> Result<bool, OutOfMemory>
+    ensures { IfOk result (λ unbound. unbound ≡ list_any (faults.has_unbound (vocabulary_of table.now) (faults.law_variables (vocabulary_of table.now) (plain_law law.now))) (optional (option_map plain_tree test.now))) }
+{
+    match test {
+        Some(test) => has_unbound(alloc, table, law, test),
+        None => Ok(false),
+    }
+}
+
+/// The least number of a fault of a law, if it has one.
+fn law_fault(
+    alloc: Global,
+    table: &Table,
+    law: &LawTree<'_>,
+    test: &Option<Tree<'_>>,
+) -> Result<Option<u8>, OutOfMemory>
+    ensures { IfOk result (λ fault. fault ≡ least (faults.law_faults (vocabulary_of table.now) (plain_law law.now) (optional (option_map plain_tree test.now)))) }
+{
+    if law_has_unknown(table, law, test) {
+        return Ok(Some(5));
+    }
+    if law_has_miscounted(table, law, test) {
+        return Ok(Some(6));
+    }
+    if law_misfits(table, law, test) {
+        return Ok(Some(7));
+    }
+    if has_unbound_part(alloc, table, law, test)? {
+        return Ok(Some(8));
+    }
+    if lacks_form(table, law) {
+        return Ok(Some(9));
+    }
+    if has_determined_head(table, law) {
+        return Ok(Some(10));
+    }
+    if has_indefinite_head(table, law) {
+        return Ok(Some(11));
+    }
+    Ok(None)
+}
+
+/// The least number of a fault of a statement's part: a law alone has one.
+fn part_fault(alloc: Global, table: &Table, part: &Part<'_>) -> Result<Option<u8>, OutOfMemory>
+    ensures { IfOk result (λ fault. fault ≡ faults.part_fault (vocabulary_of table.now) (plain_part part.now)) }
+{
+    match part {
+        Part::Law(law, test) => law_fault(alloc, table, law, test),
+        Part::Sorts(_)
+        | Part::Objects(_)
+        | Part::Variables(_)
+        | Part::Constants(_)
+        | Part::Query(_)
+        | Part::Include(_) => Ok(None),
+    }
+}
+
+/// The refusal of a number without a limit, at a line of a file.
+pub(crate) fn refused(number: u8, file: u32, line: u32) -> Fault
+    ensures { result ≡ faulty.Refused (refusals.refused number file line) }
+{
+    Fault::Refused(Refusal {
+        number,
+        file,
+        line,
+        limit: None,
+    })
+}
+
+/// Checks a law, at the table as it stands. Refuses, at the statement's line, the least number of a fault: an unknown name
+/// (5), another number of arguments (6), a term where its sort or kind does not fit (7), a `where` test with a variable that
+/// is not free in the law before it (8), a law of none of the three forms or a part of the wrong kind (9), a statically
+/// determined fluent in the head of a fluent dynamic law (10), a head that is not definite (11). A statement that is no law
+/// has no such fault. `file` is the number of the file in refusals.
+pub(crate) fn check(
+    alloc: Global,
+    file: u32,
+    table: &Table,
+    statement: &Statement<'_>,
+) -> Result<(), Fault>
+    ensures checked { (left : Items Declared) → IsTable table.now left → IfOk result (λ nothing. law_refusal file (vocabulary left) (plain_statement statement.now) ≡ None) }
+    ensures refused { (left : Items Declared) → IsTable table.now left → IfErr result (IsRefusedBy (law_refusal file (vocabulary left) (plain_statement statement.now))) }
+{
+    match part_fault(alloc, table, &statement.part)? {
+        Some(number) => Err(refused(number, file, statement.line)),
+        None => Ok(()),
+    }
+}

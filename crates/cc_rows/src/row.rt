@@ -1,0 +1,100 @@
+//! A case: what a run over its files gives.
+use crate::book::{FILE, body, head, parts};
+use crate::setting::Setting;
+use cc_defs::{Bytes, Name, Nums, OutOfMemory};
+use cc_ports::{Files, MemoryDesk, To};
+use cc_run::run;
+use std::alloc::Global;
+use std::fmt::Write;
+
+/// The text of the file of this name; an empty one where it is not there.
+fn text_of<'b>(parts: &[&'b [u8]], name: &str) -> &'b str {
+    for part in parts {
+        if head(part) == name {
+            return std::str::from_utf8(body(part)).unwrap_or("");
+        }
+    }
+    ""
+}
+
+/// The lines of a text.
+fn words_of(alloc: Global, text: &str) -> Result<Vec<String>, OutOfMemory> {
+    let mut words = Vec::new(alloc);
+    for line in text.lines() {
+        words.push(String::from_str(alloc, line)?)?;
+    }
+    Ok(words)
+}
+
+/// The files of the desk.
+fn files_of(alloc: Global, parts: &[&[u8]]) -> Result<Files, OutOfMemory> {
+    let mut files = Vec::new(alloc);
+    for part in parts {
+        let name = head(part);
+        if name != "words" && name != "desk" {
+            let bytes = Bytes::of(Vec::from_slice(alloc, body(part))?);
+            files.push((Name::of(String::from_str(alloc, name)?), bytes))?;
+        }
+    }
+    Ok(Files::of(files))
+}
+
+/// The desk of a case.
+fn desk_of(alloc: Global, parts: &[&[u8]]) -> Result<MemoryDesk, OutOfMemory> {
+    let files = files_of(alloc, parts)?;
+    let setting = Setting::read(alloc, text_of(parts, "desk"))?;
+    let most = setting.most();
+    let room = setting.room;
+    MemoryDesk::new(alloc, files, Nums::of(setting.fails), most, room)
+}
+
+/// The lines of an output, each behind its name.
+fn show_lines(out: &mut String, name: &str, text: &str) -> Result<(), OutOfMemory> {
+    for line in text.split_inclusive('\n') {
+        out.push_str(name)?;
+        out.push_str(": ")?;
+        out.push_str(line)?;
+    }
+    if !text.is_empty() && !text.ends_with('\n') {
+        out.push_str("\n")?;
+        out.push_str(name)?;
+        out.push_str(" has no line feed at its end\n")?;
+    }
+    Ok(())
+}
+
+fn show_output(out: &mut String, name: &str, bytes: &[u8]) -> Result<(), OutOfMemory> {
+    match std::str::from_utf8(bytes) {
+        Ok(text) => show_lines(out, name, text),
+        Err(_) => {
+            out.push_str(name)?;
+            out.push_str(" is no text\n")?;
+            Ok(())
+        }
+    }
+}
+
+/// What a desk has, and a code.
+fn show_desk(out: &mut String, desk: &MemoryDesk, code: u8) -> Result<(), OutOfMemory> {
+    show_output(out, "out", desk.written(To::Out))?;
+    show_output(out, "err", desk.written(To::Err))?;
+    if desk.has_begun() {
+        out.push_str("log begun\n")?;
+    }
+    show_output(out, "log", desk.written(To::Log))?;
+    write!(out, "code {code}\n")?;
+    Ok(())
+}
+
+/// What is printed of the part of a book that is a case.
+pub(crate) fn shown(alloc: Global, case: &[u8]) -> Result<String, OutOfMemory> {
+    let mut out = String::from_str(alloc, "=== ")?;
+    out.push_str(head(case))?;
+    out.push_str("\n")?;
+    let parts = parts(alloc, case, FILE)?;
+    let words = words_of(alloc, text_of(&parts, "words"))?;
+    let mut desk = desk_of(alloc, &parts)?;
+    let status = run(alloc, &words, &mut desk);
+    show_desk(&mut out, &desk, status.code())?;
+    Ok(out)
+}
