@@ -1,3 +1,4 @@
 mod Cases
 mod Lists
+mod Made
 mod Supported

@@ -1,2 +1,3 @@
 pub mod Completion
 pub mod Laws
+pub mod Making

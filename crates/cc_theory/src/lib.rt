@@ -1,4 +1,9 @@
 //! The theory of a horizon: its rules in time, their completion, and what models have to do with both.
 #![tactic(auto)]
 
+mod counting;
 pub mod laws;
+mod making;
+mod rule;
+
+pub use rule::{Timed, TimedHead, TimedRule};
