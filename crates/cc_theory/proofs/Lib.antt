@@ -1,4 +1,5 @@
 mod Cases
 mod Lists
 mod Made
+mod Pointwise
 mod Supported

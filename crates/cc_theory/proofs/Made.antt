@@ -78,7 +78,7 @@ initial_step fluents actions number position size constant front new whole less 
     let long : length (fluents ++ actions) ≡ length fluents + length actions = length-append fluents actions in
     let within : number < length (fluents ++ actions) = omega arith in
     let own : option_map (λ (c : Const). length c.domain) (slice_get (fluents ++ actions) (number % length (fluents ++ actions))) ≡ Some size =
-        subst (λ (n : ℕ). option_map (λ (c : Const). length c.domain) (slice_get (fluents ++ actions) (n % length (fluents ++ actions))) ≡ Some size) at sized in
+    subst (λ (n : ℕ). option_map (λ (c : Const). length c.domain) (slice_get (fluents ++ actions) (n % length (fluents ++ actions))) ≡ Some size) at sized in
     ap (λ (w : List TimedRule). w ++ rest) made
     ∙ append_assoc front (initial_of constant.kind number size) rest
     ∙ ap (λ (n : ℕ). front ++ (initial_of constant.kind number n ++ rest)) (sym (own_size (fluents ++ actions) number size constant within own is))
@@ -99,8 +99,8 @@ pub initial_counted : (fluents actions : List Const) (number own count added : �
 initial_counted fluents actions number own count added constant less is own_is added_is so_far =
     let rest = all_initial (number + 1) (drop (number + 1) fluents) in
     let here : length (all_initial number (drop number fluents)) ≡ own + length rest =
-        ap (λ (w : List Const). length (all_initial number w)) (next_fluent fluents actions number constant less is)
-        ∙ length-append (initial_of constant.kind number (length constant.domain)) rest ∙ ap (λ (n : ℕ). n + length rest) (sym own_is) in
+    ap (λ (w : List Const). length (all_initial number w)) (next_fluent fluents actions number constant less is)
+    ∙ length-append (initial_of constant.kind number (length constant.domain)) rest ∙ ap (λ (n : ℕ). n + length rest) (sym own_is) in
     stopped count own (length rest) added (length (all_initial 0 fluents)) added_is (ap (λ (n : ℕ). min (count + n) 8000001) (sym here) ∙ so_far)
 
 -- ---- how many rules

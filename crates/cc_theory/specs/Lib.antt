@@ -1,3 +1,4 @@
 pub mod Completion
 pub mod Laws
 pub mod Making
+pub mod Theories

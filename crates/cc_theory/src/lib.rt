@@ -5,5 +5,7 @@ mod counting;
 pub mod laws;
 mod making;
 mod rule;
+mod theory;
 
 pub use rule::{Timed, TimedHead, TimedRule};
+pub use theory::Theory;

@@ -17,11 +17,7 @@ pub(crate) fn stride(sig: &Sig) -> u64
 }
 
 /// The initial rules of a simple fluent with so many values.
-fn add_values<'a>(
-    number: u32,
-    size: u32,
-    rules: &mut Vec<TimedRule<'a>>,
-) -> Result<(), OutOfMemory>
+fn add_values<'a>(number: u32, size: u32, rules: &mut Vec<TimedRule<'a>>) -> Result<(), OutOfMemory>
     ensures { OnOk result (rules.new.items ≡ rules.old.items ++ map (words.initial_rule number) (upto size)) }
 {
     for value in 0..size {
@@ -101,12 +97,7 @@ fn rule_of<'a>(law: &GroundLaw<'a>, stride: u64, now: u32, before: u32) -> Timed
 }
 
 /// The rule of a law at a step: a static law has one at each step, a dynamic one at each step but the last.
-fn rule_at<'a>(
-    law: &GroundLaw<'a>,
-    stride: u64,
-    horizon: u32,
-    step: u32,
-) -> Option<TimedRule<'a>>
+fn rule_at<'a>(law: &GroundLaw<'a>, stride: u64, horizon: u32, step: u32) -> Option<TimedRule<'a>>
     requires step { step ≤ horizon }
     requires horizon { horizon ≤ 1000 }
     requires stride { stride ≤ 8589934592 }
