@@ -132,8 +132,8 @@ rules_by_cases d horizon =
     let is = instances d.universe d.laws in
     ap (λ (l : List TimedRule). all_initial_timed 0 d.universe.fluents ++ l)
     (flat_same (λ step. flat_map (timed_of_instance d horizon step) is) (λ step. flat_map (of_case d horizon step) (cases d)) (upto (horizon + 1)) (λ step.
-    flat_same (timed_of_instance d horizon step) (λ i. flat_map (of_case d horizon step) (case_of_instance d.universe i)) is (instance_same d horizon step)
-    ∙ sym (flat_flat (of_case d horizon step) (case_of_instance d.universe) is)))
+      flat_same (timed_of_instance d horizon step) (λ i. flat_map (of_case d horizon step) (case_of_instance d.universe i)) is (instance_same d horizon step)
+      ∙ sym (flat_flat (of_case d horizon step) (case_of_instance d.universe) is)))
 
 -- ---- what a term reads
 
@@ -186,7 +186,7 @@ module _ (u : Universe) where
   any_reads : (term : Ground) → IsTermOf u (postfix term) → Reads (length u.fluents + length u.actions) term
   any_reads term is v w agree =
       let count : length (domain_sizes (constants_in u)) ≡ length u.fluents + length u.actions =
-      length-map (constants_in u) (λ (c : Const). length c.domain) ∙ length-append u.fluents u.actions in
+          length-map (constants_in u) (λ (c : Const). length c.domain) ∙ length-append u.fluents u.actions in
       reads (domain_sizes (constants_in u)) v w (λ constant less. agree constant (subst (λ (n : ℕ). constant < n) count less)) term is.fits
 
   written_reads : (term : Ground) (after : List Node) → Some (postfix term) ≡ Some after → IsTermOf u after → Reads (length u.fluents + length u.actions) term
