@@ -1,4 +1,5 @@
 mod Cases
+mod Grouping
 mod Lists
 mod Made
 mod Pointwise

@@ -2,6 +2,7 @@
 #![tactic(auto)]
 
 mod counting;
+mod groups;
 pub mod laws;
 mod making;
 mod rule;
