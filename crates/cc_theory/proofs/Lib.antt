@@ -1,6 +1,9 @@
 mod Cases
 mod Grouping
+mod HeadsFit
 mod Lists
 mod Made
+mod Places
 mod Pointwise
+mod Reading
 mod Supported

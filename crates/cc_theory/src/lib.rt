@@ -3,6 +3,7 @@
 
 mod counting;
 mod groups;
+mod index;
 pub mod laws;
 mod making;
 mod rule;

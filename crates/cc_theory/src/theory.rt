@@ -1,17 +1,21 @@
 //! The causal theory of a horizon.
-ghost use Rattle.std.specs.Prelude.{◌≡◌, ◌≤◌, IfOk, IfErr, OnOk, length, nat_lt, if◌then◌else◌, Some, None};
-ghost use Rattle.std.specs.List.{AllZip};
+ghost use Rattle.std.specs.Prelude.{◌≡◌, ◌≤◌, IfOk, IfErr, OnOk, length, nat_eq, nat_lt, if◌then◌else◌, Some, None};
+ghost use Rattle.std.specs.List.{AllByRecursion, AllZip};
 ghost use Rattle.cc_defs.specs.declared.refusal.Fault.TheVariants as faults;
 ghost use Rattle.cc_defs.specs.declared.refusal.LimitAt.TheVariants as limits;
 ghost use Rattle.cc_defs.specs.Description.{Description, stride as stride_between};
 ghost use Rattle.cc_defs.specs.Refusals.{IsRefusedBy, past as refusal_past};
 ghost use Rattle.cc_defs.specs.TimedRules.{timed_rules};
+ghost use Rattle.cc_defs.specs.Declarations.{numbers_where};
+ghost use Rattle.cc_theory.specs.Groups.{place_keys, place_of, sizes_of, HasPlace};
 ghost use Rattle.cc_theory.specs.Making.{rules_for};
-ghost use Rattle.cc_theory.specs.Theories.{AreLawsOf, AreLawsFor, IsRuleOf, rules_refusal};
+ghost use Rattle.cc_theory.specs.Theories.{AreLawsOf, AreLawsFor, IsAtom, IsRuleOf, causes_of, denials_of, rules_refusal};
 
 use crate::counting::rule_count;
+use crate::groups::group;
+use crate::index::{Index, index_of, place};
 use crate::making::all_rules;
-use crate::rule::TimedRule;
+use crate::rule::{TimedHead, TimedRule};
 use cc_arena::{GroundLaw, Laws};
 use cc_defs::{Fault, LimitAt, Refusal, Sig};
 use std::alloc::Global;
@@ -54,8 +58,10 @@ fn rules_meant<'a>(
     laws: &[GroundLaw<'a>],
     horizon: u32,
 ) -> Result<Vec<TimedRule<'a>>, Fault>
-    requires { horizon ≤ 1000 }
-    ensures made { IfOk result (λ rules. rules.items ≡ rules_for sig.now laws.now horizon) }
+    requires horizon { horizon ≤ 1000 }
+    requires laws { AreLawsFor sig.now laws.now }
+    ensures short { IfOk result (λ rules. length rules.items ≤ 8000000) }
+    ensures heads { IfOk result (λ rules. AllByRecursion (λ rule. HasPlace (sizes_of sig.now) horizon rule.head) rules.items) }
     ensures rules { (d : Description) → AreLawsOf sig.now laws.now d → IfOk result (λ rules. AllZip (IsRuleOf (stride_between d)) rules.items (timed_rules d horizon)) }
     ensures few { (d : Description) → AreLawsOf sig.now laws.now d → OnOk result (length (timed_rules d horizon) ≤ 8000000) }
     ensures refused { (d : Description) → AreLawsOf sig.now laws.now d → IfErr result (IsRefusedBy (rules_refusal d horizon)) }
@@ -70,14 +76,18 @@ pub struct Theory<'a> {
     sig: &'a Sig,
     horizon: u32,
     rules: Vec<TimedRule<'a>>,
+    index: Index,
 }
 
 impl<'a> Model for Theory<'a> {
+    ghost use Rattle.cc_theory.specs.Groups.{AreIndexed};
     ghost use Rattle.cc_theory.specs.Theories.{PlainTheory};
 
     ghost Value = { PlainTheory };
 
     ghost view = { λ theory. record { signature = theory.sig.now; horizon = theory.horizon; rules = theory.rules.items } };
+
+    ghost invariant = { λ theory. AreIndexed theory.sig.now theory.horizon theory.rules.items theory.index.firsts.items theory.index.begins.items theory.index.numbers.items };
 }
 
 impl<'a> Theory<'a> {
@@ -100,10 +110,12 @@ impl<'a> Theory<'a> {
         ensures refused { (d : Description) → AreLawsOf sig.now laws.now d → IfErr result (IsRefusedBy (rules_refusal d horizon)) }
     {
         let rules = rules_meant(alloc, sig, laws.laws(), horizon)?;
+        let index = index_of(alloc, sig, horizon, &rules)?;
         Ok(Theory {
             sig,
             horizon,
             rules,
+            index,
         })
     }
 
@@ -112,6 +124,30 @@ impl<'a> Theory<'a> {
         ensures { result.now ≡ self.now.rules }
     {
         self.rules.as_slice()
+    }
+
+    /// The numbers of the rules whose head is that the position has the value of this index, ascending.
+    pub fn completion(&self, position: u64, value: u32) -> &[u32]
+        requires { IsAtom self.now.signature self.now.horizon position value }
+        ensures { result.now ≡ causes_of self.now.rules position value }
+    {
+        self.with_head(TimedHead::Atom { position, value })
+    }
+
+    /// The numbers of the rules whose head is falsity, ascending.
+    pub fn denials(&self) -> &[u32]
+        ensures { result.now ≡ denials_of self.now.rules }
+    {
+        self.with_head(TimedHead::Falsity)
+    }
+
+    fn with_head(&self, head: TimedHead) -> &[u32]
+        requires { HasPlace (sizes_of self.now.signature) self.now.horizon head }
+        ensures numbers { result.now ≡ numbers_where (nat_eq (place_of (sizes_of self.now.signature) self.now.horizon head)) 0 (place_keys (sizes_of self.now.signature) self.now.horizon self.now.rules) }
+        ensures heads { AllByRecursion (λ rule. HasPlace (sizes_of self.now.signature) self.now.horizon rule.head) self.now.rules }
+    {
+        let key = place(self.sig, &self.index.firsts, self.horizon, head);
+        group(&self.index.begins, &self.index.numbers, key)
     }
 
     /// The signature that it was made of.

@@ -1,6 +1,8 @@
 use Rattle.std.proofs.Common.{ℕ, ◌≤◌, IfErr, OnOk, Some, None, subst, nat_lt}
 use Rattle.std.specs.Prelude.{if◌then◌else◌}
-use Rattle.std.specs.List.{AllZip}
+use Rattle.std.specs.List.{AllByRecursion, AllZip}
+use Rattle.cc_theory.specs.Groups.{sizes_of, HasPlace}
+use Rattle.cc_theory.proofs.HeadsFit.{heads_fit}
 use Rattle.cc_defs.specs.declared.refusal.LimitAt.TheVariants as limits
 use Rattle.cc_defs.specs.Description.{stride}
 use Rattle.cc_defs.specs.Refusals.{IsRefusedBy, past}
@@ -22,3 +24,8 @@ pub returns-clause-refused : goal.returns-clause-refused
 returns-clause-refused c = λ d of.
     subst (λ (n : ℕ). IfErr c.rules_within.result (IsRefusedBy (if nat_lt 8000000 n then Some (past limits.Rules) else None)))
     (same_length c.args.sig.now c.args.laws.now d of c.args.horizon) c.rules_within.ensures.refused
+
+pub returns-clause-heads : goal.returns-clause-heads
+returns-clause-heads c =
+    as_made (λ made. made.items) (λ rules. AllByRecursion (λ rule. HasPlace (sizes_of c.args.sig.now) c.args.horizon rule.head) rules) c.rules_within.result
+    (rules_for c.args.sig.now c.args.laws.now c.args.horizon) (heads_fit c.args.sig.now c.args.laws.now c.args.horizon c.requires.laws) c.rules_within.ensures.made
