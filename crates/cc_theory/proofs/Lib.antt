@@ -3,7 +3,7 @@ mod Grouping
 mod HeadsFit
 mod Lists
 mod Made
-mod Places
+mod HeadPlaces
 mod Pointwise
 mod Reading
 mod Supported

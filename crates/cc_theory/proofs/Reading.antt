@@ -11,7 +11,7 @@ use Rattle.cc_theory.specs.declared.rule.TimedHead.TheVariants as timed_heads
 use Rattle.cc_theory.specs.declared.rule.TimedRule.{TimedRule}
 use Rattle.cc_theory.specs.Groups.{sizes_of, place_of, place_keys, places, HasPlace, AreIndexed}
 use Rattle.cc_theory.specs.Theories.{IsAtom}
-use Rattle.cc_theory.proofs.Places.{place_below}
+use Rattle.cc_theory.proofs.HeadPlaces.{place_below}
 
 module _ (signature : Signature) (horizon : ℕ) (rules : List TimedRule) (firsts begins numbers : List ℕ) (are : AreIndexed signature horizon rules firsts begins numbers)
     (head : TimedHead) (key : ℕ) (has : HasPlace (sizes_of signature) horizon head) (is : key ≡ place_of (sizes_of signature) horizon head) where

@@ -1,6 +1,6 @@
 use Rattle.std.proofs.Common.{◌∙◌, ℕ, List, subst, sym, ap, rules}
 use Rattle.cc_theory.specs.Groups.{sizes_of, AreBelow, place_keys, places}
-use Rattle.cc_theory.proofs.Places.{keys_below}
+use Rattle.cc_theory.proofs.HeadPlaces.{keys_below}
 use Rattle.cc_theory.proofs.index.index_of.Goals as goal
 
 pub grouped-requires-clause-below : goal.grouped-requires-clause-below

@@ -1,6 +1,6 @@
 use Rattle.std.proofs.Common.{arith, rules, subst}
 use Rattle.cc_theory.specs.Groups.{sizes_of, HasPlace}
-use Rattle.cc_theory.proofs.Places.{constant_within, firsts_long, place_fits}
+use Rattle.cc_theory.proofs.HeadPlaces.{constant_within, firsts_long, place_fits}
 use Rattle.cc_theory.proofs.index.place.Goals as goal
 
 pub bounds-firsts-constants : goal.bounds-firsts-constants

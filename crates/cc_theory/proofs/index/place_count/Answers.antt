@@ -1,5 +1,5 @@
 use Rattle.std.proofs.Common.{arith}
-use Rattle.cc_theory.proofs.Places.{firsts_long}
+use Rattle.cc_theory.proofs.HeadPlaces.{firsts_long}
 use Rattle.cc_theory.proofs.index.place_count.Goals as goal
 
 pub bounds-firsts-stride : goal.bounds-firsts-stride

@@ -1,5 +1,5 @@
 use Rattle.std.proofs.Common.{arith}
-use Rattle.cc_theory.proofs.Places.{sizes_step}
+use Rattle.cc_theory.proofs.HeadPlaces.{sizes_step}
 use Rattle.cc_theory.proofs.index.sizes.Goals as goal
 
 pub loop-number-preserved : goal.loop-number-preserved

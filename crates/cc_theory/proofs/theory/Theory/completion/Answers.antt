@@ -1,6 +1,6 @@
 use Rattle.std.proofs.Common.{◌∙◌}
 use Rattle.cc_theory.specs.Groups.{sizes_of}
-use Rattle.cc_theory.proofs.Places.{causes_are}
+use Rattle.cc_theory.proofs.HeadPlaces.{causes_are}
 use Rattle.cc_theory.proofs.Reading.{atom_place}
 use Rattle.cc_theory.proofs.theory.Theory.completion.Goals as goal
 

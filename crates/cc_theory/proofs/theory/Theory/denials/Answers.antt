@@ -1,6 +1,6 @@
 use Rattle.std.proofs.Common.{◌∙◌}
 use Rattle.cc_theory.specs.Groups.{sizes_of}
-use Rattle.cc_theory.proofs.Places.{denials_are}
+use Rattle.cc_theory.proofs.HeadPlaces.{denials_are}
 use Rattle.cc_theory.proofs.theory.Theory.denials.Goals as goal
 
 pub returns : goal.returns
