@@ -1,7 +1,7 @@
 -- The rules of a horizon by cases: a case is a ground law with the trees of its terms.
-use Rattle.std.proofs.Common.{◌≡◌, ◌∙◌, ℕ, zero, suc, ◌+◌, ◌*◌, ◌<◌, ◌≤◌, Bool, true, false, ◌&&◌, ◌||◌, not, List, [], ◌∷◌, ◌++◌, length, map, flat_map, nat_lt, slice_get, Option, Some, None, refl, sym, ap, subst, arith, length-append}
+use Rattle.std.proofs.Common.{◌≡◌, ◌∙◌, ℕ, ◌+◌, ◌*◌, ◌<◌, Bool, true, false, ◌&&◌, ◌||◌, not, List, [], ◌∷◌, ◌++◌, length, flat_map, nat_lt, Option, Some, None, refl, sym, ap, subst, length-append}
 use Rattle.std.specs.Option.{option_map}
-use Rattle.std.specs.Prelude.{◌==◌, IsTrue, IsNone, slice_index, if◌then◌else◌}
+use Rattle.std.specs.Prelude.{◌==◌, IsNone, slice_index, if◌then◌else◌}
 use Rattle.std.specs.Bool.{beq}
 use Rattle.std.specs.List.{AllByRecursion}
 use Rattle.std.proofs.lemmas.List.{length-map}
@@ -17,7 +17,7 @@ use Rattle.cc_defs.specs.declared.signature.LawKind.TheVariants as law_kinds
 use Rattle.cc_defs.specs.Conditions.{AreGroundLaws, IsFluentTerm, IsTermOf, IsGroundFluentHead, IsGroundSimpleHead, IsGroundActionHead, IsGroundOfKind}
 use Rattle.cc_defs.specs.Description.{Description, domain_sizes, stride, values_at}
 use Rattle.cc_defs.specs.Environments.{Instance, Under, Together, instances}
-use Rattle.cc_defs.specs.GroundLaws.{PlainGroundLaw, ground_head, ground_laws, law_of_instance, law_with, pair_law}
+use Rattle.cc_defs.specs.GroundLaws.{PlainGroundLaw, ground_head, law_of_instance, law_with}
 use Rattle.cc_defs.specs.Nodes.{nodes_of, term_of}
 use Rattle.cc_defs.specs.Resolved.{Formula, Law}
 use Rattle.cc_defs.specs.Rules.{upto}
@@ -27,7 +27,7 @@ use Rattle.cc_defs.specs.Terms as terms
 use Rattle.cc_defs.specs.TimedRules.{TimedRule, all_initial_timed, at_step, head_at_step, joined_parts, moved, moved_operands, part_at, timed_of_kind, timed_of_instance, timed_rules, timed_together, timed_with}
 use Rattle.cc_defs.specs.Universe.{Universe, constants_in}
 use Rattle.cc_theory.specs.Completion.{holds}
-use Rattle.cc_theory.proofs.Lists.{In, all_append, all_left, all_right, flat_flat, flat_same}
+use Rattle.cc_theory.proofs.Lists.{all_append, all_left, all_right, flat_flat, flat_same}
 use Rattle.cc_theory.proofs.Supported.{meets_head}
 
 -- ---- cases
@@ -132,8 +132,8 @@ rules_by_cases d horizon =
     let is = instances d.universe d.laws in
     ap (λ (l : List TimedRule). all_initial_timed 0 d.universe.fluents ++ l)
     (flat_same (λ step. flat_map (timed_of_instance d horizon step) is) (λ step. flat_map (of_case d horizon step) (cases d)) (upto (horizon + 1)) (λ step.
-      flat_same (timed_of_instance d horizon step) (λ i. flat_map (of_case d horizon step) (case_of_instance d.universe i)) is (instance_same d horizon step)
-      ∙ sym (flat_flat (of_case d horizon step) (case_of_instance d.universe) is)))
+    flat_same (timed_of_instance d horizon step) (λ i. flat_map (of_case d horizon step) (case_of_instance d.universe i)) is (instance_same d horizon step)
+    ∙ sym (flat_flat (of_case d horizon step) (case_of_instance d.universe) is)))
 
 -- ---- what a term reads
 
@@ -142,9 +142,6 @@ abbrev pub Reads : ℕ → Ground → Type 0
 Reads count term = (v w : ℕ → ℕ) → ((constant : ℕ) → constant < count → v constant ≡ w constant) → truth v term ≡ truth w term
 
 module _ (sizes : List ℕ) (v w : ℕ → ℕ) (agree : (constant : ℕ) → constant < length sizes → v constant ≡ w constant) where
-  abbrev Agrees : Ground → Type 0
-  Agrees term = AllByRecursion (Fits sizes) (postfix term) → truth v term ≡ truth w term
-
   mutual
     reads : (term : Ground) → AllByRecursion (Fits sizes) (postfix term) → truth v term ≡ truth w term
     reads terms.Truth fits = refl
@@ -186,7 +183,7 @@ module _ (u : Universe) where
   any_reads : (term : Ground) → IsTermOf u (postfix term) → Reads (length u.fluents + length u.actions) term
   any_reads term is v w agree =
       let count : length (domain_sizes (constants_in u)) ≡ length u.fluents + length u.actions =
-          length-map (constants_in u) (λ (c : Const). length c.domain) ∙ length-append u.fluents u.actions in
+      length-map (constants_in u) (λ (c : Const). length c.domain) ∙ length-append u.fluents u.actions in
       reads (domain_sizes (constants_in u)) v w (λ constant less. agree constant (subst (λ (n : ℕ). constant < n) count less)) term is.fits
 
   written_reads : (term : Ground) (after : List Node) → Some (postfix term) ≡ Some after → IsTermOf u after → Reads (length u.fluents + length u.actions) term

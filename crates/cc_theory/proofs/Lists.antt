@@ -1,5 +1,5 @@
 -- Members of lists, and rows.
-use Rattle.std.proofs.Common.{◌≡◌, ◌∙◌, ℕ, zero, suc, ◌+◌, ◌<◌, ◌≤◌, ◌⊎◌, inl, inr, Bool, true, false, ◌&&◌, List, [], ◌∷◌, ◌++◌, length, map, flat_map, filter, get_or, set, take, drop, slice_get, Option, Some, None, refl, sym, ap, subst, arith}
+use Rattle.std.proofs.Common.{◌≡◌, ◌∙◌, ℕ, zero, suc, ◌+◌, ◌<◌, ◌⊎◌, inl, inr, Bool, true, false, ◌&&◌, List, [], ◌∷◌, ◌++◌, length, map, flat_map, filter, get_or, set, take, drop, slice_get, Some, refl, sym, ap, subst, arith}
 use Rattle.std.specs.Prelude.{Contains, IsTrue, slice_index, if◌then◌else◌}
 use Rattle.std.specs.List.{AllByRecursion, AllZip}
 use Rattle.cc_defs.specs.Rows.{IsRow}
@@ -148,7 +148,7 @@ pub flat_same : {X Y : Type 0} (f g : X → List Y) (xs : List X) → ((x : X) �
 flat_same f g [] same = refl
 flat_same f g (x ∷ xs) same = ap (λ l. l ++ flat_map f xs) (same x) ∙ ap (λ l. g x ++ l) (flat_same f g xs same)
 
-append_three : {X : Type 0} (xs ys zs : List X) → xs ++ (ys ++ zs) ≡ (xs ++ ys) ++ zs
+pub append_three : {X : Type 0} (xs ys zs : List X) → xs ++ (ys ++ zs) ≡ (xs ++ ys) ++ zs
 append_three [] ys zs = refl
 append_three (x ∷ xs) ys zs = ap (λ l. x ∷ l) (append_three xs ys zs)
 

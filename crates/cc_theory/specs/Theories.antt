@@ -1,5 +1,5 @@
 -- Theories of a horizon as they are handed out: when a rule is one of a description, and which rules have an atom for their head.
-use Rattle.std.specs.Prelude.{◌≡◌, ℕ, ◌+◌, ◌*◌, ◌<◌, ◌%◌, ◌==◌, ◌&&◌, Bool, true, false, List, length, slice_get, Option, Some, None, nat_lt, if◌then◌else◌}
+use Rattle.std.specs.Prelude.{◌≡◌, ℕ, ◌+◌, ◌*◌, ◌<◌, ◌%◌, ◌==◌, ◌&&◌, ◌↔◌, Bool, true, false, List, length, slice_get, Option, Some, None, nat_lt, if◌then◌else◌}
 use Rattle.cc_arena.specs.declared.ground_laws.GroundLaw.{GroundLaw}
 use Rattle.cc_arena.specs.GroundViews.{plain_ground_laws}
 use Rattle.cc_defs.specs.declared.node.GroundHead.{GroundHead}
@@ -9,9 +9,14 @@ use Rattle.cc_defs.specs.declared.refusal.Refusal.{Refusal}
 use Rattle.cc_defs.specs.declared.signature.Const.{Const}
 use Rattle.cc_defs.specs.Conditions.{AreGroundLaws, IsSignatureOfDescription}
 use Rattle.cc_defs.specs.Declarations.{numbers_where}
-use Rattle.cc_defs.specs.Description.{Description}
+use Rattle.cc_defs.specs.Description.{Description, sizes_at}
 use Rattle.cc_defs.specs.GroundLaws.{StandFor}
+use Rattle.cc_defs.specs.Paths.{IsPath}
 use Rattle.cc_defs.specs.Refusals.{past}
+use Rattle.cc_defs.specs.Rows.{IsRow}
+use Rattle.cc_defs.specs.Rules.{rules_at}
+use Rattle.cc_defs.specs.Theories.{IsModel}
+use Rattle.cc_theory.specs.Completion.{MeetsCompletion}
 use Rattle.cc_defs.specs.Signatures.{Signature, ground_constants, position_count}
 use Rattle.cc_defs.specs.Terms.{Ground, postfix}
 use Rattle.cc_defs.specs.Terms as terms
@@ -74,6 +79,14 @@ pub record PlainTheory : Type 0 where
 -- more rules than their limit
 abbrev pub rules_refusal : Description → ℕ → Option Refusal
 rules_refusal d horizon = if nat_lt 8000000 (length (timed_rules d horizon)) then Some (past limits.Rules) else None
+
+-- the rows that are models of a horizon are those that meet the completion of its rules; they are the paths
+abbrev pub ModelsMeetCompletionOf : Description → ℕ → Type 0
+ModelsMeetCompletionOf d horizon = (row : List ℕ) → IsRow (sizes_at d horizon) row →
+    IsModel (sizes_at d horizon) (rules_at d horizon) row ↔ MeetsCompletion (sizes_at d horizon) (timed_rules d horizon) row
+
+abbrev pub ModelsArePathsOf : Description → ℕ → Type 0
+ModelsArePathsOf d horizon = (row : List ℕ) → IsModel (sizes_at d horizon) (rules_at d horizon) row ↔ IsPath d horizon row
 
 -- an atom: a position of the horizon, and the index of a value of the constant there
 pub record IsAtom (signature : Signature) (horizon position value : ℕ) : Type 0 where

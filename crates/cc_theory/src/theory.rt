@@ -9,11 +9,12 @@ ghost use Rattle.cc_defs.specs.TimedRules.{timed_rules};
 ghost use Rattle.cc_defs.specs.Declarations.{numbers_where};
 ghost use Rattle.cc_theory.specs.Groups.{place_keys, place_of, sizes_of, HasPlace};
 ghost use Rattle.cc_theory.specs.Making.{rules_for};
-ghost use Rattle.cc_theory.specs.Theories.{AreLawsOf, AreLawsFor, IsAtom, IsRuleOf, causes_of, denials_of, rules_refusal};
+ghost use Rattle.cc_theory.specs.Theories.{AreLawsOf, AreLawsFor, IsAtom, IsRuleOf, ModelsArePathsOf, ModelsMeetCompletionOf, causes_of, denials_of, rules_refusal};
 
 use crate::counting::rule_count;
 use crate::groups::group;
 use crate::index::{Index, index_of, place};
+use crate::laws::{models_are_paths, models_meet_completion};
 use crate::making::all_rules;
 use crate::rule::{TimedHead, TimedRule};
 use cc_arena::{GroundLaw, Laws};
@@ -95,7 +96,29 @@ impl<'a> Theory<'a> {
     /// is a cause of itself; then step by step, for each ground law in order, its rule at this step. A static law has one at
     /// each step, a dynamic one at each step but the last; head and `if` part of a fluent dynamic law stand one step later than
     /// its `after` part. Refuses more than 8,000,000 rules (14, rules) before any is made.
+    /// The models of the theory are the rows that meet the completion of its rules, and the paths of so many transitions.
     pub fn at(
+        alloc: Global,
+        sig: &'a Sig,
+        laws: &'a Laws<'a>,
+        horizon: u32,
+    ) -> Result<Theory<'a>, Fault>
+        requires horizon { horizon ≤ 1000 }
+        requires laws { AreLawsFor sig.now laws.now }
+        ensures signature { IfOk result (λ theory. theory.signature ≡ sig.now) }
+        ensures horizon { IfOk result (λ theory. theory.horizon ≡ horizon) }
+        ensures rules { (d : Description) → AreLawsOf sig.now laws.now d → IfOk result (λ theory. AllZip (IsRuleOf (stride_between d)) theory.rules (timed_rules d horizon)) }
+        ensures few { (d : Description) → AreLawsOf sig.now laws.now d → OnOk result (length (timed_rules d horizon) ≤ 8000000) }
+        ensures refused { (d : Description) → AreLawsOf sig.now laws.now d → IfErr result (IsRefusedBy (rules_refusal d horizon)) }
+        ensures completed { (d : Description) → AreLawsOf sig.now laws.now d → ModelsMeetCompletionOf d horizon }
+        ensures paths { (d : Description) → AreLawsOf sig.now laws.now d → ModelsArePathsOf d horizon }
+    {
+        models_meet_completion();
+        models_are_paths();
+        Theory::made(alloc, sig, laws, horizon)
+    }
+
+    fn made(
         alloc: Global,
         sig: &'a Sig,
         laws: &'a Laws<'a>,

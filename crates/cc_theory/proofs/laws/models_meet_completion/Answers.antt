@@ -1,6 +1,10 @@
-use Rattle.cc_theory.proofs.Supported.{supported_model, completion_supported}
-use Rattle.cc_theory.proofs.Cases.{rules_by_cases, cases_fit, body_at, head_at}
+use Rattle.cc_theory.proofs.Theorems.{completion}
 use Rattle.cc_theory.proofs.laws.models_meet_completion.Goals as goal
 
 pub returns : goal.returns
-returns c = let x = supported_model in let y = completion_supported in let z = rules_by_cases in ?
+returns c = completion (record {
+  terms_mean = c.terms_mean_formulas.ensures;
+  one = c.one_formula.ensures;
+  heads_mean = c.heads_mean_heads.ensures;
+  there = c.heads_there_are_ground.ensures;
+})
