@@ -57,5 +57,5 @@ well_grounded signature laws d are of =
       values = subst (λ (a : List Const). HaveOwnValues (with w w.fluents a)) actions (subst (λ (f : List Const). HaveOwnValues (with w f u.actions)) fluents own);
       laws = subst (AreGroundLaws w) of.laws_are
           (subst (λ (a : List Const). AreGroundLaws (with w w.fluents a) (plain_ground_laws laws)) actions
-            (subst (λ (f : List Const). AreGroundLaws (with w f u.actions) (plain_ground_laws laws)) fluents fit));
+          (subst (λ (f : List Const). AreGroundLaws (with w f u.actions) (plain_ground_laws laws)) fluents fit));
     }
