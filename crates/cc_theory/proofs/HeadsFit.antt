@@ -1,8 +1,7 @@
 -- The heads of the rules that are made from ground laws are atoms of the horizon, or falsity.
-use Rattle.std.proofs.Common.{◌≡◌, ◌∙◌, ℕ, zero, suc, ◌+◌, ◌*◌, ◌/◌, ◌%◌, ◌<◌, ◌≤◌, Bool, true, false, List, [], ◌∷◌, ◌++◌, length, map, flat_map, nat_lt, slice_get, Option, Some, None, refl, sym, ap, subst, arith, option_map, add-one, length-append}
+use Rattle.std.proofs.Common.{◌≡◌, ◌∙◌, ℕ, zero, suc, ◌+◌, ◌*◌, ◌<◌, ◌≤◌, Bool, true, false, List, [], ◌∷◌, ◌++◌, length, map, flat_map, nat_lt, slice_get, Some, None, refl, sym, ap, subst, arith, option_map, length-append}
 use Rattle.std.specs.Prelude.{if◌then◌else◌}
 use Rattle.std.specs.List.{AllByRecursion}
-use Rattle.std.proofs.Math.Nat.{mod-eq_of_lt}
 use Rattle.std.proofs.lemmas.Bool.{ltb-true}
 use Rattle.std.proofs.lemmas.List.{length-map}
 use Rattle.std.proofs.lemmas.Nat.{mod-mul-add, div-mul-add}
@@ -21,11 +20,10 @@ use Rattle.cc_defs.specs.Description.{domain_sizes}
 use Rattle.cc_defs.specs.Rules.{upto}
 use Rattle.cc_defs.specs.Signatures.{Signature}
 use Rattle.cc_defs.specs.Universe.{Universe, constants_in}
-use Rattle.cc_theory.specs.declared.rule.TimedHead.{TimedHead}
 use Rattle.cc_theory.specs.declared.rule.TimedHead.TheVariants as timed_heads
 use Rattle.cc_theory.specs.declared.rule.TimedRule.{TimedRule}
 use Rattle.cc_theory.specs.Groups.{sizes_of, HasPlace}
-use Rattle.cc_theory.specs.Making.{all_initial, head_at, initial_of, initial_rule, rule_of, rule_at, rule_of_kind, rules_at_step, rules_for, rules_in, stride_of}
+use Rattle.cc_theory.specs.Making.{all_initial, head_at, initial_of, initial_rule, rule_at, rule_of_kind, rules_at_step, rules_for, rules_in}
 use Rattle.cc_theory.specs.Theories.{AreLawsFor}
 use Rattle.cc_theory.proofs.Made.{map_behind, flat_behind}
 

@@ -1,5 +1,5 @@
 -- The rules of a horizon as loops make and count them.
-use Rattle.std.proofs.Common.{◌≡◌, ◌∙◌, ℕ, zero, suc, ◌+◌, ◌<◌, ◌≤◌, Bool, true, false, List, [], ◌∷◌, ◌++◌, length, map, flat_map, nat_lt, min, drop, slice_get, Option, Some, None, refl, sym, ap, subst, arith, length-append, append_assoc, add-one, option_map, ◌%◌, ◌*◌}
+use Rattle.std.proofs.Common.{◌≡◌, ◌∙◌, ℕ, zero, suc, ◌+◌, ◌<◌, Bool, true, false, List, [], ◌∷◌, ◌++◌, length, map, flat_map, nat_lt, min, drop, slice_get, Some, None, refl, sym, ap, subst, arith, length-append, append_assoc, add-one, option_map, ◌%◌}
 use Rattle.std.specs.Prelude.{if◌then◌else◌}
 use Rattle.std.proofs.Math.Nat.{mod-eq_of_lt}
 use Rattle.std.proofs.lemmas.Bool.{lt-ltb, ltb-true}
@@ -10,7 +10,7 @@ use Rattle.cc_defs.specs.declared.signature.LawKind.TheVariants as law_kinds
 use Rattle.cc_defs.specs.Rules.{upto}
 use Rattle.cc_defs.specs.Signatures.{Signature}
 use Rattle.cc_theory.specs.declared.rule.TimedRule.{TimedRule}
-use Rattle.cc_theory.specs.Making.{all_initial, initial_of, rule_of, rule_at, rule_of_kind, rules_at_step, rules_for, rules_in, stride_of, turns}
+use Rattle.cc_theory.specs.Making.{all_initial, initial_of, rule_of_kind, rules_at_step, rules_for, rules_in, stride_of, turns}
 
 not_below : (n : ℕ) → nat_lt n n ≡ false
 not_below n = is_false (nat_lt n n) (λ e. absurd (let less : n < n = ltb-true n n e in omega arith))

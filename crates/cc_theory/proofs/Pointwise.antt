@@ -25,8 +25,8 @@ use Rattle.cc_defs.specs.Terms as terms
 use Rattle.cc_defs.specs.TimedRules.{all_initial_timed, at_step, head_at_step, initial_timed, joined_parts, moved, part_at, timed_of_kind, timed_of_instance, timed_rules, timed_together, timed_with}
 use Rattle.cc_defs.specs.TimedRules as timed
 use Rattle.cc_theory.specs.declared.rule.TimedRule.{TimedRule}
-use Rattle.cc_theory.specs.Making.{all_initial, head_at, initial_of, initial_rule, rule_of, rule_at, rule_of_kind, rules_at_step, rules_for, rules_in, stride_of}
-use Rattle.cc_theory.specs.Theories.{AreLawsOf, IsBody, IsPart, IsRuleOf, plain_head}
+use Rattle.cc_theory.specs.Making.{all_initial, head_at, initial_of, initial_rule, rule_of, rule_at, rule_of_kind, rules_at_step, rules_for, rules_in}
+use Rattle.cc_theory.specs.Theories.{AreLawsOf, IsPart, IsRuleOf, plain_head}
 
 module _ {A B : Type 0} (R : A → B → Type 0) where
   zip_behind : (xs : List A) (ys : List B) (more : List A) (others : List B) → AllZip R xs ys → AllZip R more others → AllZip R (xs ++ more) (ys ++ others)

@@ -1,11 +1,11 @@
 -- Reading the numbers of the rules of a head.
-use Rattle.std.proofs.Common.{◌≡◌, ◌∙◌, ℕ, suc, ◌+◌, ◌-◌, ◌*◌, ◌/◌, ◌%◌, ◌<◌, ◌≤◌, nat_eq, List, length, take, drop, get_or, slice_get, Some, refl, sym, ap, subst, arith, option_map, length-append}
+use Rattle.std.proofs.Common.{◌≡◌, ◌∙◌, ℕ, ◌+◌, ◌-◌, ◌*◌, ◌/◌, ◌%◌, ◌<◌, ◌≤◌, nat_eq, List, length, take, drop, get_or, slice_get, sym, ap, subst, arith, option_map, length-append}
 use Rattle.std.proofs.Math.Nat.{add-mul, mul-le-mul_left, mul_comm, div-lt_iff_lt-mul}
 use Rattle.std.proofs.lemmas.Option.{slice_get-map, slice_get_within}
 use Rattle.std.proofs.lemmas.List.{length-map}
 use Rattle.cc_defs.specs.declared.signature.Const.{Const}
 use Rattle.cc_defs.specs.Declarations.{numbers_where}
-use Rattle.cc_defs.specs.Signatures.{Signature, ground_constants, position_count}
+use Rattle.cc_defs.specs.Signatures.{Signature, ground_constants}
 use Rattle.cc_theory.specs.declared.rule.TimedHead.{TimedHead}
 use Rattle.cc_theory.specs.declared.rule.TimedHead.TheVariants as timed_heads
 use Rattle.cc_theory.specs.declared.rule.TimedRule.{TimedRule}

@@ -1,6 +1,5 @@
 -- A description that the laws of a signature stand for is grounded well.
-use Rattle.std.proofs.Common.{◌≡◌, ◌∙◌, ℕ, List, [], ◌∷◌, ◌++◌, refl, sym, ap, subst}
-use Rattle.std.specs.List.{AllByRecursion, IsDistinct}
+use Rattle.std.proofs.Common.{◌≡◌, ◌∙◌, List, [], ◌∷◌, subst}
 use Rattle.cc_arena.specs.declared.ground_laws.GroundLaw.{GroundLaw}
 use Rattle.cc_arena.specs.GroundViews.{plain_ground_laws}
 use Rattle.cc_defs.specs.declared.node.GroundHead.{GroundHead}
@@ -8,11 +7,11 @@ use Rattle.cc_defs.specs.declared.node.GroundHead.TheVariants as heads
 use Rattle.cc_defs.specs.declared.signature.Const.{Const}
 use Rattle.cc_defs.specs.declared.signature.LawKind.{LawKind}
 use Rattle.cc_defs.specs.declared.signature.LawKind.TheVariants as law_kinds
-use Rattle.cc_defs.specs.Conditions.{AreGroundLaws, IsGroundFluentHead, IsGroundSimpleHead, IsGroundActionHead, IsGroundOfKind, IsFluentTerm, IsTermOf}
+use Rattle.cc_defs.specs.Conditions.{AreGroundLaws, IsGroundFluentHead, IsGroundSimpleHead, IsGroundActionHead, IsGroundOfKind}
 use Rattle.cc_defs.specs.Description.{Description}
-use Rattle.cc_defs.specs.GroundLaws.{PlainGroundLaw, ground_laws}
+use Rattle.cc_defs.specs.GroundLaws.{PlainGroundLaw}
 use Rattle.cc_defs.specs.Signatures.{Signature}
-use Rattle.cc_defs.specs.Universe.{Universe, HaveOwnValues, constants_in}
+use Rattle.cc_defs.specs.Universe.{Universe, HaveOwnValues}
 use Rattle.cc_theory.specs.Laws.{IsGroundedWell}
 use Rattle.cc_theory.specs.Theories.{AreLawsFor, AreLawsOf}
 

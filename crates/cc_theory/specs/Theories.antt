@@ -1,5 +1,5 @@
 -- Theories of a horizon as they are handed out: when a rule is one of a description, and which rules have an atom for their head.
-use Rattle.std.specs.Prelude.{◌≡◌, ℕ, ◌+◌, ◌*◌, ◌<◌, ◌%◌, ◌==◌, ◌&&◌, ◌↔◌, Bool, true, false, List, length, slice_get, Option, Some, None, nat_lt, if◌then◌else◌}
+use Rattle.std.specs.Prelude.{◌≡◌, ℕ, ◌*◌, ◌<◌, ◌%◌, ◌==◌, ◌&&◌, ◌↔◌, Bool, true, false, List, length, slice_get, Option, Some, None, nat_lt, if◌then◌else◌}
 use Rattle.cc_arena.specs.declared.ground_laws.GroundLaw.{GroundLaw}
 use Rattle.cc_arena.specs.GroundViews.{plain_ground_laws}
 use Rattle.cc_defs.specs.declared.node.GroundHead.{GroundHead}

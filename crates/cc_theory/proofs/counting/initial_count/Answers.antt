@@ -1,4 +1,4 @@
-use Rattle.std.proofs.Common.{◌≡◌, ◌∙◌, ap, subst, length, sym}
+use Rattle.std.proofs.Common.{◌∙◌, ap, length, sym}
 use Rattle.cc_defs.specs.declared.signature.Kind.{Kind}
 use Rattle.cc_theory.specs.Making.{initial_of, initial_rule}
 use Rattle.cc_theory.proofs.Made.{length_values}

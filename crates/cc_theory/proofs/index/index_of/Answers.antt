@@ -1,5 +1,5 @@
-use Rattle.std.proofs.Common.{◌∙◌, ℕ, List, subst, sym, ap, rules}
-use Rattle.cc_theory.specs.Groups.{sizes_of, AreBelow, place_keys, places}
+use Rattle.std.proofs.Common.{rules}
+use Rattle.cc_theory.specs.Groups.{sizes_of}
 use Rattle.cc_theory.proofs.HeadPlaces.{keys_below}
 use Rattle.cc_theory.proofs.index.index_of.Goals as goal
 
