@@ -1,10 +1,17 @@
 mod Cases
+mod Grouping
+mod HeadPlaces
+mod HeadsFit
 mod Lists
 mod Local
+mod Made
 mod Members
 mod Origins
 mod Places
+mod Pointwise
+mod Reading
 mod Same
 mod Supported
 mod Theorems
+mod WellGrounded
 mod Windows

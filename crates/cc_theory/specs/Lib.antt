@@ -1,2 +1,5 @@
 pub mod Completion
+pub mod Groups
 pub mod Laws
+pub mod Making
+pub mod Theories

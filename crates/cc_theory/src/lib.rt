@@ -1,4 +1,13 @@
 //! The theory of a horizon: its rules in time, their completion, and what models have to do with both.
 #![tactic(auto)]
 
+mod counting;
+mod groups;
+mod index;
 pub mod laws;
+mod making;
+mod rule;
+mod theory;
+
+pub use rule::{Timed, TimedHead, TimedRule};
+pub use theory::Theory;

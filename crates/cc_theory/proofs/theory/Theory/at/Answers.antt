@@ -1,0 +1,8 @@
+use Rattle.cc_theory.proofs.WellGrounded.{well_grounded}
+use Rattle.cc_theory.proofs.theory.Theory.at.Goals as goal
+
+pub returns-clause-completed : goal.returns-clause-completed
+returns-clause-completed c = λ d of row is. c.models_meet_completion.ensures d (well_grounded c.args.sig.now c.args.laws.now d c.requires.laws of) c.args.horizon row is
+
+pub returns-clause-paths : goal.returns-clause-paths
+returns-clause-paths c = λ d of row. c.models_are_paths.ensures d (well_grounded c.args.sig.now c.args.laws.now d c.requires.laws of) c.args.horizon row
