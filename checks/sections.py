@@ -1,0 +1,507 @@
+#!/usr/bin/env python3
+"""A plain second reading of docs/formats.md and of the meaning of a description: rules, histories, clause lists, logs.
+
+Reads books of cases and prints for each case what the program cc_sections prints for it. The description is read by
+reference.py. Histories are found by brute force from the paper's definition of a model, over the transition system, and not by
+way of completion or clauses; clause lists and logs follow docs/formats.md. Nothing here is meant to be fast.
+
+A case has, beside the files of a description (the first is the main one), a file `ask` with lines of these forms:
+
+    horizon M           at which horizon; 0 where it is not said
+    query N             which query, from 0; the first where it is not said
+    claim               the clause list denies the claim
+    after I,I,..        the clause list has the key of this row
+    show WORD WORD      what is printed: rules, causes, models, histories, clauses, log
+
+and, where the log is shown, a file `log`.
+
+Usage: checks/sections.py BOOK..
+"""
+import itertools
+import re
+import sys
+
+from reference import (
+    Constant, NoConcurrency, Refused, action_pairs, bracket_environments, cases_of, check_steps, common_values, described, domain_of,
+    environments, first_files, ground_constants, ground_name, applied, is_boolean_constant, run_deep, value_of,
+)
+
+
+# ---------------------------------------------------------------------------------------------------------------
+# Ground laws and the truth of formulas
+# ---------------------------------------------------------------------------------------------------------------
+
+
+def holds(table, formula, environment, state):
+    """The truth of a formula where `state` gives each ground constant its value."""
+    if isinstance(formula, str):
+        return formula == "true"
+    sign = formula[0]
+    if sign == "=":
+        return side(formula[1], environment, state) == side(formula[2], environment, state)
+    if sign == "-":
+        return not holds(table, formula[1], environment, state)
+    if sign in ("/\\", "\\/"):
+        quantify = all if sign == "/\\" else any
+        return quantify([holds(table, formula[3], inner, state) for inner in bracket_environments(table, formula, environment)])
+    left, right = holds(table, formula[1], environment, state), holds(table, formula[2], environment, state)
+    return {"&": left and right, "++": left or right, "->>": not left or right, "<->": left == right}[sign]
+
+
+def side(term, environment, state):
+    return state[ground_name(term, environment)] if isinstance(term, Constant) else value_of(term, environment)
+
+
+class Law:
+    """A ground law: its head is None for `false`, or a pair of a ground constant and a value."""
+
+    def __init__(self, kind, head, body, after, environment):
+        self.kind, self.head, self.body, self.after, self.environment = kind, head, body, after, environment
+
+
+def ground_laws(table, laws):
+    found = []
+    for law in laws:
+        if isinstance(law, NoConcurrency):
+            for a, b in action_pairs(table):
+                found.append(Law("fluent", None, "true", ("pair", a, b), {}))
+            continue
+        for environment in environments(table, law):
+            head = (ground_name(law.head[0], environment), value_of(law.head[1], environment)) if law.head else None
+            found.append(Law(law.kind, head, law.body, law.after, environment))
+    return found
+
+
+class Theory:
+    """A description at a horizon: positions, and rules with a head (a position and a value, or None) and parts at steps."""
+
+    def __init__(self, description, horizon):
+        self.table, self.horizon = description.table, horizon
+        constants = [(applied(symbol.name, arguments), symbol) for symbol, arguments in ground_constants(self.table)]
+        self.fluents = [name for name, symbol in constants if symbol.kind != "action"]
+        self.actions = [name for name, symbol in constants if symbol.kind == "action"]
+        self.symbols = dict(constants)
+        self.domains = {name: domain_of(self.table, symbol) for name, symbol in constants}
+        self.laws = ground_laws(self.table, description.laws)
+        self.positions = []
+        for step in range(horizon + 1):
+            self.positions += [(step, name) for name in self.fluents]
+            if step < horizon:
+                self.positions += [(step, name) for name in self.actions]
+        self.place = {position: number for number, position in enumerate(self.positions)}
+        self.sizes = [len(self.domains[name]) for _, name in self.positions]
+        self.rules = self.all_rules()
+
+    def all_rules(self):
+        """Rules in order: a head, and a list of (step, formula, environment), which may be (step, (atom, c, v), {})."""
+        rules = []
+        for name in self.fluents:
+            if self.symbols[name].kind == "simple":
+                for value in self.domains[name]:
+                    rules.append(((0, name, value), [(0, ("atom", name, value), {})]))
+        for step in range(self.horizon + 1):
+            for law in self.laws:
+                if law.kind != "static" and step == self.horizon:
+                    continue
+                later = step + 1 if law.kind == "fluent" else step
+                head = None if law.head is None else (later, *law.head)
+                parts = [(later, law.body, law.environment)]
+                if law.after is not None:
+                    parts.append((step, law.after, law.environment))
+                rules.append((head, parts))
+        return rules
+
+    def part_holds(self, part, row):
+        step, formula, environment = part
+        state = {name: row[(step, name)] for name in self.fluents + self.actions if (step, name) in row}
+        if isinstance(formula, tuple) and formula[0] == "atom":
+            return state[formula[1]] == formula[2]
+        if isinstance(formula, tuple) and formula[0] == "pair":
+            return state[formula[1]] == "true" and state[formula[2]] == "true"
+        return holds(self.table, formula, environment, state)
+
+    def is_model(self, row):
+        """The definition: the row is the one interpretation that satisfies the heads of the rules whose bodies it satisfies."""
+        heads = [head for head, parts in self.rules if all(self.part_holds(part, row) for part in parts)]
+        if None in heads:
+            return False
+        others = 1
+        for position in self.positions:
+            wanted = {head[2] for head in heads if head[:2] == position}
+            values = [value for value in self.domains[position[1]] if all(value == one for one in wanted)]
+            if row[position] not in values:
+                return False
+            others *= len(values)
+        return others == 1
+
+    def rows(self):
+        for values in itertools.product(*[self.domains[name] for _, name in self.positions]):
+            yield dict(zip(self.positions, values))
+
+    def indexes(self, row):
+        return [self.domains[name].index(row[(step, name)]) for step, name in self.positions]
+
+
+def paths(description, horizon):
+    """All paths of so many transitions, by states and transitions alone, in ascending order of their indexes."""
+    theory = Theory(description, horizon)
+    if horizon == 0:
+        found = [row for row in theory.rows() if theory.is_model(row)]
+    else:
+        one = Theory(description, 1)
+        transitions = [row for row in one.rows() if one.is_model(row)]
+        found = [dict(row) for row in transitions]
+        for step in range(1, horizon):
+            longer = []
+            for row in found:
+                for turn in transitions:
+                    if all(row[(step, name)] == turn[(0, name)] for name in one.fluents):
+                        new = dict(row)
+                        new.update({(step + at, name): value for (at, name), value in turn.items()})
+                        longer.append(new)
+            found = longer
+    return theory, sorted(found, key=theory.indexes)
+
+
+def step_at(condition, horizon):
+    return horizon if condition.at == "maxstep" else int(condition.at)
+
+
+def condition_holds(theory, condition, row):
+    return theory.part_holds((step_at(condition, theory.horizon), condition.formula, {}), row)
+
+
+def is_history(theory, query, claimed, row):
+    if not all(condition_holds(theory, condition, row) for condition in query.conditions):
+        return False
+    return not (claimed and query.claim and condition_holds(theory, query.claim, row))
+
+
+# ---------------------------------------------------------------------------------------------------------------
+# Clause lists
+# ---------------------------------------------------------------------------------------------------------------
+
+
+class Clauses:
+    """Makes the clause list of docs/formats.md."""
+
+    def __init__(self, theory):
+        self.theory = theory
+        self.first = [1]
+        for size in theory.sizes:
+            self.first.append(self.first[-1] + size)
+        self.t = self.first[-1]
+        self.last = self.t
+        self.clauses = []
+
+    def write(self, literals):
+        literals = sorted(set(literals), key=lambda literal: (abs(literal), literal > 0))
+        if not any(-literal in literals for literal in literals):
+            self.clauses.append(literals)
+
+    def atom(self, step, name, value):
+        return self.first[self.theory.place[(step, name)]] + self.theory.domains[name].index(value)
+
+    def new(self):
+        self.last += 1
+        return self.last
+
+    def all_of(self, literals):
+        if not literals:
+            return self.t
+        if len(literals) == 1:
+            return literals[0]
+        x = self.new()
+        for literal in literals:
+            self.write([-x, literal])
+        self.write([x] + [-literal for literal in literals])
+        return x
+
+    def any_of(self, literals):
+        if not literals:
+            return -self.t
+        if len(literals) == 1:
+            return literals[0]
+        x = self.new()
+        self.write([-x] + literals)
+        for literal in literals:
+            self.write([x, -literal])
+        return x
+
+    def literal(self, part):
+        step, formula, environment = part
+        table = self.theory.table
+        if isinstance(formula, str):
+            return self.t if formula == "true" else -self.t
+        sign = formula[0]
+        if sign == "atom":
+            return self.atom(step, formula[1], formula[2])
+        if sign == "pair":
+            return self.all_of([self.atom(step, formula[1], "true"), self.atom(step, formula[2], "true")])
+        if sign == "=":
+            return self.equation(step, formula[1], formula[2], environment)
+        if sign == "-":
+            return -self.literal((step, formula[1], environment))
+        if sign in ("/\\", "\\/"):
+            literals = [self.literal((step, formula[3], inner)) for inner in bracket_environments(table, formula, environment)]
+            return self.all_of(literals) if sign == "/\\" else self.any_of(literals)
+        left = self.literal((step, formula[1], environment))
+        if sign == "->>":
+            left = -left
+        right = self.literal((step, formula[2], environment))
+        if sign == "&":
+            return self.all_of([left, right])
+        if sign in ("++", "->>"):
+            return self.any_of([left, right])
+        x = self.new()
+        for clause in ([-x, -left, right], [-x, left, -right], [x, left, right], [x, -left, -right]):
+            self.write(clause)
+        return x
+
+    def equation(self, step, left, right, environment):
+        if isinstance(left, Constant) and isinstance(right, Constant):
+            names = ground_name(left, environment), ground_name(right, environment)
+            pairs = [
+                self.all_of([self.atom(step, names[0], value), self.atom(step, names[1], value)])
+                for value in common_values(self.theory.table, left, right)
+            ]
+            return self.any_of(pairs)
+        if isinstance(left, Constant):
+            return self.atom(step, ground_name(left, environment), value_of(right, environment))
+        if isinstance(right, Constant):
+            return self.atom(step, ground_name(right, environment), value_of(left, environment))
+        return self.t if value_of(left, environment) == value_of(right, environment) else -self.t
+
+    def body(self, parts):
+        asked = [part for part in parts if part[1] != "true"]
+        if len(parts) == 2 and len(asked) == 2:
+            return self.all_of([self.literal(parts[0]), self.literal(parts[1])])
+        if len(parts) == 2:
+            # one part asks nothing: the body is the other; where neither asks, it is `true`
+            return self.literal(parts[1] if parts[0][1] == "true" else parts[0])
+        return self.literal(parts[0])
+
+    def make(self, conditions, denied, key):
+        theory = self.theory
+        self.write([self.t])
+        for position, size in enumerate(theory.sizes):
+            variables = [self.first[position] + value for value in range(size)]
+            self.write(variables)
+            for u, v in itertools.combinations(variables, 2):
+                self.write([-u, -v])
+        bodies = []
+        for head, parts in theory.rules:
+            if head is not None and len(theory.domains[head[1]]) == 1:
+                continue
+            bodies.append((head, self.body(parts)))
+        for step, name in theory.positions:
+            if len(theory.domains[name]) < 2:
+                continue
+            for value in theory.domains[name]:
+                atom = self.atom(step, name, value)
+                literals = [body for head, body in bodies if head == (step, name, value)]
+                self.write([-atom] + literals)
+                for literal in literals:
+                    self.write([atom, -literal])
+        for head, body in bodies:
+            if head is None:
+                self.write([-body])
+        for condition in conditions:
+            self.write([self.literal((step_at(condition, theory.horizon), condition.formula, {}))])
+        if denied is not None:
+            self.write([-self.literal((step_at(denied, theory.horizon), denied.formula, {}))])
+        if key is not None:
+            self.write([self.after(0, key)])
+        return self
+
+    def after(self, position, key):
+        if position == len(key):
+            return -self.t
+        above = [self.first[position] + value for value in range(key[position] + 1, self.theory.sizes[position])]
+        greater = self.any_of(above)
+        same = self.first[position] + key[position]
+        rest = self.after(position + 1, key)
+        return self.any_of([greater, self.all_of([same, rest])])
+
+
+# ---------------------------------------------------------------------------------------------------------------
+# Logs
+# ---------------------------------------------------------------------------------------------------------------
+
+NUMBER = rb"(?:0|[1-9][0-9]{0,8})"
+LITERAL = rb"-?[1-9][0-9]{0,8}"
+LINE = re.compile(
+    rb"(?:(?P<heading>[hw]) (?P<horizon>" + NUMBER + rb")"
+    rb"|d(?P<clause>(?: " + LITERAL + rb")*) 0 (?P<chain>" + NUMBER + rb"(?: " + NUMBER + rb" " + NUMBER + rb")*) 0"
+    rb"|b(?P<row>(?: " + NUMBER + rb")*)"
+    rb"|e (?P<word>empty|found|spent))\n\Z"
+)
+# The chain of a derived line may have zeros inside: it ends at the last 0 of the line.
+
+
+def parts_of_log(log):
+    return re.findall(rb"[^\n]*\n|[^\n]+", log)
+
+
+def split_log(log):
+    """The sections of a log, or the first wrong line with its cause."""
+    lines = parts_of_log(log)
+    if not lines or lines[0] != b"ccalc log 1\n":
+        return None, (1, "header")
+    if len(lines) < 2:
+        return None, (2, "section")
+    first = LINE.match(lines[1])
+    if not first:
+        return None, (2, "form")
+    if not first.group("heading"):
+        return None, (2, "section")
+    sections = []
+    for number, line in enumerate(lines[1:], 2):
+        match = LINE.match(line)
+        if match and match.group("heading"):
+            sections.append((match.group("heading").decode(), int(match.group("horizon")), number, []))
+        else:
+            sections[-1][3].append(line)
+    return sections, None
+
+
+def numbers(text):
+    return [int(one) for one in text.split()]
+
+
+def resolvent(a, b, pivot):
+    for sign in (pivot, -pivot):
+        if sign in a and -sign not in a and -sign in b and sign not in b:
+            return {literal for literal in a | b if abs(literal) != pivot}
+    return None
+
+
+def judge(made, section):
+    """What the lines of a section are found to be, over a clause list."""
+    clauses = [frozenset(clause) for clause in made.clauses]
+    number, blocks = section[2], 0
+    lines = section[3]
+    for place, line in enumerate(lines):
+        number += 1
+        match = LINE.match(line)
+        if not match:
+            return f"wrong {number} form"
+        if match.group("word"):
+            word = match.group("word").decode()
+            if (word == "empty") != (frozenset() in clauses):
+                return f"wrong {number} section"
+            if place + 1 < len(lines):
+                return f"wrong {number + 1} {'section' if LINE.match(lines[place + 1]) else 'form'}"
+            return f"right {word} blocks {blocks} line {number}"
+        if frozenset() in clauses:
+            return f"wrong {number} section"
+        if match.group("row") is not None:
+            row = numbers(match.group("row"))
+            if len(row) != len(made.theory.sizes) or any(index >= size for index, size in zip(row, made.theory.sizes)):
+                return f"wrong {number} row"
+            clauses.append(frozenset(-(made.first[position] + index) for position, index in enumerate(row)))
+            blocks += 1
+            continue
+        literals, chain = numbers(match.group("clause")), numbers(match.group("chain"))
+        order = [(abs(literal), literal > 0) for literal in literals]
+        if any(abs(literal) > made.last for literal in literals) or any(a >= b for a, b in zip(order, order[1:])):
+            return f"wrong {number} literal"
+        if any(not 1 <= named <= len(clauses) for named in chain[::2]):
+            return f"wrong {number} number"
+        reached = clauses[chain[0] - 1]
+        for pivot, named in zip(chain[1::2], chain[2::2]):
+            reached = None if pivot == 0 else resolvent(set(reached), set(clauses[named - 1]), pivot)
+            if reached is None:
+                return f"wrong {number} pivot"
+        if set(reached) != set(literals):
+            return f"wrong {number} clause"
+        clauses.append(frozenset(literals))
+    return f"wrong {number + 1} section"
+
+
+# ---------------------------------------------------------------------------------------------------------------
+# What is printed
+# ---------------------------------------------------------------------------------------------------------------
+
+
+def asked_of(files):
+    asked = {"horizon": 0, "query": 0, "claim": False, "after": None, "show": []}
+    for line in files.get("ask", b"").decode("latin-1").splitlines():
+        words = line.split()
+        if words[0] in ("horizon", "query"):
+            asked[words[0]] = int(words[1])
+        elif words[0] == "claim":
+            asked["claim"] = True
+        elif words[0] == "after":
+            asked["after"] = [int(one) for one in words[1].split(",")] if len(words) > 1 else []
+        elif words[0] == "show":
+            asked["show"] = words[1:]
+    return asked
+
+
+def clause_list(description, query, horizon, claimed, key):
+    made = Clauses(Theory(description, horizon))
+    return made.make(query.conditions, query.claim if claimed else None, key)
+
+
+def case_lines(files, main):
+    description, stop = described(files, main)
+    if stop is not None:
+        return [stop]
+    asked = asked_of(files)
+    query = description.queries[asked["query"]]
+    theory = Theory(description, asked["horizon"])
+    lines = []
+    for what in asked["show"]:
+        if what == "rules":
+            lines.append(f"rules {len(theory.rules)}")
+        elif what == "causes":
+            lines += cause_lines(theory)
+        elif what == "models":
+            lines += ["model " + ",".join(map(str, theory.indexes(row))) for row in paths(description, asked["horizon"])[1]]
+        elif what == "clauses":
+            made = clause_list(description, query, asked["horizon"], asked["claim"], asked["after"])
+            lines.append(f"variables {made.last}")
+            lines += [f"clause {number}:" + "".join(f" {literal}" for literal in clause) for number, clause in enumerate(made.clauses, 1)]
+        elif what == "log":
+            lines += log_lines(description, query, asked, files["log"])
+    return lines
+
+
+def cause_lines(theory):
+    lines = []
+    for place, (step, name) in enumerate(theory.positions):
+        for index, value in enumerate(theory.domains[name]):
+            causes = [number for number, (head, _) in enumerate(theory.rules) if head == (step, name, value)]
+            lines.append(f"causes {place} {index}:" + "".join(f" {number}" for number in causes))
+    denials = [number for number, (head, _) in enumerate(theory.rules) if head is None]
+    return lines + ["denials:" + "".join(f" {number}" for number in denials)]
+
+
+def log_lines(description, query, asked, log):
+    sections, wrong = split_log(log)
+    if wrong:
+        return [f"wrong {wrong[0]} {wrong[1]}"]
+    lines = []
+    for section in sections:
+        made = clause_list(description, query, section[1], section[0] == "h" and query.claim is not None, asked["after"])
+        lines.append(f"section {section[0]} {section[1]} line {section[2]}: {judge(made, section)}")
+    return lines
+
+
+def show(book):
+    for title, files in cases_of(book):
+        lines = case_lines(first_files(files), files[0][0])
+        sys.stdout.write("\n".join([f"=== {title}"] + lines) + "\n")
+
+
+def main():
+    if len(sys.argv) < 2:
+        sys.exit("usage: checks/sections.py BOOK..")
+    for name in sys.argv[1:]:
+        with open(name, "rb") as file:
+            show(file.read())
+
+
+if __name__ == "__main__":
+    run_deep(main)
