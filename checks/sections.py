@@ -22,8 +22,8 @@ import re
 import sys
 
 from reference import (
-    Constant, NoConcurrency, Refused, action_pairs, bracket_environments, cases_of, check_steps, common_values, described, domain_of,
-    environments, first_files, ground_constants, ground_name, applied, is_boolean_constant, run_deep, value_of,
+    Constant, NoConcurrency, action_pairs, applied, bracket_environments, cases_of, common_values, described, domain_of,
+    environments, first_files, ground_constants, ground_name, run_deep, value_of,
 )
 
 
@@ -336,7 +336,6 @@ LINE = re.compile(
     rb"|b(?P<row>(?: " + NUMBER + rb")*)"
     rb"|e (?P<word>empty|found|spent))\n\Z"
 )
-# The chain of a derived line may have zeros inside: it ends at the last 0 of the line.
 
 
 def parts_of_log(log):
