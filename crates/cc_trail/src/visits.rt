@@ -38,7 +38,7 @@ fn is_true_to(entries: &Entries, lit: Lit, level: u32) -> bool
     }
 }
 
-// Makes a literal true by the clause of a number, if its variable has no value. False where the literal is false.
+/// Makes a literal true by the clause of a number, if its variable has no value. False where the literal is false.
 pub fn make_true(entries: &mut Entries, lit: Lit, number: u32) -> bool
     requires over { IsLiteralOver entries.old.variables lit }
     ensures grown { AreGrown entries.old entries.new }
