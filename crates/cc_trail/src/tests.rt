@@ -1,5 +1,5 @@
 //! What no clause says: that calls succeed while there is memory, and what propagation gives for some lists of clauses.
-ghost use Rattle.std.specs.Prelude.{◌≡◌, ◌≤◌, IsTrue, length, IfNone, OnOk};
+ghost use Rattle.std.specs.Prelude.{◌≡◌, IsTrue, length, IfNone, OnOk};
 ghost use Rattle.cc_defs.specs.Clauses.{IsBefore, IsClause, IsOver};
 ghost use Rattle.cc_defs.specs.Assignments.{IsClosed};
 ghost use Rattle.cc_kernel.specs.Kernels.{clauses_of};
