@@ -1,1 +1,5 @@
+pub mod Keys
+pub mod Laws
 pub mod Refusals
+pub mod Summaries
+pub mod Verdicts
