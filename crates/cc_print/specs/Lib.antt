@@ -1,3 +1,4 @@
+pub mod Histories
 pub mod Keys
 pub mod Laws
 pub mod Refusals

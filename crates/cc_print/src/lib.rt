@@ -1,6 +1,7 @@
-//! The printed texts of keys, events, refusals, verdicts and summaries, and keys as they are read.
+//! The printed texts of keys, histories, events, refusals, verdicts and summaries, and keys as they are read.
 #![tactic(auto)]
 
+mod histories;
 mod keys;
 pub mod laws;
 mod summaries;
@@ -9,6 +10,7 @@ mod tests;
 mod texts;
 mod verdicts;
 
+pub use histories::history_text;
 pub use keys::read_key;
 pub use summaries::summary_text;
 pub use texts::{event_text, key_text, refusal_text};
