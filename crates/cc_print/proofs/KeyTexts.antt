@@ -210,7 +210,7 @@ pub one_key : OneKey
 one_key text one other a b =
     let p : ℕ → Bool = λ b. eqb b 58 in
     let heads = sym (slice_split_at p a.0 58 a.1 (number_lacks 58 refl a.0 one.horizon a.3) refl) ∙ ap (slice_split p) (sym a.2 ∙ b.2)
-        ∙ slice_split_at p b.0 58 b.1 (number_lacks 58 refl b.0 other.horizon b.3) refl in
+    ∙ slice_split_at p b.0 58 b.1 (number_lacks 58 refl b.0 other.horizon b.3) refl in
     let horizons : a.0 ≡ b.0 = cc in
     let rests = append_cancel_left a.0 (58 ∷ a.1) (58 ∷ b.1) (sym a.2 ∙ b.2 ∙ ap (λ h. h ++ 58 ∷ b.1) (sym horizons)) in
     let rows : a.1 ≡ b.1 = cc in

@@ -46,15 +46,15 @@ given_parts table [] rest row place named is =
     let same : place ≡ place + 0 = omega arith in
     (tt, subst (λ n. IsRow rest (drop n row)) same is)
 given_parts table (c ∷ constants) rest row place named is = elim (cases_lt place (length row)) [
-    | inl within ↦
-        let parts : IsRow (length c.domain ∷ (domain_sizes constants ++ rest)) (get_or row place 0 ∷ drop (suc place) row) =
-        subst (IsRow (length c.domain ∷ (domain_sizes constants ++ rest))) (drop-cons row place 0 within) is in
-        let next : suc place ≡ place + 1 = omega arith in
-        let end : place + 1 + length constants ≡ place + suc (length constants) = omega arith in
-        let others = given_parts table constants rest row (place + 1) named.1 (subst (λ n. IsRow (domain_sizes constants ++ rest) (drop n row)) next parts.1) in
-        ((named.0, within, parts.0, others.0), subst (λ n. IsRow rest (drop n row)) end others.1)
-    | inr past ↦ absurd (subst (IsRow (length c.domain ∷ (domain_sizes constants ++ rest))) (drop_all place row past) is)
-  ]
+  | inl within ↦
+      let parts : IsRow (length c.domain ∷ (domain_sizes constants ++ rest)) (get_or row place 0 ∷ drop (suc place) row) =
+      subst (IsRow (length c.domain ∷ (domain_sizes constants ++ rest))) (drop-cons row place 0 within) is in
+      let next : suc place ≡ place + 1 = omega arith in
+      let end : place + 1 + length constants ≡ place + suc (length constants) = omega arith in
+      let others = given_parts table constants rest row (place + 1) named.1 (subst (λ n. IsRow (domain_sizes constants ++ rest) (drop n row)) next parts.1) in
+      ((named.0, within, parts.0, others.0), subst (λ n. IsRow rest (drop n row)) end others.1)
+  | inr past ↦ absurd (subst (IsRow (length c.domain ∷ (domain_sizes constants ++ rest))) (drop_all place row past) is)
+]
 
 -- the fluents of the state at which the rest of a row begins
 pub state_given : (table : TableView) (s : Signature) → AreNamed table s → (horizon place : ℕ) (row : List ℕ) →

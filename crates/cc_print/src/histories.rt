@@ -115,7 +115,14 @@ fn push_actions(
 {
     let fluents = sig.fluents();
     text.push_str("ACTIONS:")?;
-    push_constants(text, table, sig, (fluents, fluents + sig.actions()), row, place)?;
+    push_constants(
+        text,
+        table,
+        sig,
+        (fluents, fluents + sig.actions()),
+        row,
+        place,
+    )?;
     text.push_str("\n")?;
     Ok(())
 }

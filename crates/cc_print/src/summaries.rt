@@ -97,7 +97,13 @@ fn ending_of(told: &[Told]) -> Ending
     ensures listing { EndsListing (empty_horizons told.now) result }
 {
     match told {
-        [.., Told { event: Event::Ended(ending), .. }] => *ending,
+        [
+            ..,
+            Told {
+                event: Event::Ended(ending),
+                ..
+            },
+        ] => *ending,
         _ => unreachable!(),
     }
 }

@@ -9,7 +9,6 @@ use Rattle.cc_print.proofs.keys.read_indexes.Goals as goal
 
 pub returns-in_default : goal.returns-in_default
 returns-in_default c =
-
     let g = c.into_iter-part-iterator.ensures.into_iter_gives in
     let road = YieldsList-from_str_split {s = c.into_iter-part-iterator.result} 44 c.args.text.now (lit< tt) (cc) (cc) (cc) in
     let turn = YieldsList-turn road c.loop-part.yielded _ c.loop-part.yielded_by _ _ c.in-Some.part c.in-Some.is c.next.ensures.steps in
