@@ -1,14 +1,14 @@
 -- The constants of a table's signature have names in the table, and are few.
-use Rattle.std.proofs.Common.{◌≡◌, ◌∙◌, ℕ, ◌+◌, ◌<◌, ◌≤◌, ◌^◌, Bool, true, false, if◌then◌else◌, not, nat_lt, List, [], ◌∷◌, ◌++◌, length, map, flat_map, Option, Some, None, inl, inr, refl, sym, ap, subst, arith, length-append}
-use Rattle.std.proofs.lemmas.Bool.{cases_Bool, le-ltb, lt-ltb, cases_lt}
+use Rattle.std.proofs.Common.{◌≡◌, ◌∙◌, ℕ, ◌+◌, ◌<◌, ◌≤◌, Bool, true, false, if◌then◌else◌, not, nat_lt, List, [], ◌∷◌, ◌++◌, length, map, flat_map, Option, Some, None, inl, inr, refl, sym, ap, subst, arith, length-append}
+use Rattle.std.proofs.lemmas.Bool.{lt-ltb, cases_lt}
 use Rattle.std.proofs.lemmas.List.{length-map}
 use Rattle.std.specs.List.{AllByRecursion, find}
 use Rattle.cc_defs.specs.declared.refusal.Refusal.{Refusal}
 use Rattle.cc_defs.specs.declared.signature.Const.{Const}
 use Rattle.cc_defs.specs.declared.signature.Kind.{Kind}
-use Rattle.cc_defs.specs.DeclarationFaults.{count_refusal, declared_ground, empty_or, is_empty, passes_domain_values, signature_refusal}
+use Rattle.cc_defs.specs.DeclarationFaults.{count_refusal, declared_ground, empty_or, is_empty, passes_domain_values}
 use Rattle.cc_defs.specs.Declarations.{Declaration, Declared, domain_of, ground_actions, ground_fluents, ground_from, ground_of, instances, is_action, is_below, kind_of_constant, members, numbers_where, objects, constants, pairs}
-use Rattle.cc_defs.specs.Signatures.{Signature, none_value}
+use Rattle.cc_defs.specs.Signatures.{Signature}
 use Rattle.cc_defs.specs.Trees.{PlainKind}
 use Rattle.cc_defs.specs.Trees as trees
 use Rattle.cc_sorts.specs.Tables.{IsSignatureFor, IsTable, TableView}

@@ -1,4 +1,4 @@
-use Rattle.std.proofs.Common.{◌≡◌, ◌+◌, ◌-◌, ◌∙◌, drop, length, string_bytes, ap, sym, subst, arith}
+use Rattle.std.proofs.Common.{◌≡◌, ◌+◌, ◌-◌, ◌∙◌, drop, length, string_bytes, ap, sym, subst}
 use Rattle.cc_defs.specs.Description.{sizes_at, stride}
 use Rattle.cc_defs.specs.Rows.{IsRow}
 use Rattle.cc_print.specs.Histories.{AreGiven, described}

@@ -1,4 +1,4 @@
-use Rattle.std.proofs.Common.{◌≡◌, ℕ, ◌++◌, List, None, OnOk, codes, flat_map, length, string_bytes, unwrap_or, sym, ap, ◌∙◌, subst, append_assoc}
+use Rattle.std.proofs.Common.{◌≡◌, ℕ, ◌++◌, List, None, OnOk, codes, flat_map, length, string_bytes, unwrap_or, ap, ◌∙◌, subst, append_assoc}
 use Rattle.std.specs.List.{last_or}
 use Rattle.cc_print.specs.Summaries.{empty_horizons, ending_lines, endings_told, number_line}
 use Rattle.cc_print.proofs.summaries.push_summary.Goals as goal
