@@ -1,1 +1,6 @@
+pub mod Histories
+pub mod Keys
+pub mod Laws
 pub mod Refusals
+pub mod Summaries
+pub mod Verdicts

@@ -1,8 +1,17 @@
-//! The printed texts of keys, events and refusals.
+//! The printed texts of keys, histories, events, refusals, verdicts and summaries, and keys as they are read.
 #![tactic(auto)]
 
+mod histories;
+mod keys;
+pub mod laws;
+mod summaries;
 #[cfg(test)]
 mod tests;
 mod texts;
+mod verdicts;
 
+pub use histories::history_text;
+pub use keys::read_key;
+pub use summaries::summary_text;
 pub use texts::{event_text, key_text, refusal_text};
+pub use verdicts::verdict_text;

@@ -1,6 +1,12 @@
 //! The texts, each form once.
-use crate::{event_text, key_text, refusal_text};
-use cc_defs::{Ending, Event, LimitAt, Refusal};
+ghost use Rattle.std.specs.Prelude.{IfOk};
+ghost use Rattle.cc_print.specs.Summaries.{IsListed};
+
+use crate::{event_text, key_text, read_key, refusal_text, summary_text, verdict_text};
+use cc_defs::{
+    Cause, Ending, Event, LimitAt, List, LogVerdict, OutOfMemory, Outcome, Refusal, Text, Told,
+};
+use std::alloc::Global;
 use std::test::Fail;
 
 #[test]
@@ -14,6 +20,100 @@ fn keys_are_written(rt: HostRuntime) -> Result<(), Fail> {
     ] {
         assert_eq!(rt; key_text(alloc, horizon, row)?.text(), text);
     }
+    Ok(())
+}
+
+/// The written text of the key that a text is read as; empty where there is none.
+fn written_again(alloc: Global, text: &str) -> Result<Text, OutOfMemory> {
+    match read_key(alloc, text)? {
+        Some(key) => key_text(alloc, key.horizon, key.row.items()),
+        None => Ok(Text::of(String::new(alloc))),
+    }
+}
+
+#[test]
+fn keys_are_read(rt: HostRuntime) -> Result<(), Fail> {
+    let alloc = rt.alloc();
+    for (text, written) in [
+        ("0:", "0:"),
+        ("1:0,1,1", "1:0,1,1"),
+        ("01:00,1", "1:0,1"),
+        ("999999999:7", "999999999:7"),
+        ("", ""),
+        (":", ""),
+        ("1", ""),
+        ("1:,", ""),
+        ("1:0,", ""),
+        ("1:0 ,1", ""),
+        ("1:0:1", ""),
+        ("1234567890:", ""),
+        ("+1:0", ""),
+        ("-1:0", ""),
+    ] {
+        assert_eq!(rt; written_again(alloc, text)?.text(), written);
+    }
+    Ok(())
+}
+
+#[test]
+fn verdicts_are_written(rt: HostRuntime) -> Result<(), Fail> {
+    let alloc = rt.alloc();
+    let accepted = LogVerdict::Accepted {
+        from: 0,
+        to: 3,
+        blocked: 4096,
+    };
+    assert_eq!(rt;
+        verdict_text(alloc, &accepted)?.text(),
+        "log accepted: horizons 0 to 3, blocked 4096\n"
+    );
+    for (cause, text) in [
+        (Cause::Header, "log refused: line 7, header\n"),
+        (Cause::Form, "log refused: line 7, form\n"),
+        (Cause::Section, "log refused: line 7, section\n"),
+        (Cause::Literal, "log refused: line 7, literal\n"),
+        (Cause::Number, "log refused: line 7, number\n"),
+        (Cause::Pivot, "log refused: line 7, pivot\n"),
+        (Cause::Clause, "log refused: line 7, clause\n"),
+        (Cause::Row, "log refused: line 7, row\n"),
+        (Cause::NotRefuted, "log refused: line 7, not refuted\n"),
+    ] {
+        let refused = LogVerdict::Refused { line: 7, cause };
+        assert_eq!(rt; verdict_text(alloc, &refused)?.text(), text);
+    }
+    Ok(())
+}
+
+/// Two horizons without a history, and one with four.
+fn listing(alloc: Global) -> Result<Outcome, OutOfMemory>
+    ensures { IfOk result IsListed }
+{
+    let told = vec![in alloc;
+        Told {
+            event: Event::NoHistory { horizon: 0 },
+            row: None
+        },
+        Told {
+            event: Event::NoHistory { horizon: 1 },
+            row: None
+        },
+        Told {
+            event: Event::Ended(Ending::Complete {
+                horizon: 2,
+                listed: 4
+            }),
+            row: None
+        },
+    ]?;
+    Ok(List::of(told))
+}
+
+#[test]
+fn listings_are_summed_up(rt: HostRuntime) -> Result<(), Fail> {
+    let alloc = rt.alloc();
+    let outcome = listing(alloc)?;
+    let text = "locks 12\nempty horizons 2\nhorizon 2\nhistories 4\nending complete\n";
+    assert_eq!(rt; summary_text(alloc, 12, &outcome)?.text(), text);
     Ok(())
 }
 

@@ -156,10 +156,17 @@ fn push_limit(text: &mut String, limit: Option<LimitAt>) -> Result<(), OutOfMemo
 }
 
 /// Writes a number in decimal at the end of a text.
-fn push_number(text: &mut String, number: u32) -> Result<(), OutOfMemory>
+pub(crate) fn push_number(text: &mut String, number: u32) -> Result<(), OutOfMemory>
     ensures { OnOk result (string_bytes text.new ≡ string_bytes text.old ++ decimal number) }
 {
-    write!(text, "{number}")?;
+    push_count(text, u64::from(number))
+}
+
+/// Writes a count in decimal at the end of a text.
+pub(crate) fn push_count(text: &mut String, count: u64) -> Result<(), OutOfMemory>
+    ensures { OnOk result (string_bytes text.new ≡ string_bytes text.old ++ decimal count) }
+{
+    write!(text, "{count}")?;
     Ok(())
 }
 
