@@ -1,1 +1,3 @@
-mod Numbers
+mod Digits
+mod Plain
+mod Reading

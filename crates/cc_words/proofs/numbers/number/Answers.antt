@@ -1,4 +1,4 @@
-use Rattle.cc_words.proofs.Numbers.{digits-parse}
+use Rattle.cc_words.proofs.Digits.{digits-parse}
 use Rattle.cc_words.proofs.numbers.number.Goals as goal
 
 pub unreachable-requires : goal.unreachable-requires
