@@ -1,0 +1,3 @@
+mod Digits
+mod Plain
+mod Reading

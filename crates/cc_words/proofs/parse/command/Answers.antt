@@ -1,0 +1,14 @@
+use Rattle.std.proofs.Common.{◌≡◌, ◌∙◌, ap₂, rules}
+use Rattle.clap.specs.Simple.{app_of, with_rule}
+use Rattle.cc_words.proofs.parse.command.Goals as goal
+
+pub returns : goal.returns
+returns c =
+    let mode = c.in_ok-arg.ensures.shape c.option.ensures.local ∙ ap₂ with_rule c.bare.ensures c.option.ensures.rule in
+    let query = c.in_ok-arg-2.ensures.shape c.option-2.ensures.local ∙ ap₂ with_rule mode c.option-2.ensures.rule in
+    let count = c.in_ok-arg-3.ensures.shape c.option-3.ensures.local ∙ ap₂ with_rule query c.option-3.ensures.rule in
+    let budget = c.in_ok-arg-4.ensures.shape c.option-4.ensures.local ∙ ap₂ with_rule count c.option-4.ensures.rule in
+    let after = c.in_ok-arg-5.ensures.shape c.option-5.ensures.local ∙ ap₂ with_rule budget c.option-5.ensures.rule in
+    let log = c.in_ok-arg-6.ensures.shape c.option-6.ensures.local ∙ ap₂ with_rule after c.option-6.ensures.rule in
+    let size = c.in_ok-arg-7.ensures.shape c.option-7.ensures.local ∙ ap₂ with_rule log c.option-7.ensures.rule in
+    c.in_ok-command.ensures.shape c.new.ensures.optional.1 ∙ ap₂ with_rule size c.new.ensures.rule

@@ -1,0 +1,50 @@
+-- The program's values, as the definitions see them.
+use Rattle.std.specs.Prelude.{Option, option_map}
+use Rattle.std.specs.Borrow.{Bor}
+use Rattle.cc_words.specs.declared.asked.Asked.{Asked}
+use Rattle.cc_words.specs.declared.asked.Asked.TheVariants as asked
+use Rattle.cc_words.specs.declared.given.Given.{Given as GivenWords}
+use Rattle.cc_words.specs.declared.given.Mode.{Mode as WordMode}
+use Rattle.cc_words.specs.declared.given.Mode.TheVariants as mode
+use Rattle.cc_words.specs.Requests.{Mode, List, Check, Make, Request, ToList, ToCheck, ToMake}
+use Rattle.cc_words.specs.Words.{Given, Text}
+
+abbrev pub plain_text : Option (Bor Text) → Option Text
+plain_text = option_map (λ text. text.now)
+
+abbrev pub plain_given : GivenWords → Given
+plain_given given = record {
+  mode = plain_text given.mode;
+  query = plain_text given.query;
+  count = plain_text given.count;
+  budget = plain_text given.budget;
+  after = plain_text given.after;
+  log = plain_text given.log;
+  size = plain_text given.size;
+  file = plain_text given.file;
+}
+
+abbrev pub plain_mode : WordMode → Mode
+plain_mode mode.List = List
+plain_mode mode.Check = Check
+plain_mode mode.Make = Make
+
+abbrev pub plain_request : Asked → Request
+plain_request (asked.List list) = ToList (record {
+  file = list.file.now;
+  query = plain_text list.query;
+  count = list.count;
+  budget = list.budget;
+  after = plain_text list.after;
+  log = plain_text list.log;
+})
+plain_request (asked.Check check) = ToCheck (record {
+  file = check.file.now;
+  query = plain_text check.query;
+  after = plain_text check.after;
+  log = check.log.now;
+})
+plain_request (asked.Make size budget) = ToMake size budget
+
+abbrev pub plain_asked : Option Asked → Option Request
+plain_asked = option_map plain_request

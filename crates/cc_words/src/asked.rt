@@ -1,0 +1,40 @@
+//! What the program is asked for.
+
+/// What the words ask for; all texts are lent from them.
+#[derive(Clone, Copy, Debug, PartialEq, Eq)]
+pub enum Asked<'a> {
+    /// Histories of a query.
+    List(ListAsked<'a>),
+    /// Whether a log is right.
+    Check(CheckAsked<'a>),
+    /// A description: its size is 1 to 100, and its budget 1 to 2000000.
+    Make { size: u32, budget: u32 },
+}
+
+/// Histories of a query.
+#[derive(Clone, Copy, Debug, PartialEq, Eq)]
+pub struct ListAsked<'a> {
+    pub file: &'a str,
+    /// Its label; the first query without it.
+    pub query: Option<&'a str>,
+    /// At most so many, from 1 to 1000000; all without it.
+    pub count: Option<u32>,
+    /// From 1 to 2000000.
+    pub budget: u32,
+    /// The key that the histories stand behind.
+    pub after: Option<&'a str>,
+    /// The file that the log is written to.
+    pub log: Option<&'a str>,
+}
+
+/// Whether a log is right.
+#[derive(Clone, Copy, Debug, PartialEq, Eq)]
+pub struct CheckAsked<'a> {
+    pub file: &'a str,
+    /// Its label; the first query without it.
+    pub query: Option<&'a str>,
+    /// The key that the histories stand behind.
+    pub after: Option<&'a str>,
+    /// The file that the log is read from.
+    pub log: &'a str,
+}

@@ -1,0 +1,28 @@
+//! What the words of the program ask for.
+//!
+//! | Option | Value | Default | Goes with mode |
+//! |---|---|---|---|
+//! | `--mode` | `list`, `check` or `make` | `list` | |
+//! | `--query` | a label | the first query | list, check |
+//! | `--count` | 1 to 1000000 | all | list |
+//! | `--budget` | 1 to 2000000 | 200000 | list, make |
+//! | `--after` | a key | none | list, check |
+//! | `--log` | a file name | none | list, check (required) |
+//! | `--size` | 1 to 100 | none | make (required) |
+//! | FILE | a file name | none | list, check (required) |
+//!
+//! Numbers have one to seven decimal digits. Words of the plain form are options with their values, no option twice and no
+//! value with a first `-`, and then at most one FILE. Other words mean what they mean to clap.
+#![tactic(auto)]
+
+mod asked;
+mod given;
+pub mod laws;
+mod numbers;
+mod parse;
+#[cfg(test)]
+mod tests;
+mod words;
+
+pub use asked::{Asked, CheckAsked, ListAsked};
+pub use words::read;
