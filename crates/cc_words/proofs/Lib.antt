@@ -1,3 +1,4 @@
 mod Digits
 mod Plain
 mod Reading
+mod Taken

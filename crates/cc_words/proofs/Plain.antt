@@ -14,6 +14,7 @@ use Rattle.clap.specs.Walk.{Held, Row, Rule, Step, Text, Walk, after_step, arg_b
 use Rattle.clap.specs.declared.builder.value_parser.Reading.TheVariants as readings
 use Rattle.clap.specs.declared.parser.matches.ValueSource.TheVariants as sources
 use Rattle.cc_words.specs.Readings.{command, file_text, given_in, option_rule, reading}
+use Rattle.cc_words.proofs.Taken.{fault_taken, shape}
 use Rattle.cc_words.specs.Words.{IsPlain, Name, Mode, Query, Count, Budget, After, Log, Size, Pair, are_different, begins_with_hyphen, file_words, given_of, is_same, name_text, pair_words, value_of}
 
 neither : (a b : Bool) → (a || b) ≡ false → (a ≡ false) × (b ≡ false)
@@ -25,9 +26,6 @@ both true b e = absurd (true≢false (sym e))
 both false b e = (refl, e)
 
 -- ---- the command
-
-abbrev shape : Shape
-shape = (built command).top
 
 abbrev file_rule : Rule
 file_rule = with_index 1 (filled (new_rule file_text))
@@ -273,10 +271,10 @@ pairs_read (p ∷ ps) file rows pending given settles is new absent once values 
     let rest = flat_map pair_words ps ++ file_words file in
     let found = given ++ (pair_rows (p ∷ ps) ++ file_rows file) in
     let no_file : has_row file_text more ≡ false =
-        list_any-append (λ (r : Row). bytes_eq r.id file_text) given (pair_row p ∷ []) ∙ rw (absent, (not_file p.0).0) refl in
+    list_any-append (λ (r : Row). bytes_eq r.id file_text) given (pair_row p ∷ []) ∙ rw (absent, (not_file p.0).0) refl in
     let pending_value = Some (name_text p.0, p.1 ∷ []) in
     let last : Reads (behind given pending_value) rest found = subst (Reads (behind given pending_value) rest) (append_assoc given (pair_row p ∷ []) (pair_rows ps ++ file_rows file))
-        (pairs_read ps file given pending_value more (pair_settles p.1 given p.0 n.0) (pair_settled p.1 given p.0 n.0) (still_new p given ps n.1 o.0) no_file o.1 v.1 plain) in
+    (pairs_read ps file given pending_value more (pair_settles p.1 given p.0 n.0) (pair_settled p.1 given p.0 n.0) (still_new p given ps n.1 o.0) no_file o.1 v.1 plain) in
     reads_on (behind rows pending) (behind_name p.0 given) (codes "--" ++ name_text p.0) (p.1 ∷ rest) found (name_passes p.0 rows pending settles)
     (name_walked p.0 rows pending ∙ ap (behind_name p.0) is)
     (reads_on (behind_name p.0 given) (behind given pending_value) p.1 rest found (value_passes p.1 v.0 given p.0) (value_walked p.1 v.0 given p.0) last)
@@ -319,9 +317,9 @@ reads_as words found r =
     let last = settled shape.rules (end (behind [] None) words) in
     let level : level_fault shape [] nothing_held words false [] ≡ [] = ap₂ or_else r.passes (ap₂ or_else r.settles (ap₂ or_else (defaults_pass last.rows shape.rules rules_have_none) refl)) in
     let none : fault_of command words ≡ [] =
-        ap (λ stop. level_fault shape [] nothing_held words (is_some (entered (built command) stop)) (entered_fault (built command) stop)) r.stopped ∙ level in
+    ap (λ stop. level_fault shape [] nothing_held words (is_some (entered (built command) stop)) (entered_fault (built command) stop)) r.stopped ∙ level in
     let rows : matches_of command words ≡ found = no_defaults last.rows shape.rules rules_have_none ∙ r.rows in
-    rw none (ap (λ rows. Some (given_in rows)) rows)
+    rw (fault_taken words none) (ap (λ rows. Some (given_in rows)) rows)
 
 pub plain_reads : (pairs : List Pair) (file : Option Text) (words : List Text) → IsPlain pairs file words → reading words ≡ Some (given_of pairs file)
 plain_reads pairs file words plain =

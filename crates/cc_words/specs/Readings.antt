@@ -1,9 +1,9 @@
 -- What a command of clap reads from the words.
 use Rattle.std.specs.Prelude.{Bool, true, List, [], ◌∷◌, ◌++◌, map, codes, Option, Some, None, if◌then◌else◌}
 use Rattle.clap.specs.declared.builder.action.ArgAction.TheVariants as actions
-use Rattle.clap.specs.Faults.{fault_of}
 use Rattle.clap.specs.Simple.{App, matches_of, new_rule, new_shape}
-use Rattle.clap.specs.Walk.{Row, Rule, first_of, is_empty}
+use Rattle.clap.specs.Walk.{Row, Rule, first_of}
+use Rattle.clap.specs.Takes.{takes}
 use Rattle.cc_words.specs.Words.{Given, Name, Text, name_text, Mode, Query, Count, Budget, After, Log, Size}
 
 -- an option that takes one value
@@ -41,10 +41,6 @@ given_in rows = record {
   file = first_of file_text rows;
 }
 
--- the command takes the words: nothing in them is at fault
-abbrev pub takes : List Text → Bool
-takes words = is_empty (fault_of command words)
-
 -- what the command gives of the words that it takes
 abbrev pub reading : List Text → Option Given
-reading words = if takes words then Some (given_in (matches_of command words)) else None
+reading words = if takes command words then Some (given_in (matches_of command words)) else None

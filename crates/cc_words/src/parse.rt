@@ -58,10 +58,7 @@ fn memory_held(error: &Error) -> Result<(), OutOfMemory>
 }
 
 /// What the command finds in the words; `None` where it does not take them.
-fn matches<'a>(
-    alloc: Global,
-    words: &'a [String],
-) -> Result<Option<ArgMatches<'a>>, OutOfMemory>
+fn matches<'a>(alloc: Global, words: &'a [String]) -> Result<Option<ArgMatches<'a>>, OutOfMemory>
     ensures { IfOk result (λ matches. option_map (λ found. given_in (rows_of (found_of found))) matches
         ≡ reading (map string_bytes words.entry.now)) }
 {

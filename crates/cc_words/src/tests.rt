@@ -37,11 +37,26 @@ fn words_are_read(rt: HostRuntime) -> Result<(), Fail> {
     for (words, wanted) in [
         (["f.cc"].as_slice(), Some(Asked::List(LIST))),
         (["--", "f.cc"].as_slice(), Some(Asked::List(LIST))),
-        (["--count", "0000003", "f.cc"].as_slice(), Some(Asked::List(three))),
+        (
+            ["--count", "0000003", "f.cc"].as_slice(),
+            Some(Asked::List(three)),
+        ),
         (["f.cc", "--count=3"].as_slice(), Some(Asked::List(three))),
-        (["--mode", "check", "--query", "a", "--log", "l", "f.cc"].as_slice(), Some(Asked::Check(log))),
-        (["--mode", "make", "--size", "100"].as_slice(), Some(Asked::Make { size: 100, budget: 200_000 })),
-        (["--mode", "list", "--mode", "list", "f.cc"].as_slice(), None),
+        (
+            ["--mode", "check", "--query", "a", "--log", "l", "f.cc"].as_slice(),
+            Some(Asked::Check(log)),
+        ),
+        (
+            ["--mode", "make", "--size", "100"].as_slice(),
+            Some(Asked::Make {
+                size: 100,
+                budget: 200_000,
+            }),
+        ),
+        (
+            ["--mode", "list", "--mode", "list", "f.cc"].as_slice(),
+            None,
+        ),
         (["--mode", "check", "f.cc"].as_slice(), None),
         (["--mode", "make", "--size", "101"].as_slice(), None),
         (["--count", "0", "f.cc"].as_slice(), None),
