@@ -3,7 +3,7 @@ ghost use Rattle.std.specs.Prelude.{◌≡◌, ◌++◌, ◌∷◌, [], IfOk, On
 ghost use Rattle.std.specs.List.{last_or};
 ghost use Rattle.cc_print.specs.Summaries.{EndsListing, IsListed, empty_horizons, ended_lines, ending_lines, endings_told, number_line, summary};
 
-use crate::texts::{push_count, push_number};
+use crate::texts::push_count;
 use cc_defs::{Ending, Event, OutOfMemory, Outcome, Text, Told};
 use std::alloc::Global;
 
