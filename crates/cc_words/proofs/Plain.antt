@@ -6,11 +6,11 @@ use Rattle.std.specs.Prelude.{codes, if◌then◌else◌}
 use Rattle.std.specs.Str.{bytes_eq}
 use Rattle.std.proofs.lemmas.List.Folds.{list_any-append}
 use Rattle.clap.proofs.OnLiterals.{clap_on_literals}
-use Rattle.clap.specs.Faults.{built_fault, check_fault, default_fault, defaults_fault, fault_of, given_default_fault, level_fault, entered_fault, repeat_fault, settle_fault, step_fault, turn_fault, use_fault, walk_fault, word_fault}
+use Rattle.clap.specs.Faults.{default_fault, defaults_fault, fault_of, given_default_fault, level_fault, entered_fault, repeat_fault, settle_fault, step_fault, turn_fault, use_fault, walk_fault, word_fault}
 use Rattle.clap.specs.Kinds.{Kinds, or_else}
 use Rattle.clap.specs.Lexer.{long_of, short_of}
-use Rattle.clap.specs.Simple.{Shape, built, entered, filled, matches_of, new_rule, with_index}
-use Rattle.clap.specs.Walk.{Held, Row, Rule, Step, Text, Walk, after_step, arg_by_id, at_row, finished, first_of, has_row, idle, is_pending, more_values, next, nothing_held, option, plain_word, positional_held, pushed, settled, settled_rows, used_by_id, value as for_positional, walk, walked, with_default, with_values, without, word_met}
+use Rattle.clap.specs.Simple.{built, entered, filled, matches_of, new_rule, with_index}
+use Rattle.clap.specs.Walk.{Held, Row, Rule, Step, Text, Walk, after_step, arg_by_id, at_row, first_of, has_row, idle, is_pending, more_values, next, nothing_held, option, pushed, settled, settled_rows, used_by_id, value as for_positional, walked, with_default, with_values, without, word_met}
 use Rattle.clap.specs.declared.builder.value_parser.Reading.TheVariants as readings
 use Rattle.clap.specs.declared.parser.matches.ValueSource.TheVariants as sources
 use Rattle.cc_words.specs.Readings.{command, file_text, given_in, option_rule, reading}

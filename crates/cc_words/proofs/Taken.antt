@@ -1,13 +1,12 @@
 -- Words with no fault are taken.
-use Rattle.std.proofs.Common.{◌≡◌, ◌∙◌, ◌&&◌, ◌||◌, ◌==◌, ◌+◌, ◌≤◌, ◌<◌, ap, ap₂, sym, refl, cond, not, arith, le-leb, ℕ, zero, suc, Bool, true, false, List, [], ◌∷◌, length, drop, min, nat_le, nat_lt, Option, Some, None, true≢false}
+use Rattle.std.proofs.Common.{◌≡◌, ◌∙◌, ◌&&◌, ◌||◌, ◌==◌, ◌+◌, sym, refl, not, arith, ℕ, zero, suc, Bool, true, false, List, [], ◌∷◌, length, drop, min, nat_le, nat_lt, Option, Some, None}
 use Rattle.std.proofs.lemmas.Bool.Decides.{nat_tests}
-use Rattle.std.specs.List.{fold, list_all, list_any}
 use Rattle.std.specs.Option.{is_some, option_map_or}
-use Rattle.std.specs.Prelude.{codes, encode_utf8, if◌then◌else◌, slice_get}
+use Rattle.std.specs.Prelude.{encode_utf8, if◌then◌else◌, slice_get}
 use Rattle.std.specs.Str.{bytes_eq, chars}
 use Rattle.clap.specs.Facts.{parser_of_value, unwrap_or_range}
 use Rattle.clap.specs.Faults.{action_fault, bundle_fault, bundle_step_fault, count_fault, fault_of, flag_word_fault, flags_fault, level_fault, long_fault, option_fault, other_fault, positional_fault, react_fault, repeat_fault, set_fault, settle_fault, short_fault, step_fault, stray_fault, turn_fault, use_fault, values_fault, walk_fault, word_fault}
-use Rattle.clap.specs.Kinds.{Kinds, or_else, range_kinds, value_kinds, values_kinds}
+use Rattle.clap.specs.Kinds.{Kinds, or_else, range_kinds, value_kinds}
 use Rattle.clap.specs.Lexer.{long_of, short_of}
 use Rattle.clap.specs.Matches.{count_text}
 use Rattle.clap.specs.Simple.{Shape, built}

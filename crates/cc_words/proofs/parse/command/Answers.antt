@@ -1,5 +1,5 @@
-use Rattle.std.proofs.Common.{◌≡◌, ◌∙◌, ap₂, rules}
-use Rattle.clap.specs.Simple.{app_of, with_rule}
+use Rattle.std.proofs.Common.{◌∙◌, ap₂}
+use Rattle.clap.specs.Simple.{with_rule}
 use Rattle.cc_words.proofs.parse.command.Goals as goal
 
 pub returns : goal.returns
