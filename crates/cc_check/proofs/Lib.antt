@@ -1,0 +1,5 @@
+pub mod Numbers
+pub mod Spelled
+pub mod Signed
+pub mod Rows
+pub mod Lines
