@@ -5,6 +5,7 @@ use Rattle.std.specs.Borrow.{Bor}
 use Rattle.std.specs.Prelude.{MatchOption}
 use Rattle.std.specs.Bool.{MatchBool}
 use Rattle.std.proofs.lemmas.List.Concat.{flat_map-append}
+use Rattle.std.proofs.lemmas.List.{same_from_push}
 use Rattle.std.proofs.lemmas.Fmt.{decimal_digit}
 use Rattle.cc_defs.specs.declared.log.EndWord.{EndWord}
 use Rattle.cc_defs.specs.declared.log.EndWord.TheVariants as words
@@ -125,3 +126,64 @@ pub derived_read : (body tail numbers chain : List ℕ) (made : List Literal) �
     IsLine (100 ∷ body) (lines.Derived made chain)
 derived_read body tail numbers chain made h ns (odd, is) =
     derived_line body tail chain made h (subst (λ (xs : List ℕ). AreNumbers tail xs) is ns) odd
+
+-- ---- no text is that of two lines
+
+rest_is : (byte : ℕ) (a b : List ℕ) → byte ∷ a ≡ byte ∷ b → a ≡ b
+rest_is byte a b is = cc
+
+one_horizon : (byte h1 h2 : ℕ) → IsShort h1 → IsShort h2 → byte ∷ 32 ∷ (decimal h1 ++ 10 ∷ []) ≡ byte ∷ 32 ∷ (decimal h2 ++ 10 ∷ []) → h1 ≡ h2
+one_horizon byte h1 h2 a b is =
+    (one_number (decimal h1 ++ 10 ∷ []) h1 h2 (10 ∷ []) (10 ∷ []) (record { formed = a; spelled = refl; ends = refl })
+    (record { formed = b; spelled = rest_is 32 _ _ (rest_is byte _ _ is); ends = refl })).0
+
+apart : (m n : ℕ) → m ≡ n → (m < n) ⊎ (n < m) → ⊥
+apart m n is (inl below) = omega arith
+apart m n is (inr above) = omega arith
+
+one_word : (w1 w2 : EndWord) → line_text (lines.End w1) ≡ line_text (lines.End w2) → w1 ≡ w2
+one_word words.Empty words.Empty is = refl
+one_word words.Found words.Found is = refl
+one_word words.Spent words.Spent is = refl
+one_word words.Empty words.Found is = absurd (apart 101 102 (ap (λ (t : List ℕ). get_or t 2 0) is) (inl (omega arith)))
+one_word words.Empty words.Spent is = absurd (apart 101 115 (ap (λ (t : List ℕ). get_or t 2 0) is) (inl (omega arith)))
+one_word words.Found words.Empty is = absurd (apart 102 101 (ap (λ (t : List ℕ). get_or t 2 0) is) (inr (omega arith)))
+one_word words.Found words.Spent is = absurd (apart 102 115 (ap (λ (t : List ℕ). get_or t 2 0) is) (inl (omega arith)))
+one_word words.Spent words.Empty is = absurd (apart 115 101 (ap (λ (t : List ℕ). get_or t 2 0) is) (inr (omega arith)))
+one_word words.Spent words.Found is = absurd (apart 115 102 (ap (λ (t : List ℕ). get_or t 2 0) is) (inr (omega arith)))
+
+one_derived : (text : List ℕ) (c1 c2 : List Literal) (n1 n2 : List ℕ) → IsLine text (lines.Derived c1 n1) → IsLine text (lines.Derived c2 n2) → lines.Derived c1 n1 ≡ lines.Derived c2 n2
+one_derived text c1 c2 n1 n2 x y =
+    let is = x.spelled ∙ whole_derived c1 n1 in
+    let (l1, m1, o1) = derived_parts (literals_text c1 ++ (32 ∷ 48 ∷ (numbers_text (n1 ++ 0 ∷ []) ++ 10 ∷ []))) n1 c1 (subst (λ (t : List ℕ). IsLine t (lines.Derived c1 n1)) is x) in
+    let (l2, m2, o2) = derived_parts (literals_text c1 ++ (32 ∷ 48 ∷ (numbers_text (n1 ++ 0 ∷ []) ++ 10 ∷ []))) n2 c2 (subst (λ (t : List ℕ). IsLine t (lines.Derived c2 n2)) is y) in
+    let clauses = one_clause c1 c2 _ _ _ l1 l2 in
+    let chains = one_list (n1 ++ 0 ∷ []) (n2 ++ 0 ∷ []) _ m1 (subst (λ (t : List ℕ). AreNumbers t (n2 ++ 0 ∷ [])) (sym clauses.1) m2) in
+    ap (λ (c : List Literal). lines.Derived c n1) clauses.0 ∙ ap (lines.Derived c2) (same_from_push n1 n2 0 0 chains).0
+
+pub one_line : (text : List ℕ) (a b : LogLine) → IsLine text a → IsLine text b → a ≡ b
+one_line text (lines.Section true h1) (lines.Section true h2) x y = ap (λ (h : ℕ). lines.Section true h) (one_horizon _ h1 h2 x.formed y.formed (sym x.spelled ∙ y.spelled))
+one_line text (lines.Section true h1) (lines.Section false h2) x y = let e = sym (first_letter text _ x) ∙ first_letter text _ y in absurd (omega arith)
+one_line text (lines.Section true h1) (lines.Derived c2 n2) x y = let e = sym (first_letter text _ x) ∙ first_letter text _ y in absurd (omega arith)
+one_line text (lines.Section true h1) (lines.Block r2) x y = let e = sym (first_letter text _ x) ∙ first_letter text _ y in absurd (omega arith)
+one_line text (lines.Section true h1) (lines.End w2) x y = let e = sym (first_letter text _ x) ∙ first_letter text _ y in absurd (omega arith)
+one_line text (lines.Section false h1) (lines.Section true h2) x y = let e = sym (first_letter text _ x) ∙ first_letter text _ y in absurd (omega arith)
+one_line text (lines.Section false h1) (lines.Section false h2) x y = ap (λ (h : ℕ). lines.Section false h) (one_horizon _ h1 h2 x.formed y.formed (sym x.spelled ∙ y.spelled))
+one_line text (lines.Section false h1) (lines.Derived c2 n2) x y = let e = sym (first_letter text _ x) ∙ first_letter text _ y in absurd (omega arith)
+one_line text (lines.Section false h1) (lines.Block r2) x y = let e = sym (first_letter text _ x) ∙ first_letter text _ y in absurd (omega arith)
+one_line text (lines.Section false h1) (lines.End w2) x y = let e = sym (first_letter text _ x) ∙ first_letter text _ y in absurd (omega arith)
+one_line text (lines.Derived c1 n1) (lines.Section true h2) x y = let e = sym (first_letter text _ x) ∙ first_letter text _ y in absurd (omega arith)
+one_line text (lines.Derived c1 n1) (lines.Section false h2) x y = let e = sym (first_letter text _ x) ∙ first_letter text _ y in absurd (omega arith)
+one_line text (lines.Derived c1 n1) (lines.Derived c2 n2) x y = one_derived text c1 c2 n1 n2 x y
+one_line text (lines.Derived c1 n1) (lines.Block r2) x y = let e = sym (first_letter text _ x) ∙ first_letter text _ y in absurd (omega arith)
+one_line text (lines.Derived c1 n1) (lines.End w2) x y = let e = sym (first_letter text _ x) ∙ first_letter text _ y in absurd (omega arith)
+one_line text (lines.Block r1) (lines.Section true h2) x y = let e = sym (first_letter text _ x) ∙ first_letter text _ y in absurd (omega arith)
+one_line text (lines.Block r1) (lines.Section false h2) x y = let e = sym (first_letter text _ x) ∙ first_letter text _ y in absurd (omega arith)
+one_line text (lines.Block r1) (lines.Derived c2 n2) x y = let e = sym (first_letter text _ x) ∙ first_letter text _ y in absurd (omega arith)
+one_line text (lines.Block r1) (lines.Block r2) x y = ap lines.Block (one_list r1 r2 (numbers_text r1 ++ 10 ∷ []) (record { short = x.formed; spelled = refl }) (record { short = y.formed; spelled = rest_is _ _ _ (sym (whole_block r1) ∙ sym x.spelled ∙ y.spelled ∙ whole_block r2) }))
+one_line text (lines.Block r1) (lines.End w2) x y = let e = sym (first_letter text _ x) ∙ first_letter text _ y in absurd (omega arith)
+one_line text (lines.End w1) (lines.Section true h2) x y = let e = sym (first_letter text _ x) ∙ first_letter text _ y in absurd (omega arith)
+one_line text (lines.End w1) (lines.Section false h2) x y = let e = sym (first_letter text _ x) ∙ first_letter text _ y in absurd (omega arith)
+one_line text (lines.End w1) (lines.Derived c2 n2) x y = let e = sym (first_letter text _ x) ∙ first_letter text _ y in absurd (omega arith)
+one_line text (lines.End w1) (lines.Block r2) x y = let e = sym (first_letter text _ x) ∙ first_letter text _ y in absurd (omega arith)
+one_line text (lines.End w1) (lines.End w2) x y = ap lines.End (one_word w1 w2 (sym x.spelled ∙ y.spelled))

@@ -1,1 +1,4 @@
+pub mod Clauses
+pub mod Laws
 pub mod Reading
+pub mod Splits

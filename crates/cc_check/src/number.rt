@@ -21,6 +21,20 @@ impl Model for Named {
     ghost inverse = { λ literal. record { variable = literal.variable; positive = literal.positive } };
 }
 
+impl Named {
+    pub(crate) fn variable(self) -> u32
+        ensures { result ≡ self.variable }
+    {
+        self.variable
+    }
+
+    pub(crate) fn is_positive(self) -> bool
+        ensures { result ≡ self.positive }
+    {
+        self.positive
+    }
+}
+
 fn is_digit_byte(byte: u8) -> bool
     ensures { result ≡ is_digit byte }
 {
