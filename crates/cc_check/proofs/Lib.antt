@@ -6,3 +6,6 @@ pub mod Lines
 pub mod Verdicts
 pub mod Literals
 pub mod Chains
+pub mod FirstLines
+pub mod Judged
+pub mod Parted

@@ -5,7 +5,11 @@ use Rattle.std.specs.List.{AllByRecursion}
 use Rattle.cc_defs.specs.declared.log.Cause.{Cause}
 use Rattle.cc_defs.specs.declared.log.Cause.TheVariants as causes
 use Rattle.cc_defs.specs.Clauses.{Literal, IsClause, IsOver, IsNumbered, IsResolvent, Reaches}
-use Rattle.cc_defs.specs.Sections.{Axioms, HasNoEmpty, IsWrongly}
+use Rattle.cc_defs.specs.Sections.{Axioms, Finding, Right, Wrong, HasNoEmpty, IsWrongly, IsFound, IsEnded}
+use Rattle.cc_check.specs.declared.judge.Pass.{Pass}
+use Rattle.cc_check.specs.declared.judge.Pass.TheVariants as passes
+use Rattle.cc_check.specs.declared.judge.Verdict.{Verdict}
+use Rattle.cc_check.specs.declared.judge.Verdict.TheVariants as verdicts
 
 -- a clause over the variables
 abbrev pub IsClauseOver : ℕ → List Literal → Type 0
@@ -43,3 +47,21 @@ abbrev pub IsStep : List (List Literal) → ℕ → List Literal → ℕ → ℕ
 IsStep clauses variables from pivot number done next =
     (other : List Literal) × IsNumbered clauses number other
     × MatchBool done (IsResolvent from other pivot next × IsClauseOver variables next) (HaveNoResolvent from other pivot)
+
+-- ---- a line of a section, and the section
+
+-- What a line does behind these clauses and blocks: the next lines go on behind more, or it ends the section, or it is wrong.
+abbrev pub IsPassed : Axioms → List (List Literal) → ℕ → List ℕ → Pass → List (List Literal) → ℕ → Type 0
+IsPassed axioms own blocks text passes.Goes after count =
+    (line : ℕ) (texts : List (List ℕ)) (finding : Finding) → IsFound axioms (axioms.clauses ++ after) count (line + 1) texts finding →
+    IsFound axioms (axioms.clauses ++ own) blocks line (text ∷ texts) finding
+IsPassed axioms own blocks text (passes.Ends word) after count =
+    (line : ℕ) (texts : List (List ℕ)) (finding : Finding) → IsEnded word count line texts finding →
+    IsFound axioms (axioms.clauses ++ own) blocks line (text ∷ texts) finding
+IsPassed axioms own blocks text (passes.Wrong cause) after count =
+    (line : ℕ) (texts : List (List ℕ)) → IsFound axioms (axioms.clauses ++ own) blocks line (text ∷ texts) (Wrong line cause)
+
+-- the finding of a verdict
+abbrev pub finding_of : Verdict → Finding
+finding_of (verdicts.Right ending blocks line) = Right ending blocks line
+finding_of (verdicts.Refused line cause) = Wrong line cause

@@ -11,6 +11,7 @@ use cc_clauses::laws::resolvents_are_unique;
 use cc_clauses::{ClauseArena, clash_on, resolve_into};
 use cc_defs::{Lit, OutOfMemory};
 use cc_form::Form;
+use std::alloc::Global;
 use std::mem;
 
 /// The clause that is reached so far, and room for the next one.
@@ -18,6 +19,15 @@ use std::mem;
 pub(crate) struct Stage {
     pub(crate) clause: Vec<Lit>,
     pub(crate) spare: Vec<Lit>,
+}
+
+impl Stage {
+    pub(crate) fn new(alloc: Global) -> Stage {
+        Stage {
+            clause: Vec::new(alloc),
+            spare: Vec::new(alloc),
+        }
+    }
 }
 
 // Whether the literal of a variable and a sign stands before another.

@@ -2,9 +2,16 @@
 #![tactic(auto)]
 
 mod clauses;
+mod fault;
+mod judge;
 pub mod laws;
 mod line;
 mod number;
 mod put;
+mod sections;
+mod text;
 
+pub use fault::CheckFault;
+pub use judge::{Verdict, check};
 pub use put::put_line;
+pub use sections::{Section, Sections};
