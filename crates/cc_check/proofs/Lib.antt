@@ -9,3 +9,4 @@ pub mod Chains
 pub mod FirstLines
 pub mod Judged
 pub mod Parted
+pub mod Headers

@@ -42,6 +42,9 @@ none_push : (texts : List (List ℕ)) (text : List ℕ) → AllByRecursion IsNoH
 none_push [] text all one = (one, tt)
 none_push (first ∷ texts) text all one = (all.0, none_push texts text all.1 one)
 
+pub cut_some : (rest text behind : List ℕ) → IsFirstLine rest text behind → 0 < length rest
+cut_some rest text behind cut = let e = ap length cut.parts ∙ length-append text behind in let f = cut.some in omega arith
+
 some_left : (rest : List ℕ) → (rest ≡ []) → 0 < length rest → ⊥
 some_left rest is some = let nil : length rest ≡ 0 = ap length is in omega arith
 
@@ -153,3 +156,17 @@ module _ (whole : List ℕ → List (List ℕ)) (conditions : Bool) (horizon : �
   pub parts_sized : (next : Option (Heading × Bor (List ℕ))) → IsInside rest inside.now count next →
       AllByRecursion IsPart (parts ++ (record { conditions = heading.conditions; horizon = heading.horizon; line = line; bytes = inside }) ∷ [])
   parts_sized next i = parts_push parts _ h.sized (part_sized next i)
+
+  pub parts_done_by : (next : Option (Heading × Bor (List ℕ))) → IsInside rest inside.now count next → next ≡ None → (items : List Part) →
+      items ≡ parts ++ (record { conditions = heading.conditions; horizon = heading.horizon; line = line; bytes = inside }) ∷ [] →
+      (first : List ℕ) → IsLine first (lines.Section conditions horizon) → AreSections 2 (whole first) (parts_view items)
+  parts_done_by next i none items same first is =
+      subst (λ (ps : List Part). AreSections 2 (whole first) (parts_view ps)) (sym same)
+      (parts_done (subst (λ (n : Option (Heading × Bor (List ℕ))). IsInside rest inside.now count n) none i) first is)
+
+  pub parts_more_by : (next : Option (Heading × Bor (List ℕ))) (after : Heading) (others : Bor (List ℕ)) → IsInside rest inside.now count next → next ≡ Some (after, others) → (items : List Part) →
+      items ≡ parts ++ (record { conditions = heading.conditions; horizon = heading.horizon; line = line; bytes = inside }) ∷ [] →
+      PartsSoFar whole conditions horizon items after (line + 1 + count) others.now
+  parts_more_by next after others i some items same =
+      subst (λ (ps : List Part). PartsSoFar whole conditions horizon ps after (line + 1 + count) others.now) (sym same)
+      (parts_more after others (subst (λ (n : Option (Heading × Bor (List ℕ))). IsInside rest inside.now count n) some i))

@@ -137,7 +137,7 @@ fn parts_of<'b>(
     let mut heading = first;
     let mut line = 2;
     let mut rest = behind;
-    loop {
+    'sections: loop {
         let inside = inside_of(rest);
         parts.push(Part {
             conditions: heading.conditions,
