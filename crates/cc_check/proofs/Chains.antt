@@ -1,12 +1,10 @@
 -- Chains: the clauses that they name, and what they reach.
-use Rattle.std.proofs.Common.{◌≡◌, ◌≢◌, ℕ, zero, suc, ◌+◌, ◌-◌, ◌<◌, ◌≤◌, Bool, true, false, List, [], ◌∷◌, ◌++◌, length, get_or, drop, take, Some, refl, sym, ap, subst, ◌∙◌, arith, inl, inr, ◌⊎◌}
-use Rattle.std.specs.Prelude.{slice_get}
-use Rattle.std.specs.Bool.{MatchBool}
+use Rattle.std.proofs.Common.{◌≡◌, ℕ, ◌<◌, ◌≤◌, Bool, true, false, List, [], ◌∷◌, length, refl, sym, ap, subst, ◌∙◌}
 use Rattle.std.proofs.lemmas.Option.{same_Some}
 use Rattle.cc_clauses.specs.Laws.{ResolventsAreUnique}
 use Rattle.cc_defs.specs.Clauses.{Literal, IsNumbered, IsResolvent, ReachesFrom, Reaches}
 use Rattle.cc_defs.specs.Sections.{AreNamed}
-use Rattle.cc_check.specs.Clauses.{IsClauseOver, HaveNoResolvent, IsStep, ReachesNothing}
+use Rattle.cc_check.specs.Clauses.{IsClauseOver, IsStep, ReachesNothing}
 
 -- ---- whether the numbers are those of clauses
 

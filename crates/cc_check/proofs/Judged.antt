@@ -1,24 +1,22 @@
 -- What lines do, behind the clauses of a section.
-use Rattle.std.proofs.Common.{◌≡◌, ◌≢◌, ℕ, zero, suc, ◌+◌, ◌-◌, ◌<◌, ◌≤◌, Bool, true, false, ◌||◌, eqb, List, [], ◌∷◌, ◌++◌, length, refl, sym, ap, subst, ◌∙◌, arith, append_assoc, append-nil, length-append, inl, inr, ◌⊎◌}
+use Rattle.std.proofs.Common.{◌≡◌, ◌≢◌, ℕ, suc, ◌+◌, ◌≤◌, Bool, true, false, ◌||◌, eqb, List, [], ◌∷◌, ◌++◌, length, refl, sym, ap, subst, ◌∙◌, arith, append_assoc, append-nil, length-append, inl, inr}
 use Rattle.std.specs.Prelude.{◌↔◌, IsTrue}
 use Rattle.std.specs.Bool.{MatchBool, beq}
 use Rattle.std.specs.Prelude.{MatchOption, Option, None, Some, Result, Ok, Err, IfOk}
 use Rattle.std.proofs.Math.Dec.{eqb-suc-zero}
-use Rattle.std.specs.List.{AllByRecursion, Contains}
-use Rattle.std.proofs.lemmas.Bool.{cases_Bool, false≢true}
+use Rattle.std.specs.List.{Contains}
+use Rattle.std.proofs.lemmas.Bool.{false≢true}
 use Rattle.std.proofs.lemmas.List.{nil_from_length}
 use Rattle.std.proofs.lemmas.List.Elements.{Contains-append_left, Contains-push, Contains-push_cases}
-use Rattle.std.proofs.lemmas.Bool.{eqb-true}
 use Rattle.cc_defs.specs.declared.log.Cause.{Cause}
 use Rattle.cc_defs.specs.declared.log.Cause.TheVariants as causes
 use Rattle.cc_defs.specs.declared.log.EndWord.{EndWord}
 use Rattle.cc_defs.specs.declared.log.EndWord.TheVariants as words
-use Rattle.cc_defs.specs.declared.log.LogLine.{LogLine}
 use Rattle.cc_defs.specs.declared.log.LogLine.TheVariants as lines
-use Rattle.cc_defs.specs.Clauses.{Literal, IsClause, IsOver, Reaches}
+use Rattle.cc_defs.specs.Clauses.{Literal, Reaches}
 use Rattle.cc_defs.specs.LogTexts.{IsLine, lines_in}
 use Rattle.cc_defs.specs.Rows.{IsRow}
-use Rattle.cc_defs.specs.Sections.{Axioms, Finding, Right, Wrong, HasNoEmpty, AreNamed, EndsRightly, IsFound, IsEnded, row_denial}
+use Rattle.cc_defs.specs.Sections.{Axioms, Finding, Wrong, HasNoEmpty, AreNamed, EndsRightly, IsFound, IsEnded, row_denial}
 use Rattle.cc_defs.specs.declared.refusal.OutOfMemory.{OutOfMemory}
 use Rattle.cc_check.specs.declared.judge.Verdict.{Verdict}
 use Rattle.cc_check.specs.declared.judge.Pass.{Pass}
@@ -37,16 +35,32 @@ module _ (axioms : Axioms) (own : List (List Literal)) (blocks : ℕ) (text : Li
       after ≡ own ++ clause ∷ [] → count ≡ blocks → IsLine text (lines.Derived clause chain) → IsPassed axioms own blocks text passes.Goes after count
   derived_goes clause chain after count right is same read line texts finding next =
       let here = moved clause after count (line + 1) texts finding is next in
-      inr (lines.Derived clause chain, read, inr (inr (right.open_still, right.clause_over.0, right.clause_over.1, right.reached,
-      subst (λ (k : ℕ). IsFound axioms ((axioms.clauses ++ own) ++ clause ∷ []) k (line + 1) texts finding) same here)))
+      inr (
+        lines.Derived clause chain,
+        read,
+        inr (inr (
+          right.open_still,
+          right.clause_over.0,
+          right.clause_over.1,
+          right.reached,
+          subst (λ (k : ℕ). IsFound axioms ((axioms.clauses ++ own) ++ clause ∷ []) k (line + 1) texts finding) same here,
+        )),
+      )
 
   pub block_goes : (row : List ℕ) (clause : List Literal) (after : List (List Literal)) (count : ℕ) → HasNoEmpty (axioms.clauses ++ own) → IsRow axioms.sizes row →
       clause ≡ row_denial axioms.sizes row → after ≡ own ++ clause ∷ [] → count ≡ blocks → IsLine text (lines.Block row) → IsPassed axioms own blocks text passes.Goes after (count + 1)
   block_goes row clause after count none is_row denial is same read line texts finding next =
       let here = moved clause after (count + 1) (line + 1) texts finding is next in
-      inr (lines.Block row, read, inr (inr (none, is_row,
-      subst (λ (k : ℕ). IsFound axioms ((axioms.clauses ++ own) ++ row_denial axioms.sizes row ∷ []) (k + 1) (line + 1) texts finding) same
-      (subst (λ (d : List Literal). IsFound axioms ((axioms.clauses ++ own) ++ d ∷ []) (count + 1) (line + 1) texts finding) denial here))))
+      inr (
+        lines.Block row,
+        read,
+        inr (inr (
+          none,
+          is_row,
+          subst (λ (k : ℕ). IsFound axioms ((axioms.clauses ++ own) ++ row_denial axioms.sizes row ∷ []) (k + 1) (line + 1) texts finding) same
+              (subst (λ (d : List Literal). IsFound axioms ((axioms.clauses ++ own) ++ d ∷ []) (count + 1) (line + 1) texts finding) denial here),
+        )),
+      )
 
   pub end_goes : (word : EndWord) → EndsRightly (axioms.clauses ++ own) word → IsLine text (lines.End word) → IsPassed axioms own blocks text (passes.Ends word) own blocks
   end_goes word right read line texts finding ended = inr (lines.End word, read, inl (right, ended))
@@ -72,10 +86,14 @@ module _ (axioms : Axioms) (own : List (List Literal)) (blocks : ℕ) (text : Li
       let moved_wrong : IsWrongDerived axioms (axioms.clauses ++ own) literals numbers cause =
       subst (λ (c : List Literal). IsWrongDerived axioms (axioms.clauses ++ own) c numbers cause) same_clause
       (subst (λ (n : List ℕ). IsWrongDerived axioms (axioms.clauses ++ own) clause n cause) same_chain wrong) in
-      inr (lines.Derived literals numbers, read, elim moved_wrong [
-        | inl there ↦ inl (there.0, ap (Wrong line) there.1)
-        | inr wrongly ↦ inr (inl (wrongly.0, (cause, wrongly.1, refl)))
-      ])
+      inr (
+        lines.Derived literals numbers,
+        read,
+        elim moved_wrong [
+          | inl there ↦ inl (there.0, ap (Wrong line) there.1)
+          | inr wrongly ↦ inr (inl (wrongly.0, (cause, wrongly.1, refl)))
+        ],
+      )
 
 -- ---- the end word
 
@@ -132,8 +150,15 @@ module _ (axioms : Axioms) (own : List (List Literal)) (clause : List Literal) (
 
   pub wrong_number : (given count : ℕ) → given ≡ length axioms.clauses → count ≡ length own → (AreNamed (given + count) chain → ⊥) →
       IsWrongDerived axioms (axioms.clauses ++ own) clause chain causes.Number
-  wrong_number given count is_given is_own never = inr (none, (over.0, over.1, λ h.
-      never (subst (λ (k : ℕ). AreNamed k chain) (let e = length-append axioms.clauses own in omega arith) h)))
+  wrong_number given count is_given is_own never = inr (
+    none,
+    (
+      over.0,
+      over.1,
+      λ h.
+          never (subst (λ (k : ℕ). AreNamed k chain) (let e = length-append axioms.clauses own in omega arith) h),
+    ),
+  )
 
   module _ (named : AreNamed (length (axioms.clauses ++ own)) chain) where
     pub wrong_pivot : ReachesNothing (axioms.clauses ++ own) chain → IsWrongDerived axioms (axioms.clauses ++ own) clause chain causes.Pivot

@@ -1,9 +1,8 @@
 -- The texts of lines: what stands behind their letters.
-use Rattle.std.proofs.Common.{◌≡◌, ◌≢◌, ℕ, suc, ◌+◌, ◌<◌, ◌≤◌, Bool, true, false, List, [], ◌∷◌, ◌++◌, Option, Some, None, decimal, codes, map, flat_map, length, get_or, drop, take, refl, sym, ap, subst, ◌∙◌, arith, append_assoc, append-nil, length-append, inl, inr, ◌⊎◌}
-use Rattle.std.specs.List.{AllByRecursion, join_with_byte}
+use Rattle.std.proofs.Common.{◌≡◌, ℕ, ◌<◌, true, false, List, [], ◌∷◌, ◌++◌, Option, None, decimal, codes, length, get_or, refl, sym, ap, subst, ◌∙◌, arith, append_assoc, inl, inr, ◌⊎◌}
+use Rattle.std.specs.List.{AllByRecursion}
 use Rattle.std.specs.Borrow.{Bor}
 use Rattle.std.specs.Prelude.{MatchOption}
-use Rattle.std.specs.Bool.{MatchBool}
 use Rattle.std.proofs.lemmas.List.Concat.{flat_map-append}
 use Rattle.std.proofs.lemmas.List.{same_from_push}
 use Rattle.std.proofs.lemmas.Fmt.{decimal_digit}
@@ -12,10 +11,9 @@ use Rattle.cc_defs.specs.declared.log.EndWord.TheVariants as words
 use Rattle.cc_defs.specs.declared.log.LogLine.{LogLine}
 use Rattle.cc_defs.specs.declared.log.LogLine.TheVariants as lines
 use Rattle.cc_defs.specs.Clauses.{Literal}
-use Rattle.cc_defs.specs.LogTexts.{IsShort, IsShortLiteral, IsFormed, IsOdd, IsLine, literal_text, line_text, line_parts}
-use Rattle.cc_defs.specs.Logs.{IsNoHeading}
+use Rattle.cc_defs.specs.LogTexts.{IsShort, IsOdd, IsLine, line_text}
 use Rattle.cc_defs.specs.Sections.{HasNoForm}
-use Rattle.cc_check.specs.Reading.{EndsNumber, AreNumbers, HasNoNumbers, AreLiterals, HasNoLiterals, IsNoEnd, IsEndedChain, IsLast, IsNumberAt}
+use Rattle.cc_check.specs.Reading.{AreNumbers, HasNoNumbers, AreLiterals, HasNoLiterals, IsEndedChain, IsLast, IsNumberAt}
 use Rattle.cc_check.proofs.Spelled.{numbers_text, literals_text, numbered_text, derived_text}
 use Rattle.cc_check.proofs.Rows.{one_list, one_clause, numbers_end}
 use Rattle.cc_check.proofs.Numbers.{one_number}
@@ -88,10 +86,11 @@ derived_line body tail chain clause ls ns odd = record {
 derived_parts : (body chain : List ℕ) (clause : List Literal) → IsLine (100 ∷ body) (lines.Derived clause chain) →
     AreLiterals body clause (numbers_text (chain ++ 0 ∷ []) ++ 10 ∷ []) × AreNumbers (numbers_text (chain ++ 0 ∷ []) ++ 10 ∷ []) (chain ++ 0 ∷ []) × IsOdd (length chain)
 derived_parts body chain clause h =
-    let whole : 100 ∷ body ≡ 100 ∷ (literals_text clause ++ (32 ∷ 48 ∷ (numbers_text (chain ++ 0 ∷ []) ++ 10 ∷ []))) = h.spelled ∙ whole_derived clause chain in
-    (record { formed = h.formed.0; spelled = cc; ends = numbers_end (chain ++ 0 ∷ []) },
-    record { short = short_push chain 0 h.formed.1 (omega arith); spelled = refl },
-    h.formed.2)
+    let whole : 100 ∷ body ≡ 100 ∷ (literals_text clause ++ (32 ∷ 48 ∷ (numbers_text (chain ++ 0 ∷ []) ++ 10 ∷ []))) = h.spelled ∙ whole_derived clause chain in (
+      record { formed = h.formed.0; spelled = cc; ends = numbers_end (chain ++ 0 ∷ []) },
+      record { short = short_push chain 0 h.formed.1 (omega arith); spelled = refl },
+      h.formed.2,
+    )
 
 pub no_derived : (body : List ℕ) →
     ((clause : List Literal) (tail chain : List ℕ) → AreLiterals body clause tail → AreNumbers tail (chain ++ 0 ∷ []) → IsOdd (length chain) → ⊥) → HasNoForm (100 ∷ body)

@@ -1,10 +1,10 @@
 -- Clauses, as they are tested and written literal by literal.
-use Rattle.std.proofs.Common.{◌≡◌, ◌≢◌, ℕ, zero, suc, ◌+◌, ◌-◌, ◌<◌, ◌≤◌, Bool, true, false, not, List, [], ◌∷◌, ◌++◌, length, get_or, drop, Some, refl, sym, ap, subst, ◌∙◌, arith, append_assoc, append-nil, add-one, inl, inr, ◌⊎◌}
+use Rattle.std.proofs.Common.{◌≡◌, ◌≢◌, ℕ, zero, suc, ◌+◌, ◌<◌, ◌≤◌, Bool, true, false, List, [], ◌∷◌, ◌++◌, length, get_or, drop, Some, refl, sym, ap, subst, ◌∙◌, arith, append_assoc, append-nil, add-one, inl, inr, ◌⊎◌}
 use Rattle.std.specs.Prelude.{slice_get}
-use Rattle.std.specs.List.{Contains}
+use Rattle.std.specs.List.{Contains, sum}
+use Rattle.std.proofs.lemmas.List.Sums.{sum_by-cons}
 use Rattle.std.proofs.lemmas.List.{drop_more, drop_all, nil_from_length}
-use Rattle.std.proofs.lemmas.Option.{slice_get_within, get_or_from_slice_get, slice_get-get_or}
-use Rattle.std.proofs.Math.Seq.{drop-cons}
+use Rattle.std.proofs.lemmas.Option.{slice_get_within, get_or_from_slice_get, slice_get-get_or, none-some}
 use Rattle.cc_defs.specs.ClauseForms.{positive, first_variable, atom_variable}
 use Rattle.cc_defs.specs.Clauses.{Literal, IsBefore, IsClause, IsOver, IsNumbered, IsResolvent, opposite}
 use Rattle.cc_defs.specs.Rows.{IsRow}
@@ -83,6 +83,20 @@ row_at [] (index ∷ row) i h below = absurd h
 row_at (size ∷ sizes) [] i h below = absurd h
 row_at (size ∷ sizes) (index ∷ row) zero h below = (omega arith, h.0)
 row_at (size ∷ sizes) (index ∷ row) (suc i) h below = let more = row_at sizes row i h.1 (omega arith) in let first = more.0 in (omega arith, more.1)
+
+pub row_sized : (sizes row : List ℕ) (i : ℕ) → IsRow sizes row → i < length row → (size : ℕ) × (slice_get sizes i ≡ Some size) × (get_or row i 0 < size)
+row_sized sizes row i h below =
+    let at = row_at sizes row i h below in
+    (get_or sizes i 0, slice_get-get_or sizes i 0 at.0, at.1)
+
+-- the variables of atoms end with the sum of the sizes
+pub atom_within : (sizes : List ℕ) (position size value : ℕ) → slice_get sizes position ≡ Some size → value < size → atom_variable sizes position value ≤ sum sizes
+atom_within [] position size value is below = absurd (none-some size is)
+atom_within (first ∷ sizes) zero size value is below = let e = sum_by-cons (λ (n : ℕ). n) first sizes in let same : first ≡ size = cc in omega arith
+atom_within (first ∷ sizes) (suc position) size value is below =
+    let e = sum_by-cons (λ (n : ℕ). n) first sizes in
+    let more = atom_within sizes position size value is below in
+    omega arith
 
 first_variable_suc : (sizes : List ℕ) (i : ℕ) → i < length sizes → first_variable sizes (suc i) ≡ first_variable sizes i + get_or sizes i 0
 first_variable_suc [] i below = absurd (omega arith)

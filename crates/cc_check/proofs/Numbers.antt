@@ -1,5 +1,5 @@
 -- The number at the front of a text, read digit by digit.
-use Rattle.std.proofs.Common.{◌≡◌, ℕ, zero, suc, ◌+◌, ◌-◌, ◌*◌, ◌/◌, ◌%◌, ◌<◌, ◌≤◌, Bool, true, false, ◌||◌, ◌&&◌, cond, eqb, ltb, leb, List, [], ◌∷◌, ◌++◌, Option, Some, None, decimal, refl, sym, ap, subst, ◌∙◌, arith, append_assoc, length, get_or, inl, inr, ◌⊎◌}
+use Rattle.std.proofs.Common.{◌≡◌, ℕ, ◌+◌, ◌-◌, ◌*◌, ◌/◌, ◌%◌, ◌<◌, ◌≤◌, true, false, ◌||◌, cond, eqb, ltb, List, [], ◌∷◌, ◌++◌, Option, Some, None, decimal, refl, sym, ap, subst, ◌∙◌, arith, append_assoc, length, get_or, inl, inr, ◌⊎◌}
 use Rattle.std.proofs.lemmas.Bool.{cases_Bool}
 use Rattle.std.proofs.lemmas.Bool.Decides.{nat_tests}
 use Rattle.std.proofs.lemmas.Fmt.{decimal_digit, decimal_step, decimal_by_steps}
@@ -63,18 +63,18 @@ from_sound number [] n rest short is = from_here number n [] rest short tt is
 from_sound number (byte ∷ bytes) n rest short is = elim (cases_Bool (is_digit byte)) [
   | inr other ↦ from_here number n (byte ∷ bytes) rest short other (rw other at is)
   | inl digit ↦ elim (cases_Bool (eqb number 0 || ltb 99999999 number)) [
-      | inl out ↦ let none : None ≡ Some (n, rest) = rw (digit, out) at is in absurd (none-some _ none)
-      | inr fits ↦
-          let r = range_of number fits in
-          let b = digit_bounds byte digit in
-          let next : number_from (10 * number + (byte - 48)) bytes ≡ Some (n, rest) = rw (digit, fits) at is in
-          let h = from_sound (10 * number + (byte - 48)) bytes n rest (let lo = r.1 in let hi = b.1 in omega arith) next in
-          record {
-            short = h.short;
-            spelled = sym (append_assoc (decimal number) (byte ∷ []) bytes) ∙ ap (λ (ds : List ℕ). ds ++ bytes) (sym (more_digits number byte r.0 r.1 b.0 b.1)) ∙ h.spelled;
-            ends = h.ends;
-          }
-    ]
+    | inl out ↦ let none : None ≡ Some (n, rest) = rw (digit, out) at is in absurd (none-some _ none)
+    | inr fits ↦
+        let r = range_of number fits in
+        let b = digit_bounds byte digit in
+        let next : number_from (10 * number + (byte - 48)) bytes ≡ Some (n, rest) = rw (digit, fits) at is in
+        let h = from_sound (10 * number + (byte - 48)) bytes n rest (let lo = r.1 in let hi = b.1 in omega arith) next in
+        record {
+          short = h.short;
+          spelled = sym (append_assoc (decimal number) (byte ∷ []) bytes) ∙ ap (λ (ds : List ℕ). ds ++ bytes) (sym (more_digits number byte r.0 r.1 b.0 b.1)) ∙ h.spelled;
+          ends = h.ends;
+        }
+  ]
 ]
 
 pub number_sound : (text : List ℕ) (n : ℕ) (rest : List ℕ) → number_of text ≡ Some (n, rest) → IsNumberAt text n rest

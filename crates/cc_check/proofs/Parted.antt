@@ -1,5 +1,5 @@
 -- How a log is split at its headings.
-use Rattle.std.proofs.Common.{◌≡◌, ◌≢◌, ℕ, zero, suc, ◌+◌, ◌-◌, ◌<◌, ◌≤◌, Bool, true, false, List, [], ◌∷◌, ◌++◌, length, take, drop, map, Option, Some, None, refl, sym, ap, subst, ◌∙◌, arith, append_assoc, append-nil, length-append, inl, inr, ◌⊎◌}
+use Rattle.std.proofs.Common.{◌≡◌, ℕ, ◌+◌, ◌-◌, ◌<◌, ◌≤◌, Bool, List, [], ◌∷◌, ◌++◌, length, take, Option, Some, None, refl, sym, ap, subst, ◌∙◌, arith, append_assoc, append-nil, length-append, inl, inr, ◌⊎◌}
 use Rattle.std.specs.Borrow.{Bor}
 use Rattle.std.specs.List.{AllByRecursion}
 use Rattle.std.proofs.lemmas.List.{take_at, nil_from_length, map_push}
@@ -8,7 +8,7 @@ use Rattle.cc_defs.specs.LogTexts.{IsLine, lines_in}
 use Rattle.cc_defs.specs.Logs.{SectionText, IsNoHeading, AreSections}
 use Rattle.cc_check.specs.declared.line.Heading.{Heading}
 use Rattle.cc_check.specs.declared.sections.Part.{Part}
-use Rattle.cc_check.specs.Parts.{IsInside, IsNext, IsPart, part_view, parts_view}
+use Rattle.cc_check.specs.Parts.{IsInside, IsPart, part_view, parts_view}
 use Rattle.cc_check.specs.Texts.{EndsLine, IsFirstLine}
 
 -- ---- the lines up to a heading
@@ -135,12 +135,21 @@ module _ (whole : List ℕ → List (List ℕ)) (conditions : Bool) (horizon : �
   parts_more next others i = record {
     so_far = λ first is.
         let (text, read, go) = h.so_far first is in
-        let (after, split, headed) = i.parted in
-        (after, headed, λ more are.
-            subst (AreSections 2 (whole first)) (sym (view_push parts (record { conditions = heading.conditions; horizon = heading.horizon; line = line; bytes = inside }) more))
-            (go (part_view (record { conditions = heading.conditions; horizon = heading.horizon; line = line; bytes = inside }) ∷ more)
-            (text, after ∷ lines_in others.now, ap (λ (ts : List (List ℕ)). text ∷ ts) split, refl, read, i.none,
-            subst (λ (n : ℕ). AreSections (line + 1 + n) (after ∷ lines_in others.now) more) i.counted are)));
+        let (after, split, headed) = i.parted in (
+          after,
+          headed,
+          λ more are.
+              subst (AreSections 2 (whole first)) (sym (view_push parts (record { conditions = heading.conditions; horizon = heading.horizon; line = line; bytes = inside }) more))
+              (go (part_view (record { conditions = heading.conditions; horizon = heading.horizon; line = line; bytes = inside }) ∷ more) (
+                text,
+                after ∷ lines_in others.now,
+                ap (λ (ts : List (List ℕ)). text ∷ ts) split,
+                refl,
+                read,
+                i.none,
+                subst (λ (n : ℕ). AreSections (line + 1 + n) (after ∷ lines_in others.now) more) i.counted are,
+              )),
+        );
     sized = parts_push parts _ h.sized (part_sized (Some (next, others)) i);
     few = let a = i.fewer in let b = h.few in omega arith;
   }

@@ -1,15 +1,14 @@
 -- Numbers and literals one after another, each behind a space.
-use Rattle.std.proofs.Common.{◌≡◌, ◌≢◌, ℕ, suc, ◌+◌, ◌<◌, ◌≤◌, Bool, true, false, List, [], ◌∷◌, ◌++◌, decimal, flat_map, length, get_or, drop, refl, sym, ap, subst, ◌∙◌, arith, append_assoc, append-nil, length-append, inl, inr, ◌⊎◌}
+use Rattle.std.proofs.Common.{◌≡◌, ◌≢◌, ℕ, suc, ◌<◌, ◌≤◌, Bool, true, false, List, [], ◌∷◌, ◌++◌, decimal, length, get_or, refl, sym, ap, subst, ◌∙◌, arith, append_assoc, append-nil, length-append, inl, inr, ◌⊎◌}
 use Rattle.std.proofs.lemmas.Bool.{cases_Bool, false≢true}
 use Rattle.std.proofs.lemmas.Fmt.{decimal_digit}
 use Rattle.std.specs.Prelude.{IsTrue, ◌↔◌}
 use Rattle.std.specs.Bool.{MatchBool}
-use Rattle.std.specs.List.{AllByRecursion}
 use Rattle.cc_defs.specs.Clauses.{Literal}
-use Rattle.cc_defs.specs.LogTexts.{IsShort, IsShortLiteral, literal_text}
+use Rattle.cc_defs.specs.LogTexts.{literal_text}
 use Rattle.cc_check.specs.Reading.{EndsNumber, IsNumberAt, HasNoNumber, IsSignedAt, HasNoSigned, AreNumbers, HasNoNumbers, AreLiterals, HasNoLiterals}
 use Rattle.cc_check.proofs.Numbers.{one_number}
-use Rattle.cc_check.proofs.Signed.{one_signed, first_and_rest}
+use Rattle.cc_check.proofs.Signed.{one_signed}
 use Rattle.cc_check.proofs.Spelled.{numbers_text, literals_text}
 
 -- ---- numbers
@@ -31,10 +30,14 @@ first_number : (behind : List ℕ) (numbers : List ℕ) → AreNumbers (32 ∷ b
     (number : ℕ) × (others : List ℕ) × (next : List ℕ) × (numbers ≡ number ∷ others) × IsNumberAt behind number next × AreNumbers next others
 first_number behind [] h = absurd (let no = h.spelled in cc)
 first_number behind (number ∷ others) h =
-    let same : behind ≡ (decimal number ++ numbers_text others) ++ 10 ∷ [] = let whole = h.spelled in cc in
-    (number, others, numbers_text others ++ 10 ∷ [], refl,
-    record { formed = h.short.0; spelled = same ∙ append_assoc (decimal number) (numbers_text others) (10 ∷ []); ends = numbers_end others },
-    record { short = h.short.1; spelled = refl })
+    let same : behind ≡ (decimal number ++ numbers_text others) ++ 10 ∷ [] = let whole = h.spelled in cc in (
+      number,
+      others,
+      numbers_text others ++ 10 ∷ [],
+      refl,
+      record { formed = h.short.0; spelled = same ∙ append_assoc (decimal number) (numbers_text others) (10 ∷ []); ends = numbers_end others },
+      record { short = h.short.1; spelled = refl },
+    )
 
 numbers_none : (rest others : List ℕ) → AreNumbers rest others → (length rest < 1) ⊎ (get_or rest 0 0 ≢ 32) → (rest ≡ 10 ∷ [] → ⊥) → ⊥
 numbers_none rest [] left other never = never left.spelled
@@ -63,9 +66,11 @@ module _ (text made rest : List ℕ) (so_far : NumbersSoFar text made rest) wher
         from = λ numbers there.
             let (others, left, same) = so_far.from numbers there in
             let (first, more, after, parts, here, further) = first_number behind others (subst (λ (t : List ℕ). AreNumbers t others) is left) in
-            let one = one_number behind first number after next here h in
-            (more, subst (λ (t : List ℕ). AreNumbers t more) one.1 further,
-            same ∙ ap (λ (xs : List ℕ). made ++ xs) (parts ∙ ap (λ (n : ℕ). n ∷ more) one.0) ∙ sym (append_assoc made (number ∷ []) more));
+            let one = one_number behind first number after next here h in (
+              more,
+              subst (λ (t : List ℕ). AreNumbers t more) one.1 further,
+              same ∙ ap (λ (xs : List ℕ). made ++ xs) (parts ∙ ap (λ (n : ℕ). n ∷ more) one.0) ∙ sym (append_assoc made (number ∷ []) more),
+            );
       }
 
   pub numbers_stop : (behind : List ℕ) → rest ≡ 32 ∷ behind → HasNoNumber behind → HasNoNumbers text
@@ -121,9 +126,15 @@ first_literal : (behind : List ℕ) (literals : List Literal) (rest : List ℕ) 
 first_literal behind [] rest h = inl (refl, let whole = h.spelled in cc)
 first_literal behind (literal ∷ others) rest h =
     let same : behind ≡ (literal_text literal ++ literals_text others) ++ (32 ∷ 48 ∷ rest) = let whole = h.spelled in cc in
-    inr (literal, others, literals_text others ++ (32 ∷ 48 ∷ rest), refl, h.formed.0.0,
-    record { formed = h.formed.0.1; some = λ _. h.formed.0.0; spelled = same ∙ append_assoc (literal_text literal) (literals_text others) (32 ∷ 48 ∷ rest); ends = literals_end others rest },
-    record { formed = h.formed.1; spelled = refl; ends = h.ends })
+    inr (
+      literal,
+      others,
+      literals_text others ++ (32 ∷ 48 ∷ rest),
+      refl,
+      h.formed.0.0,
+      record { formed = h.formed.0.1; some = λ _. h.formed.0.0; spelled = same ∙ append_assoc (literal_text literal) (literals_text others) (32 ∷ 48 ∷ rest); ends = literals_end others rest },
+      record { formed = h.formed.1; spelled = refl; ends = h.ends },
+    )
 
 zero_signed : (rest : List ℕ) → EndsNumber rest → IsSignedAt (48 ∷ rest) (record { variable = 0; positive = true }) rest
 zero_signed rest ends = record {
@@ -159,17 +170,17 @@ one_first : (behind : List ℕ) (n m : Literal) (a b : List Literal) (text rest 
 one_first behind n m a b text rest other is x y more = elim (first_literal behind (n ∷ a) rest x) [
   | inl (nil, _) ↦ absurd (let e : n ∷ a ≡ [] = nil in cc)
   | inr (n2, a2, after, parts, above, here, further) ↦ elim (first_literal behind (m ∷ b) other y) [
-      | inl (nil, _) ↦ absurd (let e : m ∷ b ≡ [] = nil in cc)
-      | inr (m2, b2, next, others, above_b, there, further_b) ↦
-          let one = one_signed behind n2 m2 after next here there in
-          let same_a : a2 ≡ a = cc in
-          let same_b : b2 ≡ b = cc in
-          let left : AreLiterals next a rest = subst (λ (xs : List Literal). AreLiterals next xs rest) same_a (subst (λ (t : List ℕ). AreLiterals t a2 rest) one.1 further) in
-          let right : AreLiterals next b other = subst (λ (xs : List Literal). AreLiterals next xs other) same_b further_b in
-          let tails = more next rest other left right in
-          let heads : n ≡ m = (let p : n ≡ n2 = cc in p) ∙ one.0 ∙ (let p : m2 ≡ m = cc in p) in
-          (ap (λ (k : Literal). k ∷ a) heads ∙ ap (λ (xs : List Literal). m ∷ xs) tails.0, tails.1)
-    ]
+    | inl (nil, _) ↦ absurd (let e : m ∷ b ≡ [] = nil in cc)
+    | inr (m2, b2, next, others, above_b, there, further_b) ↦
+        let one = one_signed behind n2 m2 after next here there in
+        let same_a : a2 ≡ a = cc in
+        let same_b : b2 ≡ b = cc in
+        let left : AreLiterals next a rest = subst (λ (xs : List Literal). AreLiterals next xs rest) same_a (subst (λ (t : List ℕ). AreLiterals t a2 rest) one.1 further) in
+        let right : AreLiterals next b other = subst (λ (xs : List Literal). AreLiterals next xs other) same_b further_b in
+        let tails = more next rest other left right in
+        let heads : n ≡ m = (let p : n ≡ n2 = cc in p) ∙ one.0 ∙ (let p : m2 ≡ m = cc in p) in
+        (ap (λ (k : Literal). k ∷ a) heads ∙ ap (λ (xs : List Literal). m ∷ xs) tails.0, tails.1)
+  ]
 ]
 
 pub one_clause : (a b : List Literal) (text rest other : List ℕ) → AreLiterals text a rest → AreLiterals text b other → (a ≡ b) × (rest ≡ other)
@@ -204,9 +215,11 @@ module _ (text : List ℕ) (made : List Literal) (rest : List ℕ) (so_far : Lit
               let zeroed = subst (λ (t : List ℕ). IsSignedAt t (record { variable = 0; positive = true }) tail) (sym zero_is) (zero_signed tail left.ends) in
               absurd (other (ap (λ (l : Literal). l.variable) (one_signed behind literal (record { variable = 0; positive = true }) next tail h zeroed).0))
           | inr (first, more, after, parts, above, here, further) ↦
-              let one = one_signed behind first literal after next here h in
-              (more, subst (λ (t : List ℕ). AreLiterals t more tail) one.1 further,
-              same ∙ ap (λ (xs : List Literal). made ++ xs) (parts ∙ ap (λ (n : Literal). n ∷ more) one.0) ∙ sym (append_assoc made (literal ∷ []) more))
+              let one = one_signed behind first literal after next here h in (
+                more,
+                subst (λ (t : List ℕ). AreLiterals t more tail) one.1 further,
+                same ∙ ap (λ (xs : List Literal). made ++ xs) (parts ∙ ap (λ (n : Literal). n ∷ more) one.0) ∙ sym (append_assoc made (literal ∷ []) more),
+              )
         ];
   }
 

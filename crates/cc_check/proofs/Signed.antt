@@ -1,10 +1,9 @@
 -- The literal at the front of a text.
-use Rattle.std.proofs.Common.{◌≡◌, ℕ, ◌+◌, ◌<◌, ◌≤◌, ◌≢◌, suc, Bool, true, false, List, [], ◌∷◌, ◌++◌, Option, Some, None, decimal, codes, length, get_or, drop, take, ◌-◌, refl, sym, ap, subst, ◌∙◌, arith, inl, inr, ◌⊎◌, cond}
+use Rattle.std.proofs.Common.{◌≡◌, ℕ, ◌<◌, ◌≤◌, ◌≢◌, suc, Bool, true, false, List, [], ◌∷◌, ◌++◌, Option, Some, None, decimal, length, get_or, drop, take, ◌-◌, refl, sym, ap, subst, ◌∙◌, arith, inl, inr, ◌⊎◌}
 use Rattle.std.specs.Prelude.{MatchOption}
 use Rattle.std.specs.Borrow.{Bor}
 use Rattle.cc_defs.specs.Clauses.{Literal}
-use Rattle.cc_defs.specs.LogTexts.{literal_text}
-use Rattle.cc_check.specs.Reading.{is_digit, EndsNumber, IsNumberAt, HasNoNumber, IsSignedAt, HasNoSigned}
+use Rattle.cc_check.specs.Reading.{IsNumberAt, HasNoNumber, IsSignedAt, HasNoSigned}
 use Rattle.cc_check.proofs.Numbers.{number_complete, one_number, nothing_there}
 use Rattle.std.proofs.lemmas.List.{take_rest}
 use Rattle.std.proofs.lemmas.Option.{none-some}
@@ -55,9 +54,9 @@ pub no_positive : (text : List ℕ) → (length text < 1) ⊎ (get_or text 0 0 �
 no_positive text other none literal rest h = elim (signed_cases text literal rest h) [
   | inl (positive, number) ↦ none literal.variable rest number
   | inr (behind, is, negative, some, number) ↦ elim other [
-      | inl short ↦ let long : length text ≡ suc (length behind) = ap length is in omega arith
-      | inr differs ↦ differs (ap (λ (t : List ℕ). get_or t 0 0) is)
-    ]
+    | inl short ↦ let long : length text ≡ suc (length behind) = ap length is in omega arith
+    | inr differs ↦ differs (ap (λ (t : List ℕ). get_or t 0 0) is)
+  ]
 ]
 
 abbrev make : ℕ → Bool → Literal
@@ -69,17 +68,17 @@ same_literal a b variable positive = ap (λ (v : ℕ). make v a.positive) variab
 pub one_signed : (text : List ℕ) (a b : Literal) (rest other : List ℕ) → IsSignedAt text a rest → IsSignedAt text b other → (a ≡ b) × (rest ≡ other)
 one_signed text a b rest other x y = elim (signed_cases text a rest x) [
   | inl (positive, number) ↦ elim (signed_cases text b other y) [
-      | inl (too, second) ↦ let same = one_number text a.variable b.variable rest other number second in (same_literal a b same.0 (positive ∙ sym too), same.1)
-      | inr (behind, is, negative, some, second) ↦
-          absurd (number_or_minus behind a.variable rest (subst (λ (t : List ℕ). IsNumberAt t a.variable rest) is number))
-    ]
+    | inl (too, second) ↦ let same = one_number text a.variable b.variable rest other number second in (same_literal a b same.0 (positive ∙ sym too), same.1)
+    | inr (behind, is, negative, some, second) ↦
+        absurd (number_or_minus behind a.variable rest (subst (λ (t : List ℕ). IsNumberAt t a.variable rest) is number))
+  ]
   | inr (behind, is, negative, some, number) ↦ elim (signed_cases text b other y) [
-      | inl (too, second) ↦ absurd (number_or_minus behind b.variable other (subst (λ (t : List ℕ). IsNumberAt t b.variable other) is second))
-      | inr (behind_b, is_b, too, some_b, second) ↦
-          let tail : behind_b ≡ behind = let both : 45 ∷ behind_b ≡ 45 ∷ behind = sym is_b ∙ is in cc in
-          let same = one_number behind a.variable b.variable rest other number (subst (λ (t : List ℕ). IsNumberAt t b.variable other) tail second) in
-          (same_literal a b same.0 (negative ∙ sym too), same.1)
-    ]
+    | inl (too, second) ↦ absurd (number_or_minus behind b.variable other (subst (λ (t : List ℕ). IsNumberAt t b.variable other) is second))
+    | inr (behind_b, is_b, too, some_b, second) ↦
+        let tail : behind_b ≡ behind = let both : 45 ∷ behind_b ≡ 45 ∷ behind = sym is_b ∙ is in cc in
+        let same = one_number behind a.variable b.variable rest other number (subst (λ (t : List ℕ). IsNumberAt t b.variable other) tail second) in
+        (same_literal a b same.0 (negative ∙ sym too), same.1)
+  ]
 ]
 
 -- ---- by what was tested

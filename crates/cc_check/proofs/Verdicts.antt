@@ -1,13 +1,12 @@
 -- The verdict of a log by its split.
-use Rattle.std.proofs.Common.{◌≡◌, ◌≢◌, ℕ, List, [], ◌∷◌, inl, inr, ◌⊎◌, sym, subst}
+use Rattle.std.proofs.Common.{◌≡◌, ℕ, List, [], ◌∷◌, inl, inr, sym, subst}
 use Rattle.cc_defs.specs.declared.log.Cause.{Cause}
 use Rattle.cc_defs.specs.declared.log.LogVerdict.{LogVerdict}
 use Rattle.cc_defs.specs.declared.log.LogVerdict.TheVariants as verdicts
 use Rattle.cc_defs.specs.LogTexts.{lines_in}
 use Rattle.cc_defs.specs.Logs.{SectionText, Subject, AreJudged, IsVerdictOf, IsVerdictBehind, at_first}
 use Rattle.cc_check.specs.Laws.{MisreadsAreVerdicts, SectionsGiveVerdicts}
-use Rattle.cc_check.specs.Splits.{Split, Parts, Misread, IsSplitOf, IsSplitBehind}
-
+use Rattle.cc_check.specs.Splits.{Parts, Misread, IsSplitOf, IsSplitBehind}
 
 misread_behind : (subject : Subject) (texts : List (List ℕ)) (line : ℕ) (cause : Cause) → IsSplitBehind texts (Misread line cause) → IsVerdictBehind subject texts (verdicts.Refused line cause)
 misread_behind subject [] line cause is = cc

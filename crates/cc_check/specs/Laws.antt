@@ -6,7 +6,7 @@ use Rattle.cc_defs.specs.declared.log.LogVerdict.{LogVerdict}
 use Rattle.cc_defs.specs.declared.log.LogVerdict.TheVariants as verdicts
 use Rattle.cc_defs.specs.LogTexts.{IsLine}
 use Rattle.cc_defs.specs.Logs.{SectionText, Subject, AreJudged, IsVerdict, at_first}
-use Rattle.cc_check.specs.Splits.{Split, Parts, Misread, IsSplit}
+use Rattle.cc_check.specs.Splits.{Parts, Misread, IsSplit}
 
 -- no text is that of two lines
 abbrev pub LinesAreUnique : Type 0

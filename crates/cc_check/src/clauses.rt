@@ -1,7 +1,8 @@
 //! The clauses of a section, and what a line says of them.
-ghost use Rattle.std.specs.Prelude.{◌≡◌, ◌+◌, ◌<◌, ◌≤◌, ◌++◌, ◌↔◌, [], length, Contains, IfOk, IsTrue, OnOk};
+ghost use Rattle.std.specs.Prelude.{◌≡◌, ℕ, ◌+◌, ◌<◌, ◌≤◌, ◌++◌, ◌↔◌, [], length, Contains, IfOk, IsTrue, OnOk, Some, slice_get};
 ghost use Rattle.std.specs.Bool.{MatchBool};
-ghost use Rattle.cc_defs.specs.Clauses.{IsClause, IsOver, IsBefore, IsNumbered, IsResolvent, Reaches};
+ghost use Rattle.cc_defs.specs.ClauseForms.{positive, atom_variable};
+ghost use Rattle.cc_defs.specs.Clauses.{IsBefore, IsNumbered, IsResolvent, Reaches, opposite};
 ghost use Rattle.cc_defs.specs.Rows.{IsRow};
 ghost use Rattle.cc_defs.specs.Sections.{AreNamed, HasNoEmpty, row_denial};
 ghost use Rattle.cc_check.specs.Clauses.{IsClauseOver, AreClausesOver, HaveNoResolvent, IsStep, ReachesNothing};
@@ -178,7 +179,13 @@ fn step(
     ensures { IfOk result (λ done. IsStep (form.now.clauses ++ own.now) form.now.variables stage.old.clause.items pivot number done stage.new.clause.items) }
 {
     let other = numbered(form, own, number);
-    if !resolve_on(form.variables(), &stage.clause, other, pivot, &mut stage.spare)? {
+    if !resolve_on(
+        form.variables(),
+        &stage.clause,
+        other,
+        pivot,
+        &mut stage.spare,
+    )? {
         return Ok(false);
     }
     mem::swap(&mut stage.clause, &mut stage.spare);
@@ -226,6 +233,17 @@ pub(crate) fn has_empty(form: &Form) -> bool
     false
 }
 
+// The literal that a position has another value than this one.
+fn denied(form: &Form, position: u64, value: u32) -> Lit
+    requires { (size : ℕ) × (slice_get form.now.sizes position ≡ Some size) × (value < size) }
+    ensures literal { result ≡ opposite (positive (atom_variable form.now.sizes position value)) }
+    ensures over { result.variable ≤ form.now.variables }
+{
+    // The variables of atoms are among those of the form.
+    let _ = form.variables();
+    form.atom(position, value).opposite()
+}
+
 /// Writes the clause that denies a row in the place of what is there.
 pub(crate) fn write_denial(form: &Form, row: &[u32], out: &mut Vec<Lit>) -> Result<(), OutOfMemory>
     requires { IsRow form.now.sizes row.now }
@@ -234,7 +252,7 @@ pub(crate) fn write_denial(form: &Form, row: &[u32], out: &mut Vec<Lit>) -> Resu
 {
     out.clear();
     for (i, index) in row.iter().enumerate() {
-        out.push(form.atom(i as u64, *index).opposite())?;
+        out.push(denied(form, i as u64, *index))?;
     }
     Ok(())
 }

@@ -30,7 +30,10 @@ pub enum Verdict {
         line: u32,
     },
     /// The first line that is not right, and the first cause that it has.
-    Refused { line: u32, cause: Cause },
+    Refused {
+        line: u32,
+        cause: Cause,
+    },
 }
 
 /// What a line does.
@@ -101,7 +104,7 @@ fn is_refuted_with(refuted: bool, clause: &[Lit]) -> bool
 impl Checker {
     fn new(alloc: Global, form: &Form) -> Checker
         ensures own { result.own ≡ [] }
-        ensures blocks { result.blocks ≡ 0 }
+        ensures counted { result.blocks ≡ 0 }
         ensures sound { AreSound form.now result.own result.refuted }
     {
         Checker {
@@ -118,7 +121,7 @@ impl Checker {
         requires sound { AreSound form.now self.old.own self.old.refuted }
         requires clause { IsClauseOver form.now.variables self.old.stage.clause.items }
         ensures own { OnOk result (self.new.own ≡ self.old.own ++ self.old.stage.clause.items ∷ []) }
-        ensures blocks { self.new.blocks ≡ self.old.blocks }
+        ensures counted { self.new.blocks ≡ self.old.blocks }
         ensures sound { OnOk result (AreSound form.now self.new.own self.new.refuted) }
     {
         let _ = form;
@@ -132,11 +135,18 @@ impl Checker {
         requires sound { AreSound form.now self.old.own self.old.refuted }
         ensures passed { IfOk result (λ pass. (text : List ℕ) → IsLine text (lines.Derived self.old.room.literals.items self.old.room.numbers.items) → IsPassed form.now self.old.own self.old.blocks text pass self.new.own self.new.blocks) }
         ensures sound { OnOk result (AreSound form.now self.new.own self.new.refuted) }
-        ensures blocks { OnOk result (self.new.blocks ≤ self.old.blocks + 1) }
+        ensures counted { OnOk result (self.new.blocks ≤ self.old.blocks + 1) }
     {
         let clause = self.room.literals.as_slice();
         let chain = self.room.numbers.as_slice();
-        match derived_cause(form, &self.own, self.refuted, clause, chain, &mut self.stage)? {
+        match derived_cause(
+            form,
+            &self.own,
+            self.refuted,
+            clause,
+            chain,
+            &mut self.stage,
+        )? {
             Some(cause) => Ok(Pass::Wrong(cause)),
             None => {
                 self.add(form)?;
@@ -151,7 +161,7 @@ impl Checker {
         requires few { self.old.blocks ≤ 268435456 }
         ensures passed { IfOk result (λ pass. (text : List ℕ) → IsLine text (lines.Block self.old.room.numbers.items) → IsPassed form.now self.old.own self.old.blocks text pass self.new.own self.new.blocks) }
         ensures sound { OnOk result (AreSound form.now self.new.own self.new.refuted) }
-        ensures blocks { OnOk result (self.new.blocks ≤ self.old.blocks + 1) }
+        ensures counted { OnOk result (self.new.blocks ≤ self.old.blocks + 1) }
     {
         if self.refuted {
             return Ok(Pass::Wrong(Cause::Section));
@@ -184,7 +194,7 @@ impl Checker {
         requires few { self.old.blocks ≤ 268435456 }
         ensures passed { IfOk result (λ pass. IsPassed form.now self.old.own self.old.blocks text.now pass self.new.own self.new.blocks) }
         ensures sound { OnOk result (AreSound form.now self.new.own self.new.refuted) }
-        ensures blocks { OnOk result (self.new.blocks ≤ self.old.blocks + 1) }
+        ensures counted { OnOk result (self.new.blocks ≤ self.old.blocks + 1) }
     {
         match read_line(text, &mut self.room)? {
             None => Ok(Pass::Wrong(Cause::Form)),
@@ -196,12 +206,7 @@ impl Checker {
     }
 
     // What stands behind the end of a section, whose line is given.
-    fn behind_end(
-        &mut self,
-        word: EndWord,
-        line: u32,
-        rest: &[u8],
-    ) -> Result<Verdict, OutOfMemory>
+    fn behind_end(&mut self, word: EndWord, line: u32, rest: &[u8]) -> Result<Verdict, OutOfMemory>
         requires { line ≤ 4000000000 }
         ensures { IfOk result (λ verdict. IsEnded word self.old.blocks line (lines_in rest.now) (finding_of verdict)) }
     {
@@ -228,12 +233,7 @@ impl Checker {
 }
 
 // Checks the lines of a section, of which the first has this number.
-fn check_lines(
-    alloc: Global,
-    form: &Form,
-    first: u32,
-    bytes: &[u8],
-) -> Result<Verdict, OutOfMemory>
+fn check_lines(alloc: Global, form: &Form, first: u32, bytes: &[u8]) -> Result<Verdict, OutOfMemory>
     requires few { length bytes.now ≤ 268435456 }
     requires line { first ≤ 268435458 }
     ensures { IfOk result (λ verdict. IsFound form.now form.now.clauses 0 first (lines_in bytes.now) (finding_of verdict)) }

@@ -9,6 +9,8 @@ mod line;
 mod number;
 mod put;
 mod sections;
+#[cfg(test)]
+mod tests;
 mod text;
 
 pub use fault::CheckFault;

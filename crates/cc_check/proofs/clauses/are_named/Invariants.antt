@@ -1,5 +1,5 @@
 use Rattle.std.proofs.Common.{◌+◌, length}
-use Rattle.cc_check.proofs.Chains.{NamedFrom, named_begun}
+use Rattle.cc_check.proofs.Chains.{NamedFrom}
 use Rattle.cc_check.proofs.clauses.are_named.Given as goal
 
 abbrev pub invariant-loop-rest : goal.invariant-loop-rest

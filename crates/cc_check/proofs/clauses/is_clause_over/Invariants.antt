@@ -1,5 +1,5 @@
 use Rattle.std.proofs.Common.{drop}
-use Rattle.cc_check.proofs.Literals.{ClauseFrom, clause_begun}
+use Rattle.cc_check.proofs.Literals.{ClauseFrom}
 use Rattle.cc_check.proofs.clauses.is_clause_over.Given as goal
 
 abbrev pub invariant-loop-literal : goal.invariant-loop-literal

@@ -1,6 +1,5 @@
-use Rattle.std.proofs.Common.{List, Vec, Global, sym, ap, subst, ◌∙◌}
+use Rattle.std.proofs.Common.{Vec, Global, ap}
 use Rattle.cc_defs.specs.declared.literal.Lit.{Lit}
-use Rattle.cc_defs.specs.Clauses.{Literal, IsResolvent}
 use Rattle.cc_check.proofs.Literals.{stepped}
 use Rattle.cc_check.proofs.clauses.step.Goals as goal
 

@@ -1,14 +1,10 @@
-use Rattle.std.proofs.Common.{◌≡◌, ◌∙◌, ap, get_or, arith}
-use Rattle.cc_defs.specs.ClauseForms.{positive, atom_variable}
-use Rattle.cc_defs.specs.Clauses.{Literal, IsClause, opposite}
-use Rattle.cc_check.proofs.Literals.{denial_begun, denial_more, denial_done, denial_clause, row_at, over_push, first_variable_some}
+use Rattle.std.proofs.Common.{ap, arith}
+use Rattle.cc_defs.specs.Clauses.{Literal}
+use Rattle.cc_check.proofs.Literals.{denial_begun, denial_more, denial_done, denial_clause, row_sized, over_push, first_variable_some}
 use Rattle.cc_check.proofs.clauses.write_denial.Goals as goal
 
-pub atom-requires-clause-position : goal.atom-requires-clause-position
-atom-requires-clause-position c = (row_at c.args.form.now.sizes c.args.row.now c.loop-i.i c.requires c.loop-i-test.true).0
-
-pub atom-requires-clause-value : goal.atom-requires-clause-value
-atom-requires-clause-value c = (row_at c.args.form.now.sizes c.args.row.now c.loop-i.i c.requires c.loop-i-test.true).1
+pub denied-requires : goal.denied-requires
+denied-requires c = row_sized c.args.form.now.sizes c.args.row.now c.loop-i.i c.requires c.loop-i-test.true
 
 pub loop-i-init : goal.loop-i-init
 loop-i-init c = record {
@@ -18,12 +14,12 @@ loop-i-init c = record {
 
 pub loop-i-preserved : goal.loop-i-preserved
 loop-i-preserved c =
-    let e : c.opposite.result ≡ opposite (positive (atom_variable c.args.form.now.sizes c.loop-i.i (get_or c.args.row.now c.loop-i.i 0))) =
-    c.opposite.ensures ∙ ap opposite c.atom.ensures.atom in
     let some = first_variable_some c.args.form.now.sizes c.loop-i.i in
+    let variable = ap (λ (l : Literal). l.variable) c.denied.ensures.literal in
     record {
-      denial = rw (c.in_ok-push.ensures.items, e) (denial_more c.args.form.now.sizes c.args.row.now c.loop-i.i c.loop-i.out.items c.requires c.loop-i-test.true c.loop-i.invariant.denial);
-      over = rw (c.in_ok-push.ensures.items, e) (over_push c.args.form.now.variables c.loop-i.out.items _ c.loop-i.invariant.over (omega arith) c.atom.ensures.over);
+      denial = rw (c.in_ok-push.ensures.items, c.denied.ensures.literal)
+          (denial_more c.args.form.now.sizes c.args.row.now c.loop-i.i c.loop-i.out.items c.requires c.loop-i-test.true c.loop-i.invariant.denial);
+      over = rw c.in_ok-push.ensures.items (over_push c.args.form.now.variables c.loop-i.out.items _ c.loop-i.invariant.over (omega arith) c.denied.ensures.over);
     }
 
 pub returns-clause-denial : goal.returns-clause-denial

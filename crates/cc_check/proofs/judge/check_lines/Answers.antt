@@ -1,4 +1,4 @@
-use Rattle.cc_check.proofs.Judged.{found_begun, found_more, found_ends_ok, found_wrong, found_nothing}
+use Rattle.cc_check.proofs.Judged.{found_more, found_ends_ok, found_wrong}
 use Rattle.cc_check.proofs.judge.check_lines.Goals as goal
 
 pub loop-rest-preserved : goal.loop-rest-preserved
@@ -6,7 +6,7 @@ loop-rest-preserved c = record {
   sound = c.in_ok-pass.ensures.sound;
   found = found_more _ _ _ c.loop-rest.checker.own c.loop-rest.checker.blocks c.loop-rest.line c.loop-rest.rest.now c.loop-rest.invariant.found
       c.first_line.result.0.now c.first_line.result.1.now c.first_line.ensures c.in_ok-pass.field-0 c.pass.new.self.own c.pass.new.self.blocks c.in-Goes.is
-      c.in_ok-pass.ensures.passed c.in_ok-pass.ensures.blocks;
+      c.in_ok-pass.ensures.passed c.in_ok-pass.ensures.counted;
 }
 
 pub returns-in-Ends : goal.returns-in-Ends

@@ -1,4 +1,3 @@
-use Rattle.std.proofs.Common.{sym}
 use Rattle.std.proofs.lemmas.Bool.{false≢true}
 use Rattle.cc_check.proofs.Lines.{last_by}
 use Rattle.cc_check.proofs.line.last_number.Goals as goal

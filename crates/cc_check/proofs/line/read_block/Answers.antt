@@ -1,4 +1,3 @@
-use Rattle.std.proofs.Common.{List, ℕ}
 use Rattle.cc_check.proofs.Lines.{no_block, block_line}
 use Rattle.cc_check.proofs.line.read_block.Goals as goal
 

@@ -1,4 +1,3 @@
-use Rattle.std.proofs.Common.{List, ℕ}
 use Rattle.cc_check.proofs.Lines.{no_literals_derived, no_numbers_derived, no_end_derived, derived_read}
 use Rattle.cc_check.proofs.line.read_derived.Goals as goal
 

@@ -1,6 +1,6 @@
-use Rattle.std.proofs.Common.{List, ℕ, sym, subst, inl, inr}
+use Rattle.std.proofs.Common.{List, sym, subst, inr}
 use Rattle.cc_defs.specs.Clauses.{Literal}
-use Rattle.cc_check.proofs.Rows.{LiteralsSoFar, literals_more, literals_stop, literals_done, literals_fail, literals_shorter, literals_begun}
+use Rattle.cc_check.proofs.Rows.{LiteralsSoFar, literals_more, literals_stop, literals_done, literals_fail, literals_shorter}
 use Rattle.cc_check.proofs.Signed.{front}
 use Rattle.cc_check.proofs.line.read_literals.Goals as goal
 

@@ -1,5 +1,5 @@
 use Rattle.std.proofs.Common.{List, ℕ, sym, subst, inl, inr}
-use Rattle.cc_check.proofs.Rows.{NumbersSoFar, numbers_more, numbers_stop, numbers_result, numbers_shorter, numbers_begun}
+use Rattle.cc_check.proofs.Rows.{NumbersSoFar, numbers_more, numbers_stop, numbers_result, numbers_shorter}
 use Rattle.cc_check.proofs.Signed.{front}
 use Rattle.cc_check.proofs.line.read_numbers.Goals as goal
 use Rattle.cc_check.proofs.line.read_numbers.Goals.{in_default, in-len1-up+then-byte-ne32}

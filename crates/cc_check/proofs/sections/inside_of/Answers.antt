@@ -1,4 +1,4 @@
-use Rattle.cc_check.proofs.Parted.{inside_begun, inside_more, inside_at, inside_all, cut_some}
+use Rattle.cc_check.proofs.Parted.{inside_more, cut_some}
 use Rattle.cc_check.proofs.sections.inside_of.Goals as goal
 
 pub loop-rest-preserved : goal.loop-rest-preserved

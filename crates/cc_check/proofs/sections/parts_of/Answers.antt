@@ -1,6 +1,6 @@
 use Rattle.std.proofs.Common.{List, ℕ, ◌∷◌}
 use Rattle.cc_defs.specs.LogTexts.{lines_in}
-use Rattle.cc_check.proofs.Parted.{parts_begun, parts_more_by, parts_done_by}
+use Rattle.cc_check.proofs.Parted.{parts_more_by, parts_done_by}
 use Rattle.cc_check.proofs.sections.parts_of.Goals as goal
 
 pub returns-in_default-clause-sections : goal.returns-in_default-clause-sections

@@ -1,5 +1,4 @@
-use Rattle.std.proofs.Common.{List, ℕ, length, take, drop, sym, subst}
-use Rattle.cc_check.specs.Texts.{IsFirstLine}
+use Rattle.std.proofs.Common.{length}
 use Rattle.cc_check.proofs.FirstLines.{length_here, length_more, length_all, first_line_as}
 use Rattle.cc_check.proofs.text.first_line.Goals as goal
 

@@ -1,4 +1,4 @@
-use Rattle.std.proofs.Common.{List, ℕ, refl, ap, subst, ◌∙◌}
+use Rattle.std.proofs.Common.{refl, ap, subst, ◌∙◌}
 use Rattle.cc_defs.specs.Rows.{IsRow}
 use Rattle.cc_defs.specs.Sections.{row_denial}
 use Rattle.cc_check.proofs.Judged.{block_goes}
@@ -10,4 +10,4 @@ returns-clause-passed c text read =
     (rw c.if-self.false at c.requires.sound.empty)
     (subst (IsRow c.args.form.now.sizes) c.deref.ensures.value (c.if-not-is_row.ensures.0 refl))
     (c.in_ok-write_denial.ensures.denial ∙ ap (row_denial c.args.form.now.sizes) c.deref-2.ensures.value)
-    c.in_ok-add.ensures.own c.in_ok-add.ensures.blocks read
+    c.in_ok-add.ensures.own c.in_ok-add.ensures.counted read

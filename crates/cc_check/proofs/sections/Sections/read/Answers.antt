@@ -1,9 +1,9 @@
-use Rattle.std.proofs.Common.{List, ℕ, take, refl, sym, ap, ◌∙◌}
+use Rattle.std.proofs.Common.{take, refl, sym, ap, ◌∙◌}
 use Rattle.std.proofs.lemmas.Bool.{false≢true}
 use Rattle.std.proofs.lemmas.Bool.Decides.{Decides-eqb}
 use Rattle.std.proofs.lemmas.Slice.Eq.{slice_eq-Decides}
 use Rattle.cc_defs.specs.LogTexts.{header}
-use Rattle.cc_check.proofs.Headers.{no_header, nothing_behind, second_wrong, all_read, behind_few}
+use Rattle.cc_check.proofs.Headers.{no_header}
 use Rattle.cc_check.proofs.sections.Sections.read.Goals as goal
 
 pub returns-in_default-clause-refused : goal.returns-in_default-clause-refused
