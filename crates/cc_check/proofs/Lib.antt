@@ -1,0 +1,12 @@
+pub mod Numbers
+pub mod Spelled
+pub mod Signed
+pub mod Rows
+pub mod Lines
+pub mod Verdicts
+pub mod Literals
+pub mod Chains
+pub mod FirstLines
+pub mod Judged
+pub mod Parted
+pub mod Headers

@@ -1,0 +1,67 @@
+-- The clauses of a section: those of its form, and behind them its own.
+use Rattle.std.specs.Prelude.{◌≡◌, ℕ, ◌+◌, ◌⊎◌, Bool, List, [], ◌++◌, ◌∷◌, Contains}
+use Rattle.std.specs.Bool.{MatchBool}
+use Rattle.std.specs.List.{AllByRecursion}
+use Rattle.cc_defs.specs.declared.log.Cause.{Cause}
+use Rattle.cc_defs.specs.declared.log.Cause.TheVariants as causes
+use Rattle.cc_defs.specs.Clauses.{Literal, IsClause, IsOver, IsNumbered, IsResolvent, Reaches}
+use Rattle.cc_defs.specs.Sections.{Axioms, Finding, Right, Wrong, HasNoEmpty, IsWrongly, IsFound, IsEnded}
+use Rattle.cc_check.specs.declared.judge.Pass.{Pass}
+use Rattle.cc_check.specs.declared.judge.Pass.TheVariants as passes
+use Rattle.cc_check.specs.declared.judge.Verdict.{Verdict}
+use Rattle.cc_check.specs.declared.judge.Verdict.TheVariants as verdicts
+
+-- a clause over the variables
+abbrev pub IsClauseOver : ℕ → List Literal → Type 0
+IsClauseOver variables clause = IsClause clause × IsOver variables clause
+
+abbrev pub AreClausesOver : ℕ → List (List Literal) → Type 0
+AreClausesOver variables clauses = AllByRecursion (IsClauseOver variables) clauses
+
+-- no clause is the resolvent of two on this variable
+abbrev pub HaveNoResolvent : List Literal → List Literal → ℕ → Type 0
+HaveNoResolvent a b pivot = (r : List Literal) → IsResolvent a b pivot r → ⊥
+
+-- a chain reaches no clause
+abbrev pub ReachesNothing : List (List Literal) → List ℕ → Type 0
+ReachesNothing clauses chain = (reached : List Literal) → Reaches clauses chain reached → ⊥
+
+-- What is known of a section's own clauses, and whether one of all clauses is empty.
+pub record AreSound (axioms : Axioms) (own : List (List Literal)) (refuted : Bool) : Type 0 where
+  pub clauses : AreClausesOver axioms.variables own
+  pub empty : MatchBool refuted (Contains (axioms.clauses ++ own) []) (HasNoEmpty (axioms.clauses ++ own))
+
+-- why a derived line is not right behind these clauses
+abbrev pub IsWrongDerived : Axioms → List (List Literal) → List Literal → List ℕ → Cause → Type 0
+IsWrongDerived axioms before clause chain cause =
+    (Contains before [] × (cause ≡ causes.Section)) ⊎ (HasNoEmpty before × IsWrongly axioms before clause chain cause)
+
+-- a derived line is right behind these clauses
+pub record IsRightDerived (axioms : Axioms) (before : List (List Literal)) (clause : List Literal) (chain : List ℕ) : Type 0 where
+  pub open_still : HasNoEmpty before
+  pub clause_over : IsClauseOver axioms.variables clause
+  pub reached : Reaches before chain clause
+
+-- what a step of resolution leaves in the stage: the resolvent with the clause of a number, or there is none
+abbrev pub IsStep : List (List Literal) → ℕ → List Literal → ℕ → ℕ → Bool → List Literal → Type 0
+IsStep clauses variables from pivot number done next =
+    (other : List Literal) × IsNumbered clauses number other
+    × MatchBool done (IsResolvent from other pivot next × IsClauseOver variables next) (HaveNoResolvent from other pivot)
+
+-- ---- a line of a section, and the section
+
+-- What a line does behind these clauses and blocks: the next lines go on behind more, or it ends the section, or it is wrong.
+abbrev pub IsPassed : Axioms → List (List Literal) → ℕ → List ℕ → Pass → List (List Literal) → ℕ → Type 0
+IsPassed axioms own blocks text passes.Goes after count =
+    (line : ℕ) (texts : List (List ℕ)) (finding : Finding) → IsFound axioms (axioms.clauses ++ after) count (line + 1) texts finding →
+    IsFound axioms (axioms.clauses ++ own) blocks line (text ∷ texts) finding
+IsPassed axioms own blocks text (passes.Ends word) after count =
+    (line : ℕ) (texts : List (List ℕ)) (finding : Finding) → IsEnded word count line texts finding →
+    IsFound axioms (axioms.clauses ++ own) blocks line (text ∷ texts) finding
+IsPassed axioms own blocks text (passes.Wrong cause) after count =
+    (line : ℕ) (texts : List (List ℕ)) → IsFound axioms (axioms.clauses ++ own) blocks line (text ∷ texts) (Wrong line cause)
+
+-- the finding of a verdict
+abbrev pub finding_of : Verdict → Finding
+finding_of (verdicts.Right ending blocks line) = Right ending blocks line
+finding_of (verdicts.Refused line cause) = Wrong line cause

@@ -1,0 +1,23 @@
+-- What makes the reading of logs trustworthy.
+use Rattle.std.specs.Prelude.{◌≡◌, ℕ, List}
+use Rattle.cc_defs.specs.declared.log.Cause.{Cause}
+use Rattle.cc_defs.specs.declared.log.LogLine.{LogLine}
+use Rattle.cc_defs.specs.declared.log.LogVerdict.{LogVerdict}
+use Rattle.cc_defs.specs.declared.log.LogVerdict.TheVariants as verdicts
+use Rattle.cc_defs.specs.LogTexts.{IsLine}
+use Rattle.cc_defs.specs.Logs.{SectionText, Subject, AreJudged, IsVerdict, at_first}
+use Rattle.cc_check.specs.Splits.{Parts, Misread, IsSplit}
+
+-- no text is that of two lines
+abbrev pub LinesAreUnique : Type 0
+LinesAreUnique = (text : List ℕ) (one other : LogLine) → IsLine text one → IsLine text other → one ≡ other
+
+-- a log that is misread is refused for that
+abbrev pub MisreadsAreVerdicts : Type 0
+MisreadsAreVerdicts = (subject : Subject) (bytes : List ℕ) (line : ℕ) (cause : Cause) → IsSplit bytes (Misread line cause) →
+    IsVerdict subject bytes (verdicts.Refused line cause)
+
+-- the verdict of the sections of a log is its verdict
+abbrev pub SectionsGiveVerdicts : Type 0
+SectionsGiveVerdicts = (subject : Subject) (bytes : List ℕ) (sections : List SectionText) (verdict : LogVerdict) → IsSplit bytes (Parts sections) →
+    AreJudged subject (at_first subject) sections verdict → IsVerdict subject bytes verdict

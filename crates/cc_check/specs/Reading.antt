@@ -1,0 +1,72 @@
+-- What stands at the front of a text.
+use Rattle.std.specs.Prelude.{◌≡◌, ℕ, ◌<◌, Bool, false, ◌&&◌, nat_le, List, [], ◌∷◌, ◌++◌, length, flat_map, decimal}
+use Rattle.std.specs.List.{AllByRecursion}
+use Rattle.cc_defs.specs.declared.log.EndWord.{EndWord}
+use Rattle.cc_defs.specs.declared.log.LogLine.TheVariants as lines
+use Rattle.cc_defs.specs.Clauses.{Literal}
+use Rattle.cc_defs.specs.LogTexts.{IsShort, IsShortLiteral, IsOdd, IsLine, literal_text}
+use Rattle.cc_check.specs.declared.line.Kind.{Kind}
+use Rattle.cc_check.specs.declared.line.Kind.TheVariants as kinds
+
+abbrev pub is_digit : ℕ → Bool
+is_digit byte = nat_le 48 byte && nat_le byte 57
+
+-- a text that does not go on with a digit
+abbrev pub EndsNumber : List ℕ → Type 0
+EndsNumber [] = Unit {0}
+EndsNumber (byte ∷ bytes) = is_digit byte ≡ false
+
+-- A text begins with a number, and this is behind it.
+pub record IsNumberAt (text : List ℕ) (number : ℕ) (rest : List ℕ) : Type 0 where
+  pub formed : IsShort number
+  pub spelled : text ≡ decimal number ++ rest
+  pub ends : EndsNumber rest
+
+abbrev pub HasNoNumber : List ℕ → Type 0
+HasNoNumber text = (number : ℕ) (rest : List ℕ) → IsNumberAt text number rest → ⊥
+
+-- A text begins with a literal, or with the number 0, which is seen as a positive literal, and this is behind it.
+pub record IsSignedAt (text : List ℕ) (literal : Literal) (rest : List ℕ) : Type 0 where
+  pub formed : IsShort literal.variable
+  pub some : literal.positive ≡ false → 0 < literal.variable
+  pub spelled : text ≡ literal_text literal ++ rest
+  pub ends : EndsNumber rest
+
+abbrev pub HasNoSigned : List ℕ → Type 0
+HasNoSigned text = (literal : Literal) (rest : List ℕ) → IsSignedAt text literal rest → ⊥
+
+-- A text is this list of numbers, a space before each, and a line feed.
+pub record AreNumbers (text numbers : List ℕ) : Type 0 where
+  pub short : AllByRecursion IsShort numbers
+  pub spelled : text ≡ flat_map (λ number. 32 ∷ decimal number) numbers ++ 10 ∷ []
+
+abbrev pub HasNoNumbers : List ℕ → Type 0
+HasNoNumbers text = (numbers : List ℕ) → AreNumbers text numbers → ⊥
+
+-- A text begins with this list of literals and a 0, a space before each, and this is behind them.
+pub record AreLiterals (text : List ℕ) (literals : List Literal) (rest : List ℕ) : Type 0 where
+  pub formed : AllByRecursion IsShortLiteral literals
+  pub spelled : text ≡ flat_map (λ literal. 32 ∷ literal_text literal) literals ++ (32 ∷ 48 ∷ rest)
+  pub ends : EndsNumber rest
+
+abbrev pub HasNoLiterals : List ℕ → Type 0
+HasNoLiterals text = (literals : List Literal) (rest : List ℕ) → AreLiterals text literals rest → ⊥
+
+-- ---- what a line is read as, with the literals and the numbers that it has
+
+abbrev pub IsRead : List ℕ → List Literal → List ℕ → Kind → Type 0
+IsRead text literals numbers kinds.Heading = (conditions : Bool) × (horizon : ℕ) × IsLine text (lines.Section conditions horizon)
+IsRead text literals numbers kinds.Derived = IsLine text (lines.Derived literals numbers)
+IsRead text literals numbers kinds.Block = IsLine text (lines.Block numbers)
+IsRead text literals numbers (kinds.End word) = IsLine text (lines.End word)
+
+abbrev pub IsNoEnd : List ℕ → Type 0
+IsNoEnd text = (word : EndWord) → IsLine text (lines.End word) → ⊥
+
+-- the numbers of a chain with the 0 that ends it
+abbrev pub IsEndedChain : List ℕ → List ℕ → Type 0
+IsEndedChain numbers chain = IsOdd (length chain) × (numbers ≡ chain ++ 0 ∷ [])
+
+-- the number of a heading's horizon, with the line feed
+abbrev pub IsLast : List ℕ → ℕ → Type 0
+IsLast text number = IsShort number × (text ≡ decimal number ++ 10 ∷ [])

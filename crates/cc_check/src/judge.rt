@@ -1,0 +1,267 @@
+//! The checker of a section.
+ghost use Rattle.std.specs.Prelude.{◌≡◌, ◌==◌, ◌||◌, ◌↔◌, ℕ, ◌+◌, ◌≤◌, ◌++◌, ◌∷◌, [], List, length, IfOk, IsTrue, MatchOption, OnOk};
+ghost use Rattle.std.specs.Bool.{MatchBool};
+ghost use Rattle.cc_defs.specs.declared.log.EndWord.TheVariants as words;
+ghost use Rattle.cc_defs.specs.declared.log.LogLine.TheVariants as lines;
+ghost use Rattle.cc_defs.specs.Clauses.{IsClause, IsOver};
+ghost use Rattle.cc_defs.specs.LogTexts.{IsLine, lines_in};
+ghost use Rattle.cc_defs.specs.Sections.{EndsRightly, Finding, IsEnded, IsFound, IsJudged, row_denial};
+ghost use Rattle.cc_check.specs.Clauses.{AreSound, IsClauseOver, IsPassed, IsWrongDerived, IsRightDerived, finding_of};
+
+use crate::clauses::{
+    Stage, are_named, has_empty, is_clause_over, is_same_clause, reach, write_denial,
+};
+use crate::line::{Kind, Room, read_line};
+use crate::number::Named;
+use crate::sections::Section;
+use crate::text::first_line;
+use cc_clauses::ClauseArena;
+use cc_defs::{Cause, EndWord, Lit, OutOfMemory};
+use cc_form::Form;
+use std::alloc::Global;
+
+/// What a section is found to be.
+#[derive(Clone, Copy, Debug, PartialEq, Eq)]
+pub enum Verdict {
+    /// Each line is right: how the section ends, how many blocks it has, and the line of its end.
+    Right {
+        ending: EndWord,
+        blocks: u32,
+        line: u32,
+    },
+    /// The first line that is not right, and the first cause that it has.
+    Refused {
+        line: u32,
+        cause: Cause,
+    },
+}
+
+/// What a line does.
+#[derive(Clone, Copy)]
+pub(crate) enum Pass {
+    Goes,
+    Ends(EndWord),
+    Wrong(Cause),
+}
+
+// The clauses of a section behind those of its form, and room for one line after another.
+#[derive(Drop)]
+struct Checker {
+    own: ClauseArena,
+    blocks: u32,
+    /// Whether a clause is empty.
+    refuted: bool,
+    room: Room,
+    stage: Stage,
+}
+
+// The first cause of a derived line that is not right. What it reaches is in the stage.
+fn derived_cause(
+    form: &Form,
+    own: &ClauseArena,
+    refuted: bool,
+    clause: &[Named],
+    chain: &[u32],
+    stage: &mut Stage,
+) -> Result<Option<Cause>, OutOfMemory>
+    requires { AreSound form.now own.now refuted }
+    ensures { IfOk result (λ cause. MatchOption cause (IsRightDerived form.now (form.now.clauses ++ own.now) clause.now chain.now × (stage.new.clause.items ≡ clause.now)) (IsWrongDerived form.now (form.now.clauses ++ own.now) clause.now chain.now)) }
+{
+    if refuted {
+        return Ok(Some(Cause::Section));
+    }
+    if !is_clause_over(form.variables(), clause) {
+        return Ok(Some(Cause::Literal));
+    }
+    if !are_named(form.count(), own.count(), chain) {
+        return Ok(Some(Cause::Number));
+    }
+    if !reach(form, own, chain, stage)? {
+        return Ok(Some(Cause::Pivot));
+    }
+    if !is_same_clause(&stage.clause, clause) {
+        return Ok(Some(Cause::Clause));
+    }
+    Ok(None)
+}
+
+fn says_empty(word: EndWord) -> bool
+    ensures { IsTrue result ↔ (word ≡ words.Empty) }
+{
+    match word {
+        EndWord::Empty => true,
+        EndWord::Found | EndWord::Spent => false,
+    }
+}
+
+// Whether a clause is empty, once there is one more.
+fn is_refuted_with(refuted: bool, clause: &[Lit]) -> bool
+    ensures { result ≡ (refuted || (length clause.now == 0)) }
+{
+    refuted || clause.is_empty()
+}
+
+impl Checker {
+    fn new(alloc: Global, form: &Form) -> Checker
+        ensures own { result.own ≡ [] }
+        ensures counted { result.blocks ≡ 0 }
+        ensures sound { AreSound form.now result.own result.refuted }
+    {
+        Checker {
+            own: ClauseArena::new(alloc),
+            blocks: 0,
+            refuted: has_empty(form),
+            room: Room::new(alloc),
+            stage: Stage::new(alloc),
+        }
+    }
+
+    // Puts the staged clause behind the others.
+    fn add(&mut self, form: &Form) -> Result<(), OutOfMemory>
+        requires sound { AreSound form.now self.old.own self.old.refuted }
+        requires clause { IsClauseOver form.now.variables self.old.stage.clause.items }
+        ensures own { OnOk result (self.new.own ≡ self.old.own ++ self.old.stage.clause.items ∷ []) }
+        ensures counted { self.new.blocks ≡ self.old.blocks }
+        ensures sound { OnOk result (AreSound form.now self.new.own self.new.refuted) }
+    {
+        let _ = form;
+        self.own.push(&self.stage.clause)?;
+        self.refuted = is_refuted_with(self.refuted, &self.stage.clause);
+        Ok(())
+    }
+
+    // The derived line that was read into the room.
+    fn derived(&mut self, form: &Form) -> Result<Pass, OutOfMemory>
+        requires sound { AreSound form.now self.old.own self.old.refuted }
+        ensures passed { IfOk result (λ pass. (text : List ℕ) → IsLine text (lines.Derived self.old.room.literals.items self.old.room.numbers.items) → IsPassed form.now self.old.own self.old.blocks text pass self.new.own self.new.blocks) }
+        ensures sound { OnOk result (AreSound form.now self.new.own self.new.refuted) }
+        ensures counted { OnOk result (self.new.blocks ≤ self.old.blocks + 1) }
+    {
+        let clause = self.room.literals.as_slice();
+        let chain = self.room.numbers.as_slice();
+        match derived_cause(
+            form,
+            &self.own,
+            self.refuted,
+            clause,
+            chain,
+            &mut self.stage,
+        )? {
+            Some(cause) => Ok(Pass::Wrong(cause)),
+            None => {
+                self.add(form)?;
+                Ok(Pass::Goes)
+            }
+        }
+    }
+
+    // The block that was read into the room.
+    fn block(&mut self, form: &Form) -> Result<Pass, OutOfMemory>
+        requires sound { AreSound form.now self.old.own self.old.refuted }
+        requires few { self.old.blocks ≤ 268435456 }
+        ensures passed { IfOk result (λ pass. (text : List ℕ) → IsLine text (lines.Block self.old.room.numbers.items) → IsPassed form.now self.old.own self.old.blocks text pass self.new.own self.new.blocks) }
+        ensures sound { OnOk result (AreSound form.now self.new.own self.new.refuted) }
+        ensures counted { OnOk result (self.new.blocks ≤ self.old.blocks + 1) }
+    {
+        if self.refuted {
+            return Ok(Pass::Wrong(Cause::Section));
+        }
+        if !form.is_row(&self.room.numbers) {
+            return Ok(Pass::Wrong(Cause::Row));
+        }
+        write_denial(form, &self.room.numbers, &mut self.stage.clause)?;
+        self.add(form)?;
+        self.blocks += 1;
+        Ok(Pass::Goes)
+    }
+
+    // The end of the section. The word says that a clause is empty, where one is.
+    fn end(&self, form: &Form, word: EndWord) -> Pass
+        requires sound { AreSound form.now self.now.own self.now.refuted }
+        ensures { (text : List ℕ) → IsLine text (lines.End word) → IsPassed form.now self.now.own self.now.blocks text result self.now.own self.now.blocks }
+    {
+        let _ = form;
+        if self.refuted == says_empty(word) {
+            Pass::Ends(word)
+        } else {
+            Pass::Wrong(Cause::Section)
+        }
+    }
+
+    // A line.
+    fn pass(&mut self, form: &Form, text: &[u8]) -> Result<Pass, OutOfMemory>
+        requires sound { AreSound form.now self.old.own self.old.refuted }
+        requires few { self.old.blocks ≤ 268435456 }
+        ensures passed { IfOk result (λ pass. IsPassed form.now self.old.own self.old.blocks text.now pass self.new.own self.new.blocks) }
+        ensures sound { OnOk result (AreSound form.now self.new.own self.new.refuted) }
+        ensures counted { OnOk result (self.new.blocks ≤ self.old.blocks + 1) }
+    {
+        match read_line(text, &mut self.room)? {
+            None => Ok(Pass::Wrong(Cause::Form)),
+            Some(Kind::Heading) => Ok(Pass::Wrong(Cause::Section)),
+            Some(Kind::End(word)) => Ok(self.end(form, word)),
+            Some(Kind::Derived) => self.derived(form),
+            Some(Kind::Block) => self.block(form),
+        }
+    }
+
+    // What stands behind the end of a section, whose line is given.
+    fn behind_end(&mut self, word: EndWord, line: u32, rest: &[u8]) -> Result<Verdict, OutOfMemory>
+        requires { line ≤ 4000000000 }
+        ensures { IfOk result (λ verdict. IsEnded word self.old.blocks line (lines_in rest.now) (finding_of verdict)) }
+    {
+        if rest.is_empty() {
+            return Ok(Verdict::Right {
+                ending: word,
+                blocks: self.blocks,
+                line,
+            });
+        }
+        let (text, _) = first_line(rest);
+        let line = line + 1;
+        match read_line(text, &mut self.room)? {
+            None => Ok(Verdict::Refused {
+                line,
+                cause: Cause::Form,
+            }),
+            Some(_) => Ok(Verdict::Refused {
+                line,
+                cause: Cause::Section,
+            }),
+        }
+    }
+}
+
+// Checks the lines of a section, of which the first has this number.
+fn check_lines(alloc: Global, form: &Form, first: u32, bytes: &[u8]) -> Result<Verdict, OutOfMemory>
+    requires few { length bytes.now ≤ 268435456 }
+    requires line { first ≤ 268435458 }
+    ensures { IfOk result (λ verdict. IsFound form.now form.now.clauses 0 first (lines_in bytes.now) (finding_of verdict)) }
+{
+    let mut checker = Checker::new(alloc, form);
+    let mut rest = bytes;
+    let mut line = first;
+    while !rest.is_empty() {
+        let (text, behind) = first_line(rest);
+        match checker.pass(form, text)? {
+            Pass::Goes => {}
+            Pass::Ends(word) => return checker.behind_end(word, line, behind),
+            Pass::Wrong(cause) => return Ok(Verdict::Refused { line, cause }),
+        }
+        rest = behind;
+        line += 1;
+    }
+    Ok(Verdict::Refused {
+        line,
+        cause: Cause::Section,
+    })
+}
+
+/// Checks the lines of a section over the clauses of a form, those of its horizon and its search: each is right, and the
+/// last one ends the section; or the first that is not.
+pub fn check(alloc: Global, form: &Form, section: &Section<'_>) -> Result<Verdict, OutOfMemory>
+    ensures { IfOk result (λ verdict. IsFound form.now form.now.clauses 0 (section.now.line + 1) section.now.texts (finding_of verdict)) }
+{
+    let (line, bytes) = section.lines();
+    check_lines(alloc, form, line, bytes)
+}
