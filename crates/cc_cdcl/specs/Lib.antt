@@ -1,0 +1,4 @@
+pub mod Choices
+pub mod Earned
+pub mod Laws
+pub mod Sets
