@@ -1,2 +1,5 @@
 mod Closed
 mod Counting
+mod Denials
+mod Exactly
+mod Leasts

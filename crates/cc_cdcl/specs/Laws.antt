@@ -1,9 +1,18 @@
--- What closed assignments give, and how many lines a search can derive.
-use Rattle.std.specs.Prelude.{ℕ, ◌<◌, ◌^◌, Bool, List, Contains, IsTrue}
+-- What closed assignments give, how many lines a search can derive, and by which choices the least row is found.
+use Rattle.std.specs.Prelude.{◌≡◌, ◌≢◌, ℕ, ◌<◌, ◌^◌, Bool, true, false, List, [], ◌∷◌, ◌++◌, Some, None, Contains, IsTrue}
 use Rattle.std.specs.List.{AllByRecursion}
 use Rattle.cc_defs.specs.Assignments.{Values, IsClosed, HasOpen}
+use Rattle.cc_defs.specs.ClauseLists.{positions_from}
 use Rattle.cc_defs.specs.Clauses.{Literal, IsOver, meets}
+use Rattle.cc_defs.specs.Rows.{IsRow}
+use Rattle.cc_defs.specs.Sections.{row_denial}
+use Rattle.cc_trail.specs.declared.entries.Step.{Step}
+use Rattle.cc_trail.specs.Steps.{values_of}
+use Rattle.cc_trail.specs.Trails.{TrailView, decided}
+use Rattle.cc_trail.specs.Watches.{AreReasoned}
+use Rattle.cc_cdcl.specs.Choices.{AreChosen, IsNext}
 use Rattle.cc_cdcl.specs.Earned.{Line, AreEarnedBehind, earned_count}
+use Rattle.cc_cdcl.specs.LeastRows.{HasRow, IsLeastRow, row_of}
 use Rattle.cc_cdcl.specs.Sets.{intersection, assignment_of, IsFull}
 
 -- what two closed assignments give alike is closed
@@ -19,3 +28,26 @@ FullClosedMeets = (variables : ℕ) (clauses : List (List Literal)) (values : Va
 abbrev pub EarnedLinesAreFew : Type 0
 EarnedLinesAreFew = (variables : ℕ) (axioms : List (List Literal)) (lines : List Line) (opens : ℕ) → AllByRecursion (IsOver variables) axioms →
     AreEarnedBehind variables axioms lines → HasOpen variables axioms opens → earned_count lines < 3 ^ opens
+
+-- Of clauses by which each position has exactly one value, the least row is that of steps that were chosen so, if what they
+-- make true is closed and gives every variable a value.
+abbrev pub LeastRowIsFound : Type 0
+LeastRowIsFound = (sizes : List ℕ) (variables : ℕ) (clauses : List (List Literal)) (steps : List Step) → AllByRecursion (IsOver variables) clauses →
+    ((clause : List Literal) → Contains (positions_from 1 sizes) clause → Contains clauses clause) → AreReasoned clauses steps → AreChosen sizes steps →
+    IsFull variables (values_of steps) → IsClosed (values_of steps) clauses → IsLeastRow sizes clauses (row_of sizes (assignment_of (values_of steps)))
+
+-- steps with a reason, and such choices, are added to steps that were chosen so; and they can be taken away
+abbrev pub ChoicesAreKept : Type 0
+ChoicesAreKept = (sizes : List ℕ) (steps : List Step) →
+    ((last : Step) → AreChosen sizes steps → last.reason ≢ None → AreChosen sizes (steps ++ last ∷ [])) ×
+    ((trail : TrailView) (literal : Literal) → AreChosen sizes trail.steps → IsNext sizes (values_of trail.steps) literal → AreChosen sizes (decided trail literal).steps) ×
+    ((gone : List Step) → AreChosen sizes (steps ++ gone) → AreChosen sizes steps)
+
+-- an assignment with a row does not meet the clause that denies the row
+abbrev pub DenialDenies : Type 0
+DenialDenies = (sizes row : List ℕ) (assignment : ℕ → Bool) → IsRow sizes row → HasRow sizes assignment row → meets assignment (row_denial sizes row) ≡ false
+
+-- one with another row meets it
+abbrev pub DenialLeavesOthers : Type 0
+DenialLeavesOthers = (sizes row other : List ℕ) (assignment : ℕ → Bool) → IsRow sizes row → IsRow sizes other → other ≢ row → HasRow sizes assignment other →
+    meets assignment (row_denial sizes row) ≡ true

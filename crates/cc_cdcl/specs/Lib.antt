@@ -1,4 +1,5 @@
 pub mod Choices
 pub mod Earned
 pub mod Laws
+pub mod LeastRows
 pub mod Sets

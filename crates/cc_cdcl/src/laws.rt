@@ -1,5 +1,5 @@
 //! Laws of conflict-driven search, each the contract of a function with no body.
-ghost use Rattle.cc_cdcl.specs.Laws.{ClosedMeet, EarnedLinesAreFew, FullClosedMeets};
+ghost use Rattle.cc_cdcl.specs.Laws.{ChoicesAreKept, ClosedMeet, DenialDenies, DenialLeavesOthers, EarnedLinesAreFew, FullClosedMeets, LeastRowIsFound};
 
 /// What two closed assignments give alike is closed.
 pub fn closed_meet()
@@ -14,4 +14,25 @@ pub fn full_closed_meets()
 /// Derived lines that are earned, where k variables are open, are fewer than 3 ^ k.
 pub fn earned_lines_are_few()
     ensures { EarnedLinesAreFew }
+{}
+
+/// The row of a closed trail that gives every variable a value is the least one, if each decision was the least value that
+/// is not false of the first position with no true value.
+pub fn least_row_is_found()
+    ensures { LeastRowIsFound }
+{}
+
+/// Propagation, such decisions and going back keep that each decision was one.
+pub fn choices_are_kept()
+    ensures { ChoicesAreKept }
+{}
+
+/// An assignment with a row does not meet the clause that denies the row.
+pub fn denial_denies()
+    ensures { DenialDenies }
+{}
+
+/// An assignment with another row meets it.
+pub fn denial_leaves_others()
+    ensures { DenialLeavesOthers }
 {}
