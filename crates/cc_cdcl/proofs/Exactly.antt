@@ -74,21 +74,44 @@ some_true assignment first (suc size) met =
     by true e = refl
     by false e = cc
 
--- the first true one is true, and behind none
+-- the first true one is true
 index_true : (assignment : ℕ → Bool) (size first value : ℕ) → value < size → assignment (first + value) ≡ true →
     (true_index assignment first size < size) × (assignment (first + true_index assignment first size) ≡ true)
 index_true assignment zero first value low is = absurd (omega arith)
-index_true assignment (suc size) first value low is = by (assignment first) refl
+index_true assignment (suc size) first zero low is =
+    let here : assignment first ≡ true = ap assignment (omega arith) ∙ is in rw here (omega arith, is)
+index_true assignment (suc size) first (suc value) low is = by (assignment first) refl (index_true assignment size (first + 1) value (omega arith) (ap assignment (omega arith) ∙ is))
   where
-    at_zero : value ≡ 0 → assignment first ≡ true
-    at_zero e = ap assignment (omega arith) ∙ is
-    by : (b : Bool) → assignment first ≡ b → (true_index assignment first (suc size) < suc size) × (assignment (first + true_index assignment first (suc size)) ≡ true)
-    by true e = rw e (omega arith, ap assignment (omega arith) ∙ e)
-    by false e = ?
+    by : (b : Bool) → assignment first ≡ b → (true_index assignment (first + 1) size < size) × (assignment (first + 1 + true_index assignment (first + 1) size) ≡ true) →
+        (true_index assignment first (suc size) < suc size) × (assignment (first + true_index assignment first (suc size)) ≡ true)
+    by true e rest = rw e (omega arith, ap assignment (omega arith) ∙ e)
+    by false e rest = rw e (omega (arith, rest.0), ap assignment (omega arith) ∙ rest.1)
+
+not_two : (assignment : ℕ → Bool) (u v : ℕ) → assignment u ≡ true → assignment v ≡ true → IsTrue (meets assignment (denied_pair (positive u) (positive v))) → ⊥
+not_two assignment u v e f met = let both = rw (e, f) at met in cc
 
 pub one_value : (assignment : ℕ → Bool) (first size : ℕ) → MeetsAll (exactly_one (position_variables first size)) assignment →
     (true_index assignment first size < size) × HasIndex first size assignment (true_index assignment first size)
-one_value assignment first size all = ?
+one_value assignment first size all = (there.0, each)
+  where
+    there : (true_index assignment first size < size) × (assignment (first + true_index assignment first size) ≡ true)
+    there = let (value, low, is) = some_true assignment first size (all (position_variables first size) (0, omega arith, refl)) in index_true assignment size first value low is
+    pair : (u v : ℕ) → assignment u ≡ true → assignment v ≡ true → Contains (pairs_denied (position_variables first size)) (denied_pair (positive u) (positive v)) → ⊥
+    pair u v e f (k, within, is) = not_two assignment u v e f (all (denied_pair (positive u) (positive v)) (suc k, omega arith, is))
+    alone : (value : ℕ) → value < size → value ≢ true_index assignment first size → (b : Bool) → assignment (first + value) ≡ b → b ≡ false
+    alone value low apart false is = refl
+    alone value low apart true is =
+        absurd (elim (pair_in (position_variables first size) (positive (first + value)) (positive (first + true_index assignment first size))
+        (λ e. let same : first + value ≡ first + true_index assignment first size = ap (λ (l : Literal). l.variable) e in apart (omega arith))
+        (variable_in first size value low) (variable_in first size (true_index assignment first size) there.0)) [
+          | inl here ↦ pair (first + value) (first + true_index assignment first size) is there.1 here
+          | inr here ↦ pair (first + true_index assignment first size) (first + value) there.1 is here
+        ])
+    each : HasIndex first size assignment (true_index assignment first size)
+    each value low = elim (eqb_tells value (true_index assignment first size)) [
+      | inl same ↦ ap (λ (n : ℕ). assignment (first + n)) (same.1) ∙ there.1 ∙ sym (same.0)
+      | inr other ↦ alone value low (other.1) (assignment (first + value)) refl ∙ sym (other.0)
+    ]
 
 pub has_row : (assignment : ℕ → Bool) (first : ℕ) (sizes : List ℕ) → MeetsAll (positions_from first sizes) assignment →
     IsRow sizes (row_from first sizes assignment) × HasRowFrom first sizes assignment (row_from first sizes assignment)
