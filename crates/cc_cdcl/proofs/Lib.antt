@@ -3,3 +3,7 @@ mod Counting
 mod Denials
 mod Exactly
 mod Leasts
+mod Learning
+mod Levels
+mod Picking
+mod Walking

@@ -1,15 +1,17 @@
 -- What closed assignments give, how many lines a search can derive, and by which choices the least row is found.
-use Rattle.std.specs.Prelude.{◌≡◌, ◌≢◌, ℕ, ◌<◌, ◌^◌, Bool, true, false, List, [], ◌∷◌, ◌++◌, Some, None, Contains, IsTrue}
+use Rattle.std.specs.Prelude.{◌≡◌, ◌≢◌, ℕ, ◌<◌, ◌^◌, ◌⊎◌, Bool, true, false, List, [], ◌∷◌, ◌++◌, Some, None, Contains, IsTrue}
 use Rattle.std.specs.List.{AllByRecursion}
-use Rattle.cc_defs.specs.Assignments.{Values, IsClosed, HasOpen}
+use Rattle.cc_defs.specs.Assignments.{Values, IsClosed, IsFailed, IsEarned, HasOpen}
 use Rattle.cc_defs.specs.ClauseLists.{positions_from}
-use Rattle.cc_defs.specs.Clauses.{Literal, IsOver, meets}
+use Rattle.cc_defs.specs.Clauses.{Literal, IsOver, Clash, IsResolvent, meets, opposite}
 use Rattle.cc_defs.specs.Rows.{IsRow}
 use Rattle.cc_defs.specs.Sections.{row_denial}
 use Rattle.cc_trail.specs.declared.entries.Step.{Step}
-use Rattle.cc_trail.specs.Steps.{values_of}
-use Rattle.cc_trail.specs.Trails.{TrailView, decided}
-use Rattle.cc_trail.specs.Watches.{AreReasoned}
+use Rattle.cc_trail.specs.Links.{IsIn}
+use Rattle.cc_trail.specs.Steps.{AreSteps, steps_to, values_of}
+use Rattle.cc_trail.specs.Trails.{TrailView, IsMild, IsSettledOver, decided}
+use Rattle.cc_trail.specs.Watches.{AreReasoned, IsFalseBy}
+use Rattle.cc_cdcl.specs.Analysis.{AreFalseBy, HasTwoOf, IsLearned}
 use Rattle.cc_cdcl.specs.Choices.{AreChosen, IsNext}
 use Rattle.cc_cdcl.specs.Earned.{Line, AreEarnedBehind, earned_count}
 use Rattle.cc_cdcl.specs.LeastRows.{HasRow, IsLeastRow, row_of}
@@ -51,3 +53,27 @@ DenialDenies = (sizes row : List ℕ) (assignment : ℕ → Bool) → IsRow size
 abbrev pub DenialLeavesOthers : Type 0
 DenialLeavesOthers = (sizes row other : List ℕ) (assignment : ℕ → Bool) → IsRow sizes row → IsRow sizes other → other ≢ row → HasRow sizes assignment other →
     meets assignment (row_denial sizes row) ≡ true
+
+-- A clause that is false by a settled trail has two literals of the last level, unless no level was opened.
+abbrev pub FalseClauseHasTwo : Type 0
+FalseClauseHasTwo = (variables : ℕ) (steps : List Step) (level_count : ℕ) (clauses : List (List Literal)) (clause : List Literal) → AreSteps variables steps level_count →
+    IsSettledOver steps level_count clauses → Contains clauses clause → IsFailed (values_of steps) clause → (level_count ≡ 0) ⊎ HasTwoOf steps level_count clause
+
+-- Where the last step of a front made a literal of a false clause false, the clause and the step's reason clash on its
+-- variable, and their resolvent is false by the shorter front.
+abbrev pub ResolventIsFalse : Type 0
+ResolventIsFalse = (front : List Step) (last : Step) (clause reason : List Literal) → ((other : Step) → IsIn front other → other.lit.variable ≢ last.lit.variable) →
+    AreFalseBy (front ++ last ∷ []) clause → Contains clause (opposite last.lit) → Contains reason last.lit →
+    ((other : Literal) → Contains reason other → (other ≡ last.lit) ⊎ IsFalseBy front other) →
+    Clash clause reason last.lit.variable × ((resolvent : List Literal) → IsResolvent clause reason last.lit.variable resolvent → AreFalseBy front resolvent)
+
+-- Where it made none of them false, the clause is false by the shorter front.
+abbrev pub OtherIsFalse : Type 0
+OtherIsFalse = (front : List Step) (last : Step) (clause : List Literal) → AreFalseBy (front ++ last ∷ []) clause → (Contains clause (opposite last.lit) → ⊥) →
+    AreFalseBy front clause
+
+-- A learned clause is earned, and once the higher levels are gone back, adding it keeps the trail settled.
+abbrev pub LearnedIsEarned : Type 0
+LearnedIsEarned = (variables : ℕ) (steps : List Step) (level_count : ℕ) (clauses : List (List Literal)) (clause : List Literal) (back : ℕ) →
+    AreSteps variables steps level_count → IsSettledOver steps level_count clauses → IsLearned steps level_count clause back →
+    IsEarned clauses clause × IsMild (steps_to back steps) back clause

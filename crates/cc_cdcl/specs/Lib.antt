@@ -1,3 +1,4 @@
+pub mod Analysis
 pub mod Choices
 pub mod Earned
 pub mod Laws

@@ -1,5 +1,5 @@
 //! Laws of conflict-driven search, each the contract of a function with no body.
-ghost use Rattle.cc_cdcl.specs.Laws.{ChoicesAreKept, ClosedMeet, DenialDenies, DenialLeavesOthers, EarnedLinesAreFew, FullClosedMeets, LeastRowIsFound};
+ghost use Rattle.cc_cdcl.specs.Laws.{ChoicesAreKept, ClosedMeet, DenialDenies, DenialLeavesOthers, EarnedLinesAreFew, FalseClauseHasTwo, FullClosedMeets, LearnedIsEarned, LeastRowIsFound, OtherIsFalse, ResolventIsFalse};
 
 /// What two closed assignments give alike is closed.
 pub fn closed_meet()
@@ -35,4 +35,24 @@ pub fn denial_denies()
 /// An assignment with another row meets it.
 pub fn denial_leaves_others()
     ensures { DenialLeavesOthers }
+{}
+
+/// A clause that is false by a settled trail has two literals of the last level, unless no level was opened.
+pub fn false_clause_has_two()
+    ensures { FalseClauseHasTwo }
+{}
+
+/// A false clause and the reason of the last step clash on its variable, and the resolvent is false by the steps before.
+pub fn resolvent_is_false()
+    ensures { ResolventIsFalse }
+{}
+
+/// A false clause that does not have the opposite of the last step's literal is false by the steps before.
+pub fn other_is_false()
+    ensures { OtherIsFalse }
+{}
+
+/// A learned clause is earned, and adding it keeps the trail settled once the higher levels are gone back.
+pub fn learned_is_earned()
+    ensures { LearnedIsEarned }
 {}
