@@ -1,11 +1,10 @@
 -- Closed assignments: literals that must be true, what two give alike, and full ones.
-use Rattle.std.proofs.Common.{◌≡◌, ◌≢◌, ◌∙◌, ℕ, ◌<◌, ◌≤◌, zero, suc, inl, inr, Bool, true, false, not, ◌||◌, List, [], ◌∷◌, ◌++◌, length, Option, Some, None, refl, sym, subst, ap, arith}
+use Rattle.std.proofs.Common.{◌≡◌, ◌≢◌, ◌∙◌, ℕ, ◌<◌, ◌≤◌, zero, suc, inl, inr, Bool, true, false, not, List, [], ◌∷◌, ◌++◌, Option, Some, None, refl, sym, subst, ap, arith}
 use Rattle.std.specs.Prelude.{◌⊎◌, Contains, IsTrue, if◌then◌else◌}
-use Rattle.std.specs.Bool.{beq}
-use Rattle.std.specs.List.{AllByRecursion, list_any}
+use Rattle.std.specs.List.{AllByRecursion}
 use Rattle.std.proofs.lemmas.Bool.{or_parts}
 use Rattle.std.proofs.lemmas.List.Elements.{All-contains, All-from_recursion, Contains-append_left}
-use Rattle.cc_defs.specs.Assignments.{Values, IsClosed, IsFailed, IsUnit, IsTrueIn, IsFalseIn, HasNoValue}
+use Rattle.cc_defs.specs.Assignments.{Values, IsClosed, IsFailed, IsUnit, IsTrueIn, IsFalseIn}
 use Rattle.cc_defs.specs.Clauses.{Literal, IsOver, is_made_true, meets}
 use Rattle.cc_cdcl.specs.Sets.{value_of_both, intersection, assignment_of, IsFull}
 
@@ -86,6 +85,7 @@ module _ (clauses : List (List Literal)) (a b : Values) (closed_a : IsClosed a c
         | inl same ↦ inl same
         | inr is ↦ inr (keeps literal is)
       ]
+
       no_unit : (clause : List Literal) → Contains clauses clause → IsUnit (intersection a b) clause → ⊥
       no_unit clause here unit =
           let in_a : IsTrueIn a unit.left = forced a clauses clause unit.left closed_a here unit.member
@@ -127,5 +127,5 @@ full_met variables clauses values over full closed clause here = by (meets (assi
     by true is = refl
     by false is = absurd (closed.none_failed clause here (none_met values clause
         (λ literal member.
-            let low = member_over variables clause (All-contains (IsOver variables) clauses clause (All-from_recursion (IsOver variables) clauses over) here) literal member in
-            full literal.variable low.0 low.1) is))
+        let low = member_over variables clause (All-contains (IsOver variables) clauses clause (All-from_recursion (IsOver variables) clauses over) here) literal member in
+        full literal.variable low.0 low.1) is))

@@ -1,14 +1,14 @@
 -- Earned lines have different closed assignments, and those of k open variables are numbers below 3 ^ k.
-use Rattle.std.proofs.Common.{◌≡◌, ◌≢◌, ◌∙◌, ℕ, ◌+◌, ◌-◌, ◌*◌, ◌^◌, ◌<◌, ◌≤◌, zero, suc, inl, inr, eqb, Bool, true, false, not, List, [], ◌∷◌, ◌++◌, length, Option, Some, None, refl, sym, subst, ap, arith}
+use Rattle.std.proofs.Common.{◌≡◌, ◌∙◌, ℕ, ◌+◌, ◌-◌, ◌*◌, ◌^◌, ◌<◌, ◌≤◌, zero, suc, inl, inr, eqb, Bool, true, false, List, [], ◌∷◌, ◌++◌, length, Option, Some, None, refl, sym, subst, ap, arith}
 use Rattle.std.specs.Prelude.{◌⊎◌, Contains}
 use Rattle.std.specs.List.{AllByRecursion, IsDistinct, list_any}
 use Rattle.std.proofs.Math.Nat.{pow-succ'}
 use Rattle.std.proofs.lemmas.Bool.Decides.{eqb_tells}
-use Rattle.std.proofs.lemmas.List.Elements.{Contains-append_left, Contains-push}
+use Rattle.std.proofs.lemmas.List.Elements.{Contains-push}
 use Rattle.std.proofs.lemmas.Map.Steps.{length-le_from_distinct_below}
-use Rattle.cc_defs.specs.Assignments.{Values, IsClosed, IsUnit, IsEarned, IsOpen, AreOpen, HasNoValue, IsFalseIn}
+use Rattle.cc_defs.specs.Assignments.{Values, IsClosed, IsUnit, IsEarned, AreOpen}
 use Rattle.cc_defs.specs.Clauses.{Literal, IsOver}
-use Rattle.cc_cdcl.specs.Earned.{Line, Derived, Given, clause_of, AreEarnedBehind, earned_count}
+use Rattle.cc_cdcl.specs.Earned.{Line, Derived, Given, AreEarnedBehind, earned_count}
 use Rattle.cc_cdcl.specs.Laws.{EarnedLinesAreFew}
 use Rattle.cc_cdcl.specs.Sets.{value_of_both, intersection}
 use Rattle.cc_cdcl.proofs.Closed.{alike_closed, fewer_closed, member_over}
@@ -148,24 +148,26 @@ module _ (variables : ℕ) (axioms : List (List Literal)) (found : List ℕ) (ar
         codes = code found earned.values ∷ rest.codes;
         many = ap suc rest.many;
         apart = (others before clause earned.values extends over earned.closed earned.unit rest.codes rest.each, rest.apart);
-        each = ((earned.values, earned.closed, refl, code_lower found earned.values earned.unit.left.variable there earned.unit.open_yet),
-            fewer before clause rest.codes rest.each);
+        each = (
+          (earned.values, earned.closed, refl, code_lower found earned.values earned.unit.left.variable there earned.unit.open_yet),
+          fewer before clause rest.codes rest.each,
+        );
       }
 
   no_more : (before : List (List Literal)) (clause : List Literal) (count : ℕ) → Codes (before ++ clause ∷ []) count → Codes before count
   no_more before clause count rest = record { codes = rest.codes; many = rest.many; apart = rest.apart; each = fewer before clause rest.codes rest.each }
 
-  then : (before : List (List Literal)) (clause : List Literal) → Extends before → Extends (before ++ clause ∷ [])
-  then before clause extends values closed = extends values (fewer_closed values before (clause ∷ []) closed)
+  extends_more : (before : List (List Literal)) (clause : List Literal) → Extends before → Extends (before ++ clause ∷ [])
+  extends_more before clause extends values closed = extends values (fewer_closed values before (clause ∷ []) closed)
 
   codes_of : (before : List (List Literal)) (lines : List Line) → Extends before → AreEarnedBehind variables before lines → Codes before (earned_count lines)
   unfolding IsDistinct
   codes_of before [] extends earned = record { codes = []; many = refl; apart = tt; each = tt }
-  codes_of before (Derived [] ∷ lines) extends earned = no_more before [] (earned_count lines) (codes_of (before ++ [] ∷ []) lines (then before [] extends) earned.2)
+  codes_of before (Derived [] ∷ lines) extends earned = no_more before [] (earned_count lines) (codes_of (before ++ [] ∷ []) lines (extends_more before [] extends) earned.2)
   codes_of before (Derived (literal ∷ literals) ∷ lines) extends earned =
       one_more before (literal ∷ literals) (earned_count lines) extends earned.0 earned.1
-      (codes_of (before ++ (literal ∷ literals) ∷ []) lines (then before (literal ∷ literals) extends) earned.2)
-  codes_of before (Given clause ∷ lines) extends earned = no_more before clause (earned_count lines) (codes_of (before ++ clause ∷ []) lines (then before clause extends) earned.2)
+      (codes_of (before ++ (literal ∷ literals) ∷ []) lines (extends_more before (literal ∷ literals) extends) earned.2)
+  codes_of before (Given clause ∷ lines) extends earned = no_more before clause (earned_count lines) (codes_of (before ++ clause ∷ []) lines (extends_more before clause extends) earned.2)
 
   all_low : (before : List (List Literal)) (codes : List ℕ) → AllByRecursion (IsCode before) codes → (q : ℕ) → list_any (eqb q) codes ≡ true → suc q < 3 ^ length found
   all_low before [] each q here = cc

@@ -1,6 +1,5 @@
 -- The clause that denies a row: an assignment that has the row does not meet it, and one that has another row does.
-use Rattle.std.proofs.Common.{◌≡◌, ◌≢◌, ◌∙◌, ℕ, ◌+◌, ◌<◌, zero, suc, inl, inr, eqb, Bool, true, false, not, List, [], ◌∷◌, refl, sym, subst, ap, ap₂, arith}
-use Rattle.std.specs.Prelude.{◌⊎◌}
+use Rattle.std.proofs.Common.{◌≡◌, ◌≢◌, ◌∙◌, ℕ, ◌+◌, inl, inr, eqb, Bool, true, false, List, [], ◌∷◌, refl, sym, ap₂}
 use Rattle.std.proofs.lemmas.Bool.Decides.{eqb_tells}
 use Rattle.cc_defs.specs.Clauses.{meets}
 use Rattle.cc_defs.specs.Rows.{IsRow}
@@ -8,7 +7,7 @@ use Rattle.cc_defs.specs.Sections.{denial_from}
 use Rattle.cc_cdcl.specs.LeastRows.{HasRowFrom}
 
 pub eqb_itself : (n : ℕ) → eqb n n ≡ true
-eqb_itself n = elim (eqb_tells n n) [ | inl same ↦ same.0 | inr other ↦ absurd (other.1 refl) ]
+eqb_itself n = elim (eqb_tells n n) [ inl same ↦ same.0 | inr other ↦ absurd (other.1 refl) ]
 
 pub denied : (first : ℕ) (sizes row : List ℕ) (assignment : ℕ → Bool) → IsRow sizes row → HasRowFrom first sizes assignment row →
     meets assignment (denial_from first sizes row) ≡ false

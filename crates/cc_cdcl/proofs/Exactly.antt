@@ -1,7 +1,6 @@
 -- An assignment that meets the clauses of the positions has exactly one value of each.
-use Rattle.std.proofs.Common.{◌≡◌, ◌≢◌, ◌∙◌, ℕ, ◌+◌, ◌<◌, zero, suc, inl, inr, eqb, Bool, true, false, not, ◌||◌, List, [], ◌∷◌, ◌++◌, map, length, refl, sym, subst, ap, ap₂, arith, append_assoc}
-use Rattle.std.specs.Prelude.{◌⊎◌, Contains, IsTrue, if◌then◌else◌}
-use Rattle.std.specs.List.{list_any}
+use Rattle.std.proofs.Common.{◌≡◌, ◌≢◌, ◌∙◌, ℕ, ◌+◌, ◌<◌, zero, suc, inl, inr, Bool, true, false, ◌||◌, List, [], ◌∷◌, ◌++◌, map, refl, sym, subst, ap, arith}
+use Rattle.std.specs.Prelude.{◌⊎◌, Contains, IsTrue}
 use Rattle.std.proofs.lemmas.Bool.Decides.{eqb_tells}
 use Rattle.std.proofs.lemmas.List.Elements.{Contains-append_left, Contains-append_right, Contains-push}
 use Rattle.std.proofs.lemmas.List.Folds.{list_any-append}
@@ -96,8 +95,10 @@ one_value assignment first size all = (there.0, each)
   where
     there : (true_index assignment first size < size) × (assignment (first + true_index assignment first size) ≡ true)
     there = let (value, low, is) = some_true assignment first size (all (position_variables first size) (0, omega arith, refl)) in index_true assignment size first value low is
+
     pair : (u v : ℕ) → assignment u ≡ true → assignment v ≡ true → Contains (pairs_denied (position_variables first size)) (denied_pair (positive u) (positive v)) → ⊥
     pair u v e f (k, within, is) = not_two assignment u v e f (all (denied_pair (positive u) (positive v)) (suc k, omega arith, is))
+
     alone : (value : ℕ) → value < size → value ≢ true_index assignment first size → (b : Bool) → assignment (first + value) ≡ b → b ≡ false
     alone value low apart false is = refl
     alone value low apart true is =
@@ -107,6 +108,7 @@ one_value assignment first size all = (there.0, each)
           | inl here ↦ pair (first + value) (first + true_index assignment first size) is there.1 here
           | inr here ↦ pair (first + true_index assignment first size) (first + value) there.1 is here
         ])
+
     each : HasIndex first size assignment (true_index assignment first size)
     each value low = elim (eqb_tells value (true_index assignment first size)) [
       | inl same ↦ ap (λ (n : ℕ). assignment (first + n)) (same.1) ∙ there.1 ∙ sym (same.0)

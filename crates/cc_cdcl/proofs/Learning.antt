@@ -1,28 +1,26 @@
 -- A clause that is false by a settled trail, and the clause that is learned from it.
-use Rattle.std.proofs.Common.{◌≡◌, ◌≢◌, ◌∙◌, ℕ, ◌+◌, ◌<◌, ◌≤◌, zero, suc, inl, inr, Bool, true, false, not, List, [], ◌∷◌, ◌++◌, Option, Some, None, option_map, refl, sym, subst, ap, arith}
+use Rattle.std.proofs.Common.{◌≡◌, ◌≢◌, ◌∙◌, ℕ, ◌<◌, ◌≤◌, zero, suc, inl, inr, not, List, Option, Some, option_map, refl, ap, arith}
 use Rattle.std.specs.Prelude.{◌⊎◌, Contains}
 use Rattle.std.proofs.lemmas.Bool.Decides.{leb_tells}
-use Rattle.cc_defs.specs.Assignments.{IsClosed, IsFailed, IsFalseIn, HasNoValue}
-use Rattle.cc_defs.specs.Clauses.{Literal, opposite, IsResolvent}
+use Rattle.cc_defs.specs.Assignments.{IsFailed, IsFalseIn}
+use Rattle.cc_defs.specs.Clauses.{Literal}
 use Rattle.cc_trail.specs.declared.entries.Step.{Step}
 use Rattle.cc_trail.specs.Links.{IsIn}
-use Rattle.cc_trail.specs.Steps.{AreSteps, level_after, step_of, steps_to, values_of, values_to}
+use Rattle.cc_trail.specs.Steps.{AreApart, AreSteps, step_of, steps_to, values_of, values_to}
 use Rattle.cc_trail.specs.Trails.{IsSettledOver, IsMild, level_of_step}
-use Rattle.cc_trail.specs.Watches.{IsFalseBy}
-use Rattle.cc_cdcl.specs.Analysis.{AreFalseBy, HasOneOf, HasTwoOf, IsLearned, level_of}
+use Rattle.cc_cdcl.specs.Analysis.{HasTwoOf, IsLearned, level_of}
 use Rattle.cc_cdcl.specs.Laws.{FalseClauseHasTwo, LearnedIsEarned}
-use Rattle.cc_cdcl.proofs.Levels.{found_in, has_step, in_found, level_most, none_back, same_literal, to_higher, to_lower}
+use Rattle.cc_cdcl.proofs.Levels.{has_step, level_most, none_back, to_higher, to_lower}
 use Rattle.cc_cdcl.proofs.Picking.{pick}
-use Rattle.cc_cdcl.proofs.Walking.{front_or_last, opposite_twice}
 
-level_is : (steps : List Step) (variable : ℕ) (step : Step) → step_of steps variable ≡ Some step → level_of steps variable ≡ Some step.level
+pub level_is : (steps : List Step) (variable : ℕ) (step : Step) → step_of steps variable ≡ Some step → level_of steps variable ≡ Some step.level
 level_is steps variable step at = ap (option_map level_of_step) at
 
-one_level : (a b : ℕ) (level : Option ℕ) → level ≡ Some a → level ≡ Some b → a ≡ b
+pub one_level : (a b : ℕ) (level : Option ℕ) → level ≡ Some a → level ≡ Some b → a ≡ b
 one_level a b level e f = cc
 
 module _ (variables : ℕ) (steps : List Step) (level_count : ℕ) (are : AreSteps variables steps level_count) where
-  within : (step : Step) → IsIn steps step → step.level ≤ level_count
+  pub within : (step : Step) → IsIn steps step → step.level ≤ level_count
   within step here = let most = level_most 0 steps are.rising step here in let is = are.levels in omega arith
 
   -- of the last level, or false by the levels below
@@ -52,25 +50,31 @@ module _ (variables : ℕ) (steps : List Step) (level_count : ℕ) (are : AreSte
         | inr (inr found) ↦ found
       ]
 
-  -- a clause with two literals of the last level keeps a trail settled
-  pub mild_two : (clause : List Literal) → HasTwoOf steps level_count clause → IsMild steps level_count clause
-  mild_two clause (one, other, apart, one_in, other_in, one_at, other_at) level low =
-      inr (one, other, apart, one_in, other_in, to_higher level level_count (step_of steps one.variable) one_at low,
-          to_higher level level_count (step_of steps other.variable) other_at low)
+-- ---- clauses that keep a trail settled, once the levels above one are gone
 
-  module _ (clause : List Literal) (back : ℕ) (is : IsLearned steps level_count clause back) where
-    learned_mild : IsMild (steps_to back steps) back clause
-    learned_mild level low = elim (is.reached) [
-      | inl zero_is ↦ absurd (omega arith)
-      | inr (other, inside, at) ↦ inr (is.left, other, differ other at, is.member, inside,
-          none_back level back level_count steps is.left.variable are.apart is.last (let lower = is.lower in omega arith),
-          none_back level back back steps other.variable are.apart at low)
-    ]
-      where
-        differ : (other : Literal) → level_of steps other.variable ≡ Some back → is.left ≢ other
-        differ other at e =
-            let same = one_level level_count back (level_of steps is.left.variable) is.last (ap (λ (l : Literal). level_of steps l.variable) e ∙ at) in
-            let lower = is.lower in absurd (omega arith)
+module _ (steps : List Step) (apart : AreApart steps) (top : ℕ) (clause : List Literal) where
+  pub two_mild : HasTwoOf steps top clause → IsMild (steps_to top steps) top clause
+  two_mild (one, other, differ, one_in, other_in, one_at, other_at) level low =
+      inr (one, other, differ, one_in, other_in, none_back level top top steps one.variable apart one_at low, none_back level top top steps other.variable apart other_at low)
+
+  pub learned_mild : (back : ℕ) → IsLearned steps top clause back → IsMild (steps_to back steps) back clause
+  learned_mild back is level low = elim (is.reached) [
+    | inl zero_is ↦ absurd (omega arith)
+    | inr (other, inside, at) ↦ inr (
+      is.left,
+      other,
+      differ other at,
+      is.member,
+      inside,
+      none_back level back top steps is.left.variable apart is.last (let lower = is.lower in omega arith),
+      none_back level back back steps other.variable apart at low,
+    )
+  ]
+    where
+      differ : (other : Literal) → level_of steps other.variable ≡ Some back → is.left ≢ other
+      differ other at e =
+          let same = one_level top back (level_of steps is.left.variable) is.last (ap (λ (l : Literal). level_of steps l.variable) e ∙ at) in
+          let lower = is.lower in absurd (omega arith)
 
 pub two_of_last : FalseClauseHasTwo
 two_of_last variables steps zero clauses clause are settled here failed = inl refl
@@ -91,5 +95,5 @@ learned variables steps level_count clauses clause back are settled is = (
       ];
     };
   }),
-  learned_mild variables steps level_count are clause back is,
+  learned_mild steps are.apart level_count clause back is,
 )

@@ -1,13 +1,12 @@
 -- The row that is found by the least choices is the least one.
 use Rattle.std.proofs.Common.{◌≡◌, ◌≢◌, ◌∙◌, ℕ, ◌+◌, ◌-◌, ◌<◌, zero, suc, inl, inr, eqb, Bool, true, false, not, ◌||◌, List, [], ◌∷◌, ◌++◌, Option, Some, None, refl, sym, subst, ap, ap₂, arith, append_assoc, append-nil}
-use Rattle.std.specs.Prelude.{◌⊎◌, Contains, IsTrue, if◌then◌else◌, slice_get, unwrap_or}
+use Rattle.std.specs.Prelude.{◌⊎◌, Contains, if◌then◌else◌, slice_get, unwrap_or}
 use Rattle.std.proofs.lemmas.Bool.Decides.{eqb_tells}
 use Rattle.std.specs.Cmp.{nat_cmp_is}
 use Rattle.std.specs.declared.cmp.Ordering.TheVariants.{Less, Equal}
 use Rattle.cc_defs.specs.Assignments.{Values, HasNoValue}
-use Rattle.cc_defs.specs.Clauses.{Literal, opposite, is_made_true, meets, IsNumbered}
-use Rattle.cc_defs.specs.ClauseForms.{positive}
-use Rattle.cc_defs.specs.Rows.{IsRow, IsBelow, row_cmp}
+use Rattle.cc_defs.specs.Clauses.{Literal, is_made_true, meets}
+use Rattle.cc_defs.specs.Rows.{IsRow, IsBelow}
 use Rattle.cc_trail.specs.declared.entries.Step.{Step}
 use Rattle.cc_trail.specs.Links.{IsIn}
 use Rattle.cc_trail.specs.Steps.{values_of}
@@ -23,7 +22,7 @@ use Rattle.cc_cdcl.proofs.Exactly.{has_row}
 -- ---- rows, by their atoms
 
 same_index : (value index : ℕ) → eqb value index ≡ true → value ≡ index
-same_index value index e = elim (eqb_tells value index) [ | inl same ↦ same.1 | inr other ↦ absurd (tests e (other.0)) ]
+same_index value index e = elim (eqb_tells value index) [ inl same ↦ same.1 | inr other ↦ absurd (tests e (other.0)) ]
   where
     tests : eqb value index ≡ true → eqb value index ≡ false → ⊥
     tests e f = cc
@@ -72,12 +71,16 @@ module _ (values : Values) (literal : Literal) (a b : ℕ → Bool) (gives_a : G
     where
       at_i : value ≡ i
       at_i = same_index value i (sym (has.0 value low) ∙ sym (ap (λ (l : Literal). b l.variable) literal_is) ∙ made ∙ ap (λ (l : Literal). l.positive) literal_is)
+
       true_j : a (first + j) ≡ true
       true_j = other_has.0 j other_is.0 ∙ eqb_itself j
+
       not_lower : j < value → ⊥
       not_lower less = let false_j = gives_a (first + j) false (lower j less) in let is_true = true_j in cc
+
       not_same : j ≢ value
       not_same same = otherwise (ap (λ (l : Literal). a l.variable) literal_is ∙ ap (λ (n : ℕ). a (first + n)) (sym same) ∙ true_j ∙ sym (ap (λ (l : Literal). l.positive) literal_is))
+
       less : i < j
       less = let one = not_lower in let two = not_same in grind arith
 
@@ -194,9 +197,9 @@ module _ (sizes : List ℕ) (clauses : List (List Literal)) (whole : List Step) 
     | inl same ↦ goes_on (pushed_true a before step makes same)
     | inr differ ↦ chosen_otherwise (values_of before) step.lit a (assignment_of (values_of whole)) (gives a before makes)
         (λ variable sign given_is. given_as (values_of whole variable) sign
-            (ap (λ (steps : List Step). values_of steps variable) split ∙ front_gives before (step ∷ more) variable sign given_is))
+        (ap (λ (steps : List Step). values_of steps variable) split ∙ front_gives before (step ∷ more) variable sign given_is))
         (given_as (values_of whole step.lit.variable) step.lit.positive
-            (ap (λ (steps : List Step). values_of steps step.lit.variable) split ∙ next_gives before more step (none_yet 1 sizes (next reason_is))))
+        (ap (λ (steps : List Step). values_of steps step.lit.variable) split ∙ next_gives before more step (none_yet 1 sizes (next reason_is))))
         differ 1 sizes row other is other_is has other_has (next reason_is)
   ]
     where
@@ -209,7 +212,7 @@ module _ (sizes : List ℕ) (clauses : List (List Literal)) (whole : List Step) 
   least_from before [] split reasoned chosen makes =
       inl (same_rows 1 sizes row other a (assignment_of (values_of whole))
       (λ variable true_is. gives a before makes variable true
-          (ap (λ (steps : List Step). values_of steps variable) (sym (split ∙ append-nil before)) ∙ given_true (values_of whole variable) true_is)) is other_is has other_has)
+      (ap (λ (steps : List Step). values_of steps variable) (sym (split ∙ append-nil before)) ∙ given_true (values_of whole variable) true_is)) is other_is has other_has)
   least_from before (step ∷ steps) split reasoned chosen makes =
       one_step before steps step split makes reasoned.0 chosen.0
       (least_from (before ++ step ∷ []) steps (split ∙ sym (append_assoc before (step ∷ []) steps)) reasoned.1 chosen.1) step.reason refl

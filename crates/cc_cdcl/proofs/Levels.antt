@@ -1,6 +1,6 @@
 -- Levels of steps, and what is true and false up to a level.
-use Rattle.std.proofs.Common.{◌≡◌, ◌≢◌, ◌∙◌, ℕ, ◌+◌, ◌<◌, ◌≤◌, zero, suc, inl, inr, eqb, leb, Bool, true, false, not, List, [], ◌∷◌, ◌++◌, length, Option, Some, None, option_map, option_and_then, refl, sym, subst, ap, ap₂, arith}
-use Rattle.std.specs.Prelude.{◌⊎◌, Contains}
+use Rattle.std.proofs.Common.{◌≡◌, ◌≢◌, ◌∙◌, ℕ, ◌<◌, ◌≤◌, inl, inr, Bool, not, List, [], ◌∷◌, Option, Some, None, option_map, option_and_then, refl, sym, subst, ap, ap₂, arith}
+use Rattle.std.specs.Prelude.{◌⊎◌}
 use Rattle.std.proofs.lemmas.Bool.Decides.{eqb_tells, leb_tells}
 use Rattle.cc_defs.specs.Assignments.{IsFailed}
 use Rattle.cc_defs.specs.Clauses.{Literal, opposite}

@@ -1,9 +1,12 @@
 mod Closed
 mod Counting
+mod Counts
 mod Denials
 mod Exactly
 mod Leasts
 mod Learning
 mod Levels
+mod Lines
 mod Picking
+mod Resolving
 mod Walking

@@ -1,5 +1,5 @@
 -- Of two kinds of literals in a clause: all are of the first kind, or one is of the second, or two are.
-use Rattle.std.proofs.Common.{◌≡◌, ◌≢◌, ◌∙◌, ℕ, ◌<◌, zero, suc, inl, inr, Bool, true, false, List, [], ◌∷◌, length, refl, sym, subst, ap, arith}
+use Rattle.std.proofs.Common.{◌≡◌, ◌≢◌, ◌∙◌, zero, suc, inl, inr, Bool, true, false, List, [], ◌∷◌, refl, sym, subst, ap, arith}
 use Rattle.std.specs.Prelude.{◌⊎◌, Contains}
 use Rattle.std.proofs.lemmas.Bool.Decides.{eqb_tells}
 use Rattle.cc_defs.specs.Clauses.{Literal}
@@ -49,8 +49,13 @@ module _ (P Q : Literal → Type 0) where
   with_first first clause (inr q) (inl all) =
       inr (inl (first, (0, omega arith, refl), q, first_too first clause (λ l. (l ≡ first) ⊎ P l) (inl refl) (λ l inside. inr (all l inside))))
   with_first first clause (inr q) (inr (inl (left, inside, left_q, others))) = elim (literals_same_or first left) [
-    | inl same ↦ inr (inl (first, (0, omega arith, refl), q, first_too first clause (λ l. (l ≡ first) ⊎ P l) (inl refl)
-        (λ l here. elim (others l here) [ | inl is ↦ inl (is ∙ sym same) | inr p ↦ inr p ])))
+    | inl same ↦ inr (inl (
+      first,
+      (0, omega arith, refl),
+      q,
+      first_too first clause (λ l. (l ≡ first) ⊎ P l) (inl refl)
+          (λ l here. elim (others l here) [ inl is ↦ inl (is ∙ sym same) | inr p ↦ inr p ]),
+    ))
     | inr apart ↦ inr (inr (first, left, apart, (0, omega arith, refl), in_more first clause left inside, q, left_q))
   ]
   with_first first clause (inl p) (inr (inr two)) = inr (inr (more first clause two))

@@ -1,9 +1,8 @@
 -- A false clause along the fronts of a trail, from the last step back.
-use Rattle.std.proofs.Common.{◌≡◌, ◌≢◌, ◌∙◌, ℕ, ◌+◌, ◌<◌, ◌≤◌, zero, suc, inl, inr, Bool, true, false, not, List, [], ◌∷◌, ◌++◌, Option, Some, None, refl, sym, subst, ap, ap₂, arith, append_assoc, append-nil}
+use Rattle.std.proofs.Common.{◌≡◌, ◌≢◌, ◌∙◌, ℕ, ◌<◌, inl, inr, Bool, true, false, not, List, [], ◌∷◌, ◌++◌, Some, None, refl, sym, subst, ap, append_assoc, append-nil}
 use Rattle.std.specs.Prelude.{◌⊎◌, Contains}
 use Rattle.cc_defs.specs.Clauses.{Literal, opposite, Clash, IsResolvent}
 use Rattle.cc_trail.specs.declared.entries.Step.{Step}
-use Rattle.cc_trail.specs.Links.{IsIn}
 use Rattle.cc_trail.specs.Steps.{level_after}
 use Rattle.cc_trail.specs.Watches.{IsFalseBy, HasReason, AreReasonedAfter}
 use Rattle.cc_cdcl.specs.Analysis.{AreFalseBy, OpenLevelsAfter}
@@ -43,21 +42,29 @@ resolved front last clause reason apart falsified here there others = (clash, fa
     -- no step of the front is of the variable
     not_before : (literal : Literal) → literal.variable ≡ last.lit.variable → IsFalseBy front literal → ⊥
     not_before literal same (step, inside, is) = apart step inside (ap (λ (l : Literal). l.variable) is ∙ same)
+
     not_last : Contains clause (opposite (opposite last.lit)) → ⊥
     not_last inside = elim (front_or_last front last (opposite (opposite last.lit)) (falsified (opposite (opposite last.lit)) inside)) [
       | inl before ↦ not_before (opposite (opposite last.lit)) refl before
       | inr same ↦ not_itself (not last.lit.positive) (sym (ap (λ (l : Literal). l.positive) same))
     ]
+
     not_opposite : (literal : Literal) → literal ≡ last.lit → Contains reason (opposite literal) → ⊥
     not_opposite literal is inside = elim (others (opposite literal) inside) [
       | inl same ↦ not_itself last.lit.positive (sym (ap (λ (l : Literal). l.positive) same) ∙ ap (λ (l : Literal). not l.positive) is)
       | inr before ↦ not_before (opposite literal) (ap (λ (l : Literal). l.variable) is) before
     ]
+
     literal_is : record { variable = last.lit.variable; positive = not (not last.lit.positive) } ≡ last.lit
     literal_is = opposite_twice last.lit
+
     clash : Clash clause reason last.lit.variable
-    clash = (not last.lit.positive, (here, not_last),
-        (subst (λ (l : Literal). Contains reason l) (sym literal_is) there, not_opposite (opposite (opposite last.lit)) literal_is))
+    clash = (
+      not last.lit.positive,
+      (here, not_last),
+      (subst (λ (l : Literal). Contains reason l) (sym literal_is) there, not_opposite (opposite (opposite last.lit)) literal_is),
+    )
+
     false_then : (resolvent : List Literal) → IsResolvent clause reason last.lit.variable resolvent → AreFalseBy front resolvent
     false_then resolvent is literal inside = by ((is.members literal).0 inside)
       where

@@ -1,5 +1,5 @@
 -- Conflict analysis: clauses that are false by the steps of a trail, and the clause that is learned from one.
-use Rattle.std.specs.Prelude.{◌≡◌, ◌≢◌, ℕ, ◌<◌, ◌≤◌, ◌⊎◌, List, [], ◌∷◌, ◌++◌, Contains, Option, Some, None, option_map}
+use Rattle.std.specs.Prelude.{◌≡◌, ◌≢◌, ℕ, ◌+◌, ◌<◌, ◌≤◌, ◌⊎◌, ◌==◌, max, Bool, false, if◌then◌else◌, List, [], ◌∷◌, ◌++◌, Contains, Option, Some, None, option_map}
 use Rattle.cc_defs.specs.Assignments.{IsFailed}
 use Rattle.cc_defs.specs.Clauses.{Literal}
 use Rattle.cc_trail.specs.declared.entries.Step.{Step}
@@ -18,6 +18,25 @@ AreFalseBy steps clause = (literal : Literal) → Contains clause literal → Is
 -- a literal of the clause is of the level
 abbrev pub HasOneOf : List Step → ℕ → List Literal → Type 0
 HasOneOf steps level clause = (literal : Literal) × Contains clause literal × (level_of steps literal.variable ≡ Some level)
+
+abbrev pub is_level : ℕ → Option ℕ → Bool
+is_level level None = false
+is_level level (Some other) = other == level
+
+-- how many literals of the clause are of the level
+abbrev pub level_count_in : List Step → ℕ → List Literal → ℕ
+level_count_in steps level [] = 0
+level_count_in steps level (literal ∷ literals) =
+    (if is_level level (level_of steps literal.variable) then 1 else 0) + level_count_in steps level literals
+
+abbrev pub level_but : ℕ → Option ℕ → ℕ
+level_but level None = 0
+level_but level (Some other) = if other == level then 0 else other
+
+-- the highest level but this one of the clause's literals, or 0
+abbrev pub highest_but : List Step → ℕ → List Literal → ℕ
+highest_but steps level [] = 0
+highest_but steps level (literal ∷ literals) = max (level_but level (level_of steps literal.variable)) (highest_but steps level literals)
 
 -- two literals of the clause are of the level
 abbrev pub HasTwoOf : List Step → ℕ → List Literal → Type 0

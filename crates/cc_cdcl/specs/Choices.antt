@@ -1,5 +1,5 @@
 -- The choice of literals by which the first row that is found is the least one.
-use Rattle.std.specs.Prelude.{◌≡◌, ℕ, ◌+◌, ◌<◌, ◌⊎◌, Bool, true, false, List, [], ◌∷◌, ◌++◌, Option, Some, None}
+use Rattle.std.specs.Prelude.{◌≡◌, ℕ, ◌+◌, ◌<◌, ◌⊎◌, true, false, List, [], ◌∷◌, ◌++◌, Some, None}
 use Rattle.cc_defs.specs.Assignments.{Values, HasNoValue}
 use Rattle.cc_defs.specs.Clauses.{Literal}
 use Rattle.cc_defs.specs.ClauseForms.{positive}

@@ -1,5 +1,5 @@
 -- What closed assignments give, how many lines a search can derive, and by which choices the least row is found.
-use Rattle.std.specs.Prelude.{◌≡◌, ◌≢◌, ℕ, ◌<◌, ◌^◌, ◌⊎◌, Bool, true, false, List, [], ◌∷◌, ◌++◌, Some, None, Contains, IsTrue}
+use Rattle.std.specs.Prelude.{◌≡◌, ◌≢◌, ℕ, ◌<◌, ◌^◌, ◌⊎◌, Bool, true, false, List, [], ◌∷◌, ◌++◌, None, Contains, IsTrue}
 use Rattle.std.specs.List.{AllByRecursion}
 use Rattle.cc_defs.specs.Assignments.{Values, IsClosed, IsFailed, IsEarned, HasOpen}
 use Rattle.cc_defs.specs.ClauseLists.{positions_from}

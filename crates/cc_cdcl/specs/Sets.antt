@@ -1,5 +1,5 @@
 -- Partial assignments: what two of them give alike, and the assignment that one stands for.
-use Rattle.std.specs.Prelude.{ℕ, ◌≡◌, ◌≢◌, ◌<◌, ◌≤◌, Bool, false, if◌then◌else◌, Option, Some, None, unwrap_or}
+use Rattle.std.specs.Prelude.{ℕ, ◌≢◌, ◌<◌, ◌≤◌, Bool, false, if◌then◌else◌, Option, Some, None, unwrap_or}
 use Rattle.std.specs.Bool.{beq}
 use Rattle.cc_defs.specs.Assignments.{Values}
 
