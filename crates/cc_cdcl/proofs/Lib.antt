@@ -10,3 +10,4 @@ mod Lines
 mod Picking
 mod Resolving
 mod Walking
+mod Walks

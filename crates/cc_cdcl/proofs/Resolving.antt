@@ -18,7 +18,7 @@ in_front [] gone step none = absurd none
 in_front (first ∷ front) gone step (inl same) = inl same
 in_front (first ∷ front) gone step (inr here) = inr (in_front front gone step here)
 
-behind_front : (front gone : List Step) (last : Step) → IsIn (front ++ last ∷ gone) last
+pub behind_front : (front gone : List Step) (last : Step) → IsIn (front ++ last ∷ gone) last
 behind_front [] gone last = inl refl
 behind_front (first ∷ front) gone last = inr (behind_front front gone last)
 
