@@ -215,3 +215,15 @@ learned_from steps top clause failed up_to some one = by (one_of steps top claus
       lower = lower reached;
       reached = reaches reached;
     }
+
+-- the highest of the levels, where none is above a number
+pub up_to_highest : (steps : List Step) (most : ℕ) (clause : List Literal) → AreUpTo steps most clause → AreUpTo steps (highest_but steps (suc most) clause) clause
+up_to_highest steps most clause up_to literal here =
+    let (level, low, at) = up_to literal here in
+    (level, below_highest steps (suc most) clause literal level here at (ap (is_level (suc most)) at ∙ apart level low), at)
+  where
+    apart : (level : ℕ) → level ≤ most → eqb level (suc most) ≡ false
+    apart level low = elim (eqb_tells level (suc most)) [
+      | inl same ↦ let is : level ≡ suc most = same.1 in absurd (omega arith)
+      | inr other ↦ other.0
+    ]

@@ -9,6 +9,7 @@ use Rattle.cc_defs.specs.ClauseForms.{positive}
 use Rattle.cc_defs.specs.ClauseLists.{exactly_one, pairs_denied, position_variables, positions_from}
 use Rattle.cc_defs.specs.Rows.{IsRow}
 use Rattle.cc_defs.specs.Rules.{upto}
+use Rattle.cc_cdcl.proofs.Picking.{in_more}
 use Rattle.cc_cdcl.specs.LeastRows.{HasIndex, HasRowFrom, MeetsAll, row_from, true_index}
 
 map_push : {A B : Type 0} (f : A → B) (xs : List A) (x : A) → map f (xs ++ x ∷ []) ≡ map f xs ++ f x ∷ []
@@ -18,10 +19,7 @@ map_push f (y ∷ ys) x = ap (λ rest. f y ∷ rest) (map_push f ys x)
 in_map : {A B : Type 0} (f : A → B) (xs : List A) (x : A) → Contains xs x → Contains (map f xs) (f x)
 in_map f [] x (k, within, is) = absurd (omega arith)
 in_map f (y ∷ ys) x (zero, within, is) = (0, omega arith, ap f is)
-in_map f (y ∷ ys) x (suc k, within, is) = behind (in_map f ys x (k, omega arith, is))
-  where
-    behind : Contains (map f ys) (f x) → Contains (f y ∷ map f ys) (f x)
-    behind (j, low, same) = (suc j, omega arith, same)
+in_map f (y ∷ ys) x (suc k, within, is) = in_more (f y) (map f ys) (f x) (in_map f ys x (k, omega arith, is))
 
 -- ---- two literals of a list are denied together, in one order or the other
 

@@ -16,8 +16,9 @@ use Rattle.cc_cdcl.specs.LeastRows.{HasRowFrom, HasRow, MeetsAll, row_of}
 use Rattle.cc_cdcl.specs.Laws.{LeastRowIsFound, ChoicesAreKept}
 use Rattle.cc_cdcl.specs.Sets.{assignment_of}
 use Rattle.cc_cdcl.proofs.Closed.{full_met}
-use Rattle.cc_cdcl.proofs.Denials.{eqb_itself}
+use Rattle.cc_cdcl.proofs.Denials.{eqb_itself, given_true}
 use Rattle.cc_cdcl.proofs.Exactly.{has_row}
+use Rattle.cc_cdcl.proofs.Picking.{in_more, same_or}
 
 -- ---- rows, by their atoms
 
@@ -151,10 +152,7 @@ left_true a (first ∷ clause) literal met others = by (is_made_true a first) re
 in_numbered : (clauses : List (List Literal)) (k : ℕ) (clause : List Literal) → slice_get clauses k ≡ Some clause → Contains clauses clause
 in_numbered [] k clause is = cc
 in_numbered (first ∷ clauses) zero clause is = let same : first ≡ clause = cc in (0, omega arith, same)
-in_numbered (first ∷ clauses) (suc k) clause is = behind (in_numbered clauses k clause is)
-  where
-    behind : Contains clauses clause → Contains (first ∷ clauses) clause
-    behind (j, low, same) = (suc j, omega arith, same)
+in_numbered (first ∷ clauses) (suc k) clause is = in_more first clauses clause (in_numbered clauses k clause is)
 
 reason_true : (a : ℕ → Bool) (clauses : List (List Literal)) (before : List Step) (literal : Literal) (number : ℕ) → MeetsAll clauses a → MakesTrue a before →
     HasReason clauses before literal number → a literal.variable ≡ literal.positive
@@ -170,20 +168,10 @@ reason_true a clauses before literal number met makes (clause, numbered, member,
 
 -- ---- along the steps
 
-same_or : (x y : Bool) → (x ≡ y) ⊎ (x ≢ y)
-same_or true true = inl refl
-same_or true false = inr (λ e. absurd cc)
-same_or false true = inr (λ e. absurd cc)
-same_or false false = inl refl
-
 module _ (sizes : List ℕ) (clauses : List (List Literal)) (whole : List Step) (row other : List ℕ) (is : IsRow sizes row) (other_is : IsRow sizes other)
     (has : HasRow sizes (assignment_of (values_of whole)) row) (a : ℕ → Bool) (other_has : HasRow sizes a other) (met : MeetsAll clauses a) where
   abbrev Least : Type 0
   Least = (row ≡ other) ⊎ IsBelow row other
-
-  given_true : (value : Option Bool) → unwrap_or value false ≡ true → value ≡ Some true
-  given_true None e = cc
-  given_true (Some sign) e = ap (λ (s : Bool). Some s) e
 
   given_as : (value : Option Bool) (sign : Bool) → value ≡ Some sign → unwrap_or value false ≡ sign
   given_as value sign e = ap (λ (v : Option Bool). unwrap_or v false) e

@@ -1,3 +1,4 @@
+mod Choosing
 mod Closed
 mod Counting
 mod Counts

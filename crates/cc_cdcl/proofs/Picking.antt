@@ -5,7 +5,7 @@ use Rattle.std.proofs.lemmas.Bool.Decides.{eqb_tells}
 use Rattle.cc_defs.specs.Clauses.{Literal}
 use Rattle.cc_cdcl.proofs.Levels.{same_literal}
 
-same_or : (x y : Bool) → (x ≡ y) ⊎ (x ≢ y)
+pub same_or : (x y : Bool) → (x ≡ y) ⊎ (x ≢ y)
 same_or true true = inl refl
 same_or true false = inr (λ e. absurd cc)
 same_or false true = inr (λ e. absurd cc)

@@ -1,19 +1,19 @@
 -- The walk back over a trail, place by place: what holds of the clause at each front, and of the clause at its end.
-use Rattle.std.proofs.Common.{◌≡◌, ◌≢◌, ◌∙◌, ℕ, ◌+◌, ◌<◌, ◌≤◌, zero, suc, inl, inr, Bool, true, false, not, List, [], ◌∷◌, ◌++◌, length, map, take, drop, get_or, Option, Some, None, refl, sym, subst, ap, arith, append-nil}
+use Rattle.std.proofs.Common.{◌≡◌, ◌≢◌, ◌∙◌, ℕ, ◌<◌, zero, suc, inl, inr, List, [], ◌∷◌, ◌++◌, length, map, take, drop, get_or, Option, Some, None, refl, sym, subst, ap, arith}
 use Rattle.std.specs.Prelude.{◌⊎◌, Contains}
 use Rattle.cc_defs.specs.Assignments.{IsFailed}
 use Rattle.cc_defs.specs.Clauses.{Literal, opposite, Clash, IsResolvent}
 use Rattle.cc_trail.specs.declared.entries.Step.{Step}
 use Rattle.cc_trail.specs.EntryParts.{literal_of_step}
 use Rattle.cc_trail.specs.Links.{IsIn}
-use Rattle.cc_trail.specs.Steps.{AreApart, AreSteps, step_of, values_of}
+use Rattle.cc_trail.specs.Steps.{AreApart, AreSteps, values_of}
 use Rattle.cc_trail.specs.Trails.{IsSettledOver}
 use Rattle.cc_trail.specs.Watches.{AreReasoned, HasReason, IsFalseBy}
 use Rattle.cc_cdcl.specs.Analysis.{AreFalseBy, HasOneOf, HasTwoOf, IsLearned, OpenLevels, highest_but, level_count_in}
 use Rattle.cc_cdcl.proofs.Counts.{learned_from, up_to_last}
 use Rattle.cc_cdcl.proofs.Learning.{two_of_last}
-use Rattle.cc_cdcl.proofs.Levels.{failed_false, false_failed, in_found}
-use Rattle.cc_cdcl.proofs.Resolving.{behind_front, false_more, has_reason, no_decision, one_left}
+use Rattle.cc_cdcl.proofs.Levels.{failed_false, false_failed}
+use Rattle.cc_cdcl.proofs.Resolving.{behind_front, has_reason, no_decision, one_left}
 use Rattle.cc_cdcl.proofs.Walking.{passed, reasoned_at, resolved}
 
 -- ---- the step at a place
@@ -27,12 +27,14 @@ pub step_at : (steps : List Step) (place : ℕ) → place < length steps → (la
 step_at [] place low = absurd (omega arith)
 step_at (first ∷ steps) zero low = (first, record { split = refl; front = refl; literal = λ d. refl })
 step_at (first ∷ steps) (suc place) low =
-    let (last, is) = step_at steps place (omega arith) in
-    (last, record {
-      split = ap (λ (rest : List Step). first ∷ rest) is.split;
-      front = ap (λ (rest : List Step). first ∷ rest) is.front;
-      literal = is.literal;
-    })
+    let (last, is) = step_at steps place (omega arith) in (
+      last,
+      record {
+        split = ap (λ (rest : List Step). first ∷ rest) is.split;
+        front = ap (λ (rest : List Step). first ∷ rest) is.front;
+        literal = is.literal;
+      },
+    )
 
 fresh_before : (front gone : List Step) (last : Step) → AreApart (front ++ last ∷ gone) → (other : Step) → IsIn front other → other.lit.variable ≢ last.lit.variable
 fresh_before [] gone last apart other none = absurd none
@@ -58,22 +60,24 @@ abbrev pub MayResolve : List Step → ℕ → List Literal → Type 0
 MayResolve steps level_count clause = (level_count ≡ 0) ⊎ HasTwoOf steps level_count clause
 
 pub walk_ends : (steps : List Step) (level_count : ℕ) (clause : List Literal) → IsWalking steps level_count 0 clause → (level_count ≡ 0) × (clause ≡ [])
-walk_ends steps level_count [] walking = elim (walking.left) [ | inl zero_is ↦ (zero_is, refl) | inr (literal, (k, low, is), at) ↦ absurd (omega arith) ]
+walk_ends steps level_count [] walking = elim (walking.left) [ inl zero_is ↦ (zero_is, refl) | inr (literal, (k, low, is), at) ↦ absurd (omega arith) ]
 walk_ends steps level_count (first ∷ clause) walking = let (step, none, is) = walking.falsified first (0, omega arith, refl) in absurd none
 
-one_of_two : (steps : List Step) (level_count : ℕ) (clause : List Literal) → MayResolve steps level_count clause → (level_count ≡ 0) ⊎ HasOneOf steps level_count clause
-one_of_two steps level_count clause (inl zero_is) = inl zero_is
-one_of_two steps level_count clause (inr (one, two, apart, one_in, two_in, one_at, two_at)) = inr (one, one_in, one_at)
+one_if_two : (steps : List Step) (level_count : ℕ) (clause : List Literal) → MayResolve steps level_count clause → (level_count ≡ 0) ⊎ HasOneOf steps level_count clause
+one_if_two steps level_count clause (inl zero_is) = inl zero_is
+one_if_two steps level_count clause (inr (one, two, apart, one_in, two_in, one_at, two_at)) = inr (one, one_in, one_at)
 
 module _ (variables : ℕ) (steps : List Step) (level_count : ℕ) (are : AreSteps variables steps level_count) where
   pub walk_begins : (clauses : List (List Literal)) (clause : List Literal) → IsSettledOver steps level_count clauses → Contains clauses clause →
       IsFailed (values_of steps) clause → MayResolve steps level_count clause × IsWalking steps level_count (length steps) clause
   walk_begins clauses clause settled here failed =
-      let may = two_of_last variables steps level_count clauses clause are settled here failed in
-      (may, record {
-        falsified = subst (λ (ss : List Step). AreFalseBy ss clause) (sym (take_all steps)) (failed_false steps clause failed);
-        left = one_of_two steps level_count clause may;
-      })
+      let may = two_of_last variables steps level_count clauses clause are settled here failed in (
+        may,
+        record {
+          falsified = subst (λ (ss : List Step). AreFalseBy ss clause) (sym (take_all steps)) (failed_false steps clause failed);
+          left = one_if_two steps level_count clause may;
+        },
+      )
     where
       take_all : (xs : List Step) → take (length xs) xs ≡ xs
       take_all [] = refl
@@ -108,10 +112,15 @@ module _ (variables : ℕ) (steps : List Step) (level_count : ℕ) (are : AreSte
           | inr two ↦ has_reason variables (take place steps) last (drop (suc place) steps) level_count (subst (λ (ss : List Step). AreSteps variables ss level_count) is.split are)
               (subst OpenLevels is.split opened) clause falsified (subst (λ (ss : List Step). HasTwoOf ss level_count clause) is.split two)
         ]
+
         by : (reason : Option ℕ) → last.reason ≡ reason → (number : ℕ) × (last.reason ≡ Some number) × HasReason clauses (take place steps) last.lit number
         by None none = absurd (some none)
-        by (Some number) reason_is = (number, reason_is, reasoned_at clauses [] (take place steps) last (drop (suc place) steps)
-            (subst (λ (ss : List Step). AreReasoned clauses ss) is.split reasoned) number reason_is)
+        by (Some number) reason_is = (
+          number,
+          reason_is,
+          reasoned_at clauses [] (take place steps) last (drop (suc place) steps)
+              (subst (λ (ss : List Step). AreReasoned clauses ss) is.split reasoned) number reason_is,
+        )
 
     -- and the clause clashes with it
     pub walk_resolves : (reason : List Literal) → MayResolve steps level_count clause → Contains clause (opposite last.lit) → Contains reason last.lit →
@@ -121,6 +130,7 @@ module _ (variables : ℕ) (steps : List Step) (level_count : ℕ) (are : AreSte
       where
         both : Clash clause reason last.lit.variable × ((resolvent : List Literal) → IsResolvent clause reason last.lit.variable resolvent → AreFalseBy (take place steps) resolvent)
         both = resolved (take place steps) last clause reason (fresh_before (take place steps) (drop (suc place) steps) last (subst AreApart is.split are.apart)) falsified here there others
+
         left_of : MayResolve steps level_count clause → (resolvent : List Literal) → IsResolvent clause reason last.lit.variable resolvent →
             (level_count ≡ 0) ⊎ HasOneOf steps level_count resolvent
         left_of (inl zero_is) resolvent resolves = inl zero_is

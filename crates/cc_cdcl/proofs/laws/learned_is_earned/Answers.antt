@@ -1,6 +1,4 @@
 use Rattle.cc_cdcl.proofs.Learning.{learned}
-use Rattle.cc_cdcl.proofs.Walks.{walk_ends}
-use Rattle.cc_cdcl.proofs.Lines.{count_push}
 use Rattle.cc_cdcl.proofs.laws.learned_is_earned.Goals as goal
 
 pub returns : goal.returns
