@@ -1,3 +1,4 @@
 pub mod Laws
 pub mod Merging
 pub mod Parts
+pub mod RowsOf
