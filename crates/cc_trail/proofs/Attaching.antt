@@ -86,19 +86,19 @@ module _ (old new : TrailView) (kernel : KernelView) (fits : Fits old kernel) (n
     };
   })
 
-partner_below : (node half : ℕ) → node < 2 * half → partner node < 2 * half
+pub partner_below : (node half : ℕ) → node < 2 * half → partner node < 2 * half
 partner_below node half within = grind (arith, nat_tests)
 
-half_below : (node half : ℕ) → node < 2 * half → node / 2 < half
+pub half_below : (node half : ℕ) → node < 2 * half → node / 2 < half
 half_below node half within = omega arith
 
-partner_first : (half : ℕ) → partner (2 * half) ≡ 2 * half + 1
+pub partner_first : (half : ℕ) → partner (2 * half) ≡ 2 * half + 1
 partner_first half = grind (arith, nat_tests)
 
-partner_second : (half : ℕ) → partner (2 * half + 1) ≡ 2 * half
+pub partner_second : (half : ℕ) → partner (2 * half + 1) ≡ 2 * half
 partner_second half = grind (arith, nat_tests)
 
-half_first : (half : ℕ) → (2 * half) / 2 ≡ half
+pub half_first : (half : ℕ) → (2 * half) / 2 ≡ half
 half_first half = omega arith
 
 half_second : (half : ℕ) → (2 * half + 1) / 2 ≡ half

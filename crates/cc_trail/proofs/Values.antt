@@ -59,7 +59,7 @@ to_all level (step ∷ steps) low variable = elim (eqb_tells step.lit.variable v
     low_enough (inl is) = rw (is.0) refl
     low_enough (inr is) = let above : level < step.level = is.1 in let below : step.level ≤ level = low step (inl refl) in absurd (omega arith)
 
-only_high : (level : ℕ) (last : Step) → level < last.level → (step : Step) → IsIn (last ∷ []) step → level < step.level
+pub only_high : (level : ℕ) (last : Step) → level < last.level → (step : Step) → IsIn (last ∷ []) step → level < step.level
 only_high level last high step (inl same) = subst (λ (s : Step). level < s.level) same high
 only_high level last high step (inr none) = elim none [ ]
 
@@ -107,7 +107,7 @@ reasoned_front clauses before (step ∷ steps) gone reasoned = (reasoned.0, reas
 pub true_more : (steps more : List Step) (literal : Literal) (level : ℕ) → IsTrueBy steps literal level → IsTrueBy (steps ++ more) literal level
 true_more steps more literal level (step, here, is, low) = (step, in_left steps more step here, is, low)
 
-take_left : (n : ℕ) (steps more : List Step) → n ≤ length steps → take n (steps ++ more) ≡ take n steps
+pub take_left : (n : ℕ) (steps more : List Step) → n ≤ length steps → take n (steps ++ more) ≡ take n steps
 take_left zero steps more within = refl
 take_left (suc n) [] more within = absurd (omega arith)
 take_left (suc n) (step ∷ steps) more within = ap (λ (rest : List Step). step ∷ rest) (take_left n steps more (omega arith))

@@ -4,7 +4,9 @@
 mod entries;
 pub mod laws;
 mod links;
+mod propagation;
 mod trail;
+mod visits;
 mod watches;
 
 pub use trail::Trail;

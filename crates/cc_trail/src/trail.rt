@@ -9,6 +9,7 @@ ghost use Rattle.cc_trail.specs.Trails.{TrailView, Fits, IsSettled, IsNew, empty
 
 use crate::entries::Entries;
 use crate::links::Links;
+use crate::propagation::{make_shorts, visit_steps};
 use crate::watches::{Pair, best_two};
 use cc_defs::{Lit, OutOfMemory};
 use cc_kernel::Kernel;
@@ -156,8 +157,16 @@ impl Trail {
         ensures failed { IfSome result (λ id. IsFailedClause (clauses_of kernel.now) self.new.steps id) }
         ensures closed { IfNone result (IsClosed (values_of self.new.steps) (clauses_of kernel.now)) }
     {
-        let _count = kernel.count();
-        Some(0)
+        if let Some(number) = make_shorts(kernel, &self.shorts, &mut self.entries) {
+            return Some(number);
+        }
+        visit_steps(
+            kernel,
+            &self.longs,
+            &mut self.entries,
+            &mut self.links,
+            &mut self.visited,
+        )
     }
 
     /// Whether a literal is true, if its variable has a value.
