@@ -73,7 +73,7 @@ some_true assignment first (suc size) met =
     by false e = cc
 
 -- the first true one is true
-index_true : (assignment : ℕ → Bool) (size first value : ℕ) → value < size → assignment (first + value) ≡ true →
+pub index_true : (assignment : ℕ → Bool) (size first value : ℕ) → value < size → assignment (first + value) ≡ true →
     (true_index assignment first size < size) × (assignment (first + true_index assignment first size) ≡ true)
 index_true assignment zero first value low is = absurd (omega arith)
 index_true assignment (suc size) first zero low is =

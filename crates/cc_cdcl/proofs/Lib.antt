@@ -12,3 +12,5 @@ mod Picking
 mod Resolving
 mod Walking
 mod Walks
+mod Placing
+mod Stepping

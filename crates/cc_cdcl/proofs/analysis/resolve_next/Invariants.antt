@@ -1,0 +1,7 @@
+use Rattle.std.proofs.Common.{◌≡◌, ℕ, List, Some}
+use Rattle.cc_defs.specs.Clauses.{Literal}
+use Rattle.cc_cdcl.specs.Derivations.{IsDeriving}
+use Rattle.cc_cdcl.proofs.analysis.resolve_next.Given as goal
+
+abbrev pub invariant-loop-place : goal.invariant-loop-place
+invariant-loop-place l = IsDeriving l.kernel l.trail l.place
