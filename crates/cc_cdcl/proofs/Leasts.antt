@@ -220,7 +220,7 @@ least_found sizes variables clauses steps over positions reasoned chosen full cl
 
 -- ---- choices are kept
 
-chosen_push : (sizes : List ℕ) (before steps : List Step) (last : Step) → AreChosenAfter sizes before steps →
+pub chosen_push : (sizes : List ℕ) (before steps : List Step) (last : Step) → AreChosenAfter sizes before steps →
     (last.reason ≡ None → IsNext sizes (values_of (before ++ steps)) last.lit) → AreChosenAfter sizes before (steps ++ last ∷ [])
 chosen_push sizes before [] last chosen next =
     ((λ is. subst (λ (ss : List Step). IsNext sizes (values_of ss) last.lit) (append-nil before) (next is)), tt)
@@ -230,7 +230,7 @@ chosen_push sizes before (step ∷ steps) last chosen next = (
       (λ is. subst (λ (ss : List Step). IsNext sizes (values_of ss) last.lit) (sym (append_assoc before (step ∷ []) steps)) (next is)),
 )
 
-chosen_front : (sizes : List ℕ) (before steps gone : List Step) → AreChosenAfter sizes before (steps ++ gone) → AreChosenAfter sizes before steps
+pub chosen_front : (sizes : List ℕ) (before steps gone : List Step) → AreChosenAfter sizes before (steps ++ gone) → AreChosenAfter sizes before steps
 chosen_front sizes before [] gone chosen = tt
 chosen_front sizes before (step ∷ steps) gone chosen = (chosen.0, chosen_front sizes (before ++ step ∷ []) steps gone chosen.1)
 

@@ -14,3 +14,5 @@ mod Walking
 mod Walks
 mod Placing
 mod Stepping
+mod Descending
+mod Levelling

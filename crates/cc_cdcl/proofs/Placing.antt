@@ -14,13 +14,13 @@ use Rattle.cc_trail.specs.declared.entries.Step.{Step}
 use Rattle.cc_trail.specs.Steps.{AreSteps, steps_to, values_of, values_to}
 use Rattle.cc_cdcl.specs.declared.choice.Cursor.{Cursor}
 use Rattle.cc_cdcl.specs.Choices.{HasTrueValue, IsLeastOpen, IsNextFrom}
-use Rattle.cc_cdcl.specs.Cursors.{AreCursors, HaveTrueValues, IsCursor}
+use Rattle.cc_cdcl.specs.Cursors.{AreCursors, HaveTrueValues, IsChoice, IsCursor}
 use Rattle.cc_cdcl.specs.LeastRows.{true_index}
 use Rattle.cc_cdcl.specs.Sets.{assignment_of}
 use Rattle.cc_cdcl.proofs.Choosing.{first_there, not_all_false}
 use Rattle.cc_cdcl.proofs.Denials.{given_true}
 use Rattle.cc_cdcl.proofs.Exactly.{index_true}
-use Rattle.cc_cdcl.proofs.Stepping.{GivesMore, steps_few, values_all, values_grow, values_higher, values_kept, values_last}
+use Rattle.cc_cdcl.proofs.Stepping.{GivesMore, none_step, steps_few, values_all, values_grow, values_higher, values_kept, values_last}
 
 -- ---- under more values
 
@@ -200,7 +200,7 @@ module _ (sizes : List ℕ) (variables : ℕ) (steps : List Step) (level_count :
       (are.each level_count other (omega arith))
 
   module _ (cursor : Cursor) (is : IsCursor sizes variables (values_of steps) cursor) (all : AreSteps variables steps level_count) where
-    level_within : level_count < length cursors
+    pub level_within : level_count < length cursors
     level_within = let few = steps_few variables steps level_count all in let room = are.room in omega (arith, few.0, few.1)
 
     pub cursors_set : AreCursors sizes variables steps level_count (set cursors level_count cursor)
@@ -235,3 +235,42 @@ module _ (sizes : List ℕ) (variables : ℕ) (steps : List Step) (level_count :
         up : GivesMore (values_of steps) (values_to (level_count + 1) (steps ++ last ∷ []))
         up variable sign given = values_grow (level_count + 1) steps (last ∷ []) variable sign
             (values_higher level_count (level_count + 1) steps (omega arith) variable sign (values_last variables steps level_count all variable sign given))
+
+-- ---- the literal that is decided
+
+none_true : (literal : Literal) (variable : ℕ) (sign : Bool) → literal ≡ record { variable = variable; positive = sign } → (literal.variable ≡ variable) × (literal.positive ≡ sign)
+none_true literal variable sign is = (ap (λ (l : Literal). l.variable) is, ap (λ (l : Literal). l.positive) is)
+
+module _ (sizes : List ℕ) (variables : ℕ) (steps : List Step) (cursor : Cursor) (is : IsCursor sizes variables (values_of steps) cursor) where
+  pub chosen_value : cursor.position < length sizes → (HasTrueValue cursor.first (get_or sizes cursor.position 0) (values_of steps) → ⊥) → sum sizes ≤ variables →
+      (value : ℕ) → value < get_or sizes cursor.position 0 → values_of steps (cursor.first + value) ≢ Some false →
+      ((lower : ℕ) → lower < value → values_of steps (cursor.first + lower) ≡ Some false) → (literal : Literal) → literal ≡ positive (cursor.first + value) →
+      IsChoice sizes variables steps literal
+  chosen_value low none few value within other lower literal literal_is = record {
+    next = next_chosen 1 sizes cursor.position (values_of steps) cursor.first literal is.positions low none (value, within, literal_is, unset, lower);
+    over = (omega (arith, there.0, variable_is.0), omega (arith, there.1, variable_is.0));
+    open_yet = none_step steps literal.variable unset;
+  }
+    where
+      there : (1 ≤ cursor.first) × (cursor.first + get_or sizes cursor.position 0 ≤ 1 + sum sizes)
+      there = position_within 1 sizes cursor.position (values_of steps) cursor.first is.positions low
+
+      variable_is : (literal.variable ≡ cursor.first + value) × (literal.positive ≡ true)
+      variable_is = none_true literal (cursor.first + value) true literal_is
+
+      unset : HasNoValue (values_of steps) literal
+      unset = ap (values_of steps) (variable_is.0) ∙ open_value (values_of steps) cursor.first (get_or sizes cursor.position 0) value within none other
+
+  pub chosen_variable : length sizes ≤ cursor.position → (variable : ℕ) → 1 ≤ variable → variable ≤ variables → values_of steps variable ≡ None → (literal : Literal) →
+      literal ≡ record { variable = variable; positive = false } → IsChoice sizes variables steps literal
+  chosen_variable all variable some most none literal literal_is = record {
+    next = next_open 1 sizes cursor.position (values_of steps) cursor.first literal is.positions all unset (variable_is.1);
+    over = (omega (arith, some, variable_is.0), omega (arith, most, variable_is.0));
+    open_yet = none_step steps literal.variable unset;
+  }
+    where
+      variable_is : (literal.variable ≡ variable) × (literal.positive ≡ false)
+      variable_is = none_true literal variable false literal_is
+
+      unset : HasNoValue (values_of steps) literal
+      unset = ap (values_of steps) (variable_is.0) ∙ none

@@ -36,7 +36,7 @@ step_at (first ∷ steps) (suc place) low =
       },
     )
 
-fresh_before : (front gone : List Step) (last : Step) → AreApart (front ++ last ∷ gone) → (other : Step) → IsIn front other → other.lit.variable ≢ last.lit.variable
+pub fresh_before : (front gone : List Step) (last : Step) → AreApart (front ++ last ∷ gone) → (other : Step) → IsIn front other → other.lit.variable ≢ last.lit.variable
 fresh_before [] gone last apart other none = absurd none
 fresh_before (first ∷ front) gone last apart other (inl same) =
     λ e. apart.0 last (behind_front front gone last) (sym e ∙ ap (λ (s : Step). s.lit.variable) (sym same))

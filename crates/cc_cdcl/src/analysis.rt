@@ -193,7 +193,8 @@ pub fn learn(trail: &mut Trail, kernel: &mut Kernel, id: u32) -> Result<(), OutO
     let back = highest_but(trail, level, kernel.current());
     let number = kernel.finish()?;
     trail.back_to(back);
-    trail.attach(kernel, number)
+    trail.attach(kernel, number)?;
+    Ok(())
 }
 
 // The level to go back to before a false clause is attached: its highest one where two literals are of it, else the second

@@ -1,9 +1,9 @@
 //! Propagation and choices, down to a false clause or to an assignment that gives every variable a value.
 ghost use Rattle.std.specs.Prelude.{◌≡◌, ℕ, ◌<◌, ◌≤◌, IfSome, IfNone, length, sum};
 ghost use Rattle.cc_defs.specs.Assignments.{IsClosed};
-ghost use Rattle.cc_kernel.specs.Kernels.{clauses_of};
-ghost use Rattle.cc_trail.specs.Steps.{values_of};
-ghost use Rattle.cc_trail.specs.Trails.{IsFailedClause, decided};
+ghost use Rattle.cc_kernel.specs.Kernels.{KernelView, clauses_of};
+ghost use Rattle.cc_trail.specs.Steps.{AreSteps, values_of};
+ghost use Rattle.cc_trail.specs.Trails.{Fits, IsFailedClause, IsSettled, decided};
 ghost use Rattle.cc_cdcl.specs.Cursors.{AreCursors, IsChoice, IsCursor};
 ghost use Rattle.cc_cdcl.specs.Descents.{IsRoundOf};
 ghost use Rattle.cc_cdcl.specs.Searches.{IsSearching};
@@ -28,6 +28,9 @@ fn decide(trail: &mut Trail, cursors: &mut [Cursor], cursor: Cursor, lit: Lit, s
     requires cursor { IsCursor sizes.now trail.old.variables (values_of trail.old.steps) cursor }
     requires cursors { AreCursors sizes.now trail.old.variables trail.old.steps trail.old.level_count cursors.old }
     ensures decided { trail.new ≡ decided trail.old lit }
+    ensures fits { (kernel : KernelView) → Fits trail.old kernel → Fits trail.new kernel }
+    ensures settled { (kernel : KernelView) → IsClosed (values_of trail.old.steps) (clauses_of kernel) → IsSettled trail.old kernel → IsSettled trail.new kernel }
+    ensures steps { AreSteps trail.old.variables trail.old.steps trail.old.level_count }
     ensures more { length trail.old.steps < length trail.new.steps }
     ensures most { length trail.new.steps ≤ trail.new.variables }
     ensures cursors { AreCursors sizes.now trail.new.variables trail.new.steps trail.new.level_count cursors.new }

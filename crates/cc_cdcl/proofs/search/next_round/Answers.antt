@@ -1,0 +1,42 @@
+use Rattle.std.proofs.Common.{◌≡◌, ◌∙◌, ℕ, ◌+◌, ◌<◌, ◌≤◌, List, length, sym, subst, ap, arith, get_or}
+use Rattle.cc_trail.specs.Steps.{values_of}
+use Rattle.cc_cdcl.specs.Cursors.{IsCursor}
+use Rattle.cc_cdcl.specs.Searches.{IsSearching}
+use Rattle.cc_cdcl.proofs.Descending.{searching_decided, searching_propagated}
+use Rattle.cc_cdcl.proofs.Placing.{cursor_last, cursors_grow, level_within}
+use Rattle.cc_cdcl.proofs.Stepping.{steps_few}
+use Rattle.cc_cdcl.proofs.search.next_round.Goals as goal
+
+pub returns-in-Some-clause-searching : goal.returns-in-Some-clause-searching
+returns-in-Some-clause-searching c =
+    searching_propagated c.args.sizes.now c.args.kernel.now c.args.trail.now c.propagate.new.self c.args.cursors.now c.requires.searching
+    c.propagate.ensures.propagated c.propagate.ensures.fits c.propagate.ensures.settled
+
+pub slice_copy_out-next_choice : goal.slice_copy_out-next_choice
+slice_copy_out-next_choice c =
+    let searching : IsSearching c.args.sizes.now c.args.kernel.now c.propagate.new.self c.args.cursors.now =
+    searching_propagated c.args.sizes.now c.args.kernel.now c.args.trail.now c.propagate.new.self c.args.cursors.now c.requires.searching
+    c.propagate.ensures.propagated c.propagate.ensures.fits c.propagate.ensures.settled in
+    let few = steps_few c.propagate.new.self.variables c.propagate.new.self.steps c.propagate.new.self.level_count c.level_count-level.ensures.steps in
+    let room = searching.cursors.room in let same = c.level_count-level.ensures.level_count in omega (arith, few.0, few.1)
+
+pub next_choice-choice-requires-clause-cursor : goal.next_choice-choice-requires-clause-cursor
+next_choice-choice-requires-clause-cursor c =
+    let searching : IsSearching c.args.sizes.now c.args.kernel.now c.propagate.new.self c.args.cursors.now =
+    searching_propagated c.args.sizes.now c.args.kernel.now c.args.trail.now c.propagate.new.self c.args.cursors.now c.requires.searching
+    c.propagate.ensures.propagated c.propagate.ensures.fits c.propagate.ensures.settled in
+    rw (c.level_count-level.ensures.level_count)
+    (cursor_last c.args.sizes.now c.propagate.new.self.variables c.propagate.new.self.steps c.propagate.new.self.level_count c.args.cursors.now searching.cursors _)
+
+pub decide-requires-clause-cursors : goal.decide-requires-clause-cursors
+decide-requires-clause-cursors c =
+    (searching_propagated c.args.sizes.now c.args.kernel.now c.args.trail.now c.propagate.new.self c.args.cursors.now c.requires.searching
+    c.propagate.ensures.propagated c.propagate.ensures.fits c.propagate.ensures.settled).cursors
+
+pub returns-in-Some-choice-clause-searching : goal.returns-in-Some-choice-clause-searching
+returns-in-Some-choice-clause-searching c = ?
+
+pub returns-in-None-choice-clause-searching : goal.returns-in-None-choice-clause-searching
+returns-in-None-choice-clause-searching c =
+    searching_propagated c.args.sizes.now c.args.kernel.now c.args.trail.now c.propagate.new.self c.args.cursors.now c.requires.searching
+    c.propagate.ensures.propagated c.propagate.ensures.fits c.propagate.ensures.settled
