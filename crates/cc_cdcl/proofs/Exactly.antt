@@ -13,7 +13,7 @@ use Rattle.cc_cdcl.proofs.Picking.{in_more}
 use Rattle.cc_clauses.specs.RowsOf.{HasRowFrom, MeetsAll}
 use Rattle.cc_cdcl.specs.LeastRows.{HasIndex, row_from, true_index}
 
-map_push : {A B : Type 0} (f : A → B) (xs : List A) (x : A) → map f (xs ++ x ∷ []) ≡ map f xs ++ f x ∷ []
+pub map_push : {A B : Type 0} (f : A → B) (xs : List A) (x : A) → map f (xs ++ x ∷ []) ≡ map f xs ++ f x ∷ []
 map_push f [] x = refl
 map_push f (y ∷ ys) x = ap (λ rest. f y ∷ rest) (map_push f ys x)
 

@@ -16,3 +16,4 @@ mod Placing
 mod Stepping
 mod Descending
 mod Levelling
+mod Deriving

@@ -34,7 +34,13 @@ decide-requires-clause-cursors c =
     c.propagate.ensures.propagated c.propagate.ensures.fits c.propagate.ensures.settled).cursors
 
 pub returns-in-Some-choice-clause-searching : goal.returns-in-Some-choice-clause-searching
-returns-in-Some-choice-clause-searching c = ?
+returns-in-Some-choice-clause-searching c =
+    searching_decided c.args.sizes.now c.args.kernel.now c.propagate.new.self c.decide.new.trail c.args.cursors.now c.decide.new.cursors c.in-Some-choice.lit
+    (searching_propagated c.args.sizes.now c.args.kernel.now c.args.trail.now c.propagate.new.self c.args.cursors.now c.requires.searching
+    c.propagate.ensures.propagated c.propagate.ensures.fits c.propagate.ensures.settled)
+    c.decide.ensures.steps (rw c.in-Some-choice.is at c.next_choice-choice.ensures.some) c.decide.ensures.decided
+    (c.decide.ensures.fits c.args.kernel.now c.propagate.ensures.fits)
+    (c.decide.ensures.settled c.args.kernel.now c.in-None.ensures.closed c.propagate.ensures.settled) c.decide.ensures.cursors
 
 pub returns-in-None-choice-clause-searching : goal.returns-in-None-choice-clause-searching
 returns-in-None-choice-clause-searching c =
