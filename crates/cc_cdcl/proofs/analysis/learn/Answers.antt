@@ -1,5 +1,5 @@
 use Rattle.std.proofs.Common.{◌≡◌, inr}
-use Rattle.cc_cdcl.proofs.Deriving.{adds, attached_back, back_low, back_mild, clauses_then, count_then, fits_then, learns}
+use Rattle.cc_cdcl.proofs.Deriving.{adds, attached_back, back_low, back_mild, clauses_then, count_then, fits_then, learns, on_err}
 use Rattle.cc_cdcl.proofs.analysis.learn.Goals as goal
 
 pub back_to-requires : goal.back_to-requires
@@ -25,7 +25,10 @@ returns-clause-learned c =
 pub returns-clause-back : goal.returns-clause-back
 returns-clause-back c =
     attached_back c.adding_keeps_settled.ensures c.args.trail.now c.back_to.new.self c.attach.new.self c.args.kernel.now c.finish.new.self
-    c.in_ok-derive.ensures.derived.derivation.clause c.highest_but-back.result (back_to-requires c) c.back_to.ensures.back c.requires.all
+    c.in_ok-derive.ensures.derived.derivation.clause c.highest_but-back.result 
+    (back_low c.args.trail.now c.args.kernel.now c.derive.new.kernel c.finish.new.self c.level_count-level.ensures.steps c.requires.fits.variables c.derive.ensures.kept
+    c.in_ok-derive.ensures.derived c.in_ok-number.ensures.added c.finish.ensures.reached c.requires.level c.current.result.now c.current.ensures.staged
+    c.level_count-level.result c.highest_but-back.result c.level_count-level.ensures.level_count c.highest_but-back.ensures) c.back_to.ensures.back c.requires.all
     (count_then c.args.trail.now c.args.kernel.now c.derive.new.kernel c.finish.new.self c.level_count-level.ensures.steps c.requires.fits.variables c.derive.ensures.kept
     c.in_ok-derive.ensures.derived c.in_ok-number.ensures.added c.finish.ensures.reached c.requires.level)
     (clauses_then c.args.trail.now c.args.kernel.now c.derive.new.kernel c.finish.new.self c.level_count-level.ensures.steps c.requires.fits.variables c.derive.ensures.kept
@@ -37,8 +40,8 @@ returns-clause-back c =
 
 pub returns-in_err-attach-clause-broken : goal.returns-in_err-attach-clause-broken
 returns-in_err-attach-clause-broken c =
-    inr (learns c.learned_is_earned.ensures c.args.trail.now c.args.kernel.now c.derive.new.kernel c.finish.new.self c.level_count-level.ensures.steps c.requires.settled
+    on_err _ c.from_residual-in_err-attach.result (inr (learns c.learned_is_earned.ensures c.args.trail.now c.args.kernel.now c.derive.new.kernel c.finish.new.self c.level_count-level.ensures.steps c.requires.settled
     c.requires.level c.derive.ensures.kept c.in_ok-derive.ensures.derived
     (adds c.args.trail.now c.args.kernel.now c.derive.new.kernel c.finish.new.self c.level_count-level.ensures.steps c.requires.fits.variables c.derive.ensures.kept
     c.in_ok-derive.ensures.derived c.in_ok-number.ensures.added c.finish.ensures.reached c.requires.level)
-    c.current.result.now c.current.ensures.staged c.current.ensures.is_clause c.current.ensures.over)
+    c.current.result.now c.current.ensures.staged c.current.ensures.is_clause c.current.ensures.over))

@@ -1,0 +1,4 @@
+use Rattle.cc_cdcl.proofs.solver.Solver.new.Goals as goal
+
+pub invariant_of-result : goal.invariant_of-result
+invariant_of-result c = ?
