@@ -17,3 +17,5 @@ mod Stepping
 mod Descending
 mod Levelling
 mod Deriving
+mod Listing
+mod Standing

@@ -4,7 +4,7 @@ ghost use Rattle.std.specs.Bool.{MatchBool};
 ghost use Rattle.cc_defs.specs.Assignments.{IsFailed};
 ghost use Rattle.cc_defs.specs.Clauses.{Literal, IsClause, IsOver};
 ghost use Rattle.cc_kernel.specs.Kernels.{ClashesWith, IsThere, added, clauses_of};
-ghost use Rattle.cc_trail.specs.Steps.{step_of, steps_to, values_of};
+ghost use Rattle.cc_trail.specs.Steps.{AreSteps, step_of, steps_to, values_of};
 ghost use Rattle.cc_trail.specs.Trails.{Fits, IsFailedClause, IsMild, IsSettled, reason_of_step};
 ghost use Rattle.cc_cdcl.specs.Analysis.{HasOneOf, IsFinal, IsUnfinished, OpenLevels, highest_but, is_level, level_but, level_count_in, level_of};
 ghost use Rattle.cc_cdcl.specs.Derivations.{IsBackOver, IsDerived, IsDeriving, Learns};
@@ -204,6 +204,7 @@ fn block_level(trail: &Trail, clause: &[Lit]) -> u32
     requires over { IsOver trail.now.variables clause.now }
     requires failed { IsFailed (values_of trail.now.steps) clause.now }
     ensures low { result ≤ trail.now.level_count }
+    ensures steps { AreSteps trail.now.variables trail.now.steps trail.now.level_count }
     ensures mild { IsMild (steps_to result trail.now.steps) result clause.now }
 {
     let level = trail.level_count();
@@ -226,6 +227,7 @@ pub fn block(trail: &mut Trail, kernel: &mut Kernel, clause: &[Lit]) -> Result<u
     ensures number { IfOk result (λ number. number ≡ length kernel.old.entries + 1) }
     ensures blocked { OnOk result (kernel.new ≡ added kernel.old clause.now Origin.Block) }
     ensures back { OnOk result (IsBackOver trail.old trail.new kernel.new) }
+    ensures steps { AreSteps trail.old.variables trail.old.steps trail.old.level_count }
     ensures broken { OnErr result (KeepsEntries kernel.old kernel.new ⊎ AddsBlock kernel.old kernel.new clause.now) }
 {
     adding_keeps_fit();
