@@ -1,9 +1,10 @@
 -- A solver by its parts: where it stands, and what a step leaves true.
-use Rattle.std.proofs.Common.{◌≡◌, ◌≢◌, ◌∙◌, ℕ, ◌+◌, ◌<◌, ◌≤◌, List, [], ◌∷◌, ◌++◌, zero, suc, length, take, drop, get_or, Some, None, refl, sym, subst, ap, arith}
+use Rattle.std.proofs.Common.{◌≡◌, ◌≢◌, ◌∙◌, ℕ, ◌+◌, ◌<◌, ◌≤◌, List, [], ◌∷◌, ◌++◌, zero, suc, length, take, drop, get_or, replicate, Some, None, refl, sym, subst, ap, arith}
 use Rattle.std.specs.Prelude.{Contains, Bool}
 use Rattle.std.specs.List.{sum}
 use Rattle.std.specs.Vec.{with_items}
 use Rattle.std.proofs.Math.Seq.{take-append_seam}
+use Rattle.std.proofs.lemmas.List.Elements.{Contains-push}
 use Rattle.std.proofs.lemmas.List.Sums.{sum_by-cons}
 use Rattle.cc_defs.specs.Assignments.{IsClosed, IsFailed}
 use Rattle.cc_defs.specs.Clauses.{Literal, IsClause, IsOver}
@@ -31,6 +32,7 @@ use Rattle.cc_cdcl.specs.SolverParts.{IsOfTrail, IsRunning, IsSolver, Stands, st
 use Rattle.cc_cdcl.specs.Solvers.{AddsDerived, Failed, Found, Ready, Refuted, SolverView, Standing}
 use Rattle.cc_cdcl.proofs.Closed.{full_met}
 use Rattle.cc_cdcl.proofs.Denials.{denial_failed, denial_is_clause, denial_over}
+use Rattle.cc_cdcl.proofs.Deriving.{clauses_added}
 use Rattle.cc_cdcl.proofs.Exactly.{has_row}
 use Rattle.cc_cdcl.proofs.Leasts.{chosen_front}
 use Rattle.cc_cdcl.proofs.Listing.{all_over, section_added, sum_within}
@@ -203,6 +205,9 @@ module _ (inside : Inside) (old : SolverView) (is : view_of inside ≡ old) (inv
 
 -- ---- a new one
 
+pub first_of : (cursors : List Cursor) (count more : ℕ) (start : Cursor) → count ≡ suc more → cursors ≡ replicate count start → (other : Cursor) → get_or cursors 0 other ≡ start
+first_of cursors count more start some is other = ap (λ (cs : List Cursor). get_or cs 0 other) (is ∙ ap (λ (n : ℕ). replicate n start) some)
+
 pub searching_new : (sizes : List ℕ) (kernel : KernelView) (trail : TrailView) (cursors : List Cursor) → IsNew trail kernel → Fits trail kernel → IsSettled trail kernel →
     length cursors ≡ kernel.variables + 1 → ((other : Cursor) → get_or cursors 0 other ≡ record { position = 0; first = 1; variable = 1 }) → IsSearching sizes kernel trail cursors
 searching_new sizes kernel trail cursors new fits settled room first = record {
@@ -239,3 +244,9 @@ pub sum_at : (sizes : List ℕ) (index : ℕ) → index < length sizes → get_o
 sum_at [] index low = absurd (omega arith)
 sum_at (size ∷ sizes) zero low = let all : sum (size ∷ sizes) ≡ size + sum sizes = sum_by-cons (λ (n : ℕ). n) size sizes in omega arith
 sum_at (size ∷ sizes) (suc index) low = sum_at sizes index (omega arith)
+
+-- ---- what a step says
+
+pub empty_added : (old new : KernelView) → AddsDerived old new [] → Contains (clauses_of new) []
+empty_added old new adds = subst (λ (cs : List (List Literal)). Contains cs [])
+    (sym (clauses_added old new.entries (record { clause = []; origin = origins.Derived }) adds.entries)) (Contains-push (clauses_of old) [])
