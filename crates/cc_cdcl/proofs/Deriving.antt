@@ -1,24 +1,24 @@
 -- Conflict analysis: how the staged clause is resolved back along the trail, and what is derived in the end.
-use Rattle.std.proofs.Common.{◌≡◌, ◌≢◌, ◌∙◌, ℕ, ◌+◌, ◌-◌, ◌*◌, ◌<◌, ◌≤◌, zero, suc, inl, inr, Bool, true, false, List, [], ◌∷◌, ◌++◌, length, map, take, drop, get_or, Option, Some, None, option_and_then, refl, sym, subst, ap, arith, length-append}
+use Rattle.std.proofs.Common.{◌≡◌, ◌≢◌, ◌∙◌, ℕ, ◌+◌, ◌-◌, ◌<◌, ◌≤◌, zero, suc, inl, inr, Bool, true, List, [], ◌∷◌, ◌++◌, length, map, take, drop, get_or, Option, Some, option_and_then, refl, sym, subst, ap, arith, length-append}
 use Rattle.std.specs.Prelude.{◌⊎◌, Contains, slice_get, IfSome, OnErr, Result, Ok, Err}
 use Rattle.std.specs.Bool.{MatchBool}
 use Rattle.std.proofs.lemmas.List.{length-map}
-use Rattle.cc_defs.specs.Assignments.{IsEarned, IsFailed}
-use Rattle.cc_defs.specs.Clauses.{Literal, Clash, HasAlone, IsClause, IsNumbered, IsOver, IsResolvent, Reaches, opposite}
+use Rattle.cc_defs.specs.Assignments.{IsFailed}
+use Rattle.cc_defs.specs.Clauses.{Literal, Clash, IsClause, IsNumbered, IsOver, IsResolvent, Reaches, opposite}
 use Rattle.cc_kernel.specs.declared.kernel.Origin.TheVariants as origins
-use Rattle.cc_kernel.specs.Kernels.{Entry, KernelView, ClashesWith, IsFinished, IsStarted, IsStepped, IsThere, added, clauses_of}
+use Rattle.cc_kernel.specs.Kernels.{Entry, KernelView, ClashesWith, IsFinished, IsStarted, IsStepped, IsThere, clauses_of}
 use Rattle.cc_trail.specs.declared.entries.Step.{Step}
 use Rattle.cc_trail.specs.EntryParts.{literal_of_step}
 use Rattle.cc_trail.specs.Links.{IsIn, IsLiteralOver}
 use Rattle.cc_trail.specs.Steps.{AreApart, AreSteps, step_of, steps_to, values_of}
 use Rattle.cc_trail.specs.Trails.{TrailView, Fits, FitsClauses, IsAttached, IsFailedClause, IsMild, IsSettled, back_at, reason_of_step}
-use Rattle.cc_trail.specs.Watches.{AreReasoned, HasReason, IsFalseBy}
+use Rattle.cc_trail.specs.Watches.{AreReasoned, IsFalseBy}
 use Rattle.cc_cdcl.specs.Analysis.{IsFinal, IsLearned, IsUnfinished, IsWalking, MayResolve, OpenLevels, highest_but, level_count_in}
 use Rattle.cc_cdcl.specs.Derivations.{IsBackOver, IsDerived, IsDeriving, Learns}
 use Rattle.cc_cdcl.specs.Laws.{LearnedIsEarned}
 use Rattle.cc_trail.specs.TrailLaws.{AddingKeepsFit, AddingKeepsSettled}
 use Rattle.cc_cdcl.specs.Searches.{KeepsEntries}
-use Rattle.cc_cdcl.specs.Solvers.{AddsBlock, AddsDerived}
+use Rattle.cc_cdcl.specs.Solvers.{AddsDerived}
 use Rattle.cc_cdcl.proofs.Exactly.{map_push}
 use Rattle.cc_cdcl.proofs.Levels.{in_found}
 use Rattle.cc_cdcl.proofs.Resolving.{behind_front}

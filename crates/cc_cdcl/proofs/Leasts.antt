@@ -12,7 +12,7 @@ use Rattle.cc_trail.specs.Links.{IsIn}
 use Rattle.cc_trail.specs.Steps.{values_of}
 use Rattle.cc_trail.specs.Watches.{AreReasonedAfter, HasReason}
 use Rattle.cc_cdcl.specs.Choices.{AreChosenAfter, IsNext, IsNextFrom}
-use Rattle.cc_clauses.specs.RowsOf.{HasRowFrom, HasRow, MeetsAll, IsRowOf}
+use Rattle.cc_clauses.specs.RowsOf.{HasRowFrom, HasRow, MeetsAll}
 use Rattle.cc_cdcl.specs.LeastRows.{row_of}
 use Rattle.cc_cdcl.specs.Laws.{LeastRowIsFound, ChoicesAreKept}
 use Rattle.cc_cdcl.specs.Sets.{assignment_of}

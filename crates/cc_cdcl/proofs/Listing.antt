@@ -1,6 +1,6 @@
 -- The clauses of a search: what is true of them at the start, as one more is added, and how few derived ones there are.
-use Rattle.std.proofs.Common.{◌≡◌, ◌≢◌, ◌∙◌, ℕ, ◌+◌, ◌^◌, ◌<◌, ◌≤◌, zero, suc, inl, inr, Bool, true, false, not, List, [], ◌∷◌, ◌++◌, length, map, take, get_or, filter, count_by, Option, Some, None, refl, sym, subst, ap, arith, append_assoc, append-nil}
-use Rattle.std.specs.Prelude.{Contains, slice_get, is_some, if◌then◌else◌}
+use Rattle.std.proofs.Common.{◌≡◌, ◌≢◌, ◌∙◌, ℕ, ◌+◌, ◌^◌, ◌<◌, ◌≤◌, zero, suc, true, false, List, [], ◌∷◌, ◌++◌, map, take, filter, Some, refl, sym, subst, ap, arith, append_assoc, append-nil}
+use Rattle.std.specs.Prelude.{Contains, slice_get, is_some}
 use Rattle.std.specs.List.{AllByRecursion, sum}
 use Rattle.std.proofs.lemmas.List.{map-append}
 use Rattle.std.proofs.lemmas.List.Elements.{Contains-append_left, Contains-append_right}
@@ -11,7 +11,7 @@ use Rattle.cc_defs.specs.ClauseLists.{position_variables, positions_from}
 use Rattle.cc_defs.specs.Clauses.{Literal, IsClause, IsOver}
 use Rattle.cc_kernel.specs.declared.kernel.Origin.{Origin}
 use Rattle.cc_kernel.specs.declared.kernel.Origin.TheVariants as origins
-use Rattle.cc_kernel.specs.Kernels.{Entry, KernelView, AreAxioms, AreClauses, clauses_of, derived_count, first_empty, is_given, number_if_empty}
+use Rattle.cc_kernel.specs.Kernels.{Entry, KernelView, AreAxioms, AreClauses, clauses_of, derived_count, first_empty, number_if_empty}
 use Rattle.cc_cdcl.specs.Earned.{AreEarnedBehind, Derived, Given, Line, earned_count}
 use Rattle.cc_cdcl.specs.Laws.{EarnedLinesAreFew}
 use Rattle.cc_cdcl.specs.Searches.{HasAxiomsFirst, IsSection, KeepsEntries}

@@ -1,5 +1,5 @@
 -- A solver by its parts: where it stands, and what a step leaves true.
-use Rattle.std.proofs.Common.{◌≡◌, ◌≢◌, ◌∙◌, ℕ, ◌+◌, ◌<◌, ◌≤◌, List, [], ◌∷◌, ◌++◌, zero, suc, length, take, drop, get_or, replicate, Some, None, refl, sym, subst, ap, arith}
+use Rattle.std.proofs.Common.{◌≡◌, ◌∙◌, ℕ, ◌+◌, ◌<◌, ◌≤◌, List, [], ◌∷◌, ◌++◌, zero, suc, length, take, drop, get_or, replicate, refl, sym, subst, ap, arith}
 use Rattle.std.specs.Prelude.{Contains, Bool}
 use Rattle.std.specs.List.{sum}
 use Rattle.std.specs.Vec.{with_items}
@@ -12,8 +12,7 @@ use Rattle.cc_defs.specs.Rows.{IsRow}
 use Rattle.cc_defs.specs.Sections.{row_denial}
 use Rattle.cc_clauses.specs.RowsOf.{HasRow, IsLeastRowOf, MeetsAll}
 use Rattle.cc_kernel.specs.declared.kernel.Origin.TheVariants as origins
-use Rattle.cc_kernel.specs.Kernels.{Entry, KernelView, clauses_of, derived_count}
-use Rattle.cc_trail.specs.declared.entries.Step.{Step}
+use Rattle.cc_kernel.specs.Kernels.{KernelView, clauses_of}
 use Rattle.cc_trail.specs.Steps.{AreSteps, steps_to, values_of, values_to}
 use Rattle.cc_trail.specs.Trails.{TrailView, Fits, IsNew, IsSettled}
 use Rattle.cc_cdcl.specs.declared.choice.Cursor.{Cursor}
@@ -29,7 +28,7 @@ use Rattle.cc_cdcl.specs.LeastRows.{row_from, row_of}
 use Rattle.cc_cdcl.specs.Searches.{IsSearching, IsSection}
 use Rattle.cc_cdcl.specs.Sets.{IsFull, assignment_of}
 use Rattle.cc_cdcl.specs.SolverParts.{IsOfTrail, IsRunning, IsSolver, Stands, standing_of, view_of}
-use Rattle.cc_cdcl.specs.Solvers.{AddsDerived, Failed, Found, Ready, Refuted, SolverView, Standing}
+use Rattle.cc_cdcl.specs.Solvers.{AddsDerived, Failed, Found, Ready, Refuted, SolverView}
 use Rattle.cc_cdcl.proofs.Closed.{full_met}
 use Rattle.cc_cdcl.proofs.Denials.{denial_failed, denial_is_clause, denial_over}
 use Rattle.cc_cdcl.proofs.Deriving.{clauses_added}

@@ -1,6 +1,5 @@
 -- What steps give as they grow and as they are gone back over, and how many of them there are.
-use Rattle.std.proofs.Common.{◌≡◌, ◌≢◌, ◌∙◌, ℕ, ◌+◌, ◌<◌, ◌≤◌, zero, suc, inl, inr, eqb, Bool, true, false, List, [], ◌∷◌, ◌++◌, length, map, Option, Some, None, option_and_then, option_map, refl, sym, subst, ap, arith}
-use Rattle.std.specs.Prelude.{◌⊎◌}
+use Rattle.std.proofs.Common.{◌≡◌, ◌≢◌, ◌∙◌, ℕ, ◌+◌, ◌<◌, ◌≤◌, suc, inl, inr, eqb, Bool, true, false, List, [], ◌∷◌, ◌++◌, length, map, Option, Some, None, option_and_then, option_map, refl, sym, subst, ap, arith}
 use Rattle.std.specs.List.{IsDistinct, AllByRecursion, list_any}
 use Rattle.std.proofs.lemmas.Bool.Decides.{eqb_tells, leb_tells}
 use Rattle.std.proofs.lemmas.List.{length-map}
@@ -10,7 +9,7 @@ use Rattle.cc_trail.specs.declared.entries.Step.{Step}
 use Rattle.cc_trail.specs.Links.{IsIn}
 use Rattle.cc_trail.specs.Steps.{AreApart, AreSteps, IsRising, level_after, sign_of, sign_to, step_of, steps_to, values_of, values_to}
 use Rattle.cc_cdcl.proofs.Learning.{level_is, within}
-use Rattle.cc_cdcl.proofs.Levels.{has_step, rises, to_lower}
+use Rattle.cc_cdcl.proofs.Levels.{has_step, to_lower}
 
 -- what one assignment gives another one gives too
 abbrev pub GivesMore : Values → Values → Type 0

@@ -1,5 +1,5 @@
 -- What the parts of conflict analysis do to a kernel and a trail.
-use Rattle.std.specs.Prelude.{◌≡◌, ◌≢◌, ℕ, ◌+◌, ◌*◌, ◌<◌, ◌≤◌, List, [], length, Some}
+use Rattle.std.specs.Prelude.{◌≡◌, ◌≢◌, ℕ, ◌+◌, ◌*◌, ◌≤◌, List, [], length, Some}
 use Rattle.cc_defs.specs.Assignments.{IsEarned}
 use Rattle.cc_defs.specs.Clauses.{Literal, IsClause, IsOver}
 use Rattle.cc_kernel.specs.Kernels.{KernelView, clauses_of}

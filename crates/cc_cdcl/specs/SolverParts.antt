@@ -1,13 +1,9 @@
 -- How the parts of a solver make what its holder sees, and what is always true of them.
-use Rattle.std.specs.Prelude.{◌≡◌, ◌≢◌, ℕ, List, ◌++◌, length}
-use Rattle.std.specs.List.{AllByRecursion}
+use Rattle.std.specs.Prelude.{◌≡◌, ℕ, List, length}
 use Rattle.cc_defs.specs.Rows.{IsRow}
 use Rattle.cc_clauses.specs.RowsOf.{HasRow}
-use Rattle.cc_kernel.specs.declared.kernel.Origin.TheVariants as origins
-use Rattle.cc_kernel.specs.Kernels.{Entry, KernelView, AreAxioms, AreClauses, derived_count}
+use Rattle.cc_kernel.specs.Kernels.{derived_count}
 use Rattle.cc_trail.specs.Steps.{values_of}
-use Rattle.cc_trail.specs.Trails.{TrailView, Fits, IsSettled}
-use Rattle.cc_cdcl.specs.declared.choice.Cursor.{Cursor}
 use Rattle.cc_cdcl.specs.declared.solver.Solver.TheInside.{Inside}
 use Rattle.cc_cdcl.specs.declared.solver.State.{State}
 use Rattle.cc_cdcl.specs.declared.solver.State.TheVariants as states

@@ -1,4 +1,4 @@
-use Rattle.std.proofs.Common.{◌≡◌, ◌∙◌, ◌∷◌, [], length, length-append, ap}
+use Rattle.std.proofs.Common.{◌∙◌, length, length-append, ap}
 use Rattle.cc_kernel.specs.declared.kernel.Origin.TheVariants as origins
 use Rattle.cc_kernel.specs.Kernels.{KernelView}
 use Rattle.cc_cdcl.proofs.Deriving.{attached_back, clauses_added}

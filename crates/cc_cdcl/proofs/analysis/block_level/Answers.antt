@@ -1,4 +1,4 @@
-use Rattle.std.proofs.Common.{◌≡◌, ◌∙◌, ℕ, ◌+◌, ◌≤◌, ap, sym, arith}
+use Rattle.std.proofs.Common.{◌∙◌, ℕ, ◌+◌, ap, arith}
 use Rattle.cc_cdcl.specs.Analysis.{highest_but}
 use Rattle.cc_cdcl.proofs.Levelling.{highest_low, one_low, one_mild, others_mild}
 use Rattle.cc_cdcl.proofs.Stepping.{steps_few}

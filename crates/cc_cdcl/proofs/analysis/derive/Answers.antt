@@ -1,6 +1,3 @@
-use Rattle.std.proofs.Common.{◌≡◌, ap}
-use Rattle.cc_kernel.specs.Kernels.{KernelView}
-use Rattle.cc_cdcl.specs.Searches.{KeepsEntries}
 use Rattle.cc_cdcl.proofs.Deriving.{derivation_begins, fits_kept, started_kept}
 use Rattle.cc_cdcl.proofs.analysis.derive.Goals as goal
 

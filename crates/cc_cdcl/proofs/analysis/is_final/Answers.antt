@@ -1,4 +1,4 @@
-use Rattle.std.proofs.Common.{◌≡◌, ◌∙◌, ℕ, ap, sym}
+use Rattle.std.proofs.Common.{◌∙◌, ℕ, ap}
 use Rattle.cc_cdcl.specs.Analysis.{level_count_in}
 use Rattle.cc_cdcl.proofs.Levelling.{final_or_not}
 use Rattle.cc_cdcl.proofs.analysis.is_final.Goals as goal

@@ -1,4 +1,4 @@
-use Rattle.std.proofs.Common.{◌≡◌, inr}
+use Rattle.std.proofs.Common.{inr}
 use Rattle.cc_cdcl.proofs.Deriving.{adds, attached_back, back_low, back_mild, clauses_then, count_then, fits_then, learns, on_err}
 use Rattle.cc_cdcl.proofs.analysis.learn.Goals as goal
 

@@ -1,4 +1,4 @@
-use Rattle.std.proofs.Common.{◌≡◌, List, subst}
+use Rattle.std.proofs.Common.{List, subst}
 use Rattle.cc_defs.specs.Clauses.{Literal}
 use Rattle.cc_cdcl.specs.Solvers.{AddsDerived}
 use Rattle.cc_cdcl.proofs.Deriving.{derived_empty, derives}

@@ -1,6 +1,6 @@
-use Rattle.std.proofs.Common.{◌≡◌, ◌∙◌, List, Some, sym, subst}
+use Rattle.std.proofs.Common.{List, subst}
 use Rattle.cc_defs.specs.Clauses.{Literal}
-use Rattle.cc_cdcl.specs.Analysis.{IsFinal, IsUnfinished}
+use Rattle.cc_cdcl.specs.Analysis.{IsFinal}
 use Rattle.cc_cdcl.proofs.Deriving.{some_same, when_true}
 use Rattle.cc_cdcl.proofs.analysis.resolve_back.Goals as goal
 

@@ -1,5 +1,3 @@
-use Rattle.std.proofs.Common.{ℕ}
-use Rattle.cc_trail.specs.Trails.{Fits}
 use Rattle.cc_cdcl.specs.Derivations.{IsDeriving}
 use Rattle.cc_cdcl.specs.Searches.{KeepsEntries}
 use Rattle.cc_cdcl.proofs.analysis.resolve_back.Given as goal

@@ -1,4 +1,4 @@
-use Rattle.std.proofs.Common.{◌≡◌, ◌∙◌, ◌-◌, ◌<◌, ◌≤◌, refl, arith}
+use Rattle.std.proofs.Common.{◌-◌, refl, arith}
 use Rattle.cc_cdcl.proofs.Deriving.{at_of, goes_on, not_at_start, pivot_here, pivot_over, reason_is_there, steps_on}
 use Rattle.cc_cdcl.proofs.analysis.resolve_next.Goals as goal
 

@@ -1,5 +1,4 @@
-use Rattle.std.proofs.Common.{◌≡◌, ℕ, List, Some}
-use Rattle.cc_defs.specs.Clauses.{Literal}
+use Rattle.std.proofs.Common.{◌≡◌}
 use Rattle.cc_cdcl.specs.Derivations.{IsDeriving}
 use Rattle.cc_cdcl.proofs.analysis.resolve_next.Given as goal
 

@@ -1,4 +1,4 @@
-use Rattle.std.proofs.Common.{◌≡◌, ◌≢◌, ℕ, ◌+◌, ◌-◌, ◌<◌, ◌≤◌, None}
+use Rattle.std.proofs.Common.{◌≢◌, ℕ, ◌+◌, ◌-◌, ◌<◌, ◌≤◌, None}
 use Rattle.cc_trail.specs.Steps.{values_of}
 use Rattle.cc_cdcl.proofs.choice.first_open.Given as goal
 

@@ -1,4 +1,4 @@
-use Rattle.std.proofs.Common.{◌≡◌, ◌∙◌, ◌+◌, ◌<◌, ◌≤◌, sym, arith}
+use Rattle.std.proofs.Common.{arith}
 use Rattle.cc_kernel.specs.Kernels.{clauses_of}
 use Rattle.cc_trail.specs.Steps.{values_of}
 use Rattle.cc_cdcl.proofs.Placing.{chosen_value, chosen_variable, position_within, some_open}

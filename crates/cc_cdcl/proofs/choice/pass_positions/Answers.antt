@@ -1,4 +1,4 @@
-use Rattle.std.proofs.Common.{◌≡◌, ◌≢◌, ◌∙◌, ◌+◌, ◌<◌, ◌≤◌, ℕ, refl, sym, arith}
+use Rattle.std.proofs.Common.{◌∙◌, sym, arith}
 use Rattle.cc_trail.specs.Steps.{values_of}
 use Rattle.cc_cdcl.proofs.Placing.{cursor_moved, index_none, index_some, position_within}
 use Rattle.cc_cdcl.proofs.choice.pass_positions.Goals as goal

@@ -1,4 +1,4 @@
-use Rattle.std.proofs.Common.{◌≡◌, ◌+◌, arith}
+use Rattle.std.proofs.Common.{arith}
 use Rattle.cc_trail.specs.Steps.{values_of}
 use Rattle.cc_cdcl.proofs.Placing.{index_here, index_on, not_given}
 use Rattle.cc_cdcl.proofs.choice.true_value.Goals as goal

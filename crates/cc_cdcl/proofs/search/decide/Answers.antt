@@ -1,4 +1,4 @@
-use Rattle.std.proofs.Common.{◌≡◌, ◌∙◌, ℕ, ◌+◌, ◌<◌, ◌≤◌, List, length, set, sym, subst, ap, arith}
+use Rattle.std.proofs.Common.{◌≡◌, ◌∙◌, ◌+◌, set, sym, subst, ap, arith}
 use Rattle.std.proofs.Math.ListN.{length-set}
 use Rattle.cc_trail.specs.Trails.{TrailView}
 use Rattle.cc_cdcl.specs.Cursors.{AreCursors}

@@ -1,9 +1,7 @@
-use Rattle.std.proofs.Common.{◌≡◌, ◌∙◌, ℕ, ◌+◌, ◌<◌, ◌≤◌, List, length, sym, subst, ap, arith, get_or}
-use Rattle.cc_trail.specs.Steps.{values_of}
-use Rattle.cc_cdcl.specs.Cursors.{IsCursor}
+use Rattle.std.proofs.Common.{arith}
 use Rattle.cc_cdcl.specs.Searches.{IsSearching}
 use Rattle.cc_cdcl.proofs.Descending.{searching_decided, searching_propagated}
-use Rattle.cc_cdcl.proofs.Placing.{cursor_last, cursors_grow, level_within}
+use Rattle.cc_cdcl.proofs.Placing.{cursor_last}
 use Rattle.cc_cdcl.proofs.Stepping.{steps_few}
 use Rattle.cc_cdcl.proofs.search.next_round.Goals as goal
 

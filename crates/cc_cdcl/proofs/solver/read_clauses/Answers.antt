@@ -1,4 +1,4 @@
-use Rattle.std.proofs.Common.{◌≡◌, ◌-◌, ◌+◌, ℕ, List, Some, arith, subst}
+use Rattle.std.proofs.Common.{◌≡◌, ◌-◌, ◌+◌, ℕ, Some, arith, subst}
 use Rattle.std.specs.Prelude.{slice_get}
 use Rattle.cc_kernel.specs.Kernels.{clauses_of}
 use Rattle.cc_cdcl.proofs.Listing.{clauses_more}

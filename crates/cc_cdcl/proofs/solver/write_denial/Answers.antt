@@ -1,4 +1,4 @@
-use Rattle.std.proofs.Common.{◌≡◌, ◌+◌, ◌<◌, ◌≤◌, arith}
+use Rattle.std.proofs.Common.{arith}
 use Rattle.cc_cdcl.proofs.Standing.{row_at, sum_at}
 use Rattle.cc_cdcl.proofs.solver.write_denial.Goals as goal
 

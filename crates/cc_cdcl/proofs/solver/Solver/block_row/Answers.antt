@@ -1,4 +1,4 @@
-use Rattle.std.proofs.Common.{◌≡◌, ◌∙◌, ℕ, ◌≤◌, inl, inr, List, refl, sym, subst, ap, ap₂, arith}
+use Rattle.std.proofs.Common.{◌∙◌, ℕ, inl, inr, List, sym, ap, ap₂, arith}
 use Rattle.cc_defs.specs.Sections.{row_denial}
 use Rattle.cc_kernel.specs.Kernels.{KernelView, derived_count}
 use Rattle.cc_cdcl.proofs.Listing.{count_block, section_kept}

@@ -1,6 +1,6 @@
-use Rattle.std.proofs.Common.{◌≡◌, ◌∙◌, ◌+◌, ℕ, List, length, get_or, refl, sym, subst, ap, arith, rules}
+use Rattle.std.proofs.Common.{◌≡◌, ◌+◌, ℕ, List, length, get_or, sym, subst, ap, arith, rules}
 use Rattle.cc_cdcl.specs.declared.choice.Cursor.{Cursor}
-use Rattle.cc_cdcl.specs.Searches.{IsSearching, IsSection}
+use Rattle.cc_cdcl.specs.Searches.{IsSection}
 use Rattle.cc_cdcl.proofs.Listing.{none_derived, section_new}
 use Rattle.cc_cdcl.proofs.Standing.{first_of, searching_new}
 use Rattle.cc_cdcl.proofs.solver.Solver.new.Goals as goal

@@ -1,7 +1,6 @@
-use Rattle.std.proofs.Common.{◌≡◌, ◌∙◌, ◌^◌, ◌+◌, ◌<◌, ◌≤◌, ℕ, inl, inr, true, false, List, [], refl, sym, subst, ap, arith}
+use Rattle.std.proofs.Common.{◌≡◌, ◌∙◌, ◌+◌, ℕ, inl, inr, List, [], refl, sym, subst, ap, arith}
 use Rattle.std.specs.Prelude.{Contains, is_some}
 use Rattle.cc_defs.specs.Assignments.{HasOpen, IsEarned}
-use Rattle.cc_defs.specs.Clauses.{Literal}
 use Rattle.cc_clauses.specs.RowsOf.{HasRow, IsLeastRowOf}
 use Rattle.cc_defs.specs.Rows.{IsRow}
 use Rattle.cc_kernel.specs.Kernels.{KernelView, clauses_of, derived_count}
