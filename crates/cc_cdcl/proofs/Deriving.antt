@@ -166,104 +166,104 @@ module _ (trail : TrailView) (kernel : KernelView) (are : AreSteps trail.variabl
       }
 
 module _ (trail : TrailView) (kernel : KernelView) (start : ℕ) (at_start : IsAt trail kernel start) where
-    abbrev are : AreSteps trail.variables trail.steps trail.level_count
-    are = at_start.are
+  abbrev are : AreSteps trail.variables trail.steps trail.level_count
+  are = at_start.are
 
-    abbrev fits : Fits trail kernel
-    fits = at_start.fits
+  abbrev fits : Fits trail kernel
+  fits = at_start.fits
 
-    abbrev opened : OpenLevels trail.steps
-    opened = at_start.opened
+  abbrev opened : OpenLevels trail.steps
+  opened = at_start.opened
 
-    abbrev derivation : IsDeriving kernel trail start
-    derivation = at_start.derivation
+  abbrev derivation : IsDeriving kernel trail start
+  derivation = at_start.derivation
 
-    abbrev unfinished : IsUnfinished trail.steps trail.level_count derivation.clause
-    unfinished = at_start.unfinished
+  abbrev unfinished : IsUnfinished trail.steps trail.level_count derivation.clause
+  unfinished = at_start.unfinished
 
-    pub not_at_start : start ≢ 0
-    not_at_start none =
-        let ends = walk_ends trail.steps trail.level_count derivation.clause
-        (subst (λ (n : ℕ). IsWalking trail.steps trail.level_count n derivation.clause) none derivation.walking) in
-        both unfinished ends.0 ends.1
-      where
-        both : IsUnfinished trail.steps trail.level_count derivation.clause → trail.level_count ≡ 0 → derivation.clause ≡ [] → ⊥
-        both (inl (zero_is, some)) level empty = some empty
-        both (inr (one, two, apart, (k, low, at), two_in, one_at, two_at)) level empty = let long : length derivation.clause ≡ 0 = ap length empty in omega arith
+  pub not_at_start : start ≢ 0
+  not_at_start none =
+      let ends = walk_ends trail.steps trail.level_count derivation.clause
+      (subst (λ (n : ℕ). IsWalking trail.steps trail.level_count n derivation.clause) none derivation.walking) in
+      both unfinished ends.0 ends.1
+    where
+      both : IsUnfinished trail.steps trail.level_count derivation.clause → trail.level_count ≡ 0 → derivation.clause ≡ [] → ⊥
+      both (inl (zero_is, some)) level empty = some empty
+      both (inr (one, two, apart, (k, low, at), two_in, one_at, two_at)) level empty = let long : length derivation.clause ≡ 0 = ap length empty in omega arith
 
-    module _ (place : ℕ) (place_is : place ≡ start - 1) where
-      next_is : start ≡ suc place
-      next_is = let some = not_at_start in omega arith
+  module _ (place : ℕ) (place_is : place ≡ start - 1) where
+    next_is : start ≡ suc place
+    next_is = let some = not_at_start in omega arith
 
-      low : place < length trail.steps
-      low = let within = derivation.within in let next = next_is in omega arith
+    low : place < length trail.steps
+    low = let within = derivation.within in let next = next_is in omega arith
 
-      -- the step there
-      pub step_there : (last : Step) × IsPlace trail.steps place last
-      step_there = step_at trail.steps place low
+    -- the step there
+    pub step_there : (last : Step) × IsPlace trail.steps place last
+    step_there = step_at trail.steps place low
 
-      walking_there : IsWalking trail.steps trail.level_count (suc place) derivation.clause
-      walking_there = subst (λ (n : ℕ). IsWalking trail.steps trail.level_count n derivation.clause) next_is derivation.walking
+    walking_there : IsWalking trail.steps trail.level_count (suc place) derivation.clause
+    walking_there = subst (λ (n : ℕ). IsWalking trail.steps trail.level_count n derivation.clause) next_is derivation.walking
 
-      pub pivot_here : (entries : List Literal) (literal : Literal) (pivot : ℕ) → entries ≡ map literal_of_step trail.steps → literal ≡ get_or entries place literal →
-          pivot ≡ literal.variable → pivot ≡ step_there.0.lit.variable
-      pivot_here entries literal pivot entries_are literal_is is =
-          is ∙ ap (λ (l : Literal). l.variable) (literal_is ∙ ap (λ (es : List Literal). get_or es place literal) entries_are ∙ step_there.1.literal literal)
+    pub pivot_here : (entries : List Literal) (literal : Literal) (pivot : ℕ) → entries ≡ map literal_of_step trail.steps → literal ≡ get_or entries place literal →
+        pivot ≡ literal.variable → pivot ≡ step_there.0.lit.variable
+    pivot_here entries literal pivot entries_are literal_is is =
+        is ∙ ap (λ (l : Literal). l.variable) (literal_is ∙ ap (λ (es : List Literal). get_or es place literal) entries_are ∙ step_there.1.literal literal)
 
-      module _ (pivot : ℕ) (pivot_is : pivot ≡ step_there.0.lit.variable) where
-        pub pivot_over : (1 ≤ pivot) × (pivot ≤ trail.variables)
-        pivot_over =
-            let over = place_over trail.variables trail.steps trail.level_count are (clauses_of kernel) opened fits.clauses.reasons place step_there.0 step_there.1 in
-            (omega (arith, over.0), omega (arith, over.1))
+    module _ (pivot : ℕ) (pivot_is : pivot ≡ step_there.0.lit.variable) where
+      pub pivot_over : (1 ≤ pivot) × (pivot ≤ trail.variables)
+      pivot_over =
+          let over = place_over trail.variables trail.steps trail.level_count are (clauses_of kernel) opened fits.clauses.reasons place step_there.0 step_there.1 in
+          (omega (arith, over.0), omega (arith, over.1))
 
-        reason_there : (id : ℕ) → option_and_then reason_of_step (step_of trail.steps pivot) ≡ Some id → step_there.0.reason ≡ Some id
-        reason_there id at = reason_last trail.variables trail.steps trail.level_count are (clauses_of kernel) opened fits.clauses.reasons place step_there.0 step_there.1 (Some id)
-            (ap (λ (n : ℕ). option_and_then reason_of_step (step_of trail.steps n)) (sym pivot_is) ∙ at)
+      reason_there : (id : ℕ) → option_and_then reason_of_step (step_of trail.steps pivot) ≡ Some id → step_there.0.reason ≡ Some id
+      reason_there id at = reason_last trail.variables trail.steps trail.level_count are (clauses_of kernel) opened fits.clauses.reasons place step_there.0 step_there.1 (Some id)
+          (ap (λ (n : ℕ). option_and_then reason_of_step (step_of trail.steps n)) (sym pivot_is) ∙ at)
 
-        pub reason_is_there : (id : ℕ) → option_and_then reason_of_step (step_of trail.steps pivot) ≡ Some id → IsThere kernel id
-        reason_is_there id at =
-            let (clause, numbered, there, others) = reasoned_at (clauses_of kernel) [] (take place trail.steps) step_there.0 (drop (suc place) trail.steps)
-            (subst (λ (ss : List Step). AreReasoned (clauses_of kernel) ss) step_there.1.split fits.clauses.reasons) id (reason_there id at) in
-            numbered_there kernel id clause numbered
+      pub reason_is_there : (id : ℕ) → option_and_then reason_of_step (step_of trail.steps pivot) ≡ Some id → IsThere kernel id
+      reason_is_there id at =
+          let (clause, numbered, there, others) = reasoned_at (clauses_of kernel) [] (take place trail.steps) step_there.0 (drop (suc place) trail.steps)
+          (subst (λ (ss : List Step). AreReasoned (clauses_of kernel) ss) step_there.1.split fits.clauses.reasons) id (reason_there id at) in
+          numbered_there kernel id clause numbered
 
-        pub goes_on : ((id : ℕ) → option_and_then reason_of_step (step_of trail.steps pivot) ≡ Some id → ClashesWith kernel pivot id → ⊥) → IsDeriving kernel trail place
-        goes_on never = record {
-          clause = derivation.clause;
-          staged = derivation.staged;
-          walking = passes trail.variables trail.steps trail.level_count are (clauses_of kernel) opened fits.clauses.reasons place step_there.0 step_there.1 derivation.clause
-              walking_there (may_of trail.steps trail.level_count derivation.clause unfinished) no_clash;
+      pub goes_on : ((id : ℕ) → option_and_then reason_of_step (step_of trail.steps pivot) ≡ Some id → ClashesWith kernel pivot id → ⊥) → IsDeriving kernel trail place
+      goes_on never = record {
+        clause = derivation.clause;
+        staged = derivation.staged;
+        walking = passes trail.variables trail.steps trail.level_count are (clauses_of kernel) opened fits.clauses.reasons place step_there.0 step_there.1 derivation.clause
+            walking_there (may_of trail.steps trail.level_count derivation.clause unfinished) no_clash;
+        within = let low = low in omega arith;
+        short = let short = derivation.short in let next = next_is in omega arith;
+      }
+        where
+          no_clash : (number : ℕ) → step_there.0.reason ≡ Some number → (other : List Literal) → IsNumbered (clauses_of kernel) number other →
+              Clash derivation.clause other step_there.0.lit.variable → ⊥
+          no_clash number reason_is other numbered clash =
+              never number
+              (ap (λ (n : ℕ). option_and_then reason_of_step (step_of trail.steps n)) pivot_is ∙
+              ap (option_and_then reason_of_step) (found_last trail.variables trail.steps trail.level_count are (clauses_of kernel) opened fits.clauses.reasons place step_there.0 step_there.1) ∙ reason_is)
+              (derivation.clause, other, derivation.staged, numbered, subst (λ (n : ℕ). Clash derivation.clause other n) (sym pivot_is) clash)
+
+      pub steps_on : (new : KernelView) (id : ℕ) → option_and_then reason_of_step (step_of trail.steps pivot) ≡ Some id → IsStepped kernel new pivot id →
+          IsDeriving new trail place × KeepsEntries kernel new
+      steps_on new id at (staged, other, resolvent, staged_is, numbered, resolvent_is, new_is) = (
+        record {
+          clause = resolvent;
+          staged = ap (λ (k : KernelView). k.staged) new_is;
+          walking = resolves trail.variables trail.steps trail.level_count are (clauses_of kernel) opened fits.clauses.reasons place step_there.0 step_there.1 derivation.clause
+              walking_there (may_of trail.steps trail.level_count derivation.clause unfinished) id (reason_there id at) other numbered resolvent_here.clash resolvent resolvent_here;
           within = let low = low in omega arith;
-          short = let short = derivation.short in let next = next_is in omega arith;
-        }
-          where
-            no_clash : (number : ℕ) → step_there.0.reason ≡ Some number → (other : List Literal) → IsNumbered (clauses_of kernel) number other →
-                Clash derivation.clause other step_there.0.lit.variable → ⊥
-            no_clash number reason_is other numbered clash =
-                never number
-                (ap (λ (n : ℕ). option_and_then reason_of_step (step_of trail.steps n)) pivot_is ∙
-                ap (option_and_then reason_of_step) (found_last trail.variables trail.steps trail.level_count are (clauses_of kernel) opened fits.clauses.reasons place step_there.0 step_there.1) ∙ reason_is)
-                (derivation.clause, other, derivation.staged, numbered, subst (λ (n : ℕ). Clash derivation.clause other n) (sym pivot_is) clash)
-
-        pub steps_on : (new : KernelView) (id : ℕ) → option_and_then reason_of_step (step_of trail.steps pivot) ≡ Some id → IsStepped kernel new pivot id →
-            IsDeriving new trail place × KeepsEntries kernel new
-        steps_on new id at (staged, other, resolvent, staged_is, numbered, resolvent_is, new_is) = (
-          record {
-            clause = resolvent;
-            staged = ap (λ (k : KernelView). k.staged) new_is;
-            walking = resolves trail.variables trail.steps trail.level_count are (clauses_of kernel) opened fits.clauses.reasons place step_there.0 step_there.1 derivation.clause
-                walking_there (may_of trail.steps trail.level_count derivation.clause unfinished) id (reason_there id at) other numbered resolvent_here.clash resolvent resolvent_here;
-            within = let low = low in omega arith;
-            short =
-                let chain : length new.chain ≡ length (kernel.chain ++ pivot ∷ id ∷ []) = ap (λ (k : KernelView). length k.chain) new_is in
-                let long = length-append kernel.chain (pivot ∷ id ∷ []) in
-                let short = derivation.short in let next = next_is in omega arith;
-          },
-          record { variables = ap (λ (k : KernelView). k.variables) new_is; entries = ap (λ (k : KernelView). k.entries) new_is },
-        )
-          where
-            resolvent_here : IsResolvent derivation.clause other step_there.0.lit.variable resolvent
-            resolvent_here = subst (λ (n : ℕ). IsResolvent derivation.clause other n resolvent) pivot_is
-                (subst (λ (c : List Literal). IsResolvent c other pivot resolvent) (some_same staged derivation.clause kernel.staged staged_is derivation.staged) resolvent_is)
+          short =
+              let chain : length new.chain ≡ length (kernel.chain ++ pivot ∷ id ∷ []) = ap (λ (k : KernelView). length k.chain) new_is in
+              let long = length-append kernel.chain (pivot ∷ id ∷ []) in
+              let short = derivation.short in let next = next_is in omega arith;
+        },
+        record { variables = ap (λ (k : KernelView). k.variables) new_is; entries = ap (λ (k : KernelView). k.entries) new_is },
+      )
+        where
+          resolvent_here : IsResolvent derivation.clause other step_there.0.lit.variable resolvent
+          resolvent_here = subst (λ (n : ℕ). IsResolvent derivation.clause other n resolvent) pivot_is
+              (subst (λ (c : List Literal). IsResolvent c other pivot resolvent) (some_same staged derivation.clause kernel.staged staged_is derivation.staged) resolvent_is)
 
 -- ---- what is derived
 

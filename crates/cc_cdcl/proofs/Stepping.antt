@@ -58,7 +58,7 @@ given_by : (level : ℕ) (step : Step) (found : Option Step) → found ≡ Some 
 given_by level step found is low = ap (option_and_then (sign_to level)) is ∙ at
   where
     at : sign_to level step ≡ Some step.lit.positive
-    at = elim (leb_tells step.level level) [ | inl below ↦ rw (below.0) refl | inr above ↦ let high : level < step.level = above.1 in absurd (omega arith) ]
+    at = elim (leb_tells step.level level) [ inl below ↦ rw (below.0) refl | inr above ↦ let high : level < step.level = above.1 in absurd (omega arith) ]
 
 pub values_grow : (level : ℕ) (steps more : List Step) → GivesMore (values_to level steps) (values_to level (steps ++ more))
 values_grow level steps more variable sign is =
@@ -97,7 +97,7 @@ none_step steps variable none = by (step_of steps variable) none
 steps_above : (back level : ℕ) (steps : List Step) → IsRising level steps → back < level → steps_to back steps ≡ []
 steps_above back level [] rising high = refl
 steps_above back level (first ∷ steps) rising high = elim (leb_tells first.level back) [
-  | inl low ↦ let below : first.level ≤ back = low.1 in absurd (elim (rising.0) [ | inl same ↦ omega (arith, same) | inr next ↦ omega (arith, next) ])
+  | inl low ↦ let below : first.level ≤ back = low.1 in absurd (elim (rising.0) [ inl same ↦ omega (arith, same) | inr next ↦ omega (arith, next) ])
   | inr above ↦ rw (above.0) (steps_above back first.level steps rising.1 (above.1))
 ]
 
@@ -112,7 +112,7 @@ back_front back level (first ∷ steps) rising = elim (leb_tells first.level bac
 -- ---- how many there are
 
 unequal : (a b : ℕ) → a ≢ b → eqb a b ≡ false
-unequal a b apart = elim (eqb_tells a b) [ | inl same ↦ absurd (apart (same.1)) | inr other ↦ other.0 ]
+unequal a b apart = elim (eqb_tells a b) [ inl same ↦ absurd (apart (same.1)) | inr other ↦ other.0 ]
 
 abbrev place_of : Step → ℕ
 place_of step = step.lit.variable

@@ -25,7 +25,7 @@ returns-clause-learned c =
 pub returns-clause-back : goal.returns-clause-back
 returns-clause-back c =
     attached_back c.adding_keeps_settled.ensures c.args.trail.now c.back_to.new.self c.attach.new.self c.args.kernel.now c.finish.new.self
-    c.in_ok-derive.ensures.derived.derivation.clause c.highest_but-back.result 
+    c.in_ok-derive.ensures.derived.derivation.clause c.highest_but-back.result
     (back_low c.args.trail.now c.args.kernel.now c.derive.new.kernel c.finish.new.self c.level_count-level.ensures.steps c.requires.fits.variables c.derive.ensures.kept
     c.in_ok-derive.ensures.derived c.in_ok-number.ensures.added c.finish.ensures.reached c.requires.level c.current.result.now c.current.ensures.staged
     c.level_count-level.result c.highest_but-back.result c.level_count-level.ensures.level_count c.highest_but-back.ensures) c.back_to.ensures.back c.requires.all

@@ -30,11 +30,11 @@ invariant_of-self-in_err-number c = record {
   section = elim c.in_err-number.ensures.broken [
     | inl kept ↦ section_kept c.self.inside.sizes.items c.self.inside.kernel c.block.new.kernel c.self.invariant.section kept
     | inr adds ↦ section_blocked c.self.inside.sizes.items c.self.inside.kernel c.block.new.kernel c.deref-3.result.now c.self.invariant.section
-        adds.variables adds.entries 
+        adds.variables adds.entries
         (denial_is c.self.inside c.args.self.now c.self.view_is c.self.invariant c.requires.found.0 c.requires.found.1 c.deref-3.result.now
-    (c.deref-3.ensures.value ∙ c.in_ok-write_denial.ensures ∙ ap₂ (λ (ss rs : List ℕ). row_denial ss rs) c.deref.ensures.value c.deref-2.ensures.value)) 
+        (c.deref-3.ensures.value ∙ c.in_ok-write_denial.ensures ∙ ap₂ (λ (ss rs : List ℕ). row_denial ss rs) c.deref.ensures.value c.deref-2.ensures.value))
         (denial_is_over c.self.inside c.args.self.now c.self.view_is c.self.invariant c.requires.found.0 c.requires.found.1 c.deref-3.result.now
-    (c.deref-3.ensures.value ∙ c.in_ok-write_denial.ensures ∙ ap₂ (λ (ss rs : List ℕ). row_denial ss rs) c.deref.ensures.value c.deref-2.ensures.value))
+        (c.deref-3.ensures.value ∙ c.in_ok-write_denial.ensures ∙ ap₂ (λ (ss rs : List ℕ). row_denial ss rs) c.deref.ensures.value c.deref-2.ensures.value))
   ];
   room = c.self.invariant.room;
   stands = tt;
@@ -47,11 +47,10 @@ invariant_of-self-2 c =
     let before = (of_found c.self.inside c.args.self.now c.self.view_is c.self.invariant c.requires.found.0 c.requires.found.1).0 in
     record {
       section = section_blocked c.self.inside.sizes.items c.self.inside.kernel c.block.new.kernel c.deref-3.result.now c.self.invariant.section variables entries
-          
-        (denial_is c.self.inside c.args.self.now c.self.view_is c.self.invariant c.requires.found.0 c.requires.found.1 c.deref-3.result.now
-    (c.deref-3.ensures.value ∙ c.in_ok-write_denial.ensures ∙ ap₂ (λ (ss rs : List ℕ). row_denial ss rs) c.deref.ensures.value c.deref-2.ensures.value)) 
-        (denial_is_over c.self.inside c.args.self.now c.self.view_is c.self.invariant c.requires.found.0 c.requires.found.1 c.deref-3.result.now
-    (c.deref-3.ensures.value ∙ c.in_ok-write_denial.ensures ∙ ap₂ (λ (ss rs : List ℕ). row_denial ss rs) c.deref.ensures.value c.deref-2.ensures.value));
+          (denial_is c.self.inside c.args.self.now c.self.view_is c.self.invariant c.requires.found.0 c.requires.found.1 c.deref-3.result.now
+          (c.deref-3.ensures.value ∙ c.in_ok-write_denial.ensures ∙ ap₂ (λ (ss rs : List ℕ). row_denial ss rs) c.deref.ensures.value c.deref-2.ensures.value))
+          (denial_is_over c.self.inside c.args.self.now c.self.view_is c.self.invariant c.requires.found.0 c.requires.found.1 c.deref-3.result.now
+          (c.deref-3.ensures.value ∙ c.in_ok-write_denial.ensures ∙ ap₂ (λ (ss rs : List ℕ). row_denial ss rs) c.deref.ensures.value c.deref-2.ensures.value));
       room = c.self.invariant.room;
       stands = record {
         derived = before.derived ∙ sym (ap derived_count entries ∙ count_block c.self.inside.kernel.entries c.deref-3.result.now);
