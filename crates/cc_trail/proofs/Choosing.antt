@@ -1,6 +1,6 @@
 -- What a look-up of a literal tells, and which literal of a clause is best to watch.
-use Rattle.std.proofs.Common.{◌≡◌, ◌≢◌, ◌∙◌, ℕ, ◌+◌, ◌*◌, ◌<◌, ◌≤◌, inl, inr, eqb, leb, Bool, true, false, not, List, [], ◌∷◌, ◌++◌, length, get_or, take, Option, Some, None, refl, sym, subst, ap, arith}
-use Rattle.std.specs.Prelude.{◌⊎◌, All, Contains, if◌then◌else◌}
+use Rattle.std.proofs.Common.{◌≡◌, ◌≢◌, ◌∙◌, ℕ, ◌+◌, ◌<◌, ◌≤◌, inl, inr, eqb, leb, Bool, true, false, not, List, length, get_or, take, Some, None, refl, sym, subst, ap, arith}
+use Rattle.std.specs.Prelude.{All}
 use Rattle.std.proofs.lemmas.Bool.Decides.{eqb_tells, leb_tells}
 use Rattle.std.proofs.lemmas.List.Elements.{All-weaker, All-more}
 use Rattle.cc_defs.specs.Clauses.{Literal, opposite}
@@ -8,7 +8,7 @@ use Rattle.cc_trail.specs.declared.entries.Step.{Step}
 use Rattle.cc_trail.specs.Links.{IsIn, code_of}
 use Rattle.cc_trail.specs.Steps.{AreApart, AreSteps, step_of}
 use Rattle.cc_trail.specs.Watches.{IsTrueBy, IsFalseBy}
-use Rattle.cc_trail.specs.Visits.{IsFalseTo, IsFalseAt, IsFalseBut, IsBest, IsValue}
+use Rattle.cc_trail.specs.Visits.{IsFalseAt, IsFalseBut, IsBest, IsValue}
 use Rattle.cc_trail.proofs.Linked.{code_injective}
 use Rattle.cc_trail.proofs.StepLists.{levels_most, same_step, step_found, none_of}
 use Rattle.cc_trail.proofs.Growing.{not_opposite, same_or_opposite}

@@ -1,6 +1,6 @@
 -- Steps more, made by propagation: what is true, false, sound and watched stays so.
-use Rattle.std.proofs.Common.{◌≡◌, ◌≢◌, ◌∙◌, ℕ, ◌+◌, ◌<◌, ◌≤◌, zero, suc, inl, inr, Bool, true, false, not, List, [], ◌∷◌, ◌++◌, length, take, Option, Some, None, refl, sym, subst, ap, arith, length-append, append_assoc, append-nil}
-use Rattle.std.specs.Prelude.{◌⊎◌, All, Contains, slice_get}
+use Rattle.std.proofs.Common.{◌≡◌, ◌≢◌, ◌∙◌, ℕ, ◌≤◌, suc, inl, inr, Bool, true, false, not, List, [], ◌∷◌, ◌++◌, length, take, Some, None, refl, sym, subst, ap, arith, length-append, append_assoc, append-nil}
+use Rattle.std.specs.Prelude.{◌⊎◌, All, slice_get}
 use Rattle.std.specs.List.{AllByRecursion}
 use Rattle.std.proofs.lemmas.Bool.Decides.{eqb_tells}
 use Rattle.std.proofs.lemmas.List.Elements.{All-weaker}
@@ -10,9 +10,9 @@ use Rattle.cc_kernel.specs.Kernels.{KernelView, clauses_of}
 use Rattle.cc_trail.specs.declared.entries.Step.{Step}
 use Rattle.cc_trail.specs.Links.{IsIn, IsLiteralOver, LinksView, watched_at}
 use Rattle.cc_trail.specs.Steps.{EntriesView, step_of, values_to}
-use Rattle.cc_trail.specs.Watches.{IsTrueBy, IsFalseBy, IsWatched, HasReason, partner}
+use Rattle.cc_trail.specs.Watches.{IsTrueBy, IsWatched, HasReason, partner}
 use Rattle.cc_trail.specs.Trails.{IsPropagatedAt}
-use Rattle.cc_trail.specs.Visits.{IsFalseTo, IsFalseAt, IsFalseBut, AreSound, AreGrown, AreWatched, IsVisiting}
+use Rattle.cc_trail.specs.Visits.{IsFalseAt, IsFalseBut, AreSound, AreGrown, AreWatched, IsVisiting}
 use Rattle.cc_trail.proofs.StepLists.{in_left, in_right, steps_push}
 use Rattle.cc_trail.proofs.Values.{closed_same, to_front, only_high, reasoned_push, true_more, take_left}
 use Rattle.cc_trail.proofs.Adding.{get_append}

@@ -1,19 +1,19 @@
 -- What the holder of a trail sees after propagation, and that it is closed.
-use Rattle.std.proofs.Common.{◌≡◌, ◌≢◌, ◌∙◌, ℕ, ◌+◌, ◌-◌, ◌*◌, ◌/◌, ◌<◌, ◌≤◌, zero, suc, inl, inr, List, [], ◌∷◌, ◌++◌, length, get_or, take, Option, Some, None, option_map, refl, sym, subst, ap, arith}
+use Rattle.std.proofs.Common.{◌≡◌, ◌∙◌, ℕ, ◌-◌, ◌*◌, ◌<◌, ◌≤◌, suc, inl, inr, List, [], ◌∷◌, length, get_or, Option, Some, None, option_map, refl, sym, subst, ap, arith}
 use Rattle.std.specs.Prelude.{◌⊎◌, Contains, slice_get, IfNone}
 use Rattle.std.proofs.lemmas.List.{length-map, take_all}
 use Rattle.std.proofs.lemmas.Option.{slice_get-get_or}
-use Rattle.cc_defs.specs.Clauses.{Literal, opposite, IsNumbered}
+use Rattle.cc_defs.specs.Clauses.{Literal, IsNumbered}
 use Rattle.cc_defs.specs.Assignments.{IsClosed, IsTrueIn, HasNoValue}
 use Rattle.cc_kernel.specs.Kernels.{KernelView, Entry, clauses_of}
 use Rattle.cc_trail.specs.declared.entries.Step.{Step}
 use Rattle.cc_trail.specs.declared.trail.Trail.TheInside.{Inside}
 use Rattle.cc_trail.specs.Links.{IsIn, LinksView, watched_at}
 use Rattle.cc_trail.specs.Steps.{EntriesView, AreApart, step_of, sign_of, values_of}
-use Rattle.cc_trail.specs.Watches.{IsFalseBy, IsWatched, Watches, IsShort, partner}
-use Rattle.cc_trail.specs.Trails.{TrailView, IsTrail, Fits, IsSettled, IsPropagated, number_of}
+use Rattle.cc_trail.specs.Watches.{IsFalseBy, IsWatched, IsShort, partner}
+use Rattle.cc_trail.specs.Trails.{TrailView, Fits, IsSettled, number_of}
 use Rattle.cc_trail.specs.TrailParts.{view_of, AreParts}
-use Rattle.cc_trail.specs.Visits.{AreSound, AreGrown, AreWatched, IsMet}
+use Rattle.cc_trail.specs.Visits.{AreSound, AreWatched, IsMet}
 use Rattle.cc_trail.proofs.StepLists.{step_found, found_step}
 use Rattle.cc_trail.proofs.Attaching.{half_first, partner_first, partner_second}
 use Rattle.cc_trail.proofs.Adding.{Spares, not_failed, not_unit}

@@ -1,15 +1,15 @@
 -- What steps make true and false: at the levels below those of later steps it stays.
-use Rattle.std.proofs.Common.{◌≡◌, ◌≢◌, ◌∙◌, ℕ, ◌+◌, ◌-◌, ◌<◌, ◌≤◌, zero, suc, inl, inr, eqb, leb, Bool, true, false, not, List, [], ◌∷◌, ◌++◌, length, take, min, Option, Some, None, refl, sym, subst, ap, arith, length-append, append_assoc, append-nil}
-use Rattle.std.specs.Prelude.{◌⊎◌, Contains, if◌then◌else◌}
+use Rattle.std.proofs.Common.{◌≡◌, ◌∙◌, ℕ, ◌+◌, ◌<◌, ◌≤◌, zero, suc, inl, inr, leb, true, false, List, [], ◌∷◌, ◌++◌, length, take, min, Some, None, refl, sym, subst, ap, arith, append_assoc, append-nil}
+use Rattle.std.specs.Prelude.{◌⊎◌, if◌then◌else◌}
 use Rattle.std.proofs.lemmas.Bool.Decides.{eqb_tells, leb_tells}
-use Rattle.cc_defs.specs.Clauses.{Literal, opposite}
-use Rattle.cc_defs.specs.Assignments.{Values, IsClosed, IsFailed, IsUnit, IsTrueIn, IsFalseIn, HasNoValue}
+use Rattle.cc_defs.specs.Clauses.{Literal}
+use Rattle.cc_defs.specs.Assignments.{Values, IsClosed}
 use Rattle.cc_trail.specs.declared.entries.Step.{Step}
 use Rattle.cc_trail.specs.Links.{IsIn, watched_at}
-use Rattle.cc_trail.specs.Steps.{step_of, values_of, values_to, steps_to, level_after, AreSteps, IsRising}
-use Rattle.cc_trail.specs.Watches.{IsTrueBy, IsFalseBy, IsWatched, HasReason, AreReasonedAfter, partner}
+use Rattle.cc_trail.specs.Steps.{values_of, values_to, steps_to, AreSteps}
+use Rattle.cc_trail.specs.Watches.{IsTrueBy, HasReason, AreReasonedAfter, partner}
 use Rattle.cc_trail.specs.Trails.{TrailView, FitsClauses, IsSettledOver, decided, back_at}
-use Rattle.cc_trail.proofs.StepLists.{in_left, in_right, in_cases, in_take, levels_most, step_found}
+use Rattle.cc_trail.proofs.StepLists.{in_left, in_cases, in_take, levels_most}
 
 -- ---- closed sets that give the same values
 

@@ -1,20 +1,20 @@
 -- A visit of a node: it is kept, or moved to a literal that may be watched in place of the false one.
-use Rattle.std.proofs.Common.{◌≡◌, ◌≢◌, ◌∙◌, ℕ, ◌+◌, ◌-◌, ◌*◌, ◌/◌, ◌%◌, ◌<◌, ◌≤◌, zero, suc, inl, inr, leb, Bool, true, false, not, List, [], ◌∷◌, ◌++◌, length, get_or, set, take, drop, Option, Some, None, option_map, refl, sym, subst, ap, arith, length-append}
+use Rattle.std.proofs.Common.{◌≡◌, ◌≢◌, ◌∙◌, ℕ, ◌-◌, ◌/◌, ◌<◌, ◌≤◌, zero, suc, inl, inr, leb, Bool, true, false, List, [], ◌∷◌, length, get_or, set, take, drop, Option, Some, None, option_map, refl, sym, subst, ap, arith}
 use Rattle.std.specs.Prelude.{◌⊎◌, All, Contains, slice_get, if◌then◌else◌, option_and_then}
 use Rattle.std.proofs.lemmas.Bool.Decides.{eqb_tells, leb_tells, nat_tests}
 use Rattle.std.proofs.lemmas.List.{length-set, length-map, get_or-set_other, get_or-set_same}
 use Rattle.std.proofs.lemmas.List.Elements.{All-contains}
 use Rattle.std.proofs.lemmas.Option.{slice_get_within}
 use Rattle.cc_defs.specs.Clauses.{Literal, opposite, IsNumbered}
-use Rattle.cc_defs.specs.Assignments.{IsClosed, IsFailed, IsFalseIn}
+use Rattle.cc_defs.specs.Assignments.{IsClosed, IsFalseIn}
 use Rattle.cc_kernel.specs.Kernels.{KernelView, Entry, clauses_of, IsThere}
 use Rattle.cc_trail.specs.declared.entries.Step.{Step}
 use Rattle.cc_trail.specs.Links.{IsIn, IsLiteralOver, LinksView, BeginsWith, no_literal, watched_at}
 use Rattle.cc_trail.specs.Steps.{EntriesView, AreApart, AreSteps, step_of, sign_of, sign_to, values_of, values_to}
 use Rattle.cc_trail.specs.Watches.{IsTrueBy, IsFalseBy, IsWatched, Watches, HasReason, partner}
 use Rattle.cc_trail.specs.Trails.{IsFailedClause, number_of}
-use Rattle.cc_trail.specs.Visits.{IsFalseTo, IsFalseAt, IsFalseBut, AreSound, AreGrown, AreWatched, IsVisiting}
-use Rattle.cc_trail.proofs.StepLists.{in_take, levels_most, same_step, step_found, found_step}
+use Rattle.cc_trail.specs.Visits.{IsFalseTo, IsFalseAt, IsFalseBut, AreSound, AreGrown, IsVisiting}
+use Rattle.cc_trail.proofs.StepLists.{in_take, same_step, step_found, found_step}
 use Rattle.cc_trail.proofs.Attaching.{partner_below, half_below, take_fewer_in}
 use Rattle.cc_trail.proofs.Growing.{opposite_twice, not_opposite, same_or_opposite, visiting_grown, grown_but}
 

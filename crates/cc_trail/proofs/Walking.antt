@@ -1,15 +1,14 @@
 -- Walks: over the nodes that were taken out, over the steps, and over the clauses of fewer than two literals.
-use Rattle.std.proofs.Common.{◌≡◌, ◌≢◌, ◌∙◌, ℕ, ◌+◌, ◌-◌, ◌*◌, ◌<◌, ◌≤◌, zero, suc, inl, inr, List, [], ◌∷◌, ◌++◌, length, get_or, set, take, drop, Option, Some, None, refl, sym, subst, ap, arith}
+use Rattle.std.proofs.Common.{◌≡◌, ◌∙◌, ℕ, ◌+◌, ◌<◌, zero, suc, inl, inr, List, [], ◌∷◌, length, set, take, drop, Some, refl, sym, subst, ap, arith}
 use Rattle.std.specs.Prelude.{◌⊎◌, Contains, slice_get}
 use Rattle.std.proofs.lemmas.List.{set-get_or}
-use Rattle.std.proofs.lemmas.Option.{slice_get_within, slice_get-get_or}
+use Rattle.std.proofs.lemmas.Option.{slice_get_within}
 use Rattle.cc_defs.specs.Clauses.{Literal, opposite, IsNumbered}
-use Rattle.cc_defs.specs.Assignments.{IsFailed}
 use Rattle.cc_kernel.specs.Kernels.{KernelView, clauses_of}
 use Rattle.cc_trail.specs.declared.entries.Step.{Step}
 use Rattle.cc_trail.specs.Links.{IsIn, IsLiteralOver, LinksView, AreTaken, BeginsWith, no_literal, watched_at}
 use Rattle.cc_trail.specs.Steps.{EntriesView}
-use Rattle.cc_trail.specs.Watches.{IsTrueBy, IsFalseBy, IsWatched, HasReason, IsShort}
+use Rattle.cc_trail.specs.Watches.{IsFalseBy, IsWatched, HasReason, IsShort}
 use Rattle.cc_trail.specs.Trails.{IsFailedClause}
 use Rattle.cc_trail.specs.Visits.{AreSound, AreGrown, AreWatched, IsVisiting, IsMet}
 use Rattle.cc_trail.proofs.StepLists.{in_take}

@@ -1,5 +1,5 @@
 -- What a visit of watches keeps, and what it looks for.
-use Rattle.std.specs.Prelude.{◌≡◌, ℕ, ◌*◌, ◌<◌, ◌≤◌, ◌⊎◌, suc, Bool, true, false, List, [], ◌∷◌, ◌++◌, length, take, slice_get, All, Contains, Some, None}
+use Rattle.std.specs.Prelude.{◌≡◌, ℕ, ◌*◌, ◌<◌, ◌≤◌, ◌⊎◌, suc, Bool, true, false, List, ◌++◌, length, take, slice_get, All, Contains, Some}
 use Rattle.std.specs.List.{AllByRecursion}
 use Rattle.cc_defs.specs.Clauses.{Literal, opposite, IsNumbered}
 use Rattle.cc_kernel.specs.Kernels.{KernelView, clauses_of}

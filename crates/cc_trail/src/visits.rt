@@ -1,10 +1,9 @@
 //! Visits of the nodes that watch a literal that became false.
-ghost use Rattle.std.specs.Prelude.{◌≡◌, ◌≢◌, ℕ, ◌+◌, ◌*◌, ◌/◌, ◌<◌, ◌≤◌, true, false, IsTrue, [], ◌∷◌, length, take, drop, get_or, All, Contains, IfSome, IfNone, slice_get, Some, None};
-ghost use Rattle.cc_defs.specs.Clauses.{Literal, opposite, IsNumbered};
-ghost use Rattle.cc_kernel.specs.Kernels.{KernelView, clauses_of, IsThere};
+ghost use Rattle.std.specs.Prelude.{◌≡◌, ◌≢◌, ℕ, ◌+◌, ◌<◌, ◌≤◌, true, false, IsTrue, [], length, take, drop, All, Contains, IfSome, IfNone, Some, None};
+ghost use Rattle.cc_kernel.specs.Kernels.{KernelView, clauses_of};
 ghost use Rattle.cc_trail.specs.Links.{IsIn, BeginsWith, IsLiteralOver, watched_at};
 ghost use Rattle.cc_trail.specs.Watches.{IsTrueBy, HasReason, partner};
-ghost use Rattle.cc_trail.specs.Trails.{IsFailedClause, number_of};
+ghost use Rattle.cc_trail.specs.Trails.{IsFailedClause};
 ghost use Rattle.cc_trail.specs.Visits.{IsFalseAt, IsBest, IsValue, AreSound, AreGrown, AreWatched, IsVisiting};
 
 use crate::entries::{Entries, Step};
@@ -38,7 +37,7 @@ fn is_true_to(entries: &Entries, lit: Lit, level: u32) -> bool
     }
 }
 
-// Makes a literal true by the clause of a number, if its variable has no value. False where the literal is false.
+/// Makes a literal true by the clause of a number, if its variable has no value. False where the literal is false.
 pub fn make_true(entries: &mut Entries, lit: Lit, number: u32) -> bool
     requires over { IsLiteralOver entries.old.variables lit }
     ensures grown { AreGrown entries.old entries.new }

@@ -1,8 +1,8 @@
-use Rattle.std.proofs.Common.{◌≡◌, ◌∙◌, ℕ, ◌+◌, suc, List, length, get_or, take, refl, sym, subst, ap, arith}
+use Rattle.std.proofs.Common.{suc, get_or}
 use Rattle.std.proofs.lemmas.Option.{slice_get-get_or}
 use Rattle.cc_kernel.specs.Kernels.{clauses_of}
 use Rattle.cc_trail.proofs.StepLists.{in_take}
-use Rattle.cc_trail.proofs.Growing.{grown_none, grown_then}
+use Rattle.cc_trail.proofs.Growing.{grown_then}
 use Rattle.cc_trail.proofs.Visiting.{in_get}
 use Rattle.cc_trail.proofs.Walking.{met_more}
 use Rattle.cc_trail.proofs.propagation.make_shorts.Goals as goal

@@ -1,4 +1,4 @@
-use Rattle.std.proofs.Common.{◌≡◌, ◌-◌, ℕ, [], List}
+use Rattle.std.proofs.Common.{◌≡◌, ◌-◌, []}
 use Rattle.cc_trail.specs.Visits.{AreSound, AreGrown, AreWatched}
 use Rattle.cc_trail.proofs.propagation.visit_steps.Given as goal
 

@@ -1,4 +1,4 @@
-use Rattle.std.proofs.Common.{◌≡◌, ℕ, ◌+◌, ◌<◌, ◌≤◌, inl, inr, refl, arith}
+use Rattle.std.proofs.Common.{inl, inr, refl, arith}
 use Rattle.cc_trail.proofs.Choosing.{codes_same, is_false, true_not_false, open_not_false, best_more}
 use Rattle.cc_trail.proofs.visits.better.Goals as goal
 

@@ -1,5 +1,3 @@
-use Rattle.std.proofs.Common.{◌≡◌, ◌≤◌}
-use Rattle.std.proofs.lemmas.Bool.Decides.{leb_tells}
 use Rattle.cc_trail.proofs.Choosing.{is_true, low_enough}
 use Rattle.cc_trail.proofs.visits.is_true_to.Goals as goal
 

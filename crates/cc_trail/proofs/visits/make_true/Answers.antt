@@ -1,5 +1,4 @@
-use Rattle.std.proofs.Common.{◌≡◌, ◌∙◌, ap, sym, subst, refl, inl, inr, arith, ◌≤◌}
-use Rattle.cc_trail.specs.declared.entries.Step.{Step}
+use Rattle.std.proofs.Common.{sym, subst}
 use Rattle.cc_trail.specs.Steps.{EntriesView}
 use Rattle.cc_trail.specs.Watches.{IsTrueBy}
 use Rattle.cc_trail.specs.Visits.{AreSound}

@@ -1,6 +1,6 @@
-use Rattle.std.proofs.Common.{rules, ◌≡◌, ◌∙◌, ap, sym, subst}
+use Rattle.std.proofs.Common.{sym, subst}
 use Rattle.cc_trail.specs.Links.{LinksView}
-use Rattle.cc_trail.proofs.Walking.{IsPutting, putting_on, put_all, fewer_taken}
+use Rattle.cc_trail.proofs.Walking.{IsPutting, putting_on}
 use Rattle.cc_trail.proofs.visits.put_back.Goals as goal
 
 pub loop-node-preserved : goal.loop-node-preserved

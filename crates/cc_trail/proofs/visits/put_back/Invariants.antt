@@ -1,4 +1,4 @@
-use Rattle.std.proofs.Common.{ℕ, length}
+use Rattle.std.proofs.Common.{length}
 use Rattle.cc_trail.proofs.Walking.{IsPutting}
 use Rattle.cc_trail.proofs.visits.put_back.Given as goal
 

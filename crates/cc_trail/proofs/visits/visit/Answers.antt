@@ -1,16 +1,12 @@
-use Rattle.std.proofs.Common.{◌≡◌, ◌∙◌, ℕ, ◌<◌, ◌≤◌, ◌*◌, ◌/◌, List, length, get_or, refl, sym, subst, ap, arith}
-use Rattle.std.specs.Prelude.{All, Contains}
+use Rattle.std.proofs.Common.{◌∙◌, ℕ, ◌<◌, length, sym, subst, ap}
 use Rattle.std.proofs.lemmas.List.Elements.{All-contains}
-use Rattle.cc_defs.specs.Clauses.{Literal, opposite}
-use Rattle.cc_kernel.specs.Kernels.{clauses_of}
+use Rattle.cc_defs.specs.Clauses.{Literal}
 use Rattle.cc_trail.specs.Links.{IsLiteralOver, watched_at}
-use Rattle.cc_trail.specs.Watches.{partner, HasReason}
-use Rattle.cc_trail.specs.Trails.{number_of}
-use Rattle.cc_trail.specs.Visits.{IsFalseAt, IsFalseBut, AreSound, IsVisiting}
+use Rattle.cc_trail.specs.Visits.{IsFalseAt}
 use Rattle.cc_trail.proofs.Attaching.{all_over}
 use Rattle.cc_trail.proofs.Growing.{grown_at}
 use Rattle.cc_trail.proofs.Choosing.{not_true, not_false, best_open, best_false, value_true, value_false}
-use Rattle.cc_trail.proofs.Visiting.{low, partner_low, half_low, there, fallen_over, fallen_at, other_in, visiting_then, others_then, failed_here, kept_then, open_then, fallen_then}
+use Rattle.cc_trail.proofs.Visiting.{low, partner_low, there, fallen_over, fallen_at, visiting_then, others_then, failed_here, kept_then, open_then, fallen_then}
 use Rattle.cc_trail.proofs.visits.visit.Goals as goal
 
 pub watched-other-requires : goal.watched-other-requires

@@ -1,8 +1,8 @@
-use Rattle.std.proofs.Common.{◌≡◌, ◌∙◌, ℕ, ◌+◌, List, length, refl, sym, subst, ap, arith}
+use Rattle.std.proofs.Common.{sym, subst}
 use Rattle.cc_defs.specs.Clauses.{Literal}
 use Rattle.cc_trail.specs.Links.{IsLiteralOver, AreTaken}
-use Rattle.cc_trail.proofs.Growing.{grown_none, grown_then}
-use Rattle.cc_trail.proofs.Walking.{fallen_over, visit_begins, visit_ends, fewer_taken}
+use Rattle.cc_trail.proofs.Growing.{grown_none}
+use Rattle.cc_trail.proofs.Walking.{fallen_over, visit_begins}
 use Rattle.cc_trail.proofs.visits.visit_step.Goals as goal
 
 pub take_all-requires-clause-over : goal.take_all-requires-clause-over

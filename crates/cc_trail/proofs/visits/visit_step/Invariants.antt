@@ -1,4 +1,4 @@
-use Rattle.std.proofs.Common.{ℕ, length}
+use Rattle.std.proofs.Common.{length}
 use Rattle.cc_trail.specs.Visits.{AreGrown, IsVisiting}
 use Rattle.cc_trail.proofs.visits.visit_step.Given as goal
 

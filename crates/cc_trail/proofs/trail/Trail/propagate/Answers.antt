@@ -1,7 +1,7 @@
-use Rattle.std.proofs.Common.{◌≡◌, ℕ, List, sym, subst}
+use Rattle.std.proofs.Common.{ℕ, List, sym, subst}
 use Rattle.cc_kernel.specs.Kernels.{clauses_of}
 use Rattle.cc_trail.specs.Links.{IsIn}
-use Rattle.cc_trail.specs.Visits.{AreWatched, IsMet}
+use Rattle.cc_trail.specs.Visits.{AreWatched}
 use Rattle.cc_trail.proofs.Growing.{watched_grown}
 use Rattle.cc_trail.proofs.Walking.{met_grown}
 use Rattle.cc_trail.proofs.Propagated.{watched_here, fits_then, all_closed}
