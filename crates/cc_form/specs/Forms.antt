@@ -12,18 +12,16 @@ use Rattle.cc_defs.specs.Refusals.{past}
 use Rattle.cc_defs.specs.Resolved.{Query}
 use Rattle.cc_defs.specs.Runs.{without_claim}
 use Rattle.cc_defs.specs.Sections.{Axioms}
+use Rattle.cc_defs.specs.Rows.{IsRow}
 use Rattle.cc_clauses.specs.RowsOf.{HasRow, IsRowOf, MeetsAll}
-
--- how many literals clauses have together
-abbrev pub literal_count : List (List Literal) → ℕ
-literal_count clauses = sum_by (λ clause. length clause) clauses     -- use std's sum_by or a recursion, whichever proves better
+use Rattle.cc_form.specs.Store.{literal_count_of}
 
 -- the first limit that a clause list passes
 abbrev pub form_refusal : ClauseList → Option Refusal
 form_refusal list =
     if nat_lt 4000000 list.variables then Some (past limits.Variables)
     else (if nat_lt 8000000 (length list.clauses) then Some (past limits.AxiomClauses)
-    else (if nat_lt 40000000 (literal_count list.clauses) then Some (past limits.AxiomLiterals) else None))
+    else (if nat_lt 40000000 (literal_count_of list.clauses) then Some (past limits.AxiomLiterals) else None))
 
 -- the axioms of a section: those of a query at a horizon, with its claim denied or left out, after a key where there is one
 abbrev pub form_of : Description → Query → ℕ → (with_claim : Bool) → Option Key → Axioms

@@ -1,1 +1,4 @@
 pub mod Forms
+pub mod Machine
+pub mod Places
+pub mod Store

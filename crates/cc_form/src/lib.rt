@@ -1,0 +1,7 @@
+//! The clause list of a section: completion and query as clauses, each term with a variable of its own.
+#![tactic(auto)]
+
+mod builder;
+mod defining;
+mod places;
+mod store;
