@@ -1,3 +1,6 @@
+mod Definitions
 mod Keeping
 mod Ordered
+mod Positions
+mod Running
 mod Written

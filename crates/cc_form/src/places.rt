@@ -91,7 +91,7 @@ pub(crate) fn sizes_of(alloc: Global, sig: &Sig, horizon: u32) -> Result<Vec<u32
 {
     let each = constant_sizes(alloc, sig)?;
     let mut sizes = Vec::new(alloc);
-    for _step in 0..horizon {
+    for step in 0..horizon {
         sizes.extend_from_slice(&each)?;
     }
     add_fluents(sig, &each, &mut sizes)?;
