@@ -1,5 +1,7 @@
+mod Choices
 mod Definitions
 mod Keeping
+mod Meaning
 mod Ordered
 mod Positions
 mod Running

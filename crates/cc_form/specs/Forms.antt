@@ -1,11 +1,11 @@
 -- What the clause list of a section tells: its rows are the histories.
-use Rattle.std.specs.Prelude.{◌≡◌, ℕ, ◌<◌, ◌≤◌, ◌↔◌, Bool, true, false, List, length, Option, Some, None, nat_lt, if◌then◌else◌}
+use Rattle.std.specs.Prelude.{◌≡◌, ℕ, ◌<◌, ◌≤◌, ◌+◌, ◌↔◌, All, Contains, sum, Bool, true, false, List, length, Option, Some, None, nat_lt, if◌then◌else◌}
 use Rattle.std.specs.Option.{option_map}
 use Rattle.cc_defs.specs.declared.lists.Key.{Key}
 use Rattle.cc_defs.specs.declared.refusal.LimitAt.TheVariants as limits
 use Rattle.cc_defs.specs.declared.refusal.Refusal.{Refusal}
-use Rattle.cc_defs.specs.ClauseLists.{ClauseList, clause_list}
-use Rattle.cc_defs.specs.Clauses.{Literal}
+use Rattle.cc_defs.specs.ClauseLists.{ClauseList, clause_list, positions_from}
+use Rattle.cc_defs.specs.Clauses.{Literal, IsClause, IsOver}
 use Rattle.cc_defs.specs.Description.{Description, sizes_at}
 use Rattle.cc_defs.specs.Histories.{IsHistory}
 use Rattle.cc_defs.specs.Refusals.{past}
@@ -41,3 +41,12 @@ pub record TellsHistories (d : Description) (q : Query) (horizon : ℕ) (key : O
   pub once : (row : List ℕ) (one other : ℕ → Bool) → HasRow form.sizes one row → HasRow form.sizes other row →
       MeetsAll one form.clauses → MeetsAll other form.clauses → (variable : ℕ) → 0 < variable → variable ≤ form.variables → one variable ≡ other variable
   pub each : (assignment : ℕ → Bool) → MeetsAll assignment form.clauses → (row : List ℕ) × HasRow form.sizes assignment row × IsRow form.sizes row
+
+-- what is always true of axioms that were made within their limits
+pub record IsForm (form : Axioms) : Type 0 where
+  pub clauses : All IsClause form.clauses
+  pub over : All (IsOver form.variables) form.clauses
+  pub count : length form.clauses ≤ 8000000
+  pub variables : form.variables ≤ 4000000
+  pub least : sum form.sizes + 1 ≤ form.variables
+  pub choices : (clause : List Literal) → Contains (positions_from 1 form.sizes) clause → Contains form.clauses clause

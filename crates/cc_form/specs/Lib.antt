@@ -1,4 +1,7 @@
 pub mod Forms
+pub mod Laws
 pub mod Machine
+pub mod Making
 pub mod Places
+pub mod Queries
 pub mod Store

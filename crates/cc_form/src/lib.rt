@@ -3,5 +3,12 @@
 
 mod builder;
 mod defining;
+mod form;
+mod groups;
+pub mod laws;
 mod places;
+mod rules;
+mod section;
 mod store;
+
+pub use form::Form;

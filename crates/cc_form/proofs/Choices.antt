@@ -1,0 +1,95 @@
+-- The clauses of positions, one behind the other.
+use Rattle.std.proofs.Common.{◌≡◌, ◌∙◌, ℕ, zero, suc, ◌+◌, ◌-◌, ◌<◌, ◌≤◌, List, [], ◌∷◌, ◌++◌, length, map, drop, get_or, sum, Result, Ok, Err, OnOk, refl, sym, ap, subst, arith, append_assoc, append-nil}
+use Rattle.std.proofs.lemmas.List.Sums.{sum_by-cons}
+use Rattle.cc_defs.specs.ClauseForms.{positive}
+use Rattle.cc_defs.specs.ClauseLists.{exactly_one, pairs_denied, position_variables, positions_from}
+use Rattle.cc_defs.specs.Clauses.{Literal, opposite}
+use Rattle.cc_defs.specs.Rules.{upto}
+use Rattle.cc_form.specs.declared.store.Kept.{Kept}
+use Rattle.cc_form.specs.Store.{Gives}
+use Rattle.cc_form.proofs.Keeping.{gives_full, gives_more, gives_none}
+
+-- some clauses are there, and with the rest they are all
+pub record Done (old now : Kept) (rest whole : List (List Literal)) : Type 0 where
+  pub part : List (List Literal)
+  pub gives : Gives old now part
+  pub joined : part ++ rest ≡ whole
+
+pub done_none : (kept : Kept) (whole : List (List Literal)) → Done kept kept whole whole
+done_none kept whole = record { part = []; gives = gives_none kept; joined = refl }
+
+pub done_more : (old now new : Kept) (before part rest whole : List (List Literal)) → before ≡ part ++ rest → Done old now before whole → Gives now new part → Done old new rest whole
+done_more old now new before part rest whole e done gives = record {
+  part = done.part ++ part;
+  gives = gives_more old now new done.part part done.gives gives;
+  joined = append_assoc done.part part rest ∙ ap (λ (l : List (List Literal)). done.part ++ l) (sym e) ∙ done.joined;
+}
+
+pub done_all : (old now : Kept) (rest whole : List (List Literal)) → rest ≡ [] → Done old now rest whole → Gives old now whole
+done_all old now rest whole none done = subst (Gives old now) (sym (append-nil done.part) ∙ ap (λ (l : List (List Literal)). done.part ++ l) (sym none) ∙ done.joined) done.gives
+
+pub done_full : (old now : Kept) (rest whole : List (List Literal)) → 8000000 < now.count → Done old now rest whole → Gives old now whole
+done_full old now rest whole full done = subst (Gives old now) done.joined (gives_more old now now done.part rest done.gives (gives_full now rest full))
+
+-- ---- the variables of a position
+
+variables_front : (first n : ℕ) → position_variables first (suc n) ≡ positive first ∷ position_variables (first + 1) n
+variables_front first zero = ap (λ (v : ℕ). positive v ∷ []) (let e : first + 0 ≡ first = omega arith in e)
+variables_front first (suc n) =
+    map_last (λ value. positive (first + value)) (upto (suc n)) (suc n)
+    ∙ ap (λ (l : List Literal). l ++ positive (first + suc n) ∷ []) (variables_front first n)
+    ∙ ap (λ (v : ℕ). positive first ∷ (position_variables (first + 1) n ++ positive v ∷ [])) (let e : first + suc n ≡ first + 1 + n = omega arith in e)
+    ∙ ap (λ (l : List Literal). positive first ∷ l) (sym (map_last (λ value. positive (first + 1 + value)) (upto n) n))
+  where
+    map_last : (f : ℕ → Literal) (xs : List ℕ) (x : ℕ) → map f (xs ++ x ∷ []) ≡ map f xs ++ f x ∷ []
+    map_last f [] x = refl
+    map_last f (y ∷ xs) x = ap (λ l. f y ∷ l) (map_last f xs x)
+
+pub pairs_front : (low end : ℕ) → low < end → pairs_denied (position_variables low (end - low))
+    ≡ map (λ v. opposite (positive low) ∷ opposite v ∷ []) (position_variables (low + 1) (end - (low + 1))) ++ pairs_denied (position_variables (low + 1) (end - (low + 1)))
+pairs_front low end less =
+    ap (λ (n : ℕ). pairs_denied (position_variables low n)) (let e : end - low ≡ suc (end - (low + 1)) = omega arith in e)
+    ∙ ap pairs_denied (variables_front low (end - (low + 1)))
+
+pub no_pairs : (low end : ℕ) → end ≤ low → pairs_denied (position_variables low (end - low)) ≡ []
+no_pairs low end most = ap (λ (n : ℕ). pairs_denied (position_variables low n)) (let e : end - low ≡ 0 = omega arith in e)
+
+mapped_last : {A B : Type 0} (f : A → B) (xs : List A) (x : A) → map f (xs ++ x ∷ []) ≡ map f xs ++ f x ∷ []
+mapped_last f [] x = refl
+mapped_last f (y ∷ xs) x = ap (λ l. f y ∷ l) (mapped_last f xs x)
+
+pub pair_more : (old now new : Kept) (low high : ℕ) (f : Literal → List Literal) (clause : List Literal) → low + 1 ≤ high → clause ≡ f (positive high) →
+    Gives old now (map f (position_variables (low + 1) (high - (low + 1)))) → Gives now new (clause ∷ []) → Gives old new (map f (position_variables (low + 1) (high + 1 - (low + 1))))
+pair_more old now new low high f clause least same one other =
+    let n = high - (low + 1) in
+    subst (Gives old new)
+    (ap (λ (c : List Literal). map f (position_variables (low + 1) n) ++ c ∷ []) (same ∙ ap (λ (v : ℕ). f (positive v)) (let e : high ≡ low + 1 + n = omega arith in e))
+    ∙ sym (mapped_last f (position_variables (low + 1) n) (positive (low + 1 + n)))
+    ∙ ap (map f) (sym (mapped_last (λ value. positive (low + 1 + value)) (upto n) n))
+    ∙ ap (λ (k : ℕ). map f (position_variables (low + 1) k)) (let e : suc n ≡ high + 1 - (low + 1) = omega arith in e))
+    (gives_more old now new (map f (position_variables (low + 1) n)) (clause ∷ []) one other)
+
+pub exactly : {T E : Type 0} (result : Result T E) (old between new : Kept) (first size : ℕ) → Gives old between (position_variables first size ∷ []) →
+    OnOk result (Gives between new (pairs_denied (position_variables first (first + size - first)))) → OnOk result (Gives old new (exactly_one (position_variables first size)))
+exactly (Err e) old between new first size one other = tt
+exactly (Ok x) old between new first size one other =
+    gives_more old between new (position_variables first size ∷ []) (pairs_denied (position_variables first size)) one
+    (subst (λ (n : ℕ). Gives between new (pairs_denied (position_variables first n))) (let e : first + size - first ≡ size = omega arith in e) other)
+
+pub positions_front : (first : ℕ) (sizes : List ℕ) (i : ℕ) → i < length sizes →
+    positions_from first (drop i sizes) ≡ exactly_one (position_variables first (get_or sizes i 0)) ++ positions_from (first + get_or sizes i 0) (drop (i + 1) sizes)
+positions_front first [] i less = absurd (omega arith)
+positions_front first (s ∷ sizes) zero less = refl
+positions_front first (s ∷ sizes) (suc i) less = positions_front first sizes i (omega arith)
+    ∙ ap (λ (n : ℕ). exactly_one (position_variables first (get_or sizes i 0)) ++ positions_from (first + get_or sizes i 0) (drop n (s ∷ sizes))) (let e : suc (i + 1) ≡ suc i + 1 = omega arith in e)
+
+pub no_positions : (first : ℕ) (sizes : List ℕ) (i : ℕ) → length sizes ≤ i → positions_from first (drop i sizes) ≡ []
+no_positions first [] zero most = refl
+no_positions first [] (suc i) most = refl
+no_positions first (s ∷ sizes) zero most = absurd (omega arith)
+no_positions first (s ∷ sizes) (suc i) most = no_positions first sizes i (omega arith)
+
+pub sum_front : (sizes : List ℕ) (i : ℕ) → i < length sizes → sum (drop i sizes) ≡ get_or sizes i 0 + sum (drop (i + 1) sizes)
+sum_front [] i less = absurd (omega arith)
+sum_front (s ∷ sizes) zero less = sum_by-cons (λ (n : ℕ). n) s sizes
+sum_front (s ∷ sizes) (suc i) less = sum_front sizes i (omega arith) ∙ ap (λ (n : ℕ). get_or sizes i 0 + sum (drop n (s ∷ sizes))) (let e : suc (i + 1) ≡ suc i + 1 = omega arith in e)

@@ -1,0 +1,111 @@
+//! The clause list of a section.
+ghost use Rattle.std.specs.Prelude.{◌≡◌, ℕ, ◌+◌, ◌≤◌, ◌<◌, ◌↔◌, List, Bool, Some, None, IfOk, IfErr, IfSome, OnOk, IsTrue, All, Contains, length, slice_get, sum};
+ghost use Rattle.std.specs.Option.{option_map};
+ghost use Rattle.cc_arena.specs.GroundViews.{plain_ground_query};
+ghost use Rattle.cc_defs.specs.ClauseForms.{atom_variable, positive};
+ghost use Rattle.cc_defs.specs.ClauseLists.{clause_list, positions_from};
+ghost use Rattle.cc_defs.specs.Clauses.{Literal, IsClause, IsNumbered, IsOver};
+ghost use Rattle.cc_defs.specs.Description.{Description};
+ghost use Rattle.cc_defs.specs.GroundLaws.{StandsForQuery};
+ghost use Rattle.cc_defs.specs.Refusals.{IsRefusedBy};
+ghost use Rattle.cc_defs.specs.Resolved.{Query};
+ghost use Rattle.cc_defs.specs.Rows.{IsRow};
+ghost use Rattle.cc_theory.specs.Theories.{IsTheoryOf};
+ghost use Rattle.cc_form.specs.Forms.{TellsHistories, asked, form_of, form_refusal};
+ghost use Rattle.cc_form.specs.Queries.{IsKeyAt, IsQueryAt};
+
+use crate::builder::Builder;
+use crate::groups::{complete, deny_falsity, positions};
+use crate::places::{Places, past, sizes_of};
+use crate::rules::bodies;
+use crate::section::{assert_all, deny, follow};
+use cc_arena::GroundQuery;
+use cc_clauses::ClauseArena;
+use cc_defs::{Fault, Key, LimitAt, Lit};
+use cc_theory::Theory;
+use std::alloc::Global;
+use std::marker::Model;
+
+/// The axioms of a section: clauses over the atoms of the positions of a horizon, over a variable that is true, and over one
+/// for each conjunction, disjunction and equivalence. The variables of the atoms come first, from 1: for each position in
+/// order one for each of its values in order.
+#[derive(Drop)]
+pub struct Form {
+    places: Places,
+    variables: u32,
+    clauses: ClauseArena,
+}
+
+impl Model for Form {
+    ghost use Rattle.cc_defs.specs.Sections.{Axioms};
+    ghost use Rattle.cc_form.specs.Forms.{IsForm};
+
+    ghost Value = { Axioms };
+
+    ghost view = { λ form. record { sizes = form.places; variables = form.variables; clauses = form.clauses } };
+
+    ghost invariant = { λ form. IsForm (record { sizes = form.places; variables = form.variables; clauses = form.clauses }) };
+}
+
+impl Form {
+    /// How many clauses there are.
+    pub fn count(&self) -> u32
+        ensures value { result ≡ length self.now.clauses }
+        ensures most { result ≤ 8000000 }
+    {
+        self.clauses.count() as u32
+    }
+
+    /// How many variables there are: those of the atoms, the one that is true, and those of the terms behind it.
+    pub fn variables(&self) -> u32
+        ensures value { result ≡ self.now.variables }
+        ensures most { result ≤ 4000000 }
+        ensures least { sum self.now.sizes + 1 ≤ result }
+    {
+        self.variables
+    }
+
+    /// The clause of a number, from 1.
+    pub fn clause(&self, id: u32) -> &[Lit]
+        requires some { 0 < id }
+        requires most { id ≤ length self.now.clauses }
+        ensures numbered { IsNumbered self.now.clauses id result.now }
+        ensures clause { IsClause result.now }
+        ensures over { IsOver self.now.variables result.now }
+    {
+        self.clauses.clause(id as usize - 1)
+    }
+
+    /// How many values each position has. That each has exactly one of them is said by clauses of the list.
+    pub fn sizes(&self) -> &[u32]
+        ensures sizes { result.now ≡ self.now.sizes }
+        ensures choices { (clause : List Literal) → Contains (positions_from 1 self.now.sizes) clause → Contains self.now.clauses clause }
+    {
+        self.places.sizes()
+    }
+
+    /// Whether a row has an index for each position, below the number of its values. It takes no memory.
+    pub fn is_row(&self, row: &[u32]) -> bool
+        ensures { IsTrue result ↔ IsRow self.now.sizes row.now }
+    {
+        self.places.is_row(row)
+    }
+
+    /// The literal that a position has the value of this index. It takes no memory.
+    pub fn atom(&self, position: u64, value: u32) -> Lit
+        requires { (size : ℕ) × (slice_get self.now.sizes position ≡ Some size) × (value < size) }
+        ensures { result ≡ positive (atom_variable self.now.sizes position value) }
+    {
+        self.places.atom(position, value)
+    }
+
+    /// The clauses, in order.
+    pub fn into_clauses(self) -> ClauseArena
+        ensures clauses { result ≡ self.clauses }
+        ensures count { length result ≤ 8000000 }
+        ensures each { All IsClause result }
+        ensures over { All (IsOver self.variables) result }
+    {
+        self.clauses
+    }
+}
