@@ -33,7 +33,7 @@ done_full old now rest whole full done = subst (Gives old now) done.joined (give
 
 -- ---- the variables of a position
 
-variables_front : (first n : ℕ) → position_variables first (suc n) ≡ positive first ∷ position_variables (first + 1) n
+pub variables_front : (first n : ℕ) → position_variables first (suc n) ≡ positive first ∷ position_variables (first + 1) n
 variables_front first zero = ap (λ (v : ℕ). positive v ∷ []) (let e : first + 0 ≡ first = omega arith in e)
 variables_front first (suc n) =
     map_last (λ value. positive (first + value)) (upto (suc n)) (suc n)

@@ -1,8 +1,10 @@
+mod Causes
 mod Choices
 mod Definitions
 mod Keeping
 mod Meaning
 mod Ordered
 mod Positions
+mod RowValues
 mod Running
 mod Written

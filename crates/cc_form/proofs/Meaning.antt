@@ -118,13 +118,13 @@ module _ (a : ℕ → Bool) where
 
   -- ---- definitions
 
-  pair_gives : (p q : Literal) → meets a (p ∷ q ∷ []) ≡ true → (lit p ≡ true) ⊎ (lit q ≡ true)
+  pub pair_gives : (p q : Literal) → meets a (p ∷ q ∷ []) ≡ true → (lit p ≡ true) ⊎ (lit q ≡ true)
   pair_gives p q e = elim (or_gives (lit p) (lit q || false) e) [
     | inl h ↦ inl h
     | inr h ↦ elim (or_gives (lit q) false h) [ | inl k ↦ inr k | inr k ↦ absurd cc ]
   ]
 
-  pair_is : (p q : Literal) → (lit p ≡ true) ⊎ (lit q ≡ true) → meets a (p ∷ q ∷ []) ≡ true
+  pub pair_is : (p q : Literal) → (lit p ≡ true) ⊎ (lit q ≡ true) → meets a (p ∷ q ∷ []) ≡ true
   pair_is p q (inl h) = or_is (lit p) (lit q || false) (inl h)
   pair_is p q (inr h) = or_is (lit p) (lit q || false) (inr (or_is (lit q) false (inl h)))
 

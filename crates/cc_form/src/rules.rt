@@ -40,9 +40,9 @@ fn both(builder: &mut Builder, stride: u64, now: Timed<'_>, before: Timed<'_>) -
     requires before_step { before.step ≤ 1000 }
     requires now { IsTermOver builder.old.places (part_nodes stride now) }
     requires before { IsTermOver builder.old.places (part_nodes stride before) }
-    ensures literal { IfOk result (λ literal. literal ≡ (made_nodes builder.old.places builder.old.last (part_nodes stride now ++ part_nodes stride before ++ nodes.All 2 ∷ [])).literal) }
-    ensures built { OnOk result (IsBuilt builder.old builder.new (made_nodes builder.old.places builder.old.last (part_nodes stride now ++ part_nodes stride before ++ nodes.All 2 ∷ [])).last (made_nodes builder.old.places builder.old.last (part_nodes stride now ++ part_nodes stride before ++ nodes.All 2 ∷ [])).clauses) }
-    ensures refused { IfErr result (IsPast (made_nodes builder.old.places builder.old.last (part_nodes stride now ++ part_nodes stride before ++ nodes.All 2 ∷ [])).last) }
+    ensures literal { IfOk result (λ literal. literal ≡ (made_nodes builder.old.places builder.old.last (part_nodes stride now.entry ++ part_nodes stride before.entry ++ nodes.All 2 ∷ [])).literal) }
+    ensures built { OnOk result (IsBuilt builder.old builder.new (made_nodes builder.old.places builder.old.last (part_nodes stride now.entry ++ part_nodes stride before.entry ++ nodes.All 2 ∷ [])).last (made_nodes builder.old.places builder.old.last (part_nodes stride now.entry ++ part_nodes stride before.entry ++ nodes.All 2 ∷ [])).clauses) }
+    ensures refused { IfErr result (IsPast (made_nodes builder.old.places builder.old.last (part_nodes stride now.entry ++ part_nodes stride before.entry ++ nodes.All 2 ∷ [])).last) }
 {
     builder.begin();
     builder.run(now.nodes, offset_of(stride, now.step))?;
@@ -59,9 +59,9 @@ fn joined(builder: &mut Builder, stride: u64, now: Timed<'_>, before: Timed<'_>)
     requires before_step { before.step ≤ 1000 }
     requires now { IsTermOver builder.old.places (part_nodes stride now) }
     requires before { IsTermOver builder.old.places (part_nodes stride before) }
-    ensures literal { IfOk result (λ literal. literal ≡ (made_nodes builder.old.places builder.old.last (joined_nodes (part_nodes stride now) (part_nodes stride before))).literal) }
-    ensures built { OnOk result (IsBuilt builder.old builder.new (made_nodes builder.old.places builder.old.last (joined_nodes (part_nodes stride now) (part_nodes stride before))).last (made_nodes builder.old.places builder.old.last (joined_nodes (part_nodes stride now) (part_nodes stride before))).clauses) }
-    ensures refused { IfErr result (IsPast (made_nodes builder.old.places builder.old.last (joined_nodes (part_nodes stride now) (part_nodes stride before))).last) }
+    ensures literal { IfOk result (λ literal. literal ≡ (made_nodes builder.old.places builder.old.last (joined_nodes (part_nodes stride now.entry) (part_nodes stride before.entry))).literal) }
+    ensures built { OnOk result (IsBuilt builder.old builder.new (made_nodes builder.old.places builder.old.last (joined_nodes (part_nodes stride now.entry) (part_nodes stride before.entry))).last (made_nodes builder.old.places builder.old.last (joined_nodes (part_nodes stride now.entry) (part_nodes stride before.entry))).clauses) }
+    ensures refused { IfErr result (IsPast (made_nodes builder.old.places builder.old.last (joined_nodes (part_nodes stride now.entry) (part_nodes stride before.entry))).last) }
 {
     if is_truth(now.nodes) {
         return builder.literal(before.nodes, offset_of(stride, before.step));
@@ -90,9 +90,9 @@ fn body(builder: &mut Builder, stride: u64, rule: TimedRule<'_>) -> Result<Lit, 
     requires last { builder.old.last ≤ 4000000 }
     requires stride { stride ≤ 8589934592 }
     requires fits { IsBodyOver builder.old.places stride rule }
-    ensures literal { IfOk result (λ literal. literal ≡ (made_nodes builder.old.places builder.old.last (body_nodes stride rule)).literal) }
-    ensures built { OnOk result (IsBuilt builder.old builder.new (made_nodes builder.old.places builder.old.last (body_nodes stride rule)).last (made_nodes builder.old.places builder.old.last (body_nodes stride rule)).clauses) }
-    ensures refused { IfErr result (IsPast (made_nodes builder.old.places builder.old.last (body_nodes stride rule)).last) }
+    ensures literal { IfOk result (λ literal. literal ≡ (made_nodes builder.old.places builder.old.last (body_nodes stride rule.entry)).literal) }
+    ensures built { OnOk result (IsBuilt builder.old builder.new (made_nodes builder.old.places builder.old.last (body_nodes stride rule.entry)).last (made_nodes builder.old.places builder.old.last (body_nodes stride rule.entry)).clauses) }
+    ensures refused { IfErr result (IsPast (made_nodes builder.old.places builder.old.last (body_nodes stride rule.entry)).last) }
 {
     match rule.now {
         None => Ok(head_literal(builder, rule.head)),
@@ -119,9 +119,9 @@ fn made_rule(builder: &mut Builder, stride: u64, rule: TimedRule<'_>) -> Result<
     requires last { builder.old.last ≤ 4000000 }
     requires stride { stride ≤ 8589934592 }
     requires fits { IsBodyOver builder.old.places stride rule }
-    ensures literal { IfOk result (λ literal. literal ≡ (made_rule_of builder.old.places stride builder.old.last rule).literal) }
-    ensures built { OnOk result (IsBuilt builder.old builder.new (made_rule_of builder.old.places stride builder.old.last rule).last (made_rule_of builder.old.places stride builder.old.last rule).clauses) }
-    ensures refused { IfErr result (IsPast (made_rule_of builder.old.places stride builder.old.last rule).last) }
+    ensures literal { IfOk result (λ literal. literal ≡ (made_rule_of builder.old.places stride builder.old.last rule.entry).literal) }
+    ensures built { OnOk result (IsBuilt builder.old builder.new (made_rule_of builder.old.places stride builder.old.last rule.entry).last (made_rule_of builder.old.places stride builder.old.last rule.entry).clauses) }
+    ensures refused { IfErr result (IsPast (made_rule_of builder.old.places stride builder.old.last rule.entry).last) }
 {
     if is_certain(&builder.places, rule.head) {
         return Ok(builder.places.truth());

@@ -37,9 +37,9 @@ fn literal_at(
     requires stride { stride ≤ 8589934592 }
     requires step { step_of_at condition.at horizon ≤ 1000 }
     requires term { IsTermOver builder.old.places (condition_nodes stride horizon (plain_ground_condition condition)) }
-    ensures literal { IfOk result (λ literal. literal ≡ (made_nodes builder.old.places builder.old.last (condition_nodes stride horizon (plain_ground_condition condition))).literal) }
-    ensures built { OnOk result (IsBuilt builder.old builder.new (made_nodes builder.old.places builder.old.last (condition_nodes stride horizon (plain_ground_condition condition))).last (made_nodes builder.old.places builder.old.last (condition_nodes stride horizon (plain_ground_condition condition))).clauses) }
-    ensures refused { IfErr result (IsPast (made_nodes builder.old.places builder.old.last (condition_nodes stride horizon (plain_ground_condition condition))).last) }
+    ensures literal { IfOk result (λ literal. literal ≡ (made_nodes builder.old.places builder.old.last (condition_nodes stride horizon (plain_ground_condition condition.entry))).literal) }
+    ensures built { OnOk result (IsBuilt builder.old builder.new (made_nodes builder.old.places builder.old.last (condition_nodes stride horizon (plain_ground_condition condition.entry))).last (made_nodes builder.old.places builder.old.last (condition_nodes stride horizon (plain_ground_condition condition.entry))).clauses) }
+    ensures refused { IfErr result (IsPast (made_nodes builder.old.places builder.old.last (condition_nodes stride horizon (plain_ground_condition condition.entry))).last) }
 {
     let step = step_of(condition.at, horizon);
     builder.literal(condition.nodes, offset_of(stride, step))
@@ -76,8 +76,8 @@ pub(crate) fn deny(
     requires stride { stride ≤ 8589934592 }
     requires step { step_of_at claim.at horizon ≤ 1000 }
     requires term { IsTermOver builder.old.places (condition_nodes stride horizon (plain_ground_condition claim)) }
-    ensures built { OnOk result (IsBuilt builder.old builder.new (denied_nodes builder.old.places builder.old.last (Some (condition_nodes stride horizon (plain_ground_condition claim)))).last (denied_nodes builder.old.places builder.old.last (Some (condition_nodes stride horizon (plain_ground_condition claim)))).clauses) }
-    ensures refused { IfErr result (IsPast (denied_nodes builder.old.places builder.old.last (Some (condition_nodes stride horizon (plain_ground_condition claim)))).last) }
+    ensures built { OnOk result (IsBuilt builder.old builder.new (denied_nodes builder.old.places builder.old.last (Some (condition_nodes stride horizon (plain_ground_condition claim.entry)))).last (denied_nodes builder.old.places builder.old.last (Some (condition_nodes stride horizon (plain_ground_condition claim.entry)))).clauses) }
+    ensures refused { IfErr result (IsPast (denied_nodes builder.old.places builder.old.last (Some (condition_nodes stride horizon (plain_ground_condition claim.entry)))).last) }
 {
     let literal = literal_at(builder, stride, horizon, claim)?;
     builder.store.keep_one(literal.opposite())?;
@@ -122,6 +122,7 @@ pub(crate) fn follow(builder: &mut Builder, row: &[u32]) -> Result<(), Fault>
     builder.begin();
     step_down(builder, row)?;
     step_up(builder, row.len())?;
-    builder.store.keep_one(builder.end())?;
+    let literal = builder.end();
+    builder.store.keep_one(literal)?;
     Ok(())
 }

@@ -1,4 +1,5 @@
-use Rattle.cc_form.proofs.Meaning.{term_told}
+use Rattle.cc_form.proofs.RowValues.{row_of}
+use Rattle.cc_form.proofs.Causes.{claim_denied}
 use Rattle.cc_form.proofs.laws.clauses_tell_rows.Goals as goal
 
 pub returns : goal.returns
