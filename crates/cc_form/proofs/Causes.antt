@@ -15,7 +15,7 @@ use Rattle.cc_defs.specs.Terms.{Ground, Operands, Fits, nothing, and_then, opera
 use Rattle.cc_defs.specs.Terms as terms
 use Rattle.cc_defs.specs.TimedRules.{TimedRule}
 use Rattle.cc_form.specs.Laws.{HeadFits, RuleFits, TermFits}
-use Rattle.cc_form.proofs.Meaning.{Agrees, AllMet, AtomsFit, AtomsFitIn, agrees_both, agrees_left, agrees_right, all_written_met, any_met, lit, met_all_written, met_any, met_both, met_left, met_right, opposite_is, or_gives, or_is, term_told, values}
+use Rattle.cc_form.proofs.Meaning.{Agrees, AllMet, AtomsFit, AtomsFitIn, agrees_both, agrees_left, agrees_right, all_written_met, any_met, lit, met_all_written, met_any, met_both, met_left, met_right, opposite_is, or_gives, or_is, term_told, values_of}
 use Rattle.cc_form.proofs.Ordered.{Among, both_true, cases_test}
 use Rattle.cc_form.proofs.Written.{any_gives, any_made, equal_tests}
 
@@ -59,16 +59,37 @@ all_filter P keep (x ∷ xs) h = elim (cases_test (keep x)) [
   | inr e ↦ subst (λ (b : Bool). AllByRecursion P (cond b (x ∷ filter keep xs) (filter keep xs))) (sym e) (all_filter P keep xs h.1)
 ]
 
+-- the values of the variables that terms make, one after another
+abbrev pub rules_values_of : List ℕ → (ℕ → ℕ) → ℕ → List TimedRule → List Bool
+rules_values_of sizes v last [] = []
+rules_values_of sizes v last (rule ∷ rules) = values_of sizes v last rule.body ++ rules_values_of sizes v (made_of sizes last rule.body).last rules
+
+abbrev pub terms_values_of : List ℕ → (ℕ → ℕ) → ℕ → List Ground → List Bool
+terms_values_of sizes v last [] = []
+terms_values_of sizes v last (f ∷ formulas) = values_of sizes v last f ++ terms_values_of sizes v (made_of sizes last f).last formulas
+
+abbrev pub claim_values_of : List ℕ → (ℕ → ℕ) → ℕ → Option Ground → List Bool
+claim_values_of sizes v last None = []
+claim_values_of sizes v last (Some f) = values_of sizes v last f
+
+abbrev pub AllTrue : (ℕ → ℕ) → List Ground → Type 0
+AllTrue v [] = Unit {0}
+AllTrue v (f ∷ formulas) = (truth v f ≡ true) × AllTrue v formulas
+
+abbrev pub IsDenied : (ℕ → ℕ) → Option Ground → Type 0
+IsDenied v None = Unit {0}
+IsDenied v (Some f) = truth v f ≡ false
+
 module _ (a : ℕ → Bool) (sizes : List ℕ) (v : ℕ → ℕ) (is_true : a (true_variable sizes) ≡ true)
     (atoms : (position value : ℕ) → Fits sizes (nodes.Atom position value) → a (atom_variable sizes position value) ≡ (v position == value)) where
   abbrev new : ℕ → Ground → List Bool
-  new last f = values a sizes v is_true atoms last f
+  new last f = values_of sizes v last f
 
   abbrev FitsTerm : Ground → Type 0
-  FitsTerm f = AtomsFit a sizes v is_true atoms f
+  FitsTerm f = AtomsFit sizes f
 
   abbrev FitsIn : Operands → Type 0
-  FitsIn operands = AtomsFitIn a sizes v is_true atoms operands
+  FitsIn operands = AtomsFitIn sizes operands
 
   mutual
     atoms_fit : (f : Ground) → TermFits sizes f → FitsTerm f
@@ -89,9 +110,8 @@ module _ (a : ℕ → Bool) (sizes : List ℕ) (v : ℕ → ℕ) (is_true : a (t
 
   -- ---- bodies
 
-  pub rules_values : ℕ → List TimedRule → List Bool
-  rules_values last [] = []
-  rules_values last (rule ∷ rules) = new last rule.body ++ rules_values (made_of sizes last rule.body).last rules
+  abbrev pub rules_values : ℕ → List TimedRule → List Bool
+  rules_values last rules = rules_values_of sizes v last rules
 
   abbrev pub has_body : (GroundHead → Bool) → TimedRule → Bool
   has_body test rule = test rule.head && truth v rule.body
@@ -113,7 +133,6 @@ module _ (a : ℕ → Bool) (sizes : List ℕ) (v : ℕ → ℕ) (is_true : a (t
   ]
 
   pub rules_told : (rules : List TimedRule) (last : ℕ) → AllByRecursion (RuleFits sizes) rules → AreRulesTold last (made_rules sizes last rules) (rules_values last rules) rules
-  unfolding rules_values
   rules_told [] last fit = record { ends = omega arith; meets = λ h. tt; agrees = λ h. tt; tests = λ h test. refl }
   rules_told (rule ∷ rules) last fit =
       let m = made_of sizes last rule.body in
@@ -255,19 +274,13 @@ module _ (a : ℕ → Bool) (sizes : List ℕ) (v : ℕ → ℕ) (is_true : a (t
     pub holds : AllMet a made.clauses → Holds
     pub agrees : Agrees a last given → Holds → AllMet a made.clauses
 
-  pub terms_values : ℕ → List Ground → List Bool
-  terms_values last [] = []
-  terms_values last (f ∷ formulas) = new last f ++ terms_values (made_of sizes last f).last formulas
-
-  abbrev pub AllTrue : List Ground → Type 0
-  AllTrue [] = Unit {0}
-  AllTrue (f ∷ formulas) = (truth v f ≡ true) × AllTrue formulas
+  abbrev pub terms_values : ℕ → List Ground → List Bool
+  terms_values last formulas = terms_values_of sizes v last formulas
 
   one_true : (l : Literal) → meets a (l ∷ []) ≡ true → lit a l ≡ true
   one_true l e = elim (or_gives (lit a l) false e) [ | inl h ↦ h | inr h ↦ absurd cc ]
 
-  pub terms_asserted : (formulas : List Ground) (last : ℕ) → AllByRecursion (TermFits sizes) formulas → AreAsserted last (assert_all sizes last formulas) (terms_values last formulas) (AllTrue formulas)
-  unfolding terms_values
+  pub terms_asserted : (formulas : List Ground) (last : ℕ) → AllByRecursion (TermFits sizes) formulas → AreAsserted last (assert_all sizes last formulas) (terms_values last formulas) (AllTrue v formulas)
   terms_asserted [] last fit = record { ends = omega arith; meets = λ h. tt; holds = λ h. tt; agrees = λ h k. tt }
   terms_asserted (f ∷ formulas) last fit =
       let m = made_of sizes last f in
@@ -286,16 +299,10 @@ module _ (a : ℕ → Bool) (sizes : List ℕ) (v : ℕ → ℕ) (is_true : a (t
             (or_is (lit a m.literal) false (inl (one.literal (agrees_left a last xs ys h) ∙ k.0)), other.agrees (behind a last xs ys m.last one.ends h) k.1);
       }
 
-  pub claim_values : ℕ → Option Ground → List Bool
-  claim_values last None = []
-  claim_values last (Some f) = new last f
+  abbrev pub claim_values : ℕ → Option Ground → List Bool
+  claim_values last claim = claim_values_of sizes v last claim
 
-  abbrev pub IsDenied : Option Ground → Type 0
-  IsDenied None = Unit {0}
-  IsDenied (Some f) = truth v f ≡ false
-
-  pub claim_denied : (claim : Option Ground) (last : ℕ) → IfSome claim (TermFits sizes) → AreAsserted last (deny sizes last claim) (claim_values last claim) (IsDenied claim)
-  unfolding claim_values
+  pub claim_denied : (claim : Option Ground) (last : ℕ) → IfSome claim (TermFits sizes) → AreAsserted last (deny sizes last claim) (claim_values last claim) (IsDenied v claim)
   claim_denied None last fit = record { ends = omega arith; meets = λ h. tt; holds = λ h. tt; agrees = λ h k. tt }
   claim_denied (Some f) last fit =
       let m = made_of sizes last f in

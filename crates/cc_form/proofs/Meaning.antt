@@ -71,6 +71,41 @@ not_true : (p : Bool) → not p ≡ true → p ≡ false
 not_true true e = absurd cc
 not_true false e = refl
 
+abbrev pub own_values : List Literal → Bool → List Bool
+own_values [] b = []
+own_values (x ∷ []) b = []
+own_values (x ∷ y ∷ xs) b = b ∷ []
+
+-- the values of the variables that a term makes, in order
+abbrev mutual
+  pub values_of : List ℕ → (ℕ → ℕ) → ℕ → Ground → List Bool
+  values_of sizes v last terms.Truth = []
+  values_of sizes v last terms.Falsehood = []
+  values_of sizes v last (terms.Atom position value) = []
+  values_of sizes v last (terms.Not f) = values_of sizes v last f
+  values_of sizes v last (terms.All operands) = values_of_operands sizes v last operands ++ own_values (made_operands sizes last operands).literals (all_true v operands)
+  values_of sizes v last (terms.Any operands) = values_of_operands sizes v last operands ++ own_values (made_operands sizes last operands).literals (any_true v operands)
+  values_of sizes v last (terms.Same f g) = (values_of sizes v last f ++ values_of sizes v (made_of sizes last f).last g) ++ beq (truth v f) (truth v g) ∷ []
+
+  pub values_of_operands : List ℕ → (ℕ → ℕ) → ℕ → Operands → List Bool
+  values_of_operands sizes v last nothing = []
+  values_of_operands sizes v last (and_then operands f) = values_of_operands sizes v last operands ++ values_of sizes v (made_operands sizes last operands).last f
+
+-- each atom is of a position that is there, and of one of its values
+abbrev mutual
+  pub AtomsFit : List ℕ → Ground → Type 0
+  AtomsFit sizes terms.Truth = Unit {0}
+  AtomsFit sizes terms.Falsehood = Unit {0}
+  AtomsFit sizes (terms.Atom position value) = Fits sizes (nodes.Atom position value)
+  AtomsFit sizes (terms.Not f) = AtomsFit sizes f
+  AtomsFit sizes (terms.All operands) = AtomsFitIn sizes operands
+  AtomsFit sizes (terms.Any operands) = AtomsFitIn sizes operands
+  AtomsFit sizes (terms.Same f g) = AtomsFit sizes f × AtomsFit sizes g
+
+  pub AtomsFitIn : List ℕ → Operands → Type 0
+  AtomsFitIn sizes nothing = Unit {0}
+  AtomsFitIn sizes (and_then operands f) = AtomsFitIn sizes operands × AtomsFit sizes f
+
 module _ (a : ℕ → Bool) where
   abbrev pub lit : Literal → Bool
   lit literal = is_made_true a literal
@@ -269,11 +304,6 @@ module _ (a : ℕ → Bool) where
         literal = here;
       }
 
-  abbrev pub own_values : List Literal → Bool → List Bool
-  own_values [] b = []
-  own_values (x ∷ []) b = []
-  own_values (x ∷ y ∷ xs) b = b ∷ []
-
   plain : (last : ℕ) (made : MadeAll) (values : List Bool) (all any b : Bool) (l : Literal) → AreTold last made values all any → (Agrees a last values → lit l ≡ b) →
       IsTold last (record { literal = l; last = made.last; clauses = made.clauses }) (values ++ []) b
   plain last made values all any b l told is =
@@ -313,33 +343,11 @@ module _ (a : ℕ → Bool) where
 
   module _ (sizes : List ℕ) (v : ℕ → ℕ) (is_true : a (true_variable sizes) ≡ true)
       (atoms : (position value : ℕ) → Fits sizes (nodes.Atom position value) → a (atom_variable sizes position value) ≡ (v position == value)) where
-    abbrev mutual
-      pub values : ℕ → Ground → List Bool
-      values last terms.Truth = []
-      values last terms.Falsehood = []
-      values last (terms.Atom position value) = []
-      values last (terms.Not f) = values last f
-      values last (terms.All operands) = values_in last operands ++ own_values (made_operands sizes last operands).literals (all_true v operands)
-      values last (terms.Any operands) = values_in last operands ++ own_values (made_operands sizes last operands).literals (any_true v operands)
-      values last (terms.Same f g) = (values last f ++ values (made_of sizes last f).last g) ++ beq (truth v f) (truth v g) ∷ []
+    abbrev pub values : ℕ → Ground → List Bool
+    values last f = values_of sizes v last f
 
-      pub values_in : ℕ → Operands → List Bool
-      values_in last nothing = []
-      values_in last (and_then operands f) = values_in last operands ++ values (made_operands sizes last operands).last f
-
-    abbrev mutual
-      pub AtomsFit : Ground → Type 0
-      AtomsFit terms.Truth = Unit {0}
-      AtomsFit terms.Falsehood = Unit {0}
-      AtomsFit (terms.Atom position value) = Fits sizes (nodes.Atom position value)
-      AtomsFit (terms.Not f) = AtomsFit f
-      AtomsFit (terms.All operands) = AtomsFitIn operands
-      AtomsFit (terms.Any operands) = AtomsFitIn operands
-      AtomsFit (terms.Same f g) = AtomsFit f × AtomsFit g
-
-      pub AtomsFitIn : Operands → Type 0
-      AtomsFitIn nothing = Unit {0}
-      AtomsFitIn (and_then operands f) = AtomsFitIn operands × AtomsFit f
+    abbrev pub values_in : ℕ → Operands → List Bool
+    values_in last operands = values_of_operands sizes v last operands
 
     abbrev pub Told : ℕ → Ground → Type 0
     Told last f = IsTold last (made_of sizes last f) (values last f) (truth v f)
@@ -415,7 +423,7 @@ module _ (a : ℕ → Bool) where
         }
 
     mutual
-      pub term_told : (f : Ground) (last : ℕ) → AtomsFit f → Told last f
+      pub term_told : (f : Ground) (last : ℕ) → AtomsFit sizes f → Told last f
       term_told terms.Truth last fit = leaf last (positive (true_variable sizes)) true is_true
       term_told terms.Falsehood last fit = leaf last (opposite (positive (true_variable sizes))) false (ap not is_true)
       term_told (terms.Atom position value) last fit = leaf last (positive (atom_variable sizes position value)) (v position == value) (atoms position value fit)
@@ -428,6 +436,6 @@ module _ (a : ℕ → Bool) where
           told_any (positive (true_variable sizes)) is_true last m.literals m.last m.clauses (values_in last operands) (all_true v operands) (any_true v operands) (operands_told operands last fit)
       term_told (terms.Same f g) last fit = told_same last f g (term_told f last fit.0) (term_told g (made_of sizes last f).last fit.1)
 
-      pub operands_told : (operands : Operands) (last : ℕ) → AtomsFitIn operands → ToldIn last operands
+      pub operands_told : (operands : Operands) (last : ℕ) → AtomsFitIn sizes operands → ToldIn last operands
       operands_told nothing last fit = record { ends = omega arith; meets = λ h. tt; agrees = λ h. tt; all_are = λ h. refl; any_is = λ h. refl }
       operands_told (and_then operands f) last fit = told_more last operands f (operands_told operands last fit.0) (term_told f (made_operands sizes last operands).last fit.1)
