@@ -52,12 +52,34 @@ any_filter keep test (x ∷ xs) h = elim (cases_test (keep x)) [
       (any_filter keep test xs h ∙ sym (ap (λ (b : Bool). b || list_any test xs) (h x e)))
 ]
 
-all_filter : {X : Type 0} (P : X → Type 0) (keep : X → Bool) (xs : List X) → AllByRecursion P xs → AllByRecursion P (filter keep xs)
+pub all_filter : {X : Type 0} (P : X → Type 0) (keep : X → Bool) (xs : List X) → AllByRecursion P xs → AllByRecursion P (filter keep xs)
 all_filter P keep [] h = tt
 all_filter P keep (x ∷ xs) h = elim (cases_test (keep x)) [
   | inl e ↦ subst (λ (b : Bool). AllByRecursion P (cond b (x ∷ filter keep xs) (filter keep xs))) (sym e) (h.0, all_filter P keep xs h.1)
   | inr e ↦ subst (λ (b : Bool). AllByRecursion P (cond b (x ∷ filter keep xs) (filter keep xs))) (sym e) (all_filter P keep xs h.1)
 ]
+
+mutual
+  pub atoms_fit : (sizes : List ℕ) (f : Ground) → TermFits sizes f → AtomsFit sizes f
+  atoms_fit sizes terms.Truth fit = tt
+  atoms_fit sizes terms.Falsehood fit = tt
+  atoms_fit sizes (terms.Atom position value) fit = fit.0
+  atoms_fit sizes (terms.Not f) fit = atoms_fit sizes f (all_left (Fits sizes) (postfix f) (nodes.Not ∷ []) fit)
+  atoms_fit sizes (terms.All operands) fit = atoms_fit_in sizes operands (all_left (Fits sizes) (postfixes operands) (nodes.All (operand_count operands) ∷ []) fit)
+  atoms_fit sizes (terms.Any operands) fit = atoms_fit_in sizes operands (all_left (Fits sizes) (postfixes operands) (nodes.Any (operand_count operands) ∷ []) fit)
+  atoms_fit sizes (terms.Same f g) fit =
+      let both = all_left (Fits sizes) (postfix f ++ postfix g) (nodes.Same ∷ []) fit in
+      (atoms_fit sizes f (all_left (Fits sizes) (postfix f) (postfix g) both), atoms_fit sizes g (all_right (Fits sizes) (postfix f) (postfix g) both))
+
+  pub atoms_fit_in : (sizes : List ℕ) (operands : Operands) → AllByRecursion (Fits sizes) (postfixes operands) → AtomsFitIn sizes operands
+  atoms_fit_in sizes nothing fit = tt
+  atoms_fit_in sizes (and_then operands f) fit =
+      (atoms_fit_in sizes operands (all_left (Fits sizes) (postfixes operands) (postfix f) fit), atoms_fit sizes f (all_right (Fits sizes) (postfixes operands) (postfix f) fit))
+
+
+pub all_atoms_fit : (sizes : List ℕ) (formulas : List Ground) → AllByRecursion (TermFits sizes) formulas → AllByRecursion (AtomsFit sizes) formulas
+all_atoms_fit sizes [] fit = tt
+all_atoms_fit sizes (f ∷ formulas) fit = (atoms_fit sizes f fit.0, all_atoms_fit sizes formulas fit.1)
 
 -- the values of the variables that terms make, one after another
 abbrev pub rules_values_of : List ℕ → (ℕ → ℕ) → ℕ → List TimedRule → List Bool
@@ -91,23 +113,6 @@ module _ (a : ℕ → Bool) (sizes : List ℕ) (v : ℕ → ℕ) (is_true : a (t
   abbrev FitsIn : Operands → Type 0
   FitsIn operands = AtomsFitIn sizes operands
 
-  mutual
-    atoms_fit : (f : Ground) → TermFits sizes f → FitsTerm f
-    atoms_fit terms.Truth fit = tt
-    atoms_fit terms.Falsehood fit = tt
-    atoms_fit (terms.Atom position value) fit = fit.0
-    atoms_fit (terms.Not f) fit = atoms_fit f (all_left (Fits sizes) (postfix f) (nodes.Not ∷ []) fit)
-    atoms_fit (terms.All operands) fit = atoms_fit_in operands (all_left (Fits sizes) (postfixes operands) (nodes.All (operand_count operands) ∷ []) fit)
-    atoms_fit (terms.Any operands) fit = atoms_fit_in operands (all_left (Fits sizes) (postfixes operands) (nodes.Any (operand_count operands) ∷ []) fit)
-    atoms_fit (terms.Same f g) fit =
-        let both = all_left (Fits sizes) (postfix f ++ postfix g) (nodes.Same ∷ []) fit in
-        (atoms_fit f (all_left (Fits sizes) (postfix f) (postfix g) both), atoms_fit g (all_right (Fits sizes) (postfix f) (postfix g) both))
-
-    atoms_fit_in : (operands : Operands) → AllByRecursion (Fits sizes) (postfixes operands) → FitsIn operands
-    atoms_fit_in nothing fit = tt
-    atoms_fit_in (and_then operands f) fit =
-        (atoms_fit_in operands (all_left (Fits sizes) (postfixes operands) (postfix f) fit), atoms_fit f (all_right (Fits sizes) (postfixes operands) (postfix f) fit))
-
   -- ---- bodies
 
   abbrev pub rules_values : ℕ → List TimedRule → List Bool
@@ -139,7 +144,7 @@ module _ (a : ℕ → Bool) (sizes : List ℕ) (v : ℕ → ℕ) (is_true : a (t
       let n = made_rules sizes m.last rules in
       let xs = new last rule.body in
       let ys = rules_values m.last rules in
-      let one = term_told a sizes v is_true atoms rule.body last (atoms_fit rule.body fit.0.body) in
+      let one = term_told a sizes v is_true atoms rule.body last (atoms_fit sizes rule.body fit.0.body) in
       let other = rules_told rules m.last fit.1 in
       record {
         ends = ends_together a last xs ys m.last one.ends n.last other.ends;
@@ -280,14 +285,14 @@ module _ (a : ℕ → Bool) (sizes : List ℕ) (v : ℕ → ℕ) (is_true : a (t
   one_true : (l : Literal) → meets a (l ∷ []) ≡ true → lit a l ≡ true
   one_true l e = elim (or_gives (lit a l) false e) [ | inl h ↦ h | inr h ↦ absurd cc ]
 
-  pub terms_asserted : (formulas : List Ground) (last : ℕ) → AllByRecursion (TermFits sizes) formulas → AreAsserted last (assert_all sizes last formulas) (terms_values last formulas) (AllTrue v formulas)
+  pub terms_asserted : (formulas : List Ground) (last : ℕ) → AllByRecursion (AtomsFit sizes) formulas → AreAsserted last (assert_all sizes last formulas) (terms_values last formulas) (AllTrue v formulas)
   terms_asserted [] last fit = record { ends = omega arith; meets = λ h. tt; holds = λ h. tt; agrees = λ h k. tt }
   terms_asserted (f ∷ formulas) last fit =
       let m = made_of sizes last f in
       let n = assert_all sizes m.last formulas in
       let xs = new last f in
       let ys = terms_values m.last formulas in
-      let one = term_told a sizes v is_true atoms f last (atoms_fit f fit.0) in
+      let one = term_told a sizes v is_true atoms f last fit.0 in
       let other = terms_asserted formulas m.last fit.1 in
       let tail = (m.literal ∷ []) ∷ n.clauses in
       record {
@@ -306,7 +311,7 @@ module _ (a : ℕ → Bool) (sizes : List ℕ) (v : ℕ → ℕ) (is_true : a (t
   claim_denied None last fit = record { ends = omega arith; meets = λ h. tt; holds = λ h. tt; agrees = λ h k. tt }
   claim_denied (Some f) last fit =
       let m = made_of sizes last f in
-      let one = term_told a sizes v is_true atoms f last (atoms_fit f fit) in
+      let one = term_told a sizes v is_true atoms f last (atoms_fit sizes f fit) in
       let tail = (opposite m.literal ∷ []) ∷ [] in
       record {
         ends = one.ends;

@@ -2,6 +2,7 @@ mod Causes
 mod Choices
 mod Definitions
 mod Keeping
+mod Keys
 mod Meaning
 mod Ordered
 mod Positions
