@@ -8,4 +8,5 @@ mod Ordered
 mod Positions
 mod RowValues
 mod Running
+mod Telling
 mod Written
