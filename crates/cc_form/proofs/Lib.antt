@@ -1,3 +1,4 @@
+mod Bodies
 mod Causes
 mod Choices
 mod Definitions
@@ -5,6 +6,7 @@ mod Keeping
 mod Keys
 mod Meaning
 mod Ordered
+mod Parts
 mod Positions
 mod RowValues
 mod Running

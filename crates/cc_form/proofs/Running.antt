@@ -28,7 +28,7 @@ dropped (x ∷ xs) ys = dropped xs ys
 start_is : {X : Type 0} (xs ys : List X) (n : ℕ) → length ys ≡ n → length (xs ++ ys) - n ≡ length xs
 start_is xs ys n long = let all = length-append xs ys in omega arith
 
-behind_twice : (a b : List (List Literal)) (ran : Ran) → behind a (behind b ran) ≡ behind (a ++ b) ran
+pub behind_twice : (a b : List (List Literal)) (ran : Ran) → behind a (behind b ran) ≡ behind (a ++ b) ran
 behind_twice a b ran = ap (λ (l : List (List Literal)). let r : Ran = record { stack = ran.stack; last = ran.last; clauses = l } in r) (sym (append_assoc a b ran.clauses))
 
 module _ (sizes : List ℕ) where

@@ -1,5 +1,5 @@
 -- The literals of terms, made node by node: a node takes the literals of its operands from a stack, and puts its own there.
-use Rattle.std.specs.Prelude.{◌≡◌, ℕ, ◌+◌, ◌-◌, ◌<◌, ◌≤◌, List, [], ◌∷◌, ◌++◌, length, map, take, drop}
+use Rattle.std.specs.Prelude.{◌≡◌, ℕ, ◌+◌, ◌-◌, ◌<◌, ◌≤◌, List, [], ◌∷◌, ◌++◌, length, map, take, drop, Result, Ok, Err}
 use Rattle.std.specs.List.{AllByRecursion}
 use Rattle.cc_arena.specs.Walks.{arity}
 use Rattle.cc_defs.specs.declared.node.Node.{Node}
@@ -8,6 +8,7 @@ use Rattle.cc_defs.specs.declared.refusal.Fault.{Fault}
 use Rattle.cc_defs.specs.declared.refusal.Fault.TheVariants as faults
 use Rattle.cc_defs.specs.declared.refusal.LimitAt.TheVariants as limits
 use Rattle.cc_defs.specs.ClauseForms.{Made, positive, atom_variable, true_variable, made_all, made_any, made_same}
+use Rattle.cc_defs.specs.ClauseLists.{Asserted}
 use Rattle.cc_defs.specs.Clauses.{Literal, opposite}
 use Rattle.cc_defs.specs.Refusals.{past}
 use Rattle.cc_form.specs.declared.builder.Builder.{Builder}
@@ -99,3 +100,18 @@ pub record IsBuilt (old new : Builder) (last : ℕ) (clauses : List (List Litera
 pub record IsRan (old new : Builder) (ran : Ran) : Type 0 where
   pub stack : new.stack.items ≡ ran.stack
   pub built : IsBuilt old new ran.last ran.clauses
+
+-- the literal of a term is made, or the last variable is past its limit, or memory was wanting
+abbrev pub Makes : Builder → Builder → Result Literal Fault → Made → Type 0
+Makes old new (Ok literal) made = (literal ≡ made.literal) × IsBuilt old new made.last made.clauses
+Makes old new (Err fault) made = IsPast made.last fault
+
+-- the same of clauses alone
+abbrev pub Adds : Builder → Builder → Result (Unit {0}) Fault → Asserted → Type 0
+Adds old new (Ok done) made = IsBuilt old new made.last made.clauses
+Adds old new (Err fault) made = IsPast made.last fault
+
+-- the same of the stack
+abbrev pub RunsTo : Builder → Builder → Result (Unit {0}) Fault → Ran → Type 0
+RunsTo old new (Ok done) ran = IsRan old new ran
+RunsTo old new (Err fault) ran = IsPast ran.last fault

@@ -6,7 +6,7 @@ ghost use Rattle.cc_defs.specs.ClauseForms.{positive};
 ghost use Rattle.cc_defs.specs.ClauseLists.{is_certain as is_certain_head};
 ghost use Rattle.cc_defs.specs.Terms.{IsTermOver};
 ghost use Rattle.cc_theory.specs.Theories.{plain_head};
-ghost use Rattle.cc_form.specs.Machine.{first_of, made_nodes, IsBuilt, IsPast};
+ghost use Rattle.cc_form.specs.Machine.{first_of, made_nodes, IsBuilt, IsPast, Makes};
 ghost use Rattle.cc_form.specs.Making.{body_nodes, head_nodes, is_truth as is_truth_of, joined_nodes, made_bodies, made_rule as made_rule_of, part_nodes, IsBodyOver};
 
 use crate::builder::Builder;
@@ -40,9 +40,7 @@ fn both(builder: &mut Builder, stride: u64, now: Timed<'_>, before: Timed<'_>) -
     requires before_step { before.step ≤ 1000 }
     requires now { IsTermOver builder.old.places (part_nodes stride now) }
     requires before { IsTermOver builder.old.places (part_nodes stride before) }
-    ensures literal { IfOk result (λ literal. literal ≡ (made_nodes builder.old.places builder.old.last (part_nodes stride now.entry ++ part_nodes stride before.entry ++ nodes.All 2 ∷ [])).literal) }
-    ensures built { OnOk result (IsBuilt builder.old builder.new (made_nodes builder.old.places builder.old.last (part_nodes stride now.entry ++ part_nodes stride before.entry ++ nodes.All 2 ∷ [])).last (made_nodes builder.old.places builder.old.last (part_nodes stride now.entry ++ part_nodes stride before.entry ++ nodes.All 2 ∷ [])).clauses) }
-    ensures refused { IfErr result (IsPast (made_nodes builder.old.places builder.old.last (part_nodes stride now.entry ++ part_nodes stride before.entry ++ nodes.All 2 ∷ [])).last) }
+    ensures { Makes builder.old builder.new result (made_nodes builder.old.places builder.old.last (part_nodes stride now.entry ++ part_nodes stride before.entry ++ nodes.All 2 ∷ [])) }
 {
     builder.begin();
     builder.run(now.nodes, offset_of(stride, now.step))?;
@@ -59,9 +57,7 @@ fn joined(builder: &mut Builder, stride: u64, now: Timed<'_>, before: Timed<'_>)
     requires before_step { before.step ≤ 1000 }
     requires now { IsTermOver builder.old.places (part_nodes stride now) }
     requires before { IsTermOver builder.old.places (part_nodes stride before) }
-    ensures literal { IfOk result (λ literal. literal ≡ (made_nodes builder.old.places builder.old.last (joined_nodes (part_nodes stride now.entry) (part_nodes stride before.entry))).literal) }
-    ensures built { OnOk result (IsBuilt builder.old builder.new (made_nodes builder.old.places builder.old.last (joined_nodes (part_nodes stride now.entry) (part_nodes stride before.entry))).last (made_nodes builder.old.places builder.old.last (joined_nodes (part_nodes stride now.entry) (part_nodes stride before.entry))).clauses) }
-    ensures refused { IfErr result (IsPast (made_nodes builder.old.places builder.old.last (joined_nodes (part_nodes stride now.entry) (part_nodes stride before.entry))).last) }
+    ensures { Makes builder.old builder.new result (made_nodes builder.old.places builder.old.last (joined_nodes (part_nodes stride now.entry) (part_nodes stride before.entry))) }
 {
     if is_truth(now.nodes) {
         return builder.literal(before.nodes, offset_of(stride, before.step));
@@ -90,9 +86,7 @@ fn body(builder: &mut Builder, stride: u64, rule: TimedRule<'_>) -> Result<Lit, 
     requires last { builder.old.last ≤ 4000000 }
     requires stride { stride ≤ 8589934592 }
     requires fits { IsBodyOver builder.old.places stride rule }
-    ensures literal { IfOk result (λ literal. literal ≡ (made_nodes builder.old.places builder.old.last (body_nodes stride rule.entry)).literal) }
-    ensures built { OnOk result (IsBuilt builder.old builder.new (made_nodes builder.old.places builder.old.last (body_nodes stride rule.entry)).last (made_nodes builder.old.places builder.old.last (body_nodes stride rule.entry)).clauses) }
-    ensures refused { IfErr result (IsPast (made_nodes builder.old.places builder.old.last (body_nodes stride rule.entry)).last) }
+    ensures { Makes builder.old builder.new result (made_nodes builder.old.places builder.old.last (body_nodes stride rule.entry)) }
 {
     match rule.now {
         None => Ok(head_literal(builder, rule.head)),
@@ -119,9 +113,7 @@ fn made_rule(builder: &mut Builder, stride: u64, rule: TimedRule<'_>) -> Result<
     requires last { builder.old.last ≤ 4000000 }
     requires stride { stride ≤ 8589934592 }
     requires fits { IsBodyOver builder.old.places stride rule }
-    ensures literal { IfOk result (λ literal. literal ≡ (made_rule_of builder.old.places stride builder.old.last rule.entry).literal) }
-    ensures built { OnOk result (IsBuilt builder.old builder.new (made_rule_of builder.old.places stride builder.old.last rule.entry).last (made_rule_of builder.old.places stride builder.old.last rule.entry).clauses) }
-    ensures refused { IfErr result (IsPast (made_rule_of builder.old.places stride builder.old.last rule.entry).last) }
+    ensures { Makes builder.old builder.new result (made_rule_of builder.old.places stride builder.old.last rule.entry) }
 {
     if is_certain(&builder.places, rule.head) {
         return Ok(builder.places.truth());

@@ -7,7 +7,7 @@ ghost use Rattle.cc_defs.specs.Clauses.{opposite};
 ghost use Rattle.cc_defs.specs.Histories.{step_of as step_of_at};
 ghost use Rattle.cc_defs.specs.Rows.{IsRow};
 ghost use Rattle.cc_defs.specs.Terms.{IsTermOver, postfix};
-ghost use Rattle.cc_form.specs.Machine.{made_nodes, moved_nodes, IsBuilt, IsPast};
+ghost use Rattle.cc_form.specs.Machine.{made_nodes, moved_nodes, run as run_of, stepped, Adds, IsPast, IsRan, Makes, RunsTo};
 ghost use Rattle.cc_form.specs.Making.{asserted_nodes, denied_nodes};
 ghost use Rattle.cc_form.specs.Queries.{condition_nodes};
 
@@ -37,9 +37,7 @@ fn literal_at(
     requires stride { stride ≤ 8589934592 }
     requires step { step_of_at condition.at horizon ≤ 1000 }
     requires term { IsTermOver builder.old.places (condition_nodes stride horizon (plain_ground_condition condition)) }
-    ensures literal { IfOk result (λ literal. literal ≡ (made_nodes builder.old.places builder.old.last (condition_nodes stride horizon (plain_ground_condition condition.entry))).literal) }
-    ensures built { OnOk result (IsBuilt builder.old builder.new (made_nodes builder.old.places builder.old.last (condition_nodes stride horizon (plain_ground_condition condition.entry))).last (made_nodes builder.old.places builder.old.last (condition_nodes stride horizon (plain_ground_condition condition.entry))).clauses) }
-    ensures refused { IfErr result (IsPast (made_nodes builder.old.places builder.old.last (condition_nodes stride horizon (plain_ground_condition condition.entry))).last) }
+    ensures { Makes builder.old builder.new result (made_nodes builder.old.places builder.old.last (condition_nodes stride horizon (plain_ground_condition condition.entry))) }
 {
     let step = step_of(condition.at, horizon);
     builder.literal(condition.nodes, offset_of(stride, step))
@@ -55,8 +53,7 @@ pub(crate) fn assert_all(
     requires last { builder.old.last ≤ 4000000 }
     requires stride { stride ≤ 8589934592 }
     requires fit { AllByRecursion (λ condition. (step_of_at condition.at horizon ≤ 1000) × IsTermOver builder.old.places (condition_nodes stride horizon (plain_ground_condition condition))) conditions.now }
-    ensures built { OnOk result (IsBuilt builder.old builder.new (asserted_nodes builder.old.places builder.old.last (map (λ condition. condition_nodes stride horizon (plain_ground_condition condition)) conditions.now)).last (asserted_nodes builder.old.places builder.old.last (map (λ condition. condition_nodes stride horizon (plain_ground_condition condition)) conditions.now)).clauses) }
-    ensures refused { IfErr result (IsPast (asserted_nodes builder.old.places builder.old.last (map (λ condition. condition_nodes stride horizon (plain_ground_condition condition)) conditions.now)).last) }
+    ensures { Adds builder.old builder.new result (asserted_nodes builder.old.places builder.old.last (map (λ condition. condition_nodes stride horizon (plain_ground_condition condition)) conditions.now)) }
 {
     for condition in conditions {
         let literal = literal_at(builder, stride, horizon, *condition)?;
@@ -76,8 +73,7 @@ pub(crate) fn deny(
     requires stride { stride ≤ 8589934592 }
     requires step { step_of_at claim.at horizon ≤ 1000 }
     requires term { IsTermOver builder.old.places (condition_nodes stride horizon (plain_ground_condition claim)) }
-    ensures built { OnOk result (IsBuilt builder.old builder.new (denied_nodes builder.old.places builder.old.last (Some (condition_nodes stride horizon (plain_ground_condition claim.entry)))).last (denied_nodes builder.old.places builder.old.last (Some (condition_nodes stride horizon (plain_ground_condition claim.entry)))).clauses) }
-    ensures refused { IfErr result (IsPast (denied_nodes builder.old.places builder.old.last (Some (condition_nodes stride horizon (plain_ground_condition claim.entry)))).last) }
+    ensures { Adds builder.old builder.new result (denied_nodes builder.old.places builder.old.last (Some (condition_nodes stride horizon (plain_ground_condition claim.entry)))) }
 {
     let literal = literal_at(builder, stride, horizon, claim)?;
     builder.store.keep_one(literal.opposite())?;
@@ -116,8 +112,7 @@ fn step_up(builder: &mut Builder, count: usize) -> Result<(), Fault> {
 pub(crate) fn follow(builder: &mut Builder, row: &[u32]) -> Result<(), Fault>
     requires last { builder.old.last ≤ 4000000 }
     requires row { IsRow builder.old.places row.now }
-    ensures built { OnOk result (IsBuilt builder.old builder.new (asserted_nodes builder.old.places builder.old.last (postfix (after_key 0 builder.old.places row.now) ∷ [])).last (asserted_nodes builder.old.places builder.old.last (postfix (after_key 0 builder.old.places row.now) ∷ [])).clauses) }
-    ensures refused { IfErr result (IsPast (asserted_nodes builder.old.places builder.old.last (postfix (after_key 0 builder.old.places row.now) ∷ [])).last) }
+    ensures { Adds builder.old builder.new result (asserted_nodes builder.old.places builder.old.last (postfix (after_key 0 builder.old.places row.now) ∷ [])) }
 {
     builder.begin();
     step_down(builder, row)?;
