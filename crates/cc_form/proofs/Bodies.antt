@@ -73,3 +73,8 @@ bodies_fail old now stride literals rule rest whole fault so past =
     past_more m.last (made_bodies old.places stride old.last whole).last fault
     (subst (λ (n : ℕ). m.last ≤ n) so.ends (bodies_rise old.places stride m.last rest))
     (subst (λ (p : List ℕ). IsPast (made_rule p stride now.last rule).last fault) so.places past)
+
+pub front_at : {X : Type 0} (xs : List X) (i : ℕ) (d : X) → i < length xs → drop i xs ≡ get_or xs i d ∷ drop (i + 1) xs
+front_at [] i d less = absurd (omega arith)
+front_at (x ∷ xs) zero d less = refl
+front_at (x ∷ xs) (suc i) d less = front_at xs i d (omega arith) ∙ ap (λ (n : ℕ). get_or xs i d ∷ drop n (x ∷ xs)) (let e : suc (i + 1) ≡ suc i + 1 = omega arith in e)

@@ -7,6 +7,7 @@ mod Keys
 mod Meaning
 mod Ordered
 mod Parts
+mod Picking
 mod Positions
 mod RowValues
 mod Running
