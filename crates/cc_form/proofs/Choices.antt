@@ -1,12 +1,15 @@
 -- The clauses of positions, one behind the other.
-use Rattle.std.proofs.Common.{◌≡◌, ◌∙◌, ℕ, zero, suc, ◌+◌, ◌-◌, ◌<◌, ◌≤◌, List, [], ◌∷◌, ◌++◌, length, map, drop, get_or, sum, Result, Ok, Err, OnOk, refl, sym, ap, subst, arith, append_assoc, append-nil}
+use Rattle.std.proofs.Common.{◌≡◌, ◌∙◌, ℕ, zero, suc, ◌+◌, ◌-◌, ◌<◌, ◌≤◌, List, [], ◌∷◌, ◌++◌, length, map, flat_map, drop, get_or, slice_get, Some, Bool, sum, Result, Ok, Err, OnOk, refl, sym, ap, subst, arith, append_assoc, append-nil}
 use Rattle.std.proofs.lemmas.List.Sums.{sum_by-cons}
-use Rattle.cc_defs.specs.ClauseForms.{positive}
-use Rattle.cc_defs.specs.ClauseLists.{exactly_one, pairs_denied, position_variables, positions_from}
+use Rattle.std.specs.Prelude.{if◌then◌else◌}
+use Rattle.std.proofs.lemmas.Bool.{le-ltb, lt-ltb}
+use Rattle.cc_defs.specs.ClauseForms.{all_written, atom_variable, positive}
+use Rattle.cc_defs.specs.ClauseLists.{Bodied, bodies_of, completion_from, completion_of, exactly_one, position_completion, pairs_denied, position_variables, positions_from}
 use Rattle.cc_defs.specs.Clauses.{Literal, opposite}
 use Rattle.cc_defs.specs.Rules.{upto}
 use Rattle.cc_form.specs.declared.store.Kept.{Kept}
 use Rattle.cc_form.specs.Store.{Gives}
+use Rattle.cc_form.proofs.Definitions.{written_behind}
 use Rattle.cc_form.proofs.Keeping.{gives_full, gives_more, gives_none}
 
 -- some clauses are there, and with the rest they are all
@@ -93,3 +96,49 @@ pub sum_front : (sizes : List ℕ) (i : ℕ) → i < length sizes → sum (drop 
 sum_front [] i less = absurd (omega arith)
 sum_front (s ∷ sizes) zero less = sum_by-cons (λ (n : ℕ). n) s sizes
 sum_front (s ∷ sizes) (suc i) less = sum_front sizes i (omega arith) ∙ ap (λ (n : ℕ). get_or sizes i 0 + sum (drop n (s ∷ sizes))) (let e : suc (i + 1) ≡ suc i + 1 = omega arith in e)
+
+-- ---- completion
+
+flat_last : {X : Type 0} (f : ℕ → List X) (xs : List ℕ) (x : ℕ) → flat_map f (xs ++ x ∷ []) ≡ flat_map f xs ++ f x
+flat_last f [] x = append-nil (f x)
+flat_last f (y ∷ xs) x = ap (λ l. f y ++ l) (flat_last f xs x) ∙ sym (append_assoc (f y) (flat_map f xs) (f x))
+
+pub value_more : (old now new : Kept) (f : ℕ → List (List Literal)) (n : ℕ) → Gives old now (all_written (flat_map f (upto n))) → Gives now new (all_written (f n)) → Gives old new (all_written (flat_map f (upto (n + 1))))
+value_more old now new f n one other =
+    subst (Gives old new)
+    (sym (written_behind (flat_map f (upto n)) (f n)) ∙ ap all_written (sym (flat_last f (upto n) n)) ∙ ap (λ (k : ℕ). all_written (flat_map f (upto k))) (let e : suc n ≡ n + 1 = omega arith in e))
+    (gives_more old now new (all_written (flat_map f (upto n))) (all_written (f n)) one other)
+
+pub one_value : (sizes : List ℕ) (rules : List Bodied) (position size : ℕ) (kept : Kept) → size < 2 → Gives kept kept (all_written (position_completion sizes rules position size))
+one_value sizes rules position size kept less =
+    subst (λ (b : Bool). Gives kept kept (all_written (if b then flat_map (λ value. completion_of (positive (atom_variable sizes position value)) (bodies_of position value rules)) (upto size) else []))) (sym (le-ltb 1 size (omega arith))) (gives_none kept)
+
+pub all_values : (sizes : List ℕ) (rules : List Bodied) (position size : ℕ) (old new : Kept) → 2 ≤ size →
+    Gives old new (all_written (flat_map (λ value. completion_of (positive (atom_variable sizes position value)) (bodies_of position value rules)) (upto size))) → Gives old new (all_written (position_completion sizes rules position size))
+all_values sizes rules position size old new more given =
+    subst (λ (b : Bool). Gives old new (all_written (if b then flat_map (λ value. completion_of (positive (atom_variable sizes position value)) (bodies_of position value rules)) (upto size) else []))) (sym (lt-ltb 1 size (omega arith))) given
+
+pub completion_front : (sizes : List ℕ) (rules : List Bodied) (position : ℕ) (all : List ℕ) → position < length all →
+    all_written (completion_from sizes rules position (drop position all)) ≡ all_written (position_completion sizes rules position (get_or all position 0)) ++ all_written (completion_from sizes rules (position + 1) (drop (position + 1) all))
+completion_front sizes rules position all less =
+    ap (λ (l : List ℕ). all_written (completion_from sizes rules position l)) (front_at all position less)
+    ∙ written_behind (position_completion sizes rules position (get_or all position 0)) (completion_from sizes rules (position + 1) (drop (position + 1) all))
+  where
+    front_at : (xs : List ℕ) (i : ℕ) → i < length xs → drop i xs ≡ get_or xs i 0 ∷ drop (i + 1) xs
+    front_at [] i below = absurd (omega arith)
+    front_at (x ∷ xs) zero below = refl
+    front_at (x ∷ xs) (suc i) below = front_at xs i (omega arith) ∙ ap (λ (n : ℕ). get_or xs i 0 ∷ drop n (x ∷ xs)) (let e : suc (i + 1) ≡ suc i + 1 = omega arith in e)
+
+pub no_completion : (sizes : List ℕ) (rules : List Bodied) (position : ℕ) (all : List ℕ) → length all ≤ position → all_written (completion_from sizes rules position (drop position all)) ≡ []
+no_completion sizes rules position all most = ap (λ (l : List ℕ). all_written (completion_from sizes rules position l)) (none all position most)
+  where
+    none : (xs : List ℕ) (i : ℕ) → length xs ≤ i → drop i xs ≡ []
+    none [] zero less = refl
+    none [] (suc i) less = refl
+    none (x ∷ xs) zero less = absurd (omega arith)
+    none (x ∷ xs) (suc i) less = none xs i (omega arith)
+
+pub size_at : (sizes : List ℕ) (i : ℕ) → i < length sizes → slice_get sizes i ≡ Some (get_or sizes i 0)
+size_at [] i less = absurd (omega arith)
+size_at (s ∷ sizes) zero less = refl
+size_at (s ∷ sizes) (suc i) less = size_at sizes i (omega arith)

@@ -11,5 +11,6 @@ mod Picking
 mod Positions
 mod RowValues
 mod Running
+mod Standing
 mod Telling
 mod Written
