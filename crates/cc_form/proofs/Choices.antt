@@ -3,7 +3,7 @@ use Rattle.std.proofs.Common.{◌≡◌, ◌∙◌, ℕ, zero, suc, ◌+◌, ◌
 use Rattle.std.proofs.lemmas.List.Sums.{sum_by-cons}
 use Rattle.std.specs.Prelude.{if◌then◌else◌}
 use Rattle.std.proofs.lemmas.Bool.{le-ltb, lt-ltb}
-use Rattle.cc_defs.specs.ClauseForms.{all_written, atom_variable, positive}
+use Rattle.cc_defs.specs.ClauseForms.{all_written, any_clauses, atom_variable, positive}
 use Rattle.cc_defs.specs.ClauseLists.{Bodied, bodies_of, completion_from, completion_of, exactly_one, position_completion, pairs_denied, position_variables, positions_from}
 use Rattle.cc_defs.specs.Clauses.{Literal, opposite}
 use Rattle.cc_defs.specs.Rules.{upto}
@@ -142,3 +142,8 @@ pub size_at : (sizes : List ℕ) (i : ℕ) → i < length sizes → slice_get si
 size_at [] i less = absurd (omega arith)
 size_at (s ∷ sizes) zero less = refl
 size_at (s ∷ sizes) (suc i) less = size_at sizes i (omega arith)
+
+pub complete_is : {T E : Type 0} (result : Result T E) (old new : Kept) (x atom : Literal) (causes bodies : List Literal) → x ≡ atom → causes ≡ bodies →
+    OnOk result (Gives old new (all_written (any_clauses x causes))) → OnOk result (Gives old new (all_written (completion_of atom bodies)))
+complete_is result old new x atom causes bodies same are given =
+    subst (λ (l : Literal). OnOk result (Gives old new (all_written (any_clauses l bodies)))) same (subst (λ (b : List Literal). OnOk result (Gives old new (all_written (any_clauses x b)))) are given)

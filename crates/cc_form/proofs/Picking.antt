@@ -1,11 +1,11 @@
 -- The literals of the bodies of a head's rules, by the numbers of these rules.
-use Rattle.std.proofs.Common.{◌≡◌, ◌∙◌, ℕ, zero, suc, ◌+◌, ◌<◌, ◌≤◌, ◌⊎◌, inl, inr, Bool, true, false, ◌&&◌, List, [], ◌∷◌, ◌++◌, length, map, get_or, slice_get, Some, nat_lt, refl, sym, ap, subst, arith, append_assoc, length-append}
+use Rattle.std.proofs.Common.{◌≡◌, ◌∙◌, ℕ, zero, suc, ◌+◌, ◌<◌, ◌≤◌, ◌⊎◌, inl, inr, Bool, true, false, ◌&&◌, List, [], ◌∷◌, ◌++◌, length, map, take, get_or, slice_get, Some, nat_lt, refl, sym, ap, subst, arith, append_assoc, length-append}
 use Rattle.std.specs.Prelude.{◌==◌, if◌then◌else◌, cond}
 use Rattle.std.specs.List.{filter, AllByRecursion}
 use Rattle.std.proofs.lemmas.Bool.{eqb-true, eq-eqb}
 use Rattle.cc_defs.specs.declared.node.GroundHead.{GroundHead}
 use Rattle.cc_defs.specs.declared.node.GroundHead.TheVariants as heads
-use Rattle.cc_defs.specs.ClauseForms.{positive}
+use Rattle.cc_defs.specs.ClauseForms.{all_written, positive, written}
 use Rattle.cc_defs.specs.ClauseLists.{Bodied, bodies_of, denials_of, is_falsity, is_of_atom}
 use Rattle.cc_defs.specs.Clauses.{Literal, opposite}
 use Rattle.cc_defs.specs.Declarations.{numbers_where}
@@ -14,8 +14,13 @@ use Rattle.cc_theory.specs.declared.rule.TimedHead.TheVariants as timed_heads
 use Rattle.cc_theory.specs.declared.rule.TimedRule.{TimedRule}
 use Rattle.cc_theory.specs.Theories.{causes_of, has_atom, plain_head}
 use Rattle.cc_theory.specs.Theories as theories
+use Rattle.cc_form.specs.declared.store.Kept.{Kept}
 use Rattle.cc_form.specs.Making.{bodied, picked}
+use Rattle.cc_form.specs.Store.{Gives}
+use Rattle.cc_form.proofs.Definitions.{mapped_all, mapped_more, written_behind, written_one}
+use Rattle.cc_form.proofs.Keeping.{gives_more}
 use Rattle.cc_form.proofs.Ordered.{cases_test}
+use Rattle.cc_form.proofs.RowValues.{mapped_last}
 use Rattle.cc_form.proofs.Written.{equal_tests}
 
 test_same : (position value : ℕ) (head : TimedHead) → has_atom position value head ≡ is_of_atom position value (plain_head head)
@@ -87,3 +92,36 @@ denials_are rules bodies long =
     mapped_twice : (rs : List Bodied) → map (λ body. opposite body ∷ []) (map (λ rule. rule.body) rs) ≡ map (λ rule. opposite rule.body ∷ []) rs
     mapped_twice [] = refl
     mapped_twice (r ∷ rs) = ap (λ l. (opposite r.body ∷ []) ∷ l) (mapped_twice rs)
+
+pub number_at : (numbers : List ℕ) (bound i : ℕ) → AllByRecursion (λ number. number < bound) numbers → i < length numbers → get_or numbers i 0 < bound
+number_at [] bound i all less = absurd (omega arith)
+number_at (n ∷ numbers) bound zero all less = all.0
+number_at (n ∷ numbers) bound (suc i) all less = number_at numbers bound i all.1 (omega arith)
+
+read_as : {X : Type 0} (xs : List X) (i : ℕ) (d e : X) → i < length xs → get_or xs i d ≡ get_or xs i e
+read_as [] i d e less = absurd (omega arith)
+read_as (x ∷ xs) zero d e less = refl
+read_as (x ∷ xs) (suc i) d e less = read_as xs i d e (omega arith)
+
+abbrev denied : Literal → List Literal
+denied body = opposite body ∷ []
+
+pub deny_more : (old now new : Kept) (bodies : List Literal) (numbers : List ℕ) (i : ℕ) (body literal : Literal) → i < length numbers → get_or numbers i 0 < length bodies →
+    body ≡ get_or bodies (get_or numbers i 0) body → literal ≡ opposite body → Gives old now (all_written (map denied (picked bodies (take i numbers)))) → Gives now new (written (literal ∷ [])) →
+    Gives old new (all_written (map denied (picked bodies (take (i + 1) numbers))))
+deny_more old now new bodies numbers i body literal less within is turned one other =
+    let x = get_or numbers i 0 in
+    let read : body ≡ get_or bodies x (positive 0) = is ∙ read_as bodies x body (positive 0) within in
+    let more : picked bodies (take (i + 1) numbers) ≡ picked bodies (take i numbers) ++ get_or bodies x (positive 0) ∷ [] =
+    mapped_more (λ number. get_or bodies number (positive 0)) numbers i x less (read_as numbers i 0 x less) in
+    let next : Gives now new (written (denied (get_or bodies x (positive 0)))) = subst (λ (l : List Literal). Gives now new (written l)) (ap (λ (l : Literal). l ∷ []) (turned ∙ ap opposite read)) other in
+    subst (Gives old new)
+    (ap (λ (l : List (List Literal)). all_written (map denied (picked bodies (take i numbers))) ++ l) (written_one (denied (get_or bodies x (positive 0))))
+    ∙ sym (written_behind (map denied (picked bodies (take i numbers))) (denied (get_or bodies x (positive 0)) ∷ []))
+    ∙ ap all_written (sym (mapped_last denied (picked bodies (take i numbers)) (get_or bodies x (positive 0))) ∙ ap (map denied) (sym more)))
+    (gives_more old now new (all_written (map denied (picked bodies (take i numbers)))) (written (denied (get_or bodies x (positive 0)))) one next)
+
+pub denied_all : (old new : Kept) (rules : List TimedRule) (bodies : List Literal) (numbers : List ℕ) (i : ℕ) → length bodies ≡ length rules → numbers ≡ theories.denials_of rules → length numbers ≡ i →
+    Gives old new (all_written (map denied (picked bodies (take i numbers)))) → Gives old new (all_written (denials_of (bodied rules bodies)))
+denied_all old new rules bodies numbers i long are all given =
+    subst (λ (l : List (List Literal)). Gives old new (all_written l)) (ap (map denied) (mapped_all (λ number. get_or bodies number (positive 0)) numbers i all) ∙ ap (λ (n : List ℕ). map denied (picked bodies n)) are ∙ denials_are rules bodies long) given

@@ -4,8 +4,9 @@ use Rattle.std.specs.Prelude.{◌<◌, Some, slice_get, ◌≡◌}
 use Rattle.cc_defs.specs.ClauseForms.{all_written, atom_variable, positive}
 use Rattle.cc_defs.specs.ClauseLists.{bodies_of, completion_of}
 use Rattle.cc_defs.specs.Clauses.{Literal}
-use Rattle.cc_form.specs.Making.{bodied}
+use Rattle.cc_form.specs.Making.{bodied, picked}
 use Rattle.cc_form.specs.Store.{Gives}
+use Rattle.cc_form.proofs.Choices.{complete_is}
 use Rattle.cc_form.proofs.Picking.{picked_is, causes_below}
 use Rattle.cc_form.proofs.Standing.{atom_there}
 use Rattle.cc_form.proofs.groups.complete_atom.Goals as goal
@@ -24,5 +25,7 @@ pick-requires c =
 pub returns : goal.returns
 returns c =
     let t = c.args.theory.now in
-    let causes = c.deref.ensures.value ∙ c.in_ok-pick.ensures ∙ ? in
-    ?
+    let are : c.pick.new.out.items ≡ picked c.args.bodies.now c.completion.result.now = c.in_ok-pick.ensures in
+    complete_is c.define_any.result c.args.store.now.kept c.define_any.new.store.kept c.atom.result (positive (atom_variable c.args.places.now c.args.position c.args.value)) c.deref.result.now
+    (bodies_of c.args.position c.args.value (bodied t.rules c.args.bodies.now)) c.atom.ensures
+    (c.deref.ensures.value ∙ are ∙ ap (picked c.args.bodies.now) c.completion.ensures ∙ picked_is t.rules c.args.bodies.now c.args.position c.args.value c.requires.bodies) c.define_any.ensures

@@ -1,4 +1,4 @@
-use Rattle.std.proofs.Common.{◌≡◌, ◌∙◌, ◌<◌, ◌≤◌, ℕ, List, get_or, slice_get, Some, sym, ap, subst, arith}
+use Rattle.std.proofs.Common.{◌≡◌, ◌∙◌, ◌<◌, ◌≤◌, ℕ, List, length, get_or, slice_get, Some, sym, ap, subst, arith}
 use Rattle.cc_defs.specs.ClauseForms.{all_written, atom_variable, positive}
 use Rattle.cc_defs.specs.ClauseLists.{bodies_of, completion_of}
 use Rattle.cc_form.specs.Making.{bodied}
@@ -8,7 +8,7 @@ use Rattle.cc_form.proofs.groups.complete_position.Goals as goal
 pub complete_atom-requires-clause-within : goal.complete_atom-requires-clause-within
 complete_atom-requires-clause-within c = (
   get_or c.sizes.result.now c.args.position 0,
-  ap (λ (s : List ℕ). slice_get s c.args.position) (sym c.sizes.ensures) ∙ size_at c.sizes.result.now c.args.position ?,
+  ap (λ (s : List ℕ). slice_get s c.args.position) (sym c.sizes.ensures) ∙ size_at c.sizes.result.now c.args.position (subst (λ (s : List ℕ). c.args.position < length s) (sym c.sizes.ensures) c.requires.within),
   c.loop-value-test.true,
 )
 
