@@ -1,5 +1,5 @@
 -- The clause list as it is made from rules in time, conditions and a claim whose terms are nodes.
-use Rattle.std.specs.Prelude.{◌≡◌, ℕ, ◌+◌, ◌*◌, ◌≤◌, Bool, true, false, if◌then◌else◌, List, [], ◌∷◌, ◌++◌, map, Option, Some, None, IfSome, slice_index_or}
+use Rattle.std.specs.Prelude.{◌≡◌, ℕ, zero, suc, ◌+◌, ◌-◌, ◌*◌, ◌≤◌, Bool, true, false, if◌then◌else◌, List, [], ◌∷◌, ◌++◌, map, Option, Some, None, IfSome, slice_index, slice_index_or}
 use Rattle.cc_defs.specs.declared.node.Node.{Node}
 use Rattle.cc_defs.specs.declared.node.Node.TheVariants as nodes
 use Rattle.cc_defs.specs.ClauseForms.{Made, positive, true_variable, all_written}
@@ -116,3 +116,17 @@ list_over sizes stride rules conditions claim key =
           ++ all_written (denials_of bodies.rules)
           ++ query.clauses ++ denied.clauses ++ later.clauses;
     }
+
+-- ---- the nodes of the formula that a row lies after a key, one position behind another
+
+-- a value above that of the key, and that of the key
+abbrev pub key_part : ℕ → (size index : ℕ) → List Node
+key_part position size index = nodes_above position index (size - (index + 1)) ++ nodes.Any (size - (index + 1)) ∷ [] ++ nodes.Atom position index ∷ []
+
+abbrev pub key_down : List ℕ → List ℕ → ℕ → List Node
+key_down sizes row zero = []
+key_down sizes row (suc position) = key_down sizes row position ++ key_part position (slice_index sizes position) (slice_index row position)
+
+abbrev pub key_up : ℕ → List Node
+key_up zero = []
+key_up (suc count) = key_up count ++ nodes.All 2 ∷ nodes.Any 2 ∷ []

@@ -11,6 +11,7 @@ ghost use Rattle.cc_form.specs.Store.{Gives, Holds};
 use crate::defining::{define_all, define_any, define_same};
 use crate::places::{Places, past};
 use crate::store::Store;
+use cc_clauses::ClauseArena;
 use cc_defs::{Fault, LimitAt, Lit, Node};
 use std::alloc::Global;
 
@@ -236,5 +237,20 @@ impl Builder {
         self.begin();
         self.run(term, offset)?;
         Ok(self.end())
+    }
+
+    /// The positions, the number of the last variable, and the clauses.
+    pub(crate) fn close(self) -> (Places, u32, ClauseArena)
+        ensures places { result.0 ≡ self.places }
+        ensures last { result.1 ≡ self.last }
+        ensures clauses { result.2 ≡ self.store.kept.arena }
+    {
+        let Builder {
+            places,
+            last,
+            stack: _,
+            store,
+        } = self;
+        (places, last, store.close())
     }
 }

@@ -109,3 +109,52 @@ impl Form {
         self.clauses
     }
 }
+
+/// The clauses of conditions, of a claim where it is asked for, and of a key.
+fn add_query(
+    builder: &mut Builder,
+    stride: u64,
+    horizon: u32,
+    query: &GroundQuery<'_>,
+    with_claim: bool,
+    after: Option<&Key>,
+) -> Result<(), Fault> {
+    assert_all(builder, stride, horizon, query.conditions.items())?;
+    if with_claim {
+        if let Some(claim) = query.claim {
+            deny(builder, stride, horizon, claim)?;
+        }
+    }
+    match after {
+        Some(key) => follow(builder, key.row.items()),
+        None => Ok(()),
+    }
+}
+
+/// The clauses of positions, rules, completion and denials.
+fn add_rules(alloc: Global, builder: &mut Builder, stride: u64, theory: &Theory<'_>) -> Result<(), Fault> {
+    let truth = builder.places.truth();
+    builder.store.keep_one(truth)?;
+    positions(&mut builder.store, builder.places.sizes())?;
+    let bodies = bodies(alloc, builder, stride, theory.rules())?;
+    let mut causes = Vec::new(alloc);
+    complete(&mut builder.store, &builder.places, theory, &bodies, &mut causes)?;
+    deny_falsity(&mut builder.store, theory, &bodies)?;
+    Ok(())
+}
+
+/// The form of what was built, where it is within its limits.
+fn close(builder: Builder) -> Result<Form, Fault> {
+    if builder.store.is_full() {
+        return Err(past(LimitAt::AxiomClauses));
+    }
+    if builder.store.kept.is_long {
+        return Err(past(LimitAt::AxiomLiterals));
+    }
+    let (places, variables, clauses) = builder.close();
+    Ok(Form {
+        places,
+        variables,
+        clauses,
+    })
+}

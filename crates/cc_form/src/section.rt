@@ -1,14 +1,15 @@
 //! The clauses of conditions, of a claim that is denied, and that a row lies after a key.
-ghost use Rattle.std.specs.Prelude.{◌≡◌, ◌*◌, ◌+◌, ◌-◌, ◌≤◌, ◌<◌, ◌++◌, [], ◌∷◌, length, map, IfOk, IfErr, OnOk, Some, None};
+ghost use Rattle.std.specs.Prelude.{◌≡◌, slice_get, ◌*◌, ◌+◌, ◌-◌, ◌≤◌, ◌<◌, ◌++◌, [], ◌∷◌, length, map, IfOk, IfErr, OnOk, Some, None};
 ghost use Rattle.std.specs.List.{AllByRecursion};
 ghost use Rattle.cc_arena.specs.GroundViews.{plain_ground_condition};
+ghost use Rattle.cc_defs.specs.declared.node.Node.TheVariants as nodes;
 ghost use Rattle.cc_defs.specs.ClauseLists.{after_key};
 ghost use Rattle.cc_defs.specs.Clauses.{opposite};
 ghost use Rattle.cc_defs.specs.Histories.{step_of as step_of_at};
 ghost use Rattle.cc_defs.specs.Rows.{IsRow};
 ghost use Rattle.cc_defs.specs.Terms.{IsTermOver, postfix};
 ghost use Rattle.cc_form.specs.Machine.{made_nodes, moved_nodes, run as run_of, stepped, Adds, IsPast, IsRan, Makes, RunsTo};
-ghost use Rattle.cc_form.specs.Making.{asserted_nodes, denied_nodes};
+ghost use Rattle.cc_form.specs.Making.{asserted_nodes, denied_nodes, key_down, key_part, key_up, nodes_above};
 ghost use Rattle.cc_form.specs.Queries.{condition_nodes};
 
 use crate::builder::Builder;
@@ -81,31 +82,66 @@ pub(crate) fn deny(
 }
 
 /// Puts the literal on the stack that a position has one of the values above this one.
-fn step_above(builder: &mut Builder, position: u64, value: u32, size: u32) -> Result<(), Fault> {
+fn step_above(builder: &mut Builder, position: u64, value: u32, size: u32) -> Result<(), Fault>
+    requires last { builder.old.last ≤ 4000000 }
+    requires size { slice_get builder.old.places position ≡ Some size }
+    requires value { value < size }
+    ensures runs { RunsTo builder.old builder.new result (run_of builder.old.places (nodes_above position value (size - (value + 1)) ++ nodes.Any (size - (value + 1)) ∷ []) builder.old.stack.items builder.old.last) }
+    ensures long { OnOk result (length builder.new.stack.items ≡ length builder.old.stack.items + 1) }
+{
     for more in value + 1..size {
         builder.step_atom(position, more)?;
     }
     builder.step(Node::Any(size - (value + 1)), 0)
 }
 
-/// For each position the literals on the stack that it has a value above that of the key, and that it has that of the key.
-fn step_down(builder: &mut Builder, row: &[u32]) -> Result<(), Fault> {
+/// The literals on the stack that a position has a value above that of the key, and that it has that of the key.
+fn step_part(builder: &mut Builder, position: u64, value: u32, size: u32) -> Result<(), Fault>
+    requires last { builder.old.last ≤ 4000000 }
+    requires size { slice_get builder.old.places position ≡ Some size }
+    requires value { value < size }
+    ensures runs { RunsTo builder.old builder.new result (run_of builder.old.places (key_part position size value) builder.old.stack.items builder.old.last) }
+    ensures long { OnOk result (length builder.new.stack.items ≡ length builder.old.stack.items + 2) }
+{
+    step_above(builder, position, value, size)?;
+    builder.step_atom(position, value)
+}
+
+/// The parts of all positions.
+fn step_down(builder: &mut Builder, row: &[u32]) -> Result<(), Fault>
+    requires last { builder.old.last ≤ 4000000 }
+    requires row { IsRow builder.old.places row.now }
+    ensures runs { RunsTo builder.old builder.new result (run_of builder.old.places (key_down builder.old.places row.now (length row.now)) builder.old.stack.items builder.old.last) }
+    ensures long { OnOk result (length builder.new.stack.items ≡ length builder.old.stack.items + 2 * length row.now) }
+{
     for position in 0..row.len() {
         let size = builder.places.sizes()[position];
-        step_above(builder, position as u64, row[position], size)?;
-        builder.step_atom(position as u64, row[position])?;
+        step_part(builder, position as u64, row[position], size)?;
     }
-    builder.step(Node::False, 0)
+    Ok(())
 }
 
 /// From the last position to the first: a value above that of the key, or that of the key and a row after it from the next
 /// position on.
-fn step_up(builder: &mut Builder, count: usize) -> Result<(), Fault> {
-    for _position in 0..count {
-        builder.step(Node::All(2), 0)?;
-        builder.step(Node::Any(2), 0)?;
+fn step_up(builder: &mut Builder, count: usize) -> Result<(), Fault>
+    requires last { builder.old.last ≤ 4000000 }
+    requires long { 2 * count < length builder.old.stack.items }
+    ensures { RunsTo builder.old builder.new result (run_of builder.old.places (key_up count) builder.old.stack.items builder.old.last) }
+{
+    for pair in 0..count {
+        step_pair(builder)?;
     }
     Ok(())
+}
+
+fn step_pair(builder: &mut Builder) -> Result<(), Fault>
+    requires last { builder.old.last ≤ 4000000 }
+    requires long { 3 ≤ length builder.old.stack.items }
+    ensures runs { RunsTo builder.old builder.new result (run_of builder.old.places (nodes.All 2 ∷ nodes.Any 2 ∷ []) builder.old.stack.items builder.old.last) }
+    ensures long { OnOk result (length builder.new.stack.items + 2 ≡ length builder.old.stack.items) }
+{
+    builder.step(Node::All(2), 0)?;
+    builder.step(Node::Any(2), 0)
 }
 
 /// The row lies after that of the key.
@@ -114,10 +150,19 @@ pub(crate) fn follow(builder: &mut Builder, row: &[u32]) -> Result<(), Fault>
     requires row { IsRow builder.old.places row.now }
     ensures { Adds builder.old builder.new result (asserted_nodes builder.old.places builder.old.last (postfix (after_key 0 builder.old.places row.now) ∷ [])) }
 {
-    builder.begin();
-    step_down(builder, row)?;
-    step_up(builder, row.len())?;
-    let literal = builder.end();
+    let literal = follow_literal(builder, row)?;
     builder.store.keep_one(literal)?;
     Ok(())
+}
+
+fn follow_literal(builder: &mut Builder, row: &[u32]) -> Result<Lit, Fault>
+    requires last { builder.old.last ≤ 4000000 }
+    requires row { IsRow builder.old.places row.now }
+    ensures { Makes builder.old builder.new result (made_nodes builder.old.places builder.old.last (key_down builder.old.places row.now (length row.now) ++ nodes.False ∷ [] ++ key_up (length row.now))) }
+{
+    builder.begin();
+    step_down(builder, row)?;
+    builder.step(Node::False, 0)?;
+    step_up(builder, row.len())?;
+    Ok(builder.end())
 }
