@@ -1,3 +1,4 @@
+mod Asserting
 mod Bodies
 mod Causes
 mod Choices

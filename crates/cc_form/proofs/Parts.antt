@@ -5,12 +5,13 @@ use Rattle.cc_defs.specs.declared.node.Node.{Node}
 use Rattle.cc_defs.specs.declared.node.Node.TheVariants as nodes
 use Rattle.cc_defs.specs.declared.refusal.Fault.{Fault}
 use Rattle.cc_defs.specs.ClauseForms.{Made, made_of}
+use Rattle.cc_defs.specs.ClauseLists.{Asserted}
 use Rattle.cc_defs.specs.Clauses.{Literal}
 use Rattle.cc_defs.specs.Terms.{Ground, IsTermOver, postfix}
 use Rattle.cc_form.specs.declared.builder.Builder.{Builder}
 use Rattle.cc_form.specs.declared.store.Kept.{Kept}
 use Rattle.cc_form.specs.declared.store.Store.{Store}
-use Rattle.cc_form.specs.Machine.{Adds, IsBuilt, IsPast, IsRan, IsReady, Makes, Ran, behind, first_of, made_nodes, moved_node, moved_nodes, run, stepped}
+use Rattle.cc_form.specs.Machine.{Adds, IsBuilt, IsPast, IsRan, IsReady, Makes, Ran, RunsTo, behind, first_of, made_nodes, moved_node, moved_nodes, run, stepped}
 use Rattle.cc_form.specs.Making.{is_true_node, is_truth, joined_nodes}
 use Rattle.cc_form.specs.Store.{Gives}
 use Rattle.cc_form.proofs.Keeping.{gives_more}
@@ -138,3 +139,27 @@ front_past sizes a b last fault past = past_more (run sizes a [] last).last (run
 
 pub step_past : (sizes : List ℕ) (node : Node) (stack : List Literal) (last : ℕ) (fault : Fault) → IsPast (stepped sizes node stack last).last fault → IsPast (run sizes (node ∷ []) stack last).last fault
 step_past sizes node stack last fault past = past
+
+pub runs_err : (old new : Builder) (result : Result (Unit {0}) Fault) (ran : Ran) (fault : Fault) → IsErrAnd result (λ given. given ≡ fault) → IsPast ran.last fault → RunsTo old new result ran
+runs_err old new (Ok done) ran fault is past = absurd is
+runs_err old new (Err given) ran fault is past = subst (IsPast ran.last) (sym is) past
+
+pub adds_err : (old new : Builder) (result : Result (Unit {0}) Fault) (made : Asserted) (fault : Fault) → IsErrAnd result (λ given. given ≡ fault) → IsPast made.last fault → Adds old new result made
+adds_err old new (Ok done) made fault is past = absurd is
+adds_err old new (Err given) made fault is past = subst (IsPast made.last) (sym is) past
+
+-- what runs one list and then another runs both
+pub next_runs : (sizes : List ℕ) (old between new : Builder) (a b : List Node) (stack : List Literal) (last : ℕ) (result : Result (Unit {0}) Fault) → old.places ≡ sizes → IsRan old between (run sizes a stack last) →
+    RunsTo between new result (run between.places b between.stack.items between.last) → RunsTo old new result (run sizes (a ++ b) stack last)
+next_runs sizes old between new a b stack last (Ok done) same one other = ran_more sizes old between new a b stack last same one other
+next_runs sizes old between new a b stack last (Err fault) same one past =
+    let r = run sizes a stack last in
+    subst (λ (n : ℕ). IsPast n fault) (ap (λ (x : Ran). x.last) (sym (run_behind sizes a b stack last)))
+    (subst (λ (n : ℕ). IsPast (run sizes b r.stack n).last fault) one.built.ends
+    (subst (λ (s : List Literal). IsPast (run sizes b s between.last).last fault) one.stack
+    (subst (λ (p : List ℕ). IsPast (run p b between.stack.items between.last).last fault) (one.built.places ∙ same) past)))
+
+pub runs_step : (sizes : List ℕ) (old new : Builder) (node : Node) (stack : List Literal) (last : ℕ) (result : Result (Unit {0}) Fault) → OnOk result (IsRan old new (stepped sizes node stack last)) → IfErr result (IsPast (stepped sizes node stack last).last) →
+    RunsTo old new result (run sizes (node ∷ []) stack last)
+runs_step sizes old new node stack last (Ok done) ran past = step_is_run sizes old new node stack last ran
+runs_step sizes old new node stack last (Err fault) ran past = past

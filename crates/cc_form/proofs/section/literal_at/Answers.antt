@@ -1,4 +1,4 @@
-use Rattle.std.proofs.Common.{ℕ, List, ap, subst}
+use Rattle.std.proofs.Common.{◌∙◌, ◌*◌, ℕ, List, ap, subst}
 use Rattle.cc_defs.specs.declared.node.Node.{Node}
 use Rattle.cc_form.specs.Machine.{Makes, made_nodes, moved_nodes}
 use Rattle.cc_form.proofs.Parts.{makes_of}
@@ -7,5 +7,5 @@ use Rattle.cc_form.proofs.section.literal_at.Goals as goal
 pub returns : goal.returns
 returns c =
     let b = c.args.builder.now in
-    subst (λ (n : ℕ). Makes b c.literal.new.self c.literal.result (made_nodes b.places b.last (moved_nodes n c.args.condition.nodes.now))) ?
+    subst (λ (n : ℕ). Makes b c.literal.new.self c.literal.result (made_nodes b.places b.last (moved_nodes n c.args.condition.nodes.now))) (c.offset_of.ensures.value ∙ ap (λ (n : ℕ). n * c.args.stride) c.step_of-step.ensures)
     (makes_of b c.literal.new.self c.literal.result (made_nodes b.places b.last (moved_nodes c.offset_of.result c.args.condition.nodes.now)) c.literal.ensures.literal c.literal.ensures.built c.literal.ensures.refused)
