@@ -76,7 +76,6 @@ mutual
   atoms_fit_in sizes (and_then operands f) fit =
       (atoms_fit_in sizes operands (all_left (Fits sizes) (postfixes operands) (postfix f) fit), atoms_fit sizes f (all_right (Fits sizes) (postfixes operands) (postfix f) fit))
 
-
 pub all_atoms_fit : (sizes : List ℕ) (formulas : List Ground) → AllByRecursion (TermFits sizes) formulas → AllByRecursion (AtomsFit sizes) formulas
 all_atoms_fit sizes [] fit = tt
 all_atoms_fit sizes (f ∷ formulas) fit = (atoms_fit sizes f fit.0, all_atoms_fit sizes formulas fit.1)
@@ -206,7 +205,7 @@ module _ (a : ℕ → Bool) (sizes : List ℕ) (v : ℕ → ℕ) (is_true : a (t
 
   pub met_denials : (rules : List Bodied) → AllMet a (map (λ rule. opposite rule.body ∷ []) rules) → list_any (lit a) (map (λ rule. rule.body) rules) ≡ false
   met_denials [] h = refl
-  met_denials (rule ∷ rules) h = neither (lit a rule.body) (list_any (lit a) (map (λ rule. rule.body) rules)) (untrue (lit a rule.body) (elim (or_gives (lit a (opposite rule.body)) false h.0) [ | inl e ↦ sym (opposite_is a rule.body) ∙ e | inr e ↦ absurd cc ])) (met_denials rules h.1)
+  met_denials (rule ∷ rules) h = neither (lit a rule.body) (list_any (lit a) (map (λ rule. rule.body) rules)) (untrue (lit a rule.body) (elim (or_gives (lit a (opposite rule.body)) false h.0) [ inl e ↦ sym (opposite_is a rule.body) ∙ e | inr e ↦ absurd cc ])) (met_denials rules h.1)
     where
       untrue : (p : Bool) → not p ≡ true → p ≡ false
       untrue true e = absurd cc
@@ -283,7 +282,7 @@ module _ (a : ℕ → Bool) (sizes : List ℕ) (v : ℕ → ℕ) (is_true : a (t
   terms_values last formulas = terms_values_of sizes v last formulas
 
   one_true : (l : Literal) → meets a (l ∷ []) ≡ true → lit a l ≡ true
-  one_true l e = elim (or_gives (lit a l) false e) [ | inl h ↦ h | inr h ↦ absurd cc ]
+  one_true l e = elim (or_gives (lit a l) false e) [ inl h ↦ h | inr h ↦ absurd cc ]
 
   pub terms_asserted : (formulas : List Ground) (last : ℕ) → AllByRecursion (AtomsFit sizes) formulas → AreAsserted last (assert_all sizes last formulas) (terms_values last formulas) (AllTrue v formulas)
   terms_asserted [] last fit = record { ends = omega arith; meets = λ h. tt; holds = λ h. tt; agrees = λ h k. tt }

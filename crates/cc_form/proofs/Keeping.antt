@@ -104,9 +104,9 @@ module _ (old : Kept) (clause : List Literal) (few : old.count ≤ 8000000) wher
           within = λ more. subst (λ (b : Bool). IsKept b arena (clauses ++ clause ∷ [])) (sym whole) (
             pushed ∙ ap (λ (a : List (List Literal)). a ++ clause ∷ []) kept.0,
             (let same : literal_count_of old.arena ≡ literal_count_of clauses = ap literal_count_of kept.0 in
-            let below = room_is (literal_count_of old.arena + length clause) room in
-            let count = counted_one clauses clause in
-            omega arith),
+                let below = room_is (literal_count_of old.arena + length clause) room in
+                let count = counted_one clauses clause in
+                omega arith),
           );
         };
   }

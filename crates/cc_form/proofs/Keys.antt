@@ -27,7 +27,7 @@ greater m n above = rw (le-ltb m n (omega arith), ne_eqb m n (λ same. omega ari
 among_append : {X : Type 0} (xs ys : List X) (x : X) → Among (xs ++ ys) x → Among xs x ⊎ Among ys x
 among_append [] ys x h = inr h
 among_append (y ∷ xs) ys x (inl e) = inl (inl e)
-among_append (y ∷ xs) ys x (inr h) = elim (among_append xs ys x h) [ | inl k ↦ inl (inr k) | inr k ↦ inr k ]
+among_append (y ∷ xs) ys x (inr h) = elim (among_append xs ys x h) [ inl k ↦ inl (inr k) | inr k ↦ inr k ]
 
 in_left : {X : Type 0} (xs ys : List X) (x : X) → Among xs x → Among (xs ++ ys) x
 in_left [] ys x h = absurd h
@@ -43,7 +43,7 @@ module _ {X : Type 0} (f : ℕ → X) where
   at_upto zero x h = absurd h
   at_upto (suc n) x h = elim (among_append (map f (upto n)) (f n ∷ []) x (subst (λ (l : List X). Among l x) (mapped_last f (upto n) n) h)) [
     | inl k ↦ let found = at_upto n x k in (found.0, (let below = found.1 in omega arith), found.2)
-    | inr k ↦ elim k [ | inl e ↦ (n, (omega arith), e) | inr e ↦ absurd e ]
+    | inr k ↦ elim k [ inl e ↦ (n, (omega arith), e) | inr e ↦ absurd e ]
   ]
 
   upto_at : (n k : ℕ) → k < n → Among (map f (upto n)) (f k)
@@ -146,8 +146,13 @@ key_fits sizes [] indexes position is at = tt
 key_fits sizes (size ∷ rest) [] position is at = tt
 key_fits sizes (size ∷ rest) (index ∷ indexes) position is at =
     let here : slice_get sizes position ≡ Some size = ap (slice_get sizes) (let e : position ≡ position + 0 = omega arith in e) ∙ at 0 size refl in (
-      (tt, behind_fit sizes (values_above position index size) nothing tt
-          (all_upto (λ more. terms.Atom position (index + 1 + more)) (AtomsFit sizes) (size - (index + 1)) (λ k less. (size, here, (omega arith))))),
-      ((tt, (size, here, is.0)),
-      key_fits sizes rest indexes (position + 1) is.1 (λ k s e. ap (slice_get sizes) (let f : position + 1 + k ≡ position + suc k = omega arith in f) ∙ at (suc k) s e)),
+      (
+        tt,
+        behind_fit sizes (values_above position index size) nothing tt
+            (all_upto (λ more. terms.Atom position (index + 1 + more)) (AtomsFit sizes) (size - (index + 1)) (λ k less. (size, here, (omega arith)))),
+      ),
+      (
+        (tt, (size, here, is.0)),
+        key_fits sizes rest indexes (position + 1) is.1 (λ k s e. ap (slice_get sizes) (let f : position + 1 + k ≡ position + suc k = omega arith in f) ∙ at (suc k) s e),
+      ),
     )

@@ -156,7 +156,7 @@ module _ (a : ℕ → Bool) where
   pub pair_gives : (p q : Literal) → meets a (p ∷ q ∷ []) ≡ true → (lit p ≡ true) ⊎ (lit q ≡ true)
   pair_gives p q e = elim (or_gives (lit p) (lit q || false) e) [
     | inl h ↦ inl h
-    | inr h ↦ elim (or_gives (lit q) false h) [ | inl k ↦ inr k | inr k ↦ absurd cc ]
+    | inr h ↦ elim (or_gives (lit q) false h) [ inl k ↦ inr k | inr k ↦ absurd cc ]
   ]
 
   pub pair_is : (p q : Literal) → (lit p ≡ true) ⊎ (lit q ≡ true) → meets a (p ∷ q ∷ []) ≡ true
@@ -181,7 +181,7 @@ module _ (a : ℕ → Bool) where
   of_each : (x : Literal) (xs : List Literal) → (lit x ≡ true → list_all lit xs ≡ true) → AllMet a (map (λ l. opposite x ∷ l ∷ []) xs)
   of_each x [] f = tt
   of_each x (y ∷ xs) f = (
-    pair_is (opposite x) y (elim (cases_test (lit x)) [ | inl e ↦ inr (first (lit y) (list_all lit xs) (f e)) | inr e ↦ inl (opposite_is x ∙ ap not e) ]),
+    pair_is (opposite x) y (elim (cases_test (lit x)) [ inl e ↦ inr (first (lit y) (list_all lit xs) (f e)) | inr e ↦ inl (opposite_is x ∙ ap not e) ]),
     of_each x xs (λ e. rest (lit y) (list_all lit xs) (f e)),
   )
     where
@@ -203,7 +203,7 @@ module _ (a : ℕ → Bool) where
 
   pub all_met : (x : Literal) (xs : List Literal) → lit x ≡ list_all lit xs → AllMet a (all_clauses x xs)
   all_met x xs e = met_both a (map (λ l. opposite x ∷ l ∷ []) xs) ((x ∷ map opposite xs) ∷ []) (of_each x xs (λ f. sym e ∙ f))
-      (or_is (lit x) (list_any lit (map opposite xs)) (elim (cases_test (lit x)) [ | inl f ↦ inl f | inr f ↦ inr (opposites_any xs ∙ ap not (sym e ∙ f)) ]), tt)
+      (or_is (lit x) (list_any lit (map opposite xs)) (elim (cases_test (lit x)) [ inl f ↦ inl f | inr f ↦ inr (opposites_any xs ∙ ap not (sym e ∙ f)) ]), tt)
 
   with_each : (x : Literal) (xs : List Literal) → AllMet a (map (λ l. x ∷ opposite l ∷ []) xs) → list_any lit xs ≡ true → lit x ≡ true
   with_each x [] h e = absurd cc
@@ -218,7 +218,7 @@ module _ (a : ℕ → Bool) where
   each_with : (x : Literal) (xs : List Literal) → (list_any lit xs ≡ true → lit x ≡ true) → AllMet a (map (λ l. x ∷ opposite l ∷ []) xs)
   each_with x [] f = tt
   each_with x (y ∷ xs) f = (
-    pair_is x (opposite y) (elim (cases_test (lit y)) [ | inl e ↦ inl (f (or_is (lit y) (list_any lit xs) (inl e))) | inr e ↦ inr (opposite_is y ∙ ap not e) ]),
+    pair_is x (opposite y) (elim (cases_test (lit y)) [ inl e ↦ inl (f (or_is (lit y) (list_any lit xs) (inl e))) | inr e ↦ inr (opposite_is y ∙ ap not e) ]),
     each_with x xs (λ e. f (or_is (lit y) (list_any lit xs) (inr e))),
   )
 
@@ -232,7 +232,7 @@ module _ (a : ℕ → Bool) where
 
   pub any_met : (x : Literal) (xs : List Literal) → lit x ≡ list_any lit xs → AllMet a (any_clauses x xs)
   any_met x xs e = (
-    or_is (lit (opposite x)) (list_any lit xs) (elim (cases_test (lit x)) [ | inl f ↦ inr (sym e ∙ f) | inr f ↦ inl (opposite_is x ∙ ap not f) ]),
+    or_is (lit (opposite x)) (list_any lit xs) (elim (cases_test (lit x)) [ inl f ↦ inr (sym e ∙ f) | inr f ↦ inl (opposite_is x ∙ ap not f) ]),
     each_with x xs (λ f. e ∙ f),
   )
 

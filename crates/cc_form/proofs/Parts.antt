@@ -14,7 +14,7 @@ use Rattle.cc_form.specs.declared.store.Store.{Store}
 use Rattle.cc_form.specs.Machine.{Adds, IsBuilt, IsPast, IsRan, IsReady, Makes, Ran, RunsTo, behind, first_of, made_nodes, moved_node, moved_nodes, run, stepped}
 use Rattle.cc_form.specs.Making.{is_true_node, is_truth, joined_nodes}
 use Rattle.cc_form.specs.Store.{Gives}
-use Rattle.cc_form.proofs.Keeping.{gives_more}
+use Rattle.cc_form.proofs.Keeping.{gives_more, gives_none}
 use Rattle.cc_form.proofs.Running.{behind_twice, past_more, ready, run_rises, runs}
 
 pub makes_of : (old new : Builder) (result : Result Literal Fault) (made : Made) → IfOk result (λ literal. literal ≡ made.literal) → OnOk result (IsBuilt old new made.last made.clauses) →
@@ -163,3 +163,27 @@ pub runs_step : (sizes : List ℕ) (old new : Builder) (node : Node) (stack : Li
     RunsTo old new result (run sizes (node ∷ []) stack last)
 runs_step sizes old new node stack last (Ok done) ran past = step_is_run sizes old new node stack last ran
 runs_step sizes old new node stack last (Err fault) ran past = past
+
+-- ---- loops that run one list behind another
+
+pub ran_none : (old : Builder) → old.last ≤ 4000000 → IsRan old old (run old.places [] old.stack.items old.last)
+ran_none old within = record { stack = refl; built = record { places = refl; ends = refl; within = within; gives = gives_none old.store.kept } }
+
+-- a step more of a list that goes on with a part
+pub ran_part : (old now new : Builder) (front part whole : List Node) → front ++ part ≡ whole → IsRan old now (run old.places front old.stack.items old.last) →
+    IsRan now new (run now.places part now.stack.items now.last) → IsRan old new (run old.places whole old.stack.items old.last)
+ran_part old now new front part whole e one other =
+    subst (λ (t : List Node). IsRan old new (run old.places t old.stack.items old.last)) e (ran_more old.places old now new front part old.stack.items old.last refl one other)
+
+-- and where that step fails
+pub part_fails : (old now : Builder) (front part rest whole : List Node) (fault : Fault) → front ++ part ++ rest ≡ whole → IsRan old now (run old.places front old.stack.items old.last) →
+    IsPast (run now.places part now.stack.items now.last).last fault → IsPast (run old.places whole old.stack.items old.last).last fault
+part_fails old now front part rest whole fault e ran past =
+    let r = run old.places front old.stack.items old.last in
+    let here : IsPast (run old.places (front ++ part) old.stack.items old.last).last fault =
+    subst (λ (n : ℕ). IsPast n fault) (ap (λ (x : Ran). x.last) (sym (run_behind old.places front part old.stack.items old.last)))
+    (subst (λ (n : ℕ). IsPast (run old.places part r.stack n).last fault) ran.built.ends
+    (subst (λ (s : List Literal). IsPast (run old.places part s now.last).last fault) ran.stack
+    (subst (λ (p : List ℕ). IsPast (run p part now.stack.items now.last).last fault) ran.built.places past))) in
+    subst (λ (t : List Node). IsPast (run old.places t old.stack.items old.last).last fault) e
+    (past_more (run old.places (front ++ part) old.stack.items old.last).last (run old.places (front ++ part ++ rest) old.stack.items old.last).last fault (front_rises old.places (front ++ part) rest old.stack.items old.last) here)

@@ -133,14 +133,16 @@ module _ (a : ℕ → Bool) where
       subst (λ (l : List Literal). AllMet a (map (λ v. opposite (positive first) ∷ opposite v ∷ []) l)) (sym (mapped_last (λ value. positive (first + 1 + value)) (upto n) n))
       (subst (AllMet a) (sym (mapped_last (λ v. opposite (positive first) ∷ opposite v ∷ []) (position_variables (first + 1) n) (positive (first + 1 + n))))
       (met_both a (map (λ v. opposite (positive first) ∷ opposite v ∷ []) (position_variables (first + 1) n)) ((opposite (positive first) ∷ opposite (positive (first + 1 + n)) ∷ []) ∷ [])
-      (front_alone first n (λ j less. h j (omega arith)))
-      (pair_is a (opposite (positive first)) (opposite (positive (first + 1 + n))) (elim (cases_test (a first)) [
-        | inl here ↦ elim (cases_test (a (first + 1 + n))) [
-          | inl there ↦ absurd (h n (omega arith) here there)
-          | inr no_ ↦ inr (ap not no_)
-        ]
-        | inr no_ ↦ inl (ap not no_)
-      ]), tt)))
+      (front_alone first n (λ j less. h j (omega arith))) (
+        pair_is a (opposite (positive first)) (opposite (positive (first + 1 + n))) (elim (cases_test (a first)) [
+          | inl here ↦ elim (cases_test (a (first + 1 + n))) [
+            | inl there ↦ absurd (h n (omega arith) here there)
+            | inr no_ ↦ inr (ap not no_)
+          ]
+          | inr no_ ↦ inl (ap not no_)
+        ]),
+        tt,
+      )))
 
   pub pairs_met : (n first : ℕ) → Alone first n → AllMet a (pairs_denied (position_variables first n))
   pairs_met zero first alone = tt
@@ -211,12 +213,13 @@ module _ (a : ℕ → Bool) where
   positions_met [] row first is h = tt
   positions_met (size ∷ sizes) [] first is h = absurd is
   positions_met (size ∷ sizes) (index ∷ row) first is h =
-      met_both a (exactly_one (position_variables first size)) (positions_from (first + size) sizes)
-      (some_variable size first index is.0 (h.0 index is.0 ∙ eq-eqb index index refl),
-      pairs_met size first (λ i j less within here there.
-      let one = eqb-true index i (sym (h.0 i (omega arith)) ∙ here) in
-      let other = eqb-true index j (sym (h.0 j within) ∙ there) in
-      omega arith))
+      met_both a (exactly_one (position_variables first size)) (positions_from (first + size) sizes) (
+        some_variable size first index is.0 (h.0 index is.0 ∙ eq-eqb index index refl),
+        pairs_met size first (λ i j less within here there.
+            let one = eqb-true index i (sym (h.0 i (omega arith)) ∙ here) in
+            let other = eqb-true index j (sym (h.0 j within) ∙ there) in
+            omega arith),
+      )
       (positions_met sizes row (first + size) is.1 h.1)
 
   pub row_of : (sizes : List ℕ) (first : ℕ) → AllMet a (positions_from first sizes) → (row : List ℕ) × HasRowFrom first sizes a row × IsRow sizes row
@@ -236,4 +239,4 @@ module _ (a : ℕ → Bool) where
       ]
         where
           false_at : (a (first + value) ≡ true → ⊥) → a (first + value) ≡ false
-          false_at never = elim (cases_test (a (first + value))) [ | inl e ↦ absurd (never e) | inr e ↦ e ]
+          false_at never = elim (cases_test (a (first + value))) [ inl e ↦ absurd (never e) | inr e ↦ e ]

@@ -330,7 +330,7 @@ module _ (sizes : List ℕ) (rules : List TimedRule) (conditions : List Ground) 
         (key_told.agrees of_key (after_key_is sizes row key is fit.key_fits told.after))
 
   true_from : (a : ℕ → Bool) → AllMet a whole → a T ≡ true
-  true_from a met = elim (or_gives (a T) false (first_of_all a met)) [ | inl e ↦ e | inr e ↦ absurd cc ]
+  true_from a met = elim (or_gives (a T) false (first_of_all a met)) [ inl e ↦ e | inr e ↦ absurd cc ]
     where
       first_of_all : (a : ℕ → Bool) → AllMet a whole → (a T || false) ≡ true
       first_of_all a met = met.0
@@ -382,10 +382,10 @@ module _ (sizes : List ℕ) (rules : List TimedRule) (conditions : List Ground) 
     rows = λ row. (
       (λ of. let met = met_from of.assignment whole of.meets_all in told row of.is_row of.assignment of.has (true_from of.assignment met) met),
       (λ of.
-      let is = of.is_row in
-      let a = assigned row in
-      let rest = true_in row is a (agrees_right a 0 (row_values sizes row) (true ∷ given row) (canonical row is)) in
-      record { is_row = is; assignment = a; has = row_in row is; meets_all = meets_from a whole (all_met row is a (row_in row is) rest.0 of rest.1) }),
+          let is = of.is_row in
+          let a = assigned row in
+          let rest = true_in row is a (agrees_right a 0 (row_values sizes row) (true ∷ given row) (canonical row is)) in
+          record { is_row = is; assignment = a; has = row_in row is; meets_all = meets_from a whole (all_met row is a (row_in row is) rest.0 of rest.1) }),
     );
     once = λ row one other has_one has_other met_one met_other variable some most.
         let met = met_from one whole met_one in

@@ -132,13 +132,24 @@ fn add_query(
 }
 
 /// The clauses of positions, rules, completion and denials.
-fn add_rules(alloc: Global, builder: &mut Builder, stride: u64, theory: &Theory<'_>) -> Result<(), Fault> {
+fn add_rules(
+    alloc: Global,
+    builder: &mut Builder,
+    stride: u64,
+    theory: &Theory<'_>,
+) -> Result<(), Fault> {
     let truth = builder.places.truth();
     builder.store.keep_one(truth)?;
     positions(&mut builder.store, builder.places.sizes())?;
     let bodies = bodies(alloc, builder, stride, theory.rules())?;
     let mut causes = Vec::new(alloc);
-    complete(&mut builder.store, &builder.places, theory, &bodies, &mut causes)?;
+    complete(
+        &mut builder.store,
+        &builder.places,
+        theory,
+        &bodies,
+        &mut causes,
+    )?;
     deny_falsity(&mut builder.store, theory, &bodies)?;
     Ok(())
 }
@@ -157,4 +168,33 @@ fn close(builder: Builder) -> Result<Form, Fault> {
         variables,
         clauses,
     })
+}
+
+/// The clause list of a section: the axioms of the search for the histories of a query at the horizon of a theory. In order:
+/// a variable is true; each position has exactly one value; the clauses of the bodies of rules; the completion of each atom of
+/// a position with two values or more; the denials of rules with head falsity; the conditions; where `with_claim` is true and
+/// the query has a claim, that it does not hold; and where `after` is a key, that the row lies after it.
+/// Refuses, in this order, more than 4,000,000 variables, 8,000,000 clauses and 40,000,000 literals (14, with the limit).
+pub fn clauses(
+    alloc: Global,
+    theory: &Theory<'_>,
+    query: &GroundQuery<'_>,
+    with_claim: bool,
+    after: Option<&Key>,
+) -> Result<Form, Fault>
+    requires query { IsQueryAt theory.now.signature theory.now.horizon (plain_ground_query query.now) }
+    requires key { IfSome after (λ key. IsKeyAt theory.now.signature theory.now.horizon key.now) }
+    ensures list { (d : Description) (q : Query) → IsTheoryOf theory.now d → StandsForQuery (plain_ground_query query.now) d q → IfOk result (λ form. form ≡ form_of d q theory.now.horizon with_claim (option_map (λ key. key.now) after)) }
+    ensures refused { (d : Description) (q : Query) → IsTheoryOf theory.now d → StandsForQuery (plain_ground_query query.now) d q → IfErr result (IsRefusedBy (form_refusal (clause_list d q theory.now.horizon with_claim (option_map (λ key. key.now) after)))) }
+    ensures within { (d : Description) (q : Query) → IsTheoryOf theory.now d → StandsForQuery (plain_ground_query query.now) d q → OnOk result (form_refusal (clause_list d q theory.now.horizon with_claim (option_map (λ key. key.now) after)) ≡ None) }
+    ensures tells { (d : Description) (q : Query) → IsTheoryOf theory.now d → StandsForQuery (plain_ground_query query.now) d q → IfOk result (λ form. TellsHistories d (asked with_claim q) theory.now.horizon (option_map (λ key. key.now.row) after) form) }
+{
+    let horizon = theory.horizon();
+    let sig = theory.sig();
+    let stride = u64::from(sig.fluents()) + u64::from(sig.actions());
+    let sizes = sizes_of(alloc, sig, horizon)?;
+    let mut builder = Builder::new(alloc, sizes)?;
+    add_rules(alloc, &mut builder, stride, theory)?;
+    add_query(&mut builder, stride, horizon, query, with_claim, after)?;
+    close(builder)
 }

@@ -130,7 +130,15 @@ fn complete_position(
         return Ok(());
     }
     for value in 0..size {
-        complete_atom(store, places, theory, bodies, causes, position as u64, value)?;
+        complete_atom(
+            store,
+            places,
+            theory,
+            bodies,
+            causes,
+            position as u64,
+            value,
+        )?;
     }
     Ok(())
 }
@@ -154,7 +162,11 @@ pub(crate) fn complete(
 }
 
 /// No rule with head falsity has its body.
-pub(crate) fn deny_falsity(store: &mut Store, theory: &Theory<'_>, bodies: &[Lit]) -> Result<(), OutOfMemory>
+pub(crate) fn deny_falsity(
+    store: &mut Store,
+    theory: &Theory<'_>,
+    bodies: &[Lit],
+) -> Result<(), OutOfMemory>
     requires { length bodies.now ≡ length theory.now.rules }
     ensures { OnOk result (Gives store.old.kept store.new.kept (all_written (denials_of (bodied theory.now.rules bodies.now)))) }
 {

@@ -11,4 +11,4 @@ mod rules;
 mod section;
 mod store;
 
-pub use form::Form;
+pub use form::{Form, clauses};

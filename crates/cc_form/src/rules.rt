@@ -50,7 +50,12 @@ fn both(builder: &mut Builder, stride: u64, now: Timed<'_>, before: Timed<'_>) -
 }
 
 /// The literal of two parts, each of which may be `true`, which asks nothing.
-fn joined(builder: &mut Builder, stride: u64, now: Timed<'_>, before: Timed<'_>) -> Result<Lit, Fault>
+fn joined(
+    builder: &mut Builder,
+    stride: u64,
+    now: Timed<'_>,
+    before: Timed<'_>,
+) -> Result<Lit, Fault>
     requires last { builder.old.last ≤ 4000000 }
     requires stride { stride ≤ 8589934592 }
     requires now_step { now.step ≤ 1000 }

@@ -24,7 +24,6 @@ pub returns-in_err-step-clause-refused : goal.returns-in_err-step-clause-refused
 returns-in_err-step-clause-refused c =
     let so = subst (RunsOn c.args.self.now c.loop-node.self (moved_nodes c.args.offset c.args.term.now)) (front_mapped (moved_node c.args.offset) c.args.term.now c.loop-node.node-index nodes.True c.loop-node-test.true) c.loop-node.invariant in
     let f = run_fails c.args.self.now c.loop-node.self (moved_nodes c.args.offset c.args.term.now) (drop (c.loop-node.node-index + 1) (moved_nodes c.args.offset c.args.term.now)) (moved_node c.args.offset (get_or c.args.term.now c.loop-node.node-index nodes.True)) c.in_err-step.field-0.0 so c.in_err-step.ensures.refused in
-
     err_past c.from_residual.result _ c.in_err-step.field-0.0 c.from_residual.ensures.1 f
 
 pub loop-node-preserved : goal.loop-node-preserved
