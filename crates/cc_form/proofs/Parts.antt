@@ -1,18 +1,20 @@
 -- Terms of two parts, one behind the other.
-use Rattle.std.proofs.Common.{Result, Ok, Err, OnOk, IfOk, IfErr, IsErrAnd, ◌≡◌, ◌∙◌, ℕ, zero, suc, ◌+◌, ◌-◌, ◌*◌, ◌<◌, ◌≤◌, Bool, true, false, List, [], ◌∷◌, ◌++◌, length, map, refl, sym, ap, subst, arith, append_assoc, append-nil, length-append}
+use Rattle.std.proofs.Common.{Result, Ok, Err, OnOk, IfOk, IfErr, IsErrAnd, ◌≡◌, ◌∙◌, ℕ, zero, suc, ◌+◌, ◌-◌, ◌*◌, ◌<◌, ◌≤◌, Bool, true, false, List, [], ◌∷◌, ◌++◌, length, map, take, drop, refl, sym, ap, subst, arith, append_assoc, append-nil, length-append}
 use Rattle.std.specs.Prelude.{if◌then◌else◌}
+use Rattle.cc_arena.specs.Walks.{arity}
 use Rattle.cc_defs.specs.declared.node.Node.{Node}
 use Rattle.cc_defs.specs.declared.node.Node.TheVariants as nodes
 use Rattle.cc_defs.specs.declared.refusal.Fault.{Fault}
 use Rattle.cc_defs.specs.ClauseForms.{Made, made_of}
 use Rattle.cc_defs.specs.ClauseLists.{Asserted}
 use Rattle.cc_defs.specs.Clauses.{Literal}
+use Rattle.cc_defs.specs.Rules.{upto}
 use Rattle.cc_defs.specs.Terms.{Ground, IsTermOver, postfix}
 use Rattle.cc_form.specs.declared.builder.Builder.{Builder}
 use Rattle.cc_form.specs.declared.store.Kept.{Kept}
 use Rattle.cc_form.specs.declared.store.Store.{Store}
-use Rattle.cc_form.specs.Machine.{Adds, IsBuilt, IsPast, IsRan, IsReady, Makes, Ran, RunsTo, behind, first_of, made_nodes, moved_node, moved_nodes, run, stepped}
-use Rattle.cc_form.specs.Making.{is_true_node, is_truth, joined_nodes}
+use Rattle.cc_form.specs.Machine.{Adds, IsBuilt, IsPast, IsRan, IsReady, Makes, Ran, RunsTo, behind, first_of, made_node, made_nodes, moved_node, moved_nodes, run, stepped}
+use Rattle.cc_form.specs.Making.{is_true_node, is_truth, joined_nodes, nodes_above}
 use Rattle.cc_form.specs.Store.{Gives}
 use Rattle.cc_form.proofs.Keeping.{gives_more, gives_none}
 use Rattle.cc_form.proofs.Running.{behind_twice, past_more, ready, run_rises, runs}
@@ -187,3 +189,32 @@ part_fails old now front part rest whole fault e ran past =
     (subst (λ (p : List ℕ). IsPast (run p part now.stack.items now.last).last fault) ran.built.places past))) in
     subst (λ (t : List Node). IsPast (run old.places t old.stack.items old.last).last fault) e
     (past_more (run old.places (front ++ part) old.stack.items old.last).last (run old.places (front ++ part ++ rest) old.stack.items old.last).last fault (front_rises old.places (front ++ part) rest old.stack.items old.last) here)
+
+-- ---- how long the stack is
+
+pub step_long : (sizes : List ℕ) (node : Node) (stack : List Literal) (last : ℕ) → arity node ≤ length stack → length (stepped sizes node stack last).stack + arity node ≡ length stack + 1
+step_long sizes node stack last within =
+    let start = length stack - arity node in
+    let long = length-append (take start stack) ((made_node sizes node (drop start stack) last).literal ∷ []) in
+    let front = front_long stack start (omega arith) in
+    omega arith
+  where
+    front_long : (xs : List Literal) (n : ℕ) → n ≤ length xs → length (take n xs) ≡ n
+    front_long [] zero less = refl
+    front_long [] (suc n) less = absurd (omega arith)
+    front_long (x ∷ xs) zero less = refl
+    front_long (x ∷ xs) (suc n) less = ap suc (front_long xs n (omega arith))
+
+-- ---- the parts of a key
+
+mapped_last : {A B : Type 0} (f : A → B) (xs : List A) (x : A) → map f (xs ++ x ∷ []) ≡ map f xs ++ f x ∷ []
+mapped_last f [] x = refl
+mapped_last f (y ∷ xs) x = ap (λ l. f y ∷ l) (mapped_last f xs x)
+
+pub above_more : (position value more : ℕ) → value + 1 ≤ more → nodes_above position value (more - (value + 1)) ++ nodes.Atom position more ∷ [] ≡ nodes_above position value (more + 1 - (value + 1))
+above_more position value more least =
+    let n = more - (value + 1) in
+    ap (λ (k : ℕ). nodes_above position value n ++ nodes.Atom position k ∷ []) (let e : more ≡ value + 1 + n = omega arith in e)
+    ∙ sym (mapped_last (λ k. nodes.Atom position (value + 1 + k)) (upto n) n)
+    ∙ ap (nodes_above position value) (let e : suc n ≡ more + 1 - (value + 1) = omega arith in e)
+

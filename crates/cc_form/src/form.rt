@@ -184,10 +184,10 @@ pub fn clauses(
 ) -> Result<Form, Fault>
     requires query { IsQueryAt theory.now.signature theory.now.horizon (plain_ground_query query.now) }
     requires key { IfSome after (λ key. IsKeyAt theory.now.signature theory.now.horizon key.now) }
-    ensures list { (d : Description) (q : Query) → IsTheoryOf theory.now d → StandsForQuery (plain_ground_query query.now) d q → IfOk result (λ form. form ≡ form_of d q theory.now.horizon with_claim (option_map (λ key. key.now) after)) }
-    ensures refused { (d : Description) (q : Query) → IsTheoryOf theory.now d → StandsForQuery (plain_ground_query query.now) d q → IfErr result (IsRefusedBy (form_refusal (clause_list d q theory.now.horizon with_claim (option_map (λ key. key.now) after)))) }
-    ensures within { (d : Description) (q : Query) → IsTheoryOf theory.now d → StandsForQuery (plain_ground_query query.now) d q → OnOk result (form_refusal (clause_list d q theory.now.horizon with_claim (option_map (λ key. key.now) after)) ≡ None) }
-    ensures tells { (d : Description) (q : Query) → IsTheoryOf theory.now d → StandsForQuery (plain_ground_query query.now) d q → IfOk result (λ form. TellsHistories d (asked with_claim q) theory.now.horizon (option_map (λ key. key.now.row) after) form) }
+    ensures list { (d : Description) (q : Query) → IsTheoryOf theory.now d → StandsForQuery (plain_ground_query query.now) d q → IfOk result (λ form. form ≡ form_of d q theory.now.horizon with_claim (option_map (λ key. key.now) after.entry)) }
+    ensures refused { (d : Description) (q : Query) → IsTheoryOf theory.now d → StandsForQuery (plain_ground_query query.now) d q → IfErr result (IsRefusedBy (form_refusal (clause_list d q theory.now.horizon with_claim (option_map (λ key. key.now) after.entry)))) }
+    ensures within { (d : Description) (q : Query) → IsTheoryOf theory.now d → StandsForQuery (plain_ground_query query.now) d q → OnOk result (form_refusal (clause_list d q theory.now.horizon with_claim (option_map (λ key. key.now) after.entry)) ≡ None) }
+    ensures tells { (d : Description) (q : Query) → IsTheoryOf theory.now d → StandsForQuery (plain_ground_query query.now) d q → IfOk result (λ form. TellsHistories d (asked with_claim q) theory.now.horizon (option_map (λ key. key.now.row) after.entry) form) }
 {
     let horizon = theory.horizon();
     let sig = theory.sig();
