@@ -207,7 +207,7 @@ step_long sizes node stack last within =
 
 -- ---- the parts of a key
 
-mapped_last : {A B : Type 0} (f : A → B) (xs : List A) (x : A) → map f (xs ++ x ∷ []) ≡ map f xs ++ f x ∷ []
+pub mapped_last : {A B : Type 0} (f : A → B) (xs : List A) (x : A) → map f (xs ++ x ∷ []) ≡ map f xs ++ f x ∷ []
 mapped_last f [] x = refl
 mapped_last f (y ∷ xs) x = ap (λ l. f y ∷ l) (mapped_last f xs x)
 
