@@ -12,10 +12,10 @@ use Rattle.cc_defs.specs.Rules.{upto}
 use Rattle.cc_defs.specs.Terms.{Ground, Operands, nothing, and_then, operand_count, operands_behind, postfix, postfixes}
 use Rattle.cc_defs.specs.Terms as terms
 use Rattle.cc_form.specs.declared.builder.Builder.{Builder}
-use Rattle.cc_form.specs.Machine.{IsPast, IsRan, run}
+use Rattle.cc_form.specs.Machine.{IsPast, IsRan, Ran, run}
 use Rattle.cc_form.specs.Making.{key_down, key_part, key_up, nodes_above}
 use Rattle.cc_form.proofs.Parts.{front_rises, mapped_last, part_fails, ran_part}
-use Rattle.cc_form.proofs.Running.{past_more}
+use Rattle.cc_form.proofs.Running.{past_more, run_is}
 
 -- ---- a list that grows by a part a turn
 
@@ -114,3 +114,7 @@ pub key_nodes : (sizes row : List ℕ) → IsRow sizes row → key_down sizes ro
 key_nodes sizes row is =
     let same : (xs : List ℕ) (k : ℕ) → slice_index xs (0 + k) ≡ slice_index xs k = λ xs k. ap (slice_index xs) (let e : 0 + k ≡ k = omega arith in e) in
     sym (nodes_from sizes row 0 is ∙ ap (λ (t : List Node). t ++ nodes.False ∷ [] ++ key_up (length row)) (behind_from sizes row sizes row 0 is (same sizes) (same row) ∙ ap (key_down sizes row) (let e : 0 + length row ≡ length row = omega arith in e)))
+
+pub key_long : (sizes row : List ℕ) (last : ℕ) → IsRow sizes row → length (run sizes (key_down sizes row (length row) ++ nodes.False ∷ [] ++ key_up (length row)) [] last).stack ≡ 1
+key_long sizes row last is =
+    ap (λ (t : List Node). length (run sizes t [] last).stack) (key_nodes sizes row is) ∙ ap (λ (r : Ran). length r.stack) (run_is sizes (after_key 0 sizes row) last)
