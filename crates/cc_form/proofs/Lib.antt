@@ -5,6 +5,7 @@ mod Choices
 mod Definitions
 mod Keeping
 mod Keys
+mod Good
 mod KeySteps
 mod Meaning
 mod Ordered
