@@ -6,6 +6,7 @@ mod Definitions
 mod Keeping
 mod Keys
 mod Good
+mod GoodLists
 mod KeySteps
 mod Meaning
 mod Ordered

@@ -124,7 +124,7 @@ after_key_is : (sizes row : List ℕ) (key : Option Key) → IsRow sizes row →
 after_key_is sizes row None is fits h = tt
 after_key_is sizes row (Some key) is fits h = (after_true (λ position. slice_index row position) sizes key.row row 0 fits is (from_start row) h, tt)
 
-key_atoms : (sizes : List ℕ) (key : Option Key) → IfSome key (λ key. IsRow sizes key.row) → AllByRecursion (AtomsFit sizes) (key_terms sizes key)
+pub key_atoms : (sizes : List ℕ) (key : Option Key) → IfSome key (λ key. IsRow sizes key.row) → AllByRecursion (AtomsFit sizes) (key_terms sizes key)
 key_atoms sizes None fits = tt
 key_atoms sizes (Some key) fits = (key_fits sizes sizes key.row 0 fits (λ k size e. ap (slice_get sizes) (let s : 0 + k ≡ k = omega arith in s) ∙ e), tt)
 

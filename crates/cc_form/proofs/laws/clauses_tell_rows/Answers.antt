@@ -1,4 +1,4 @@
-use Rattle.cc_form.proofs.Good.{positions_good, term_well}
+use Rattle.cc_form.proofs.GoodLists.{list_good}
 use Rattle.cc_form.proofs.Telling.{clauses_tell_rows}
 use Rattle.cc_form.proofs.laws.clauses_tell_rows.Goals as goal
 
