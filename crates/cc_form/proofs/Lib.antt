@@ -9,6 +9,7 @@ mod Good
 mod GoodLists
 mod KeySteps
 mod Meaning
+mod Meant
 mod Ordered
 mod Parts
 mod Picking
