@@ -7,6 +7,7 @@ mod Keeping
 mod Keys
 mod Good
 mod GoodLists
+mod Histories
 mod KeySteps
 mod Meaning
 mod Meant

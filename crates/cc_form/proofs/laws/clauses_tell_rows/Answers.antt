@@ -1,5 +1,5 @@
-use Rattle.cc_form.proofs.GoodLists.{list_good}
-use Rattle.cc_form.proofs.Meant.{list_is}
+use Rattle.cc_form.proofs.Histories.{tells_histories}
+
 use Rattle.cc_form.proofs.Telling.{clauses_tell_rows}
 use Rattle.cc_form.proofs.laws.clauses_tell_rows.Goals as goal
 
