@@ -42,11 +42,15 @@ pub record TellsHistories (d : Description) (q : Query) (horizon : ℕ) (key : O
       MeetsAll one form.clauses → MeetsAll other form.clauses → (variable : ℕ) → 0 < variable → variable ≤ form.variables → one variable ≡ other variable
   pub each : (assignment : ℕ → Bool) → MeetsAll assignment form.clauses → (row : List ℕ) × HasRow form.sizes assignment row × IsRow form.sizes row
 
--- what is always true of axioms that were made within their limits
-pub record IsForm (form : Axioms) : Type 0 where
-  pub clauses : All IsClause form.clauses
+-- axioms: clauses over their variables, which say of each position that it has exactly one value
+pub record IsAxioms (form : Axioms) : Type 0 where
+  pub each : All IsClause form.clauses
   pub over : All (IsOver form.variables) form.clauses
-  pub count : length form.clauses ≤ 8000000
-  pub variables : form.variables ≤ 4000000
   pub least : sum form.sizes + 1 ≤ form.variables
   pub choices : (clause : List Literal) → Contains (positions_from 1 form.sizes) clause → Contains form.clauses clause
+
+-- what is always true of axioms that were made within their limits
+pub record IsForm (form : Axioms) : Type 0 where
+  pub axioms : IsAxioms form
+  pub count : length form.clauses ≤ 8000000
+  pub most : form.variables ≤ 4000000

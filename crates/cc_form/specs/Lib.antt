@@ -1,3 +1,4 @@
+pub mod Building
 pub mod Forms
 pub mod Laws
 pub mod Machine

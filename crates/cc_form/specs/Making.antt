@@ -130,3 +130,25 @@ key_down sizes row (suc position) = key_down sizes row position ++ key_part posi
 abbrev pub key_up : ℕ → List Node
 key_up zero = []
 key_up (suc count) = key_up count ++ nodes.All 2 ∷ nodes.Any 2 ∷ []
+
+-- ---- the list in two parts
+
+-- that of rules
+abbrev pub rules_list : List ℕ → ℕ → List TimedRule → Asserted
+rules_list sizes stride rules =
+    let bodies = made_bodies sizes stride (true_variable sizes) rules
+    in record {
+      last = bodies.last;
+      clauses = (positive (true_variable sizes) ∷ []) ∷ positions_from 1 sizes
+          ++ bodies.clauses
+          ++ all_written (completion_from sizes bodies.rules 0 sizes)
+          ++ all_written (denials_of bodies.rules);
+    }
+
+-- and that of a query and a key behind it
+abbrev pub query_list : List ℕ → ℕ → List (List Node) → Option (List Node) → List (List Node) → Asserted
+query_list sizes last conditions claim key =
+    let query = asserted_nodes sizes last conditions
+    in let denied = denied_nodes sizes query.last claim
+    in let later = asserted_nodes sizes denied.last key
+    in record { last = later.last; clauses = query.clauses ++ denied.clauses ++ later.clauses }

@@ -20,3 +20,7 @@ pub record Holds (kept : Kept) (clauses : List (List Literal)) : Type 0 where
 -- the clauses so far, with these behind them
 pub record Gives (old new : Kept) (part : List (List Literal)) : Type 0 where
   pub each : (clauses : List (List Literal)) → Holds old clauses → Holds new (clauses ++ part)
+
+-- clauses that are within their limits
+abbrev pub AreFew : List (List Literal) → Type 0
+AreFew clauses = (length clauses ≤ 8000000) × (literal_count_of clauses ≤ 40000000)

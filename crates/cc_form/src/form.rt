@@ -1,27 +1,38 @@
 //! The clause list of a section.
-ghost use Rattle.std.specs.Prelude.{◌≡◌, ℕ, ◌+◌, ◌≤◌, ◌<◌, ◌↔◌, List, Bool, Some, None, IfOk, IfErr, IfSome, OnOk, IsTrue, All, Contains, length, slice_get, sum};
+ghost use Rattle.std.specs.Prelude.{◌≡◌, map, ℕ, ◌+◌, ◌≤◌, ◌<◌, ◌↔◌, List, Bool, Some, None, IfOk, IfErr, IfSome, OnOk, IsTrue, All, Contains, length, slice_get, sum};
 ghost use Rattle.std.specs.Option.{option_map};
-ghost use Rattle.cc_arena.specs.GroundViews.{plain_ground_query};
-ghost use Rattle.cc_defs.specs.ClauseForms.{atom_variable, positive};
-ghost use Rattle.cc_defs.specs.ClauseLists.{clause_list, positions_from};
+ghost use Rattle.cc_arena.specs.GroundViews.{plain_ground_condition, plain_ground_query};
+ghost use Rattle.cc_defs.specs.ClauseForms.{atom_variable, positive, true_variable};
+ghost use Rattle.cc_defs.specs.ClauseLists.{claim_if as claim_if_of, clause_list, key_terms, positions_from};
 ghost use Rattle.cc_defs.specs.Clauses.{Literal, IsClause, IsNumbered, IsOver};
 ghost use Rattle.cc_defs.specs.Description.{Description};
 ghost use Rattle.cc_defs.specs.GroundLaws.{StandsForQuery};
 ghost use Rattle.cc_defs.specs.Refusals.{IsRefusedBy};
 ghost use Rattle.cc_defs.specs.Resolved.{Query};
 ghost use Rattle.cc_defs.specs.Rows.{IsRow};
+ghost use Rattle.cc_defs.specs.Terms.{postfix};
+ghost use Rattle.cc_theory.specs.Making.{stride_of};
 ghost use Rattle.cc_theory.specs.Theories.{IsTheoryOf};
 ghost use Rattle.cc_form.specs.Forms.{TellsHistories, asked, form_of, form_refusal};
-ghost use Rattle.cc_form.specs.Queries.{IsKeyAt, IsQueryAt};
+ghost use Rattle.cc_form.specs.Machine.{Adds, IsPast};
+ghost use Rattle.cc_form.specs.Making.{asserted_nodes, denied_nodes, query_list, rules_list};
+ghost use Rattle.cc_form.specs.Places.{position_sizes};
+ghost use Rattle.cc_form.specs.Queries.{IsKeyAt, IsOverPlaces, IsQueryAt, condition_nodes, section_list};
+ghost use Rattle.cc_form.specs.Building.{IsBuiltForm, count_refusal};
+ghost use Rattle.cc_form.specs.Store.{AreFew, Holds};
+ghost use Rattle.std.specs.List.{AllByRecursion};
 
 use crate::builder::Builder;
 use crate::groups::{complete, deny_falsity, positions};
 use crate::places::{Places, past, sizes_of};
-use crate::rules::bodies;
+use crate::rules::bodies_within;
 use crate::section::{assert_all, deny, follow};
-use cc_arena::GroundQuery;
+use crate::laws::clauses_tell_rows;
+use cc_arena::laws::terms_mean_formulas;
+use cc_arena::{GroundCondition, GroundQuery, one_formula};
 use cc_clauses::ClauseArena;
 use cc_defs::{Fault, Key, LimitAt, Lit};
+use cc_theory::laws::{models_are_paths, models_meet_completion};
 use cc_theory::Theory;
 use std::alloc::Global;
 use std::marker::Model;
@@ -110,6 +121,60 @@ impl Form {
     }
 }
 
+/// The clauses of positions, rules, completion and denials.
+fn add_rules(alloc: Global, builder: &mut Builder, stride: u64, theory: &Theory<'_>) -> Result<(), Fault>
+    requires last { builder.old.last ≡ true_variable builder.old.places }
+    requires within { builder.old.last ≤ 4000000 }
+    requires bound { stride ≤ 8589934592 }
+    requires stride { stride ≡ stride_of theory.now.signature }
+    requires places { builder.old.places ≡ position_sizes theory.now.signature theory.now.horizon }
+    ensures { Adds builder.old builder.new result (rules_list builder.old.places stride theory.now.rules) }
+{
+    let truth = builder.places.truth();
+    builder.store.keep_one(truth)?;
+    positions(&mut builder.store, builder.places.sizes())?;
+    let horizon = theory.horizon();
+    let bodies = bodies_within(alloc, builder, stride, horizon, theory.rules())?;
+    let mut causes = Vec::new(alloc);
+    complete(&mut builder.store, &builder.places, theory, &bodies, &mut causes)?;
+    deny_falsity(&mut builder.store, theory, &bodies)?;
+    Ok(())
+}
+
+/// The claim does not hold, where it is asked for and there is one.
+fn deny_if(
+    builder: &mut Builder,
+    stride: u64,
+    horizon: u32,
+    claim: Option<GroundCondition<'_>>,
+    with_claim: bool,
+) -> Result<(), Fault>
+    requires last { builder.old.last ≤ 4000000 }
+    requires bound { stride ≤ 8589934592 }
+    requires claim { IfSome claim (λ claim. IsOverPlaces builder.old.places stride horizon (plain_ground_condition claim)) }
+    ensures { Adds builder.old builder.new result (denied_nodes builder.old.places builder.old.last (claim_if_of with_claim (option_map (λ claim. condition_nodes stride horizon (plain_ground_condition claim)) claim.entry))) }
+{
+    if with_claim {
+        return match claim {
+            Some(claim) => deny(builder, stride, horizon, claim),
+            None => Ok(()),
+        };
+    }
+    Ok(())
+}
+
+/// The row lies after a key, where there is one.
+fn follow_if(builder: &mut Builder, after: Option<&Key>) -> Result<(), Fault>
+    requires last { builder.old.last ≤ 4000000 }
+    requires key { IfSome after (λ key. IsRow builder.old.places key.now.row) }
+    ensures { Adds builder.old builder.new result (asserted_nodes builder.old.places builder.old.last (map postfix (key_terms builder.old.places (option_map (λ key. key.now) after.entry)))) }
+{
+    match after {
+        Some(key) => follow(builder, key.row.items()),
+        None => Ok(()),
+    }
+}
+
 /// The clauses of conditions, of a claim where it is asked for, and of a key.
 fn add_query(
     builder: &mut Builder,
@@ -118,44 +183,26 @@ fn add_query(
     query: &GroundQuery<'_>,
     with_claim: bool,
     after: Option<&Key>,
-) -> Result<(), Fault> {
+) -> Result<(), Fault>
+    requires last { builder.old.last ≤ 4000000 }
+    requires bound { stride ≤ 8589934592 }
+    requires conditions { AllByRecursion (λ condition. IsOverPlaces builder.old.places stride horizon (plain_ground_condition condition)) query.now.conditions }
+    requires claim { IfSome query.now.claim (λ claim. IsOverPlaces builder.old.places stride horizon (plain_ground_condition claim)) }
+    requires key { IfSome after (λ key. IsRow builder.old.places key.now.row) }
+    ensures { Adds builder.old builder.new result (query_list builder.old.places builder.old.last (map (λ condition. condition_nodes stride horizon (plain_ground_condition condition)) query.now.conditions) (claim_if_of with_claim (option_map (λ claim. condition_nodes stride horizon (plain_ground_condition claim)) query.now.claim)) (map postfix (key_terms builder.old.places (option_map (λ key. key.now) after.entry)))) }
+{
     assert_all(builder, stride, horizon, query.conditions.items())?;
-    if with_claim {
-        if let Some(claim) = query.claim {
-            deny(builder, stride, horizon, claim)?;
-        }
-    }
-    match after {
-        Some(key) => follow(builder, key.row.items()),
-        None => Ok(()),
-    }
-}
-
-/// The clauses of positions, rules, completion and denials.
-fn add_rules(
-    alloc: Global,
-    builder: &mut Builder,
-    stride: u64,
-    theory: &Theory<'_>,
-) -> Result<(), Fault> {
-    let truth = builder.places.truth();
-    builder.store.keep_one(truth)?;
-    positions(&mut builder.store, builder.places.sizes())?;
-    let bodies = bodies(alloc, builder, stride, theory.rules())?;
-    let mut causes = Vec::new(alloc);
-    complete(
-        &mut builder.store,
-        &builder.places,
-        theory,
-        &bodies,
-        &mut causes,
-    )?;
-    deny_falsity(&mut builder.store, theory, &bodies)?;
-    Ok(())
+    deny_if(builder, stride, horizon, query.claim, with_claim)?;
+    follow_if(builder, after)
 }
 
 /// The form of what was built, where it is within its limits.
-fn close(builder: Builder) -> Result<Form, Fault> {
+fn close(builder: Builder) -> Result<Form, Fault>
+    requires { IsBuiltForm builder }
+    ensures form { (kept : List (List Literal)) → Holds builder.store.kept kept → IfOk result (λ form. form ≡ record { sizes = builder.places; variables = builder.last; clauses = kept }) }
+    ensures few { (kept : List (List Literal)) → Holds builder.store.kept kept → OnOk result (AreFew kept) }
+    ensures refused { (kept : List (List Literal)) → Holds builder.store.kept kept → IfErr result (IsRefusedBy (count_refusal kept)) }
+{
     if builder.store.is_full() {
         return Err(past(LimitAt::AxiomClauses));
     }
@@ -168,6 +215,33 @@ fn close(builder: Builder) -> Result<Form, Fault> {
         variables,
         clauses,
     })
+}
+
+/// The clauses of a section, built.
+fn build(
+    alloc: Global,
+    theory: &Theory<'_>,
+    query: &GroundQuery<'_>,
+    with_claim: bool,
+    after: Option<&Key>,
+) -> Result<Builder, Fault>
+    requires query { IsQueryAt theory.now.signature theory.now.horizon (plain_ground_query query.now) }
+    requires key { IfSome after (λ key. IsKeyAt theory.now.signature theory.now.horizon key.now) }
+    ensures places { IfOk result (λ builder. builder.places ≡ position_sizes theory.now.signature theory.now.horizon) }
+    ensures last { IfOk result (λ builder. builder.last ≡ (section_list theory.now (plain_ground_query query.now) with_claim (option_map (λ key. key.now) after.entry)).variables) }
+    ensures within { OnOk result ((section_list theory.now (plain_ground_query query.now) with_claim (option_map (λ key. key.now) after.entry)).variables ≤ 4000000) }
+    ensures clauses { IfOk result (λ builder. Holds builder.store.kept (section_list theory.now (plain_ground_query query.now) with_claim (option_map (λ key. key.now) after.entry)).clauses) }
+    ensures refused { IfErr result (IsPast (section_list theory.now (plain_ground_query query.now) with_claim (option_map (λ key. key.now) after.entry)).variables) }
+    ensures ready { IfOk result IsBuiltForm }
+{
+    let horizon = theory.horizon();
+    let sig = theory.sig();
+    let stride = u64::from(sig.fluents()) + u64::from(sig.actions());
+    let sizes = sizes_of(alloc, sig, horizon)?;
+    let mut builder = Builder::new(alloc, sizes)?;
+    add_rules(alloc, &mut builder, stride, theory)?;
+    add_query(&mut builder, stride, horizon, query, with_claim, after)?;
+    Ok(builder)
 }
 
 /// The clause list of a section: the axioms of the search for the histories of a query at the horizon of a theory. In order:
@@ -189,12 +263,11 @@ pub fn clauses(
     ensures within { (d : Description) (q : Query) → IsTheoryOf theory.now d → StandsForQuery (plain_ground_query query.now) d q → OnOk result (form_refusal (clause_list d q theory.now.horizon with_claim (option_map (λ key. key.now) after.entry)) ≡ None) }
     ensures tells { (d : Description) (q : Query) → IsTheoryOf theory.now d → StandsForQuery (plain_ground_query query.now) d q → IfOk result (λ form. TellsHistories d (asked with_claim q) theory.now.horizon (option_map (λ key. key.now.row) after.entry) form) }
 {
-    let horizon = theory.horizon();
-    let sig = theory.sig();
-    let stride = u64::from(sig.fluents()) + u64::from(sig.actions());
-    let sizes = sizes_of(alloc, sig, horizon)?;
-    let mut builder = Builder::new(alloc, sizes)?;
-    add_rules(alloc, &mut builder, stride, theory)?;
-    add_query(&mut builder, stride, horizon, query, with_claim, after)?;
+    clauses_tell_rows();
+    models_meet_completion();
+    models_are_paths();
+    terms_mean_formulas();
+    one_formula();
+    let builder = build(alloc, theory, query, with_claim, after)?;
     close(builder)
 }

@@ -5,7 +5,10 @@ ghost use Rattle.cc_defs.specs.declared.node.Node.TheVariants as nodes;
 ghost use Rattle.cc_defs.specs.ClauseForms.{positive};
 ghost use Rattle.cc_defs.specs.ClauseLists.{is_certain as is_certain_head};
 ghost use Rattle.cc_defs.specs.Terms.{IsTermOver};
-ghost use Rattle.cc_theory.specs.Theories.{plain_head};
+ghost use Rattle.cc_defs.specs.Signatures.{Signature};
+ghost use Rattle.cc_theory.specs.Making.{stride_of};
+ghost use Rattle.cc_theory.specs.Theories.{AreRulesAt, plain_head};
+ghost use Rattle.cc_form.specs.Places.{position_sizes};
 ghost use Rattle.cc_form.specs.Machine.{first_of, made_nodes, IsBuilt, IsPast, Makes};
 ghost use Rattle.cc_form.specs.Making.{body_nodes, head_nodes, is_truth as is_truth_of, joined_nodes, made_bodies, made_rule as made_rule_of, part_nodes, IsBodyOver};
 
@@ -146,4 +149,23 @@ pub(crate) fn bodies(
         bodies.push(literal)?;
     }
     Ok(bodies)
+}
+
+/// The literals of the bodies of the rules of a horizon, by their numbers.
+pub(crate) fn bodies_within(
+    alloc: Global,
+    builder: &mut Builder,
+    stride: u64,
+    horizon: u32,
+    rules: &[TimedRule<'_>],
+) -> Result<Vec<Lit>, Fault>
+    requires last { builder.old.last ≤ 4000000 }
+    requires bound { stride ≤ 8589934592 }
+    requires horizon { horizon ≤ 1000 }
+    requires fits { (signature : Signature) × (stride ≡ stride_of signature) × (builder.old.places ≡ position_sizes signature horizon) × AreRulesAt signature horizon rules.now }
+    ensures literals { IfOk result (λ bodies. bodies.items ≡ map (λ rule. rule.body) (made_bodies builder.old.places stride builder.old.last rules.now).rules) }
+    ensures built { OnOk result (IsBuilt builder.old builder.new (made_bodies builder.old.places stride builder.old.last rules.now).last (made_bodies builder.old.places stride builder.old.last rules.now).clauses) }
+    ensures refused { IfErr result (IsPast (made_bodies builder.old.places stride builder.old.last rules.now).last) }
+{
+    bodies(alloc, builder, stride, rules)
 }

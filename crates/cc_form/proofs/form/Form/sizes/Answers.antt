@@ -7,4 +7,4 @@ use Rattle.cc_form.proofs.form.Form.sizes.Goals as goal
 
 pub returns-clause-choices : goal.returns-clause-choices
 returns-clause-choices c =
-    subst (λ (f : Axioms). (clause : List Literal) → Contains (positions_from 1 f.sizes) clause → Contains f.clauses clause) c.self.view_is c.self.invariant.choices
+    subst (λ (f : Axioms). (clause : List Literal) → Contains (positions_from 1 f.sizes) clause → Contains f.clauses clause) c.self.view_is c.self.invariant.axioms.choices
