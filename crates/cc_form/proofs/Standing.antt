@@ -146,6 +146,37 @@ module _ (signature : Signature) where
             omega arith
       ]
 
+  -- an atom of the horizon has its size among those of the positions
+  pub size_there : (h position : ℕ) (c : Const) → position < position_count signature h → slice_get (ground_constants signature) (position % length (ground_constants signature)) ≡ Some c →
+      slice_get (position_sizes signature h) position ≡ Some (length c.domain)
+  size_there zero position c within found =
+      let one : length signature.fluents * (0 + 1) ≡ length signature.fluents = mul_comm (length signature.fluents) 1 ∙ omega arith in
+      let none : length signature.actions * 0 ≡ 0 = mul_comm (length signature.actions) 0 ∙ omega arith in
+      let here : position < length signature.fluents = omega arith in
+      let long = length-append signature.fluents signature.actions in
+      let less : position < length (ground_constants signature) = omega arith in
+      slice_get-map (λ (k : Const). length k.domain) signature.fluents position
+      ∙ ap (option_map (λ (k : Const). length k.domain)) (sym (front signature.fluents signature.actions position here) ∙ ap (slice_get (ground_constants signature)) (sym (mod-eq_of_lt less)) ∙ found)
+  size_there (suc h) position c within found = elim (cases_lt position (length all)) [
+    | inl inside ↦
+        let count : length all ≡ length (ground_constants signature) = length-map (ground_constants signature) (λ (k : Const). length k.domain) in
+        let less : position < length (ground_constants signature) = omega arith in
+        front all (position_sizes signature h) position inside ∙ slice_get-map (λ (k : Const). length k.domain) (ground_constants signature) position
+        ∙ ap (option_map (λ (k : Const). length k.domain)) (ap (slice_get (ground_constants signature)) (sym (mod-eq_of_lt less)) ∙ found)
+    | inr behind ↦
+        let rest = position - length all in
+        let split : position ≡ length all + rest = omega arith in
+        let count : length all ≡ length (ground_constants signature) = length-map (ground_constants signature) (λ (k : Const). length k.domain) in
+        let long = all_long in
+        let f : length signature.fluents * (suc h + 1) ≡ length signature.fluents * (h + 1) + length signature.fluents = ap (λ (n : ℕ). length signature.fluents * n) (let e : suc h + 1 ≡ h + 1 + 1 = omega arith in e) ∙ mul-add (length signature.fluents) (h + 1) 1 ∙ omega arith in
+        let g : length signature.actions * suc h ≡ length signature.actions * h + length signature.actions = ap (λ (n : ℕ). length signature.actions * n) (let e : suc h ≡ h + 1 = omega arith in e) ∙ mul-add (length signature.actions) h 1 ∙ omega arith in
+        let fewer : rest < position_count signature h = omega arith in
+        let same : position % length (ground_constants signature) ≡ rest % length (ground_constants signature) =
+        ap (λ (n : ℕ). n % length (ground_constants signature)) (split ∙ ap (λ (n : ℕ). n + rest) count) ∙ add-mod_left (length (ground_constants signature)) rest in
+        ap (slice_get (position_sizes signature (suc h))) split ∙ back all (position_sizes signature h) rest
+        ∙ size_there h rest c fewer (ap (slice_get (ground_constants signature)) (sym same) ∙ found)
+  ]
+
 -- ---- moved terms
 
 map_behind : {A B : Type 0} (f : A → B) (xs ys : List A) → map f (xs ++ ys) ≡ map f xs ++ map f ys
@@ -184,3 +215,25 @@ term_stands signature h step term is = record {
   written = ap (moved_nodes (step * stride_of signature)) is.term.written ∙ moved_postfix (step * stride_of signature) is.term.formula;
   fits = nodes_stand signature h step is.within term is.term.fits;
 }
+
+-- ---- rules
+
+head_stands : (signature : Signature) (h : ℕ) (head : TimedHead) → IsHeadAt signature h head → IsTermOver (position_sizes signature h) (head_nodes head)
+head_stands signature h timed_heads.Falsity is = record { formula = terms.Truth; written = refl; fits = (tt, tt) }
+head_stands signature h (timed_heads.Atom position value) is = record {
+  formula = terms.Atom position value;
+  written = refl;
+  fits = ((length is.constant.domain, size_there signature h position is.constant is.within is.found, is.short), tt);
+}
+
+part_stands : (signature : Signature) (h : ℕ) (part : Option Timed) → h ≤ 1000 → IfSome part (λ timed. IsTermAt signature h timed.step timed.nodes.now) →
+    IfSome part (λ timed. (timed.step ≤ 1000) × IsTermOver (position_sizes signature h) (part_nodes (stride_of signature) timed))
+part_stands signature h None most is = tt
+part_stands signature h (Some timed) most is = ((let within = is.within in omega arith), term_stands signature h timed.step timed.nodes.now is)
+
+pub rules_stand : (signature : Signature) (h : ℕ) (rules : List TimedRule) → h ≤ 1000 → AreRulesAt signature h rules → AllByRecursion (IsBodyOver (position_sizes signature h) (stride_of signature)) rules
+rules_stand signature h [] most are = tt
+rules_stand signature h (rule ∷ rules) most are = (
+  record { head = head_stands signature h rule.head are.0.head; now = part_stands signature h rule.now most are.0.now; before = part_stands signature h rule.before most are.0.before },
+  rules_stand signature h rules most are.1,
+)

@@ -96,6 +96,11 @@ denied_nodes sizes last (Some term) =
     let made = made_nodes sizes last term
     in asserted made (opposite made.literal)
 
+-- a claim where it is asked for
+abbrev pub nodes_if : Bool → Option (List Node) → Option (List Node)
+nodes_if true claim = claim
+nodes_if false claim = None
+
 -- that the position has one of the values above this one
 abbrev pub nodes_above : ℕ → ℕ → ℕ → List Node
 nodes_above position value count = map (λ more. nodes.Atom position (value + 1 + more)) (upto count)

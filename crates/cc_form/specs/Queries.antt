@@ -8,11 +8,11 @@ use Rattle.cc_defs.specs.GroundLaws.{PlainGroundCondition, PlainGroundQuery}
 use Rattle.cc_defs.specs.Histories.{step_of}
 use Rattle.cc_defs.specs.Rows.{IsRow}
 use Rattle.cc_defs.specs.Signatures.{Signature}
-use Rattle.cc_defs.specs.ClauseLists.{ClauseList, claim_if, key_terms}
+use Rattle.cc_defs.specs.ClauseLists.{ClauseList, key_terms}
 use Rattle.cc_defs.specs.Terms.{IsTermOver, postfix}
 use Rattle.cc_theory.specs.Making.{stride_of}
 use Rattle.cc_theory.specs.Theories.{IsTermAt, PlainTheory}
-use Rattle.cc_form.specs.Making.{list_over}
+use Rattle.cc_form.specs.Making.{list_over, nodes_if}
 use Rattle.cc_form.specs.Machine.{moved_nodes}
 use Rattle.cc_form.specs.Places.{position_sizes}
 
@@ -43,4 +43,4 @@ section_list theory query with_claim key =
     let sizes = position_sizes theory.signature theory.horizon
     in let stride = stride_of theory.signature
     in list_over sizes stride theory.rules (map (condition_nodes stride theory.horizon) query.conditions)
-    (claim_if with_claim (option_map (condition_nodes stride theory.horizon) query.claim)) (map postfix (key_terms sizes key))
+    (nodes_if with_claim (option_map (condition_nodes stride theory.horizon) query.claim)) (map postfix (key_terms sizes key))

@@ -3,7 +3,7 @@ ghost use Rattle.std.specs.Prelude.{◌≡◌, map, ℕ, ◌+◌, ◌≤◌, ◌
 ghost use Rattle.std.specs.Option.{option_map};
 ghost use Rattle.cc_arena.specs.GroundViews.{plain_ground_condition, plain_ground_query};
 ghost use Rattle.cc_defs.specs.ClauseForms.{atom_variable, positive, true_variable};
-ghost use Rattle.cc_defs.specs.ClauseLists.{claim_if as claim_if_of, clause_list, key_terms, positions_from};
+ghost use Rattle.cc_defs.specs.ClauseLists.{clause_list, key_terms, positions_from};
 ghost use Rattle.cc_defs.specs.Clauses.{Literal, IsClause, IsNumbered, IsOver};
 ghost use Rattle.cc_defs.specs.Description.{Description};
 ghost use Rattle.cc_defs.specs.GroundLaws.{StandsForQuery};
@@ -15,7 +15,7 @@ ghost use Rattle.cc_theory.specs.Making.{stride_of};
 ghost use Rattle.cc_theory.specs.Theories.{IsTheoryOf};
 ghost use Rattle.cc_form.specs.Forms.{TellsHistories, asked, form_of, form_refusal};
 ghost use Rattle.cc_form.specs.Machine.{Adds, IsPast};
-ghost use Rattle.cc_form.specs.Making.{asserted_nodes, denied_nodes, query_list, rules_list};
+ghost use Rattle.cc_form.specs.Making.{asserted_nodes, denied_nodes, nodes_if, query_list, rules_list};
 ghost use Rattle.cc_form.specs.Places.{position_sizes};
 ghost use Rattle.cc_form.specs.Queries.{IsKeyAt, IsOverPlaces, IsQueryAt, condition_nodes, section_list};
 ghost use Rattle.cc_form.specs.Building.{IsBuiltForm, count_refusal};
@@ -152,7 +152,7 @@ fn deny_if(
     requires last { builder.old.last ≤ 4000000 }
     requires bound { stride ≤ 8589934592 }
     requires claim { IfSome claim (λ claim. IsOverPlaces builder.old.places stride horizon (plain_ground_condition claim)) }
-    ensures { Adds builder.old builder.new result (denied_nodes builder.old.places builder.old.last (claim_if_of with_claim (option_map (λ claim. condition_nodes stride horizon (plain_ground_condition claim)) claim.entry))) }
+    ensures { Adds builder.old builder.new result (denied_nodes builder.old.places builder.old.last (nodes_if with_claim (option_map (λ claim. condition_nodes stride horizon (plain_ground_condition claim)) claim.entry))) }
 {
     if with_claim {
         return match claim {
@@ -189,7 +189,7 @@ fn add_query(
     requires conditions { AllByRecursion (λ condition. IsOverPlaces builder.old.places stride horizon (plain_ground_condition condition)) query.now.conditions }
     requires claim { IfSome query.now.claim (λ claim. IsOverPlaces builder.old.places stride horizon (plain_ground_condition claim)) }
     requires key { IfSome after (λ key. IsRow builder.old.places key.now.row) }
-    ensures { Adds builder.old builder.new result (query_list builder.old.places builder.old.last (map (λ condition. condition_nodes stride horizon (plain_ground_condition condition)) query.now.conditions) (claim_if_of with_claim (option_map (λ claim. condition_nodes stride horizon (plain_ground_condition claim)) query.now.claim)) (map postfix (key_terms builder.old.places (option_map (λ key. key.now) after.entry)))) }
+    ensures { Adds builder.old builder.new result (query_list builder.old.places builder.old.last (map (λ condition. condition_nodes stride horizon (plain_ground_condition condition)) query.now.conditions) (nodes_if with_claim (option_map (λ claim. condition_nodes stride horizon (plain_ground_condition claim)) query.now.claim)) (map postfix (key_terms builder.old.places (option_map (λ key. key.now) after.entry)))) }
 {
     assert_all(builder, stride, horizon, query.conditions.items())?;
     deny_if(builder, stride, horizon, query.claim, with_claim)?;
