@@ -5,6 +5,7 @@ mod Choices
 mod Definitions
 mod Keeping
 mod Keys
+mod Finishing
 mod Good
 mod GoodLists
 mod Histories

@@ -1,5 +1,3 @@
-use Rattle.cc_form.proofs.Histories.{tells_histories}
-
 use Rattle.cc_form.proofs.Telling.{clauses_tell_rows}
 use Rattle.cc_form.proofs.laws.clauses_tell_rows.Goals as goal
 
