@@ -27,13 +27,16 @@ use Rattle.cc_defs.specs.Signatures.{Signature}
 use Rattle.cc_defs.specs.Terms.{Ground, Fits, IsTermOver, postfix}
 use Rattle.cc_defs.specs.TimedRules.{TimedRule, moved, timed_rules}
 use Rattle.cc_theory.specs.declared.rule.TimedRule as code
+use Rattle.cc_arena.specs.Laws.{TermsMeanFormulas}
+use Rattle.cc_arena.specs.Walks.{OneFormula}
+use Rattle.cc_theory.specs.Laws.{ModelsArePaths, ModelsMeetCompletion}
 use Rattle.cc_theory.specs.Making.{stride_of}
 use Rattle.cc_theory.specs.Theories.{AreRulesAt, IsTheoryOf, PlainTheory, plain_head}
 use Rattle.cc_form.specs.declared.builder.Builder.{Builder}
 use Rattle.cc_form.specs.declared.store.Kept.{Kept}
-use Rattle.cc_form.specs.Building.{IsBuiltForm, count_refusal}
-use Rattle.cc_form.specs.Forms.{IsAxioms, form_of, form_refusal}
-use Rattle.cc_form.specs.Laws.{AllFit, TermFits}
+use Rattle.cc_form.specs.Building.{IsBuiltForm, IsSection, count_refusal}
+use Rattle.cc_form.specs.Forms.{IsAxioms, TellsHistories, asked, form_of, form_refusal}
+use Rattle.cc_form.specs.Laws.{AllFit, ClausesTellRows, TermFits}
 use Rattle.cc_form.specs.Machine.{Adds, IsBuilt, IsPast, moved_nodes}
 use Rattle.cc_form.specs.Making.{IsBodyOver, asserted_nodes, bodied, denied_nodes, list_over, made_bodies, made_rule, nodes_if, query_list, rules_list}
 use Rattle.cc_form.specs.Places.{position_sizes}
@@ -42,7 +45,7 @@ use Rattle.cc_form.specs.Store.{AreFew, Gives, Holds, literal_count_of}
 use Rattle.cc_form.proofs.Asserting.{asserted_rise}
 use Rattle.cc_form.proofs.Bodies.{bodies_rise}
 use Rattle.cc_form.proofs.GoodLists.{all_clauses_are, all_over_are, choices_in, list_good}
-use Rattle.cc_form.proofs.Histories.{sizes_are, stride_is}
+use Rattle.cc_form.proofs.Histories.{sizes_are, stride_is, tells_histories}
 use Rattle.cc_form.proofs.Keeping.{gives_more}
 use Rattle.cc_form.proofs.Meant.{IsMeantBy, list_is, meant_fit, meant_of, some_meant}
 use Rattle.cc_form.proofs.Running.{past_more, run_rises}
@@ -162,12 +165,6 @@ query_done old between made new conditions claim keys result one two' third = la
         }
 
 -- ---- the whole section, built
-
-pub record IsSection (sizes : List ℕ) (list : ClauseList) (builder : Builder) : Type 0 where
-  pub places : builder.places ≡ sizes
-  pub ends : builder.last ≡ list.variables
-  pub within : list.variables ≤ 4000000
-  pub holds : Holds builder.store.kept list.clauses
 
 pub section_done : (sizes : List ℕ) (stride : ℕ) (rules : List code.TimedRule) (conditions : List (List Node)) (claim : Option (List Node)) (keys : List ℕ → List (List Node)) (begun between new : Builder) →
     begun.places ≡ sizes → Holds begun.store.kept [] → IsBuilt begun between (rules_list begun.places stride rules).last (rules_list begun.places stride rules).clauses →
@@ -315,3 +312,94 @@ module _ (theory : PlainTheory) (query : PlainGroundQuery) (with_claim : Bool) (
     axioms = subst (λ (n : ℕ). IsAxioms (record { sizes = builder.places; variables = n; clauses = list.clauses })) (sym is.ends)
         (subst (λ (p : List ℕ). IsAxioms (record { sizes = p; variables = list.variables; clauses = list.clauses })) (sym is.places) section_axioms);
   }
+
+-- ---- the section of a description
+
+module _ (d : Description) (h : ℕ) where
+  condition_same : (condition : Condition) → condition_nodes (stride d) h (ground_condition d.universe condition) ≡ postfix (condition_term d h condition)
+  condition_same condition = moved_postfix (step_of condition.at h * stride d) (term_of d.universe (giving []) condition.formula)
+
+  conditions_same : (conditions : List Condition) → map postfix (map (condition_term d h) conditions) ≡ map (condition_nodes (stride d) h) (map (ground_condition d.universe) conditions)
+  conditions_same [] = refl
+  conditions_same (c ∷ conditions) = ap (λ (t : List Node). t ∷ map postfix (map (condition_term d h) conditions)) (sym (condition_same c)) ∙ ap (λ (l : List (List Node)). condition_nodes (stride d) h (ground_condition d.universe c) ∷ l) (conditions_same conditions)
+
+  claim_same : (with_claim : Bool) (claim : Option Condition) → option_map postfix (claim_if with_claim (option_map (condition_term d h) claim)) ≡ nodes_if with_claim (option_map (condition_nodes (stride d) h) (option_map (ground_condition d.universe) claim))
+  claim_same false claim = refl
+  claim_same true None = refl
+  claim_same true (Some c) = ap Some (sym (condition_same c))
+
+module _ (theory : PlainTheory) (query : PlainGroundQuery) (with_claim : Bool) (key : Option Key) (most : theory.horizon ≤ 1000) (rules_fit : AreRulesAt theory.signature theory.horizon theory.rules)
+    (query_fits : IsQueryAt theory.signature theory.horizon query) (key_is : IfSome key (IsKeyAt theory.signature theory.horizon)) (d : Description) (q : Query) (of : IsTheoryOf theory d) (stands : StandsForQuery query d q) where
+  abbrev h : ℕ
+  h = theory.horizon
+
+  stride_same : stride_of theory.signature ≡ stride d
+  stride_same = stride_is d theory.signature of.signature
+
+  sizes_same : position_sizes theory.signature h ≡ sizes_at d h
+  sizes_same = sizes_are d theory.signature h of.signature
+
+  conditions_are : map postfix (map (condition_term d h) q.conditions) ≡ map (condition_nodes (stride_of theory.signature) h) query.conditions
+  conditions_are =
+      conditions_same d h q.conditions ∙ ap (λ (g : PlainGroundQuery). map (condition_nodes (stride d) h) g.conditions) (sym stands.2)
+      ∙ ap (λ (n : ℕ). map (condition_nodes n h) query.conditions) (sym stride_same)
+
+  claim_is : option_map postfix (claim_if with_claim (option_map (condition_term d h) q.claim)) ≡ nodes_if with_claim (option_map (condition_nodes (stride_of theory.signature) h) query.claim)
+  claim_is =
+      claim_same d h with_claim q.claim ∙ ap (λ (g : PlainGroundQuery). nodes_if with_claim (option_map (condition_nodes (stride d) h) g.claim)) (sym stands.2)
+      ∙ ap (λ (n : ℕ). nodes_if with_claim (option_map (condition_nodes n h) query.claim)) (sym stride_same)
+
+  rules_are : AllZip (IsMeantBy (stride_of theory.signature)) theory.rules (timed_rules d h)
+  rules_are = subst (λ (n : ℕ). AllZip (IsMeantBy n) theory.rules (timed_rules d h)) (sym stride_same) (meant_of (stride d) theory.rules (timed_rules d h) of.rules)
+
+  pub list_of_description : section_list theory query with_claim key ≡ clause_list d q h with_claim key
+  list_of_description =
+      same_list theory query with_claim key most rules_fit query_fits key_is (timed_rules d h) rules_are (map (condition_term d h) q.conditions) conditions_are (claim_if with_claim (option_map (condition_term d h) q.claim)) claim_is
+      ∙ ap (λ (p : List ℕ). clauses_over p (timed_rules d h) (map (condition_term d h) q.conditions) (claim_if with_claim (option_map (condition_term d h) q.claim)) key) sizes_same
+
+  pub fit_of_description : AllFit (sizes_at d h) (timed_rules d h) (map (condition_term d h) q.conditions) (claim_if with_claim (option_map (condition_term d h) q.claim)) key
+  fit_of_description =
+      subst (λ (p : List ℕ). AllFit p (timed_rules d h) (map (condition_term d h) q.conditions) (claim_if with_claim (option_map (condition_term d h) q.claim)) key) sizes_same
+      (all_fit theory query with_claim key most rules_fit query_fits key_is (timed_rules d h) rules_are (map (condition_term d h) q.conditions) conditions_are (claim_if with_claim (option_map (condition_term d h) q.claim)) claim_is)
+
+  abbrev section : ClauseList
+  section = section_list theory query with_claim key
+
+  pub form_is : {E : Type 0} (result : Result Axioms E) (builder : Builder) → IsSection (position_sizes theory.signature h) section builder →
+      IfOk result (λ form. form ≡ record { sizes = builder.places; variables = builder.last; clauses = section.clauses }) → IfOk result (λ form. form ≡ form_of d q h with_claim key)
+  form_is (Err e) builder is made = tt
+  form_is (Ok form) builder is made =
+      made ∙ ap (λ (p : List ℕ). let a : Axioms = record { sizes = p; variables = builder.last; clauses = section.clauses } in a) (is.places ∙ sizes_same)
+      ∙ ap (λ (n : ℕ). let a : Axioms = record { sizes = sizes_at d h; variables = n; clauses = section.clauses } in a) is.ends
+      ∙ ap (λ (l : ClauseList). let a : Axioms = record { sizes = sizes_at d h; variables = l.variables; clauses = l.clauses } in a) list_of_description
+
+  few_variables : section.variables ≤ 4000000 → form_refusal section ≡ count_refusal section.clauses
+  few_variables few = rw (le-ltb 4000000 section.variables few) refl
+
+  pub form_refused : {T : Type 0} (result : Result T Fault) → section.variables ≤ 4000000 → IfErr result (IsRefusedBy (count_refusal section.clauses)) → IfErr result (IsRefusedBy (form_refusal (clause_list d q h with_claim key)))
+  form_refused result few refused =
+      subst (λ (l : ClauseList). IfErr result (IsRefusedBy (form_refusal l))) list_of_description (subst (λ r. IfErr result (IsRefusedBy r)) (sym (few_variables few)) refused)
+
+  pub form_within : {T E : Type 0} (result : Result T E) → section.variables ≤ 4000000 → OnOk result (AreFew section.clauses) → OnOk result (form_refusal (clause_list d q h with_claim key) ≡ None)
+  form_within (Err e) few are = tt
+  form_within (Ok x) few are =
+      subst (λ (l : ClauseList). form_refusal l ≡ None) list_of_description (few_variables few ∙ rw (le-ltb 8000000 (length section.clauses) are.0, le-ltb 40000000 (literal_count_of section.clauses) are.1) refl)
+
+  pub variables_refused : {T : Type 0} (result : Result T Fault) (fault : Fault) → IsErrAnd result (λ given. given ≡ fault) → IsPast section.variables fault → IfErr result (IsRefusedBy (form_refusal (clause_list d q h with_claim key)))
+  variables_refused (Ok x) fault is past' = tt
+  variables_refused (Err given) fault is past' =
+      subst (IsRefusedBy (form_refusal (clause_list d q h with_claim key))) (sym is) (by_fault fault past')
+    where
+      by_fault : (f : Fault) → IsPast section.variables f → IsRefusedBy (form_refusal (clause_list d q h with_claim key)) f
+      by_fault faults.OutOfMemory p = tt
+      by_fault (faults.Refused r) p =
+          subst (λ (l : ClauseList). form_refusal l ≡ Some r) list_of_description (rw (lt-ltb 4000000 section.variables p.1) (ap Some (sym p.0)))
+
+  pub tells_is : {E : Type 0} (result : Result Axioms E) (row_of_key : Option (List ℕ)) → (models : ModelsMeetCompletion) → ModelsArePaths → TermsMeanFormulas → OneFormula → ClausesTellRows →
+      row_of_key ≡ option_map (λ key. key.row) key → IfOk result (λ form. form ≡ form_of d q h with_claim key) → IfOk result (λ form. TellsHistories d (asked with_claim q) h row_of_key form)
+  tells_is (Err e) row_of_key models paths mean one tell same made = tt
+  tells_is (Ok form) row_of_key models paths mean one tell same made =
+      subst (λ (f : Axioms). TellsHistories d (asked with_claim q) h row_of_key f) (sym made)
+      (subst (λ (r : Option (List ℕ)). TellsHistories d (asked with_claim q) h r (form_of d q h with_claim key)) (sym same)
+      (tells_histories models paths mean one d of.well q h with_claim key
+      (tell (sizes_at d h) (timed_rules d h) (map (condition_term d h) q.conditions) (claim_if with_claim (option_map (condition_term d h) q.claim)) key fit_of_description)))

@@ -12,13 +12,13 @@ ghost use Rattle.cc_defs.specs.Resolved.{Query};
 ghost use Rattle.cc_defs.specs.Rows.{IsRow};
 ghost use Rattle.cc_defs.specs.Terms.{postfix};
 ghost use Rattle.cc_theory.specs.Making.{stride_of};
-ghost use Rattle.cc_theory.specs.Theories.{IsTheoryOf};
+ghost use Rattle.cc_theory.specs.Theories.{AreRulesAt, IsTheoryOf};
 ghost use Rattle.cc_form.specs.Forms.{TellsHistories, asked, form_of, form_refusal};
 ghost use Rattle.cc_form.specs.Machine.{Adds, IsPast};
 ghost use Rattle.cc_form.specs.Making.{asserted_nodes, denied_nodes, nodes_if, query_list, rules_list};
 ghost use Rattle.cc_form.specs.Places.{position_sizes};
 ghost use Rattle.cc_form.specs.Queries.{IsKeyAt, IsOverPlaces, IsQueryAt, condition_nodes, section_list};
-ghost use Rattle.cc_form.specs.Building.{IsBuiltForm, count_refusal};
+ghost use Rattle.cc_form.specs.Building.{IsBuiltForm, IsSection, count_refusal};
 ghost use Rattle.cc_form.specs.Store.{AreFew, Holds};
 ghost use Rattle.std.specs.List.{AllByRecursion};
 
@@ -227,14 +227,14 @@ fn build(
 ) -> Result<Builder, Fault>
     requires query { IsQueryAt theory.now.signature theory.now.horizon (plain_ground_query query.now) }
     requires key { IfSome after (λ key. IsKeyAt theory.now.signature theory.now.horizon key.now) }
-    ensures places { IfOk result (λ builder. builder.places ≡ position_sizes theory.now.signature theory.now.horizon) }
-    ensures last { IfOk result (λ builder. builder.last ≡ (section_list theory.now (plain_ground_query query.now) with_claim (option_map (λ key. key.now) after.entry)).variables) }
-    ensures within { OnOk result ((section_list theory.now (plain_ground_query query.now) with_claim (option_map (λ key. key.now) after.entry)).variables ≤ 4000000) }
-    ensures clauses { IfOk result (λ builder. Holds builder.store.kept (section_list theory.now (plain_ground_query query.now) with_claim (option_map (λ key. key.now) after.entry)).clauses) }
+    ensures built { IfOk result (IsSection (position_sizes theory.now.signature theory.now.horizon) (section_list theory.now (plain_ground_query query.now) with_claim (option_map (λ key. key.now) after.entry))) }
     ensures refused { IfErr result (IsPast (section_list theory.now (plain_ground_query query.now) with_claim (option_map (λ key. key.now) after.entry)).variables) }
     ensures ready { IfOk result IsBuiltForm }
+    ensures horizon { theory.now.horizon ≤ 1000 }
+    ensures rules { AreRulesAt theory.now.signature theory.now.horizon theory.now.rules }
 {
     let horizon = theory.horizon();
+    let _rules = theory.rules();
     let sig = theory.sig();
     let stride = u64::from(sig.fluents()) + u64::from(sig.actions());
     let sizes = sizes_of(alloc, sig, horizon)?;
