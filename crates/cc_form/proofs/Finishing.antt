@@ -1,5 +1,5 @@
 -- The section of a theory: what was built is its clause list, and that of its description.
-use Rattle.std.proofs.Common.{Result, Ok, Err, OnOk, IfOk, IfErr, IsErrAnd, inl, inr, ◌≡◌, ◌∙◌, ℕ, zero, suc, ◌+◌, ◌*◌, ◌<◌, ◌≤◌, Bool, true, false, nat_lt, List, [], ◌∷◌, ◌++◌, length, map, sum, Option, Some, None, refl, sym, ap, subst, arith, append_assoc}
+use Rattle.std.proofs.Common.{Bor, Result, Ok, Err, OnOk, IfOk, IfErr, IsErrAnd, inl, inr, ◌≡◌, ◌∙◌, ℕ, zero, suc, ◌+◌, ◌*◌, ◌<◌, ◌≤◌, Bool, true, false, nat_lt, List, [], ◌∷◌, ◌++◌, length, map, sum, Option, Some, None, refl, sym, ap, subst, arith, append_assoc}
 use Rattle.std.specs.Prelude.{if◌then◌else◌, IfSome}
 use Rattle.std.specs.List.{AllByRecursion, AllZip, Contains}
 use Rattle.std.specs.Option.{option_map}
@@ -403,3 +403,75 @@ module _ (theory : PlainTheory) (query : PlainGroundQuery) (with_claim : Bool) (
       (subst (λ (r : Option (List ℕ)). TellsHistories d (asked with_claim q) h r (form_of d q h with_claim key)) (sym same)
       (tells_histories models paths mean one d of.well q h with_claim key
       (tell (sizes_at d h) (timed_rules d h) (map (condition_term d h) q.conditions) (claim_if with_claim (option_map (condition_term d h) q.claim)) key fit_of_description)))
+
+-- ---- as it is built
+
+module _ (theory : PlainTheory) (query : PlainGroundQuery) (with_claim : Bool) (key : Option Key) (own_stride own_horizon : ℕ) (conditions : List GroundCondition) (claim : Option GroundCondition)
+    (stride_own : own_stride ≡ stride_of theory.signature) (horizon_own : own_horizon ≡ theory.horizon) (conditions_own : map plain_ground_condition conditions ≡ query.conditions) (claim_own : option_map plain_ground_condition claim ≡ query.claim) where
+  abbrev sizes_own : List ℕ
+  sizes_own = position_sizes theory.signature theory.horizon
+
+  abbrev nodes_own : GroundCondition → List Node
+  nodes_own condition = condition_nodes own_stride own_horizon (plain_ground_condition condition)
+
+  twice : (xs : List GroundCondition) → map nodes_own xs ≡ map (condition_nodes own_stride own_horizon) (map plain_ground_condition xs)
+  twice [] = refl
+  twice (x ∷ xs) = ap (λ (l : List (List Node)). nodes_own x ∷ l) (twice xs)
+
+  claim_twice : (o : Option GroundCondition) → option_map nodes_own o ≡ option_map (condition_nodes own_stride own_horizon) (option_map plain_ground_condition o)
+  claim_twice None = refl
+  claim_twice (Some x) = refl
+
+  conditions_at : map nodes_own conditions ≡ map (condition_nodes (stride_of theory.signature) theory.horizon) query.conditions
+  conditions_at =
+      twice conditions ∙ ap (map (condition_nodes own_stride own_horizon)) conditions_own ∙ ap (λ (n : ℕ). map (condition_nodes n own_horizon) query.conditions) stride_own
+      ∙ ap (λ (n : ℕ). map (condition_nodes (stride_of theory.signature) n) query.conditions) horizon_own
+
+  claim_at : nodes_if with_claim (option_map nodes_own claim) ≡ nodes_if with_claim (option_map (condition_nodes (stride_of theory.signature) theory.horizon) query.claim)
+  claim_at =
+      ap (nodes_if with_claim) (claim_twice claim ∙ ap (option_map (condition_nodes own_stride own_horizon)) claim_own ∙ ap (λ (n : ℕ). option_map (condition_nodes n own_horizon) query.claim) stride_own
+      ∙ ap (λ (n : ℕ). option_map (condition_nodes (stride_of theory.signature) n) query.claim) horizon_own)
+
+  own_list : list_over sizes_own own_stride theory.rules (map nodes_own conditions) (nodes_if with_claim (option_map nodes_own claim)) (map postfix (key_terms sizes_own key)) ≡ section_list theory query with_claim key
+  own_list =
+      ap (λ (n : ℕ). list_over sizes_own n theory.rules (map nodes_own conditions) (nodes_if with_claim (option_map nodes_own claim)) (map postfix (key_terms sizes_own key))) stride_own
+      ∙ ap (λ (l : List (List Node)). list_over sizes_own (stride_of theory.signature) theory.rules l (nodes_if with_claim (option_map nodes_own claim)) (map postfix (key_terms sizes_own key))) conditions_at
+      ∙ ap (λ (o : Option (List Node)). list_over sizes_own (stride_of theory.signature) theory.rules (map (condition_nodes (stride_of theory.signature) theory.horizon) query.conditions) o (map postfix (key_terms sizes_own key))) claim_at
+
+  pub section_built : (begun between new : Builder) → begun.places ≡ sizes_own → Holds begun.store.kept [] → IsBuilt begun between (rules_list begun.places own_stride theory.rules).last (rules_list begun.places own_stride theory.rules).clauses →
+      IsBuilt between new (query_list between.places between.last (map nodes_own conditions) (nodes_if with_claim (option_map nodes_own claim)) (map postfix (key_terms between.places key))).last
+      (query_list between.places between.last (map nodes_own conditions) (nodes_if with_claim (option_map nodes_own claim)) (map postfix (key_terms between.places key))).clauses →
+      IsSection sizes_own (section_list theory query with_claim key) new
+  section_built begun between new places none one two =
+      subst (λ (l : ClauseList). IsSection sizes_own l new) own_list
+      (section_done sizes_own own_stride theory.rules (map nodes_own conditions) (nodes_if with_claim (option_map nodes_own claim)) (λ p. map postfix (key_terms p key)) begun between new places none one two)
+
+  pub sizes_past : (sizes : List ℕ) (fault : Fault) → sizes ≡ sizes_own → IsPast (true_variable sizes) fault → IsPast (section_list theory query with_claim key).variables fault
+  sizes_past sizes fault same past' =
+      subst (λ (l : ClauseList). IsPast l.variables fault) own_list
+      (begin_past sizes_own own_stride theory.rules (map nodes_own conditions) (nodes_if with_claim (option_map nodes_own claim)) (map postfix (key_terms sizes_own key)) fault
+      (subst (λ (s : List ℕ). IsPast (true_variable s) fault) same past'))
+
+  pub theory_past : (begun : Builder) (fault : Fault) → begun.places ≡ sizes_own → IsPast (rules_list begun.places own_stride theory.rules).last fault → IsPast (section_list theory query with_claim key).variables fault
+  theory_past begun fault same past' =
+      subst (λ (l : ClauseList). IsPast l.variables fault) own_list
+      (rules_past sizes_own own_stride theory.rules (map nodes_own conditions) (nodes_if with_claim (option_map nodes_own claim)) (map postfix (key_terms sizes_own key)) fault
+      (subst (λ (s : List ℕ). IsPast (rules_list s own_stride theory.rules).last fault) same past'))
+
+  pub query_past : (begun between : Builder) (fault : Fault) → begun.places ≡ sizes_own → IsBuilt begun between (rules_list begun.places own_stride theory.rules).last (rules_list begun.places own_stride theory.rules).clauses →
+      IsPast (query_list between.places between.last (map nodes_own conditions) (nodes_if with_claim (option_map nodes_own claim)) (map postfix (key_terms between.places key))).last fault →
+      IsPast (section_list theory query with_claim key).variables fault
+  query_past begun between fault same one past' =
+      let at : between.places ≡ sizes_own = one.places ∙ same in
+      let ends : between.last ≡ (rules_list sizes_own own_stride theory.rules).last = one.ends ∙ ap (λ (s : List ℕ). (rules_list s own_stride theory.rules).last) same in
+      subst (λ (l : ClauseList). IsPast l.variables fault) own_list
+      (subst (λ (n : ℕ). IsPast (query_list sizes_own n (map nodes_own conditions) (nodes_if with_claim (option_map nodes_own claim)) (map postfix (key_terms sizes_own key))).last fault) ends
+      (subst (λ (s : List ℕ). IsPast (query_list s between.last (map nodes_own conditions) (nodes_if with_claim (option_map nodes_own claim)) (map postfix (key_terms s key))).last fault) at past'))
+
+pub key_fits_at : (signature : Signature) (h : ℕ) (key : Option (Bor Key)) → IfSome key (λ key. IsKeyAt signature h key.now) → IfSome (option_map (λ key. key.now) key) (IsKeyAt signature h)
+key_fits_at signature h None is = tt
+key_fits_at signature h (Some key) is = is
+
+pub key_rows_at : (key : Option (Bor Key)) → option_map (λ key. key.now.row) key ≡ option_map (λ key. key.row) (option_map (λ key. key.now) key)
+key_rows_at None = refl
+key_rows_at (Some key) = refl

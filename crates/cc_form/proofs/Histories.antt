@@ -117,24 +117,24 @@ module _ (models : ModelsMeetCompletion) (paths : ModelsArePaths) (mean : TermsM
   tells_histories q h with_claim key tells = record {
     histories = λ row. (
       (λ of.
-      let told = (tells.rows row).0 of in
-      record {
-        path = (paths d well h row).0 ((models d well h row told.is_row).1 told.completion);
-        meets = record {
-          conditions = subst IsTrue (conditions_true h row q.conditions ∙ ap (list_all (condition_holds d h row)) (sym (asked_conditions with_claim q))) told.conditions_hold;
-          claim = claim_to h row with_claim q told.claim_fails;
-        };
-        after = key_to row key told.after;
-      }),
+          let told = (tells.rows row).0 of in
+          record {
+            path = (paths d well h row).0 ((models d well h row told.is_row).1 told.completion);
+            meets = record {
+              conditions = subst IsTrue (conditions_true h row q.conditions ∙ ap (list_all (condition_holds d h row)) (sym (asked_conditions with_claim q))) told.conditions_hold;
+              claim = claim_to h row with_claim q told.claim_fails;
+            };
+            after = key_to row key told.after;
+          }),
       (λ history.
-      let model = (paths d well h row).1 history.path in
-      (tells.rows row).1 (record {
-        is_row = model.interprets;
-        completion = (models d well h row model.interprets).0 model;
-        conditions_hold = subst IsTrue (ap (list_all (condition_holds d h row)) (asked_conditions with_claim q) ∙ sym (conditions_true h row q.conditions)) history.meets.conditions;
-        claim_fails = claim_from h row with_claim q history.meets.claim;
-        after = key_from row key history.after;
-      })),
+          let model = (paths d well h row).1 history.path in
+          (tells.rows row).1 (record {
+            is_row = model.interprets;
+            completion = (models d well h row model.interprets).0 model;
+            conditions_hold = subst IsTrue (ap (list_all (condition_holds d h row)) (asked_conditions with_claim q) ∙ sym (conditions_true h row q.conditions)) history.meets.conditions;
+            claim_fails = claim_from h row with_claim q history.meets.claim;
+            after = key_from row key history.after;
+          })),
     );
     once = tells.once;
     each = tells.each;

@@ -217,4 +217,3 @@ above_more position value more least =
     ap (λ (k : ℕ). nodes_above position value n ++ nodes.Atom position k ∷ []) (let e : more ≡ value + 1 + n = omega arith in e)
     ∙ sym (mapped_last (λ k. nodes.Atom position (value + 1 + k)) (upto n) n)
     ∙ ap (nodes_above position value) (let e : suc n ≡ more + 1 - (value + 1) = omega arith in e)
-

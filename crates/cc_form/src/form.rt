@@ -24,16 +24,16 @@ ghost use Rattle.std.specs.List.{AllByRecursion};
 
 use crate::builder::Builder;
 use crate::groups::{complete, deny_falsity, positions};
+use crate::laws::clauses_tell_rows;
 use crate::places::{Places, past, sizes_of};
 use crate::rules::bodies_within;
 use crate::section::{assert_all, deny, follow};
-use crate::laws::clauses_tell_rows;
 use cc_arena::laws::terms_mean_formulas;
 use cc_arena::{GroundCondition, GroundQuery, one_formula};
 use cc_clauses::ClauseArena;
 use cc_defs::{Fault, Key, LimitAt, Lit};
-use cc_theory::laws::{models_are_paths, models_meet_completion};
 use cc_theory::Theory;
+use cc_theory::laws::{models_are_paths, models_meet_completion};
 use std::alloc::Global;
 use std::marker::Model;
 
@@ -122,7 +122,12 @@ impl Form {
 }
 
 /// The clauses of positions, rules, completion and denials.
-fn add_rules(alloc: Global, builder: &mut Builder, stride: u64, theory: &Theory<'_>) -> Result<(), Fault>
+fn add_rules(
+    alloc: Global,
+    builder: &mut Builder,
+    stride: u64,
+    theory: &Theory<'_>,
+) -> Result<(), Fault>
     requires last { builder.old.last ≡ true_variable builder.old.places }
     requires within { builder.old.last ≤ 4000000 }
     requires bound { stride ≤ 8589934592 }
@@ -136,7 +141,13 @@ fn add_rules(alloc: Global, builder: &mut Builder, stride: u64, theory: &Theory<
     let horizon = theory.horizon();
     let bodies = bodies_within(alloc, builder, stride, horizon, theory.rules())?;
     let mut causes = Vec::new(alloc);
-    complete(&mut builder.store, &builder.places, theory, &bodies, &mut causes)?;
+    complete(
+        &mut builder.store,
+        &builder.places,
+        theory,
+        &bodies,
+        &mut causes,
+    )?;
     deny_falsity(&mut builder.store, theory, &bodies)?;
     Ok(())
 }

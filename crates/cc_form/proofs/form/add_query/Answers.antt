@@ -15,16 +15,16 @@ pub returns-in_err-assert_all : goal.returns-in_err-assert_all
 returns-in_err-assert_all c =
     let b = c.args.builder.now in
     let f : GroundCondition → List Node = λ condition. condition_nodes c.args.stride c.args.horizon (plain_ground_condition condition) in
-    adds_err b c.assert_all.new.builder c.from_residual.result _ c.in_err-assert_all.field-0.0 c.from_residual.ensures.1
-    (conditions_past b.places b.last (map f c.args.query.now.conditions) _ _ c.in_err-assert_all.field-0.0
+    adds_err b c.assert_all.new.builder c.from_residual.result (query_list b.places b.last (map f c.args.query.now.conditions) (nodes_if c.args.with_claim (option_map f c.args.query.now.claim)) (map postfix (key_terms b.places (option_map (λ key. key.now) c.args.after)))) c.in_err-assert_all.field-0.0 c.from_residual.ensures.1
+    (conditions_past b.places b.last (map f c.args.query.now.conditions) (nodes_if c.args.with_claim (option_map f c.args.query.now.claim)) (map postfix (key_terms b.places (option_map (λ key. key.now) c.args.after))) c.in_err-assert_all.field-0.0
     (subst (λ (l : List GroundCondition). IsPast (asserted_nodes b.places b.last (map f l)).last c.in_err-assert_all.field-0.0) c.items.ensures c.in_err-assert_all.ensures))
 
 pub returns-in_err-deny_if : goal.returns-in_err-deny_if
 returns-in_err-deny_if c =
     let b = c.args.builder.now in
     let f : GroundCondition → List Node = λ condition. condition_nodes c.args.stride c.args.horizon (plain_ground_condition condition) in
-    adds_err b c.deny_if.new.builder c.from_residual-in_err-deny_if.result _ c.in_err-deny_if.field-0.0 c.from_residual-in_err-deny_if.ensures.1
-    (claim_past b c.assert_all.new.builder (map f c.args.query.now.conditions) (nodes_if c.args.with_claim (option_map f c.args.query.now.claim)) _ c.in_err-deny_if.field-0.0
+    adds_err b c.deny_if.new.builder c.from_residual-in_err-deny_if.result (query_list b.places b.last (map f c.args.query.now.conditions) (nodes_if c.args.with_claim (option_map f c.args.query.now.claim)) (map postfix (key_terms b.places (option_map (λ key. key.now) c.args.after)))) c.in_err-deny_if.field-0.0 c.from_residual-in_err-deny_if.ensures.1
+    (claim_past b c.assert_all.new.builder (map f c.args.query.now.conditions) (nodes_if c.args.with_claim (option_map f c.args.query.now.claim)) (map postfix (key_terms b.places (option_map (λ key. key.now) c.args.after))) c.in_err-deny_if.field-0.0
     (subst (λ (l : List GroundCondition). IsBuilt b c.assert_all.new.builder (asserted_nodes b.places b.last (map f l)).last (asserted_nodes b.places b.last (map f l)).clauses) c.items.ensures c.in_ok-assert_all.ensures)
     c.in_err-deny_if.ensures)
 
