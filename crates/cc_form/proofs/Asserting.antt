@@ -1,10 +1,9 @@
 -- A loop over terms that are asserted.
-use Rattle.std.proofs.Common.{◌≡◌, ◌∙◌, ℕ, zero, suc, ◌+◌, ◌<◌, ◌≤◌, List, [], ◌∷◌, ◌++◌, length, map, drop, get_or, refl, sym, ap, subst, arith, append_assoc, append-nil}
+use Rattle.std.proofs.Common.{◌≡◌, ◌∙◌, ℕ, ◌≤◌, List, [], ◌∷◌, ◌++◌, refl, sym, ap, subst, arith, append_assoc, append-nil}
 use Rattle.cc_defs.specs.declared.node.Node.{Node}
 use Rattle.cc_defs.specs.declared.refusal.Fault.{Fault}
 use Rattle.cc_defs.specs.Clauses.{Literal}
 use Rattle.cc_form.specs.declared.builder.Builder.{Builder}
-use Rattle.cc_form.specs.declared.store.Kept.{Kept}
 use Rattle.cc_form.specs.Machine.{IsBuilt, IsPast, made_nodes}
 use Rattle.cc_form.specs.Making.{asserted_nodes}
 use Rattle.cc_form.specs.Store.{Gives}

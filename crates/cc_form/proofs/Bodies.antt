@@ -1,10 +1,10 @@
 -- A loop over rules that makes the literals of their bodies.
-use Rattle.std.proofs.Common.{Result, Ok, Err, IfErr, IsErrAnd, ◌≡◌, ◌∙◌, ℕ, zero, suc, ◌+◌, ◌<◌, ◌≤◌, Bool, true, false, List, [], ◌∷◌, ◌++◌, length, map, drop, get_or, refl, sym, ap, subst, arith, append_assoc, append-nil}
+use Rattle.std.proofs.Common.{◌≡◌, ◌∙◌, ℕ, zero, suc, ◌+◌, ◌<◌, ◌≤◌, Bool, true, false, List, [], ◌∷◌, ◌++◌, length, map, drop, get_or, refl, ap, subst, arith, append_assoc}
 use Rattle.std.specs.List.{AllByRecursion}
 use Rattle.cc_defs.specs.declared.refusal.Fault.{Fault}
 use Rattle.std.specs.Prelude.{if◌then◌else◌}
-use Rattle.cc_defs.specs.ClauseForms.{Made, positive, true_variable}
-use Rattle.cc_defs.specs.ClauseLists.{Bodied, MadeRules, is_certain}
+use Rattle.cc_defs.specs.ClauseForms.{positive, true_variable}
+use Rattle.cc_defs.specs.ClauseLists.{Bodied, is_certain}
 use Rattle.cc_defs.specs.Clauses.{Literal}
 use Rattle.cc_theory.specs.declared.rule.TimedRule.{TimedRule}
 use Rattle.cc_theory.specs.Theories.{plain_head}

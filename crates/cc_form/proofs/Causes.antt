@@ -1,23 +1,21 @@
 -- Rules, their completion, denials, and terms that are asserted.
-use Rattle.std.proofs.Common.{◌≡◌, ◌∙◌, ℕ, zero, suc, ◌+◌, ◌<◌, ◌≤◌, ◌⊎◌, inl, inr, Bool, true, false, not, ◌&&◌, ◌||◌, List, [], ◌∷◌, ◌++◌, length, map, flat_map, nat_lt, slice_get, Option, Some, None, refl, sym, ap, subst, arith, length-append, append_assoc, append-nil, IsTrue, IsFalse}
-use Rattle.std.specs.Prelude.{◌==◌, if◌then◌else◌, cond, slice_index, slice_index_or, IfSome}
-use Rattle.std.specs.List.{list_all, list_any, filter, AllByRecursion, Contains}
-use Rattle.std.proofs.lemmas.Bool.{eqb-true, eq-eqb, lt-ltb, ltb-true, cases_lt}
+use Rattle.std.proofs.Common.{◌≡◌, ◌∙◌, ℕ, zero, suc, ◌+◌, ◌<◌, inl, inr, Bool, true, false, not, ◌&&◌, ◌||◌, List, [], ◌∷◌, ◌++◌, length, map, flat_map, nat_lt, slice_get, Option, Some, None, refl, sym, ap, subst, arith, length-append, append_assoc, append-nil}
+use Rattle.std.specs.Prelude.{◌==◌, if◌then◌else◌, cond, slice_index_or, IfSome}
+use Rattle.std.specs.List.{list_any, filter, AllByRecursion}
+use Rattle.std.proofs.lemmas.Bool.{eqb-true, lt-ltb, ltb-true, cases_lt}
 use Rattle.cc_defs.specs.declared.node.GroundHead.{GroundHead}
 use Rattle.cc_defs.specs.declared.node.GroundHead.TheVariants as heads
-use Rattle.cc_defs.specs.declared.node.Node.{Node}
 use Rattle.cc_defs.specs.declared.node.Node.TheVariants as nodes
-use Rattle.cc_defs.specs.ClauseForms.{Made, all_written, any_clauses, atom_variable, made_of, positive, true_variable}
-use Rattle.cc_defs.specs.ClauseLists.{Asserted, Bodied, MadeRules, assert_all, asserted, bodies_of, completion_from, completion_of, denials_of, deny, is_certain, is_falsity, is_of_atom, made_rules, position_completion, rules_that_count}
+use Rattle.cc_defs.specs.ClauseForms.{atom_variable, made_of, positive, true_variable}
+use Rattle.cc_defs.specs.ClauseLists.{Asserted, Bodied, MadeRules, assert_all, bodies_of, completion_from, completion_of, deny, is_certain, is_falsity, is_of_atom, made_rules, position_completion, rules_that_count}
 use Rattle.cc_defs.specs.Clauses.{Literal, meets, opposite}
 use Rattle.cc_defs.specs.Rules.{upto}
 use Rattle.cc_defs.specs.Terms.{Ground, Operands, Fits, nothing, and_then, operand_count, postfix, postfixes, truth}
 use Rattle.cc_defs.specs.Terms as terms
 use Rattle.cc_defs.specs.TimedRules.{TimedRule}
-use Rattle.cc_form.specs.Laws.{HeadFits, RuleFits, TermFits}
-use Rattle.cc_form.proofs.Meaning.{Agrees, AllMet, AtomsFit, AtomsFitIn, agrees_both, agrees_left, agrees_right, all_written_met, any_met, lit, met_all_written, met_any, met_both, met_left, met_right, opposite_is, or_gives, or_is, term_told, values_of}
-use Rattle.cc_form.proofs.Ordered.{Among, both_true, cases_test}
-use Rattle.cc_form.proofs.Written.{any_gives, any_made, equal_tests}
+use Rattle.cc_form.specs.Laws.{RuleFits, TermFits}
+use Rattle.cc_form.proofs.Meaning.{Agrees, AllMet, AtomsFit, AtomsFitIn, agrees_both, agrees_left, agrees_right, any_met, lit, met_any, met_both, met_left, met_right, opposite_is, or_gives, or_is, term_told, values_of}
+use Rattle.cc_form.proofs.Ordered.{cases_test}
 
 -- ---- one list of clauses behind another
 

@@ -1,10 +1,10 @@
 -- Clauses written one behind the other.
-use Rattle.std.proofs.Common.{◌≡◌, ◌∙◌, ℕ, zero, suc, ◌+◌, ◌<◌, List, [], ◌∷◌, ◌++◌, length, map, take, get_or, Result, Ok, Err, OnOk, refl, sym, ap, subst, arith, append_assoc, append-nil, add-one}
-use Rattle.cc_defs.specs.ClauseForms.{all_written, written, all_clauses, any_clauses, same_clauses}
+use Rattle.std.proofs.Common.{◌≡◌, ◌∙◌, ℕ, zero, suc, ◌+◌, ◌<◌, List, [], ◌∷◌, ◌++◌, length, map, take, get_or, Result, Ok, Err, OnOk, refl, sym, ap, subst, arith, append_assoc, append-nil}
+use Rattle.cc_defs.specs.ClauseForms.{all_written, written, same_clauses}
 use Rattle.cc_defs.specs.Clauses.{Literal, opposite}
 use Rattle.cc_form.specs.declared.store.Kept.{Kept}
 use Rattle.cc_form.specs.Store.{Gives}
-use Rattle.cc_form.proofs.Keeping.{gives_more, gives_none}
+use Rattle.cc_form.proofs.Keeping.{gives_more}
 
 pub written_behind : (xs ys : List (List Literal)) → all_written (xs ++ ys) ≡ all_written xs ++ all_written ys
 written_behind [] ys = refl

@@ -1,7 +1,7 @@
 -- The section of a theory: what was built is its clause list, and that of its description.
-use Rattle.std.proofs.Common.{Bor, Result, Ok, Err, OnOk, IfOk, IfErr, IsErrAnd, inl, inr, ◌≡◌, ◌∙◌, ℕ, zero, suc, ◌+◌, ◌*◌, ◌<◌, ◌≤◌, Bool, true, false, nat_lt, List, [], ◌∷◌, ◌++◌, length, map, sum, Option, Some, None, refl, sym, ap, subst, arith, append_assoc}
-use Rattle.std.specs.Prelude.{if◌then◌else◌, IfSome}
-use Rattle.std.specs.List.{AllByRecursion, AllZip, Contains}
+use Rattle.std.proofs.Common.{Bor, Result, Ok, Err, OnOk, IfOk, IfErr, IsErrAnd, ◌≡◌, ◌∙◌, ℕ, suc, ◌*◌, ◌≤◌, Bool, true, false, List, [], ◌∷◌, ◌++◌, length, map, Option, Some, None, refl, sym, ap, subst, arith, append_assoc}
+use Rattle.std.specs.Prelude.{IfSome}
+use Rattle.std.specs.List.{AllByRecursion, AllZip}
 use Rattle.std.specs.Option.{option_map}
 use Rattle.std.proofs.lemmas.Bool.{le-ltb, lt-ltb}
 use Rattle.cc_arena.specs.declared.ground_laws.GroundCondition.{GroundCondition}
@@ -10,22 +10,21 @@ use Rattle.cc_defs.specs.declared.lists.Key.{Key}
 use Rattle.cc_defs.specs.declared.node.Node.{Node}
 use Rattle.cc_defs.specs.declared.refusal.Fault.{Fault}
 use Rattle.cc_defs.specs.declared.refusal.Fault.TheVariants as faults
-use Rattle.cc_defs.specs.declared.refusal.LimitAt.TheVariants as limits
 use Rattle.cc_defs.specs.ClauseForms.{all_written, positive, true_variable}
 use Rattle.cc_defs.specs.ClauseLists.{Asserted, Bodied, ClauseList, MadeRules, claim_if, clause_list, clauses_over, completion_from, condition_term, denials_of, key_terms, positions_from}
 use Rattle.cc_defs.specs.Clauses.{Literal}
 use Rattle.cc_defs.specs.Description.{Description, sizes_at, stride}
-use Rattle.cc_defs.specs.GroundLaws.{PlainGroundCondition, PlainGroundQuery, StandsForQuery, ground_condition, ground_query}
+use Rattle.cc_defs.specs.GroundLaws.{PlainGroundCondition, PlainGroundQuery, StandsForQuery, ground_condition}
 use Rattle.cc_defs.specs.Histories.{step_of}
 use Rattle.cc_defs.specs.Nodes.{term_of}
-use Rattle.cc_defs.specs.Refusals.{IsRefusedBy, past}
+use Rattle.cc_defs.specs.Refusals.{IsRefusedBy}
 use Rattle.cc_defs.specs.Resolved.{Condition, Query}
 use Rattle.cc_defs.specs.Rows.{IsRow}
 use Rattle.cc_defs.specs.Satisfaction.{giving}
 use Rattle.cc_defs.specs.Sections.{Axioms}
 use Rattle.cc_defs.specs.Signatures.{Signature}
-use Rattle.cc_defs.specs.Terms.{Ground, Fits, IsTermOver, postfix}
-use Rattle.cc_defs.specs.TimedRules.{TimedRule, moved, timed_rules}
+use Rattle.cc_defs.specs.Terms.{Ground, IsTermOver, postfix}
+use Rattle.cc_defs.specs.TimedRules.{TimedRule, timed_rules}
 use Rattle.cc_theory.specs.declared.rule.TimedRule as code
 use Rattle.cc_arena.specs.Laws.{TermsMeanFormulas}
 use Rattle.cc_arena.specs.Walks.{OneFormula}
@@ -37,8 +36,8 @@ use Rattle.cc_form.specs.declared.store.Kept.{Kept}
 use Rattle.cc_form.specs.Building.{IsBuiltForm, IsSection, count_refusal}
 use Rattle.cc_form.specs.Forms.{IsAxioms, TellsHistories, asked, form_of, form_refusal}
 use Rattle.cc_form.specs.Laws.{AllFit, ClausesTellRows, TermFits}
-use Rattle.cc_form.specs.Machine.{Adds, IsBuilt, IsPast, moved_nodes}
-use Rattle.cc_form.specs.Making.{IsBodyOver, asserted_nodes, bodied, denied_nodes, list_over, made_bodies, made_rule, nodes_if, query_list, rules_list}
+use Rattle.cc_form.specs.Machine.{Adds, IsBuilt, IsPast}
+use Rattle.cc_form.specs.Making.{asserted_nodes, bodied, denied_nodes, list_over, made_bodies, made_rule, nodes_if, query_list, rules_list}
 use Rattle.cc_form.specs.Places.{position_sizes}
 use Rattle.cc_form.specs.Queries.{IsConditionAt, IsKeyAt, IsOverPlaces, IsQueryAt, condition_nodes, section_list}
 use Rattle.cc_form.specs.Store.{AreFew, Gives, Holds, literal_count_of}

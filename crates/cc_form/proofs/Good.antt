@@ -1,19 +1,15 @@
 -- The clauses of a list are clauses over its variables.
-use Rattle.std.proofs.Common.{◌≡◌, ◌∙◌, ℕ, zero, suc, ◌+◌, ◌-◌, ◌<◌, ◌≤◌, ◌⊎◌, inl, inr, Bool, true, false, not, List, [], ◌∷◌, ◌++◌, length, map, flat_map, nat_lt, sum, slice_get, Option, Some, None, refl, sym, ap, subst, arith}
-use Rattle.std.specs.Prelude.{if◌then◌else◌, cond, IfSome}
-use Rattle.std.specs.List.{filter, AllByRecursion}
-use Rattle.std.proofs.lemmas.Bool.{ltb-true}
-use Rattle.cc_defs.specs.declared.node.Node.TheVariants as nodes
-use Rattle.cc_defs.specs.ClauseForms.{Made, MadeAll, all_clauses, all_written, any_clauses, atom_variable, in_order, is_tautology, made_all, made_any, made_of, made_operands, positive, same_clauses, true_variable, written}
-use Rattle.cc_defs.specs.ClauseLists.{Bodied, assert_all, bodies_of, completion_from, completion_of, denials_of, deny, exactly_one, is_falsity, is_of_atom, made_rules, pairs_denied, position_completion, position_variables, positions_from}
-use Rattle.cc_defs.specs.Clauses.{Literal, IsBefore, IsClause, IsOver, opposite}
-use Rattle.cc_defs.specs.Rules.{upto}
+use Rattle.std.proofs.Common.{◌≡◌, ℕ, zero, suc, ◌+◌, ◌<◌, ◌≤◌, inl, inr, Bool, true, false, List, [], ◌∷◌, ◌++◌, map, sum, refl, sym, subst, arith}
+use Rattle.std.specs.Prelude.{if◌then◌else◌}
+use Rattle.std.specs.List.{AllByRecursion}
+use Rattle.cc_defs.specs.ClauseForms.{Made, MadeAll, all_clauses, all_written, any_clauses, in_order, is_tautology, made_all, made_any, made_of, made_operands, positive, same_clauses, true_variable, written}
+use Rattle.cc_defs.specs.ClauseLists.{exactly_one, pairs_denied, position_variables, positions_from}
+use Rattle.cc_defs.specs.Clauses.{Literal, IsClause, IsOver, opposite}
 use Rattle.cc_defs.specs.Terms.{Ground, Operands, Fits, nothing, and_then}
 use Rattle.cc_defs.specs.Terms as terms
-use Rattle.cc_defs.specs.TimedRules.{TimedRule}
 use Rattle.cc_form.proofs.Choices.{variables_front}
 use Rattle.cc_form.proofs.Meaning.{AtomsFit, AtomsFitIn}
-use Rattle.cc_form.proofs.Ordered.{Among, cases_test, ordered_clause, ordered_from}
+use Rattle.cc_form.proofs.Ordered.{Among, ordered_clause, ordered_from}
 use Rattle.cc_form.proofs.Positions.{atom_below, atom_some, sum_cons}
 
 -- ---- literals and clauses over so many variables

@@ -1,12 +1,11 @@
 -- The clause list of rules, conditions, a claim and a key has clauses over its variables alone.
-use Rattle.std.proofs.Common.{◌≡◌, ◌∙◌, ℕ, zero, suc, ◌+◌, ◌-◌, ◌<◌, ◌≤◌, ◌⊎◌, inl, inr, Bool, true, false, not, List, [], ◌∷◌, ◌++◌, length, map, flat_map, nat_lt, sum, slice_get, Option, Some, None, refl, sym, ap, subst, arith}
-use Rattle.std.specs.Prelude.{if◌then◌else◌, cond, IfSome}
+use Rattle.std.proofs.Common.{◌≡◌, ◌∙◌, ℕ, zero, suc, ◌+◌, ◌<◌, ◌≤◌, inl, inr, Bool, true, false, not, List, [], ◌∷◌, ◌++◌, map, flat_map, nat_lt, sum, slice_get, Option, Some, None, refl, ap, arith}
+use Rattle.std.specs.Prelude.{if◌then◌else◌, IfSome}
 use Rattle.std.specs.List.{filter, AllByRecursion, All, Contains}
 use Rattle.std.proofs.lemmas.List.Elements.{All-from_recursion}
 use Rattle.cc_defs.specs.declared.lists.Key.{Key}
 use Rattle.cc_defs.specs.declared.node.GroundHead.{GroundHead}
-use Rattle.cc_defs.specs.declared.node.Node.TheVariants as nodes
-use Rattle.cc_defs.specs.ClauseForms.{all_written, any_clauses, atom_variable, made_of, positive, true_variable}
+use Rattle.cc_defs.specs.ClauseForms.{all_written, atom_variable, made_of, positive, true_variable}
 use Rattle.cc_defs.specs.ClauseLists.{Asserted, Bodied, MadeRules, assert_all, bodies_of, clauses_over, completion_from, completion_of, denials_of, deny, is_certain, is_falsity, is_of_atom, key_terms, made_rules, position_completion, positions_from, rules_that_count}
 use Rattle.cc_defs.specs.Clauses.{Literal, IsClause, IsOver, opposite}
 use Rattle.cc_defs.specs.Rules.{upto}
@@ -16,7 +15,7 @@ use Rattle.cc_form.specs.Laws.{AllFit, RuleFits, TermFits}
 use Rattle.cc_form.proofs.Causes.{all_atoms_fit, all_filter, atoms_fit}
 use Rattle.cc_form.proofs.Good.{AreGood, AreWithin, IsGood, IsWithin, all_written_good, any_good, both_all, more_good, positions_good, term_well}
 use Rattle.cc_form.proofs.Meaning.{AtomsFit}
-use Rattle.cc_form.proofs.Ordered.{Among, among, cases_test, contained}
+use Rattle.cc_form.proofs.Ordered.{Among, among, contained}
 use Rattle.cc_form.proofs.Positions.{atom_below, atom_some}
 use Rattle.cc_form.proofs.Telling.{key_atoms}
 

@@ -1,22 +1,22 @@
 -- The rows of the clause list of a section are histories.
-use Rattle.std.proofs.Common.{inl, inr, ◌≡◌, ◌∙◌, ℕ, zero, suc, ◌+◌, ◌*◌, ◌<◌, ◌≤◌, Bool, true, false, not, ◌&&◌, ◌||◌, List, [], ◌∷◌, ◌++◌, length, map, Option, Some, None, refl, sym, ap, subst, arith, IsTrue, IsFalse, append_assoc}
-use Rattle.std.specs.Prelude.{◌↔◌, ◌==◌, IfSome, slice_index}
+use Rattle.std.proofs.Common.{◌≡◌, ◌∙◌, ℕ, zero, suc, ◌+◌, ◌*◌, Bool, true, false, not, ◌&&◌, ◌||◌, List, [], ◌∷◌, ◌++◌, length, map, Option, Some, None, refl, sym, ap, subst, IsTrue, IsFalse}
+use Rattle.std.specs.Prelude.{IfSome, slice_index}
 use Rattle.std.specs.Bool.{beq}
-use Rattle.std.specs.List.{list_all, AllByRecursion}
+use Rattle.std.specs.List.{list_all}
 use Rattle.std.specs.Option.{option_map}
 use Rattle.cc_arena.specs.Laws.{TermsMeanFormulas}
 use Rattle.cc_arena.specs.Walks.{OneFormula}
 use Rattle.cc_defs.specs.declared.lists.Key.{Key}
 use Rattle.cc_defs.specs.declared.signature.Const.{Const}
-use Rattle.cc_defs.specs.ClauseLists.{claim_if, clauses_over, condition_term}
+use Rattle.cc_defs.specs.ClauseLists.{claim_if, condition_term}
 use Rattle.cc_defs.specs.Conditions.{IsSignatureOfDescription}
 use Rattle.cc_defs.specs.Description.{Description, domain_sizes, sizes_at, stride, values_at}
-use Rattle.cc_defs.specs.Histories.{IsHistory, Meets, condition_holds, step_of}
+use Rattle.cc_defs.specs.Histories.{condition_holds, step_of}
 use Rattle.cc_defs.specs.Nodes.{term_of}
 use Rattle.cc_defs.specs.Resolved.{Condition, Query}
 use Rattle.cc_defs.specs.Rows.{IsBelow}
 use Rattle.cc_defs.specs.Satisfaction.{giving}
-use Rattle.cc_defs.specs.Signatures.{Signature, ground_constants}
+use Rattle.cc_defs.specs.Signatures.{Signature}
 use Rattle.cc_defs.specs.Terms.{Ground, Operands, nothing, and_then, truth, all_true, any_true}
 use Rattle.cc_defs.specs.Terms as terms
 use Rattle.cc_defs.specs.TimedRules.{moved, moved_operands, timed_rules}
@@ -24,7 +24,7 @@ use Rattle.cc_theory.specs.Completion.{holds}
 use Rattle.cc_theory.specs.Laws.{IsGroundedWell, ModelsArePaths, ModelsMeetCompletion}
 use Rattle.cc_theory.specs.Making.{stride_of}
 use Rattle.cc_form.specs.Forms.{TellsHistories, asked, form_of}
-use Rattle.cc_form.specs.Laws.{IsTold, TellsRows}
+use Rattle.cc_form.specs.Laws.{TellsRows}
 use Rattle.cc_form.specs.Places.{position_sizes}
 
 -- ---- positions

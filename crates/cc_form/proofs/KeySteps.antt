@@ -1,7 +1,6 @@
 -- Loops over the positions of a key.
-use Rattle.std.proofs.Common.{Result, Ok, Err, ◌≡◌, ◌∙◌, ℕ, zero, suc, ◌+◌, ◌-◌, ◌*◌, ◌<◌, ◌≤◌, ◌⊎◌, inl, inr, List, [], ◌∷◌, ◌++◌, length, map, get_or, refl, sym, ap, subst, arith, append_assoc, append-nil}
+use Rattle.std.proofs.Common.{◌≡◌, ◌∙◌, ℕ, zero, suc, ◌+◌, ◌-◌, ◌<◌, ◌≤◌, List, [], ◌∷◌, ◌++◌, length, map, refl, sym, ap, arith, append_assoc, append-nil}
 use Rattle.std.specs.Prelude.{slice_index}
-use Rattle.std.proofs.lemmas.Bool.{cases_lt}
 use Rattle.cc_defs.specs.declared.node.Node.{Node}
 use Rattle.cc_defs.specs.declared.node.Node.TheVariants as nodes
 use Rattle.cc_defs.specs.declared.refusal.Fault.{Fault}
@@ -14,7 +13,7 @@ use Rattle.cc_defs.specs.Terms as terms
 use Rattle.cc_form.specs.declared.builder.Builder.{Builder}
 use Rattle.cc_form.specs.Machine.{IsPast, IsRan, Ran, run}
 use Rattle.cc_form.specs.Making.{key_down, key_part, key_up, nodes_above}
-use Rattle.cc_form.proofs.Parts.{front_rises, mapped_last, part_fails, ran_part}
+use Rattle.cc_form.proofs.Parts.{front_rises, part_fails, ran_part}
 use Rattle.cc_form.proofs.Running.{past_more, run_is}
 
 -- ---- a list that grows by a part a turn

@@ -1,5 +1,5 @@
 -- The formula that a row lies after a key.
-use Rattle.std.proofs.Common.{◌≡◌, ◌∙◌, ℕ, zero, suc, ◌+◌, ◌-◌, ◌<◌, ◌≤◌, ◌⊎◌, inl, inr, Bool, true, false, ◌&&◌, ◌||◌, List, [], ◌∷◌, ◌++◌, map, slice_get, Some, refl, sym, ap, subst, arith}
+use Rattle.std.proofs.Common.{◌≡◌, ◌∙◌, ℕ, zero, suc, ◌+◌, ◌-◌, ◌<◌, ◌⊎◌, inl, inr, Bool, true, false, ◌&&◌, ◌||◌, List, [], ◌∷◌, ◌++◌, map, slice_get, Some, refl, sym, ap, subst, arith}
 use Rattle.std.specs.Prelude.{◌==◌, slice_index}
 use Rattle.std.specs.List.{list_any, AllByRecursion}
 use Rattle.std.specs.Ordering.{nat_cmp}
@@ -11,7 +11,7 @@ use Rattle.cc_defs.specs.Rules.{upto}
 use Rattle.cc_defs.specs.Terms.{Ground, Operands, nothing, and_then, operands_behind, truth, any_true}
 use Rattle.cc_defs.specs.Terms as terms
 use Rattle.cc_form.proofs.Meaning.{AtomsFit, AtomsFitIn, and_is, or_gives, or_is}
-use Rattle.cc_form.proofs.Ordered.{Among, both_true, cases_test}
+use Rattle.cc_form.proofs.Ordered.{Among, both_true}
 use Rattle.cc_form.proofs.RowValues.{mapped_last}
 use Rattle.cc_form.proofs.Written.{any_gives, any_made}
 

@@ -1,15 +1,13 @@
 -- Which assignments meet the clauses of a term: those that give each new variable the truth of its part.
-use Rattle.std.proofs.Common.{◌≡◌, ◌∙◌, ℕ, zero, suc, ◌+◌, ◌<◌, ◌≤◌, ◌⊎◌, inl, inr, Bool, true, false, not, ◌&&◌, ◌||◌, List, [], ◌∷◌, ◌++◌, length, map, refl, sym, ap, subst, arith, append_assoc, append-nil, length-append}
+use Rattle.std.proofs.Common.{◌≡◌, ◌∙◌, ℕ, suc, ◌+◌, ◌⊎◌, inl, inr, Bool, true, false, not, ◌&&◌, ◌||◌, List, [], ◌∷◌, ◌++◌, length, map, refl, sym, ap, subst, arith, append-nil, length-append}
 use Rattle.std.specs.Prelude.{if◌then◌else◌, ◌==◌}
 use Rattle.std.specs.Bool.{beq}
-use Rattle.std.specs.List.{list_all, list_any, AllByRecursion}
-use Rattle.cc_defs.specs.declared.node.Node.{Node}
+use Rattle.std.specs.List.{list_all, list_any}
 use Rattle.cc_defs.specs.declared.node.Node.TheVariants as nodes
-use Rattle.cc_defs.specs.ClauseForms.{Made, MadeAll, all_clauses, all_written, any_clauses, atom_variable, in_order, is_tautology, made_all, made_any, made_of, made_operands, made_same, positive, same_clauses, true_variable, written}
+use Rattle.cc_defs.specs.ClauseForms.{Made, MadeAll, all_clauses, all_written, any_clauses, atom_variable, in_order, is_tautology, made_all, made_any, made_of, made_operands, positive, same_clauses, true_variable, written}
 use Rattle.cc_defs.specs.Clauses.{Literal, is_made_true, meets, opposite}
 use Rattle.cc_defs.specs.Terms.{Ground, Operands, Fits, nothing, and_then, operand_count, postfix, postfixes, truth, all_true, any_true}
 use Rattle.cc_defs.specs.Terms as terms
-use Rattle.cc_form.proofs.Definitions.{written_behind}
 use Rattle.cc_form.proofs.Ordered.{Among, cases_test, ordered_from, ordered_has}
 use Rattle.cc_form.proofs.Written.{any_gives, any_made, equal_tests, tautology_gives}
 

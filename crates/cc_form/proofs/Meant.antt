@@ -1,5 +1,5 @@
 -- The clause list as it is made from nodes is that of the rules and terms that these nodes are of.
-use Rattle.std.proofs.Common.{inl, inr, ◌≡◌, ◌∙◌, ℕ, zero, suc, ◌+◌, ◌-◌, ◌*◌, ◌<◌, ◌≤◌, Bool, true, false, not, ◌&&◌, List, [], ◌∷◌, ◌++◌, length, map, flat_map, nat_lt, slice_get, Option, Some, None, refl, sym, ap, subst, arith, append_assoc}
+use Rattle.std.proofs.Common.{inl, inr, ◌≡◌, ◌∙◌, ℕ, zero, suc, ◌+◌, ◌*◌, ◌<◌, ◌≤◌, Bool, true, false, not, ◌&&◌, List, [], ◌∷◌, ◌++◌, map, flat_map, nat_lt, slice_get, Option, Some, None, refl, sym, ap, subst, arith}
 use Rattle.std.specs.Prelude.{◌==◌, if◌then◌else◌, cond, IfSome, slice_index_or}
 use Rattle.std.specs.List.{filter, AllByRecursion, AllZip}
 use Rattle.std.specs.Option.{option_map}
@@ -10,18 +10,18 @@ use Rattle.cc_defs.specs.declared.node.GroundHead.TheVariants as heads
 use Rattle.cc_defs.specs.declared.node.Node.{Node}
 use Rattle.cc_defs.specs.declared.node.Node.TheVariants as nodes
 use Rattle.cc_defs.specs.ClauseForms.{Made, all_written, atom_variable, made_of, positive, true_variable}
-use Rattle.cc_defs.specs.ClauseLists.{Asserted, Bodied, ClauseList, MadeRules, after_key, assert_all, asserted, bodies_of, clauses_over, completion_from, completion_of, denials_of, deny, is_certain, is_falsity, is_of_atom, key_terms, made_rules, position_completion, positions_from, rules_that_count}
+use Rattle.cc_defs.specs.ClauseLists.{Asserted, Bodied, ClauseList, MadeRules, assert_all, asserted, bodies_of, clauses_over, completion_from, completion_of, denials_of, deny, is_certain, is_falsity, is_of_atom, key_terms, made_rules, position_completion, positions_from, rules_that_count}
 use Rattle.cc_defs.specs.Clauses.{Literal, opposite}
 use Rattle.cc_defs.specs.Rules.{upto}
 use Rattle.cc_defs.specs.Terms.{Ground, Fits, IsTermOver, all_of, operand_count, postfix, postfixes}
 use Rattle.cc_defs.specs.Terms as terms
-use Rattle.cc_defs.specs.TimedRules.{TimedRule, joined_parts, moved}
+use Rattle.cc_defs.specs.TimedRules.{TimedRule, joined_parts}
 use Rattle.cc_theory.specs.declared.rule.Timed.{Timed}
 use Rattle.cc_theory.specs.declared.rule.TimedHead.{TimedHead}
 use Rattle.cc_theory.specs.declared.rule.TimedHead.TheVariants as timed_heads
 use Rattle.cc_theory.specs.declared.rule.TimedRule as code
-use Rattle.cc_theory.specs.Theories.{IsAtomOf, IsBody, IsPart, IsRuleOf, plain_head}
-use Rattle.cc_form.specs.Laws.{HeadFits, RuleFits, TermFits}
+use Rattle.cc_theory.specs.Theories.{IsBody, IsPart, IsRuleOf, plain_head}
+use Rattle.cc_form.specs.Laws.{HeadFits, RuleFits}
 use Rattle.cc_form.specs.Machine.{made_nodes, moved_nodes, plain_made}
 use Rattle.cc_form.specs.Making.{IsBodyOver, asserted_nodes, body_nodes, body_of, denied_nodes, head_nodes, is_truth, joined_nodes, list_over, made_bodies, made_rule, part_nodes}
 use Rattle.cc_form.proofs.Ordered.{cases_test}

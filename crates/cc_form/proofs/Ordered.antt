@@ -1,11 +1,11 @@
 -- Lists of literals: their members, and their order by code.
-use Rattle.std.proofs.Common.{◌≡◌, ◌∙◌, ℕ, ◌+◌, ◌*◌, ◌<◌, ◌≤◌, ◌⊎◌, zero, suc, inl, inr, Bool, true, false, not, ◌&&◌, ◌||◌, List, [], ◌∷◌, nat_lt, nat_eq, refl, sym, subst, ap, arith}
+use Rattle.std.proofs.Common.{◌≡◌, ◌∙◌, ℕ, ◌+◌, ◌*◌, ◌<◌, ◌≤◌, ◌⊎◌, zero, suc, inl, inr, Bool, true, false, not, ◌&&◌, ◌||◌, List, [], ◌∷◌, nat_lt, refl, sym, subst, ap, arith}
 use Rattle.std.specs.Prelude.{if◌then◌else◌, ◌==◌}
 use Rattle.std.specs.Bool.{beq}
 use Rattle.std.specs.List.{Contains}
 use Rattle.std.proofs.lemmas.Bool.{cases_lt, lt-ltb, ltb-true, eqb-true, eq-eqb}
 use Rattle.cc_defs.specs.ClauseForms.{in_order, is_before, put, same_literal}
-use Rattle.cc_defs.specs.Clauses.{Literal, IsBefore, IsClause, opposite}
+use Rattle.cc_defs.specs.Clauses.{Literal, IsBefore, IsClause}
 
 -- `Contains`, by recursion
 abbrev pub Among : {X : Type 0} → List X → X → Type 0

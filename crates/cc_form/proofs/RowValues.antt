@@ -1,10 +1,10 @@
 -- The values of the variables of atoms in a row, and the clauses that each position has exactly one value.
-use Rattle.std.proofs.Common.{◌≡◌, ◌≢◌, ◌∙◌, ℕ, zero, suc, ◌+◌, ◌-◌, ◌<◌, ◌≤◌, ◌⊎◌, inl, inr, Bool, true, false, not, ◌&&◌, ◌||◌, List, [], ◌∷◌, ◌++◌, length, map, sum, nat_eq, get_or, slice_get, Some, refl, sym, ap, subst, arith, length-append, append_assoc}
-use Rattle.std.specs.Prelude.{◌==◌, if◌then◌else◌, slice_index}
-use Rattle.std.specs.List.{list_any, Contains}
+use Rattle.std.proofs.Common.{◌≡◌, ◌∙◌, ℕ, zero, suc, ◌+◌, ◌-◌, ◌<◌, inl, inr, Bool, true, false, not, List, [], ◌∷◌, ◌++◌, length, map, sum, slice_get, Some, refl, sym, ap, subst, arith, length-append}
+use Rattle.std.specs.Prelude.{◌==◌, slice_index}
+use Rattle.std.specs.List.{list_any}
 use Rattle.std.proofs.lemmas.Bool.{eqb-true, eq-eqb, ne_eqb, cases_order, cases_lt}
 use Rattle.cc_defs.specs.declared.node.Node.TheVariants as nodes
-use Rattle.cc_defs.specs.ClauseForms.{atom_variable, first_variable, positive, true_variable}
+use Rattle.cc_defs.specs.ClauseForms.{atom_variable, first_variable, positive}
 use Rattle.cc_defs.specs.ClauseLists.{exactly_one, pairs_denied, position_variables, positions_from}
 use Rattle.cc_defs.specs.Clauses.{Literal, is_made_true, meets, opposite}
 use Rattle.cc_defs.specs.Rows.{IsRow}
@@ -12,10 +12,10 @@ use Rattle.cc_defs.specs.Rules.{upto}
 use Rattle.cc_defs.specs.Terms.{Fits}
 use Rattle.cc_clauses.specs.RowsOf.{HasRow, HasRowFrom, MeetsAll}
 use Rattle.cc_form.proofs.Choices.{variables_front}
-use Rattle.cc_form.proofs.Meaning.{Agrees, AllMet, agrees_both, agrees_left, agrees_right, met_both, met_left, met_right, or_gives, or_is, opposite_is, pair_gives, pair_is}
+use Rattle.cc_form.proofs.Meaning.{Agrees, AllMet, agrees_both, agrees_left, agrees_right, met_both, met_left, met_right, or_gives, pair_gives, pair_is}
 use Rattle.cc_form.proofs.Ordered.{Among, among, contained, cases_test}
 use Rattle.cc_form.proofs.Positions.{sum_cons}
-use Rattle.cc_form.proofs.Written.{any_gives, any_made}
+use Rattle.cc_form.proofs.Written.{any_made}
 
 -- ---- all clauses, by members and by recursion
 

@@ -11,7 +11,7 @@ use Rattle.cc_defs.specs.Clauses.{Literal, opposite}
 use Rattle.cc_defs.specs.Terms.{Ground, Operands, Fits, IsTermOver, nothing, and_then, operand_count, postfix, postfixes}
 use Rattle.cc_defs.specs.Terms as terms
 use Rattle.cc_form.specs.declared.builder.Builder.{Builder}
-use Rattle.cc_form.specs.Machine.{Ran, IsBuilt, IsPast, IsRan, IsReady, behind, first_of, made_node, made_nodes, moved_node, moved_nodes, run, stepped}
+use Rattle.cc_form.specs.Machine.{Ran, IsPast, IsRan, IsReady, behind, first_of, made_node, made_nodes, moved_node, run, stepped}
 use Rattle.cc_form.specs.Store.{Gives}
 use Rattle.cc_form.proofs.Keeping.{gives_more, gives_none}
 

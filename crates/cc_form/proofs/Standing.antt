@@ -1,11 +1,10 @@
 -- Where constants stand among the positions of a horizon.
-use Rattle.std.proofs.Common.{Bor, ◌≡◌, ◌∙◌, ℕ, zero, suc, ◌+◌, ◌-◌, ◌*◌, ◌%◌, ◌<◌, ◌≤◌, ◌⊎◌, inl, inr, Bool, true, false, nat_lt, List, [], ◌∷◌, ◌++◌, length, map, slice_get, Option, Some, None, refl, sym, ap, subst, arith, option_map, length-append}
+use Rattle.std.proofs.Common.{◌≡◌, ◌∙◌, ℕ, zero, suc, ◌+◌, ◌-◌, ◌*◌, ◌%◌, ◌<◌, ◌≤◌, inl, inr, Bool, List, [], ◌∷◌, ◌++◌, length, map, slice_get, Option, Some, None, refl, sym, ap, subst, arith, option_map, length-append}
 use Rattle.std.specs.Prelude.{if◌then◌else◌, IfSome}
 use Rattle.std.specs.List.{AllByRecursion}
 use Rattle.std.proofs.Math.Nat.{add-mod_left, add-mul, mul-add, mul_comm, mod-eq_of_lt}
-use Rattle.std.proofs.lemmas.Bool.{cases_lt, lt-ltb, le-ltb, ltb-true}
+use Rattle.std.proofs.lemmas.Bool.{cases_lt, lt-ltb, le-ltb}
 use Rattle.std.proofs.lemmas.List.{length-map}
-use Rattle.std.proofs.lemmas.Nat.{mod-mul-add}
 use Rattle.std.proofs.lemmas.Option.{slice_get-map, slice_get_within}
 use Rattle.cc_defs.specs.declared.node.Node.{Node}
 use Rattle.cc_defs.specs.declared.node.Node.TheVariants as nodes
@@ -20,7 +19,7 @@ use Rattle.cc_theory.specs.declared.rule.TimedHead.{TimedHead}
 use Rattle.cc_theory.specs.declared.rule.TimedHead.TheVariants as timed_heads
 use Rattle.cc_theory.specs.declared.rule.TimedRule.{TimedRule}
 use Rattle.cc_theory.specs.Making.{stride_of}
-use Rattle.cc_theory.specs.Theories.{AreRulesAt, IsAtom, IsHeadAt, IsRuleAt, IsTermAt, sizes_of_step}
+use Rattle.cc_theory.specs.Theories.{AreRulesAt, IsAtom, IsHeadAt, IsTermAt, sizes_of_step}
 use Rattle.cc_form.specs.Machine.{moved_node, moved_nodes}
 use Rattle.cc_form.specs.Making.{IsBodyOver, head_nodes, part_nodes}
 use Rattle.cc_form.specs.Places.{position_sizes}

@@ -1,22 +1,21 @@
 -- The rows of a clause list are those that meet the completion and the conditions, do not meet the claim, and lie after the key.
-use Rattle.std.proofs.Common.{◌≡◌, ◌∙◌, ℕ, zero, suc, ◌+◌, ◌-◌, ◌<◌, ◌≤◌, ◌⊎◌, inl, inr, Bool, true, false, not, ◌&&◌, ◌||◌, List, [], ◌∷◌, ◌++◌, length, map, sum, get_or, slice_get, Option, Some, None, refl, sym, ap, subst, arith, length-append, IsTrue, IsFalse}
-use Rattle.std.specs.Prelude.{◌==◌, ◌↔◌, IfSome, slice_index}
-use Rattle.std.specs.List.{list_all, list_any, filter, AllByRecursion, Contains}
+use Rattle.std.proofs.Common.{◌≡◌, ◌∙◌, ℕ, zero, suc, ◌+◌, ◌-◌, ◌<◌, ◌≤◌, inl, inr, Bool, true, false, not, ◌&&◌, ◌||◌, List, [], ◌∷◌, ◌++◌, length, get_or, slice_get, Option, Some, None, refl, sym, ap, subst, arith, length-append, IsFalse}
+use Rattle.std.specs.Prelude.{◌==◌, IfSome, slice_index}
+use Rattle.std.specs.List.{list_all, list_any, filter, AllByRecursion}
 use Rattle.std.proofs.lemmas.Bool.{cases_lt, eqb-true, eq-eqb}
 use Rattle.cc_defs.specs.declared.lists.Key.{Key}
 use Rattle.cc_defs.specs.declared.node.GroundHead.{GroundHead}
 use Rattle.cc_defs.specs.declared.node.GroundHead.TheVariants as heads
-use Rattle.cc_defs.specs.declared.node.Node.TheVariants as nodes
 use Rattle.cc_defs.specs.ClauseForms.{all_written, atom_variable, positive, true_variable}
-use Rattle.cc_defs.specs.ClauseLists.{Asserted, MadeRules, after_key, assert_all, bodies_of, clauses_over, completion_from, denials_of, deny, is_certain, is_falsity, is_of_atom, key_terms, made_rules, positions_from, rules_that_count}
-use Rattle.cc_defs.specs.Clauses.{Literal, meets}
+use Rattle.cc_defs.specs.ClauseLists.{Asserted, MadeRules, assert_all, bodies_of, clauses_over, completion_from, denials_of, deny, is_certain, is_falsity, is_of_atom, key_terms, made_rules, positions_from, rules_that_count}
+use Rattle.cc_defs.specs.Clauses.{Literal}
 use Rattle.cc_defs.specs.Rows.{IsBelow, IsRow}
-use Rattle.cc_defs.specs.Terms.{Ground, Fits, truth}
+use Rattle.cc_defs.specs.Terms.{Ground}
 use Rattle.cc_defs.specs.TimedRules.{TimedRule}
-use Rattle.cc_clauses.specs.RowsOf.{HasRow, HasRowFrom, IsRowOf, MeetsAll}
+use Rattle.cc_clauses.specs.RowsOf.{HasRow, HasRowFrom}
 use Rattle.cc_theory.specs.Completion.{IsCause, MeetsCompletion, holds}
-use Rattle.cc_form.specs.Laws.{AllFit, ClausesTellRows, HeadFits, IsTold, RuleFits, TellsRows, TermFits}
-use Rattle.cc_form.proofs.Causes.{AllTrue, AreAsserted, AreRulesTold, IsCompleted, IsDenied, all_atoms_fit, all_filter, atoms_counting, behind, claim_denied, claim_values_of, completion_met, denials_met, ends_together, falsity_counting, has_body, joined, met_completion, met_denials, rules_told, rules_values_of, terms_asserted, terms_values_of}
+use Rattle.cc_form.specs.Laws.{AllFit, ClausesTellRows, HeadFits, IsTold, RuleFits, TellsRows}
+use Rattle.cc_form.proofs.Causes.{AllTrue, AreAsserted, AreRulesTold, IsDenied, all_atoms_fit, all_filter, atoms_counting, behind, claim_denied, claim_values_of, completion_met, denials_met, ends_together, falsity_counting, joined, met_completion, met_denials, rules_told, rules_values_of, terms_asserted, terms_values_of}
 use Rattle.cc_form.proofs.Keys.{after_true, key_fits, true_after}
 use Rattle.cc_form.proofs.Meaning.{Agrees, AllMet, AtomsFit, agrees_both, agrees_left, agrees_right, all_written_met, and_is, lit, met_all_written, met_both, met_left, met_right, or_gives, or_is}
 use Rattle.cc_form.proofs.Ordered.{Among, among, both_true, cases_test, contained}

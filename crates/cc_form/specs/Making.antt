@@ -1,5 +1,5 @@
 -- The clause list as it is made from rules in time, conditions and a claim whose terms are nodes.
-use Rattle.std.specs.Prelude.{◌≡◌, ℕ, zero, suc, ◌+◌, ◌-◌, ◌*◌, ◌≤◌, Bool, true, false, if◌then◌else◌, List, [], ◌∷◌, ◌++◌, map, Option, Some, None, IfSome, slice_index, slice_index_or}
+use Rattle.std.specs.Prelude.{ℕ, zero, suc, ◌+◌, ◌-◌, ◌*◌, ◌≤◌, Bool, true, false, if◌then◌else◌, List, [], ◌∷◌, ◌++◌, map, Option, Some, None, IfSome, slice_index, slice_index_or}
 use Rattle.cc_defs.specs.declared.node.Node.{Node}
 use Rattle.cc_defs.specs.declared.node.Node.TheVariants as nodes
 use Rattle.cc_defs.specs.ClauseForms.{Made, positive, true_variable, all_written}

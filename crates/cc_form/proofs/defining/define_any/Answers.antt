@@ -1,4 +1,4 @@
-use Rattle.std.proofs.Common.{[], ◌∷◌, List, map, subst}
+use Rattle.std.proofs.Common.{[], ◌∷◌, map, subst}
 use Rattle.cc_defs.specs.ClauseForms.{all_written}
 use Rattle.cc_defs.specs.Clauses.{Literal, opposite}
 use Rattle.cc_form.specs.Store.{Gives}

@@ -1,6 +1,6 @@
-use Rattle.std.proofs.Common.{◌≡◌, [], ◌∷◌, List, map, sym, ap, refl, subst, arith}
+use Rattle.std.proofs.Common.{[], ◌∷◌, List, refl, subst, arith}
 use Rattle.cc_defs.specs.ClauseForms.{all_written}
-use Rattle.cc_defs.specs.Clauses.{Literal, opposite}
+use Rattle.cc_defs.specs.Clauses.{Literal}
 use Rattle.cc_form.specs.Store.{Gives}
 use Rattle.cc_form.proofs.Keeping.{gives_none}
 use Rattle.cc_form.proofs.Definitions.{write_more, mapped_all}

@@ -1,6 +1,5 @@
 use Rattle.std.proofs.Common.{[], ◌∷◌, map, take}
 use Rattle.cc_defs.specs.ClauseForms.{all_written}
-use Rattle.cc_defs.specs.Clauses.{Literal, opposite}
 use Rattle.cc_form.specs.Store.{Gives}
 use Rattle.cc_form.proofs.defining.write_with_each.Given as goal
 

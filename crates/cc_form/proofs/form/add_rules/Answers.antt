@@ -1,4 +1,4 @@
-use Rattle.std.proofs.Common.{◌≡◌, ◌∙◌, ℕ, List, length, map, refl, sym, ap, subst}
+use Rattle.std.proofs.Common.{◌∙◌, List, length, map, refl, ap, subst}
 use Rattle.cc_defs.specs.ClauseForms.{all_written}
 use Rattle.cc_defs.specs.ClauseLists.{completion_from, denials_of}
 use Rattle.cc_defs.specs.Clauses.{Literal}

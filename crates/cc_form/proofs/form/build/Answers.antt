@@ -1,4 +1,4 @@
-use Rattle.std.proofs.Common.{Bor, ◌≡◌, ◌∙◌, ◌+◌, ◌≤◌, ℕ, List, Option, length, refl, sym, ap, subst, arith, option_map}
+use Rattle.std.proofs.Common.{Bor, ◌≡◌, ◌∙◌, ◌+◌, ℕ, List, Option, length, refl, sym, ap, subst, arith, option_map}
 use Rattle.std.specs.List.{AllByRecursion}
 use Rattle.std.specs.Prelude.{IfSome}
 use Rattle.cc_arena.specs.GroundViews.{plain_ground_condition, plain_ground_query}

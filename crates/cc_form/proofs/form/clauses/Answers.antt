@@ -1,4 +1,4 @@
-use Rattle.std.proofs.Common.{Bor, ◌≡◌, ◌∙◌, ℕ, List, Option, option_map}
+use Rattle.std.proofs.Common.{Bor, Option, option_map}
 use Rattle.cc_arena.specs.GroundViews.{plain_ground_query}
 use Rattle.cc_defs.specs.declared.lists.Key.{Key}
 use Rattle.cc_form.specs.Queries.{section_list}

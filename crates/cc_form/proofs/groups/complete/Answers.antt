@@ -1,6 +1,6 @@
-use Rattle.std.proofs.Common.{◌≡◌, ◌∙◌, ◌<◌, ◌≤◌, ℕ, List, length, sym, ap, subst, arith}
+use Rattle.std.proofs.Common.{◌<◌, ℕ, List, length, subst}
 use Rattle.cc_form.specs.Making.{bodied}
-use Rattle.cc_form.proofs.Choices.{completion_front, done_all, done_more, no_completion}
+use Rattle.cc_form.proofs.Choices.{completion_front, done_more}
 use Rattle.cc_form.proofs.groups.complete.Goals as goal
 
 pub loop-position-preserved : goal.loop-position-preserved

@@ -1,11 +1,9 @@
-use Rattle.std.proofs.Common.{◌∙◌, ℕ, List, sym, ap, subst, length, OnOk}
+use Rattle.std.proofs.Common.{◌∙◌, ℕ, List, sym, ap, subst, length}
 use Rattle.std.specs.List.{AllByRecursion}
-use Rattle.std.specs.Prelude.{◌<◌, Some, slice_get, ◌≡◌}
-use Rattle.cc_defs.specs.ClauseForms.{all_written, atom_variable, positive}
-use Rattle.cc_defs.specs.ClauseLists.{bodies_of, completion_of}
-use Rattle.cc_defs.specs.Clauses.{Literal}
+use Rattle.std.specs.Prelude.{◌<◌, slice_get, ◌≡◌}
+use Rattle.cc_defs.specs.ClauseForms.{atom_variable, positive}
+use Rattle.cc_defs.specs.ClauseLists.{bodies_of}
 use Rattle.cc_form.specs.Making.{bodied, picked}
-use Rattle.cc_form.specs.Store.{Gives}
 use Rattle.cc_form.proofs.Choices.{complete_is}
 use Rattle.cc_form.proofs.Picking.{picked_is, causes_below}
 use Rattle.cc_form.proofs.Standing.{atom_there}

@@ -1,8 +1,8 @@
-use Rattle.std.proofs.Common.{◌≡◌, ◌∙◌, ◌<◌, ◌≤◌, ℕ, List, length, get_or, slice_get, Some, sym, ap, subst, arith}
-use Rattle.cc_defs.specs.ClauseForms.{all_written, atom_variable, positive}
+use Rattle.std.proofs.Common.{◌∙◌, ◌<◌, ℕ, List, length, get_or, slice_get, sym, ap, subst}
+use Rattle.cc_defs.specs.ClauseForms.{atom_variable, positive}
 use Rattle.cc_defs.specs.ClauseLists.{bodies_of, completion_of}
 use Rattle.cc_form.specs.Making.{bodied}
-use Rattle.cc_form.proofs.Choices.{all_values, one_value, size_at, value_more}
+use Rattle.cc_form.proofs.Choices.{size_at, value_more}
 use Rattle.cc_form.proofs.groups.complete_position.Goals as goal
 
 pub complete_atom-requires-clause-within : goal.complete_atom-requires-clause-within

@@ -1,4 +1,4 @@
-use Rattle.std.proofs.Common.{◌≡◌, ◌<◌, ◌≤◌, ℕ, List, length, sym, subst, arith}
+use Rattle.std.proofs.Common.{◌<◌, length, sym, subst, arith}
 use Rattle.std.specs.List.{AllByRecursion}
 use Rattle.cc_form.proofs.Picking.{denied_all, deny_more, denials_below, number_at}
 use Rattle.cc_form.proofs.groups.deny_falsity.Goals as goal

@@ -1,9 +1,6 @@
-use Rattle.std.proofs.Common.{◌-◌, ◌+◌, [], ◌∷◌, map, arith}
-use Rattle.std.proofs.lemmas.Bool.{ltb-true}
-use Rattle.cc_defs.specs.ClauseForms.{positive}
+use Rattle.std.proofs.Common.{◌-◌}
 use Rattle.cc_defs.specs.ClauseLists.{pairs_denied, position_variables}
-use Rattle.cc_defs.specs.Clauses.{opposite}
-use Rattle.cc_form.proofs.Choices.{done_all, done_full, done_more, done_none, no_pairs, pairs_front}
+use Rattle.cc_form.proofs.Choices.{done_all, done_more, done_none, no_pairs, pairs_front}
 use Rattle.cc_form.proofs.groups.no_two_values.Goals as goal
 
 pub loop-low-init : goal.loop-low-init

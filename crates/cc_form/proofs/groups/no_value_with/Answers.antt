@@ -1,4 +1,4 @@
-use Rattle.std.proofs.Common.{◌≡◌, ◌∙◌, ◌+◌, ◌-◌, ℕ, List, [], ◌∷◌, map, arith, ap, subst}
+use Rattle.std.proofs.Common.{◌≡◌, ◌∙◌, ◌+◌, ◌-◌, ℕ, [], ◌∷◌, map, arith, ap, subst}
 use Rattle.cc_defs.specs.ClauseForms.{positive}
 use Rattle.cc_defs.specs.ClauseLists.{position_variables}
 use Rattle.cc_defs.specs.Clauses.{Literal, opposite}

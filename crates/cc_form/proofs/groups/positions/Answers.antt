@@ -1,4 +1,4 @@
-use Rattle.std.proofs.Common.{◌≡◌, ◌+◌, ◌≤◌, drop, get_or, sum, arith}
+use Rattle.std.proofs.Common.{arith}
 use Rattle.cc_defs.specs.ClauseLists.{positions_from}
 use Rattle.cc_form.proofs.Choices.{done_all, done_more, done_none, no_positions, positions_front, sum_front}
 use Rattle.cc_form.proofs.groups.positions.Goals as goal

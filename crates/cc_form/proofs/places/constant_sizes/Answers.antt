@@ -1,4 +1,4 @@
-use Rattle.std.proofs.Common.{◌≡◌, ◌∙◌, ◌+◌, ◌<◌, arith, length, length-append}
+use Rattle.std.proofs.Common.{arith, length-append}
 use Rattle.cc_defs.specs.Signatures.{ground_constants}
 use Rattle.cc_form.proofs.Positions.{sizes_step}
 use Rattle.cc_form.proofs.places.constant_sizes.Goals as goal

@@ -1,4 +1,4 @@
-use Rattle.std.proofs.Common.{arith, length, refl}
+use Rattle.std.proofs.Common.{arith, refl}
 use Rattle.cc_form.proofs.Positions.{is_row, no_row, row_below, row_long}
 use Rattle.cc_form.proofs.places.is_row.Goals as goal
 

@@ -1,4 +1,4 @@
-use Rattle.std.proofs.Common.{◌≡◌, ◌+◌, List, None, drop, get_or, subst, sym}
+use Rattle.std.proofs.Common.{◌+◌, List, None, drop, get_or, subst}
 use Rattle.cc_theory.specs.declared.rule.TimedHead.TheVariants as timed_heads
 use Rattle.cc_theory.specs.declared.rule.TimedRule.{TimedRule}
 use Rattle.cc_form.proofs.Bodies.{BodiesSoFar, bodies_fail, bodies_step, front_at}

@@ -1,10 +1,9 @@
-use Rattle.std.proofs.Common.{◌≡◌, ◌∙◌, ◌+◌, ◌≤◌, ◌<◌, ℕ, List, [], ◌∷◌, ◌++◌, refl, sym, ap, subst, length, arith}
+use Rattle.std.proofs.Common.{◌≡◌, ◌∙◌, ◌+◌, ℕ, List, [], ◌∷◌, ◌++◌, refl, sym, ap, subst, length, arith}
 use Rattle.std.specs.List.{AllByRecursion}
 use Rattle.cc_defs.specs.declared.node.Node.{Node}
 use Rattle.cc_defs.specs.declared.node.Node.TheVariants as nodes
-use Rattle.cc_defs.specs.Clauses.{Literal}
 use Rattle.cc_defs.specs.Terms.{Fits, IsTermOver}
-use Rattle.cc_form.specs.Machine.{IsPast, IsRan, IsReady, Makes, made_nodes, moved_nodes, run, stepped}
+use Rattle.cc_form.specs.Machine.{IsPast, IsRan, made_nodes, moved_nodes, run}
 use Rattle.cc_form.specs.Making.{part_nodes}
 use Rattle.cc_form.proofs.Parts.{begun, begun_past, front_past, made_from, makes_err, next_past, ran_more, ready_at, run_long, step_is_run}
 use Rattle.cc_form.proofs.rules.both.Goals as goal

@@ -1,4 +1,4 @@
-use Rattle.std.proofs.Common.{◌≡◌, ◌∙◌, ℕ, List, sym, ap, subst, ◌*◌}
+use Rattle.std.proofs.Common.{◌∙◌, ℕ, List, sym, ap, subst, ◌*◌}
 use Rattle.cc_defs.specs.declared.node.Node.{Node}
 use Rattle.cc_form.specs.Machine.{Makes, made_nodes, moved_nodes}
 use Rattle.cc_form.specs.Making.{part_nodes}

@@ -1,4 +1,4 @@
-use Rattle.std.proofs.Common.{Bor, ◌≡◌, ◌+◌, ◌≤◌, ℕ, List, [], ◌∷◌, drop, get_or, map, refl, subst}
+use Rattle.std.proofs.Common.{Bor, ◌+◌, ◌≤◌, List, [], drop, get_or, map, refl, subst}
 use Rattle.std.specs.List.{AllByRecursion}
 use Rattle.cc_arena.specs.declared.ground_laws.GroundCondition.{GroundCondition}
 use Rattle.cc_arena.specs.GroundViews.{plain_ground_condition}

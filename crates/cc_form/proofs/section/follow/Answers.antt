@@ -1,6 +1,5 @@
-use Rattle.std.proofs.Common.{◌≡◌, ◌∙◌, ℕ, List, [], ◌∷◌, ◌++◌, length, refl, sym, ap, subst}
+use Rattle.std.proofs.Common.{◌∙◌, List, [], ◌∷◌, refl, ap, subst}
 use Rattle.cc_defs.specs.declared.node.Node.{Node}
-use Rattle.cc_defs.specs.declared.node.Node.TheVariants as nodes
 use Rattle.cc_defs.specs.ClauseLists.{after_key}
 use Rattle.cc_defs.specs.Terms.{postfix}
 use Rattle.cc_form.specs.Machine.{IsBuilt, IsPast, made_nodes}

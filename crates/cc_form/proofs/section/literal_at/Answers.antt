@@ -1,5 +1,4 @@
-use Rattle.std.proofs.Common.{◌∙◌, ◌*◌, ℕ, List, ap, subst}
-use Rattle.cc_defs.specs.declared.node.Node.{Node}
+use Rattle.std.proofs.Common.{◌∙◌, ◌*◌, ℕ, ap, subst}
 use Rattle.cc_form.specs.Machine.{Makes, made_nodes, moved_nodes}
 use Rattle.cc_form.proofs.Parts.{makes_of}
 use Rattle.cc_form.proofs.section.literal_at.Goals as goal

@@ -1,9 +1,9 @@
-use Rattle.std.proofs.Common.{◌≡◌, ◌∙◌, ◌+◌, ◌-◌, ◌<◌, ◌≤◌, ℕ, List, [], ◌∷◌, ◌++◌, Some, slice_get, length, refl, sym, ap, subst, arith}
+use Rattle.std.proofs.Common.{◌≡◌, ◌+◌, ◌-◌, ℕ, List, [], ◌∷◌, Some, slice_get, length, refl, sym, ap, subst, arith}
 use Rattle.cc_defs.specs.declared.node.Node.{Node}
 use Rattle.cc_defs.specs.declared.node.Node.TheVariants as nodes
-use Rattle.cc_form.specs.Machine.{IsRan, RunsTo, run}
+use Rattle.cc_form.specs.Machine.{IsRan, run}
 use Rattle.cc_form.specs.Making.{nodes_above}
-use Rattle.cc_form.proofs.Parts.{above_more, next_runs, ran_none, ran_part, runs_step, step_is_run, step_long}
+use Rattle.cc_form.proofs.Parts.{above_more, next_runs, ran_part, runs_step, step_is_run, step_long}
 use Rattle.cc_form.proofs.section.step_above.Goals as goal
 
 pub step_atom-requires-clause-fits : goal.step_atom-requires-clause-fits

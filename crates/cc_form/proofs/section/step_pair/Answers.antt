@@ -1,4 +1,4 @@
-use Rattle.std.proofs.Common.{◌≡◌, [], ◌∷◌, refl}
+use Rattle.std.proofs.Common.{[], ◌∷◌, refl}
 use Rattle.cc_defs.specs.declared.node.Node.TheVariants as nodes
 use Rattle.cc_form.proofs.Parts.{next_runs, runs_step, step_is_run}
 use Rattle.cc_form.proofs.section.step_pair.Goals as goal

@@ -1,7 +1,7 @@
-use Rattle.std.proofs.Common.{◌≡◌, ◌∙◌, ◌+◌, ◌-◌, ℕ, List, [], ◌∷◌, ◌++◌, Some, slice_get, length, refl, sym, subst, arith}
+use Rattle.std.proofs.Common.{◌≡◌, ◌+◌, ◌-◌, ℕ, List, [], ◌∷◌, ◌++◌, Some, slice_get, refl, sym, subst}
 use Rattle.cc_defs.specs.declared.node.Node.{Node}
 use Rattle.cc_defs.specs.declared.node.Node.TheVariants as nodes
-use Rattle.cc_form.specs.Machine.{IsPast, run}
+use Rattle.cc_form.specs.Machine.{run}
 use Rattle.cc_form.specs.Making.{key_part, nodes_above}
 use Rattle.cc_form.proofs.Parts.{front_rises, next_runs, runs_err, runs_step}
 use Rattle.cc_form.proofs.Running.{past_more}

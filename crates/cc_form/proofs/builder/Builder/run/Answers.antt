@@ -1,6 +1,4 @@
-use Rattle.std.proofs.Common.{◌≡◌, ◌+◌, ◌≤◌, ℕ, List, ◌∷◌, drop, get_or, subst, sym, length, arith}
-use Rattle.cc_arena.specs.Walks.{arity}
-use Rattle.cc_defs.specs.declared.node.Node.{Node}
+use Rattle.std.proofs.Common.{◌+◌, ◌≤◌, ℕ, List, drop, get_or, subst, sym, length}
 use Rattle.cc_defs.specs.declared.node.Node.TheVariants as nodes
 use Rattle.cc_defs.specs.Terms.{Fits}
 use Rattle.cc_form.specs.Machine.{moved_node, moved_nodes}

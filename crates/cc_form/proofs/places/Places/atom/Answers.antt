@@ -1,6 +1,6 @@
-use Rattle.std.proofs.Common.{◌≡◌, ◌+◌, ◌<◌, ◌≤◌, ℕ, List, arith, subst, sym, ap, ◌∙◌}
+use Rattle.std.proofs.Common.{◌<◌, ℕ, List, arith, subst, sym, ap, ◌∙◌}
 use Rattle.cc_defs.specs.declared.node.Node.TheVariants as nodes
-use Rattle.cc_defs.specs.ClauseForms.{positive, atom_variable, true_variable}
+use Rattle.cc_defs.specs.ClauseForms.{positive, atom_variable}
 use Rattle.cc_defs.specs.Terms.{Fits}
 use Rattle.cc_form.proofs.Positions.{atom_below, atom_number, atom_some, atom_within}
 use Rattle.cc_form.proofs.places.Places.atom.Goals as goal

@@ -1,4 +1,4 @@
-use Rattle.std.proofs.Common.{◌≡◌, ◌≤◌, ℕ, List, arith, ap, min, sum}
+use Rattle.std.proofs.Common.{ℕ, List, arith, ap, min, sum}
 use Rattle.cc_form.proofs.Positions.{is_past}
 use Rattle.cc_form.proofs.places.Places.new.Goals as goal
 
