@@ -28,21 +28,21 @@ use Rattle.cc_theory.specs.Theories.{AreLawsFor}
 use Rattle.cc_theory.proofs.Made.{map_behind, flat_behind}
 
 module _ {X : Type 0} (P : X → Type 0) where
-  all_behind : (xs ys : List X) → AllByRecursion P xs → AllByRecursion P ys → AllByRecursion P (xs ++ ys)
+  pub all_behind : (xs ys : List X) → AllByRecursion P xs → AllByRecursion P ys → AllByRecursion P (xs ++ ys)
   all_behind [] ys all more = more
   all_behind (x ∷ xs) ys all more = (all.0, all_behind xs ys all.1 more)
 
-  mapped_upto : (f : ℕ → X) (n : ℕ) → ((v : ℕ) → v < n → P (f v)) → AllByRecursion P (map f (upto n))
+  pub mapped_upto : (f : ℕ → X) (n : ℕ) → ((v : ℕ) → v < n → P (f v)) → AllByRecursion P (map f (upto n))
   mapped_upto f zero each = tt
   mapped_upto f (suc n) each = subst (AllByRecursion P) (sym (map_behind f (upto n) (n ∷ [])))
       (all_behind (map f (upto n)) (f n ∷ []) (mapped_upto f n (λ v less. each v (omega arith))) (each n (omega arith), tt))
 
-  flat_upto : (f : ℕ → List X) (n : ℕ) → ((v : ℕ) → v < n → AllByRecursion P (f v)) → AllByRecursion P (flat_map f (upto n))
+  pub flat_upto : (f : ℕ → List X) (n : ℕ) → ((v : ℕ) → v < n → AllByRecursion P (f v)) → AllByRecursion P (flat_map f (upto n))
   flat_upto f zero each = tt
   flat_upto f (suc n) each = subst (AllByRecursion P) (sym (flat_behind f (upto n) (n ∷ [])))
       (all_behind (flat_map f (upto n)) (f n ++ []) (flat_upto f n (λ v less. each v (omega arith))) (all_behind (f n) [] (each n (omega arith)) tt))
 
-among_first : {X : Type 0} (xs ys : List X) (i : ℕ) (x : X) → slice_get xs i ≡ Some x → slice_get (xs ++ ys) i ≡ Some x
+pub among_first : {X : Type 0} (xs ys : List X) (i : ℕ) (x : X) → slice_get xs i ≡ Some x → slice_get (xs ++ ys) i ≡ Some x
 among_first [] ys i x e = absurd cc
 among_first (y ∷ xs) ys zero x e = e
 among_first (y ∷ xs) ys (suc i) x e = among_first xs ys i x e

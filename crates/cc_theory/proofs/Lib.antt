@@ -10,6 +10,7 @@ mod Origins
 mod Places
 mod Pointwise
 mod Reading
+mod RulesFit
 mod Same
 mod Supported
 mod Theorems

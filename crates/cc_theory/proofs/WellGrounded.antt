@@ -1,5 +1,5 @@
 -- A description that the laws of a signature stand for is grounded well.
-use Rattle.std.proofs.Common.{◌≡◌, ◌∙◌, List, [], ◌∷◌, subst}
+use Rattle.std.proofs.Common.{◌≡◌, ◌∙◌, ℕ, List, Result, Ok, Err, IfOk, sym, [], ◌∷◌, subst}
 use Rattle.cc_arena.specs.declared.ground_laws.GroundLaw.{GroundLaw}
 use Rattle.cc_arena.specs.GroundViews.{plain_ground_laws}
 use Rattle.cc_defs.specs.declared.node.GroundHead.{GroundHead}
@@ -13,7 +13,11 @@ use Rattle.cc_defs.specs.GroundLaws.{PlainGroundLaw}
 use Rattle.cc_defs.specs.Signatures.{Signature}
 use Rattle.cc_defs.specs.Universe.{Universe, HaveOwnValues}
 use Rattle.cc_theory.specs.Laws.{IsGroundedWell}
-use Rattle.cc_theory.specs.Theories.{AreLawsFor, AreLawsOf}
+use Rattle.std.specs.List.{AllZip}
+use Rattle.cc_defs.specs.Conditions.{IsSignatureOfDescription}
+use Rattle.cc_defs.specs.Description.{stride}
+use Rattle.cc_defs.specs.TimedRules.{timed_rules}
+use Rattle.cc_theory.specs.Theories.{AreLawsFor, AreLawsOf, IsRuleOf, IsTheoryOf, PlainTheory}
 
 -- what the conditions say of a universe is said of its fluents and actions alone
 abbrev with : Universe → List Const → List Const → Universe
@@ -58,3 +62,14 @@ well_grounded signature laws d are of =
           (subst (λ (a : List Const). AreGroundLaws (with w w.fluents a) (plain_ground_laws laws)) actions
           (subst (λ (f : List Const). AreGroundLaws (with w f u.actions) (plain_ground_laws laws)) fluents fit));
     }
+
+-- a theory with the signature, the horizon and the rules of a description is one of it
+pub theory_of : {E : Type 0} (result : Result PlainTheory E) (signature : Signature) (horizon : ℕ) (d : Description) → IsSignatureOfDescription d signature → IsGroundedWell d →
+    IfOk result (λ theory. theory.signature ≡ signature) → IfOk result (λ theory. theory.horizon ≡ horizon) →
+    IfOk result (λ theory. AllZip (IsRuleOf (stride d)) theory.rules (timed_rules d horizon)) → IfOk result (λ theory. IsTheoryOf theory d)
+theory_of (Ok theory) signature horizon d of well same at rules = record {
+  signature = subst (IsSignatureOfDescription d) (sym same) of;
+  well = well;
+  rules = subst (λ (h : ℕ). AllZip (IsRuleOf (stride d)) theory.rules (timed_rules d h)) (sym at) rules;
+}
+theory_of (Err fault) signature horizon d of well same at rules = tt

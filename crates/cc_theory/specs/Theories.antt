@@ -1,15 +1,17 @@
 -- Theories of a horizon as they are handed out: when a rule is one of a description, and which rules have an atom for their head.
-use Rattle.std.specs.Prelude.{◌≡◌, ℕ, ◌*◌, ◌<◌, ◌%◌, ◌==◌, ◌&&◌, ◌↔◌, Bool, true, false, List, length, slice_get, Option, Some, None, nat_lt, if◌then◌else◌}
+use Rattle.std.specs.Prelude.{◌≡◌, ℕ, ◌*◌, ◌<◌, ◌≤◌, ◌%◌, ◌==◌, ◌&&◌, ◌↔◌, Bool, true, false, List, length, slice_get, Option, Some, None, nat_lt, if◌then◌else◌, IfSome}
+use Rattle.std.specs.List.{AllByRecursion, AllZip}
 use Rattle.cc_arena.specs.declared.ground_laws.GroundLaw.{GroundLaw}
 use Rattle.cc_arena.specs.GroundViews.{plain_ground_laws}
 use Rattle.cc_defs.specs.declared.node.GroundHead.{GroundHead}
 use Rattle.cc_defs.specs.declared.node.GroundHead.TheVariants as heads
+use Rattle.cc_defs.specs.declared.node.Node.{Node}
 use Rattle.cc_defs.specs.declared.refusal.LimitAt.TheVariants as limits
 use Rattle.cc_defs.specs.declared.refusal.Refusal.{Refusal}
 use Rattle.cc_defs.specs.declared.signature.Const.{Const}
 use Rattle.cc_defs.specs.Conditions.{AreGroundLaws, IsSignatureOfDescription}
 use Rattle.cc_defs.specs.Declarations.{numbers_where}
-use Rattle.cc_defs.specs.Description.{Description, sizes_at}
+use Rattle.cc_defs.specs.Description.{Description, domain_sizes, sizes_at, stride}
 use Rattle.cc_defs.specs.GroundLaws.{StandFor}
 use Rattle.cc_defs.specs.Paths.{IsPath}
 use Rattle.cc_defs.specs.Refusals.{past}
@@ -17,8 +19,9 @@ use Rattle.cc_defs.specs.Rows.{IsRow}
 use Rattle.cc_defs.specs.Rules.{rules_at}
 use Rattle.cc_defs.specs.Theories.{IsModel}
 use Rattle.cc_theory.specs.Completion.{MeetsCompletion}
+use Rattle.cc_theory.specs.Laws.{IsGroundedWell}
 use Rattle.cc_defs.specs.Signatures.{Signature, ground_constants, position_count}
-use Rattle.cc_defs.specs.Terms.{Ground, postfix}
+use Rattle.cc_defs.specs.Terms.{Ground, IsTermOver, postfix}
 use Rattle.cc_defs.specs.Terms as terms
 use Rattle.cc_defs.specs.TimedRules.{joined_parts, moved, timed_rules}
 use Rattle.cc_defs.specs.TimedRules as timed
@@ -109,3 +112,34 @@ causes_of rules position value = numbers_where (λ rule. has_atom position value
 
 abbrev pub denials_of : List TimedRule → List ℕ
 denials_of rules = numbers_where (λ rule. is_falsity rule.head) 0 rules
+
+-- ---- what a theory hands out
+
+-- the domain sizes of the constants that a step of a horizon has: all of them, at the last step the fluents alone
+abbrev pub sizes_of_step : Signature → (horizon step : ℕ) → List ℕ
+sizes_of_step signature horizon step = if nat_lt step horizon then domain_sizes (ground_constants signature) else domain_sizes signature.fluents
+
+-- a term over the constants of a step
+pub record IsTermAt (signature : Signature) (horizon step : ℕ) (nodes : List Node) : Type 0 where
+  pub within : step ≤ horizon
+  pub term : IsTermOver (sizes_of_step signature horizon step) nodes
+
+-- an atom of the horizon, or falsity
+abbrev pub IsHeadAt : Signature → ℕ → TimedHead → Type 0
+IsHeadAt signature horizon (timed_heads.Atom position value) = IsAtom signature horizon position value
+IsHeadAt signature horizon timed_heads.Falsity = Unit {0}
+
+-- a rule of a horizon
+pub record IsRuleAt (signature : Signature) (horizon : ℕ) (rule : TimedRule) : Type 0 where
+  pub head : IsHeadAt signature horizon rule.head
+  pub now : IfSome rule.now (λ timed. IsTermAt signature horizon timed.step timed.nodes.now)
+  pub before : IfSome rule.before (λ timed. IsTermAt signature horizon timed.step timed.nodes.now)
+
+abbrev pub AreRulesAt : Signature → ℕ → List TimedRule → Type 0
+AreRulesAt signature horizon rules = AllByRecursion (IsRuleAt signature horizon) rules
+
+-- the theory of a description: its rules are those of the description, which is ground well
+pub record IsTheoryOf (theory : PlainTheory) (d : Description) : Type 0 where
+  pub signature : IsSignatureOfDescription d theory.signature
+  pub well : IsGroundedWell d
+  pub rules : AllZip (IsRuleOf (stride d)) theory.rules (timed_rules d theory.horizon)

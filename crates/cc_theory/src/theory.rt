@@ -9,7 +9,7 @@ ghost use Rattle.cc_defs.specs.TimedRules.{timed_rules};
 ghost use Rattle.cc_defs.specs.Declarations.{numbers_where};
 ghost use Rattle.cc_theory.specs.Groups.{place_keys, place_of, sizes_of, HasPlace};
 ghost use Rattle.cc_theory.specs.Making.{rules_for};
-ghost use Rattle.cc_theory.specs.Theories.{AreLawsOf, AreLawsFor, IsAtom, IsRuleOf, ModelsArePathsOf, ModelsMeetCompletionOf, causes_of, denials_of, rules_refusal};
+ghost use Rattle.cc_theory.specs.Theories.{AreLawsOf, AreLawsFor, AreRulesAt, IsAtom, IsRuleOf, IsTheoryOf, ModelsArePathsOf, ModelsMeetCompletionOf, causes_of, denials_of, rules_refusal};
 
 use crate::counting::rule_count;
 use crate::groups::group;
@@ -63,6 +63,7 @@ fn rules_meant<'a>(
     requires laws { AreLawsFor sig.now laws.now }
     ensures short { IfOk result (λ rules. length rules.items ≤ 8000000) }
     ensures heads { IfOk result (λ rules. AllByRecursion (λ rule. HasPlace (sizes_of sig.now) horizon rule.head) rules.items) }
+    ensures fit { IfOk result (λ rules. AreRulesAt sig.now horizon rules.items) }
     ensures rules { (d : Description) → AreLawsOf sig.now laws.now d → IfOk result (λ rules. AllZip (IsRuleOf (stride_between d)) rules.items (timed_rules d horizon)) }
     ensures few { (d : Description) → AreLawsOf sig.now laws.now d → OnOk result (length (timed_rules d horizon) ≤ 8000000) }
     ensures refused { (d : Description) → AreLawsOf sig.now laws.now d → IfErr result (IsRefusedBy (rules_refusal d horizon)) }
@@ -81,14 +82,15 @@ pub struct Theory<'a> {
 }
 
 impl<'a> Model for Theory<'a> {
+    ghost use Rattle.std.specs.Prelude.{◌≤◌};
     ghost use Rattle.cc_theory.specs.Groups.{AreIndexed};
-    ghost use Rattle.cc_theory.specs.Theories.{PlainTheory};
+    ghost use Rattle.cc_theory.specs.Theories.{AreRulesAt, PlainTheory};
 
     ghost Value = { PlainTheory };
 
     ghost view = { λ theory. record { signature = theory.sig.now; horizon = theory.horizon; rules = theory.rules.items } };
 
-    ghost invariant = { λ theory. AreIndexed theory.sig.now theory.horizon theory.rules.items theory.index.firsts.items theory.index.begins.items theory.index.numbers.items };
+    ghost invariant = { λ theory. AreIndexed theory.sig.now theory.horizon theory.rules.items theory.index.firsts.items theory.index.begins.items theory.index.numbers.items × AreRulesAt theory.sig.now theory.horizon theory.rules.items × (theory.horizon ≤ 1000) };
 }
 
 impl<'a> Theory<'a> {
@@ -110,6 +112,7 @@ impl<'a> Theory<'a> {
         ensures rules { (d : Description) → AreLawsOf sig.now laws.now d → IfOk result (λ theory. AllZip (IsRuleOf (stride_between d)) theory.rules (timed_rules d horizon)) }
         ensures few { (d : Description) → AreLawsOf sig.now laws.now d → OnOk result (length (timed_rules d horizon) ≤ 8000000) }
         ensures refused { (d : Description) → AreLawsOf sig.now laws.now d → IfErr result (IsRefusedBy (rules_refusal d horizon)) }
+        ensures of { (d : Description) → AreLawsOf sig.now laws.now d → IfOk result (λ theory. IsTheoryOf theory d) }
         ensures completed { (d : Description) → AreLawsOf sig.now laws.now d → ModelsMeetCompletionOf d horizon }
         ensures paths { (d : Description) → AreLawsOf sig.now laws.now d → ModelsArePathsOf d horizon }
     {
@@ -144,7 +147,8 @@ impl<'a> Theory<'a> {
 
     /// The rules, in order.
     pub fn rules(&self) -> &[TimedRule<'a>]
-        ensures { result.now ≡ self.now.rules }
+        ensures rules { result.now ≡ self.now.rules }
+        ensures fit { AreRulesAt self.now.signature self.now.horizon result.now }
     {
         self.rules.as_slice()
     }
@@ -182,7 +186,8 @@ impl<'a> Theory<'a> {
 
     /// The horizon that it was made of.
     pub fn horizon(&self) -> u32
-        ensures { result ≡ self.now.horizon }
+        ensures value { result ≡ self.now.horizon }
+        ensures most { result ≤ 1000 }
     {
         self.horizon
     }

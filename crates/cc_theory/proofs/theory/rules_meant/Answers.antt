@@ -3,6 +3,8 @@ use Rattle.std.specs.Prelude.{if◌then◌else◌}
 use Rattle.std.specs.List.{AllByRecursion, AllZip}
 use Rattle.cc_theory.specs.Groups.{sizes_of, HasPlace}
 use Rattle.cc_theory.proofs.HeadsFit.{heads_fit}
+use Rattle.cc_theory.proofs.RulesFit.{rules_fit}
+use Rattle.cc_theory.specs.Theories.{AreRulesAt}
 use Rattle.cc_defs.specs.declared.refusal.LimitAt.TheVariants as limits
 use Rattle.cc_defs.specs.Description.{stride}
 use Rattle.cc_defs.specs.Refusals.{IsRefusedBy, past}
@@ -29,3 +31,8 @@ pub returns-clause-heads : goal.returns-clause-heads
 returns-clause-heads c =
     as_made (λ made. made.items) (λ rules. AllByRecursion (λ rule. HasPlace (sizes_of c.args.sig.now) c.args.horizon rule.head) rules) c.rules_within.result
     (rules_for c.args.sig.now c.args.laws.now c.args.horizon) (heads_fit c.args.sig.now c.args.laws.now c.args.horizon c.requires.laws) c.rules_within.ensures.made
+
+pub returns-clause-fit : goal.returns-clause-fit
+returns-clause-fit c =
+    as_made (λ made. made.items) (λ rules. AreRulesAt c.args.sig.now c.args.horizon rules) c.rules_within.result
+    (rules_for c.args.sig.now c.args.laws.now c.args.horizon) (rules_fit c.args.sig.now c.args.laws.now c.args.horizon c.requires.laws) c.rules_within.ensures.made

@@ -1,0 +1,9 @@
+use Rattle.std.proofs.Common.{◌<◌, ℕ, List, length, subst}
+use Rattle.cc_form.specs.Making.{bodied}
+use Rattle.cc_form.proofs.Choices.{completion_front, done_more}
+use Rattle.cc_form.proofs.groups.complete.Goals as goal
+
+pub loop-position-preserved : goal.loop-position-preserved
+loop-position-preserved c =
+    done_more c.args.store.now.kept c.loop-position.store.kept c.complete_position.new.store.kept _ _ _ _
+    (completion_front c.args.places.now (bodied c.args.theory.now.rules c.args.bodies.now) c.loop-position.position c.args.places.now (subst (λ (s : List ℕ). c.loop-position.position < length s) c.sizes-position-end.ensures c.loop-position-test.true)) c.loop-position.invariant c.in_ok-complete_position.ensures

@@ -1,0 +1,55 @@
+-- What the clause list of a section tells: its rows are the histories.
+use Rattle.std.specs.Prelude.{◌≡◌, ℕ, ◌<◌, ◌≤◌, ◌+◌, ◌↔◌, All, Contains, sum, Bool, true, false, List, length, Option, Some, None, nat_lt, if◌then◌else◌}
+use Rattle.cc_defs.specs.declared.lists.Key.{Key}
+use Rattle.cc_defs.specs.declared.refusal.LimitAt.TheVariants as limits
+use Rattle.cc_defs.specs.declared.refusal.Refusal.{Refusal}
+use Rattle.cc_defs.specs.ClauseLists.{ClauseList, clause_list, positions_from}
+use Rattle.cc_defs.specs.Clauses.{Literal, IsClause, IsOver}
+use Rattle.cc_defs.specs.Description.{Description, sizes_at}
+use Rattle.cc_defs.specs.Histories.{IsHistory}
+use Rattle.cc_defs.specs.Refusals.{past}
+use Rattle.cc_defs.specs.Resolved.{Query}
+use Rattle.cc_defs.specs.Runs.{without_claim}
+use Rattle.cc_defs.specs.Sections.{Axioms}
+use Rattle.cc_defs.specs.Rows.{IsRow}
+use Rattle.cc_clauses.specs.RowsOf.{HasRow, IsRowOf, MeetsAll}
+use Rattle.cc_form.specs.Store.{literal_count_of}
+
+-- the first limit that a clause list passes
+abbrev pub form_refusal : ClauseList → Option Refusal
+form_refusal list =
+    if nat_lt 4000000 list.variables then Some (past limits.Variables)
+    else (if nat_lt 8000000 (length list.clauses) then Some (past limits.AxiomClauses)
+    else (if nat_lt 40000000 (literal_count_of list.clauses) then Some (past limits.AxiomLiterals) else None))
+
+-- the axioms of a section: those of a query at a horizon, with its claim denied or left out, after a key where there is one
+abbrev pub form_of : Description → Query → ℕ → (with_claim : Bool) → Option Key → Axioms
+form_of d q horizon with_claim key =
+    let list = clause_list d q horizon with_claim key
+    in record { sizes = sizes_at d horizon; variables = list.variables; clauses = list.clauses }
+
+-- the query that a section asks
+abbrev pub asked : (with_claim : Bool) → Query → Query
+asked true q = q
+asked false q = without_claim q
+
+-- The rows of the clauses are the histories, and each is that of exactly one assignment to their variables; an assignment that
+-- meets them has a row.
+pub record TellsHistories (d : Description) (q : Query) (horizon : ℕ) (key : Option (List ℕ)) (form : Axioms) : Type 0 where
+  pub histories : (row : List ℕ) → IsRowOf form.sizes form.clauses row ↔ IsHistory d q horizon key row
+  pub once : (row : List ℕ) (one other : ℕ → Bool) → HasRow form.sizes one row → HasRow form.sizes other row →
+      MeetsAll one form.clauses → MeetsAll other form.clauses → (variable : ℕ) → 0 < variable → variable ≤ form.variables → one variable ≡ other variable
+  pub each : (assignment : ℕ → Bool) → MeetsAll assignment form.clauses → (row : List ℕ) × HasRow form.sizes assignment row × IsRow form.sizes row
+
+-- axioms: clauses over their variables, which say of each position that it has exactly one value
+pub record IsAxioms (form : Axioms) : Type 0 where
+  pub each : All IsClause form.clauses
+  pub over : All (IsOver form.variables) form.clauses
+  pub least : sum form.sizes + 1 ≤ form.variables
+  pub choices : (clause : List Literal) → Contains (positions_from 1 form.sizes) clause → Contains form.clauses clause
+
+-- what is always true of axioms that were made within their limits
+pub record IsForm (form : Axioms) : Type 0 where
+  pub axioms : IsAxioms form
+  pub count : length form.clauses ≤ 8000000
+  pub most : form.variables ≤ 4000000

@@ -1,0 +1,14 @@
+//! The clause list of a section: completion and query as clauses, each term with a variable of its own.
+#![tactic(auto)]
+
+mod builder;
+mod defining;
+mod form;
+mod groups;
+pub mod laws;
+mod places;
+mod rules;
+mod section;
+mod store;
+
+pub use form::{Form, clauses};
