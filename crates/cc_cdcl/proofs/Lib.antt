@@ -1,0 +1,14 @@
+mod Choosing
+mod Closed
+mod Counting
+mod Counts
+mod Denials
+mod Exactly
+mod Leasts
+mod Learning
+mod Levels
+mod Lines
+mod Picking
+mod Resolving
+mod Walking
+mod Walks

@@ -1,0 +1,64 @@
+-- Conflict analysis: clauses that are false by the steps of a trail, and the clause that is learned from one.
+use Rattle.std.specs.Prelude.{◌≡◌, ◌≢◌, ℕ, ◌+◌, ◌<◌, ◌≤◌, ◌⊎◌, ◌==◌, max, Bool, false, if◌then◌else◌, List, [], ◌∷◌, ◌++◌, Contains, Option, Some, None, option_map}
+use Rattle.cc_defs.specs.Assignments.{IsFailed}
+use Rattle.cc_defs.specs.Clauses.{Literal}
+use Rattle.cc_trail.specs.declared.entries.Step.{Step}
+use Rattle.cc_trail.specs.Steps.{step_of, level_after, values_of}
+use Rattle.cc_trail.specs.Trails.{level_of_step}
+use Rattle.cc_trail.specs.Watches.{IsFalseBy}
+
+-- the level of a variable that has a value
+abbrev pub level_of : List Step → ℕ → Option ℕ
+level_of steps variable = option_map level_of_step (step_of steps variable)
+
+-- each literal of a clause is false by a step
+abbrev pub AreFalseBy : List Step → List Literal → Type 0
+AreFalseBy steps clause = (literal : Literal) → Contains clause literal → IsFalseBy steps literal
+
+-- a literal of the clause is of the level
+abbrev pub HasOneOf : List Step → ℕ → List Literal → Type 0
+HasOneOf steps level clause = (literal : Literal) × Contains clause literal × (level_of steps literal.variable ≡ Some level)
+
+abbrev pub is_level : ℕ → Option ℕ → Bool
+is_level level None = false
+is_level level (Some other) = other == level
+
+-- how many literals of the clause are of the level
+abbrev pub level_count_in : List Step → ℕ → List Literal → ℕ
+level_count_in steps level [] = 0
+level_count_in steps level (literal ∷ literals) =
+    (if is_level level (level_of steps literal.variable) then 1 else 0) + level_count_in steps level literals
+
+abbrev pub level_but : ℕ → Option ℕ → ℕ
+level_but level None = 0
+level_but level (Some other) = if other == level then 0 else other
+
+-- the highest level but this one of the clause's literals, or 0
+abbrev pub highest_but : List Step → ℕ → List Literal → ℕ
+highest_but steps level [] = 0
+highest_but steps level (literal ∷ literals) = max (level_but level (level_of steps literal.variable)) (highest_but steps level literals)
+
+-- two literals of the clause are of the level
+abbrev pub HasTwoOf : List Step → ℕ → List Literal → Type 0
+HasTwoOf steps level clause =
+    (one : Literal) × (two : Literal) × (one ≢ two) × Contains clause one × Contains clause two × (level_of steps one.variable ≡ Some level) ×
+    (level_of steps two.variable ≡ Some level)
+
+-- A false clause of which one literal is of the last level, and the others are of levels up to a lower one, which is reached
+-- unless it is 0.
+pub record IsLearned (steps : List Step) (level_count : ℕ) (clause : List Literal) (back : ℕ) : Type 0 where
+  pub failed : IsFailed (values_of steps) clause
+  pub left : Literal
+  pub member : Contains clause left
+  pub last : level_of steps left.variable ≡ Some level_count
+  pub others : (literal : Literal) → Contains clause literal → (literal ≡ left) ⊎ ((level : ℕ) × (level ≤ back) × (level_of steps literal.variable ≡ Some level))
+  pub lower : back < level_count
+  pub reached : (back ≡ 0) ⊎ HasOneOf steps back clause
+
+-- each of these steps that has no reason opens its level
+abbrev pub OpenLevelsAfter : List Step → List Step → Type 0
+OpenLevelsAfter before [] = Unit {0}
+OpenLevelsAfter before (step ∷ steps) = (step.reason ≡ None → level_after 0 before < step.level) × OpenLevelsAfter (before ++ step ∷ []) steps
+
+abbrev pub OpenLevels : List Step → Type 0
+OpenLevels steps = OpenLevelsAfter [] steps

@@ -1,0 +1,6 @@
+pub mod Analysis
+pub mod Choices
+pub mod Earned
+pub mod Laws
+pub mod LeastRows
+pub mod Sets
