@@ -1,0 +1,4 @@
+//! The session of a search: horizons, claims, keys.
+#![tactic(auto)]
+
+pub mod laws;
