@@ -14,15 +14,7 @@ use Rattle.cc_defs.specs.Clauses.{Literal, IsNumbered, ReachesFrom, Reaches, mee
 use Rattle.cc_defs.specs.Rows.{IsRow}
 use Rattle.cc_defs.specs.Runs.{Step, Derive, Tell, AreFairSteps, IsFairLine, counted, counted_in, row_told}
 use Rattle.cc_defs.specs.Sections.{HasNoEmpty, row_denial}
-
--- the rows that steps tell
-abbrev pub rows_in : List Step → List (List ℕ)
-rows_in steps = flat_map row_told steps
-
--- the clause that a step adds
-abbrev pub clause_added : List ℕ → Step → List Literal
-clause_added sizes (Derive clause chain) = clause
-clause_added sizes (Tell row) = row_denial sizes row
+use Rattle.cc_query.specs.Parts.{rows_in, clause_added}
 
 -- ---- members
 
