@@ -1,3 +1,6 @@
+pub mod Holding
+pub mod PartsTold
 pub mod Rows
+pub mod Running
 pub mod Steps
 pub mod Told

@@ -101,6 +101,32 @@ first_more d q horizon key rows next first history apart least =
       ];
     }
 
+ascend_front : (rows : List (List ℕ)) (last : List ℕ) → IsAscending (rows ++ last ∷ []) → IsAscending rows
+unfolding IsStrictlySortedBy
+ascend_front [] last ascend = tt
+ascend_front (row ∷ rows) last ascend = (
+  all_from_each row rows (λ other there. each_from_all row (rows ++ last ∷ []) ascend.0 other (Contains-append_left rows (last ∷ []) other there)),
+  ascend_front rows last ascend.1,
+)
+
+-- and those before the last one
+pub first_front : (d : Description) (q : Query) (horizon : ℕ) (key : Option (List ℕ)) (rows : List (List ℕ)) (last : List ℕ) →
+    AreFirst d q horizon key (rows ++ last ∷ []) → AreFirst d q horizon key rows
+first_front d q horizon key rows last first = record {
+  ascending = ascend_front rows last first.ascending;
+  each = λ row there. first.each row (Contains-append_left rows (last ∷ []) row there);
+  others = λ row history. elim (first.others row history) [
+    | inr after ↦ inr (λ told there. after told (Contains-append_left rows (last ∷ []) told there))
+    | inl there ↦ elim (Contains-append_cases rows (last ∷ []) row there) [
+      | inl early ↦ inl early
+      | inr end ↦ elim (in_cases last row [] end) [
+        | inl same ↦ inr (λ told early. subst (λ (w : List ℕ). IsBelow told w) same (last_above rows last first.ascending told early))
+        | inr none ↦ absurd (in_none row none)
+      ]
+    ]
+  ];
+}
+
 -- the first histories are all, where no other one is there
 pub first_are_all : (d : Description) (q : Query) (horizon : ℕ) (key : Option (List ℕ)) (rows : List (List ℕ)) → AreFirst d q horizon key rows →
     ((row : List ℕ) → IsHistory d q horizon key row → (Contains rows row → ⊥) → ⊥) → IsListing d q horizon key rows
