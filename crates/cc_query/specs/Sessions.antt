@@ -80,11 +80,11 @@ has_conditions (Failure conditions claim row) = true
 abbrev pub RowsAreHistories : Description → Query → Ask → ℕ → Part → Type 0
 RowsAreHistories d q ask horizon part = ClausesTell d (query_of part q) horizon (key_row ask) (axioms_at d q ask horizon part)
 
--- the section of a part comes next
+-- the section of a part is the first one of the next horizon
 abbrev pub Opens : Query → Part → Option Horizon → Type 0
 Opens q parts.Histories next = IsNone q.claim × (next ≡ None)
 Opens q parts.Conditions next = IsSome q.claim × (next ≡ None)
-Opens q parts.Claim next = IsSome q.claim × ((before : Section) × (next ≡ Some (Conditions before)) × EndsWith words.Found before)
+Opens q parts.Claim next = ⊥
 
 -- it is searched
 pub record IsSearched (d : Description) (q : Query) (session : SessionView) (run : Run) (part : Part) (solver : SolverView) (listed : ℕ) : Type 0 where
