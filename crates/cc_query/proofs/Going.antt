@@ -1,15 +1,18 @@
 -- A session that goes on: where it stands behind each of its steps.
 use Rattle.std.proofs.Common.{◌≡◌, ◌≢◌, ◌∙◌, ℕ, ◌+◌, ◌*◌, ◌<◌, ◌≤◌, ◌⊎◌, inl, inr, zero, suc, Bool, true, false, List, [], ◌∷◌, ◌++◌, length, map, Option, Some, None, refl, sym, subst, ap, arith, append_assoc, append-nil}
-use Rattle.std.specs.Prelude.{Contains, IfSome, IsSome, IsNone}
+use Rattle.std.specs.Prelude.{Contains, IfSome, IsSome, IsNone, ◌||◌, if◌then◌else◌, is_some}
 use Rattle.std.specs.List.{AllByRecursion, list_any}
 use Rattle.std.proofs.lemmas.List.{length_push}
 use Rattle.std.proofs.lemmas.List.Elements.{Contains-append_right}
 use Rattle.std.proofs.lemmas.List.Folds.{list_any-append}
 use Rattle.cc_cdcl.specs.Solvers.{SolverView, Standing, Found, AddsDerived}
 use Rattle.cc_clauses.specs.RowsOf.{IsLeastRowOf}
+use Rattle.std.proofs.lemmas.Bool.{false≢true}
+use Rattle.cc_defs.specs.declared.event.Ending.{Ending}
 use Rattle.cc_defs.specs.declared.event.Ending.TheVariants as endings
 use Rattle.cc_defs.specs.declared.event.Event.TheVariants as events
 use Rattle.cc_defs.specs.declared.event.Told.{Told}
+use Rattle.cc_defs.specs.declared.lists.Key.{Key}
 use Rattle.cc_defs.specs.declared.log.EndWord.{EndWord}
 use Rattle.cc_defs.specs.declared.log.EndWord.TheVariants as words
 use Rattle.cc_defs.specs.declared.log.LogLine.TheVariants as lines
@@ -18,7 +21,7 @@ use Rattle.cc_defs.specs.Clauses.{Literal, Reaches}
 use Rattle.cc_defs.specs.Description.{Description}
 use Rattle.cc_defs.specs.Histories.{AreFirst}
 use Rattle.cc_defs.specs.Resolved.{Query}
-use Rattle.cc_defs.specs.Runs.{Ask, Step, Derive, Tell, Section, Horizon, Histories, Conditions, Claim, Failure, Run, EndsWith, IsFairLine, IsFairRun, IsTrueOf, IsWithoutConditions, TellsHistories, counted, counted_in, events_of, first_horizon, horizon_at, horizon_events, last_horizon, logged, rows_of, section_events, told, told_row}
+use Rattle.cc_defs.specs.Runs.{Ask, Step, Derive, Tell, Section, Horizon, Histories, Conditions, Claim, Failure, Run, AreDone, EndsWith, MayEndBehind, MayEndWithin, IsFairLine, IsFairRun, IsTrueOf, IsWithoutConditions, TellsHistories, counted, counted_in, events_of, first_horizon, horizon_at, horizon_events, last_horizon, logged, rows_of, section_events, told, told_row}
 use Rattle.cc_defs.specs.Sections.{Axioms, HasNoEmpty, row_denial}
 use Rattle.cc_kernel.specs.declared.kernel.Origin.TheVariants as origins
 use Rattle.cc_kernel.specs.Kernels.{KernelView, added, clauses_of, derived_count}
@@ -53,6 +56,39 @@ pub after_run : (d : Description) (q : Query) (s : SessionView) (given : List To
     IsRunning d q s.ask s.horizon given done next → s.met ≡ list_any has_conditions done → Awaits d q s (run_at done next None) s.phase → After d q s given
 after_run d q s given done next is met awaits =
     (run_at done next None, is.fair, is.given_is, record { horizon = is.horizon_is; met = met; awaits = awaits })
+
+no_items : {A : Type 0} (xs : List A) → length xs ≡ 0 → xs ≡ []
+no_items [] is = refl
+no_items (x ∷ xs) is = absurd (omega arith)
+
+or_false : (b : Bool) → b ≡ (b || false)
+or_false true = refl
+or_false false = refl
+
+or_true : (b : Bool) → true ≡ (b || true)
+or_true true = refl
+or_true false = refl
+
+-- no path met the conditions at the horizons that are done with, or one did
+claimed_done : (d : Description) (q : Query) (ask : Ask) (done : List Horizon) (horizon : ℕ) → AreDone d q ask horizon done → IsSome q.claim →
+    list_any has_conditions done ≡ false → AllByRecursion IsWithoutConditions done
+claimed_done d q ask [] horizon are claim none = tt
+claimed_done d q ask (Histories section ∷ done) horizon are claim none = absurd (false≢true (sym are.0.0 ∙ claim))
+claimed_done d q ask (Conditions section ∷ done) horizon are claim none = (tt, claimed_done d q ask done (horizon + 1) are.2 claim none)
+claimed_done d q ask (Claim conditions section ∷ done) horizon are claim none = absurd cc
+claimed_done d q ask (Failure conditions section row ∷ done) horizon are claim none = absurd cc
+
+some_met : (done : List Horizon) → list_any has_conditions done ≡ true → AllByRecursion IsWithoutConditions done → ⊥
+some_met [] some all = absurd cc
+some_met (Histories section ∷ done) some all = absurd all.0
+some_met (Conditions section ∷ done) some all = some_met done some all.1
+some_met (Claim conditions section ∷ done) some all = absurd all.0
+some_met (Failure conditions section row ∷ done) some all = absurd all.0
+
+claim_ends : (d : Description) (q : Query) (ask : Ask) (done : List Horizon) (horizon : ℕ) (met : Bool) → AreDone d q ask horizon done → IsSome q.claim →
+    met ≡ list_any has_conditions done → MayEndBehind q ask done (if met then endings.ClaimHolds else endings.ClaimEmpty)
+claim_ends d q ask done horizon true are claim is = (claim, some_met done (sym is))
+claim_ends d q ask done horizon false are claim is = (claim, claimed_done d q ask done horizon are claim (sym is))
 
 module _ (laws : Laws) (d : Description) (q : Query) (s : SessionView) (fits : IsAskFor q s.ask) where
   abbrev form_of : Part → Axioms
@@ -332,3 +368,178 @@ module _ (laws : Laws) (d : Description) (q : Query) (s : SessionView) (fits : I
       (block_event s.horizon here.steps s.row)) here.met
       (holds_block (form_of parts.Histories) here.steps solver new s.row here.holds sizes blocked) here.rows
       (here.listed_is ∙ sym (ap (λ (l : List (List ℕ)). length l) (rows_more here.steps s.row) ∙ length_push (rows_in here.steps) s.row))
+
+  -- ---- a section that begins
+
+  begun_true : (part : Part) (before : Section) → MayAsk d q s.ask s.horizon part before → TellsTrue d q s.ask s.horizon part (open_section [])
+  begun_true part before asks = open_true laws d q s.ask s.horizon part [] (form_of part).clauses
+      (begun laws d q s.ask s.horizon part (λ other. fits.key (claimed d q s.ask s.horizon part before asks other)) fits.count)
+
+  opening_asks : (part : Part) (next : Option Horizon) → Opens q part next →
+      MayAsk d q s.ask s.horizon part (open_section []) × (next ≡ None)
+      × (horizon_events s.horizon (told_by part (open_section []) (open_section [])) ≡ logged (lines.Section (is_conditions part) s.horizon) ∷ [])
+  opening_asks parts.Histories next opens = (opens.0, opens.1, refl)
+  opening_asks parts.Conditions next opens = (opens.0, opens.1, refl)
+  opening_asks parts.Claim next opens = absurd opens
+
+  pub after_heading : (given : List Told) (part : Part) (solver : SolverView) → s.phase ≡ phases.Opening part → After d q s given →
+      s.horizon ≤ last_horizon q s.ask.after → Holds (form_of part) [] solver → RowsAreHistories d q s.ask s.horizon part →
+      After d q (record s { phase = phases.Searching part solver 0 }) (given ++ logged (lines.Section (is_conditions part) s.horizon) ∷ [])
+  after_heading given part solver phase_is (run, fair, given_is, stands) low holds rows =
+      let awaits : (run.ending ≡ None) × Opens q part run.next = subst (λ (p : Phase). Awaits d q s run p) phase_is stands.awaits in
+      let asks = opening_asks part run.next awaits.1 in
+      let is = running d q s.ask run None s.horizon given fair given_is stands.horizon asks.1 awaits.0 in
+      searching_after (given ++ logged (lines.Section (is_conditions part) s.horizon) ∷ []) run.done [] (open_section []) part solver 0
+      (begins d q s.ask s.horizon given run.done (told_by part (open_section []) (open_section [])) (logged (lines.Section (is_conditions part) s.horizon)) is low
+      (true_of d q s.ask s.horizon part (open_section []) (open_section []) asks.0 (begun_true part (open_section []) asks.0)) asks.2)
+      stands.met holds rows refl
+
+  -- ---- a section that has ended
+
+  pub record IsClosing (given : List Told) (part : Part) (word : EndWord) (listed : ℕ) : Type 0 where
+    pub done : List Horizon
+    pub section : Section
+    pub before : Section
+    pub is : IsRunning d q s.ask s.horizon given done (Some (told_by part before section))
+    pub met : s.met ≡ list_any has_conditions done
+    pub low : s.horizon ≤ last_horizon q s.ask.after
+    pub asks : MayAsk d q s.ask s.horizon part before
+    pub tells : TellsTrue d q s.ask s.horizon part section
+    pub word_is : EndsWith word section
+    pub listed_is : listed ≡ length (rows_of section)
+    pub found : part ≡ parts.Claim → word ≡ words.Found → AreFirst d q s.horizon None (s.row ∷ [])
+
+  pub closed : (given : List Told) (part : Part) (word : EndWord) (listed : ℕ) → s.phase ≡ phases.Closed part word listed → After d q s given →
+      IsClosing given part word listed
+  closed given part word listed phase_is (run, fair, given_is, stands) =
+      let awaits : (run.ending ≡ None) × IsClosed d q s run part word listed = subst (λ (p : Phase). Awaits d q s run p) phase_is stands.awaits in
+      let shut = awaits.1 in
+      let is = running d q s.ask run (Some (told_by part shut.before shut.section)) s.horizon given fair given_is stands.horizon shut.next awaits.0 in
+      let there = true_there d q s.ask s.horizon given run.done (told_by part shut.before shut.section) is in
+      let asked = asked_of d q s.ask s.horizon part shut.before shut.section there.1 in
+      record {
+        done = run.done; section = shut.section; before = shut.before; is = is; met = stands.met; low = there.0; asks = asked.0; tells = asked.1;
+        word_is = shut.word_is; listed_is = shut.listed_is; found = shut.found;
+      }
+
+  pub after_claim_heading : (given : List Told) (solver : SolverView) (listed : ℕ) → s.phase ≡ phases.Closed parts.Conditions words.Found listed → After d q s given →
+      Holds (form_of parts.Claim) [] solver → RowsAreHistories d q s.ask s.horizon parts.Claim →
+      After d q (record s { phase = phases.Searching parts.Claim solver 0 }) (given ++ logged (lines.Section false s.horizon) ∷ [])
+  after_claim_heading given solver listed phase_is after holds rows =
+      let here = closed given parts.Conditions words.Found listed phase_is after in
+      let asks : MayAsk d q s.ask s.horizon parts.Claim here.section = (here.asks, here.tells, here.word_is) in
+      searching_after (given ++ logged (lines.Section false s.horizon) ∷ []) here.done [] here.section parts.Claim solver 0
+      (goes_on d q s.ask s.horizon given here.done (Conditions here.section) (Claim here.section (open_section [])) (logged (lines.Section false s.horizon)) here.is
+      (true_of d q s.ask s.horizon parts.Claim here.section (open_section []) asks (begun_true parts.Claim here.section asks)) refl)
+      here.met holds rows refl
+
+  pub after_counterexample : (given : List Told) (listed : ℕ) → s.phase ≡ phases.Closed parts.Claim words.Found listed → After d q s given →
+      After d q (record s { phase = phases.Failing }) (given ++ told_row (events.Counterexample s.horizon) s.row ∷ [])
+  after_counterexample given listed phase_is after =
+      let here = closed given parts.Claim words.Found listed phase_is after in
+      after_run d q (record s { phase = phases.Failing }) (given ++ told_row (events.Counterexample s.horizon) s.row ∷ []) here.done
+      (Some (Failure here.before here.section s.row))
+      (goes_on d q s.ask s.horizon given here.done (Claim here.before here.section) (Failure here.before here.section s.row)
+      (told_row (events.Counterexample s.horizon) s.row) here.is (here.asks.0, here.asks.1, here.asks.2, here.tells, here.word_is, here.found refl refl) refl)
+      here.met (refl, (here.before, here.section, refl))
+
+  met_more : (done : List Horizon) (now : Horizon) → s.met ≡ list_any has_conditions done →
+      list_any has_conditions (done ++ now ∷ []) ≡ (s.met || list_any has_conditions (now ∷ []))
+  met_more done now is = list_any-append has_conditions done (now ∷ []) ∙ ap (λ (met : Bool). met || list_any has_conditions (now ∷ [])) (sym is)
+
+  pub after_no_history : (given : List Told) → s.phase ≡ phases.Closed parts.Histories words.Empty 0 → After d q s given → s.ask.after ≡ None →
+      After d q (record s { horizon = s.horizon + 1; phase = phases.Opening parts.Histories }) (given ++ told (events.NoHistory s.horizon) ∷ [])
+  after_no_history given phase_is after none =
+      let here = closed given parts.Histories words.Empty 0 phase_is after in
+      after_run d q (record s { horizon = s.horizon + 1; phase = phases.Opening parts.Histories }) (given ++ told (events.NoHistory s.horizon) ∷ [])
+      (here.done ++ Histories here.section ∷ []) None
+      (passes d q s.ask s.horizon given here.done (Histories here.section) (told (events.NoHistory s.horizon)) here.is
+      (here.word_is, no_items (rows_of here.section) (sym here.listed_is), ap (λ (key : Option Key). is_some key) none) refl)
+      (or_false s.met ∙ sym (met_more here.done (Histories here.section) here.met)) (refl, (here.asks, refl))
+
+  pub after_no_conditions : (given : List Told) (listed : ℕ) → s.phase ≡ phases.Closed parts.Conditions words.Empty listed → After d q s given →
+      After d q (record s { horizon = s.horizon + 1; phase = phases.Opening parts.Conditions }) (given ++ told (events.NoConditions s.horizon) ∷ [])
+  after_no_conditions given listed phase_is after =
+      let here = closed given parts.Conditions words.Empty listed phase_is after in
+      after_run d q (record s { horizon = s.horizon + 1; phase = phases.Opening parts.Conditions }) (given ++ told (events.NoConditions s.horizon) ∷ [])
+      (here.done ++ Conditions here.section ∷ []) None
+      (passes d q s.ask s.horizon given here.done (Conditions here.section) (told (events.NoConditions s.horizon)) here.is here.word_is refl)
+      (or_false s.met ∙ sym (met_more here.done (Conditions here.section) here.met)) (refl, (here.asks, refl))
+
+  pub after_holds : (given : List Told) (listed : ℕ) → s.phase ≡ phases.Closed parts.Claim words.Empty listed → After d q s given →
+      After d q (record s { horizon = s.horizon + 1; met = true; phase = phases.Opening parts.Conditions }) (given ++ told (events.Holds s.horizon) ∷ [])
+  after_holds given listed phase_is after =
+      let here = closed given parts.Claim words.Empty listed phase_is after in
+      after_run d q (record s { horizon = s.horizon + 1; met = true; phase = phases.Opening parts.Conditions }) (given ++ told (events.Holds s.horizon) ∷ [])
+      (here.done ++ Claim here.before here.section ∷ []) None
+      (passes d q s.ask s.horizon given here.done (Claim here.before here.section) (told (events.Holds s.horizon)) here.is here.word_is refl)
+      (or_true s.met ∙ sym (met_more here.done (Claim here.before here.section) here.met)) (refl, (here.asks.0, refl))
+
+  -- ---- endings
+
+  over : (given : List Told) (done : List Horizon) (next : Option Horizon) (ending : Ending) → s.horizon ≡ first_horizon q s.ask.after + length done →
+      s.met ≡ list_any has_conditions done →
+      IsFairRun d q s.ask (run_at done next (Some ending)) × (given ++ told (events.Ended ending) ∷ [] ≡ events_of (first_horizon q s.ask.after) (run_at done next (Some ending))) →
+      After d q (record s { phase = phases.Ended }) (given ++ told (events.Ended ending) ∷ [])
+  over given done next ending horizon_is met ends =
+      (run_at done next (Some ending), ends.0, ends.1, record { horizon = horizon_is; met = met; awaits = refl })
+
+  pub after_complete : (given : List Told) (listed : ℕ) → s.phase ≡ phases.Closed parts.Histories words.Empty listed → After d q s given →
+      (0 < listed) ⊎ IsSome s.ask.after → After d q (record s { phase = phases.Ended }) (given ++ told (events.Ended (endings.Complete s.horizon listed)) ∷ [])
+  after_complete given listed phase_is after some =
+      let here = closed given parts.Histories words.Empty listed phase_is after in
+      over given here.done (Some (Histories here.section)) (endings.Complete s.horizon listed) here.is.horizon_is here.met
+      (ends_within d q s.ask s.horizon given here.done (Histories here.section) (endings.Complete s.horizon listed) here.is
+      (refl, here.listed_is, here.word_is, elim some [ | inl more ↦ inl (subst (λ (n : ℕ). 0 < n) here.listed_is more) | inr key ↦ inr key ]))
+
+  pub after_all_asked : (given : List Told) (listed : ℕ) → s.phase ≡ phases.Closed parts.Histories words.Found listed → After d q s given →
+      After d q (record s { phase = phases.Ended }) (given ++ told (events.Ended (endings.Asked s.horizon listed)) ∷ [])
+  after_all_asked given listed phase_is after =
+      let here = closed given parts.Histories words.Found listed phase_is after in
+      over given here.done (Some (Histories here.section)) (endings.Asked s.horizon listed) here.is.horizon_is here.met
+      (ends_within d q s.ask s.horizon given here.done (Histories here.section) (endings.Asked s.horizon listed) here.is (refl, here.listed_is, here.word_is))
+
+  may_be_spent : (part : Part) (before section : Section) (listed : ℕ) → TellsTrue d q s.ask s.horizon part section → EndsWith words.Spent section →
+      listed ≡ length (rows_of section) → MayEndWithin s.ask s.horizon (told_by part before section) (endings.Spent s.horizon listed)
+  may_be_spent parts.Histories before section listed tells word_is listed_is = (refl, listed_is, word_is)
+  may_be_spent parts.Conditions before section listed tells word_is listed_is =
+      (refl, listed_is ∙ ap (λ (l : List (List ℕ)). length l) tells.silent, word_is)
+  may_be_spent parts.Claim before section listed tells word_is listed_is =
+      (refl, listed_is ∙ ap (λ (l : List (List ℕ)). length l) tells.silent, word_is)
+
+  pub after_budget : (given : List Told) (part : Part) (listed : ℕ) → s.phase ≡ phases.Closed part words.Spent listed → After d q s given →
+      After d q (record s { phase = phases.Ended }) (given ++ told (events.Ended (endings.Spent s.horizon listed)) ∷ [])
+  after_budget given part listed phase_is after =
+      let here = closed given part words.Spent listed phase_is after in
+      over given here.done (Some (told_by part here.before here.section)) (endings.Spent s.horizon listed) here.is.horizon_is here.met
+      (ends_within d q s.ask s.horizon given here.done (told_by part here.before here.section) (endings.Spent s.horizon listed) here.is
+      (may_be_spent part here.before here.section listed here.tells here.word_is here.listed_is))
+
+  pub after_failing : (given : List Told) → s.phase ≡ phases.Failing → After d q s given →
+      After d q (record s { phase = phases.Ended }) (given ++ told (events.Ended endings.ClaimFails) ∷ [])
+  after_failing given phase_is (run, fair, given_is, stands) =
+      let awaits : (run.ending ≡ None) × ((conditions : Section) × (claim : Section) × (run.next ≡ Some (Failure conditions claim s.row))) =
+          subst (λ (p : Phase). Awaits d q s run p) phase_is stands.awaits in
+      let is = running d q s.ask run (Some (Failure awaits.1.0 awaits.1.1 s.row)) s.horizon given fair given_is stands.horizon awaits.1.2 awaits.0 in
+      over given run.done (Some (Failure awaits.1.0 awaits.1.1 s.row)) endings.ClaimFails stands.horizon stands.met
+      (ends_within d q s.ask s.horizon given run.done (Failure awaits.1.0 awaits.1.1 s.row) endings.ClaimFails is tt)
+
+  -- behind the last horizon
+  pub after_last : (given : List Told) → s.phase ≡ phases.Opening parts.Histories → After d q s given → last_horizon q s.ask.after < s.horizon → s.ask.after ≡ None →
+      After d q (record s { phase = phases.Ended }) (given ++ told (events.Ended endings.NoHistory) ∷ [])
+  after_last given phase_is (run, fair, given_is, stands) past none =
+      let awaits : (run.ending ≡ None) × Opens q parts.Histories run.next = subst (λ (p : Phase). Awaits d q s run p) phase_is stands.awaits in
+      let is = running d q s.ask run None s.horizon given fair given_is stands.horizon awaits.1.1 awaits.0 in
+      let low = within_there d q s.ask s.horizon given run.done None is in
+      over given run.done None endings.NoHistory stands.horizon stands.met
+      (ends_behind d q s.ask s.horizon given run.done endings.NoHistory is (omega arith) (awaits.1.0, ap (λ (key : Option Key). is_some key) none))
+
+  pub after_last_claim : (given : List Told) → s.phase ≡ phases.Opening parts.Conditions → After d q s given → last_horizon q s.ask.after < s.horizon →
+      After d q (record s { phase = phases.Ended }) (given ++ told (events.Ended (if s.met then endings.ClaimHolds else endings.ClaimEmpty)) ∷ [])
+  after_last_claim given phase_is (run, fair, given_is, stands) past =
+      let awaits : (run.ending ≡ None) × Opens q parts.Conditions run.next = subst (λ (p : Phase). Awaits d q s run p) phase_is stands.awaits in
+      let is = running d q s.ask run None s.horizon given fair given_is stands.horizon awaits.1.1 awaits.0 in
+      let low = within_there d q s.ask s.horizon given run.done None is in
+      over given run.done None (if s.met then endings.ClaimHolds else endings.ClaimEmpty) stands.horizon stands.met
+      (ends_behind d q s.ask s.horizon given run.done (if s.met then endings.ClaimHolds else endings.ClaimEmpty) is (omega arith)
+      (claim_ends d q s.ask run.done (first_horizon q s.ask.after) s.met fair.done awaits.1.0 stands.met))

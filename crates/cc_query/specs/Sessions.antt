@@ -71,7 +71,7 @@ pub record Holds (axioms : Axioms) (steps : List Step) (solver : SolverView) : T
 
 -- some path meets the conditions of a query with a claim at this horizon
 abbrev pub has_conditions : Horizon → Bool
-has_conditions (Histories section) = true
+has_conditions (Histories section) = false
 has_conditions (Conditions section) = false
 has_conditions (Claim conditions claim) = true
 has_conditions (Failure conditions claim row) = true
