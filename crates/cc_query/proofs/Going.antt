@@ -30,9 +30,9 @@ use Rattle.cc_query.specs.declared.phase.Part.TheVariants as parts
 use Rattle.cc_query.specs.declared.phase.Phase.{Phase}
 use Rattle.cc_query.specs.declared.phase.Phase.TheVariants as phases
 use Rattle.cc_query.specs.Parts.{axioms_at, clauses_behind, is_conditions, told_by, section_of, open_section, rows_in, MayAsk, TellsTrue}
-use Rattle.cc_query.specs.Sessions.{SessionView, After, Awaits, Holds, IsClosed, IsRefuted, IsSearched, IsTold, Opens, RowsAreHistories, StandsBehind, has_conditions}
+use Rattle.cc_query.specs.Sessions.{SessionView, After, Awaits, Holds, HasTooMany, IsClosed, IsRefuted, IsSearched, IsTold, Opens, RowsAreHistories, StandsBehind, has_conditions}
 use Rattle.cc_query.proofs.Holding.{clauses_held, counted_as_derived, counted_within, holds_block, holds_line}
-use Rattle.cc_query.proofs.PartsTold.{IsGoingOn, asked_of, asked_true, begun, counterexample_first, denied_on, empty_true, found_true, going_on, going_on_told, line_on, open_true, spent_true, still_fewer, telling_true, true_of}
+use Rattle.cc_query.proofs.PartsTold.{IsGoingOn, asked_of, asked_true, begun, counterexample_first, denied_on, empty_true, found_true, going_on, going_on_told, line_on, next_first, open_true, spent_true, still_fewer, telling_true, true_of}
 use Rattle.cc_query.proofs.Running.{IsRunning, begins, block_event, end_event, ends_behind, ends_within, goes_on, history_event, horizon_event, line_event, passes, run_at, running, true_there, within_there}
 use Rattle.cc_query.proofs.Steps.{added_behind, counted_more, in_first, in_none, rows_kept, rows_more}
 use Rattle.cc_query.proofs.Told.{Laws}
@@ -68,6 +68,16 @@ or_false false = refl
 or_true : (b : Bool) → true ≡ (b || true)
 or_true true = refl
 or_true false = refl
+
+-- behind the last horizon of a listing there is no key
+no_key_behind : (d : Description) (q : Query) (ask : Ask) (horizon : ℕ) (done : List Horizon) (key : Option Key) → ask.after ≡ key →
+    AreDone d q ask (first_horizon q key) done → IsNone q.claim → horizon ≡ first_horizon q key + length done → last_horizon q key < horizon → IsNone ask.after
+no_key_behind d q ask horizon done None is are claim at past = ap (λ (k : Option Key). is_some k) is
+no_key_behind d q ask horizon [] (Some key) is are claim at past = absurd (omega arith)
+no_key_behind d q ask horizon (Histories section ∷ done) (Some key) is are claim at past = are.1.2
+no_key_behind d q ask horizon (Conditions section ∷ done) (Some key) is are claim at past = absurd (false≢true (sym claim ∙ are.0.0))
+no_key_behind d q ask horizon (Claim conditions section ∷ done) (Some key) is are claim at past = absurd (false≢true (sym claim ∙ are.0.0))
+no_key_behind d q ask horizon (Failure conditions section row ∷ done) (Some key) is are claim at past = absurd (are.1)
 
 -- no path met the conditions at the horizons that are done with, or one did
 claimed_done : (d : Description) (q : Query) (ask : Ask) (done : List Horizon) (horizon : ℕ) → AreDone d q ask horizon done → IsSome q.claim →
@@ -525,14 +535,15 @@ module _ (laws : Laws) (d : Description) (q : Query) (s : SessionView) (fits : I
       (ends_within d q s.ask s.horizon given run.done (Failure awaits.1.0 awaits.1.1 s.row) endings.ClaimFails is tt)
 
   -- behind the last horizon
-  pub after_last : (given : List Told) → s.phase ≡ phases.Opening parts.Histories → After d q s given → last_horizon q s.ask.after < s.horizon → s.ask.after ≡ None →
+  pub after_last : (given : List Told) → s.phase ≡ phases.Opening parts.Histories → After d q s given → last_horizon q s.ask.after < s.horizon →
       After d q (record s { phase = phases.Ended }) (given ++ told (events.Ended endings.NoHistory) ∷ [])
-  after_last given phase_is (run, fair, given_is, stands) past none =
+  after_last given phase_is (run, fair, given_is, stands) past =
       let awaits : (run.ending ≡ None) × Opens q parts.Histories run.next = subst (λ (p : Phase). Awaits d q s run p) phase_is stands.awaits in
       let is = running d q s.ask run None s.horizon given fair given_is stands.horizon awaits.1.1 awaits.0 in
       let low = within_there d q s.ask s.horizon given run.done None is in
       over given run.done None endings.NoHistory stands.horizon stands.met
-      (ends_behind d q s.ask s.horizon given run.done endings.NoHistory is (omega arith) (awaits.1.0, ap (λ (key : Option Key). is_some key) none))
+      (ends_behind d q s.ask s.horizon given run.done endings.NoHistory is (omega arith)
+      (awaits.1.0, no_key_behind d q s.ask s.horizon run.done s.ask.after refl fair.done awaits.1.0 stands.horizon past))
 
   pub after_last_claim : (given : List Told) → s.phase ≡ phases.Opening parts.Conditions → After d q s given → last_horizon q s.ask.after < s.horizon →
       After d q (record s { phase = phases.Ended }) (given ++ told (events.Ended (if s.met then endings.ClaimHolds else endings.ClaimEmpty)) ∷ [])
@@ -543,3 +554,24 @@ module _ (laws : Laws) (d : Description) (q : Query) (s : SessionView) (fits : I
       over given run.done None (if s.met then endings.ClaimHolds else endings.ClaimEmpty) stands.horizon stands.met
       (ends_behind d q s.ask s.horizon given run.done (if s.met then endings.ClaimHolds else endings.ClaimEmpty) is (omega arith)
       (claim_ends d q s.ask run.done (first_horizon q s.ask.after) s.met fair.done awaits.1.0 stands.met))
+
+  -- ---- a history too many
+
+  pub history_too_many : (given : List Told) (solver : SolverView) (listed : ℕ) → s.phase ≡ phases.Searching parts.Histories solver listed → After d q s given →
+      (row : List ℕ) → IsLeastRowOf solver.sizes (clauses_of solver.kernel) row → listed ≡ 100000000 → HasTooMany d q s given
+  history_too_many given solver listed phase_is after row least many =
+      let here = going given parts.Histories solver listed phase_is after in
+      let least_of : IsLeastRowOf (form_of parts.Histories).sizes (clauses_of solver.kernel) row =
+          subst (λ (sizes : List ℕ). IsLeastRowOf sizes (clauses_of solver.kernel) row) here.holds.sizes least in
+      record {
+        run = run_at here.done (Some (Histories (open_section here.steps))) None;
+        fair = here.is.fair;
+        given_is = here.is.given_is;
+        told = rows_in here.steps;
+        section = open_section here.steps;
+        next = refl;
+        told_is = append-nil (rows_in here.steps);
+        many = sym here.listed_is ∙ many;
+        further = row;
+        first = next_first laws d q s.ask s.horizon here.steps (clauses_of solver.kernel) here.on here.rows row least_of;
+      }

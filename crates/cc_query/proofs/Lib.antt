@@ -1,6 +1,7 @@
 pub mod Going
 pub mod Holding
 pub mod PartsTold
+pub mod Refusing
 pub mod Rows
 pub mod Running
 pub mod Steps

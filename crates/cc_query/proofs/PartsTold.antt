@@ -171,6 +171,12 @@ module _ (laws : Laws) (d : Description) (q : Query) (ask : Ask) (horizon : ℕ)
       (next_told laws d q (key_row ask) (form_at parts.Histories) ask.budget horizon steps clauses is.told rows row least)
       is.may (λ e. absurd cc) (λ e. absurd cc) (λ some. absurd cc)
 
+  pub next_first : (steps : List Step) (clauses : List (List Literal)) → IsGoingOn d q ask horizon parts.Histories steps clauses →
+      RowsAreHistories d q ask horizon parts.Histories → (row : List ℕ) → IsLeastRowOf (form_at parts.Histories).sizes clauses row →
+      AreFirst d q horizon (key_row ask) (rows_in steps ++ row ∷ [])
+  next_first steps clauses is rows row least =
+      next_told laws d q (key_row ask) (form_at parts.Histories) ask.budget horizon steps clauses is.told rows row least
+
   pub asked_true : (steps : List Step) (clauses : List (List Literal)) → IsGoingOn d q ask horizon parts.Histories steps clauses →
       RowsAreHistories d q ask horizon parts.Histories → (row : List ℕ) → IsLeastRowOf (form_at parts.Histories).sizes clauses row →
       ask.count ≡ Some (length (rows_in steps) + 1) → TellsHistories d q ask horizon (section_of steps (Some row) (Some words.Found))

@@ -1,31 +1,43 @@
 -- What a session holds, and what the events so far leave it to hold.
-use Rattle.std.specs.Prelude.{◌≡◌, ℕ, ◌+◌, ◌<◌, ◌≤◌, Bool, true, false, List, [], ◌∷◌, ◌++◌, map, length, Option, Some, None, IsSome, IsNone, Contains}
+use Rattle.std.specs.Prelude.{◌≡◌, ℕ, ◌+◌, ◌<◌, ◌≤◌, ◌⊎◌, Bool, true, false, not, IfSome, List, [], ◌∷◌, ◌++◌, map, length, Option, Some, None, IsSome, IsNone, Contains}
 use Rattle.std.specs.List.{list_any}
+use Rattle.std.specs.Option.{option_or}
 use Rattle.cc_arena.specs.declared.ground_laws.GroundLaw.{GroundLaw}
-use Rattle.cc_cdcl.specs.Solvers.{SolverView, Standing, Found}
+use Rattle.cc_cdcl.specs.Solvers.{SolverView, Standing, Found, Ready}
 use Rattle.cc_clauses.specs.RowsOf.{IsLeastRowOf}
 use Rattle.cc_defs.specs.declared.event.Event.{Event}
 use Rattle.cc_defs.specs.declared.event.Event.TheVariants as events
 use Rattle.cc_defs.specs.declared.event.Told.{Told}
 use Rattle.cc_defs.specs.declared.log.EndWord.{EndWord}
 use Rattle.cc_defs.specs.declared.log.EndWord.TheVariants as words
+use Rattle.cc_defs.specs.declared.lists.Key.{Key}
+use Rattle.cc_defs.specs.declared.log.LogLine.TheVariants as lines
+use Rattle.cc_defs.specs.declared.refusal.Fault.{Fault}
+use Rattle.cc_defs.specs.declared.refusal.Fault.TheVariants as faults
+use Rattle.cc_defs.specs.declared.refusal.LimitAt.TheVariants as limits
+use Rattle.cc_defs.specs.declared.refusal.Refusal.{Refusal}
+use Rattle.cc_defs.specs.ClauseLists.{clause_list}
 use Rattle.cc_defs.specs.Clauses.{Literal}
 use Rattle.cc_defs.specs.Description.{Description}
 use Rattle.cc_defs.specs.GroundLaws.{PlainGroundQuery, StandsForQuery}
 use Rattle.cc_defs.specs.Histories.{AreFirst}
+use Rattle.cc_defs.specs.Refusals.{past}
 use Rattle.cc_defs.specs.Resolved.{Query}
+use Rattle.cc_defs.specs.Rows.{IsRow}
 use Rattle.cc_defs.specs.Runs.{Ask, Step, Derive, Tell, Section, Horizon, Histories, Conditions, Claim, Failure, Run, EndsWith, IsFairRun, events_of, first_horizon, horizon_at, key_row, rows_of}
 use Rattle.cc_defs.specs.Sections.{Axioms, row_denial}
 use Rattle.cc_defs.specs.Signatures.{Signature}
-use Rattle.cc_form.specs.Forms.{TellsHistories as ClausesTell}
+use Rattle.cc_form.specs.Forms.{TellsHistories as ClausesTell, form_refusal}
+use Rattle.cc_form.specs.Places.{position_sizes}
+use Rattle.cc_form.specs.Queries.{IsQueryAt}
 use Rattle.cc_kernel.specs.declared.kernel.Origin.TheVariants as origins
-use Rattle.cc_kernel.specs.Kernels.{Entry, axiom_of, clauses_of}
+use Rattle.cc_kernel.specs.Kernels.{Entry, axiom_of, clauses_of, derived_count}
 use Rattle.cc_query.specs.declared.phase.Part.{Part}
 use Rattle.cc_query.specs.declared.phase.Part.TheVariants as parts
 use Rattle.cc_query.specs.declared.phase.Phase.{Phase}
 use Rattle.cc_query.specs.declared.phase.Phase.TheVariants as phases
-use Rattle.cc_query.specs.Parts.{query_of, axioms_at, told_by, section_of, open_section, rows_in, clauses_behind}
-use Rattle.cc_theory.specs.Theories.{AreLawsOf}
+use Rattle.cc_query.specs.Parts.{query_of, axioms_at, is_conditions, told_by, section_of, open_section, rows_in, clauses_behind}
+use Rattle.cc_theory.specs.Theories.{AreLawsFor, AreLawsOf, rules_refusal}
 
 -- The signature, the laws, the query and what is asked; the horizon that is tried, whether a path met the conditions of a query
 -- with a claim at an earlier one, the last row that was told, and what comes next.
@@ -144,3 +156,117 @@ pub record StandsBehind (d : Description) (q : Query) (session : SessionView) (r
 abbrev pub After : Description → Query → SessionView → List Told → Type 0
 After d q session given =
     (run : Run) × IsFairRun d q session.ask run × (given ≡ events_of (first_horizon q session.ask.after) run) × StandsBehind d q session run
+
+-- ---- what a call of a session says
+
+-- it searches for the same
+pub record IsSame (old new : SessionView) : Type 0 where
+  pub signature : new.signature ≡ old.signature
+  pub laws : new.laws ≡ old.laws
+  pub query : new.query ≡ old.query
+  pub ask : new.ask ≡ old.ask
+
+-- this event comes behind those that were told
+abbrev pub Tells : SessionView → SessionView → Event → Type 0
+Tells old new event =
+    (d : Description) (q : Query) (given : List Told) → IsSessionOf old d q → After d q old given → After d q new (given ++ with_row event new.row ∷ [])
+
+-- the first limit that the rules or the clause list of a section pass
+abbrev pub refusal_at : Description → Query → ℕ → (with_claim : Bool) → Option Key → Option Refusal
+refusal_at d q horizon with_claim key = option_or (rules_refusal d horizon) (form_refusal (clause_list d q horizon with_claim key))
+
+abbrev pub opening_refusal : Description → Query → Ask → ℕ → (conditions : Bool) → Option Refusal
+opening_refusal d q ask horizon conditions = refusal_at d q horizon (not conditions) ask.after
+
+-- so many histories were told at a horizon as its limit says, and there is one more
+pub record HasTooMany (d : Description) (q : Query) (session : SessionView) (given : List Told) : Type 0 where
+  pub run : Run
+  pub fair : IsFairRun d q session.ask run
+  pub given_is : given ≡ events_of (first_horizon q session.ask.after) run
+  pub section : Section
+  pub next : run.next ≡ Some (Histories section)
+  pub told : List (List ℕ)
+  pub told_is : rows_of section ≡ told
+  pub many : length told ≡ 100000000
+  pub further : List ℕ
+  pub first : AreFirst d q session.horizon (key_row session.ask) (told ++ further ∷ [])
+
+-- the part of a horizon whose section opens next
+abbrev pub opens_at : Phase → Option Part
+opens_at (phases.Opening part) = Some part
+opens_at (phases.Closed parts.Conditions words.Found listed) = Some parts.Claim
+opens_at (phases.Closed part word listed) = None
+opens_at (phases.Searching part solver listed) = None
+opens_at (phases.Denying solver listed) = None
+opens_at (phases.Refuted part listed) = None
+opens_at phases.Failing = None
+opens_at phases.Ended = None
+
+-- this refusal may come: that of the section that opens, or that a history is one too many
+abbrev pub MayRefuse : Description → Query → SessionView → List Told → Refusal → Type 0
+MayRefuse d q session given refusal =
+    ((part : Part) × (opens_at session.phase ≡ Some part) × (opening_refusal d q session.ask session.horizon (is_conditions part) ≡ Some refusal))
+    ⊎ ((refusal ≡ past limits.Histories) × HasTooMany d q session given)
+
+-- or memory was wanting
+abbrev pub IsRightFault : SessionView → Fault → Type 0
+IsRightFault session faults.OutOfMemory = Unit {0}
+IsRightFault session (faults.Refused refusal) =
+    (d : Description) (q : Query) (given : List Told) → IsSessionOf session d q → After d q session given → MayRefuse d q session given refusal
+
+-- a section's rules and clauses are within their limits, where this is its heading
+abbrev pub OpensWithin : SessionView → Event → Type 0
+OpensWithin session event = (d : Description) (q : Query) → IsSessionOf session d q → (conditions : Bool) (horizon : ℕ) →
+    event ≡ events.Log (lines.Section conditions horizon) → opening_refusal d q session.ask horizon conditions ≡ None
+
+-- ---- what is always true of a session
+
+abbrev pub first_at : PlainGroundQuery → Option Key → ℕ
+first_at query None = query.lo
+first_at query (Some key) = key.horizon
+
+abbrev pub last_at : PlainGroundQuery → Option Key → ℕ
+last_at query None = query.hi
+last_at query (Some key) = key.horizon
+
+-- a key is a row of one of the query's horizons, and the query has no claim
+pub record Fits (signature : Signature) (query : PlainGroundQuery) (key : Key) : Type 0 where
+  pub least : query.lo ≤ key.horizon
+  pub most : key.horizon ≤ query.hi
+  pub claim : IsNone query.claim
+  pub row : IsRow (position_sizes signature key.horizon) key.row
+
+-- what is asked can be searched for
+pub record IsAskable (signature : Signature) (laws : List GroundLaw) (query : PlainGroundQuery) (ask : Ask) : Type 0 where
+  pub laws_fit : AreLawsFor signature laws
+  pub ordered : query.lo ≤ query.hi
+  pub most : query.hi ≤ 1000
+  pub steps : (horizon : ℕ) → query.lo ≤ horizon → horizon ≤ query.hi → IsQueryAt signature horizon query
+  pub key : IfSome ask.after (Fits signature query)
+  pub count : IfSome ask.count (λ most. 1 ≤ most)
+  pub budget : ask.budget ≤ 2000000
+
+-- the solver of a section: not past its budget, and with few clauses behind its axioms, where so many rows were denied
+pub record IsWithin (ask : Ask) (solver : SolverView) (denied : ℕ) : Type 0 where
+  pub derived : derived_count solver.kernel.entries ≤ ask.budget
+  pub few : length solver.kernel.entries ≤ 8000000 + derived_count solver.kernel.entries + denied
+  pub denied_few : denied ≤ 100000000
+
+abbrev pub HasFound : SolverView → Type 0
+HasFound solver = (row : List ℕ) × (solver.standing ≡ Found row)
+
+-- it is ready for what comes next, at a horizon, the last of which is this
+abbrev pub IsReady : Ask → (horizon last : ℕ) → Phase → Type 0
+IsReady ask horizon last (phases.Opening part) = horizon ≤ last + 1
+IsReady ask horizon last (phases.Searching part solver listed) = (horizon ≤ last) × (solver.standing ≡ Ready) × IsWithin ask solver listed
+IsReady ask horizon last (phases.Denying solver listed) =
+    (horizon ≤ last) × HasFound solver × ((denied : ℕ) × (listed ≡ denied + 1) × (denied + 1 ≤ 100000000) × IsWithin ask solver denied)
+IsReady ask horizon last (phases.Refuted part listed) = horizon ≤ last
+IsReady ask horizon last (phases.Closed part word listed) = horizon ≤ last
+IsReady ask horizon last phases.Failing = horizon ≤ last
+IsReady ask horizon last phases.Ended = horizon ≤ last + 1
+
+pub record IsSession (session : SessionView) : Type 0 where
+  pub askable : IsAskable session.signature session.laws session.query session.ask
+  pub first : first_at session.query session.ask.after ≤ session.horizon
+  pub ready : IsReady session.ask session.horizon (last_at session.query session.ask.after) session.phase

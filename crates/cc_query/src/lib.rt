@@ -3,6 +3,9 @@
 
 mod ask;
 pub mod laws;
+mod opening;
 mod phase;
+mod session;
 
 pub use ask::Ask;
+pub use session::Session;
