@@ -1,3 +1,4 @@
+pub mod Giving
 pub mod Going
 pub mod Holding
 pub mod PartsTold

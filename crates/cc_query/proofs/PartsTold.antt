@@ -14,9 +14,10 @@ use Rattle.cc_defs.specs.Runs.{Ask, Step, Derive, Tell, Section, IsFairLine, IsT
 use Rattle.cc_defs.specs.Sections.{Axioms, HasNoEmpty, row_denial}
 use Rattle.cc_query.specs.declared.phase.Part.{Part}
 use Rattle.cc_query.specs.declared.phase.Part.TheVariants as parts
+use Rattle.cc_query.specs.Laws.{SearchLaws as Laws}
 use Rattle.cc_query.specs.Parts.{query_of, axioms_at, told_by, section_of, open_section, rows_in, MayAsk, TellsTrue}
 use Rattle.cc_query.specs.Sessions.{RowsAreHistories}
-use Rattle.cc_query.proofs.Told.{Laws, HasTold, nothing_told, line_told, row_told, next_told, all_told, row_is_history, open_fair, found_fair, empty_fair, spent_fair, listing_so_far, listing_to, looks, told_of_histories, told_of_look}
+use Rattle.cc_query.proofs.Told.{HasTold, nothing_told, line_told, row_told, next_told, all_told, row_is_history, open_fair, found_fair, empty_fair, spent_fair, listing_so_far, listing_to, looks, told_of_histories, told_of_look}
 use Rattle.cc_query.proofs.Rows.{first_front}
 use Rattle.cc_query.proofs.Steps.{none_empty, rows_more, rows_kept}
 

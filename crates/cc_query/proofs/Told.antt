@@ -2,8 +2,6 @@
 use Rattle.std.proofs.Common.{◌≡◌, ◌≢◌, ◌∙◌, ℕ, ◌+◌, ◌<◌, ◌≤◌, ◌⊎◌, inl, inr, zero, suc, false, List, [], ◌∷◌, ◌++◌, length, map, Option, Some, None, refl, sym, subst, ap, arith, append-nil}
 use Rattle.std.specs.Prelude.{Contains, IfSome, IsSome, IsNone}
 use Rattle.std.proofs.lemmas.List.{length_push}
-use Rattle.cc_cdcl.specs.Laws.{DenialDenies, DenialLeavesOthers}
-use Rattle.cc_clauses.specs.Laws.{ResolventsAreSound}
 use Rattle.cc_clauses.specs.RowsOf.{IsRowOf, IsLeastRowOf}
 use Rattle.cc_defs.specs.declared.log.EndWord.{EndWord}
 use Rattle.cc_defs.specs.declared.log.EndWord.TheVariants as words
@@ -15,15 +13,10 @@ use Rattle.cc_defs.specs.Rows.{IsRow}
 use Rattle.cc_defs.specs.Runs.{Ask, Step, Derive, Tell, Section, AreFairSteps, IsFairLine, IsFairSection, LooksForOne, TellsHistories, EndsWith, HasNone, HasSome, counted, counted_in, axioms_of, key_row, rows_of}
 use Rattle.cc_defs.specs.Sections.{Axioms, HasNoEmpty, EndsRightly, row_denial}
 use Rattle.cc_form.specs.Forms.{TellsHistories as FormTells}
+use Rattle.cc_query.specs.Laws.{SearchLaws as Laws}
 use Rattle.cc_query.specs.Parts.{rows_in, section_of, open_section}
 use Rattle.cc_query.proofs.Rows.{first_none, first_more, first_are_all}
 use Rattle.cc_query.proofs.Steps.{in_none, fair_line, fair_tell, counted_more, rows_more, rows_kept, row_before, row_not_told, row_behind, none_empty}
-
--- the laws that searches rest on
-pub record Laws : Type 0 where
-  pub sound : ResolventsAreSound
-  pub denies : DenialDenies
-  pub leaves : DenialLeavesOthers
 
 -- Fair steps within the budget, by which the first histories are told; these clauses are there behind them.
 pub record HasTold (d : Description) (q : Query) (key : Option (List ℕ)) (form : Axioms) (budget horizon : ℕ) (steps : List Step) (clauses : List (List Literal)) : Type 0 where

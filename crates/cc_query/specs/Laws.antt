@@ -1,5 +1,7 @@
--- Listings that go on after a key.
+-- Listings that go on after a key, and what searches rest on.
 use Rattle.std.specs.Prelude.{◌≡◌, ℕ, List, [], ◌∷◌, ◌++◌, Option, Some, None}
+use Rattle.cc_cdcl.specs.Laws.{DenialDenies, DenialLeavesOthers}
+use Rattle.cc_clauses.specs.Laws.{ResolventsAreSound}
 use Rattle.cc_defs.specs.Description.{Description}
 use Rattle.cc_defs.specs.Histories.{AreFirst, IsListing}
 use Rattle.cc_defs.specs.Resolved.{Query}
@@ -8,3 +10,9 @@ use Rattle.cc_defs.specs.Resolved.{Query}
 abbrev pub ListingsResume : Type 0
 ListingsResume = (d : Description) (q : Query) (horizon : ℕ) (key : Option (List ℕ)) (told : List (List ℕ)) (last : List ℕ) (later : List (List ℕ)) →
     AreFirst d q horizon key (told ++ last ∷ []) → IsListing d q horizon (Some last) later → IsListing d q horizon key (told ++ last ∷ [] ++ later)
+
+-- Resolvents follow, and a denied row is denied, and no other.
+pub record SearchLaws : Type 0 where
+  pub sound : ResolventsAreSound
+  pub denies : DenialDenies
+  pub leaves : DenialLeavesOthers

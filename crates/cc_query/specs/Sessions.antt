@@ -1,10 +1,11 @@
 -- What a session holds, and what the events so far leave it to hold.
-use Rattle.std.specs.Prelude.{◌≡◌, ℕ, ◌+◌, ◌<◌, ◌≤◌, ◌⊎◌, Bool, true, false, not, IfSome, List, [], ◌∷◌, ◌++◌, map, length, Option, Some, None, IsSome, IsNone, Contains}
+use Rattle.std.specs.Prelude.{◌≡◌, ◌≢◌, ℕ, ◌+◌, ◌<◌, ◌≤◌, ◌⊎◌, Bool, true, false, not, IfSome, List, [], ◌∷◌, ◌++◌, map, length, Option, Some, None, IsSome, IsNone, Contains}
 use Rattle.std.specs.List.{list_any}
 use Rattle.std.specs.Option.{option_or}
 use Rattle.cc_arena.specs.declared.ground_laws.GroundLaw.{GroundLaw}
 use Rattle.cc_cdcl.specs.Solvers.{SolverView, Standing, Found, Ready}
 use Rattle.cc_clauses.specs.RowsOf.{IsLeastRowOf}
+use Rattle.cc_defs.specs.declared.event.Ending.{Ending}
 use Rattle.cc_defs.specs.declared.event.Event.{Event}
 use Rattle.cc_defs.specs.declared.event.Event.TheVariants as events
 use Rattle.cc_defs.specs.declared.event.Told.{Told}
@@ -218,6 +219,14 @@ IsRightFault session (faults.Refused refusal) =
 abbrev pub OpensWithin : SessionView → Event → Type 0
 OpensWithin session event = (d : Description) (q : Query) → IsSessionOf session d q → (conditions : Bool) (horizon : ℕ) →
     event ≡ events.Log (lines.Section conditions horizon) → opening_refusal d q session.ask horizon conditions ≡ None
+
+-- What an event says of the session before and after it: it comes behind those that were told, for the same query; and unless it
+-- is the ending, there is more to come.
+pub record Gives (old new : SessionView) (event : Event) : Type 0 where
+  pub same : IsSame old new
+  pub tells : Tells old new event
+  pub within : OpensWithin old event
+  pub more : ((ending : Ending) → event ≢ events.Ended ending) → new.phase ≢ phases.Ended
 
 -- ---- what is always true of a session
 
