@@ -1,7 +1,9 @@
+pub mod Beginning
 pub mod Giving
 pub mod Going
 pub mod Holding
 pub mod PartsTold
+pub mod Reaching
 pub mod Refusing
 pub mod Rows
 pub mod Running

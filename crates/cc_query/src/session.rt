@@ -1,5 +1,6 @@
 //! A search for the histories of a query, or for a path that goes against its claim.
-ghost use Rattle.std.specs.Prelude.{◌≡◌, ◌≢◌, ℕ, ◌+◌, ◌<◌, ◌≤◌, ◌++◌, [], ◌∷◌, List, length, IfOk, IfErr, IfSome, OnOk, Some, None};
+ghost use Rattle.std.specs.Prelude.{◌≡◌, ◌≢◌, ℕ, ◌+◌, ◌<◌, ◌≤◌, ◌++◌, [], ◌∷◌, List, length, IfOk, IfErr, IfSome, IsNone, IsSome, OnOk, Some, None};
+ghost use Rattle.std.specs.Option.{option_map};
 ghost use Rattle.cc_arena.specs.GroundViews.{plain_ground_query};
 ghost use Rattle.cc_cdcl.specs.Solvers.{SolverView, Found as IsFound, IsStep, Ready};
 ghost use Rattle.cc_cdcl.specs.declared.solver.Step.TheVariants as answers;
@@ -27,7 +28,7 @@ use crate::phase::{Part, Phase};
 use cc_arena::{GroundQuery, Laws};
 use cc_cdcl::{Solver, Step};
 use cc_defs::{
-    EndWord, Ending, Event, Fault, LimitAt, Lits, LogLine, Nums, OutOfMemory, Refusal, Row, Sig,
+    EndWord, Ending, Event, Fault, Key, LimitAt, Lits, LogLine, Nums, OutOfMemory, Refusal, Row, Sig,
 };
 use cc_kernel::Kernel;
 use std::alloc::Global;
@@ -106,5 +107,93 @@ fn last_horizon(query: &GroundQuery<'_>, ask: &Ask) -> u32
     match &ask.after {
         Some(key) => key.horizon,
         None => query.hi,
+    }
+}
+
+/// The key that the histories come after.
+fn key_of(ask: &Ask) -> Option<&Key>
+    ensures { option_map (λ key. key.now) result ≡ ask.now.after }
+{
+    ask.after.as_ref()
+}
+
+/// What the first section of a horizon searches for.
+fn first_part(query: &GroundQuery<'_>) -> Part
+    ensures histories { IsNone query.now.claim → result ≡ parts.Histories }
+    ensures conditions { IsSome query.now.claim → result ≡ parts.Conditions }
+{
+    match &query.claim {
+        Some(_) => Part::Conditions,
+        None => Part::Histories,
+    }
+}
+
+impl<'a> Session<'a> {
+    /// A search for a query: the horizons of its range, or the key's alone. What is asked is `ask`.
+    pub fn new(
+        alloc: Global,
+        sig: &'a Sig,
+        laws: &'a Laws<'a>,
+        query: GroundQuery<'a>,
+        ask: Ask,
+    ) -> Result<Session<'a>, OutOfMemory>
+        requires laws { AreLawsFor sig.now laws.now }
+        requires ordered { query.lo ≤ query.hi }
+        requires most { query.hi ≤ 1000 }
+        requires steps { (horizon : ℕ) → query.lo ≤ horizon → horizon ≤ query.hi → IsQueryAt sig.now horizon (plain_ground_query query) }
+        requires key { IfSome ask.after (Fits sig.now (plain_ground_query query)) }
+        requires count { IfSome ask.count (λ most. 1 ≤ most) }
+        requires budget { ask.budget ≤ 2000000 }
+        ensures signature { IfOk result (λ session. session.signature ≡ sig.now) }
+        ensures laws { IfOk result (λ session. session.laws ≡ laws.now) }
+        ensures query { IfOk result (λ session. session.query ≡ plain_ground_query query.entry) }
+        ensures ask { IfOk result (λ session. session.ask ≡ ask) }
+        ensures begun { (d : Description) (q : Query) → IfOk result (λ session. IsSessionOf session d q → After d q session []) }
+        ensures more { IfOk result (λ session. session.phase ≢ phases.Ended) }
+    {
+        let horizon = first_horizon(&query, &ask);
+        let part = first_part(&query);
+        let row = Vec::new(alloc);
+        Ok(Session {
+            alloc,
+            sig,
+            laws,
+            query,
+            ask,
+            horizon,
+            met: false,
+            row,
+            phase: Phase::Opening { part },
+        })
+    }
+
+    /// The row of the last event: a value index for each position.
+    pub fn row(&self) -> &[u32]
+        ensures { result.now ≡ self.now.row }
+    {
+        &self.row
+    }
+
+    // The search over the clauses of a section, at the horizon that is tried.
+    fn solver(&self, part: Part) -> Result<Solver, Fault>
+        requires { self.now.horizon ≤ last_at self.now.query self.now.ask.after }
+        ensures made { (d : Description) (q : Query) → IsSessionOf self.now d q → IfOk result (λ solver. Holds (axioms_at d q self.now.ask self.now.horizon part) [] solver) }
+        ensures rows { (d : Description) (q : Query) → IsSessionOf self.now d q → OnOk result (RowsAreHistories d q self.now.ask self.now.horizon part) }
+        ensures within { (d : Description) (q : Query) → IsSessionOf self.now d q → OnOk result (opening_refusal d q self.now.ask self.now.horizon (is_conditions part) ≡ None) }
+        ensures refused { (d : Description) (q : Query) → IsSessionOf self.now d q → IfErr result (IsRefusedBy (opening_refusal d q self.now.ask self.now.horizon (is_conditions part))) }
+        ensures ready { IfOk result (λ solver. solver.standing ≡ Ready) }
+        ensures few { IfOk result (λ solver. IsWithin self.now.ask solver 0) }
+    {
+        let key = key_of(&self.ask);
+        let form = form_at(
+            self.alloc,
+            self.sig,
+            self.laws,
+            &self.query,
+            key,
+            self.horizon,
+            denies_claim(part),
+        )?;
+        Ok(solver_of(self.alloc, form)?)
     }
 }
