@@ -31,7 +31,7 @@ use Rattle.cc_query.specs.declared.phase.Phase.{Phase}
 use Rattle.cc_query.specs.declared.phase.Phase.TheVariants as phases
 use Rattle.cc_query.specs.Laws.{SearchLaws}
 use Rattle.cc_query.specs.Parts.{axioms_at, is_conditions}
-use Rattle.cc_query.specs.Sessions.{SessionView, After, Awaits, Fits, Gives, Holds, IsAskable, IsSame, IsSession, IsSessionOf, OpensWithin, RowsAreHistories, Tells, first_at, last_at, opening_refusal, opens_at, with_row}
+use Rattle.cc_query.specs.Sessions.{SessionView, After, Awaits, Fits, Gives, Holds, IsAskable, IsSame, IsSession, IsSessionOf, OpensWithin, RowsAreHistories, Tells, ending_behind, first_at, last_at, opening_refusal, opens_at, with_row}
 use Rattle.cc_query.proofs.Going.{IsAskFor, after_asked, after_block, after_all_asked, after_budget, after_claim_heading, after_complete, after_counterexample, after_empty, after_empty_line, after_failing, after_found, after_heading, after_history, after_holds, after_last, after_last_claim, after_line, after_no_conditions, after_no_history, after_refuted, after_spent, telling}
 
 -- ---- what is asked goes with the query
@@ -264,13 +264,8 @@ module _ (laws : SearchLaws) (s : SessionView) (askable : IsAskable s.signature 
   gives_failing phase_is = ending_given endings.ClaimFails (λ d q given of after. after_failing laws d q s (asks_for s d q askable of) given phase_is after)
 
   -- the ending behind the last horizon
-  abbrev pub last_ending : Part → Ending
-  last_ending parts.Histories = endings.NoHistory
-  last_ending parts.Conditions = if s.met then endings.ClaimHolds else endings.ClaimEmpty
-  last_ending parts.Claim = if s.met then endings.ClaimHolds else endings.ClaimEmpty
-
   pub gives_last : (part : Part) → s.phase ≡ phases.Opening part → last_at s.query s.ask.after < s.horizon →
-      Gives s (record s { phase = phases.Ended }) (events.Ended (last_ending part))
+      Gives s (record s { phase = phases.Ended }) (events.Ended (ending_behind s.met part))
   gives_last parts.Histories phase_is past = ending_given endings.NoHistory (λ d q given of after. after_last laws d q s (asks_for s d q askable of) given phase_is after
       (subst (λ (n : ℕ). n < s.horizon) (last_is d q s.query s.ask.after of.query) past))
   gives_last parts.Conditions phase_is past = ending_given (if s.met then endings.ClaimHolds else endings.ClaimEmpty)

@@ -2,6 +2,7 @@ pub mod Beginning
 pub mod Giving
 pub mod Going
 pub mod Holding
+pub mod Joining
 pub mod PartsTold
 pub mod Reaching
 pub mod Refusing
@@ -9,3 +10,4 @@ pub mod Rows
 pub mod Running
 pub mod Steps
 pub mod Told
+pub mod Within

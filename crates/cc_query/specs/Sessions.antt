@@ -1,11 +1,12 @@
 -- What a session holds, and what the events so far leave it to hold.
-use Rattle.std.specs.Prelude.{◌≡◌, ◌≢◌, ℕ, ◌+◌, ◌<◌, ◌≤◌, ◌⊎◌, Bool, true, false, not, IfSome, List, [], ◌∷◌, ◌++◌, map, length, Option, Some, None, IsSome, IsNone, Contains}
+use Rattle.std.specs.Prelude.{◌≡◌, ◌≢◌, ℕ, ◌+◌, ◌<◌, ◌≤◌, ◌⊎◌, Bool, true, false, not, if◌then◌else◌, IfSome, List, [], ◌∷◌, ◌++◌, map, length, Option, Some, None, IsSome, IsNone, Contains}
 use Rattle.std.specs.List.{list_any}
 use Rattle.std.specs.Option.{option_or}
 use Rattle.cc_arena.specs.declared.ground_laws.GroundLaw.{GroundLaw}
 use Rattle.cc_cdcl.specs.Solvers.{SolverView, Standing, Found, Ready}
 use Rattle.cc_clauses.specs.RowsOf.{IsLeastRowOf}
 use Rattle.cc_defs.specs.declared.event.Ending.{Ending}
+use Rattle.cc_defs.specs.declared.event.Ending.TheVariants as endings
 use Rattle.cc_defs.specs.declared.event.Event.{Event}
 use Rattle.cc_defs.specs.declared.event.Event.TheVariants as events
 use Rattle.cc_defs.specs.declared.event.Told.{Told}
@@ -32,7 +33,7 @@ use Rattle.cc_form.specs.Forms.{TellsHistories as ClausesTell, form_refusal}
 use Rattle.cc_form.specs.Places.{position_sizes}
 use Rattle.cc_form.specs.Queries.{IsQueryAt}
 use Rattle.cc_kernel.specs.declared.kernel.Origin.TheVariants as origins
-use Rattle.cc_kernel.specs.Kernels.{Entry, axiom_of, clauses_of, derived_count}
+use Rattle.cc_kernel.specs.Kernels.{Entry, added, axiom_of, clauses_of, derived_count}
 use Rattle.cc_query.specs.declared.phase.Part.{Part}
 use Rattle.cc_query.specs.declared.phase.Part.TheVariants as parts
 use Rattle.cc_query.specs.declared.phase.Phase.{Phase}
@@ -219,6 +220,17 @@ IsRightFault session (faults.Refused refusal) =
 abbrev pub OpensWithin : SessionView → Event → Type 0
 OpensWithin session event = (d : Description) (q : Query) → IsSessionOf session d q → (conditions : Bool) (horizon : ℕ) →
     event ≡ events.Log (lines.Section conditions horizon) → opening_refusal d q session.ask horizon conditions ≡ None
+
+-- the ending behind the last horizon
+abbrev pub ending_behind : (met : Bool) → Part → Ending
+ending_behind met parts.Histories = endings.NoHistory
+ending_behind met parts.Conditions = if met then endings.ClaimHolds else endings.ClaimEmpty
+ending_behind met parts.Claim = if met then endings.ClaimHolds else endings.ClaimEmpty
+
+-- the row that was found is denied
+pub record IsBlocked (old new : SolverView) : Type 0 where
+  pub sizes : new.sizes ≡ old.sizes
+  pub kernel : (row : List ℕ) → old.standing ≡ Found row → new.kernel ≡ added old.kernel (row_denial old.sizes row) origins.Block
 
 -- What an event says of the session before and after it: it comes behind those that were told, for the same query; and unless it
 -- is the ending, there is more to come.

@@ -1,5 +1,5 @@
 //! A search for the histories of a query, or for a path that goes against its claim.
-ghost use Rattle.std.specs.Prelude.{◌≡◌, ◌≢◌, ℕ, ◌+◌, ◌<◌, ◌≤◌, ◌++◌, [], ◌∷◌, List, length, IfOk, IfErr, IfSome, IsNone, IsSome, OnOk, Some, None};
+ghost use Rattle.std.specs.Prelude.{◌≡◌, ◌≢◌, ℕ, ◌+◌, ◌<◌, ◌≤◌, ◌++◌, [], ◌∷◌, List, length, IfOk, IfErr, IfSome, IsNone, IsSome, OnErr, OnOk, Some, None, true, false};
 ghost use Rattle.std.specs.Option.{option_map};
 ghost use Rattle.cc_arena.specs.GroundViews.{plain_ground_query};
 ghost use Rattle.cc_cdcl.specs.Solvers.{SolverView, Found as IsFound, IsStep, Ready};
@@ -17,12 +17,14 @@ ghost use Rattle.cc_defs.specs.declared.log.LogLine.TheVariants as lines;
 ghost use Rattle.cc_form.specs.Queries.{IsQueryAt};
 ghost use Rattle.cc_kernel.specs.Kernels.{KernelView, clauses_of};
 ghost use Rattle.cc_query.specs.Parts.{axioms_at, is_conditions};
-ghost use Rattle.cc_query.specs.Sessions.{After, Fits, HasFound, Holds, IsReady, IsRightFault, IsSame, IsSessionOf, IsWithin, OpensWithin, RowsAreHistories, SessionView, Tells, first_at, last_at, opening_refusal, with_row};
+ghost use Rattle.cc_query.specs.declared.phase.Phase.{Phase as PhaseSeen};
+ghost use Rattle.cc_query.specs.Sessions.{After, Fits, Gives, HasFound, Holds, IsBlocked, IsReady, IsRightFault, IsSame, IsSessionOf, IsWithin, OpensWithin, RowsAreHistories, SessionView, Tells, ending_behind, first_at, last_at, opening_refusal, opens_at, with_row};
 ghost use Rattle.cc_query.specs.declared.phase.Part.TheVariants as parts;
 ghost use Rattle.cc_query.specs.declared.phase.Phase.TheVariants as phases;
 ghost use Rattle.cc_theory.specs.Theories.{AreLawsFor};
 
 use crate::ask::Ask;
+use crate::laws::search_laws;
 use crate::opening::{denies_claim, form_at, solver_of};
 use crate::phase::{Part, Phase};
 use cc_arena::{GroundQuery, Laws};
@@ -117,6 +119,47 @@ fn key_of(ask: &Ask) -> Option<&Key>
     ask.after.as_ref()
 }
 
+/// Whether just so many histories are asked for.
+fn is_asked(ask: &Ask, listed: u32) -> bool
+    ensures is { result ≡ true → ask.now.count ≡ Some listed }
+    ensures other { result ≡ false → ask.now.count ≢ Some listed }
+{
+    match ask.count {
+        Some(count) => count == listed,
+        None => false,
+    }
+}
+
+/// The heading of a section.
+fn heading(part: Part, horizon: u32) -> Event
+    ensures { result ≡ events.Log (lines.Section (is_conditions part) horizon) }
+{
+    let conditions = match part {
+        Part::Conditions => true,
+        Part::Histories | Part::Claim => false,
+    };
+    Event::Log(LogLine::Section {
+        conditions,
+        horizon,
+    })
+}
+
+/// The ending behind the last horizon.
+fn last_ending(met: bool, part: Part) -> Ending
+    ensures { result ≡ ending_behind met part }
+{
+    match part {
+        Part::Histories => Ending::NoHistory,
+        Part::Conditions | Part::Claim => {
+            if met {
+                Ending::ClaimHolds
+            } else {
+                Ending::ClaimEmpty
+            }
+        }
+    }
+}
+
 /// What the first section of a horizon searches for.
 fn first_part(query: &GroundQuery<'_>) -> Part
     ensures histories { IsNone query.now.claim → result ≡ parts.Histories }
@@ -195,5 +238,283 @@ impl<'a> Session<'a> {
             denies_claim(part),
         )?;
         Ok(solver_of(self.alloc, form)?)
+    }
+
+    // What comes next.
+    fn stand(&mut self, phase: Phase)
+        requires { IsReady self.old.ask self.old.horizon (last_at self.old.query self.old.ask.after) phase }
+        ensures { self.new ≡ record self.old { phase = phase } }
+    {
+        let before = mem::replace(&mut self.phase, phase);
+        drop(before);
+    }
+
+    // The end line of a section.
+    fn close(&mut self, part: Part, word: EndWord, listed: u32) -> Event
+        requires { self.old.horizon ≤ last_at self.old.query self.old.ask.after }
+        ensures closed { self.new ≡ record self.old { phase = phases.Closed part word listed } }
+        ensures event { result ≡ events.Log (lines.End word) }
+    {
+        self.stand(Phase::Closed { part, word, listed });
+        Event::Log(LogLine::End(word))
+    }
+
+    // The heading of the section of a part, with all that its search needs.
+    fn open(&mut self, part: Part) -> Result<Event, Fault>
+        requires { self.old.horizon ≤ last_at self.old.query self.old.ask.after }
+        ensures gives { (phase : PhaseSeen) → opens_at phase ≡ Some part → IfOk result (Gives (record self.old { phase = phase }) self.new) }
+        ensures fault { (phase : PhaseSeen) → opens_at phase ≡ Some part → IfErr result (IsRightFault (record self.old { phase = phase })) }
+    {
+        search_laws();
+        let solver = self.solver(part)?;
+        self.stand(Phase::Searching {
+            part,
+            solver,
+            listed: 0,
+        });
+        Ok(heading(part, self.horizon))
+    }
+
+    // The heading of the next horizon's first section, or the ending behind the last one.
+    fn begin(&mut self, part: Part) -> Result<Event, Fault>
+        requires { self.old.phase ≡ phases.Ended }
+        ensures gives { IfOk result (Gives (record self.old { phase = phases.Opening part }) self.new) }
+        ensures fault { IfErr result (IsRightFault (record self.old { phase = phases.Opening part })) }
+    {
+        search_laws();
+        if self.horizon > last_horizon(&self.query, &self.ask) {
+            Ok(Event::Ended(last_ending(self.met, part)))
+        } else {
+            self.open(part)
+        }
+    }
+
+    // A derived line.
+    fn line(&mut self, part: Part, solver: Solver, listed: u32) -> Result<Event, Fault>
+        requires ready { IsReady self.old.ask self.old.horizon (last_at self.old.query self.old.ask.after) (phases.Searching part solver listed) }
+        requires some { 0 < length solver.kernel.entries }
+        ensures event { (clause : List Literal) → IsNumbered (clauses_of solver.kernel) (length solver.kernel.entries) clause → IfOk result (λ event. event ≡ events.Log (lines.Derived clause solver.kernel.chain)) }
+        ensures stands { OnOk result (self.new ≡ record self.old { phase = phases.Searching part solver listed }) }
+        ensures fault { IfErr result (λ fault. fault ≡ faults.OutOfMemory) }
+    {
+        let event = derived(self.alloc, solver.kernel())?;
+        self.stand(Phase::Searching {
+            part,
+            solver,
+            listed,
+        });
+        Ok(event)
+    }
+
+    // The line of the empty clause.
+    fn empty_line(&mut self, part: Part, solver: Solver, listed: u32) -> Result<Event, Fault>
+        requires low { self.old.horizon ≤ last_at self.old.query self.old.ask.after }
+        requires some { 0 < length solver.kernel.entries }
+        ensures event { (clause : List Literal) → IsNumbered (clauses_of solver.kernel) (length solver.kernel.entries) clause → IfOk result (λ event. event ≡ events.Log (lines.Derived clause solver.kernel.chain)) }
+        ensures stands { OnOk result (self.new ≡ record self.old { phase = phases.Refuted part listed }) }
+        ensures fault { IfErr result (λ fault. fault ≡ faults.OutOfMemory) }
+    {
+        let event = derived(self.alloc, solver.kernel())?;
+        self.stand(Phase::Refuted { part, listed });
+        Ok(event)
+    }
+
+    // The next history. It is not denied yet.
+    fn history(&mut self, solver: Solver, listed: u32, row: Vec<u32>) -> Result<Event, Fault>
+        requires low { self.old.horizon ≤ last_at self.old.query self.old.ask.after }
+        requires found { HasFound solver }
+        requires within { IsWithin self.old.ask solver listed }
+        ensures event { IfOk result (λ event. event ≡ events.History self.old.horizon (listed + 1)) }
+        ensures stands { OnOk result (self.new ≡ record self.old { row = row.items; phase = phases.Denying solver (listed + 1) }) }
+        ensures fault { IfErr result (λ fault. fault ≡ faults.Refused (past limits.Histories)) }
+        ensures many { OnErr result (listed ≡ 100000000) }
+    {
+        if listed == LimitAt::Histories.number() {
+            return Err(too_many());
+        }
+        self.row = row;
+        self.stand(Phase::Denying {
+            solver,
+            listed: listed + 1,
+        });
+        Ok(Event::History {
+            horizon: self.horizon,
+            number: listed + 1,
+        })
+    }
+
+    // The line that denies the history that was told.
+    fn block(&mut self, mut solver: Solver, listed: u32) -> Result<Event, Fault>
+        requires { IsReady self.old.ask self.old.horizon (last_at self.old.query self.old.ask.after) (phases.Denying solver listed) }
+        ensures event { IfOk result (λ event. event ≡ events.Log (lines.Block self.old.row)) }
+        ensures stands { OnOk result ((blocked : SolverView) × IsBlocked solver blocked × (self.new ≡ record self.old { phase = phases.Searching parts.Histories blocked listed })) }
+        ensures fault { IfErr result (λ fault. fault ≡ faults.OutOfMemory) }
+    {
+        let row = Vec::from_slice(self.alloc, &self.row)?;
+        solver.block_row()?;
+        self.stand(Phase::Searching {
+            part: Part::Histories,
+            solver,
+            listed,
+        });
+        Ok(Event::Log(LogLine::Block { row: Row::of(row) }))
+    }
+
+    // Behind a history: it is the last one that was asked for, or it is denied.
+    fn deny(&mut self, solver: Solver, listed: u32) -> Result<Event, Fault>
+        requires { IsReady self.old.ask self.old.horizon (last_at self.old.query self.old.ask.after) (phases.Denying solver listed) }
+        ensures gives { IfOk result (Gives (record self.old { phase = phases.Denying solver listed }) self.new) }
+        ensures fault { IfErr result (λ fault. fault ≡ faults.OutOfMemory) }
+    {
+        search_laws();
+        if is_asked(&self.ask, listed) {
+            Ok(self.close(Part::Histories, EndWord::Found, listed))
+        } else {
+            self.block(solver, listed)
+        }
+    }
+
+    // A path that meets the conditions, or that does not meet the claim either: the end line.
+    fn path(&mut self, part: Part, row: Vec<u32>, listed: u32) -> Event
+        requires { self.old.horizon ≤ last_at self.old.query self.old.ask.after }
+        ensures stands { self.new ≡ record self.old { row = row.items; phase = phases.Closed part words.Found listed } }
+        ensures event { result ≡ events.Log (lines.End words.Found) }
+    {
+        self.row = row;
+        self.close(part, EndWord::Found, listed)
+    }
+
+    // A row that was found.
+    fn found(&mut self, part: Part, solver: Solver, listed: u32) -> Result<Event, Fault>
+        requires low { self.old.horizon ≤ last_at self.old.query self.old.ask.after }
+        requires found { HasFound solver }
+        requires within { IsWithin self.old.ask solver listed }
+        ensures gives { (before : SolverView) → IsStep self.old.ask.budget before solver answers.Found → IfOk result (Gives (record self.old { phase = phases.Searching part before listed }) self.new) }
+        ensures fault { (before : SolverView) → IsStep self.old.ask.budget before solver answers.Found → IfErr result (IsRightFault (record self.old { phase = phases.Searching part before listed })) }
+    {
+        search_laws();
+        let row = Vec::from_slice(self.alloc, solver.row())?;
+        match part {
+            Part::Histories => self.history(solver, listed, row),
+            Part::Conditions | Part::Claim => Ok(self.path(part, row, listed)),
+        }
+    }
+
+    // Nothing more is to be found.
+    fn refuted(&mut self, part: Part, solver: Solver, listed: u32, added: bool) -> Result<Event, Fault>
+        requires low { self.old.horizon ≤ last_at self.old.query self.old.ask.after }
+        requires some { 0 < length solver.kernel.entries }
+        ensures line { added ≡ true → (clause : List Literal) → IsNumbered (clauses_of solver.kernel) (length solver.kernel.entries) clause → IfOk result (λ event. event ≡ events.Log (lines.Derived clause solver.kernel.chain)) }
+        ensures goes_on { added ≡ true → OnOk result (self.new ≡ record self.old { phase = phases.Refuted part listed }) }
+        ensures end_line { added ≡ false → IfOk result (λ event. event ≡ events.Log (lines.End words.Empty)) }
+        ensures ends { added ≡ false → OnOk result (self.new ≡ record self.old { phase = phases.Closed part words.Empty listed }) }
+        ensures fault { IfErr result (λ fault. fault ≡ faults.OutOfMemory) }
+    {
+        if added {
+            self.empty_line(part, solver, listed)
+        } else {
+            Ok(self.close(part, EndWord::Empty, listed))
+        }
+    }
+
+    // The next line of a section, or its next history.
+    fn search(&mut self, part: Part, mut solver: Solver, listed: u32) -> Result<Event, Fault>
+        requires { IsReady self.old.ask self.old.horizon (last_at self.old.query self.old.ask.after) (phases.Searching part solver listed) }
+        ensures gives { IfOk result (Gives (record self.old { phase = phases.Searching part solver listed }) self.new) }
+        ensures fault { IfErr result (IsRightFault (record self.old { phase = phases.Searching part solver listed })) }
+    {
+        search_laws();
+        let count = solver.kernel().count();
+        match solver.next(self.ask.budget)? {
+            Step::Line => self.line(part, solver, listed),
+            Step::Found => self.found(part, solver, listed),
+            Step::Refuted => {
+                let added = solver.kernel().count() > count;
+                self.refuted(part, solver, listed, added)
+            }
+            Step::Spent => Ok(self.close(part, EndWord::Spent, listed)),
+        }
+    }
+
+    // The next horizon, whose first section is of this part.
+    fn pass(&mut self, part: Part, met: bool)
+        requires { self.old.horizon ≤ last_at self.old.query self.old.ask.after }
+        ensures { self.new ≡ record self.old { horizon = self.old.horizon + 1; met = met; phase = phases.Opening part } }
+    {
+        self.stand(Phase::Opening { part });
+        self.horizon += 1;
+        self.met = met;
+    }
+
+    // What is said of a horizon whose listing is complete.
+    fn complete(&mut self, listed: u32) -> Event
+        requires low { self.old.horizon ≤ last_at self.old.query self.old.ask.after }
+        requires over { self.old.phase ≡ phases.Ended }
+        ensures { Gives (record self.old { phase = phases.Closed parts.Histories words.Empty listed }) self.new result }
+    {
+        search_laws();
+        let horizon = self.horizon;
+        if listed == 0 && key_of(&self.ask).is_none() {
+            self.pass(Part::Histories, self.met);
+            Event::NoHistory { horizon }
+        } else {
+            Event::Ended(Ending::Complete { horizon, listed })
+        }
+    }
+
+    // What is said of a horizon that has no path to be found.
+    fn exhaust(&mut self, part: Part, listed: u32) -> Event
+        requires low { self.old.horizon ≤ last_at self.old.query self.old.ask.after }
+        requires over { self.old.phase ≡ phases.Ended }
+        ensures { Gives (record self.old { phase = phases.Closed part words.Empty listed }) self.new result }
+    {
+        search_laws();
+        let horizon = self.horizon;
+        match part {
+            Part::Histories => self.complete(listed),
+            Part::Conditions => {
+                self.pass(Part::Conditions, self.met);
+                Event::NoConditions { horizon }
+            }
+            Part::Claim => {
+                self.pass(Part::Conditions, true);
+                Event::Holds { horizon }
+            }
+        }
+    }
+
+    // What comes behind an end line that says that a row was found.
+    fn stop(&mut self, part: Part, listed: u32) -> Result<Event, Fault>
+        requires low { self.old.horizon ≤ last_at self.old.query self.old.ask.after }
+        requires over { self.old.phase ≡ phases.Ended }
+        ensures gives { IfOk result (Gives (record self.old { phase = phases.Closed part words.Found listed }) self.new) }
+        ensures fault { IfErr result (IsRightFault (record self.old { phase = phases.Closed part words.Found listed })) }
+    {
+        search_laws();
+        let horizon = self.horizon;
+        match part {
+            Part::Histories => Ok(Event::Ended(Ending::Asked { horizon, listed })),
+            Part::Conditions => self.open(Part::Claim),
+            Part::Claim => {
+                self.stand(Phase::Failing);
+                Ok(Event::Counterexample { horizon })
+            }
+        }
+    }
+
+    // What comes behind an end line.
+    fn conclude(&mut self, part: Part, word: EndWord, listed: u32) -> Result<Event, Fault>
+        requires low { self.old.horizon ≤ last_at self.old.query self.old.ask.after }
+        requires over { self.old.phase ≡ phases.Ended }
+        ensures gives { IfOk result (Gives (record self.old { phase = phases.Closed part word listed }) self.new) }
+        ensures fault { IfErr result (IsRightFault (record self.old { phase = phases.Closed part word listed })) }
+    {
+        search_laws();
+        let horizon = self.horizon;
+        match word {
+            EndWord::Empty => Ok(self.exhaust(part, listed)),
+            EndWord::Found => self.stop(part, listed),
+            EndWord::Spent => Ok(Event::Ended(Ending::Spent { horizon, listed })),
+        }
     }
 }
