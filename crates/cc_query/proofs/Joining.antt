@@ -1,8 +1,10 @@
 -- What the calls of a session join to.
-use Rattle.std.proofs.Common.{◌≡◌, ◌≢◌, ◌∙◌, ℕ, ◌+◌, ◌<◌, ◌≤◌, ◌⊎◌, inl, inr, true, false, Bool, List, [], Option, Some, None, Result, Ok, Err, refl, sym, subst, ap, ap₂, arith}
-use Rattle.std.specs.Prelude.{IfOk, IfErr, OnOk, IsSome, Contains}
+use Rattle.std.proofs.Common.{◌≡◌, ◌≢◌, ◌∙◌, ℕ, ◌+◌, ◌<◌, ◌≤◌, ◌⊎◌, inl, inr, true, false, Bool, List, [], ◌∷◌, length, map, Option, Some, None, Result, Ok, Err, refl, sym, subst, ap, ap₂, arith}
+use Rattle.std.specs.Prelude.{IfOk, IfErr, OnErr, OnOk, IsSome, Contains}
 use Rattle.std.specs.Result.{IsErrAnd}
-use Rattle.cc_cdcl.specs.Solvers.{SolverView, Standing, Found, Ready, AddsDerived}
+use Rattle.std.proofs.lemmas.List.{length_push}
+use Rattle.cc_cdcl.specs.Solvers.{SolverView, Standing, Found, Ready, AddsDerived, IsStep}
+use Rattle.cc_cdcl.specs.declared.solver.Step.TheVariants as answers
 use Rattle.cc_clauses.specs.RowsOf.{IsLeastRowOf}
 use Rattle.cc_defs.specs.declared.event.Ending.{Ending}
 use Rattle.cc_defs.specs.declared.event.Event.{Event}
@@ -12,13 +14,14 @@ use Rattle.cc_defs.specs.declared.log.LogLine.TheVariants as lines
 use Rattle.cc_defs.specs.declared.refusal.Fault.{Fault}
 use Rattle.cc_defs.specs.declared.refusal.Fault.TheVariants as faults
 use Rattle.cc_defs.specs.declared.refusal.LimitAt.TheVariants as limits
+use Rattle.cc_defs.specs.Clauses.{Literal, IsNumbered}
 use Rattle.cc_defs.specs.Description.{Description}
 use Rattle.cc_defs.specs.Refusals.{IsRefusedBy, past}
 use Rattle.cc_defs.specs.Resolved.{Query}
 use Rattle.cc_defs.specs.Runs.{Ask}
-use Rattle.cc_defs.specs.Sections.{row_denial}
+use Rattle.cc_defs.specs.Sections.{HasNoEmpty, row_denial}
 use Rattle.cc_kernel.specs.declared.kernel.Origin.TheVariants as origins
-use Rattle.cc_kernel.specs.Kernels.{KernelView, added, clauses_of, derived_count}
+use Rattle.cc_kernel.specs.Kernels.{Entry, KernelView, added, clauses_of, derived_count, first_empty, number_if_empty}
 use Rattle.cc_query.specs.declared.phase.Part.{Part}
 use Rattle.cc_query.specs.declared.phase.Part.TheVariants as parts
 use Rattle.cc_query.specs.declared.phase.Phase.{Phase}
@@ -26,10 +29,11 @@ use Rattle.cc_query.specs.declared.phase.Phase.TheVariants as phases
 use Rattle.cc_query.specs.Laws.{SearchLaws}
 use Rattle.cc_query.specs.Parts.{axioms_at, is_conditions}
 use Rattle.cc_query.specs.Sessions.{SessionView, Gives, HasFound, Holds, IsAskable, IsBlocked, IsRightFault, IsSession, IsSessionOf, IsWithin, RowsAreHistories, ending_behind, last_at, opening_refusal, opens_at}
-use Rattle.cc_query.proofs.Giving.{asks_for, gives_asked, gives_block, gives_heading, gives_history, gives_last}
+use Rattle.cc_query.proofs.Giving.{asks_for, gives_asked, gives_block, gives_empty_line, gives_found, gives_heading, gives_history, gives_last, gives_line}
 use Rattle.cc_query.proofs.Going.{history_too_many}
 use Rattle.cc_query.proofs.Refusing.{handed_on}
-use Rattle.cc_query.proofs.Within.{block_within}
+use Rattle.cc_query.proofs.Within.{block_within, last_numbered, line_within}
+use Rattle.cc_query.proofs.Steps.{in_cases, in_first, in_none, in_rest}
 
 pub gives_at : (s new expected : SessionView) (event given : Event) → new ≡ expected → event ≡ given → Gives s expected given → Gives s new event
 gives_at s new expected event given new_is event_is gives =
@@ -90,3 +94,127 @@ begin_last laws v now part last ending same is over last_is past ending_is =
     (ap (λ (e : Ending). events.Ended e) ending_is ∙ ap (λ (s : SessionView). events.Ended (ending_behind s.met part)) same)
     (gives_last laws (record now { phase = phases.Opening part }) (askable_of v now same is) part refl
     (subst (λ (s : SessionView). last_at s.query s.ask.after < s.horizon) same past_it))
+
+-- ---- searching
+
+pub memory_fault : {T : Type 0} (r : Result T Fault) (s : SessionView) → IfErr r (λ fault. fault ≡ faults.OutOfMemory) → IfErr r (IsRightFault s)
+memory_fault (Ok value) s is = tt
+memory_fault (Err fault) s is = subst (λ (f : Fault). IsRightFault s f) (sym is) tt
+
+pub line_gives : (laws : SearchLaws) (r : Result Event Fault) (now new : SessionView) (old solver : SolverView) (part : Part) (listed : ℕ) →
+    IsAskable now.signature now.laws now.query now.ask → IsStep now.ask.budget old solver answers.Line →
+    ((clause : List Literal) → IsNumbered (clauses_of solver.kernel) (length solver.kernel.entries) clause → IfOk r (λ event. event ≡ events.Log (lines.Derived clause solver.kernel.chain))) →
+    OnOk r (new ≡ record now { phase = phases.Searching part solver listed }) → IfOk r (Gives (record now { phase = phases.Searching part old listed }) new)
+line_gives laws (Err fault) now new old solver part listed askable step event stands = tt
+line_gives laws (Ok given) now new old solver part listed askable (clause, some, adds, earned, most, sizes, ready) event stands =
+    gives_at (record now { phase = phases.Searching part old listed }) new (record now { phase = phases.Searching part solver listed }) given
+    (events.Log (lines.Derived clause solver.kernel.chain)) stands (event clause (last_numbered old.kernel solver.kernel clause adds))
+    (gives_line laws (record now { phase = phases.Searching part old listed }) askable part old solver listed refl clause adds earned most sizes)
+
+-- the empty clause was derived, where there was none
+added_empty : (old solver : SolverView) → HasNoEmpty (clauses_of old.kernel) → Contains (clauses_of solver.kernel) [] →
+    (solver.kernel ≡ old.kernel) ⊎ AddsDerived old.kernel solver.kernel [] → AddsDerived old.kernel solver.kernel []
+added_empty old solver none there (inl same) = absurd (none (subst (λ (k : KernelView). Contains (clauses_of k) []) same there))
+added_empty old solver none there (inr adds) = adds
+
+pub refuted_some : (budget : ℕ) (old solver : SolverView) → IsStep budget old solver answers.Refuted → 0 < length solver.kernel.entries
+refuted_some budget old solver (sizes, standing, there, added) = some_of solver.kernel.entries there
+  where
+    some_of : (entries : List Entry) → Contains (map (λ (e : Entry). e.clause) entries) [] → 0 < length entries
+    some_of [] (k, low, is) = absurd (omega arith)
+    some_of (entry ∷ entries) there = omega arith
+
+pub empty_gives : (laws : SearchLaws) (r : Result Event Fault) (now new : SessionView) (old solver : SolverView) (part : Part) (listed : ℕ) →
+    IsAskable now.signature now.laws now.query now.ask → HasNoEmpty (clauses_of old.kernel) → IsStep now.ask.budget old solver answers.Refuted →
+    ((clause : List Literal) → IsNumbered (clauses_of solver.kernel) (length solver.kernel.entries) clause → IfOk r (λ event. event ≡ events.Log (lines.Derived clause solver.kernel.chain))) →
+    OnOk r (new ≡ record now { phase = phases.Refuted part listed }) → IfOk r (Gives (record now { phase = phases.Searching part old listed }) new)
+empty_gives laws (Err fault) now new old solver part listed askable none step event stands = tt
+empty_gives laws (Ok given) now new old solver part listed askable none (sizes, standing, there, added) event stands =
+    let adds = added_empty old solver none there added in
+    gives_at (record now { phase = phases.Searching part old listed }) new (record now { phase = phases.Refuted part listed }) given
+    (events.Log (lines.Derived [] solver.kernel.chain)) stands (event [] (last_numbered old.kernel solver.kernel [] adds))
+    (gives_empty_line laws (record now { phase = phases.Searching part old listed }) askable part old solver listed refl adds none)
+
+pub line_ready : (ask : Ask) (old solver : SolverView) (listed : ℕ) → IsStep ask.budget old solver answers.Line → IsWithin ask old listed →
+    (solver.standing ≡ Ready) × IsWithin ask solver listed × (0 < length solver.kernel.entries)
+line_ready ask old solver listed (clause, some, adds, earned, most, sizes, ready) within = (
+  ready,
+  line_within ask old solver listed clause within adds most,
+  let long : length solver.kernel.entries ≡ length old.kernel.entries + 1 =
+      ap (λ (l : List Entry). length l) adds.entries ∙ length_push old.kernel.entries (record { clause = clause; origin = origins.Derived }) in omega arith,
+)
+
+pub found_ready : (ask : Ask) (old solver : SolverView) (listed : ℕ) → IsStep ask.budget old solver answers.Found → IsWithin ask old listed → HasFound solver × IsWithin ask solver listed
+found_ready ask old solver listed (row, least, is) within = (
+  (row, ap (λ (v : SolverView). v.standing) is),
+  subst (λ (v : SolverView). IsWithin ask v listed) (sym is) (record { derived = within.derived; few = within.few; denied_few = within.denied_few }),
+)
+
+-- ---- rows that were found
+
+row_is : (budget : ℕ) (old solver : SolverView) (items : List ℕ) → (step : IsStep budget old solver answers.Found) → solver.standing ≡ Found items → step.0 ≡ items
+row_is budget old solver items (row, least, is) standing = let there : solver.standing ≡ Found row = ap (λ (v : SolverView). v.standing) is in cc
+
+least_there : (budget : ℕ) (old solver : SolverView) (items : List ℕ) → (step : IsStep budget old solver answers.Found) → solver.standing ≡ Found items →
+    IsLeastRowOf old.sizes (clauses_of old.kernel) items × (solver ≡ record old { standing = Found items })
+least_there budget old solver items step standing =
+    subst (λ (row : List ℕ). IsLeastRowOf old.sizes (clauses_of old.kernel) row × (solver ≡ record old { standing = Found row }))
+    (row_is budget old solver items step standing) (step.1, step.2)
+
+pub history_gives : (laws : SearchLaws) (r : Result Event Fault) (now new : SessionView) (old solver : SolverView) (listed : ℕ) (items : List ℕ) →
+    IsAskable now.signature now.laws now.query now.ask → IsStep now.ask.budget old solver answers.Found → solver.standing ≡ Found items →
+    IfOk r (λ event. event ≡ events.History now.horizon (listed + 1)) →
+    OnOk r (new ≡ record now { row = items; phase = phases.Denying solver (listed + 1) }) → IfOk r (Gives (record now { phase = phases.Searching parts.Histories old listed }) new)
+history_gives laws (Err fault) now new old solver listed items askable step standing event stands = tt
+history_gives laws (Ok given) now new old solver listed items askable step standing event stands =
+    let there = least_there now.ask.budget old solver items step standing in
+    gives_at (record now { phase = phases.Searching parts.Histories old listed }) new (record now { row = items; phase = phases.Denying solver (listed + 1) }) given
+    (events.History now.horizon (listed + 1)) stands event
+    (gives_history laws (record now { phase = phases.Searching parts.Histories old listed }) askable old solver listed refl items there.0 there.1)
+
+pub history_fault : (laws : SearchLaws) (r : Result Event Fault) (now : SessionView) (old solver : SolverView) (listed : ℕ) (items : List ℕ) →
+    IsAskable now.signature now.laws now.query now.ask → IsStep now.ask.budget old solver answers.Found → solver.standing ≡ Found items →
+    IfErr r (λ fault. fault ≡ faults.Refused (past limits.Histories)) → OnErr r (listed ≡ 100000000) →
+    IfErr r (IsRightFault (record now { phase = phases.Searching parts.Histories old listed }))
+history_fault laws (Ok value) now old solver listed items askable step standing fault many = tt
+history_fault laws (Err given) now old solver listed items askable step standing fault many =
+    let there = least_there now.ask.budget old solver items step standing in
+    subst (λ (f : Fault). IsRightFault (record now { phase = phases.Searching parts.Histories old listed }) f) (sym fault)
+    (λ d q told of after. inr (refl, history_too_many laws d q (record now { phase = phases.Searching parts.Histories old listed })
+    (asks_for (record now { phase = phases.Searching parts.Histories old listed }) d q askable of) told old listed refl after items there.0 many))
+
+pub path_gives : (laws : SearchLaws) (now new : SessionView) (event : Event) (old solver : SolverView) (part : Part) (listed : ℕ) (items : List ℕ) →
+    IsAskable now.signature now.laws now.query now.ask → part ≢ parts.Histories → IsStep now.ask.budget old solver answers.Found → solver.standing ≡ Found items →
+    event ≡ events.Log (lines.End words.Found) → new ≡ record now { row = items; phase = phases.Closed part words.Found listed } →
+    Gives (record now { phase = phases.Searching part old listed }) new event
+path_gives laws now new event old solver part listed items askable other step standing event_is stands =
+    let there = least_there now.ask.budget old solver items step standing in
+    gives_at (record now { phase = phases.Searching part old listed }) new (record now { row = items; phase = phases.Closed part words.Found listed }) event
+    (events.Log (lines.End words.Found)) stands event_is
+    (gives_found laws (record now { phase = phases.Searching part old listed }) askable part old listed other refl items there.0)
+
+-- ---- the empty clause, by its number
+
+one_first : (clause : List Literal) (number : ℕ) (later : Option ℕ) → number_if_empty clause number later ≡ None → (clause ≢ []) × (later ≡ None)
+one_first [] number later is = absurd cc
+one_first (literal ∷ literals) number later is = ((λ same. absurd cc), is)
+
+pub none_first : (number : ℕ) (entries : List Entry) → first_empty number entries ≡ None → HasNoEmpty (map (λ (e : Entry). e.clause) entries)
+none_first number [] is there = in_none [] there
+none_first number (entry ∷ entries) is there =
+    let one = one_first entry.clause number (first_empty (number + 1) entries) is in
+    elim (in_cases entry.clause [] (map (λ (e : Entry). e.clause) entries) there) [
+      | inl same ↦ one.0 same
+      | inr rest ↦ none_first (number + 1) entries one.1 rest
+    ]
+
+one_some : (clause : List Literal) (number : ℕ) (later : Option ℕ) → IsSome (number_if_empty clause number later) → (clause ≡ []) ⊎ IsSome later
+one_some [] number later is = inl refl
+one_some (literal ∷ literals) number later is = inr is
+
+pub some_first : (number : ℕ) (entries : List Entry) → IsSome (first_empty number entries) → Contains (map (λ (e : Entry). e.clause) entries) []
+some_first number [] is = absurd cc
+some_first number (entry ∷ entries) is = elim (one_some entry.clause number (first_empty (number + 1) entries) is) [
+  | inl same ↦ subst (λ (c : List Literal). Contains (c ∷ map (λ (e : Entry). e.clause) entries) []) (sym same) (in_first [] (map (λ (e : Entry). e.clause) entries))
+  | inr rest ↦ in_rest entry.clause [] (map (λ (e : Entry). e.clause) entries) (some_first (number + 1) entries rest)
+]

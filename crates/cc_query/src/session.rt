@@ -1,5 +1,5 @@
 //! A search for the histories of a query, or for a path that goes against its claim.
-ghost use Rattle.std.specs.Prelude.{◌≡◌, ◌≢◌, ℕ, ◌+◌, ◌<◌, ◌≤◌, ◌++◌, [], ◌∷◌, List, length, IfOk, IfErr, IfSome, IsNone, IsSome, OnErr, OnOk, Some, None, true, false};
+ghost use Rattle.std.specs.Prelude.{◌≡◌, ◌≢◌, ◌⊎◌, Contains, ℕ, ◌+◌, ◌<◌, ◌≤◌, ◌++◌, [], ◌∷◌, List, length, IfOk, IfErr, IfSome, IsNone, IsSome, OnErr, OnOk, Some, None, true, false};
 ghost use Rattle.std.specs.Option.{option_map};
 ghost use Rattle.cc_arena.specs.GroundViews.{plain_ground_query};
 ghost use Rattle.cc_cdcl.specs.Solvers.{SolverView, Found as IsFound, IsStep, Ready};
@@ -17,6 +17,8 @@ ghost use Rattle.cc_defs.specs.declared.log.LogLine.TheVariants as lines;
 ghost use Rattle.cc_form.specs.Queries.{IsQueryAt};
 ghost use Rattle.cc_kernel.specs.Kernels.{KernelView, clauses_of};
 ghost use Rattle.cc_query.specs.Parts.{axioms_at, is_conditions};
+ghost use Rattle.cc_defs.specs.declared.event.Ending.{Ending as EndingSeen};
+ghost use Rattle.cc_defs.specs.Sections.{HasNoEmpty};
 ghost use Rattle.cc_query.specs.declared.phase.Phase.{Phase as PhaseSeen};
 ghost use Rattle.cc_query.specs.Sessions.{After, Fits, Gives, HasFound, Holds, IsBlocked, IsReady, IsRightFault, IsSame, IsSessionOf, IsWithin, OpensWithin, RowsAreHistories, SessionView, Tells, ending_behind, first_at, last_at, opening_refusal, opens_at, with_row};
 ghost use Rattle.cc_query.specs.declared.phase.Part.TheVariants as parts;
@@ -128,6 +130,26 @@ fn is_asked(ask: &Ask, listed: u32) -> bool
         Some(count) => count == listed,
         None => false,
     }
+}
+
+/// Whether no history was told at a horizon, and none lies before a key.
+fn has_none(ask: &Ask, listed: u32) -> bool
+    ensures none { result ≡ true → listed ≡ 0 }
+    ensures no_key { result ≡ true → ask.now.after ≡ None }
+    ensures some { result ≡ false → (0 < listed) ⊎ IsSome ask.now.after }
+{
+    match &ask.after {
+        Some(_) => false,
+        None => listed == 0,
+    }
+}
+
+/// Whether one of the clauses is empty.
+fn is_refuted(solver: &Solver) -> bool
+    ensures some { result ≡ true → Contains (clauses_of solver.now.kernel) [] }
+    ensures none { result ≡ false → HasNoEmpty (clauses_of solver.now.kernel) }
+{
+    solver.kernel().refuted().is_some()
 }
 
 /// The heading of a section.
@@ -400,38 +422,32 @@ impl<'a> Session<'a> {
         }
     }
 
-    // Nothing more is to be found.
-    fn refuted(&mut self, part: Part, solver: Solver, listed: u32, added: bool) -> Result<Event, Fault>
-        requires low { self.old.horizon ≤ last_at self.old.query self.old.ask.after }
-        requires some { 0 < length solver.kernel.entries }
-        ensures line { added ≡ true → (clause : List Literal) → IsNumbered (clauses_of solver.kernel) (length solver.kernel.entries) clause → IfOk result (λ event. event ≡ events.Log (lines.Derived clause solver.kernel.chain)) }
-        ensures goes_on { added ≡ true → OnOk result (self.new ≡ record self.old { phase = phases.Refuted part listed }) }
-        ensures end_line { added ≡ false → IfOk result (λ event. event ≡ events.Log (lines.End words.Empty)) }
-        ensures ends { added ≡ false → OnOk result (self.new ≡ record self.old { phase = phases.Closed part words.Empty listed }) }
-        ensures fault { IfErr result (λ fault. fault ≡ faults.OutOfMemory) }
-    {
-        if added {
-            self.empty_line(part, solver, listed)
-        } else {
-            Ok(self.close(part, EndWord::Empty, listed))
-        }
-    }
-
     // The next line of a section, or its next history.
-    fn search(&mut self, part: Part, mut solver: Solver, listed: u32) -> Result<Event, Fault>
+    fn search(&mut self, part: Part, solver: Solver, listed: u32) -> Result<Event, Fault>
         requires { IsReady self.old.ask self.old.horizon (last_at self.old.query self.old.ask.after) (phases.Searching part solver listed) }
         ensures gives { IfOk result (Gives (record self.old { phase = phases.Searching part solver listed }) self.new) }
         ensures fault { IfErr result (IsRightFault (record self.old { phase = phases.Searching part solver listed })) }
     {
         search_laws();
-        let count = solver.kernel().count();
+        if is_refuted(&solver) {
+            Ok(self.close(part, EndWord::Empty, listed))
+        } else {
+            self.search_on(part, solver, listed)
+        }
+    }
+
+    // The same where no clause is empty.
+    fn search_on(&mut self, part: Part, mut solver: Solver, listed: u32) -> Result<Event, Fault>
+        requires ready { IsReady self.old.ask self.old.horizon (last_at self.old.query self.old.ask.after) (phases.Searching part solver listed) }
+        requires none { HasNoEmpty (clauses_of solver.kernel) }
+        ensures gives { IfOk result (Gives (record self.old { phase = phases.Searching part solver listed }) self.new) }
+        ensures fault { IfErr result (IsRightFault (record self.old { phase = phases.Searching part solver listed })) }
+    {
+        search_laws();
         match solver.next(self.ask.budget)? {
             Step::Line => self.line(part, solver, listed),
             Step::Found => self.found(part, solver, listed),
-            Step::Refuted => {
-                let added = solver.kernel().count() > count;
-                self.refuted(part, solver, listed, added)
-            }
+            Step::Refuted => self.empty_line(part, solver, listed),
             Step::Spent => Ok(self.close(part, EndWord::Spent, listed)),
         }
     }
@@ -454,7 +470,7 @@ impl<'a> Session<'a> {
     {
         search_laws();
         let horizon = self.horizon;
-        if listed == 0 && key_of(&self.ask).is_none() {
+        if has_none(&self.ask, listed) {
             self.pass(Part::Histories, self.met);
             Event::NoHistory { horizon }
         } else {
@@ -516,5 +532,50 @@ impl<'a> Session<'a> {
             EndWord::Found => self.stop(part, listed),
             EndWord::Spent => Ok(Event::Ended(Ending::Spent { horizon, listed })),
         }
+    }
+
+    // What was to come next.
+    fn take(&mut self) -> Phase
+        ensures taken { result ≡ self.old.phase }
+        ensures left { self.new ≡ record self.old { phase = phases.Ended } }
+        ensures ready { IsReady self.old.ask self.old.horizon (last_at self.old.query self.old.ask.after) result }
+    {
+        mem::replace(&mut self.phase, Phase::Ended)
+    }
+
+    // The next event.
+    fn step(&mut self) -> Result<Event, Fault>
+        requires { self.old.phase ≢ phases.Ended }
+        ensures gives { IfOk result (Gives self.old self.new) }
+        ensures fault { IfErr result (IsRightFault self.old) }
+    {
+        search_laws();
+        match self.take() {
+            Phase::Opening { part } => self.begin(part),
+            Phase::Searching {
+                part,
+                solver,
+                listed,
+            } => self.search(part, solver, listed),
+            Phase::Denying { solver, listed } => self.deny(solver, listed),
+            Phase::Refuted { part, listed } => Ok(self.close(part, EndWord::Empty, listed)),
+            Phase::Closed { part, word, listed } => self.conclude(part, word, listed),
+            Phase::Failing => Ok(Event::Ended(Ending::ClaimFails)),
+            Phase::Ended => unreachable!(),
+        }
+    }
+
+    /// The next event. Where it is a history or a counterexample, `row` has its row. Refuses the first limit that the rules or
+    /// clauses of a section pass when it opens (14, rules, variables, axiom clauses or axiom literals), and a history past the
+    /// 100,000,000 that may be told at a horizon (14, histories). After an error, as after the ending, nothing more is told.
+    pub fn next(&mut self) -> Result<Event, Fault>
+        requires { self.old.phase ≢ phases.Ended }
+        ensures event { (d : Description) (q : Query) (given : List Told) → IsSessionOf self.old d q → After d q self.old given → IfOk result (λ event. After d q self.new (given ++ with_row event self.new.row ∷ []) × IsSessionOf self.new d q) }
+        ensures refused { IfErr result (IsRightFault self.old) }
+        ensures opened { IfOk result (OpensWithin self.old) }
+        ensures same { OnOk result (IsSame self.old self.new) }
+        ensures more { IfOk result (λ event. ((ending : EndingSeen) → event ≢ events.Ended ending) → self.new.phase ≢ phases.Ended) }
+    {
+        self.step()
     }
 }

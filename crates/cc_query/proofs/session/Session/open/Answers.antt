@@ -3,7 +3,7 @@ use Rattle.cc_defs.specs.declared.event.Event.TheVariants as events
 use Rattle.cc_defs.specs.declared.log.LogLine.TheVariants as lines
 use Rattle.cc_query.specs.declared.phase.Phase.TheVariants as phases
 use Rattle.cc_query.specs.Parts.{is_conditions}
-use Rattle.cc_query.specs.Sessions.{SessionView}
+use Rattle.cc_query.specs.Sessions.{SessionView, IsSessionOf}
 use Rattle.cc_query.proofs.Giving.{gives_heading}
 use Rattle.cc_query.proofs.Joining.{askable_of, gives_at, opening_fault}
 use Rattle.cc_query.proofs.session.Session.open.Goals as goal
@@ -15,4 +15,13 @@ returns-in_err-solver-clause-fault c = λ phase opens.
 
 pub returns-clause-gives : goal.returns-clause-gives
 returns-clause-gives c = λ phase opens.
-    let x = c.stand in let y = c.heading.ensures in let z = c.in_ok-solver in let w = c.self in ?
+    let same = c.self.view_is ∙ c.stand.ensures in
+    gives_at (record c.args.self.now { phase = phase }) c.stand.new.self (record c.args.self.now { phase = phases.Searching c.args.part c.in_ok-solver.solver 0 })
+    c.heading.result (events.Log (lines.Section (is_conditions c.args.part) c.args.self.now.horizon)) c.stand.ensures
+    (c.heading.ensures ∙ ap (λ (v : SessionView). events.Log (lines.Section (is_conditions c.args.part) v.horizon)) same)
+    (gives_heading c.search_laws.ensures (record c.args.self.now { phase = phase })
+    (askable_of _ (record c.args.self.now { phase = phases.Searching c.args.part c.in_ok-solver.solver 0 }) same c.self.invariant)
+    c.args.part c.in_ok-solver.solver opens c.requires
+    (λ d q of.
+        let there : IsSessionOf c.args.self.now d q = record { laws = of.laws; query = of.query } in
+        (c.in_ok-solver.ensures.made d q there, c.in_ok-solver.ensures.rows d q there, c.in_ok-solver.ensures.within d q there)))
