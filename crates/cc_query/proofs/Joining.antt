@@ -1,12 +1,20 @@
 -- What the calls of a session join to.
-use Rattle.std.proofs.Common.{◌≡◌, ◌≢◌, ◌∙◌, ℕ, ◌+◌, ◌<◌, ◌≤◌, ◌⊎◌, inl, inr, true, false, Bool, List, [], ◌∷◌, length, map, Option, Some, None, Result, Ok, Err, refl, sym, subst, ap, ap₂, arith}
+use Rattle.std.proofs.Common.{◌≡◌, ◌≢◌, ◌∙◌, ℕ, ◌+◌, ◌<◌, ◌≤◌, ◌⊎◌, inl, inr, true, false, Bool, List, [], ◌∷◌, ◌++◌, length, map, Option, Some, None, Result, Ok, Err, refl, sym, subst, ap, ap₂, arith}
 use Rattle.std.specs.Prelude.{IfOk, IfErr, OnErr, OnOk, IsSome, Contains}
 use Rattle.std.specs.Result.{IsErrAnd}
 use Rattle.std.proofs.lemmas.List.{length_push}
 use Rattle.cc_cdcl.specs.Solvers.{SolverView, Standing, Found, Ready, AddsDerived, IsStep}
+use Rattle.cc_cdcl.specs.declared.solver.Step.{Step}
 use Rattle.cc_cdcl.specs.declared.solver.Step.TheVariants as answers
 use Rattle.cc_clauses.specs.RowsOf.{IsLeastRowOf}
+use Rattle.cc_arena.specs.declared.ground_laws.GroundLaw.{GroundLaw}
 use Rattle.cc_defs.specs.declared.event.Ending.{Ending}
+use Rattle.cc_defs.specs.declared.event.Ending.TheVariants as endings
+use Rattle.cc_defs.specs.declared.event.Told.{Told}
+use Rattle.cc_defs.specs.declared.log.EndWord.{EndWord}
+use Rattle.cc_defs.specs.GroundLaws.{PlainGroundQuery, StandsForQuery}
+use Rattle.cc_defs.specs.Signatures.{Signature}
+use Rattle.cc_theory.specs.Theories.{AreLawsOf}
 use Rattle.cc_defs.specs.declared.event.Event.{Event}
 use Rattle.cc_defs.specs.declared.event.Event.TheVariants as events
 use Rattle.cc_defs.specs.declared.log.EndWord.TheVariants as words
@@ -28,8 +36,8 @@ use Rattle.cc_query.specs.declared.phase.Phase.{Phase}
 use Rattle.cc_query.specs.declared.phase.Phase.TheVariants as phases
 use Rattle.cc_query.specs.Laws.{SearchLaws}
 use Rattle.cc_query.specs.Parts.{axioms_at, is_conditions}
-use Rattle.cc_query.specs.Sessions.{SessionView, Gives, HasFound, Holds, IsAskable, IsBlocked, IsRightFault, IsSession, IsSessionOf, IsWithin, RowsAreHistories, ending_behind, last_at, opening_refusal, opens_at}
-use Rattle.cc_query.proofs.Giving.{asks_for, gives_asked, gives_block, gives_empty_line, gives_found, gives_heading, gives_history, gives_last, gives_line}
+use Rattle.cc_query.specs.Sessions.{SessionView, After, Gives, HasFound, Holds, IsAskable, IsBlocked, IsRightFault, IsSession, IsSessionOf, IsWithin, RowsAreHistories, ending_behind, last_at, opening_refusal, opens_at, with_row}
+use Rattle.cc_query.proofs.Giving.{asks_for, gives_asked, gives_all_asked, gives_block, gives_budget, gives_complete, gives_counterexample, gives_empty, gives_empty_line, gives_failing, gives_found, gives_heading, gives_history, gives_holds, gives_last, gives_line, gives_no_conditions, gives_no_history, gives_refuted, gives_spent}
 use Rattle.cc_query.proofs.Going.{history_too_many}
 use Rattle.cc_query.proofs.Refusing.{handed_on}
 use Rattle.cc_query.proofs.Within.{block_within, last_numbered, line_within}
@@ -218,3 +226,127 @@ some_first number (entry ∷ entries) is = elim (one_some entry.clause number (f
   | inl same ↦ subst (λ (c : List Literal). Contains (c ∷ map (λ (e : Entry). e.clause) entries) []) (sym same) (in_first [] (map (λ (e : Entry). e.clause) entries))
   | inr rest ↦ in_rest entry.clause [] (map (λ (e : Entry). e.clause) entries) (some_first (number + 1) entries rest)
 ]
+
+-- ---- behind end lines
+
+pub complete_none : (laws : SearchLaws) (v now new : SessionView) (listed : ℕ) → v ≡ now → IsSession v → listed ≡ 0 → v.ask.after ≡ None →
+    new ≡ record now { horizon = now.horizon + 1; met = v.met; phase = phases.Opening parts.Histories } →
+    Gives (record now { phase = phases.Closed parts.Histories words.Empty listed }) new (events.NoHistory v.horizon)
+complete_none laws v now new listed same is none no_key new_is =
+    gives_at (record now { phase = phases.Closed parts.Histories words.Empty listed }) new
+    (record now { horizon = now.horizon + 1; phase = phases.Opening parts.Histories }) (events.NoHistory v.horizon) (events.NoHistory now.horizon)
+    (new_is ∙ ap (λ (s : SessionView). record now { horizon = now.horizon + 1; met = s.met; phase = phases.Opening parts.Histories }) same)
+    (ap (λ (s : SessionView). events.NoHistory s.horizon) same)
+    (gives_no_history laws (record now { phase = phases.Closed parts.Histories words.Empty listed }) (askable_of v now same is)
+    (ap (λ (n : ℕ). phases.Closed parts.Histories words.Empty n) none) (ap (λ (s : SessionView). s.ask.after) (sym same) ∙ no_key))
+
+pub complete_some : (laws : SearchLaws) (v now : SessionView) (listed : ℕ) → v ≡ now → IsSession v → now.phase ≡ phases.Ended →
+    (0 < listed) ⊎ IsSome v.ask.after →
+    Gives (record now { phase = phases.Closed parts.Histories words.Empty listed }) now (events.Ended (endings.Complete v.horizon listed))
+complete_some laws v now listed same is over some =
+    gives_at (record now { phase = phases.Closed parts.Histories words.Empty listed }) now (record now { phase = phases.Ended })
+    (events.Ended (endings.Complete v.horizon listed)) (events.Ended (endings.Complete now.horizon listed))
+    (ap (λ (p : Phase). record now { phase = p }) over) (ap (λ (s : SessionView). events.Ended (endings.Complete s.horizon listed)) same)
+    (gives_complete laws (record now { phase = phases.Closed parts.Histories words.Empty listed }) (askable_of v now same is) listed refl
+    (subst (λ (s : SessionView). (0 < listed) ⊎ IsSome s.ask.after) same some))
+
+pub conditions_none : (laws : SearchLaws) (v now new : SessionView) (part : Part) (listed : ℕ) → v ≡ now → IsSession v → part ≡ parts.Conditions →
+    new ≡ record now { horizon = now.horizon + 1; met = v.met; phase = phases.Opening parts.Conditions } →
+    Gives (record now { phase = phases.Closed part words.Empty listed }) new (events.NoConditions v.horizon)
+conditions_none laws v now new part listed same is part_is new_is =
+    gives_at (record now { phase = phases.Closed part words.Empty listed }) new
+    (record now { horizon = now.horizon + 1; phase = phases.Opening parts.Conditions }) (events.NoConditions v.horizon) (events.NoConditions now.horizon)
+    (new_is ∙ ap (λ (s : SessionView). record now { horizon = now.horizon + 1; met = s.met; phase = phases.Opening parts.Conditions }) same)
+    (ap (λ (s : SessionView). events.NoConditions s.horizon) same)
+    (gives_no_conditions laws (record now { phase = phases.Closed part words.Empty listed }) (askable_of v now same is) listed
+    (ap (λ (p : Part). phases.Closed p words.Empty listed) part_is))
+
+pub claim_holds : (laws : SearchLaws) (v now new : SessionView) (part : Part) (listed : ℕ) → v ≡ now → IsSession v → part ≡ parts.Claim →
+    new ≡ record now { horizon = now.horizon + 1; met = true; phase = phases.Opening parts.Conditions } →
+    Gives (record now { phase = phases.Closed part words.Empty listed }) new (events.Holds v.horizon)
+claim_holds laws v now new part listed same is part_is new_is =
+    gives_at (record now { phase = phases.Closed part words.Empty listed }) new
+    (record now { horizon = now.horizon + 1; met = true; phase = phases.Opening parts.Conditions }) (events.Holds v.horizon) (events.Holds now.horizon)
+    new_is (ap (λ (s : SessionView). events.Holds s.horizon) same)
+    (gives_holds laws (record now { phase = phases.Closed part words.Empty listed }) (askable_of v now same is) listed
+    (ap (λ (p : Part). phases.Closed p words.Empty listed) part_is))
+
+pub stop_asked : (laws : SearchLaws) (v now : SessionView) (part : Part) (listed : ℕ) → v ≡ now → IsSession v → now.phase ≡ phases.Ended → part ≡ parts.Histories →
+    Gives (record now { phase = phases.Closed part words.Found listed }) now (events.Ended (endings.Asked v.horizon listed))
+stop_asked laws v now part listed same is over part_is =
+    gives_at (record now { phase = phases.Closed part words.Found listed }) now (record now { phase = phases.Ended })
+    (events.Ended (endings.Asked v.horizon listed)) (events.Ended (endings.Asked now.horizon listed))
+    (ap (λ (p : Phase). record now { phase = p }) over) (ap (λ (s : SessionView). events.Ended (endings.Asked s.horizon listed)) same)
+    (gives_all_asked laws (record now { phase = phases.Closed part words.Found listed }) (askable_of v now same is) listed
+    (ap (λ (p : Part). phases.Closed p words.Found listed) part_is))
+
+pub stop_claim : (laws : SearchLaws) (v now new : SessionView) (part : Part) (listed : ℕ) → v ≡ now → IsSession v → part ≡ parts.Claim →
+    new ≡ record now { phase = phases.Failing } → Gives (record now { phase = phases.Closed part words.Found listed }) new (events.Counterexample v.horizon)
+stop_claim laws v now new part listed same is part_is new_is =
+    gives_at (record now { phase = phases.Closed part words.Found listed }) new (record now { phase = phases.Failing })
+    (events.Counterexample v.horizon) (events.Counterexample now.horizon) new_is (ap (λ (s : SessionView). events.Counterexample s.horizon) same)
+    (gives_counterexample laws (record now { phase = phases.Closed part words.Found listed }) (askable_of v now same is) listed
+    (ap (λ (p : Part). phases.Closed p words.Found listed) part_is))
+
+pub conclude_spent : (laws : SearchLaws) (v now : SessionView) (part : Part) (word : EndWord) (listed : ℕ) → v ≡ now → IsSession v → now.phase ≡ phases.Ended →
+    word ≡ words.Spent → Gives (record now { phase = phases.Closed part word listed }) now (events.Ended (endings.Spent v.horizon listed))
+conclude_spent laws v now part word listed same is over word_is =
+    gives_at (record now { phase = phases.Closed part word listed }) now (record now { phase = phases.Ended })
+    (events.Ended (endings.Spent v.horizon listed)) (events.Ended (endings.Spent now.horizon listed))
+    (ap (λ (p : Phase). record now { phase = p }) over) (ap (λ (s : SessionView). events.Ended (endings.Spent s.horizon listed)) same)
+    (gives_budget laws (record now { phase = phases.Closed part word listed }) (askable_of v now same is) part listed
+    (ap (λ (w : EndWord). phases.Closed part w listed) word_is))
+
+-- ---- any step
+
+pub as_before : (now mid : SessionView) (taken phase : Phase) → mid ≡ record now { phase = phases.Ended } → taken ≡ now.phase → taken ≡ phase →
+    record mid { phase = phase } ≡ now
+as_before now mid taken phase mid_is taken_is phase_is =
+    ap (λ (s : SessionView). record s { phase = phase }) mid_is ∙ ap (λ (p : Phase). record now { phase = p }) (sym phase_is ∙ taken_is)
+
+pub step_refuted : (laws : SearchLaws) (v now mid new : SessionView) (event : Event) (taken : Phase) (part : Part) (listed : ℕ) → v ≡ now → IsSession v →
+    mid ≡ record now { phase = phases.Ended } → taken ≡ now.phase → taken ≡ phases.Refuted part listed →
+    new ≡ record mid { phase = phases.Closed part words.Empty listed } → event ≡ events.Log (lines.End words.Empty) → Gives now new event
+step_refuted laws v now mid new event taken part listed same is mid_is taken_is phase_is new_is event_is =
+    gives_at now new (record now { phase = phases.Closed part words.Empty listed }) event (events.Log (lines.End words.Empty))
+    (new_is ∙ ap (λ (s : SessionView). record s { phase = phases.Closed part words.Empty listed }) mid_is) event_is
+    (gives_refuted laws now (askable_of v now same is) part listed (sym taken_is ∙ phase_is))
+
+pub step_failing : (laws : SearchLaws) (v now mid : SessionView) (taken : Phase) → v ≡ now → IsSession v → mid ≡ record now { phase = phases.Ended } →
+    taken ≡ now.phase → taken ≡ phases.Failing → Gives now mid (events.Ended endings.ClaimFails)
+step_failing laws v now mid taken same is mid_is taken_is phase_is =
+    gives_at now mid (record now { phase = phases.Ended }) (events.Ended endings.ClaimFails) (events.Ended endings.ClaimFails) mid_is refl
+    (gives_failing laws now (askable_of v now same is) (sym taken_is ∙ phase_is))
+
+pub search_refuted : (laws : SearchLaws) (v now new : SessionView) (event : Event) (solver : SolverView) (part : Part) (listed : ℕ) → v ≡ now → IsSession v →
+    Contains (clauses_of solver.kernel) [] → new ≡ record now { phase = phases.Closed part words.Empty listed } → event ≡ events.Log (lines.End words.Empty) →
+    Gives (record now { phase = phases.Searching part solver listed }) new event
+search_refuted laws v now new event solver part listed same is there new_is event_is =
+    gives_at (record now { phase = phases.Searching part solver listed }) new (record now { phase = phases.Closed part words.Empty listed }) event
+    (events.Log (lines.End words.Empty)) new_is event_is
+    (gives_empty laws (record now { phase = phases.Searching part solver listed }) (askable_of v now same is) part solver listed refl there)
+
+pub search_spent : (laws : SearchLaws) (now new : SessionView) (event : Event) (old solver : SolverView) (part : Part) (listed : ℕ) →
+    IsAskable now.signature now.laws now.query now.ask → IsStep now.ask.budget old solver answers.Spent →
+    new ≡ record now { phase = phases.Closed part words.Spent listed } → event ≡ events.Log (lines.End words.Spent) →
+    Gives (record now { phase = phases.Searching part old listed }) new event
+search_spent laws now new event old solver part listed askable (kept, all, none) new_is event_is =
+    gives_at (record now { phase = phases.Searching part old listed }) new (record now { phase = phases.Closed part words.Spent listed }) event
+    (events.Log (lines.End words.Spent)) new_is event_is
+    (gives_spent laws (record now { phase = phases.Searching part old listed }) askable part old listed refl all none)
+
+-- what the solver answered, by the budget that is asked
+pub step_at : (budget : ℕ) (v now : SessionView) (old new : SolverView) (given answer : Step) → budget ≡ v.ask.budget → v ≡ now → given ≡ answer →
+    IsStep budget old new given → IsStep now.ask.budget old new answer
+step_at budget v now old new given answer budget_is same answer_is step =
+    subst (λ (n : ℕ). IsStep n old new answer) (budget_is ∙ ap (λ (s : SessionView). s.ask.budget) same)
+    (subst (λ (a : Step). IsStep budget old new a) answer_is step)
+
+pub next_event : (r : Result Event Fault) (old new : SessionView) (d : Description) (q : Query) (given : List Told) → IfOk r (Gives old new) → IsSessionOf old d q →
+    After d q old given → IfOk r (λ event. After d q new (given ++ with_row event new.row ∷ []) × IsSessionOf new d q)
+next_event (Err fault) old new d q given gives of after = tt
+next_event (Ok event) old new d q given gives of after = (gives.tells d q given of after, record {
+  laws = subst (λ (s : Signature). AreLawsOf s new.laws d) (sym gives.same.signature)
+      (subst (λ (l : List GroundLaw). AreLawsOf old.signature l d) (sym gives.same.laws) of.laws);
+  query = subst (λ (made : PlainGroundQuery). StandsForQuery made d q) (sym gives.same.query) of.query;
+})

@@ -121,6 +121,13 @@ fn key_of(ask: &Ask) -> Option<&Key>
     ask.after.as_ref()
 }
 
+/// How many derived clauses a section may have.
+fn budget_of(ask: &Ask) -> u32
+    ensures { result ≡ ask.now.budget }
+{
+    ask.budget
+}
+
 /// Whether just so many histories are asked for.
 fn is_asked(ask: &Ask, listed: u32) -> bool
     ensures is { result ≡ true → ask.now.count ≡ Some listed }
@@ -141,6 +148,17 @@ fn has_none(ask: &Ask, listed: u32) -> bool
     match &ask.after {
         Some(_) => false,
         None => listed == 0,
+    }
+}
+
+/// Whether a part tells the rows that it finds.
+fn is_listing(part: Part) -> bool
+    ensures is { result ≡ true → part ≡ parts.Histories }
+    ensures other { result ≡ false → part ≢ parts.Histories }
+{
+    match part {
+        Part::Histories => true,
+        Part::Conditions | Part::Claim => false,
     }
 }
 
@@ -416,9 +434,10 @@ impl<'a> Session<'a> {
     {
         search_laws();
         let row = Vec::from_slice(self.alloc, solver.row())?;
-        match part {
-            Part::Histories => self.history(solver, listed, row),
-            Part::Conditions | Part::Claim => Ok(self.path(part, row, listed)),
+        if is_listing(part) {
+            self.history(solver, listed, row)
+        } else {
+            Ok(self.path(part, row, listed))
         }
     }
 
@@ -429,6 +448,7 @@ impl<'a> Session<'a> {
         ensures fault { IfErr result (IsRightFault (record self.old { phase = phases.Searching part solver listed })) }
     {
         search_laws();
+        let _ = &self.alloc;
         if is_refuted(&solver) {
             Ok(self.close(part, EndWord::Empty, listed))
         } else {
@@ -444,7 +464,8 @@ impl<'a> Session<'a> {
         ensures fault { IfErr result (IsRightFault (record self.old { phase = phases.Searching part solver listed })) }
     {
         search_laws();
-        match solver.next(self.ask.budget)? {
+        let budget = budget_of(&self.ask);
+        match solver.next(budget)? {
             Step::Line => self.line(part, solver, listed),
             Step::Found => self.found(part, solver, listed),
             Step::Refuted => self.empty_line(part, solver, listed),
@@ -550,6 +571,7 @@ impl<'a> Session<'a> {
         ensures fault { IfErr result (IsRightFault self.old) }
     {
         search_laws();
+        let _ = &self.alloc;
         match self.take() {
             Phase::Opening { part } => self.begin(part),
             Phase::Searching {
