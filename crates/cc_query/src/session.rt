@@ -211,6 +211,7 @@ fn first_part(query: &GroundQuery<'_>) -> Part
     }
 }
 
+
 impl<'a> Session<'a> {
     /// A search for a query: the horizons of its range, or the key's alone. What is asked is `ask`.
     pub fn new(
@@ -491,8 +492,9 @@ impl<'a> Session<'a> {
     {
         search_laws();
         let horizon = self.horizon;
+        let met = self.met;
         if has_none(&self.ask, listed) {
-            self.pass(Part::Histories, self.met);
+            self.pass(Part::Histories, met);
             Event::NoHistory { horizon }
         } else {
             Event::Ended(Ending::Complete { horizon, listed })
@@ -507,10 +509,11 @@ impl<'a> Session<'a> {
     {
         search_laws();
         let horizon = self.horizon;
+        let met = self.met;
         match part {
             Part::Histories => self.complete(listed),
             Part::Conditions => {
-                self.pass(Part::Conditions, self.met);
+                self.pass(Part::Conditions, met);
                 Event::NoConditions { horizon }
             }
             Part::Claim => {
