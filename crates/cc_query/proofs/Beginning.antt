@@ -35,16 +35,20 @@ pub nothing_given : (s : SessionView) (ground : Option GroundCondition) (part : 
     s.horizon ≡ first_at s.query s.ask.after → s.met ≡ false → s.phase ≡ phases.Opening part → s.query.lo ≤ s.query.hi → After d q s []
 nothing_given s ground part d q of claim_is histories conditions horizon_is met phase_is ordered =
     let claim : option_map plain_ground_condition ground ≡ option_map (ground_condition d.universe) q.claim =
-        sym claim_is ∙ ap (λ (made : PlainGroundQuery). made.claim) of.query.2 in
+    sym claim_is ∙ ap (λ (made : PlainGroundQuery). made.claim) of.query.2 in
     let opens : Opens q part None = elim (first_of_claim d q.claim ground part claim histories conditions) [
       | inl none ↦ subst (λ (p : Part). Opens q p None) (sym none.1) (none.0, refl)
       | inr some ↦ subst (λ (p : Part). Opens q p None) (sym some.1) (some.0, refl)
     ] in
     let first = first_is d q s.query s.ask.after of.query in
     let last = last_is d q s.query s.ask.after of.query in
-    let low = in_order s.query s.ask.after ordered in
-    (run_at [] None None, record { done = tt; next = tt; within = omega arith; ending = tt }, refl, record {
-      horizon = let same = horizon_is ∙ first in omega arith;
-      met = met;
-      awaits = subst (λ (p : Phase). Awaits d q s (run_at [] None None) p) (sym phase_is) (refl, opens);
-    })
+    let low = in_order s.query s.ask.after ordered in (
+      run_at [] None None,
+      record { done = tt; next = tt; within = omega arith; ending = tt },
+      refl,
+      record {
+        horizon = let same = horizon_is ∙ first in omega arith;
+        met = met;
+        awaits = subst (λ (p : Phase). Awaits d q s (run_at [] None None) p) (sym phase_is) (refl, opens);
+      },
+    )

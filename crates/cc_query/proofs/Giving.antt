@@ -166,7 +166,7 @@ module _ (laws : SearchLaws) (s : SessionView) (askable : IsAskable s.signature 
       step (record s { phase = phases.Searching parts.Histories new listed }) (events.Log (lines.Block s.row))
       (same_of s.row s.horizon s.met (phases.Searching parts.Histories new listed))
       (λ d q given of after. after_block laws d q s (asks_for s d q askable of) given solver new listed phase_is after other sizes
-          (blocked s.row (telling laws d q s (asks_for s d q askable of) given solver listed phase_is after).standing))
+      (blocked s.row (telling laws d q s (asks_for s d q askable of) given solver listed phase_is after).standing))
       (λ conditions horizon is. absurd cc) (λ is. absurd cc)
 
   -- ---- headings
@@ -273,4 +273,4 @@ module _ (laws : SearchLaws) (s : SessionView) (askable : IsAskable s.signature 
       (subst (λ (n : ℕ). n < s.horizon) (last_is d q s.query s.ask.after of.query) past))
   gives_last parts.Claim phase_is past = ending_given (if s.met then endings.ClaimHolds else endings.ClaimEmpty)
       (λ d q given of after.
-          let awaits = subst (λ (p : Phase). Awaits d q s after.0 p) phase_is (after.3).awaits in absurd (awaits.1))
+      let awaits = subst (λ (p : Phase). Awaits d q s after.0 p) phase_is (after.3).awaits in absurd (awaits.1))

@@ -127,13 +127,20 @@ module _ (laws : Laws) (d : Description) (q : Query) (s : SessionView) (fits : I
       let there = true_there d q s.ask s.horizon given run.done (told_by part searched.before (open_section searched.steps)) is in
       let asked = asked_of d q s.ask s.horizon part searched.before (open_section searched.steps) there.1 in
       let on = going_on laws d q s.ask s.horizon part searched.steps
-          (λ other. fits.key (claimed d q s.ask s.horizon part searched.before asked.0 other)) asked.1 in
+      (λ other. fits.key (claimed d q s.ask s.horizon part searched.before asked.0 other)) asked.1 in
       let same : on.0 ≡ clauses_of solver.kernel = added_behind (form_of part).sizes (form_of part).clauses searched.steps on.0 on.1.told.fair
-          ∙ sym (clauses_held (form_of part) searched.steps solver searched.holds) in
+      ∙ sym (clauses_held (form_of part) searched.steps solver searched.holds) in
       record {
-        done = run.done; steps = searched.steps; before = searched.before; is = is; met = stands.met; asks = asked.0;
+        done = run.done;
+        steps = searched.steps;
+        before = searched.before;
+        is = is;
+        met = stands.met;
+        asks = asked.0;
         on = subst (λ (clauses : List (List Literal)). IsGoingOn d q s.ask s.horizon part searched.steps clauses) same on.1;
-        holds = searched.holds; rows = searched.rows; listed_is = searched.listed_is;
+        holds = searched.holds;
+        rows = searched.rows;
+        listed_is = searched.listed_is;
       }
 
   pub searching_after : (given : List Told) (done : List Horizon) (steps : List Step) (before : Section) (part : Part) (solver : SolverView) (listed : ℕ) →
@@ -150,20 +157,22 @@ module _ (laws : Laws) (d : Description) (q : Query) (s : SessionView) (fits : I
       counted_in (going.steps ++ Derive clause new.kernel.chain ∷ []) ≤ s.ask.budget →
       IsGoingOn d q s.ask s.horizon part (going.steps ++ Derive clause new.kernel.chain ∷ []) (clauses_of solver.kernel ++ clause ∷ [])
       × IsRunning d q s.ask s.horizon (given ++ logged (lines.Derived clause new.kernel.chain) ∷ []) going.done
-        (Some (told_by part going.before (open_section (going.steps ++ Derive clause new.kernel.chain ∷ []))))
+      (Some (told_by part going.before (open_section (going.steps ++ Derive clause new.kernel.chain ∷ []))))
   line_of given part solver new listed clause going adds earned none most =
       let more : counted_in (going.steps ++ Derive clause new.kernel.chain ∷ []) ≡ counted_in going.steps + counted (Derive clause new.kernel.chain) =
-          counted_more going.steps (Derive clause new.kernel.chain) in
+      counted_more going.steps (Derive clause new.kernel.chain) in
       let few : solver.kernel.variables ≤ 4000000 = subst (λ (n : ℕ). n ≤ 4000000) (sym going.holds.variables) going.holds.few in
       let short : length new.kernel.chain ≤ 8000001 = let chain = adds.short in omega arith in
       let on = line_on laws d q s.ask s.horizon part going.steps (clauses_of solver.kernel) going.on clause new.kernel.chain none
-          (record { reached = adds.reached; earned = earned; short = short }) (subst (λ (n : ℕ). n ≤ s.ask.budget) more most) in
-      (on, goes_on d q s.ask s.horizon given going.done (told_by part going.before (open_section going.steps))
-        (told_by part going.before (open_section (going.steps ++ Derive clause new.kernel.chain ∷ []))) (logged (lines.Derived clause new.kernel.chain)) going.is
-        (true_of d q s.ask s.horizon part going.before (open_section (going.steps ++ Derive clause new.kernel.chain ∷ [])) going.asks
-        (open_true laws d q s.ask s.horizon part (going.steps ++ Derive clause new.kernel.chain ∷ []) (clauses_of solver.kernel ++ clause ∷ []) on))
-        (horizon_event part going.before s.horizon (open_section going.steps) (open_section (going.steps ++ Derive clause new.kernel.chain ∷ []))
-        (logged (lines.Derived clause new.kernel.chain)) (line_event (is_conditions part) s.horizon going.steps clause new.kernel.chain)))
+      (record { reached = adds.reached; earned = earned; short = short }) (subst (λ (n : ℕ). n ≤ s.ask.budget) more most) in (
+        on,
+        goes_on d q s.ask s.horizon given going.done (told_by part going.before (open_section going.steps))
+            (told_by part going.before (open_section (going.steps ++ Derive clause new.kernel.chain ∷ []))) (logged (lines.Derived clause new.kernel.chain)) going.is
+            (true_of d q s.ask s.horizon part going.before (open_section (going.steps ++ Derive clause new.kernel.chain ∷ [])) going.asks
+            (open_true laws d q s.ask s.horizon part (going.steps ++ Derive clause new.kernel.chain ∷ []) (clauses_of solver.kernel ++ clause ∷ []) on))
+            (horizon_event part going.before s.horizon (open_section going.steps) (open_section (going.steps ++ Derive clause new.kernel.chain ∷ []))
+            (logged (lines.Derived clause new.kernel.chain)) (line_event (is_conditions part) s.horizon going.steps clause new.kernel.chain)),
+      )
 
   pub after_line : (given : List Told) (part : Part) (solver new : SolverView) (listed : ℕ) → s.phase ≡ phases.Searching part solver listed → After d q s given →
       (clause : List Literal) → AddsDerived solver.kernel new.kernel clause → IsEarned (clauses_of solver.kernel) clause →
@@ -173,7 +182,7 @@ module _ (laws : Laws) (d : Description) (q : Query) (s : SessionView) (fits : I
       let here = going given part solver listed phase_is after in
       let holds = holds_line (form_of part) here.steps solver new clause here.holds sizes adds in
       let within : counted_in (here.steps ++ Derive clause new.kernel.chain ∷ []) ≤ s.ask.budget =
-          let few = counted_within (form_of part) (here.steps ++ Derive clause new.kernel.chain ∷ []) new holds in omega arith in
+      let few = counted_within (form_of part) (here.steps ++ Derive clause new.kernel.chain ∷ []) new holds in omega arith in
       let line = line_of given part solver new listed clause here adds (λ _. earned) (earned_none_empty (clauses_of solver.kernel) clause earned) within in
       searching_after (given ++ logged (lines.Derived clause new.kernel.chain) ∷ []) here.done (here.steps ++ Derive clause new.kernel.chain ∷ []) here.before part new listed
       line.1 here.met holds here.rows
@@ -186,17 +195,22 @@ module _ (laws : Laws) (d : Description) (q : Query) (s : SessionView) (fits : I
   after_empty_line given part solver new listed phase_is after adds none =
       let here = going given part solver listed phase_is after in
       let within : counted_in (here.steps ++ Derive [] new.kernel.chain ∷ []) ≤ s.ask.budget =
-          let more = counted_more here.steps (Derive [] new.kernel.chain) in let before = here.on.told.within in omega arith in
+      let more = counted_more here.steps (Derive [] new.kernel.chain) in let before = here.on.told.within in omega arith in
       let line = line_of given part solver new listed [] here adds (λ some. absurd (some refl)) none within in
       let there : Contains (clauses_of solver.kernel ++ [] ∷ []) [] = Contains-append_right (clauses_of solver.kernel) ([] ∷ []) [] (in_first [] []) in
       after_run d q (record s { phase = phases.Refuted part listed }) (given ++ logged (lines.Derived [] new.kernel.chain) ∷ []) here.done
-      (Some (told_by part here.before (open_section (here.steps ++ Derive [] new.kernel.chain ∷ [])))) line.1 here.met
-      (refl, record {
-        steps = here.steps ++ Derive [] new.kernel.chain ∷ []; before = here.before; next = refl; rows = here.rows;
-        empty = subst (λ (clauses : List (List Literal)). Contains clauses [])
-            (added_behind (form_of part).sizes (form_of part).clauses (here.steps ++ Derive [] new.kernel.chain ∷ []) (clauses_of solver.kernel ++ [] ∷ []) line.0.told.fair) there;
-        listed_is = here.listed_is ∙ ap (λ (l : List (List ℕ)). length l) (sym (rows_kept here.steps [] new.kernel.chain));
-      })
+      (Some (told_by part here.before (open_section (here.steps ++ Derive [] new.kernel.chain ∷ [])))) line.1 here.met (
+        refl,
+        record {
+          steps = here.steps ++ Derive [] new.kernel.chain ∷ [];
+          before = here.before;
+          next = refl;
+          rows = here.rows;
+          empty = subst (λ (clauses : List (List Literal)). Contains clauses [])
+              (added_behind (form_of part).sizes (form_of part).clauses (here.steps ++ Derive [] new.kernel.chain ∷ []) (clauses_of solver.kernel ++ [] ∷ []) line.0.told.fair) there;
+          listed_is = here.listed_is ∙ ap (λ (l : List (List ℕ)). length l) (sym (rows_kept here.steps [] new.kernel.chain));
+        },
+      )
 
   -- ---- a section that ends
 
@@ -219,15 +233,20 @@ module _ (laws : Laws) (d : Description) (q : Query) (s : SessionView) (fits : I
   after_spent given part solver listed phase_is after all none =
       let here = going given part solver listed phase_is after in
       let tells = spent_true laws d q s.ask s.horizon part here.steps (clauses_of solver.kernel) here.on none
-          (counted_as_derived (form_of part) here.steps solver here.holds none ∙ all) in
+      (counted_as_derived (form_of part) here.steps solver here.holds none ∙ all) in
       after_run d q (record s { phase = phases.Closed part words.Spent listed }) (given ++ logged (lines.End words.Spent) ∷ []) here.done
       (Some (told_by part here.before (section_of here.steps None (Some words.Spent))))
-      (closing given part here.done here.steps here.before words.Spent here.is here.asks tells) here.met
-      (refl, record {
-        section = section_of here.steps None (Some words.Spent); before = here.before; next = refl; word_is = refl;
-        listed_is = told_so_far here.steps listed (Some words.Spent) here.listed_is;
-        found = λ _ is. absurd cc;
-      })
+      (closing given part here.done here.steps here.before words.Spent here.is here.asks tells) here.met (
+        refl,
+        record {
+          section = section_of here.steps None (Some words.Spent);
+          before = here.before;
+          next = refl;
+          word_is = refl;
+          listed_is = told_so_far here.steps listed (Some words.Spent) here.listed_is;
+          found = λ _ is. absurd cc;
+        },
+      )
 
   after_empty_of : (given : List Told) (part : Part) (listed : ℕ) (done : List Horizon) (steps : List Step) (before : Section) (clauses : List (List Literal)) →
       IsRunning d q s.ask s.horizon given done (Some (told_by part before (open_section steps))) → s.met ≡ list_any has_conditions done →
@@ -237,12 +256,17 @@ module _ (laws : Laws) (d : Description) (q : Query) (s : SessionView) (fits : I
   after_empty_of given part listed done steps before clauses is met asks on rows there listed_is =
       after_run d q (record s { phase = phases.Closed part words.Empty listed }) (given ++ logged (lines.End words.Empty) ∷ []) done
       (Some (told_by part before (section_of steps None (Some words.Empty))))
-      (closing given part done steps before words.Empty is asks (empty_true laws d q s.ask s.horizon part steps clauses on rows there)) met
-      (refl, record {
-        section = section_of steps None (Some words.Empty); before = before; next = refl; word_is = refl;
-        listed_is = told_so_far steps listed (Some words.Empty) listed_is;
-        found = λ _ is. absurd cc;
-      })
+      (closing given part done steps before words.Empty is asks (empty_true laws d q s.ask s.horizon part steps clauses on rows there)) met (
+        refl,
+        record {
+          section = section_of steps None (Some words.Empty);
+          before = before;
+          next = refl;
+          word_is = refl;
+          listed_is = told_so_far steps listed (Some words.Empty) listed_is;
+          found = λ _ is. absurd cc;
+        },
+      )
 
   -- one of the clauses was empty
   pub after_empty : (given : List Told) (part : Part) (solver : SolverView) (listed : ℕ) → s.phase ≡ phases.Searching part solver listed → After d q s given →
@@ -261,7 +285,7 @@ module _ (laws : Laws) (d : Description) (q : Query) (s : SessionView) (fits : I
       let there = true_there d q s.ask s.horizon given run.done (told_by part refuted.before (open_section refuted.steps)) is in
       let asked = asked_of d q s.ask s.horizon part refuted.before (open_section refuted.steps) there.1 in
       let on = going_on laws d q s.ask s.horizon part refuted.steps
-          (λ other. fits.key (claimed d q s.ask s.horizon part refuted.before asked.0 other)) asked.1 in
+      (λ other. fits.key (claimed d q s.ask s.horizon part refuted.before asked.0 other)) asked.1 in
       after_empty_of given part listed run.done refuted.steps refuted.before on.0 is stands.met asked.0 on.1 refuted.rows
       (subst (λ (clauses : List (List Literal)). Contains clauses [])
       (sym (added_behind (form_of part).sizes (form_of part).clauses refuted.steps on.0 on.1.told.fair)) refuted.empty) refuted.listed_is
@@ -274,16 +298,21 @@ module _ (laws : Laws) (d : Description) (q : Query) (s : SessionView) (fits : I
   after_found given part solver listed other phase_is after row least =
       let here = going given part solver listed phase_is after in
       let least_of : IsLeastRowOf (form_of part).sizes (clauses_of solver.kernel) row =
-          subst (λ (sizes : List ℕ). IsLeastRowOf sizes (clauses_of solver.kernel) row) here.holds.sizes least in
+      subst (λ (sizes : List ℕ). IsLeastRowOf sizes (clauses_of solver.kernel) row) here.holds.sizes least in
       let tells = found_true laws d q s.ask s.horizon part other here.steps (clauses_of solver.kernel) here.on here.rows row least_of in
       after_run d q (record s { row = row; phase = phases.Closed part words.Found listed }) (given ++ logged (lines.End words.Found) ∷ []) here.done
       (Some (told_by part here.before (section_of here.steps None (Some words.Found))))
-      (closing given part here.done here.steps here.before words.Found here.is here.asks tells) here.met
-      (refl, record {
-        section = section_of here.steps None (Some words.Found); before = here.before; next = refl; word_is = refl;
-        listed_is = told_so_far here.steps listed (Some words.Found) here.listed_is;
-        found = λ is _. first_of part is here.steps here.on here.rows least_of;
-      })
+      (closing given part here.done here.steps here.before words.Found here.is here.asks tells) here.met (
+        refl,
+        record {
+          section = section_of here.steps None (Some words.Found);
+          before = here.before;
+          next = refl;
+          word_is = refl;
+          listed_is = told_so_far here.steps listed (Some words.Found) here.listed_is;
+          found = λ is _. first_of part is here.steps here.on here.rows least_of;
+        },
+      )
     where
       first_of : (p : Part) → p ≡ parts.Claim → (steps : List Step) → IsGoingOn d q s.ask s.horizon p steps (clauses_of solver.kernel) →
           RowsAreHistories d q s.ask s.horizon p → IsLeastRowOf (form_of p).sizes (clauses_of solver.kernel) row → AreFirst d q s.horizon None (row ∷ [])
@@ -297,24 +326,27 @@ module _ (laws : Laws) (d : Description) (q : Query) (s : SessionView) (fits : I
   after_history given solver new listed phase_is after row least new_is =
       let here = going given parts.Histories solver listed phase_is after in
       let least_of : IsLeastRowOf (form_of parts.Histories).sizes (clauses_of solver.kernel) row =
-          subst (λ (sizes : List ℕ). IsLeastRowOf sizes (clauses_of solver.kernel) row) here.holds.sizes least in
+      subst (λ (sizes : List ℕ). IsLeastRowOf sizes (clauses_of solver.kernel) row) here.holds.sizes least in
       let tells = telling_true laws d q s.ask s.horizon here.steps (clauses_of solver.kernel) here.on here.rows row least_of in
       let is = goes_on d q s.ask s.horizon given here.done (Histories (open_section here.steps)) (Histories (section_of here.steps (Some row) None))
-          (told_row (events.History s.horizon (listed + 1)) row) here.is (here.asks, tells)
-          (subst (λ (n : ℕ). section_events false s.horizon (section_of here.steps (Some row) None)
-          ≡ section_events false s.horizon (open_section here.steps) ++ told_row (events.History s.horizon (n + 1)) row ∷ []) (sym here.listed_is)
-          (history_event s.horizon here.steps row)) in
+      (told_row (events.History s.horizon (listed + 1)) row) here.is (here.asks, tells)
+      (subst (λ (n : ℕ). section_events false s.horizon (section_of here.steps (Some row) None)
+      ≡ section_events false s.horizon (open_section here.steps) ++ told_row (events.History s.horizon (n + 1)) row ∷ []) (sym here.listed_is)
+      (history_event s.horizon here.steps row)) in
       after_run d q (record s { row = row; phase = phases.Denying new (listed + 1) }) (given ++ told_row (events.History s.horizon (listed + 1)) row ∷ []) here.done
-      (Some (Histories (section_of here.steps (Some row) None))) is here.met
-      (refl, record {
-        steps = here.steps; next = refl;
-        holds = subst (λ (v : SolverView). Holds (form_of parts.Histories) here.steps v) (sym new_is)
-            (record { sizes = here.holds.sizes; variables = here.holds.variables; few = here.holds.few; entries = here.holds.entries });
-        rows = here.rows;
-        least = subst (λ (v : SolverView). IsLeastRowOf v.sizes (clauses_of v.kernel) row) (sym new_is) least;
-        standing = ap (λ (v : SolverView). v.standing) new_is;
-        listed_is = ap (λ (n : ℕ). n + 1) here.listed_is;
-      })
+      (Some (Histories (section_of here.steps (Some row) None))) is here.met (
+        refl,
+        record {
+          steps = here.steps;
+          next = refl;
+          holds = subst (λ (v : SolverView). Holds (form_of parts.Histories) here.steps v) (sym new_is)
+              (record { sizes = here.holds.sizes; variables = here.holds.variables; few = here.holds.few; entries = here.holds.entries });
+          rows = here.rows;
+          least = subst (λ (v : SolverView). IsLeastRowOf v.sizes (clauses_of v.kernel) row) (sym new_is) least;
+          standing = ap (λ (v : SolverView). v.standing) new_is;
+          listed_is = ap (λ (n : ℕ). n + 1) here.listed_is;
+        },
+      )
 
   -- ---- a history that was told
 
@@ -339,13 +371,19 @@ module _ (laws : Laws) (d : Description) (q : Query) (s : SessionView) (fits : I
       let there = true_there d q s.ask s.horizon given run.done (Histories (section_of told.steps (Some s.row) None)) is in
       let on = going_on_told laws d q s.ask s.horizon told.steps s.row there.1.1 in
       let same : on.0 ≡ clauses_of solver.kernel = added_behind (form_of parts.Histories).sizes (form_of parts.Histories).clauses told.steps on.0 on.1.told.fair
-          ∙ sym (clauses_held (form_of parts.Histories) told.steps solver told.holds) in
+      ∙ sym (clauses_held (form_of parts.Histories) told.steps solver told.holds) in
       record {
-        done = run.done; steps = told.steps; is = is; met = stands.met; asks = there.1.0;
+        done = run.done;
+        steps = told.steps;
+        is = is;
+        met = stands.met;
+        asks = there.1.0;
         on = subst (λ (clauses : List (List Literal)). IsGoingOn d q s.ask s.horizon parts.Histories told.steps clauses) same on.1;
-        holds = told.holds; rows = told.rows;
+        holds = told.holds;
+        rows = told.rows;
         least = subst (λ (sizes : List ℕ). IsLeastRowOf sizes (clauses_of solver.kernel) s.row) told.holds.sizes told.least;
-        standing = told.standing; listed_is = told.listed_is;
+        standing = told.standing;
+        listed_is = told.listed_is;
       }
 
   pub after_asked : (given : List Told) (solver : SolverView) (listed : ℕ) → s.phase ≡ phases.Denying solver listed → After d q s given →
@@ -353,16 +391,21 @@ module _ (laws : Laws) (d : Description) (q : Query) (s : SessionView) (fits : I
   after_asked given solver listed phase_is after all =
       let here = telling given solver listed phase_is after in
       let tells = asked_true laws d q s.ask s.horizon here.steps (clauses_of solver.kernel) here.on here.rows s.row here.least
-          (all ∙ ap (λ (n : ℕ). Some n) here.listed_is) in
+      (all ∙ ap (λ (n : ℕ). Some n) here.listed_is) in
       after_run d q (record s { phase = phases.Closed parts.Histories words.Found listed }) (given ++ logged (lines.End words.Found) ∷ []) here.done
       (Some (Histories (section_of here.steps (Some s.row) (Some words.Found))))
       (goes_on d q s.ask s.horizon given here.done (Histories (section_of here.steps (Some s.row) None)) (Histories (section_of here.steps (Some s.row) (Some words.Found)))
-      (logged (lines.End words.Found)) here.is (here.asks, tells) (end_event false s.horizon here.steps (Some s.row) words.Found)) here.met
-      (refl, record {
-        section = section_of here.steps (Some s.row) (Some words.Found); before = open_section []; next = refl; word_is = refl;
-        listed_is = here.listed_is ∙ sym (length_push (rows_in here.steps) s.row);
-        found = λ is. absurd cc;
-      })
+      (logged (lines.End words.Found)) here.is (here.asks, tells) (end_event false s.horizon here.steps (Some s.row) words.Found)) here.met (
+        refl,
+        record {
+          section = section_of here.steps (Some s.row) (Some words.Found);
+          before = open_section [];
+          next = refl;
+          word_is = refl;
+          listed_is = here.listed_is ∙ sym (length_push (rows_in here.steps) s.row);
+          found = λ is. absurd cc;
+        },
+      )
 
   pub after_block : (given : List Told) (solver new : SolverView) (listed : ℕ) → s.phase ≡ phases.Denying solver listed → After d q s given →
       (s.ask.count ≡ Some listed → ⊥) → new.sizes ≡ solver.sizes → new.kernel ≡ added solver.kernel (row_denial solver.sizes s.row) origins.Block →
@@ -428,8 +471,17 @@ module _ (laws : Laws) (d : Description) (q : Query) (s : SessionView) (fits : I
       let there = true_there d q s.ask s.horizon given run.done (told_by part shut.before shut.section) is in
       let asked = asked_of d q s.ask s.horizon part shut.before shut.section there.1 in
       record {
-        done = run.done; section = shut.section; before = shut.before; is = is; met = stands.met; low = there.0; asks = asked.0; tells = asked.1;
-        word_is = shut.word_is; listed_is = shut.listed_is; found = shut.found;
+        done = run.done;
+        section = shut.section;
+        before = shut.before;
+        is = is;
+        met = stands.met;
+        low = there.0;
+        asks = asked.0;
+        tells = asked.1;
+        word_is = shut.word_is;
+        listed_is = shut.listed_is;
+        found = shut.found;
       }
 
   pub after_claim_heading : (given : List Told) (solver : SolverView) (listed : ℕ) → s.phase ≡ phases.Closed parts.Conditions words.Found listed → After d q s given →
@@ -500,7 +552,7 @@ module _ (laws : Laws) (d : Description) (q : Query) (s : SessionView) (fits : I
       let here = closed given parts.Histories words.Empty listed phase_is after in
       over given here.done (Some (Histories here.section)) (endings.Complete s.horizon listed) here.is.horizon_is here.met
       (ends_within d q s.ask s.horizon given here.done (Histories here.section) (endings.Complete s.horizon listed) here.is
-      (refl, here.listed_is, here.word_is, elim some [ | inl more ↦ inl (subst (λ (n : ℕ). 0 < n) here.listed_is more) | inr key ↦ inr key ]))
+      (refl, here.listed_is, here.word_is, elim some [ inl more ↦ inl (subst (λ (n : ℕ). 0 < n) here.listed_is more) | inr key ↦ inr key ]))
 
   pub after_all_asked : (given : List Told) (listed : ℕ) → s.phase ≡ phases.Closed parts.Histories words.Found listed → After d q s given →
       After d q (record s { phase = phases.Ended }) (given ++ told (events.Ended (endings.Asked s.horizon listed)) ∷ [])
@@ -529,7 +581,7 @@ module _ (laws : Laws) (d : Description) (q : Query) (s : SessionView) (fits : I
       After d q (record s { phase = phases.Ended }) (given ++ told (events.Ended endings.ClaimFails) ∷ [])
   after_failing given phase_is (run, fair, given_is, stands) =
       let awaits : (run.ending ≡ None) × ((conditions : Section) × (claim : Section) × (run.next ≡ Some (Failure conditions claim s.row))) =
-          subst (λ (p : Phase). Awaits d q s run p) phase_is stands.awaits in
+      subst (λ (p : Phase). Awaits d q s run p) phase_is stands.awaits in
       let is = running d q s.ask run (Some (Failure awaits.1.0 awaits.1.1 s.row)) s.horizon given fair given_is stands.horizon awaits.1.2 awaits.0 in
       over given run.done (Some (Failure awaits.1.0 awaits.1.1 s.row)) endings.ClaimFails stands.horizon stands.met
       (ends_within d q s.ask s.horizon given run.done (Failure awaits.1.0 awaits.1.1 s.row) endings.ClaimFails is tt)
@@ -562,7 +614,7 @@ module _ (laws : Laws) (d : Description) (q : Query) (s : SessionView) (fits : I
   history_too_many given solver listed phase_is after row least many =
       let here = going given parts.Histories solver listed phase_is after in
       let least_of : IsLeastRowOf (form_of parts.Histories).sizes (clauses_of solver.kernel) row =
-          subst (λ (sizes : List ℕ). IsLeastRowOf sizes (clauses_of solver.kernel) row) here.holds.sizes least in
+      subst (λ (sizes : List ℕ). IsLeastRowOf sizes (clauses_of solver.kernel) row) here.holds.sizes least in
       record {
         run = run_at here.done (Some (Histories (open_section here.steps))) None;
         fair = here.is.fair;

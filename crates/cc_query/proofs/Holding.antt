@@ -77,7 +77,7 @@ count_steps : (sizes : List ℕ) (steps : List Step) → derived_count (map (ent
 count_steps sizes [] = refl
 count_steps sizes (Derive clause chain ∷ steps) =
     let more : derived_count (map (entry_of sizes) (Derive clause chain ∷ steps)) ≡ 1 + derived_count (map (entry_of sizes) steps) =
-        sum_by-cons (λ (entry : Entry). cond (not (is_given entry)) 1 0) (entry_of sizes (Derive clause chain)) (map (entry_of sizes) steps) in
+    sum_by-cons (λ (entry : Entry). cond (not (is_given entry)) 1 0) (entry_of sizes (Derive clause chain)) (map (entry_of sizes) steps) in
     let rest = count_steps sizes steps in omega arith
 count_steps sizes (Tell row ∷ steps) = count_steps sizes steps
 

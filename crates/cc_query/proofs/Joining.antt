@@ -66,7 +66,7 @@ pub block_ready : (ask : Ask) (old new : SolverView) (listed : ℕ) → HasFound
 block_ready ask old new listed found (denied, listed_is, few, within) blocked = (
   ap (λ (v : SolverView). v.standing) (blocked found.0 found.1),
   subst (λ (n : ℕ). IsWithin ask new n) (sym listed_is)
-  (block_within ask old new denied (row_denial old.sizes found.0) within few (ap (λ (v : SolverView). v.kernel) (blocked found.0 found.1))),
+      (block_within ask old new denied (row_denial old.sizes found.0) within few (ap (λ (v : SolverView). v.kernel) (blocked found.0 found.1))),
 )
 
 pub block_gives : (laws : SearchLaws) (r : Result Event Fault) (now new : SessionView) (solver : SolverView) (listed : ℕ) →
@@ -188,8 +188,11 @@ history_fault laws (Ok value) now old solver listed items askable step standing 
 history_fault laws (Err given) now old solver listed items askable step standing fault many =
     let there = least_there now.ask.budget old solver items step standing in
     subst (λ (f : Fault). IsRightFault (record now { phase = phases.Searching parts.Histories old listed }) f) (sym fault)
-    (λ d q told of after. inr (refl, history_too_many laws d q (record now { phase = phases.Searching parts.Histories old listed })
-    (asks_for (record now { phase = phases.Searching parts.Histories old listed }) d q askable of) told old listed refl after items there.0 many))
+    (λ d q told of after. inr (
+      refl,
+      history_too_many laws d q (record now { phase = phases.Searching parts.Histories old listed })
+          (asks_for (record now { phase = phases.Searching parts.Histories old listed }) d q askable of) told old listed refl after items there.0 many,
+    ))
 
 pub path_gives : (laws : SearchLaws) (now new : SessionView) (event : Event) (old solver : SolverView) (part : Part) (listed : ℕ) (items : List ℕ) →
     IsAskable now.signature now.laws now.query now.ask → part ≢ parts.Histories → IsStep now.ask.budget old solver answers.Found → solver.standing ≡ Found items →
@@ -345,8 +348,11 @@ step_at budget v now old new given answer budget_is same answer_is step =
 pub next_event : (r : Result Event Fault) (old new : SessionView) (d : Description) (q : Query) (given : List Told) → IfOk r (Gives old new) → IsSessionOf old d q →
     After d q old given → IfOk r (λ event. After d q new (given ++ with_row event new.row ∷ []) × IsSessionOf new d q)
 next_event (Err fault) old new d q given gives of after = tt
-next_event (Ok event) old new d q given gives of after = (gives.tells d q given of after, record {
-  laws = subst (λ (s : Signature). AreLawsOf s new.laws d) (sym gives.same.signature)
-      (subst (λ (l : List GroundLaw). AreLawsOf old.signature l d) (sym gives.same.laws) of.laws);
-  query = subst (λ (made : PlainGroundQuery). StandsForQuery made d q) (sym gives.same.query) of.query;
-})
+next_event (Ok event) old new d q given gives of after = (
+  gives.tells d q given of after,
+  record {
+    laws = subst (λ (s : Signature). AreLawsOf s new.laws d) (sym gives.same.signature)
+        (subst (λ (l : List GroundLaw). AreLawsOf old.signature l d) (sym gives.same.laws) of.laws);
+    query = subst (λ (made : PlainGroundQuery). StandsForQuery made d q) (sym gives.same.query) of.query;
+  },
+)

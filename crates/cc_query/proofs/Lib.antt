@@ -3,6 +3,7 @@ pub mod Giving
 pub mod Going
 pub mod Holding
 pub mod Joining
+pub mod Positions
 pub mod PartsTold
 pub mod Reaching
 pub mod Refusing

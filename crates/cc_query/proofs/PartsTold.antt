@@ -143,15 +143,21 @@ module _ (laws : Laws) (d : Description) (q : Query) (ask : Ask) (horizon : ℕ)
       (found_fair laws d (without_claim q) (key_row ask) (form_at parts.Conditions) ask.budget horizon steps clauses is.told None
       (none_empty (form_at parts.Conditions).sizes clauses row least.one))
       is.may.0 (λ e. absurd cc)
-      (λ _. (row, subst (λ (key : Option (List ℕ)). IsHistory d (without_claim q) horizon key row) (no_key ask is.may.1)
-      (row_is_history laws d (without_claim q) (key_row ask) (form_at parts.Conditions) ask.budget horizon steps clauses is.told rows row least.one)))
+      (λ _. (
+        row,
+        subst (λ (key : Option (List ℕ)). IsHistory d (without_claim q) horizon key row) (no_key ask is.may.1)
+            (row_is_history laws d (without_claim q) (key_row ask) (form_at parts.Conditions) ask.budget horizon steps clauses is.told rows row least.one),
+      ))
   found_true parts.Claim other steps clauses is rows row least =
       looks d q (form_at parts.Claim) ask.budget horizon steps (Some words.Found)
       (found_fair laws d q (key_row ask) (form_at parts.Claim) ask.budget horizon steps clauses is.told None
       (none_empty (form_at parts.Claim).sizes clauses row least.one))
       is.may.0 (λ e. absurd cc)
-      (λ _. (row, subst (λ (key : Option (List ℕ)). IsHistory d q horizon key row) (no_key ask is.may.1)
-      (row_is_history laws d q (key_row ask) (form_at parts.Claim) ask.budget horizon steps clauses is.told rows row least.one)))
+      (λ _. (
+        row,
+        subst (λ (key : Option (List ℕ)). IsHistory d q horizon key row) (no_key ask is.may.1)
+            (row_is_history laws d q (key_row ask) (form_at parts.Claim) ask.budget horizon steps clauses is.told rows row least.one),
+      ))
 
   -- the row that goes against a claim is the least one
   pub counterexample_first : (steps : List Step) (clauses : List (List Literal)) → IsGoingOn d q ask horizon parts.Claim steps clauses →
@@ -200,10 +206,13 @@ module _ (laws : Laws) (d : Description) (q : Query) (ask : Ask) (horizon : ℕ)
 
   pub going_on_told : (steps : List Step) (row : List ℕ) → TellsHistories d q ask horizon (section_of steps (Some row) None) →
       (clauses : List (List Literal)) × IsGoingOn d q ask horizon parts.Histories steps clauses
-  going_on_told steps row tells = (tells.fair.clauses, record {
-    told = record { fair = tells.fair.steps; within = tells.fair.within; first = first_front d q horizon (key_row ask) (rows_in steps) row tells.first };
-    may = tells.denied;
-  })
+  going_on_told steps row tells = (
+    tells.fair.clauses,
+    record {
+      told = record { fair = tells.fair.steps; within = tells.fair.within; first = first_front d q horizon (key_row ask) (rows_in steps) row tells.first };
+      may = tells.denied;
+    },
+  )
 
 -- not yet so many as are asked for
 pub still_fewer : (count : Option ℕ) (n : ℕ) → IfSome count (λ most. n < most) → (count ≡ Some (n + 1) → ⊥) → IfSome count (λ most. n + 1 < most)

@@ -132,10 +132,13 @@ pub first_are_all : (d : Description) (q : Query) (horizon : ℕ) (key : Option 
     ((row : List ℕ) → IsHistory d q horizon key row → (Contains rows row → ⊥) → ⊥) → IsListing d q horizon key rows
 first_are_all d q horizon key rows first none = record {
   ascending = first.ascending;
-  members = λ row. (first.each row, λ history. elim (first.others row history) [
-    | inl told ↦ told
-    | inr after ↦ absurd (none row history (λ told. not_below_itself row (after row told)))
-  ]);
+  members = λ row. (
+    first.each row,
+    λ history. elim (first.others row history) [
+      | inl told ↦ told
+      | inr after ↦ absurd (none row history (λ told. not_below_itself row (after row told)))
+    ],
+  );
 }
 
 -- ---- after a key

@@ -94,9 +94,9 @@ done_events_behind horizon (first ∷ done) last =
     ap (λ (l : List Told). (horizon_events horizon first ++ said_of horizon first) ++ l) (done_events_behind (horizon + 1) done last)
     ∙ ap (λ (n : ℕ). (horizon_events horizon first ++ said_of horizon first) ++ ((done_events (horizon + 1) done ++ horizon_events n last) ++ said_of n last)) (omega arith)
     ∙ sym (append_assoc (horizon_events horizon first ++ said_of horizon first) (done_events (horizon + 1) done ++ horizon_events (horizon + suc (length done)) last)
-      (said_of (horizon + suc (length done)) last))
+    (said_of (horizon + suc (length done)) last))
     ∙ ap (λ (l : List Told). l ++ said_of (horizon + suc (length done)) last)
-      (sym (append_assoc (horizon_events horizon first ++ said_of horizon first) (done_events (horizon + 1) done) (horizon_events (horizon + suc (length done)) last)))
+    (sym (append_assoc (horizon_events horizon first ++ said_of horizon first) (done_events (horizon + 1) done) (horizon_events (horizon + suc (length done)) last)))
 
 module _ (d : Description) (q : Query) (ask : Ask) where
   abbrev first_of : ℕ
@@ -144,7 +144,7 @@ module _ (d : Description) (q : Query) (ask : Ask) where
       fair = fair_there (Some old) new is (true_there old is).0 now_true;
       given_is =
           let here : horizon_events (first_of + length done) new ≡ horizon_events (first_of + length done) old ++ event ∷ [] =
-              subst (λ (n : ℕ). horizon_events n new ≡ horizon_events n old ++ event ∷ []) is.horizon_is events_are in
+          subst (λ (n : ℕ). horizon_events n new ≡ horizon_events n old ++ event ∷ []) is.horizon_is events_are in
           ap (λ (l : List Told). l ++ event ∷ []) is.given_is ∙ one_more (done_events first_of done) (horizon_events (first_of + length done) old)
           (horizon_events (first_of + length done) new) event here;
       horizon_is = is.horizon_is;

@@ -175,8 +175,13 @@ pub row_behind : (sound : ResolventsAreSound) (leaves : DenialLeavesOthers) (siz
     (after : List (List Literal)) (row : List ℕ) → AreFairSteps sizes before steps after → ((told : List ℕ) → Contains (rows_in steps) told → IsRow sizes told) →
     (Contains (rows_in steps) row → ⊥) → IsRowOf sizes before row → IsRowOf sizes after row
 row_behind sound leaves sizes before steps after row fair told apart is =
-    record { is_row = is.is_row; assignment = is.assignment; has = is.has; meets_all = met_behind sound leaves sizes is.assignment row is.is_row (has_row 1 sizes is.assignment row is.is_row is.has)
-        before steps after told apart fair is.meets_all }
+    record {
+      is_row = is.is_row;
+      assignment = is.assignment;
+      has = is.has;
+      meets_all = met_behind sound leaves sizes is.assignment row is.is_row (has_row 1 sizes is.assignment row is.is_row is.has)
+          before steps after told apart fair is.meets_all;
+    }
 
 pub none_empty : (sizes : List ℕ) (clauses : List (List Literal)) (row : List ℕ) → IsRowOf sizes clauses row → HasNoEmpty clauses
 none_empty sizes clauses row is there = false≢true (is.meets_all [] there)

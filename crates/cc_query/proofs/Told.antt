@@ -72,21 +72,27 @@ module _ (laws : Laws) (d : Description) (q : Query) (key : Option (List ℕ)) (
 
     pub found_fair : (last : Option (List ℕ)) → HasNoEmpty clauses → IsFairSection form budget (section_of steps last (Some words.Found))
     found_fair last none = record {
-      clauses = clauses; steps = told.fair; within = told.within;
+      clauses = clauses;
+      steps = told.fair;
+      within = told.within;
       ends = ((λ is. absurd cc), (λ there. absurd (none there)));
       spent = λ is. absurd cc;
     }
 
     pub empty_fair : (last : Option (List ℕ)) → Contains clauses [] → IsFairSection form budget (section_of steps last (Some words.Empty))
     empty_fair last there = record {
-      clauses = clauses; steps = told.fair; within = told.within;
+      clauses = clauses;
+      steps = told.fair;
+      within = told.within;
       ends = ((λ is. there), (λ _. refl));
       spent = λ is. absurd cc;
     }
 
     pub spent_fair : (last : Option (List ℕ)) → HasNoEmpty clauses → counted_in steps ≡ budget → IsFairSection form budget (section_of steps last (Some words.Spent))
     spent_fair last none all = record {
-      clauses = clauses; steps = told.fair; within = told.within;
+      clauses = clauses;
+      steps = told.fair;
+      within = told.within;
       ends = ((λ is. absurd cc), (λ there. absurd (none there)));
       spent = λ _. all;
     }
@@ -149,19 +155,25 @@ module _ (d : Description) (q : Query) (axioms : Axioms) (budget horizon : ℕ) 
 
 pub told_of_histories : (d : Description) (q : Query) (ask : Ask) (horizon : ℕ) (steps : List Step) → TellsHistories d q ask horizon (open_section steps) →
     (clauses : List (List Literal)) × HasTold d q (key_row ask) (axioms_of d q ask.after false horizon) ask.budget horizon steps clauses
-told_of_histories d q ask horizon steps tells = (tells.fair.clauses, record {
-  fair = tells.fair.steps;
-  within = tells.fair.within;
-  first = subst (λ (rows : List (List ℕ)). AreFirst d q horizon (key_row ask) rows) (append-nil (rows_in steps)) tells.first;
-})
+told_of_histories d q ask horizon steps tells = (
+  tells.fair.clauses,
+  record {
+    fair = tells.fair.steps;
+    within = tells.fair.within;
+    first = subst (λ (rows : List (List ℕ)). AreFirst d q horizon (key_row ask) rows) (append-nil (rows_in steps)) tells.first;
+  },
+)
 
 pub told_of_look : (d : Description) (q : Query) (axioms : Axioms) (key : Option (List ℕ)) (budget horizon : ℕ) (steps : List Step) →
     LooksForOne d q axioms budget horizon (open_section steps) →
     (clauses : List (List Literal)) × HasTold d q key axioms budget horizon steps clauses × (rows_in steps ≡ [])
 told_of_look d q axioms key budget horizon steps looks =
-    let silent : rows_in steps ≡ [] = sym (append-nil (rows_in steps)) ∙ looks.silent in
-    (looks.fair.clauses, record {
-      fair = looks.fair.steps;
-      within = looks.fair.within;
-      first = subst (λ (rows : List (List ℕ)). AreFirst d q horizon key rows) (sym silent) (first_none d q horizon key);
-    }, silent)
+    let silent : rows_in steps ≡ [] = sym (append-nil (rows_in steps)) ∙ looks.silent in (
+      looks.fair.clauses,
+      record {
+        fair = looks.fair.steps;
+        within = looks.fair.within;
+        first = subst (λ (rows : List (List ℕ)). AreFirst d q horizon key rows) (sym silent) (first_none d q horizon key);
+      },
+      silent,
+    )

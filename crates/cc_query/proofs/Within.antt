@@ -24,9 +24,9 @@ pub line_within : (ask : Ask) (old new : SolverView) (denied : ℕ) (clause : Li
     derived_count new.kernel.entries ≤ ask.budget → IsWithin ask new denied
 line_within ask old new denied clause within adds most =
     let count : derived_count new.kernel.entries ≡ derived_count old.kernel.entries + 1 =
-        ap (λ (l : List Entry). derived_count l) adds.entries ∙ counted_one old.kernel.entries (record { clause = clause; origin = origins.Derived }) in
+    ap (λ (l : List Entry). derived_count l) adds.entries ∙ counted_one old.kernel.entries (record { clause = clause; origin = origins.Derived }) in
     let long : length new.kernel.entries ≡ length old.kernel.entries + 1 =
-        ap (λ (l : List Entry). length l) adds.entries ∙ length_push old.kernel.entries (record { clause = clause; origin = origins.Derived }) in
+    ap (λ (l : List Entry). length l) adds.entries ∙ length_push old.kernel.entries (record { clause = clause; origin = origins.Derived }) in
     let few = within.few in
     record { derived = most; few = omega arith; denied_few = within.denied_few }
 
@@ -34,9 +34,9 @@ pub block_within : (ask : Ask) (old new : SolverView) (denied : ℕ) (clause : L
     new.kernel ≡ added old.kernel clause origins.Block → IsWithin ask new (denied + 1)
 block_within ask old new denied clause within low is =
     let count : derived_count new.kernel.entries ≡ derived_count old.kernel.entries + 0 =
-        ap (λ (k : KernelView). derived_count k.entries) is ∙ counted_one old.kernel.entries (record { clause = clause; origin = origins.Block }) in
+    ap (λ (k : KernelView). derived_count k.entries) is ∙ counted_one old.kernel.entries (record { clause = clause; origin = origins.Block }) in
     let long : length new.kernel.entries ≡ length old.kernel.entries + 1 =
-        ap (λ (k : KernelView). length k.entries) is ∙ length_push old.kernel.entries (record { clause = clause; origin = origins.Block }) in
+    ap (λ (k : KernelView). length k.entries) is ∙ length_push old.kernel.entries (record { clause = clause; origin = origins.Block }) in
     let few = within.few in let derived = within.derived in
     record { derived = omega arith; few = omega arith; denied_few = low }
 
@@ -48,11 +48,12 @@ last_of (first ∷ entries) entry = last_of entries entry
 pub last_numbered : (old new : KernelView) (clause : List Literal) → AddsDerived old new clause → IsNumbered (clauses_of new) (length new.entries) clause
 last_numbered old new clause adds =
     let long : length new.entries ≡ length old.entries + 1 =
-        ap (λ (l : List Entry). length l) adds.entries ∙ length_push old.entries (record { clause = clause; origin = origins.Derived }) in
-    (omega arith,
-    subst (λ (n : ℕ). slice_get (clauses_of new) n ≡ Some clause) (omega arith)
-    (subst (λ (l : List Entry). slice_get (map (λ (e : Entry). e.clause) l) (length old.entries) ≡ Some clause) (sym adds.entries)
-    (last_of old.entries (record { clause = clause; origin = origins.Derived }))))
+    ap (λ (l : List Entry). length l) adds.entries ∙ length_push old.entries (record { clause = clause; origin = origins.Derived }) in (
+      omega arith,
+      subst (λ (n : ℕ). slice_get (clauses_of new) n ≡ Some clause) (omega arith)
+          (subst (λ (l : List Entry). slice_get (map (λ (e : Entry). e.clause) l) (length old.entries) ≡ Some clause) (sym adds.entries)
+          (last_of old.entries (record { clause = clause; origin = origins.Derived }))),
+    )
 
 -- the line of a clause, where the kernel was read
 pub line_of_kernel : (event : Event) (read kernel : KernelView) (clause : List Literal) → read ≡ kernel →

@@ -20,7 +20,7 @@ use Rattle.cc_defs.specs.declared.refusal.LimitAt.TheVariants as limits
 use Rattle.cc_defs.specs.declared.refusal.Refusal.{Refusal}
 use Rattle.cc_defs.specs.ClauseLists.{clause_list}
 use Rattle.cc_defs.specs.Clauses.{Literal}
-use Rattle.cc_defs.specs.Description.{Description}
+use Rattle.cc_defs.specs.Description.{Description, sizes_at}
 use Rattle.cc_defs.specs.GroundLaws.{PlainGroundQuery, StandsForQuery}
 use Rattle.cc_defs.specs.Histories.{AreFirst}
 use Rattle.cc_defs.specs.Refusals.{past}
@@ -256,6 +256,13 @@ pub record Fits (signature : Signature) (query : PlainGroundQuery) (key : Key) :
   pub most : key.horizon ≤ query.hi
   pub claim : IsNone query.claim
   pub row : IsRow (position_sizes signature key.horizon) key.row
+
+-- the same of a description with this signature
+pub record FitsIn (d : Description) (query : PlainGroundQuery) (key : Key) : Type 0 where
+  pub least : query.lo ≤ key.horizon
+  pub most : key.horizon ≤ query.hi
+  pub claim : IsNone query.claim
+  pub row : IsRow (sizes_at d key.horizon) key.row
 
 -- what is asked can be searched for
 pub record IsAskable (signature : Signature) (laws : List GroundLaw) (query : PlainGroundQuery) (ask : Ask) : Type 0 where

@@ -2,10 +2,12 @@
 #![tactic(auto)]
 
 mod ask;
+mod keys;
 pub mod laws;
 mod opening;
 mod phase;
 mod session;
 
 pub use ask::Ask;
+pub use keys::fits;
 pub use session::Session;

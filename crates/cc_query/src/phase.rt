@@ -17,7 +17,9 @@ pub(crate) enum Part {
 #[derive(Drop)]
 pub(crate) enum Phase {
     /// The heading of a section, or the ending behind the last horizon.
-    Opening { part: Part },
+    Opening {
+        part: Part,
+    },
     /// A line of a section, or its next history. `listed` counts the histories that were told at the horizon.
     Searching {
         part: Part,
@@ -25,9 +27,15 @@ pub(crate) enum Phase {
         listed: u32,
     },
     /// The line that denies the history that was told.
-    Denying { solver: Solver, listed: u32 },
+    Denying {
+        solver: Solver,
+        listed: u32,
+    },
     /// The end line of a section with an empty clause.
-    Refuted { part: Part, listed: u32 },
+    Refuted {
+        part: Part,
+        listed: u32,
+    },
     /// What is said of a section that has ended.
     Closed {
         part: Part,

@@ -32,7 +32,8 @@ use crate::phase::{Part, Phase};
 use cc_arena::{GroundQuery, Laws};
 use cc_cdcl::{Solver, Step};
 use cc_defs::{
-    EndWord, Ending, Event, Fault, Key, LimitAt, Lits, LogLine, Nums, OutOfMemory, Refusal, Row, Sig,
+    EndWord, Ending, Event, Fault, Key, LimitAt, Lits, LogLine, Nums, OutOfMemory, Refusal, Row,
+    Sig,
 };
 use cc_kernel::Kernel;
 use std::alloc::Global;
@@ -210,7 +211,6 @@ fn first_part(query: &GroundQuery<'_>) -> Part
         None => Part::Histories,
     }
 }
-
 
 impl<'a> Session<'a> {
     /// A search for a query: the horizons of its range, or the key's alone. What is asked is `ask`.

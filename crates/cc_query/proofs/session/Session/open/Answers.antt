@@ -23,5 +23,5 @@ returns-clause-gives c = λ phase opens.
     (askable_of _ (record c.args.self.now { phase = phases.Searching c.args.part c.in_ok-solver.solver 0 }) same c.self.invariant)
     c.args.part c.in_ok-solver.solver opens c.requires
     (λ d q of.
-        let there : IsSessionOf c.args.self.now d q = record { laws = of.laws; query = of.query } in
-        (c.in_ok-solver.ensures.made d q there, c.in_ok-solver.ensures.rows d q there, c.in_ok-solver.ensures.within d q there)))
+    let there : IsSessionOf c.args.self.now d q = record { laws = of.laws; query = of.query } in
+    (c.in_ok-solver.ensures.made d q there, c.in_ok-solver.ensures.rows d q there, c.in_ok-solver.ensures.within d q there)))
