@@ -1,14 +1,13 @@
 -- Where a session stands before its first event.
-use Rattle.std.proofs.Common.{◌≡◌, ◌∙◌, ℕ, ◌+◌, ◌≤◌, ◌⊎◌, inl, inr, false, List, [], Option, Some, None, refl, sym, subst, ap, arith}
-use Rattle.std.specs.Prelude.{IsSome, IsNone, IfSome}
+use Rattle.std.proofs.Common.{◌≡◌, ◌∙◌, ◌≤◌, ◌⊎◌, inl, inr, false, [], Option, Some, None, refl, sym, subst, ap, arith}
+use Rattle.std.specs.Prelude.{IsSome, IsNone}
 use Rattle.std.specs.Option.{option_map}
 use Rattle.cc_arena.specs.declared.ground_laws.GroundCondition.{GroundCondition}
 use Rattle.cc_arena.specs.GroundViews.{plain_ground_condition}
 use Rattle.cc_defs.specs.declared.lists.Key.{Key}
 use Rattle.cc_defs.specs.Description.{Description}
-use Rattle.cc_defs.specs.GroundLaws.{PlainGroundCondition, PlainGroundQuery, ground_condition}
+use Rattle.cc_defs.specs.GroundLaws.{PlainGroundQuery, ground_condition}
 use Rattle.cc_defs.specs.Resolved.{Condition, Query}
-use Rattle.cc_defs.specs.Runs.{first_horizon, last_horizon}
 use Rattle.cc_query.specs.declared.phase.Part.{Part}
 use Rattle.cc_query.specs.declared.phase.Part.TheVariants as parts
 use Rattle.cc_query.specs.declared.phase.Phase.{Phase}

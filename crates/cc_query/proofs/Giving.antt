@@ -1,10 +1,9 @@
 -- What each step of a session gives.
-use Rattle.std.proofs.Common.{◌≡◌, ◌≢◌, ◌∙◌, ℕ, ◌+◌, ◌<◌, ◌≤◌, ◌⊎◌, inl, inr, zero, suc, Bool, true, false, List, [], ◌∷◌, ◌++◌, length, map, Option, Some, None, refl, sym, subst, ap, arith}
-use Rattle.std.specs.Prelude.{Contains, IfSome, IsSome, IsNone, is_some, unwrap_or, if◌then◌else◌}
+use Rattle.std.proofs.Common.{◌≡◌, ◌≢◌, ◌∙◌, ℕ, ◌+◌, ◌<◌, ◌≤◌, ◌⊎◌, Bool, true, List, [], ◌∷◌, ◌++◌, Option, Some, None, refl, sym, subst, ap, arith}
+use Rattle.std.specs.Prelude.{Contains, IfSome, IsSome, is_some, unwrap_or, if◌then◌else◌}
 use Rattle.std.specs.Option.{option_map}
 use Rattle.std.proofs.lemmas.Bool.{false≢true}
-use Rattle.cc_cdcl.specs.Solvers.{SolverView, Standing, Found, AddsDerived, IsStep}
-use Rattle.cc_cdcl.specs.declared.solver.Step.TheVariants as answers
+use Rattle.cc_cdcl.specs.Solvers.{SolverView, Found, AddsDerived}
 use Rattle.cc_clauses.specs.RowsOf.{IsLeastRowOf}
 use Rattle.cc_defs.specs.declared.event.Ending.{Ending}
 use Rattle.cc_defs.specs.declared.event.Ending.TheVariants as endings
@@ -14,24 +13,23 @@ use Rattle.cc_defs.specs.declared.event.Told.{Told}
 use Rattle.cc_defs.specs.declared.lists.Key.{Key}
 use Rattle.cc_defs.specs.declared.log.EndWord.{EndWord}
 use Rattle.cc_defs.specs.declared.log.EndWord.TheVariants as words
-use Rattle.cc_defs.specs.declared.log.LogLine.{LogLine}
 use Rattle.cc_defs.specs.declared.log.LogLine.TheVariants as lines
 use Rattle.cc_defs.specs.Assignments.{IsEarned}
 use Rattle.cc_defs.specs.Clauses.{Literal}
 use Rattle.cc_defs.specs.Description.{Description}
 use Rattle.cc_defs.specs.GroundLaws.{PlainGroundQuery, StandsForQuery, ground_condition}
 use Rattle.cc_defs.specs.Resolved.{Condition, Query}
-use Rattle.cc_defs.specs.Runs.{Ask, last_horizon, first_horizon, range_of}
+use Rattle.cc_defs.specs.Runs.{last_horizon, first_horizon, range_of}
 use Rattle.cc_defs.specs.Sections.{HasNoEmpty, row_denial}
 use Rattle.cc_kernel.specs.declared.kernel.Origin.TheVariants as origins
-use Rattle.cc_kernel.specs.Kernels.{KernelView, added, clauses_of, derived_count}
+use Rattle.cc_kernel.specs.Kernels.{added, clauses_of, derived_count}
 use Rattle.cc_query.specs.declared.phase.Part.{Part}
 use Rattle.cc_query.specs.declared.phase.Part.TheVariants as parts
 use Rattle.cc_query.specs.declared.phase.Phase.{Phase}
 use Rattle.cc_query.specs.declared.phase.Phase.TheVariants as phases
 use Rattle.cc_query.specs.Laws.{SearchLaws}
 use Rattle.cc_query.specs.Parts.{axioms_at, is_conditions}
-use Rattle.cc_query.specs.Sessions.{SessionView, After, Awaits, Fits, Gives, Holds, IsAskable, IsSame, IsSession, IsSessionOf, OpensWithin, RowsAreHistories, Tells, ending_behind, first_at, last_at, opening_refusal, opens_at, with_row}
+use Rattle.cc_query.specs.Sessions.{SessionView, After, Awaits, Fits, Gives, Holds, IsAskable, IsSame, IsSessionOf, RowsAreHistories, Tells, ending_behind, first_at, last_at, opening_refusal, opens_at, with_row}
 use Rattle.cc_query.proofs.Going.{IsAskFor, after_asked, after_block, after_all_asked, after_budget, after_claim_heading, after_complete, after_counterexample, after_empty, after_empty_line, after_failing, after_found, after_heading, after_history, after_holds, after_last, after_last_claim, after_line, after_no_conditions, after_no_history, after_refuted, after_spent, telling}
 
 -- ---- what is asked goes with the query

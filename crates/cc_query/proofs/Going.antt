@@ -1,11 +1,11 @@
 -- A session that goes on: where it stands behind each of its steps.
-use Rattle.std.proofs.Common.{◌≡◌, ◌≢◌, ◌∙◌, ℕ, ◌+◌, ◌*◌, ◌<◌, ◌≤◌, ◌⊎◌, inl, inr, zero, suc, Bool, true, false, List, [], ◌∷◌, ◌++◌, length, map, Option, Some, None, refl, sym, subst, ap, arith, append_assoc, append-nil}
+use Rattle.std.proofs.Common.{◌≡◌, ◌≢◌, ◌∙◌, ℕ, ◌+◌, ◌<◌, ◌≤◌, ◌⊎◌, inl, inr, Bool, true, false, List, [], ◌∷◌, ◌++◌, length, Option, Some, None, refl, sym, subst, ap, arith, append-nil}
 use Rattle.std.specs.Prelude.{Contains, IfSome, IsSome, IsNone, ◌||◌, if◌then◌else◌, is_some}
 use Rattle.std.specs.List.{AllByRecursion, list_any}
 use Rattle.std.proofs.lemmas.List.{length_push}
 use Rattle.std.proofs.lemmas.List.Elements.{Contains-append_right}
 use Rattle.std.proofs.lemmas.List.Folds.{list_any-append}
-use Rattle.cc_cdcl.specs.Solvers.{SolverView, Standing, Found, AddsDerived}
+use Rattle.cc_cdcl.specs.Solvers.{SolverView, Found, AddsDerived}
 use Rattle.cc_clauses.specs.RowsOf.{IsLeastRowOf}
 use Rattle.std.proofs.lemmas.Bool.{false≢true}
 use Rattle.cc_defs.specs.declared.event.Ending.{Ending}
@@ -17,21 +17,21 @@ use Rattle.cc_defs.specs.declared.log.EndWord.{EndWord}
 use Rattle.cc_defs.specs.declared.log.EndWord.TheVariants as words
 use Rattle.cc_defs.specs.declared.log.LogLine.TheVariants as lines
 use Rattle.cc_defs.specs.Assignments.{IsEarned}
-use Rattle.cc_defs.specs.Clauses.{Literal, Reaches}
+use Rattle.cc_defs.specs.Clauses.{Literal}
 use Rattle.cc_defs.specs.Description.{Description}
 use Rattle.cc_defs.specs.Histories.{AreFirst}
 use Rattle.cc_defs.specs.Resolved.{Query}
-use Rattle.cc_defs.specs.Runs.{Ask, Step, Derive, Tell, Section, Horizon, Histories, Conditions, Claim, Failure, Run, AreDone, EndsWith, MayEndBehind, MayEndWithin, IsFairLine, IsFairRun, IsTrueOf, IsWithoutConditions, TellsHistories, counted, counted_in, events_of, first_horizon, horizon_at, horizon_events, last_horizon, logged, rows_of, section_events, told, told_row}
+use Rattle.cc_defs.specs.Runs.{Ask, Step, Derive, Tell, Section, Horizon, Histories, Conditions, Claim, Failure, AreDone, EndsWith, MayEndBehind, MayEndWithin, IsFairRun, IsWithoutConditions, counted, counted_in, events_of, first_horizon, horizon_events, last_horizon, logged, rows_of, section_events, told, told_row}
 use Rattle.cc_defs.specs.Sections.{Axioms, HasNoEmpty, row_denial}
 use Rattle.cc_kernel.specs.declared.kernel.Origin.TheVariants as origins
-use Rattle.cc_kernel.specs.Kernels.{KernelView, added, clauses_of, derived_count}
+use Rattle.cc_kernel.specs.Kernels.{added, clauses_of, derived_count}
 use Rattle.cc_query.specs.declared.phase.Part.{Part}
 use Rattle.cc_query.specs.declared.phase.Part.TheVariants as parts
 use Rattle.cc_query.specs.declared.phase.Phase.{Phase}
 use Rattle.cc_query.specs.declared.phase.Phase.TheVariants as phases
 use Rattle.cc_query.specs.Laws.{SearchLaws as Laws}
-use Rattle.cc_query.specs.Parts.{axioms_at, clauses_behind, is_conditions, told_by, section_of, open_section, rows_in, MayAsk, TellsTrue}
-use Rattle.cc_query.specs.Sessions.{SessionView, After, Awaits, Holds, HasTooMany, IsClosed, IsRefuted, IsSearched, IsTold, Opens, RowsAreHistories, StandsBehind, has_conditions}
+use Rattle.cc_query.specs.Parts.{axioms_at, is_conditions, told_by, section_of, open_section, rows_in, MayAsk, TellsTrue}
+use Rattle.cc_query.specs.Sessions.{SessionView, After, Awaits, Holds, HasTooMany, IsClosed, IsRefuted, IsSearched, IsTold, Opens, RowsAreHistories, has_conditions}
 use Rattle.cc_query.proofs.Holding.{clauses_held, counted_as_derived, counted_within, holds_block, holds_line}
 use Rattle.cc_query.proofs.PartsTold.{IsGoingOn, asked_of, asked_true, begun, counterexample_first, denied_on, empty_true, found_true, going_on, going_on_told, line_on, next_first, open_true, spent_true, still_fewer, telling_true, true_of}
 use Rattle.cc_query.proofs.Running.{IsRunning, begins, block_event, end_event, ends_behind, ends_within, goes_on, history_event, horizon_event, line_event, passes, run_at, running, true_there, within_there}

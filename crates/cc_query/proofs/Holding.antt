@@ -1,13 +1,12 @@
 -- What a kernel holds behind the steps of a section.
-use Rattle.std.proofs.Common.{◌≡◌, ◌∙◌, ℕ, ◌+◌, ◌≤◌, ◌⊎◌, inl, inr, zero, suc, false, cond, List, [], ◌∷◌, ◌++◌, length, map, refl, sym, subst, ap, arith, append_assoc}
+use Rattle.std.proofs.Common.{◌≡◌, ◌∙◌, ℕ, ◌+◌, ◌≤◌, suc, cond, List, [], ◌∷◌, ◌++◌, map, refl, sym, subst, ap, arith, append_assoc}
 use Rattle.std.specs.Prelude.{Contains, not}
-use Rattle.std.specs.List.{count_by}
 use Rattle.std.proofs.lemmas.List.{map-append}
 use Rattle.std.proofs.lemmas.List.Sums.{sum_by-cons}
 use Rattle.std.proofs.lemmas.List.Elements.{Contains-append_right}
 use Rattle.cc_cdcl.specs.Solvers.{SolverView, AddsDerived}
 use Rattle.cc_defs.specs.Clauses.{Literal}
-use Rattle.cc_defs.specs.Runs.{Step, Derive, Tell, counted, counted_in}
+use Rattle.cc_defs.specs.Runs.{Step, Derive, Tell, counted_in}
 use Rattle.cc_defs.specs.Sections.{Axioms, HasNoEmpty, row_denial}
 use Rattle.cc_kernel.specs.declared.kernel.Origin.TheVariants as origins
 use Rattle.cc_kernel.specs.Kernels.{Entry, KernelView, added, axiom_of, clauses_of, derived_count, is_given}

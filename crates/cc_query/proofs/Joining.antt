@@ -1,9 +1,9 @@
 -- What the calls of a session join to.
-use Rattle.std.proofs.Common.{◌≡◌, ◌≢◌, ◌∙◌, ℕ, ◌+◌, ◌<◌, ◌≤◌, ◌⊎◌, inl, inr, true, false, Bool, List, [], ◌∷◌, ◌++◌, length, map, Option, Some, None, Result, Ok, Err, refl, sym, subst, ap, ap₂, arith}
+use Rattle.std.proofs.Common.{◌≡◌, ◌≢◌, ◌∙◌, ℕ, ◌+◌, ◌<◌, ◌≤◌, ◌⊎◌, inl, inr, true, List, [], ◌∷◌, ◌++◌, length, map, Option, Some, None, Result, Ok, Err, refl, sym, subst, ap, arith}
 use Rattle.std.specs.Prelude.{IfOk, IfErr, OnErr, OnOk, IsSome, Contains}
 use Rattle.std.specs.Result.{IsErrAnd}
 use Rattle.std.proofs.lemmas.List.{length_push}
-use Rattle.cc_cdcl.specs.Solvers.{SolverView, Standing, Found, Ready, AddsDerived, IsStep}
+use Rattle.cc_cdcl.specs.Solvers.{SolverView, Found, Ready, AddsDerived, IsStep}
 use Rattle.cc_cdcl.specs.declared.solver.Step.{Step}
 use Rattle.cc_cdcl.specs.declared.solver.Step.TheVariants as answers
 use Rattle.cc_clauses.specs.RowsOf.{IsLeastRowOf}
@@ -29,15 +29,15 @@ use Rattle.cc_defs.specs.Resolved.{Query}
 use Rattle.cc_defs.specs.Runs.{Ask}
 use Rattle.cc_defs.specs.Sections.{HasNoEmpty, row_denial}
 use Rattle.cc_kernel.specs.declared.kernel.Origin.TheVariants as origins
-use Rattle.cc_kernel.specs.Kernels.{Entry, KernelView, added, clauses_of, derived_count, first_empty, number_if_empty}
+use Rattle.cc_kernel.specs.Kernels.{Entry, KernelView, added, clauses_of, first_empty, number_if_empty}
 use Rattle.cc_query.specs.declared.phase.Part.{Part}
 use Rattle.cc_query.specs.declared.phase.Part.TheVariants as parts
 use Rattle.cc_query.specs.declared.phase.Phase.{Phase}
 use Rattle.cc_query.specs.declared.phase.Phase.TheVariants as phases
 use Rattle.cc_query.specs.Laws.{SearchLaws}
-use Rattle.cc_query.specs.Parts.{axioms_at, is_conditions}
-use Rattle.cc_query.specs.Sessions.{SessionView, After, Gives, HasFound, Holds, IsAskable, IsBlocked, IsRightFault, IsSession, IsSessionOf, IsWithin, RowsAreHistories, ending_behind, last_at, opening_refusal, opens_at, with_row}
-use Rattle.cc_query.proofs.Giving.{asks_for, gives_asked, gives_all_asked, gives_block, gives_budget, gives_complete, gives_counterexample, gives_empty, gives_empty_line, gives_failing, gives_found, gives_heading, gives_history, gives_holds, gives_last, gives_line, gives_no_conditions, gives_no_history, gives_refuted, gives_spent}
+use Rattle.cc_query.specs.Parts.{is_conditions}
+use Rattle.cc_query.specs.Sessions.{SessionView, After, Gives, HasFound, IsAskable, IsBlocked, IsRightFault, IsSession, IsSessionOf, IsWithin, ending_behind, last_at, opening_refusal, opens_at, with_row}
+use Rattle.cc_query.proofs.Giving.{asks_for, gives_all_asked, gives_block, gives_budget, gives_complete, gives_counterexample, gives_empty, gives_empty_line, gives_failing, gives_found, gives_history, gives_holds, gives_last, gives_line, gives_no_conditions, gives_no_history, gives_refuted, gives_spent}
 use Rattle.cc_query.proofs.Going.{history_too_many}
 use Rattle.cc_query.proofs.Refusing.{handed_on}
 use Rattle.cc_query.proofs.Within.{block_within, last_numbered, line_within}

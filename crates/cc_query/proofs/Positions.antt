@@ -1,6 +1,6 @@
 -- The sizes of positions, by the signature and by the description; rows by their indexes.
-use Rattle.std.proofs.Common.{◌≡◌, ◌∙◌, ℕ, ◌+◌, ◌*◌, ◌<◌, ◌≤◌, ◌%◌, ◌-◌, ◌↔◌, inl, inr, zero, suc, List, [], ◌∷◌, ◌++◌, length, map, Option, Some, None, refl, sym, subst, ap, ap₂, arith, append_assoc}
-use Rattle.std.specs.Prelude.{slice_get, slice_index, option_map, IsNone}
+use Rattle.std.proofs.Common.{◌≡◌, ◌∙◌, ℕ, ◌+◌, ◌*◌, ◌<◌, ◌≤◌, ◌%◌, ◌↔◌, inl, inr, zero, suc, List, [], ◌∷◌, ◌++◌, length, Some, refl, sym, subst, ap, ap₂, arith}
+use Rattle.std.specs.Prelude.{slice_get, slice_index, option_map}
 use Rattle.std.proofs.lemmas.List.{map-append}
 use Rattle.std.proofs.lemmas.Bool.{cases_lt}
 use Rattle.cc_defs.specs.declared.lists.Key.{Key}

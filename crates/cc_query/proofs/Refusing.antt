@@ -1,5 +1,5 @@
 -- Which limit refuses a section that opens.
-use Rattle.std.proofs.Common.{◌≡◌, ◌∙◌, ℕ, ◌<◌, ◌≤◌, inl, inr, Bool, true, false, ltb, Option, Some, None, Result, Ok, Err, length, refl, sym, subst, ap, arith}
+use Rattle.std.proofs.Common.{◌≡◌, ℕ, ◌≤◌, Bool, Option, Some, None, Result, Ok, Err, length, sym, subst, arith}
 use Rattle.std.specs.Result.{IsErrAnd}
 use Rattle.std.specs.Prelude.{IfErr, nat_lt, not, if◌then◌else◌}
 use Rattle.std.specs.Option.{option_or}

@@ -1,7 +1,6 @@
 -- The steps of a section, one after another: what they add, and which assignments meet it.
-use Rattle.std.proofs.Common.{◌≡◌, ◌≢◌, ◌∙◌, ℕ, ◌+◌, ◌-◌, ◌<◌, ◌≤◌, ◌⊎◌, ◌==◌, inl, inr, zero, suc, Bool, true, false, List, [], ◌∷◌, ◌++◌, length, map, Some, refl, sym, subst, ap, arith, append_assoc, append-nil, eqb}
+use Rattle.std.proofs.Common.{◌≡◌, ◌∙◌, ℕ, ◌+◌, ◌-◌, ◌⊎◌, inl, inr, zero, suc, Bool, List, [], ◌∷◌, ◌++◌, map, Some, refl, sym, subst, arith, append_assoc, append-nil, eqb}
 use Rattle.std.specs.Prelude.{slice_get, IsTrue, Contains}
-use Rattle.std.specs.List.{flat_map}
 use Rattle.std.proofs.lemmas.List.Elements.{Contains-append_left, Contains-append_right, Contains-append_cases}
 use Rattle.std.proofs.lemmas.Grind.{flat_map-append}
 use Rattle.std.proofs.lemmas.Bool.{false≢true}
@@ -9,7 +8,7 @@ use Rattle.std.proofs.lemmas.Bool.Decides.{eqb_tells}
 use Rattle.cc_cdcl.specs.Laws.{DenialDenies, DenialLeavesOthers}
 use Rattle.cc_cdcl.specs.LeastRows as rows
 use Rattle.cc_clauses.specs.Laws.{ResolventsAreSound}
-use Rattle.cc_clauses.specs.RowsOf.{MeetsAll, HasRow, HasRowFrom, IsRowOf}
+use Rattle.cc_clauses.specs.RowsOf.{MeetsAll, HasRowFrom, IsRowOf}
 use Rattle.cc_defs.specs.Clauses.{Literal, IsNumbered, ReachesFrom, Reaches, meets}
 use Rattle.cc_defs.specs.Rows.{IsRow}
 use Rattle.cc_defs.specs.Runs.{Step, Derive, Tell, AreFairSteps, IsFairLine, counted, counted_in, row_told}

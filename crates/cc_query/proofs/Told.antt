@@ -1,6 +1,6 @@
 -- A section that is searched: what its steps tell is true, line by line, history by history, and with each end word.
-use Rattle.std.proofs.Common.{◌≡◌, ◌≢◌, ◌∙◌, ℕ, ◌+◌, ◌<◌, ◌≤◌, ◌⊎◌, inl, inr, zero, suc, false, List, [], ◌∷◌, ◌++◌, length, map, Option, Some, None, refl, sym, subst, ap, arith, append-nil}
-use Rattle.std.specs.Prelude.{Contains, IfSome, IsSome, IsNone}
+use Rattle.std.proofs.Common.{◌≡◌, ◌∙◌, ℕ, ◌+◌, ◌<◌, ◌≤◌, suc, false, List, [], ◌∷◌, ◌++◌, length, Option, Some, None, refl, sym, subst, ap, arith, append-nil}
+use Rattle.std.specs.Prelude.{Contains, IfSome, IsSome}
 use Rattle.std.proofs.lemmas.List.{length_push}
 use Rattle.cc_clauses.specs.RowsOf.{IsRowOf, IsLeastRowOf}
 use Rattle.cc_defs.specs.declared.log.EndWord.{EndWord}
@@ -10,8 +10,8 @@ use Rattle.cc_defs.specs.Description.{Description}
 use Rattle.cc_defs.specs.Histories.{IsHistory, IsListing, AreFirst}
 use Rattle.cc_defs.specs.Resolved.{Query}
 use Rattle.cc_defs.specs.Rows.{IsRow}
-use Rattle.cc_defs.specs.Runs.{Ask, Step, Derive, Tell, Section, AreFairSteps, IsFairLine, IsFairSection, LooksForOne, TellsHistories, EndsWith, HasNone, HasSome, counted, counted_in, axioms_of, key_row, rows_of}
-use Rattle.cc_defs.specs.Sections.{Axioms, HasNoEmpty, EndsRightly, row_denial}
+use Rattle.cc_defs.specs.Runs.{Ask, Step, Derive, Tell, AreFairSteps, IsFairLine, IsFairSection, LooksForOne, TellsHistories, counted, counted_in, axioms_of, key_row}
+use Rattle.cc_defs.specs.Sections.{Axioms, HasNoEmpty, row_denial}
 use Rattle.cc_form.specs.Forms.{TellsHistories as FormTells}
 use Rattle.cc_query.specs.Laws.{SearchLaws as Laws}
 use Rattle.cc_query.specs.Parts.{rows_in, section_of, open_section}

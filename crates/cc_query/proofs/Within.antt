@@ -1,18 +1,17 @@
 -- How many clauses a solver has behind its axioms.
-use Rattle.std.proofs.Common.{◌≡◌, ◌≢◌, ◌∙◌, ℕ, ◌+◌, ◌<◌, ◌≤◌, zero, suc, cond, List, [], ◌∷◌, ◌++◌, length, map, refl, sym, subst, ap, arith}
-use Rattle.std.specs.Prelude.{not, Some, slice_get, ◌-◌}
+use Rattle.std.proofs.Common.{◌≡◌, ◌∙◌, ℕ, ◌+◌, ◌<◌, ◌≤◌, cond, List, [], ◌∷◌, ◌++◌, length, map, refl, sym, subst, ap, arith}
+use Rattle.std.specs.Prelude.{not, Some, slice_get}
 use Rattle.std.proofs.lemmas.List.{length_push}
 use Rattle.std.proofs.lemmas.List.Sums.{sum_by-append}
-use Rattle.cc_cdcl.specs.Solvers.{SolverView, Standing, Found, AddsDerived}
+use Rattle.cc_cdcl.specs.Solvers.{SolverView, AddsDerived}
 use Rattle.cc_defs.specs.declared.event.Event.{Event}
 use Rattle.cc_defs.specs.declared.event.Event.TheVariants as events
 use Rattle.cc_defs.specs.declared.log.LogLine.TheVariants as lines
 use Rattle.cc_defs.specs.Clauses.{Literal, IsNumbered}
 use Rattle.cc_defs.specs.Runs.{Ask}
-use Rattle.cc_defs.specs.Sections.{row_denial}
 use Rattle.cc_kernel.specs.declared.kernel.Origin.TheVariants as origins
 use Rattle.cc_kernel.specs.Kernels.{Entry, KernelView, added, clauses_of, derived_count, is_given}
-use Rattle.cc_query.specs.Sessions.{IsWithin, IsBlocked}
+use Rattle.cc_query.specs.Sessions.{IsWithin}
 
 counted_one : (entries : List Entry) (entry : Entry) → derived_count (entries ++ entry ∷ []) ≡ derived_count entries + derived_count (entry ∷ [])
 counted_one entries entry = sum_by-append (λ (e : Entry). cond (not (is_given e)) 1 0) entries (entry ∷ [])

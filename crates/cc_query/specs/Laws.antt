@@ -1,5 +1,5 @@
 -- Listings that go on after a key, and what searches rest on.
-use Rattle.std.specs.Prelude.{◌≡◌, ℕ, List, [], ◌∷◌, ◌++◌, Option, Some, None}
+use Rattle.std.specs.Prelude.{ℕ, List, [], ◌∷◌, ◌++◌, Option, Some}
 use Rattle.cc_cdcl.specs.Laws.{DenialDenies, DenialLeavesOthers}
 use Rattle.cc_clauses.specs.Laws.{ResolventsAreSound}
 use Rattle.cc_defs.specs.Description.{Description}

@@ -1,9 +1,9 @@
 -- What a session holds, and what the events so far leave it to hold.
-use Rattle.std.specs.Prelude.{◌≡◌, ◌≢◌, ℕ, ◌+◌, ◌<◌, ◌≤◌, ◌⊎◌, Bool, true, false, not, if◌then◌else◌, IfSome, List, [], ◌∷◌, ◌++◌, map, length, Option, Some, None, IsSome, IsNone, Contains}
+use Rattle.std.specs.Prelude.{◌≡◌, ◌≢◌, ℕ, ◌+◌, ◌≤◌, ◌⊎◌, Bool, true, false, not, if◌then◌else◌, IfSome, List, [], ◌∷◌, ◌++◌, map, length, Option, Some, None, IsSome, IsNone, Contains}
 use Rattle.std.specs.List.{list_any}
 use Rattle.std.specs.Option.{option_or}
 use Rattle.cc_arena.specs.declared.ground_laws.GroundLaw.{GroundLaw}
-use Rattle.cc_cdcl.specs.Solvers.{SolverView, Standing, Found, Ready}
+use Rattle.cc_cdcl.specs.Solvers.{SolverView, Found, Ready}
 use Rattle.cc_clauses.specs.RowsOf.{IsLeastRowOf}
 use Rattle.cc_defs.specs.declared.event.Ending.{Ending}
 use Rattle.cc_defs.specs.declared.event.Ending.TheVariants as endings
@@ -19,7 +19,6 @@ use Rattle.cc_defs.specs.declared.refusal.Fault.TheVariants as faults
 use Rattle.cc_defs.specs.declared.refusal.LimitAt.TheVariants as limits
 use Rattle.cc_defs.specs.declared.refusal.Refusal.{Refusal}
 use Rattle.cc_defs.specs.ClauseLists.{clause_list}
-use Rattle.cc_defs.specs.Clauses.{Literal}
 use Rattle.cc_defs.specs.Description.{Description, sizes_at}
 use Rattle.cc_defs.specs.GroundLaws.{PlainGroundQuery, StandsForQuery}
 use Rattle.cc_defs.specs.Histories.{AreFirst}

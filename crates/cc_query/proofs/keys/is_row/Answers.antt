@@ -1,4 +1,4 @@
-use Rattle.std.proofs.Common.{◌≡◌, ◌∙◌, ℕ, ◌<◌, sym, refl, subst}
+use Rattle.std.proofs.Common.{◌∙◌, ℕ, ◌<◌, sym, refl, subst}
 use Rattle.cc_query.proofs.Positions.{all_within, one_within, too_great, too_long}
 use Rattle.cc_query.proofs.keys.is_row.Goals as goal
 

@@ -1,4 +1,4 @@
-use Rattle.std.proofs.Common.{ℕ, None, subst, rules, arith}
+use Rattle.std.proofs.Common.{ℕ, subst}
 use Rattle.std.specs.Prelude.{IfErr}
 use Rattle.std.specs.Option.{option_map}
 use Rattle.cc_defs.specs.ClauseLists.{clause_list}

@@ -1,5 +1,5 @@
 use Rattle.std.proofs.Common.{◌≡◌, ◌∙◌, ℕ, true, false, [], Option, Some, None, refl, sym, subst}
-use Rattle.std.specs.Prelude.{Contains, IsSome, is_some}
+use Rattle.std.specs.Prelude.{Contains, is_some}
 use Rattle.cc_defs.specs.Sections.{HasNoEmpty}
 use Rattle.cc_kernel.specs.Kernels.{KernelView, clauses_of}
 use Rattle.cc_query.proofs.Joining.{none_first, some_first}

@@ -1,6 +1,6 @@
-use Rattle.std.proofs.Common.{◌≡◌, ◌∙◌, ℕ, List, sym, subst, ap}
+use Rattle.std.proofs.Common.{◌∙◌, ℕ, List, sym, subst, ap}
 use Rattle.std.specs.Prelude.{IfOk, IfErr}
-use Rattle.cc_cdcl.specs.Solvers.{Standing, Found}
+use Rattle.cc_cdcl.specs.Solvers.{Found}
 use Rattle.cc_query.specs.declared.phase.Part.{Part}
 use Rattle.cc_query.specs.declared.phase.Phase.TheVariants as phases
 use Rattle.cc_query.specs.Sessions.{Gives, IsRightFault}

@@ -1,4 +1,3 @@
-use Rattle.std.proofs.Common.{◌≡◌, ◌∙◌, ℕ, List, sym, subst, ap}
 use Rattle.cc_cdcl.specs.declared.solver.Step.TheVariants as answers
 use Rattle.cc_query.proofs.Joining.{askable_of, empty_gives, line_gives, search_spent, step_at}
 use Rattle.cc_query.proofs.session.Session.search_on.Goals as goal

@@ -1,6 +1,4 @@
-use Rattle.std.proofs.Common.{rules, ◌≡◌, ℕ, ◌≤◌, arith, sym, subst}
-use Rattle.std.specs.Prelude.{IfErr}
-use Rattle.cc_arena.specs.GroundViews.{plain_ground_query}
+use Rattle.std.proofs.Common.{sym, subst}
 use Rattle.std.specs.Option.{option_map}
 use Rattle.cc_query.proofs.Reaching.{query_there}
 use Rattle.cc_query.proofs.Refusing.{opening_refused}

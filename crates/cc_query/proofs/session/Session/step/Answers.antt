@@ -1,6 +1,5 @@
 use Rattle.std.proofs.Common.{subst}
 use Rattle.std.specs.Prelude.{IfErr}
-use Rattle.cc_query.specs.declared.phase.Phase.TheVariants as phases
 use Rattle.cc_query.specs.Sessions.{SessionView, IsRightFault}
 use Rattle.cc_query.proofs.Joining.{as_before, step_failing, step_refuted}
 use Rattle.cc_query.proofs.session.Session.step.Goals as goal
