@@ -81,16 +81,16 @@ block_gives laws (Ok given) now new solver listed askable other event (blocked, 
 
 -- ---- opening
 
-fault_of : {S : Type 0} (r : Result S Fault) (s : SessionView) (part : Part) → opens_at s.phase ≡ Some part →
+fault_of : {S : Type 0} (r : Result S Fault) (s : SessionView) (part : Part) → opens_at s.phase ≡ Some part → s.horizon ≤ last_at s.query s.ask.after →
     ((d : Description) (q : Query) → IsSessionOf s d q → IfErr r (IsRefusedBy (opening_refusal d q s.ask s.horizon (is_conditions part)))) → IfErr r (IsRightFault s)
-fault_of (Ok value) s part opens refused = tt
-fault_of (Err faults.OutOfMemory) s part opens refused = tt
-fault_of (Err (faults.Refused refusal)) s part opens refused = λ d q given of after. inl (part, opens, refused d q of)
+fault_of (Ok value) s part opens low refused = tt
+fault_of (Err faults.OutOfMemory) s part opens low refused = tt
+fault_of (Err (faults.Refused refusal)) s part opens low refused = λ d q given of after. inl (part, opens, low, refused d q of)
 
-pub opening_fault : {S T : Type 0} (r : Result S Fault) (out : Result T Fault) (fault : Fault) (s : SessionView) (part : Part) → opens_at s.phase ≡ Some part →
+pub opening_fault : {S T : Type 0} (r : Result S Fault) (out : Result T Fault) (fault : Fault) (s : SessionView) (part : Part) → opens_at s.phase ≡ Some part → s.horizon ≤ last_at s.query s.ask.after →
     r ≡ Err fault → IsErrAnd out (λ given. given ≡ fault) →
     ((d : Description) (q : Query) → IsSessionOf s d q → IfErr r (IsRefusedBy (opening_refusal d q s.ask s.horizon (is_conditions part)))) → IfErr out (IsRightFault s)
-opening_fault r out fault s part opens was is refused = handed_on r out fault (IsRightFault s) was is (fault_of r s part opens refused)
+opening_fault r out fault s part opens low was is refused = handed_on r out fault (IsRightFault s) was is (fault_of r s part opens low refused)
 
 pub begin_last : (laws : SearchLaws) (v now : SessionView) (part : Part) (last : ℕ) (ending : Ending) → v ≡ now → IsSession v → now.phase ≡ phases.Ended →
     last ≡ last_at v.query v.ask.after → last < v.horizon → ending ≡ ending_behind v.met part →

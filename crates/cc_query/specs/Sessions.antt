@@ -158,6 +158,17 @@ abbrev pub After : Description → Query → SessionView → List Told → Type 
 After d q session given =
     (run : Run) × IsFairRun d q session.ask run × (given ≡ events_of (first_horizon q session.ask.after) run) × StandsBehind d q session run
 
+-- ---- the horizons
+
+-- the first horizon that is tried, and the last one
+abbrev pub first_at : PlainGroundQuery → Option Key → ℕ
+first_at query None = query.lo
+first_at query (Some key) = key.horizon
+
+abbrev pub last_at : PlainGroundQuery → Option Key → ℕ
+last_at query None = query.hi
+last_at query (Some key) = key.horizon
+
 -- ---- what a call of a session says
 
 -- it searches for the same
@@ -206,7 +217,8 @@ opens_at phases.Ended = None
 -- this refusal may come: that of the section that opens, or that a history is one too many
 abbrev pub MayRefuse : Description → Query → SessionView → List Told → Refusal → Type 0
 MayRefuse d q session given refusal =
-    ((part : Part) × (opens_at session.phase ≡ Some part) × (opening_refusal d q session.ask session.horizon (is_conditions part) ≡ Some refusal))
+    ((part : Part) × (opens_at session.phase ≡ Some part) × (session.horizon ≤ last_at session.query session.ask.after)
+    × (opening_refusal d q session.ask session.horizon (is_conditions part) ≡ Some refusal))
     ⊎ ((refusal ≡ past limits.Histories) × HasTooMany d q session given)
 
 -- or memory was wanting
@@ -240,14 +252,6 @@ pub record Gives (old new : SessionView) (event : Event) : Type 0 where
   pub more : ((ending : Ending) → event ≢ events.Ended ending) → new.phase ≢ phases.Ended
 
 -- ---- what is always true of a session
-
-abbrev pub first_at : PlainGroundQuery → Option Key → ℕ
-first_at query None = query.lo
-first_at query (Some key) = key.horizon
-
-abbrev pub last_at : PlainGroundQuery → Option Key → ℕ
-last_at query None = query.hi
-last_at query (Some key) = key.horizon
 
 -- a key is a row of one of the query's horizons, and the query has no claim
 pub record Fits (signature : Signature) (query : PlainGroundQuery) (key : Key) : Type 0 where

@@ -10,7 +10,7 @@ use Rattle.cc_query.proofs.session.Session.open.Goals as goal
 
 pub returns-in_err-solver-clause-fault : goal.returns-in_err-solver-clause-fault
 returns-in_err-solver-clause-fault c = λ phase opens.
-    opening_fault c.solver.result c.from_residual.result c.in_err-solver.field-0.0 (record c.args.self.now { phase = phase }) c.args.part opens
+    opening_fault c.solver.result c.from_residual.result c.in_err-solver.field-0.0 (record c.args.self.now { phase = phase }) c.args.part opens c.requires
     c.in_err-solver.was c.from_residual.ensures.1 (λ d q of. c.solver.ensures.refused d q (record { laws = of.laws; query = of.query }))
 
 pub returns-clause-gives : goal.returns-clause-gives
