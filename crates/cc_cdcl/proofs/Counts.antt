@@ -41,7 +41,7 @@ head_before a (b ∷ clause) is literal (suc k, low, same) = before_trans a b li
 -- ---- by the number of literals of a level
 
 module _ (steps : List Step) (level : ℕ) where
-  abbrev at_level : Literal → Bool
+  abbrev pub at_level : Literal → Bool
   at_level literal = is_level level (level_of steps literal.variable)
 
   is_at : (value : Option ℕ) → is_level level value ≡ true → value ≡ Some level
@@ -91,7 +91,7 @@ module _ (steps : List Step) (level : ℕ) where
         (one, two, apart, in_more first clause one one_in, in_more first clause two two_in, one_at, two_at)
   ]
 
-  none_of : (clause : List Literal) → level_count_in steps level clause ≡ 0 → (literal : Literal) → Contains clause literal → at_level literal ≡ false
+  pub none_of : (clause : List Literal) → level_count_in steps level clause ≡ 0 → (literal : Literal) → Contains clause literal → at_level literal ≡ false
   none_of [] none literal (k, low, same) = absurd (omega arith)
   none_of (first ∷ clause) none literal here = elim (count_cases first) [
     | inl (there, at, one) ↦ absurd (omega arith)
@@ -149,7 +149,7 @@ module _ (steps : List Step) (level : ℕ) where
     | inr other ↦ inr (rw (other.0) (refl, other.1))
   ]
 
-  abbrev Reached : ℕ → List Literal → Type 0
+  abbrev pub Reached : ℕ → List Literal → Type 0
   Reached highest clause = (highest ≡ 0) ⊎ (HasOneOf steps highest clause × (highest ≢ level))
 
   one_of_two : (a b : ℕ) → (max a b ≡ a) ⊎ (max a b ≡ b)
@@ -158,7 +158,7 @@ module _ (steps : List Step) (level : ℕ) where
     | inr high ↦ let more : b < a = high.1 in inl (omega arith)
   ]
 
-  highest_reached : (clause : List Literal) → Reached (highest_but steps level clause) clause
+  pub highest_reached : (clause : List Literal) → Reached (highest_but steps level clause) clause
   highest_reached [] = inl refl
   highest_reached (first ∷ clause) = by (one_of_two (level_but level (level_of steps first.variable)) (highest_but steps level clause)) (highest_reached clause)
     where

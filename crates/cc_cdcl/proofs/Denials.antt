@@ -1,5 +1,5 @@
 -- The clause that denies a row: an assignment that has the row does not meet it, and one that has another row does.
-use Rattle.std.proofs.Common.{◌≡◌, ◌≢◌, ◌∙◌, ℕ, ◌+◌, ◌<◌, ◌≤◌, zero, suc, inl, inr, eqb, Bool, true, false, List, [], ◌∷◌, Option, Some, None, refl, sym, subst, ap, ap₂, arith}
+use Rattle.std.proofs.Common.{◌≡◌, ◌≢◌, ◌∙◌, ℕ, ◌+◌, ◌<◌, ◌≤◌, zero, suc, inl, inr, eqb, Bool, true, false, List, [], ◌∷◌, Option, Some, None, refl, subst, ap, ap₂, arith}
 use Rattle.std.specs.Prelude.{unwrap_or}
 use Rattle.std.proofs.lemmas.Bool.Decides.{eqb_tells}
 use Rattle.std.specs.List.{sum}
@@ -9,7 +9,7 @@ use Rattle.cc_defs.specs.ClauseForms.{positive}
 use Rattle.cc_defs.specs.Clauses.{Literal, IsClause, IsOver, meets, opposite}
 use Rattle.cc_defs.specs.Rows.{IsRow}
 use Rattle.cc_defs.specs.Sections.{denial_from}
-use Rattle.cc_cdcl.specs.LeastRows.{HasRowFrom}
+use Rattle.cc_clauses.specs.RowsOf.{HasRowFrom}
 use Rattle.cc_cdcl.specs.Sets.{assignment_of}
 
 pub eqb_itself : (n : ℕ) → eqb n n ≡ true
@@ -26,13 +26,13 @@ pub not_denied : (first : ℕ) (sizes row other : List ℕ) (assignment : ℕ �
     HasRowFrom first sizes assignment other → meets assignment (denial_from first sizes row) ≡ true
 not_denied first [] [] [] assignment is other_is apart has = absurd (apart refl)
 not_denied first [] (index ∷ row) other assignment is other_is apart has = absurd is
-not_denied first [] [] (index ∷ other) assignment is other_is apart has = absurd has
+not_denied first [] [] (index ∷ other) assignment is other_is apart has = absurd other_is
 not_denied first (size ∷ sizes) [] other assignment is other_is apart has = absurd is
 not_denied first (size ∷ sizes) (index ∷ row) [] assignment is other_is apart has = absurd has
-not_denied first (size ∷ sizes) (index ∷ row) (value ∷ other) assignment is other_is apart has = elim (eqb_tells index value) [
+not_denied first (size ∷ sizes) (index ∷ row) (value ∷ other) assignment is other_is apart has = elim (eqb_tells value index) [
   | inr differ ↦ rw (has.0 index is.0 ∙ differ.0) refl
   | inl same ↦ rw (has.0 index is.0 ∙ same.0)
-      (not_denied (first + size) sizes row other assignment is.1 other_is.1 (λ e. apart (ap₂ (λ (n : ℕ) (ns : List ℕ). n ∷ ns) (sym (same.1)) e)) has.1)
+      (not_denied (first + size) sizes row other assignment is.1 other_is.1 (λ e. apart (ap₂ (λ (n : ℕ) (ns : List ℕ). n ∷ ns) (same.1) e)) has.1)
 ]
 
 -- ---- the clause itself

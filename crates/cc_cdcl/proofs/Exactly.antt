@@ -10,9 +10,10 @@ use Rattle.cc_defs.specs.ClauseLists.{exactly_one, pairs_denied, position_variab
 use Rattle.cc_defs.specs.Rows.{IsRow}
 use Rattle.cc_defs.specs.Rules.{upto}
 use Rattle.cc_cdcl.proofs.Picking.{in_more}
-use Rattle.cc_cdcl.specs.LeastRows.{HasIndex, HasRowFrom, MeetsAll, row_from, true_index}
+use Rattle.cc_clauses.specs.RowsOf.{HasRowFrom, MeetsAll}
+use Rattle.cc_cdcl.specs.LeastRows.{HasIndex, row_from, true_index}
 
-map_push : {A B : Type 0} (f : A → B) (xs : List A) (x : A) → map f (xs ++ x ∷ []) ≡ map f xs ++ f x ∷ []
+pub map_push : {A B : Type 0} (f : A → B) (xs : List A) (x : A) → map f (xs ++ x ∷ []) ≡ map f xs ++ f x ∷ []
 map_push f [] x = refl
 map_push f (y ∷ ys) x = ap (λ rest. f y ∷ rest) (map_push f ys x)
 
@@ -72,7 +73,7 @@ some_true assignment first (suc size) met =
     by false e = cc
 
 -- the first true one is true
-index_true : (assignment : ℕ → Bool) (size first value : ℕ) → value < size → assignment (first + value) ≡ true →
+pub index_true : (assignment : ℕ → Bool) (size first value : ℕ) → value < size → assignment (first + value) ≡ true →
     (true_index assignment first size < size) × (assignment (first + true_index assignment first size) ≡ true)
 index_true assignment zero first value low is = absurd (omega arith)
 index_true assignment (suc size) first zero low is =
@@ -87,7 +88,7 @@ index_true assignment (suc size) first (suc value) low is = by (assignment first
 not_two : (assignment : ℕ → Bool) (u v : ℕ) → assignment u ≡ true → assignment v ≡ true → IsTrue (meets assignment (denied_pair (positive u) (positive v))) → ⊥
 not_two assignment u v e f met = let both = rw (e, f) at met in cc
 
-pub one_value : (assignment : ℕ → Bool) (first size : ℕ) → MeetsAll (exactly_one (position_variables first size)) assignment →
+pub one_value : (assignment : ℕ → Bool) (first size : ℕ) → MeetsAll assignment (exactly_one (position_variables first size)) →
     (true_index assignment first size < size) × HasIndex first size assignment (true_index assignment first size)
 one_value assignment first size all = (there.0, each)
   where
@@ -108,12 +109,12 @@ one_value assignment first size all = (there.0, each)
         ])
 
     each : HasIndex first size assignment (true_index assignment first size)
-    each value low = elim (eqb_tells value (true_index assignment first size)) [
-      | inl same ↦ ap (λ (n : ℕ). assignment (first + n)) (same.1) ∙ there.1 ∙ sym (same.0)
-      | inr other ↦ alone value low (other.1) (assignment (first + value)) refl ∙ sym (other.0)
+    each value low = elim (eqb_tells (true_index assignment first size) value) [
+      | inl same ↦ ap (λ (n : ℕ). assignment (first + n)) (sym (same.1)) ∙ there.1 ∙ sym (same.0)
+      | inr other ↦ alone value low (λ e. other.1 (sym e)) (assignment (first + value)) refl ∙ sym (other.0)
     ]
 
-pub has_row : (assignment : ℕ → Bool) (first : ℕ) (sizes : List ℕ) → MeetsAll (positions_from first sizes) assignment →
+pub has_row : (assignment : ℕ → Bool) (first : ℕ) (sizes : List ℕ) → MeetsAll assignment (positions_from first sizes) →
     IsRow sizes (row_from first sizes assignment) × HasRowFrom first sizes assignment (row_from first sizes assignment)
 has_row assignment first [] all = (tt, tt)
 has_row assignment first (size ∷ sizes) all =

@@ -12,7 +12,8 @@ use Rattle.cc_trail.specs.Links.{IsIn}
 use Rattle.cc_trail.specs.Steps.{values_of}
 use Rattle.cc_trail.specs.Watches.{AreReasonedAfter, HasReason}
 use Rattle.cc_cdcl.specs.Choices.{AreChosenAfter, IsNext, IsNextFrom}
-use Rattle.cc_cdcl.specs.LeastRows.{HasRowFrom, HasRow, MeetsAll, row_of}
+use Rattle.cc_clauses.specs.RowsOf.{HasRowFrom, HasRow, MeetsAll}
+use Rattle.cc_cdcl.specs.LeastRows.{row_of}
 use Rattle.cc_cdcl.specs.Laws.{LeastRowIsFound, ChoicesAreKept}
 use Rattle.cc_cdcl.specs.Sets.{assignment_of}
 use Rattle.cc_cdcl.proofs.Closed.{full_met}
@@ -43,7 +44,7 @@ same_rows first [] [] (j ∷ other) a b goes is other_is has other_has = absurd 
 same_rows first (size ∷ sizes) [] other a b goes is other_is has other_has = absurd is
 same_rows first (size ∷ sizes) (i ∷ row) [] a b goes is other_is has other_has = absurd other_is
 same_rows first (size ∷ sizes) (i ∷ row) (j ∷ other) a b goes is other_is has other_has =
-    ap₂ (λ (n : ℕ) (ns : List ℕ). n ∷ ns) (same_index i j (sym (other_has.0 i is.0) ∙ goes (first + i) (has.0 i is.0 ∙ eqb_itself i)))
+    ap₂ (λ (n : ℕ) (ns : List ℕ). n ∷ ns) (sym (same_index j i (sym (other_has.0 i is.0) ∙ goes (first + i) (has.0 i is.0 ∙ eqb_itself i))))
     (same_rows (first + size) sizes row other a b goes is.1 other_is.1 has.1 other_has.1)
 
 -- ---- where a choice turns out otherwise
@@ -54,24 +55,24 @@ Gives values a = (variable : ℕ) (sign : Bool) → values variable ≡ Some sig
 module _ (values : Values) (literal : Literal) (a b : ℕ → Bool) (gives_a : Gives values a) (gives_b : Gives values b)
     (made : b literal.variable ≡ literal.positive) (otherwise : a literal.variable ≢ literal.positive) where
   chosen_otherwise : (first : ℕ) (sizes row other : List ℕ) → IsRow sizes row → IsRow sizes other → HasRowFrom first sizes b row → HasRowFrom first sizes a other →
-      IsNextFrom first sizes values literal → (row ≡ other) ⊎ IsBelow row other
+      IsNextFrom first sizes values literal → (other ≡ row) ⊎ IsBelow row other
   chosen_otherwise first [] [] [] is other_is has other_has next = inl refl
   chosen_otherwise first [] (i ∷ row) other is other_is has other_has next = absurd is
   chosen_otherwise first [] [] (j ∷ other) is other_is has other_has next = absurd other_is
   chosen_otherwise first (size ∷ sizes) [] other is other_is has other_has next = absurd is
   chosen_otherwise first (size ∷ sizes) (i ∷ row) [] is other_is has other_has next = absurd other_is
   chosen_otherwise first (size ∷ sizes) (i ∷ row) (j ∷ other) is other_is has other_has (inl ((value, low, true_is), next)) =
-      let at_i : value ≡ i = same_index value i (sym (has.0 value low) ∙ gives_b (first + value) true true_is) in
-      let at_j : value ≡ j = same_index value j (sym (other_has.0 value low) ∙ gives_a (first + value) true true_is) in
+      let at_i : value ≡ i = sym (same_index i value (sym (has.0 value low) ∙ gives_b (first + value) true true_is)) in
+      let at_j : value ≡ j = sym (same_index j value (sym (other_has.0 value low) ∙ gives_a (first + value) true true_is)) in
       elim (chosen_otherwise (first + size) sizes row other is.1 other_is.1 has.1 other_has.1 next) [
-        | inl same ↦ inl (ap₂ (λ (n : ℕ) (ns : List ℕ). n ∷ ns) (sym at_i ∙ at_j) same)
+        | inl same ↦ inl (ap₂ (λ (n : ℕ) (ns : List ℕ). n ∷ ns) (sym at_j ∙ at_i) same)
         | inr below ↦ inr (below_rest i j row other (sym at_i ∙ at_j) below)
       ]
   chosen_otherwise first (size ∷ sizes) (i ∷ row) (j ∷ other) is other_is has other_has (inr (none, (value, low, literal_is, unset, lower))) =
       inr (below_first i j row other less)
     where
       at_i : value ≡ i
-      at_i = same_index value i (sym (has.0 value low) ∙ sym (ap (λ (l : Literal). b l.variable) literal_is) ∙ made ∙ ap (λ (l : Literal). l.positive) literal_is)
+      at_i = sym (same_index i value (sym (has.0 value low) ∙ sym (ap (λ (l : Literal). b l.variable) literal_is) ∙ made ∙ ap (λ (l : Literal). l.positive) literal_is))
 
       true_j : a (first + j) ≡ true
       true_j = other_has.0 j other_is.0 ∙ eqb_itself j
@@ -154,7 +155,7 @@ in_numbered [] k clause is = cc
 in_numbered (first ∷ clauses) zero clause is = let same : first ≡ clause = cc in (0, omega arith, same)
 in_numbered (first ∷ clauses) (suc k) clause is = in_more first clauses clause (in_numbered clauses k clause is)
 
-reason_true : (a : ℕ → Bool) (clauses : List (List Literal)) (before : List Step) (literal : Literal) (number : ℕ) → MeetsAll clauses a → MakesTrue a before →
+reason_true : (a : ℕ → Bool) (clauses : List (List Literal)) (before : List Step) (literal : Literal) (number : ℕ) → MeetsAll a clauses → MakesTrue a before →
     HasReason clauses before literal number → a literal.variable ≡ literal.positive
 reason_true a clauses before literal number met makes (clause, numbered, member, others) =
     made_as (a literal.variable) literal.positive (left_true a clause literal (met clause (in_numbered clauses (number - 1) clause numbered.1)) false_others)
@@ -169,9 +170,9 @@ reason_true a clauses before literal number met makes (clause, numbered, member,
 -- ---- along the steps
 
 module _ (sizes : List ℕ) (clauses : List (List Literal)) (whole : List Step) (row other : List ℕ) (is : IsRow sizes row) (other_is : IsRow sizes other)
-    (has : HasRow sizes (assignment_of (values_of whole)) row) (a : ℕ → Bool) (other_has : HasRow sizes a other) (met : MeetsAll clauses a) where
+    (has : HasRow sizes (assignment_of (values_of whole)) row) (a : ℕ → Bool) (other_has : HasRow sizes a other) (met : MeetsAll a clauses) where
   abbrev Least : Type 0
-  Least = (row ≡ other) ⊎ IsBelow row other
+  Least = (other ≡ row) ⊎ IsBelow row other
 
   given_as : (value : Option Bool) (sign : Bool) → value ≡ Some sign → unwrap_or value false ≡ sign
   given_as value sign e = ap (λ (v : Option Bool). unwrap_or v false) e
@@ -198,9 +199,9 @@ module _ (sizes : List ℕ) (clauses : List (List Literal)) (whole : List Step) 
 
   least_from : (before steps : List Step) → whole ≡ before ++ steps → AreReasonedAfter clauses before steps → AreChosenAfter sizes before steps → MakesTrue a before → Least
   least_from before [] split reasoned chosen makes =
-      inl (same_rows 1 sizes row other a (assignment_of (values_of whole))
+      inl (sym (same_rows 1 sizes row other a (assignment_of (values_of whole))
       (λ variable true_is. gives a before makes variable true
-      (ap (λ (steps : List Step). values_of steps variable) (sym (split ∙ append-nil before)) ∙ given_true (values_of whole variable) true_is)) is other_is has other_has)
+      (ap (λ (steps : List Step). values_of steps variable) (sym (split ∙ append-nil before)) ∙ given_true (values_of whole variable) true_is)) is other_is has other_has))
   least_from before (step ∷ steps) split reasoned chosen makes =
       one_step before steps step split makes reasoned.0 chosen.0
       (least_from (before ++ step ∷ []) steps (split ∙ sym (append_assoc before (step ∷ []) steps)) reasoned.1 chosen.1) step.reason refl
@@ -208,18 +209,18 @@ module _ (sizes : List ℕ) (clauses : List (List Literal)) (whole : List Step) 
 pub least_found : LeastRowIsFound
 least_found sizes variables clauses steps over positions reasoned chosen full closed =
     let found = assignment_of (values_of steps) in
-    let met : MeetsAll clauses found = full_met variables clauses (values_of steps) over full closed in
+    let met : MeetsAll found clauses = full_met variables clauses (values_of steps) over full closed in
     let there = has_row found 1 sizes (λ clause here. met clause (positions clause here)) in
     record {
-      one = (there.0, (found, there.1, met));
-      least = λ other (other_is, (a, other_has, other_met)).
-          least_from sizes clauses steps (row_of sizes found) other there.0 other_is there.1 a other_has other_met [] steps refl reasoned chosen
+      one = record { is_row = there.0; assignment = found; has = there.1; meets_all = met };
+      least = λ other is.
+          least_from sizes clauses steps (row_of sizes found) other there.0 is.is_row there.1 is.assignment is.has is.meets_all [] steps refl reasoned chosen
           (λ step none. absurd none);
     }
 
 -- ---- choices are kept
 
-chosen_push : (sizes : List ℕ) (before steps : List Step) (last : Step) → AreChosenAfter sizes before steps →
+pub chosen_push : (sizes : List ℕ) (before steps : List Step) (last : Step) → AreChosenAfter sizes before steps →
     (last.reason ≡ None → IsNext sizes (values_of (before ++ steps)) last.lit) → AreChosenAfter sizes before (steps ++ last ∷ [])
 chosen_push sizes before [] last chosen next =
     ((λ is. subst (λ (ss : List Step). IsNext sizes (values_of ss) last.lit) (append-nil before) (next is)), tt)
@@ -229,7 +230,7 @@ chosen_push sizes before (step ∷ steps) last chosen next = (
       (λ is. subst (λ (ss : List Step). IsNext sizes (values_of ss) last.lit) (sym (append_assoc before (step ∷ []) steps)) (next is)),
 )
 
-chosen_front : (sizes : List ℕ) (before steps gone : List Step) → AreChosenAfter sizes before (steps ++ gone) → AreChosenAfter sizes before steps
+pub chosen_front : (sizes : List ℕ) (before steps gone : List Step) → AreChosenAfter sizes before (steps ++ gone) → AreChosenAfter sizes before steps
 chosen_front sizes before [] gone chosen = tt
 chosen_front sizes before (step ∷ steps) gone chosen = (chosen.0, chosen_front sizes (before ++ step ∷ []) steps gone chosen.1)
 

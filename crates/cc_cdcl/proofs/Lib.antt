@@ -12,3 +12,10 @@ mod Picking
 mod Resolving
 mod Walking
 mod Walks
+mod Placing
+mod Stepping
+mod Descending
+mod Levelling
+mod Deriving
+mod Listing
+mod Standing

@@ -9,7 +9,7 @@ use Rattle.cc_trail.specs.Links.{IsIn}
 use Rattle.cc_trail.specs.Steps.{AreApart, AreSteps, values_of}
 use Rattle.cc_trail.specs.Trails.{IsSettledOver}
 use Rattle.cc_trail.specs.Watches.{AreReasoned, HasReason, IsFalseBy}
-use Rattle.cc_cdcl.specs.Analysis.{AreFalseBy, HasOneOf, HasTwoOf, IsLearned, OpenLevels, highest_but, level_count_in}
+use Rattle.cc_cdcl.specs.Analysis.{AreFalseBy, HasOneOf, HasTwoOf, IsLearned, IsWalking, MayResolve, OpenLevels, highest_but, level_count_in}
 use Rattle.cc_cdcl.proofs.Counts.{learned_from, up_to_last}
 use Rattle.cc_cdcl.proofs.Learning.{two_of_last}
 use Rattle.cc_cdcl.proofs.Levels.{failed_false, false_failed}
@@ -36,7 +36,7 @@ step_at (first ∷ steps) (suc place) low =
       },
     )
 
-fresh_before : (front gone : List Step) (last : Step) → AreApart (front ++ last ∷ gone) → (other : Step) → IsIn front other → other.lit.variable ≢ last.lit.variable
+pub fresh_before : (front gone : List Step) (last : Step) → AreApart (front ++ last ∷ gone) → (other : Step) → IsIn front other → other.lit.variable ≢ last.lit.variable
 fresh_before [] gone last apart other none = absurd none
 fresh_before (first ∷ front) gone last apart other (inl same) =
     λ e. apart.0 last (behind_front front gone last) (sym e ∙ ap (λ (s : Step). s.lit.variable) (sym same))
@@ -49,15 +49,6 @@ in_take (suc n) (first ∷ steps) step (inl same) = inl same
 in_take (suc n) (first ∷ steps) step (inr here) = inr (in_take n steps step here)
 
 -- ---- the clause at each front
-
--- It is false by the steps in front of a place, and unless no level was opened it has a literal of the last level.
-pub record IsWalking (steps : List Step) (level_count place : ℕ) (clause : List Literal) : Type 0 where
-  pub falsified : AreFalseBy (take place steps) clause
-  pub left : (level_count ≡ 0) ⊎ HasOneOf steps level_count clause
-
--- it may be resolved on
-abbrev pub MayResolve : List Step → ℕ → List Literal → Type 0
-MayResolve steps level_count clause = (level_count ≡ 0) ⊎ HasTwoOf steps level_count clause
 
 pub walk_ends : (steps : List Step) (level_count : ℕ) (clause : List Literal) → IsWalking steps level_count 0 clause → (level_count ≡ 0) × (clause ≡ [])
 walk_ends steps level_count [] walking = elim (walking.left) [ inl zero_is ↦ (zero_is, refl) | inr (literal, (k, low, is), at) ↦ absurd (omega arith) ]

@@ -1,5 +1,5 @@
 -- Conflict analysis: clauses that are false by the steps of a trail, and the clause that is learned from one.
-use Rattle.std.specs.Prelude.{◌≡◌, ◌≢◌, ℕ, ◌+◌, ◌<◌, ◌≤◌, ◌⊎◌, ◌==◌, max, Bool, false, if◌then◌else◌, List, [], ◌∷◌, ◌++◌, Contains, Option, Some, None, option_map}
+use Rattle.std.specs.Prelude.{◌≡◌, ◌≢◌, ℕ, ◌+◌, ◌<◌, ◌≤◌, ◌⊎◌, ◌==◌, max, Bool, false, if◌then◌else◌, List, [], ◌∷◌, ◌++◌, Contains, take, Option, Some, None, option_map}
 use Rattle.cc_defs.specs.Assignments.{IsFailed}
 use Rattle.cc_defs.specs.Clauses.{Literal}
 use Rattle.cc_trail.specs.declared.entries.Step.{Step}
@@ -43,6 +43,23 @@ abbrev pub HasTwoOf : List Step → ℕ → List Literal → Type 0
 HasTwoOf steps level clause =
     (one : Literal) × (two : Literal) × (one ≢ two) × Contains clause one × Contains clause two × (level_of steps one.variable ≡ Some level) ×
     (level_of steps two.variable ≡ Some level)
+
+-- A clause is false by the steps in front of a place, and unless no level was opened it has a literal of the last level.
+pub record IsWalking (steps : List Step) (level_count place : ℕ) (clause : List Literal) : Type 0 where
+  pub falsified : AreFalseBy (take place steps) clause
+  pub left : (level_count ≡ 0) ⊎ HasOneOf steps level_count clause
+
+-- it may be resolved on
+abbrev pub MayResolve : List Step → ℕ → List Literal → Type 0
+MayResolve steps level_count clause = (level_count ≡ 0) ⊎ HasTwoOf steps level_count clause
+
+-- it is to be resolved on: two of its literals are of the last level, or no level was opened and it is not empty
+abbrev pub IsUnfinished : List Step → ℕ → List Literal → Type 0
+IsUnfinished steps level_count clause = ((level_count ≡ 0) × (clause ≢ [])) ⊎ HasTwoOf steps level_count clause
+
+-- it is what analysis derives: one of its literals is of the last level, or no level was opened and it is empty
+abbrev pub IsFinal : List Step → ℕ → List Literal → Type 0
+IsFinal steps level_count clause = ((level_count ≡ 0) × (clause ≡ [])) ⊎ ((0 < level_count) × (level_count_in steps level_count clause ≡ 1))
 
 -- A false clause of which one literal is of the last level, and the others are of levels up to a lower one, which is reached
 -- unless it is 0.

@@ -1,6 +1,7 @@
 -- What closed assignments give, how many lines a search can derive, and by which choices the least row is found.
 use Rattle.std.specs.Prelude.{◌≡◌, ◌≢◌, ℕ, ◌<◌, ◌^◌, ◌⊎◌, Bool, true, false, List, [], ◌∷◌, ◌++◌, None, Contains, IsTrue}
 use Rattle.std.specs.List.{AllByRecursion}
+use Rattle.cc_clauses.specs.RowsOf.{HasRow, IsLeastRowOf}
 use Rattle.cc_defs.specs.Assignments.{Values, IsClosed, IsFailed, IsEarned, HasOpen}
 use Rattle.cc_defs.specs.ClauseLists.{positions_from}
 use Rattle.cc_defs.specs.Clauses.{Literal, IsOver, Clash, IsResolvent, meets, opposite}
@@ -14,7 +15,7 @@ use Rattle.cc_trail.specs.Watches.{AreReasoned, IsFalseBy}
 use Rattle.cc_cdcl.specs.Analysis.{AreFalseBy, HasTwoOf, IsLearned}
 use Rattle.cc_cdcl.specs.Choices.{AreChosen, IsNext}
 use Rattle.cc_cdcl.specs.Earned.{Line, AreEarnedBehind, earned_count}
-use Rattle.cc_cdcl.specs.LeastRows.{HasRow, IsLeastRow, row_of}
+use Rattle.cc_cdcl.specs.LeastRows.{row_of}
 use Rattle.cc_cdcl.specs.Sets.{intersection, assignment_of, IsFull}
 
 -- what two closed assignments give alike is closed
@@ -36,7 +37,7 @@ EarnedLinesAreFew = (variables : ℕ) (axioms : List (List Literal)) (lines : Li
 abbrev pub LeastRowIsFound : Type 0
 LeastRowIsFound = (sizes : List ℕ) (variables : ℕ) (clauses : List (List Literal)) (steps : List Step) → AllByRecursion (IsOver variables) clauses →
     ((clause : List Literal) → Contains (positions_from 1 sizes) clause → Contains clauses clause) → AreReasoned clauses steps → AreChosen sizes steps →
-    IsFull variables (values_of steps) → IsClosed (values_of steps) clauses → IsLeastRow sizes clauses (row_of sizes (assignment_of (values_of steps)))
+    IsFull variables (values_of steps) → IsClosed (values_of steps) clauses → IsLeastRowOf sizes clauses (row_of sizes (assignment_of (values_of steps)))
 
 -- steps with a reason, and such choices, are added to steps that were chosen so; and they can be taken away
 abbrev pub ChoicesAreKept : Type 0

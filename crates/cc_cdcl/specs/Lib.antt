@@ -1,6 +1,12 @@
 pub mod Analysis
 pub mod Choices
+pub mod Cursors
+pub mod Derivations
+pub mod Descents
 pub mod Earned
 pub mod Laws
 pub mod LeastRows
+pub mod Searches
 pub mod Sets
+pub mod SolverParts
+pub mod Solvers

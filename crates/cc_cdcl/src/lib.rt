@@ -1,4 +1,10 @@
 //! Conflict-driven search for the rows of clauses (Marques-Silva and Sakallah, GRASP, 1999).
 #![tactic(auto)]
 
+mod analysis;
+mod choice;
 pub mod laws;
+mod search;
+mod solver;
+
+pub use solver::{Solver, Step};

@@ -1,17 +1,16 @@
 -- A clause more: numbers, reasons and watches stay, and what is closed stays closed where the clause is mild.
-use Rattle.std.proofs.Common.{◌≡◌, ◌≢◌, ◌∙◌, ℕ, ◌+◌, ◌-◌, ◌<◌, ◌≤◌, zero, suc, inl, inr, Bool, true, false, not, List, [], ◌∷◌, ◌++◌, length, take, Option, Some, None, refl, sym, subst, ap, arith, length-append}
+use Rattle.std.proofs.Common.{◌≡◌, ◌≢◌, ◌∙◌, ℕ, ◌-◌, zero, suc, inl, inr, Bool, true, false, not, List, [], ◌∷◌, ◌++◌, Some, sym, subst, arith, length-append}
 use Rattle.std.specs.Prelude.{◌⊎◌, slice_get, Contains}
-use Rattle.std.proofs.lemmas.List.Elements.{Contains-append_cases, All-contains}
-use Rattle.cc_defs.specs.Clauses.{Literal, opposite, IsNumbered}
+use Rattle.std.proofs.lemmas.List.Elements.{Contains-append_cases}
+use Rattle.cc_defs.specs.Clauses.{Literal, IsNumbered}
 use Rattle.cc_defs.specs.Assignments.{Values, IsClosed, IsFailed, IsUnit, IsTrueIn, IsFalseIn, HasNoValue}
 use Rattle.cc_kernel.specs.Kernels.{KernelView, clauses_of}
 use Rattle.cc_trail.specs.declared.entries.Step.{Step}
-use Rattle.cc_trail.specs.Links.{IsIn}
 use Rattle.cc_trail.specs.Steps.{values_to}
-use Rattle.cc_trail.specs.Watches.{HasReason, AreReasonedAfter, Watches, IsShort}
+use Rattle.cc_trail.specs.Watches.{AreReasonedAfter}
 use Rattle.cc_trail.specs.Trails.{TrailView, FitsClauses, Fits, IsMild, IsSettledOver}
 
-get_append : {X : Type 0} (xs ys : List X) (k : ℕ) (x : X) → slice_get xs k ≡ Some x → slice_get (xs ++ ys) k ≡ Some x
+pub get_append : {X : Type 0} (xs ys : List X) (k : ℕ) (x : X) → slice_get xs k ≡ Some x → slice_get (xs ++ ys) k ≡ Some x
 get_append [] ys k x is = cc
 get_append (y ∷ xs) ys zero x is = is
 get_append (y ∷ xs) ys (suc k) x is = get_append xs ys k x is
@@ -70,15 +69,15 @@ open_false values literal none is = cc
 open_true : (values : Values) (literal : Literal) → HasNoValue values literal → IsTrueIn values literal → ⊥
 open_true values literal none is = cc
 
-abbrev Spares : Values → List Literal → Type 0
+abbrev pub Spares : Values → List Literal → Type 0
 Spares values clause = ((literal : Literal) × Contains clause literal × IsTrueIn values literal) ⊎
     ((one : Literal) × (two : Literal) × (one ≢ two) × Contains clause one × Contains clause two × HasNoValue values one × HasNoValue values two)
 
-not_failed : (values : Values) (clause : List Literal) → Spares values clause → IsFailed values clause → ⊥
+pub not_failed : (values : Values) (clause : List Literal) → Spares values clause → IsFailed values clause → ⊥
 not_failed values clause (inl (literal, member, is)) failed = true_false values literal is (failed literal member)
 not_failed values clause (inr (one, two, apart, one_in, two_in, one_open, two_open)) failed = open_false values one one_open (failed one one_in)
 
-not_unit : (values : Values) (clause : List Literal) → Spares values clause → IsUnit values clause → ⊥
+pub not_unit : (values : Values) (clause : List Literal) → Spares values clause → IsUnit values clause → ⊥
 not_unit values clause (inl (literal, member, is)) unit = elim (unit.others literal member) [
   | inl same ↦ open_true values literal (subst (λ (l : Literal). HasNoValue values l) (sym same) unit.open_yet) is
   | inr false_is ↦ true_false values literal is false_is

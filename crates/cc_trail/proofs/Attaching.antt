@@ -1,6 +1,6 @@
 -- One clause more is attached: the fit stays.
-use Rattle.std.proofs.Common.{◌≡◌, ◌≢◌, ◌∙◌, ℕ, ◌+◌, ◌-◌, ◌*◌, ◌/◌, ◌%◌, ◌<◌, ◌≤◌, zero, suc, inl, inr, Bool, true, false, List, [], ◌∷◌, ◌++◌, length, get_or, set, take, Option, Some, None, Result, Ok, Err, refl, sym, subst, ap, arith, length-append}
-use Rattle.std.specs.Prelude.{◌⊎◌, OnOk, All, Contains, if◌then◌else◌}
+use Rattle.std.proofs.Common.{◌≡◌, ◌≢◌, ◌∙◌, ℕ, ◌+◌, ◌*◌, ◌/◌, ◌<◌, ◌≤◌, zero, suc, inl, inr, true, false, List, [], ◌∷◌, ◌++◌, length, get_or, set, take, Result, Ok, Err, sym, subst, ap, arith, length-append}
+use Rattle.std.specs.Prelude.{◌⊎◌, OnOk, All, Contains}
 use Rattle.std.proofs.lemmas.Bool.Decides.{eqb_tells, leb_tells, nat_tests}
 use Rattle.std.proofs.lemmas.List.{length-map, set-get_or, get_or_append_left, get_or-append-add}
 use Rattle.std.proofs.lemmas.List.Elements.{All-nil, All-cons}
@@ -8,8 +8,8 @@ use Rattle.cc_defs.specs.Clauses.{Literal, opposite, IsClause, IsOver, IsBefore,
 use Rattle.cc_kernel.specs.Kernels.{KernelView, Entry, clauses_of, IsThere}
 use Rattle.cc_trail.specs.declared.entries.Step.{Step}
 use Rattle.cc_trail.specs.Links.{IsIn, IsLiteralOver, no_literal, watched_at}
-use Rattle.cc_trail.specs.Watches.{IsTrueBy, IsWatched, Watches, IsShort, partner}
-use Rattle.cc_trail.specs.Trails.{TrailView, FitsClauses, Fits, IsTrail, IsLong, number_of}
+use Rattle.cc_trail.specs.Watches.{IsWatched, Watches, partner}
+use Rattle.cc_trail.specs.Trails.{TrailView, Fits, IsTrail, IsLong, number_of}
 use Rattle.cc_trail.proofs.StepLists.{in_left, in_right, in_push}
 
 pub on_ok : {T E : Type 0} (r : Result T E) {P Q : Type 0} → (P → Q) → OnOk r P → OnOk r Q
@@ -86,19 +86,19 @@ module _ (old new : TrailView) (kernel : KernelView) (fits : Fits old kernel) (n
     };
   })
 
-partner_below : (node half : ℕ) → node < 2 * half → partner node < 2 * half
+pub partner_below : (node half : ℕ) → node < 2 * half → partner node < 2 * half
 partner_below node half within = grind (arith, nat_tests)
 
-half_below : (node half : ℕ) → node < 2 * half → node / 2 < half
+pub half_below : (node half : ℕ) → node < 2 * half → node / 2 < half
 half_below node half within = omega arith
 
-partner_first : (half : ℕ) → partner (2 * half) ≡ 2 * half + 1
+pub partner_first : (half : ℕ) → partner (2 * half) ≡ 2 * half + 1
 partner_first half = grind (arith, nat_tests)
 
-partner_second : (half : ℕ) → partner (2 * half + 1) ≡ 2 * half
+pub partner_second : (half : ℕ) → partner (2 * half + 1) ≡ 2 * half
 partner_second half = grind (arith, nat_tests)
 
-half_first : (half : ℕ) → (2 * half) / 2 ≡ half
+pub half_first : (half : ℕ) → (2 * half) / 2 ≡ half
 half_first half = omega arith
 
 half_second : (half : ℕ) → (2 * half + 1) / 2 ≡ half

@@ -1,6 +1,6 @@
 -- What the holder of entries sees after its parts have changed.
-use Rattle.std.proofs.Common.{◌≡◌, ◌≢◌, ◌∙◌, ℕ, ◌+◌, ◌-◌, ◌<◌, ◌≤◌, zero, suc, inl, inr, List, [], ◌∷◌, ◌++◌, length, get_or, set, take, map, Option, Some, None, refl, sym, subst, ap, arith}
-use Rattle.std.specs.Prelude.{◌⊎◌, SomeIff}
+use Rattle.std.proofs.Common.{◌≡◌, ◌≢◌, ◌∙◌, ℕ, ◌+◌, ◌-◌, ◌<◌, ◌≤◌, zero, suc, [], ◌∷◌, ◌++◌, length, get_or, set, take, Some, None, refl, sym, subst, ap, arith}
+use Rattle.std.specs.Prelude.{◌⊎◌}
 use Rattle.cc_defs.specs.Clauses.{Literal}
 use Rattle.cc_trail.specs.declared.entries.Step.{Step}
 use Rattle.cc_trail.specs.declared.entries.Entries.TheInside.{Inside}
@@ -9,7 +9,7 @@ use Rattle.cc_trail.specs.Steps.{EntriesView, step_of, level_after, AreSteps}
 use Rattle.cc_trail.specs.EntryParts.{view_of, AreEntries, IsKept}
 use Rattle.cc_trail.specs.EntrySteps.{IsPopped}
 use Rattle.cc_trail.proofs.Linked.{read_at}
-use Rattle.cc_trail.proofs.Kept.{found, not_found, place_at, front_length, push_within, pushed, kept_push, pop_within, popped, last_over, last_level_then, level_falls, kept_pop}
+use Rattle.cc_trail.proofs.Kept.{found, not_found, place_at, front_length, push_within, pushed, kept_push, popped, last_over, last_level_then, level_falls, kept_pop}
 
 no_step : Step
 no_step = record { lit = no_literal; level = 0; reason = None }

@@ -9,3 +9,8 @@ mod Values
 mod TrailViews
 mod Attaching
 mod Starting
+mod Growing
+mod Visiting
+mod Walking
+mod Propagated
+mod Choosing

@@ -4,9 +4,9 @@ use Rattle.std.specs.Prelude.{◌⊎◌, ◌↔◌, if◌then◌else◌, Bool, r
 use Rattle.std.proofs.lemmas.Bool.Decides.{eqb_tells, leb_tells}
 use Rattle.std.proofs.lemmas.List.{length-set, length-replicate, get_or-set_other, get_or-set_same, get_or_append_left, get_or-append-add}
 use Rattle.cc_defs.specs.Clauses.{Literal}
-use Rattle.cc_trail.specs.Links.{IsIn, LinksView, AreTaken, BeginsWith, no_literal, watched_at, code_of, IsLiteralOver}
+use Rattle.cc_trail.specs.Links.{IsIn, BeginsWith, no_literal, watched_at, code_of, IsLiteralOver}
 use Rattle.cc_trail.specs.LinkParts.{IsChain, chain_of, IsLinked, AreLinks}
-use Rattle.cc_trail.proofs.Chains.{chain_same, chain_within, first_once, chain_set, chain_append, chain_is}
+use Rattle.cc_trail.proofs.Chains.{chain_within, first_once, chain_set, chain_append, chain_is}
 
 bounds_by : (variables x : ℕ) (sign : Bool) → 0 < x → x ≤ variables → (2 ≤ 2 * x + (if sign then 1 else 0)) × (2 * x + (if sign then 1 else 0) < 2 * variables + 2)
 bounds_by variables x false low high = ((omega arith), (omega arith))

@@ -1,7 +1,7 @@
 -- The clauses of a kernel are attached one after another.
-use Rattle.std.proofs.Common.{◌≡◌, ◌∙◌, ℕ, ◌+◌, ◌<◌, ◌≤◌, List, [], length, refl, sym, subst, ap, arith}
-use Rattle.cc_kernel.specs.Kernels.{KernelView, clauses_of}
-use Rattle.cc_trail.specs.Trails.{TrailView, FitsClauses, Fits, IsNew, IsSettled, IsAttached, empty_over}
+use Rattle.std.proofs.Common.{◌≡◌, ◌∙◌, ℕ, ◌+◌, [], length, refl, ap, arith}
+use Rattle.cc_kernel.specs.Kernels.{KernelView}
+use Rattle.cc_trail.specs.Trails.{TrailView, Fits, IsNew, IsSettled, IsAttached, empty_over}
 
 pub record IsStarting (trail : TrailView) (kernel : KernelView) (index : ℕ) : Type 0 where
   pub steps : trail.steps ≡ []

@@ -1,15 +1,15 @@
 -- What steps make true and false: at the levels below those of later steps it stays.
-use Rattle.std.proofs.Common.{◌≡◌, ◌≢◌, ◌∙◌, ℕ, ◌+◌, ◌-◌, ◌<◌, ◌≤◌, zero, suc, inl, inr, eqb, leb, Bool, true, false, not, List, [], ◌∷◌, ◌++◌, length, take, min, Option, Some, None, refl, sym, subst, ap, arith, length-append, append_assoc, append-nil}
-use Rattle.std.specs.Prelude.{◌⊎◌, Contains, if◌then◌else◌}
+use Rattle.std.proofs.Common.{◌≡◌, ◌∙◌, ℕ, ◌+◌, ◌<◌, ◌≤◌, zero, suc, inl, inr, leb, true, false, List, [], ◌∷◌, ◌++◌, length, take, min, Some, None, refl, sym, subst, ap, arith, append_assoc, append-nil}
+use Rattle.std.specs.Prelude.{◌⊎◌, if◌then◌else◌}
 use Rattle.std.proofs.lemmas.Bool.Decides.{eqb_tells, leb_tells}
-use Rattle.cc_defs.specs.Clauses.{Literal, opposite}
-use Rattle.cc_defs.specs.Assignments.{Values, IsClosed, IsFailed, IsUnit, IsTrueIn, IsFalseIn, HasNoValue}
+use Rattle.cc_defs.specs.Clauses.{Literal}
+use Rattle.cc_defs.specs.Assignments.{Values, IsClosed}
 use Rattle.cc_trail.specs.declared.entries.Step.{Step}
 use Rattle.cc_trail.specs.Links.{IsIn, watched_at}
-use Rattle.cc_trail.specs.Steps.{step_of, values_of, values_to, steps_to, level_after, AreSteps, IsRising}
-use Rattle.cc_trail.specs.Watches.{IsTrueBy, IsFalseBy, IsWatched, HasReason, AreReasonedAfter, partner}
+use Rattle.cc_trail.specs.Steps.{values_of, values_to, steps_to, AreSteps}
+use Rattle.cc_trail.specs.Watches.{IsTrueBy, HasReason, AreReasonedAfter, partner}
 use Rattle.cc_trail.specs.Trails.{TrailView, FitsClauses, IsSettledOver, decided, back_at}
-use Rattle.cc_trail.proofs.StepLists.{in_left, in_right, in_cases, in_take, levels_most, step_found}
+use Rattle.cc_trail.proofs.StepLists.{in_left, in_cases, in_take, levels_most}
 
 -- ---- closed sets that give the same values
 
@@ -59,7 +59,7 @@ to_all level (step ∷ steps) low variable = elim (eqb_tells step.lit.variable v
     low_enough (inl is) = rw (is.0) refl
     low_enough (inr is) = let above : level < step.level = is.1 in let below : step.level ≤ level = low step (inl refl) in absurd (omega arith)
 
-only_high : (level : ℕ) (last : Step) → level < last.level → (step : Step) → IsIn (last ∷ []) step → level < step.level
+pub only_high : (level : ℕ) (last : Step) → level < last.level → (step : Step) → IsIn (last ∷ []) step → level < step.level
 only_high level last high step (inl same) = subst (λ (s : Step). level < s.level) same high
 only_high level last high step (inr none) = elim none [ ]
 
@@ -107,7 +107,7 @@ reasoned_front clauses before (step ∷ steps) gone reasoned = (reasoned.0, reas
 pub true_more : (steps more : List Step) (literal : Literal) (level : ℕ) → IsTrueBy steps literal level → IsTrueBy (steps ++ more) literal level
 true_more steps more literal level (step, here, is, low) = (step, in_left steps more step here, is, low)
 
-take_left : (n : ℕ) (steps more : List Step) → n ≤ length steps → take n (steps ++ more) ≡ take n steps
+pub take_left : (n : ℕ) (steps more : List Step) → n ≤ length steps → take n (steps ++ more) ≡ take n steps
 take_left zero steps more within = refl
 take_left (suc n) [] more within = absurd (omega arith)
 take_left (suc n) (step ∷ steps) more within = ap (λ (rest : List Step). step ∷ rest) (take_left n steps more (omega arith))

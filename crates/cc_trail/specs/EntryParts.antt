@@ -1,5 +1,5 @@
 -- How the parts of entries make what their holder sees, and what is always true of them.
-use Rattle.std.specs.Prelude.{◌≡◌, ℕ, ◌+◌, ◌<◌, ◌≤◌, ◌==◌, suc, if◌then◌else◌, List, [], ◌∷◌, length, map, take, get_or}
+use Rattle.std.specs.Prelude.{◌≡◌, ℕ, ◌+◌, ◌≤◌, ◌==◌, suc, if◌then◌else◌, List, [], ◌∷◌, length, map, take, get_or}
 use Rattle.cc_defs.specs.Clauses.{Literal}
 use Rattle.cc_trail.specs.declared.entries.Step.{Step}
 use Rattle.cc_trail.specs.declared.entries.Entries.TheInside.{Inside}

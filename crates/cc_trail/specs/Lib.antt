@@ -6,4 +6,5 @@ pub mod Steps
 pub mod TrailLaws
 pub mod TrailParts
 pub mod Trails
+pub mod Visits
 pub mod Watches

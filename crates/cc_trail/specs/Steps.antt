@@ -1,6 +1,5 @@
 -- The steps of a trail: the literals that became true, in order, each with its level and, where it was propagated, its reason.
-use Rattle.std.specs.Prelude.{◌≡◌, ◌≢◌, ℕ, ◌≤◌, ◌⊎◌, ◌==◌, nat_le, suc, Bool, not, if◌then◌else◌, List, [], ◌∷◌, ◌++◌, map, filter, Option, Some, None, option_map, option_and_then}
-use Rattle.cc_defs.specs.Clauses.{Literal}
+use Rattle.std.specs.Prelude.{◌≡◌, ◌≢◌, ℕ, ◌≤◌, ◌⊎◌, ◌==◌, nat_le, suc, Bool, if◌then◌else◌, List, [], ◌∷◌, filter, Option, Some, None, option_map, option_and_then}
 use Rattle.cc_defs.specs.Assignments.{Values}
 use Rattle.cc_trail.specs.declared.entries.Step.{Step}
 use Rattle.cc_trail.specs.Links.{IsIn, IsLiteralOver}

@@ -1,11 +1,12 @@
 -- What the holder of a trail sees of it.
-use Rattle.std.specs.Prelude.{◌≡◌, ◌≢◌, ℕ, ◌+◌, ◌*◌, ◌/◌, ◌<◌, ◌≤◌, ◌⊎◌, List, [], ◌∷◌, ◌++◌, length, Contains, take, get_or, min, Option, Some, None, option_map, option_and_then, Bool, not, if◌then◌else◌}
-use Rattle.cc_defs.specs.Clauses.{Literal}
-use Rattle.cc_defs.specs.Assignments.{IsClosed, IsTrueIn, HasNoValue}
+use Rattle.std.specs.Prelude.{◌≡◌, ◌≢◌, ℕ, ◌+◌, ◌*◌, ◌/◌, ◌<◌, ◌≤◌, ◌⊎◌, List, [], ◌∷◌, ◌++◌, length, Contains, take, get_or, min, Option, Some, None, option_map, Bool, not, if◌then◌else◌}
+use Rattle.std.specs.List.{AllByRecursion}
+use Rattle.cc_defs.specs.Clauses.{Literal, IsNumbered}
+use Rattle.cc_defs.specs.Assignments.{IsClosed, IsFailed, IsTrueIn, HasNoValue}
 use Rattle.cc_kernel.specs.Kernels.{KernelView, clauses_of}
 use Rattle.cc_trail.specs.declared.entries.Step.{Step}
 use Rattle.cc_trail.specs.Links.{IsIn}
-use Rattle.cc_trail.specs.Steps.{AreSteps, step_of, steps_to, values_of, values_to}
+use Rattle.cc_trail.specs.Steps.{AreSteps, steps_to, values_of, values_to}
 use Rattle.cc_trail.specs.Watches.{IsWatched, Watches, AreReasoned, IsShort}
 
 -- The number of variables, the steps in order, how many levels were opened, how many clauses are attached, the numbers of
@@ -123,3 +124,21 @@ pub record IsNew (trail : TrailView) (kernel : KernelView) : Type 0 where
   pub steps : trail.steps ≡ []
   pub level_count : trail.level_count ≡ 0
   pub attached : trail.attached ≡ length kernel.entries
+
+-- a step that propagation made at this level
+abbrev pub IsPropagatedAt : ℕ → Step → Type 0
+IsPropagatedAt level step = (step.level ≡ level) × (reason : ℕ) × (step.reason ≡ Some reason)
+
+-- The steps before are a front of those after, each new one has a reason and the last level, and the levels and what is
+-- attached are as before.
+pub record IsPropagated (old new : TrailView) : Type 0 where
+  pub more : List Step
+  pub steps : new.steps ≡ old.steps ++ more
+  pub each : AllByRecursion (IsPropagatedAt old.level_count) more
+  pub variables : new.variables ≡ old.variables
+  pub level_count : new.level_count ≡ old.level_count
+  pub attached : new.attached ≡ old.attached
+
+-- the clause of this number is false
+abbrev pub IsFailedClause : List (List Literal) → List Step → ℕ → Type 0
+IsFailedClause clauses steps number = (clause : List Literal) × IsNumbered clauses number clause × IsFailed (values_of steps) clause

@@ -4,7 +4,11 @@
 mod entries;
 pub mod laws;
 mod links;
+mod propagation;
+#[cfg(test)]
+mod tests;
 mod trail;
+mod visits;
 mod watches;
 
 pub use trail::Trail;

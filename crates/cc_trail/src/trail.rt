@@ -1,14 +1,15 @@
 //! A trail: what is true and false, by levels of decisions, and propagation over the clauses of a kernel.
-ghost use Rattle.std.specs.Prelude.{◌≡◌, ℕ, ◌+◌, ◌<◌, ◌≤◌, [], ◌∷◌, ◌++◌, map, None, IfOk, OnOk, OnErr, option_map, option_and_then};
+ghost use Rattle.std.specs.Prelude.{◌≡◌, ◌+◌, ◌<◌, ◌≤◌, [], ◌∷◌, ◌++◌, length, map, None, IfOk, IfSome, IfNone, OnOk, OnErr, option_map, option_and_then};
 ghost use Rattle.cc_defs.specs.Assignments.{IsClosed};
 ghost use Rattle.cc_kernel.specs.Kernels.{KernelView, clauses_of, IsThere};
 ghost use Rattle.cc_trail.specs.EntryParts.{literal_of_step};
 ghost use Rattle.cc_trail.specs.Links.{IsLiteralOver};
 ghost use Rattle.cc_trail.specs.Steps.{AreSteps, step_of, values_of};
-ghost use Rattle.cc_trail.specs.Trails.{TrailView, Fits, IsSettled, IsNew, empty_over, IsAttached, IsLong, value_of, level_of_step, reason_of_step, decided, back_at};
+ghost use Rattle.cc_trail.specs.Trails.{TrailView, Fits, IsSettled, IsNew, empty_over, IsAttached, IsLong, IsPropagated, IsFailedClause, value_of, level_of_step, reason_of_step, decided, back_at};
 
 use crate::entries::Entries;
 use crate::links::Links;
+use crate::propagation::{make_shorts, visit_steps};
 use crate::watches::{Pair, best_two};
 use cc_defs::{Lit, OutOfMemory};
 use cc_kernel::Kernel;
@@ -141,6 +142,31 @@ impl Trail {
     {
         self.entries.back_to(level);
         self.visited = self.visited.min(self.entries.count());
+    }
+
+    /// Unit propagation: makes literals true at the last level, each by a clause whose other literals are false, for as
+    /// long as there is such a clause. None where no clause is false and none is left with one literal that has no value
+    /// and all others false; else the number of a clause that is false.
+    pub fn propagate(&mut self, kernel: &Kernel) -> Option<u32>
+        requires fits { Fits self.old kernel.now }
+        requires all { self.old.attached ≡ length kernel.now.entries }
+        requires settled { IsSettled self.old kernel.now }
+        ensures propagated { IsPropagated self.old self.new }
+        ensures fits { Fits self.new kernel.now }
+        ensures settled { IsSettled self.new kernel.now }
+        ensures failed { IfSome result (λ id. IsFailedClause (clauses_of kernel.now) self.new.steps id) }
+        ensures closed { IfNone result (IsClosed (values_of self.new.steps) (clauses_of kernel.now)) }
+    {
+        if let Some(number) = make_shorts(kernel, &self.shorts, &mut self.entries) {
+            return Some(number);
+        }
+        visit_steps(
+            kernel,
+            &self.longs,
+            &mut self.entries,
+            &mut self.links,
+            &mut self.visited,
+        )
     }
 
     /// Whether a literal is true, if its variable has a value.

@@ -1,5 +1,4 @@
-use Rattle.std.proofs.Common.{◌≡◌, ◌∙◌, ◌+◌, ◌-◌, ◌<◌, ◌≤◌, ℕ, List, length, take, ap, arith}
-use Rattle.cc_trail.specs.declared.entries.Step.{Step}
+use Rattle.std.proofs.Common.{◌≡◌, ◌∙◌, ◌+◌, ◌-◌, ◌≤◌, ℕ, length, take, ap, arith}
 use Rattle.cc_trail.specs.Steps.{level_after}
 use Rattle.cc_trail.proofs.Kept.{last_level_is}
 use Rattle.cc_trail.proofs.entries.last_level.Goals as goal

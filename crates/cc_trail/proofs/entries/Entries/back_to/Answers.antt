@@ -1,4 +1,4 @@
-use Rattle.std.proofs.Common.{◌≡◌, ◌<◌, ◌≤◌, ℕ, subst}
+use Rattle.std.proofs.Common.{◌<◌, ◌≤◌, ℕ, subst}
 use Rattle.cc_trail.proofs.Backs.{going_begins, going_on, going_ends, fewer}
 use Rattle.cc_trail.proofs.entries.Entries.back_to.Goals as goal
 

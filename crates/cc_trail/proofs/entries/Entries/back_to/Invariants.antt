@@ -1,4 +1,4 @@
-use Rattle.std.proofs.Common.{ℕ, length}
+use Rattle.std.proofs.Common.{length}
 use Rattle.cc_trail.proofs.Backs.{IsGoing}
 use Rattle.cc_trail.proofs.entries.Entries.back_to.Given as goal
 

@@ -1,9 +1,7 @@
-use Rattle.std.proofs.Common.{◌≡◌, ◌∙◌, ◌+◌, ◌<◌, ℕ, inl, inr, None, List, [], ◌∷◌, ◌++◌, length, take, refl, sym, subst, ap, arith}
-use Rattle.cc_trail.specs.declared.entries.Step.{Step}
-use Rattle.cc_trail.specs.Steps.{EntriesView}
+use Rattle.std.proofs.Common.{◌+◌, ◌<◌, ℕ, inr, None, take, sym, subst, arith}
 use Rattle.cc_trail.proofs.StepLists.{level_count_few}
 use Rattle.cc_trail.proofs.Kept.{front_length}
-use Rattle.cc_trail.proofs.EntryViews.{within_push, kept_then, pushed_here, view_pushed, view_kept, level_is}
+use Rattle.cc_trail.proofs.EntryViews.{within_push, kept_then, pushed_here, view_pushed, level_is}
 use Rattle.cc_trail.proofs.entries.Entries.decide.Goals as goal
 
 pub index_mut-requires : goal.index_mut-requires

@@ -1,4 +1,4 @@
-use Rattle.std.proofs.Common.{◌≡◌, ◌∙◌, ◌<◌, ℕ, Some, sym, subst, ap}
+use Rattle.std.proofs.Common.{◌∙◌, ◌<◌, ℕ, Some, sym, subst, ap}
 use Rattle.cc_trail.specs.declared.entries.Step.{Step}
 use Rattle.cc_trail.proofs.EntryViews.{found_here, place_here, not_found_here}
 use Rattle.cc_trail.proofs.entries.Entries.find.Goals as goal

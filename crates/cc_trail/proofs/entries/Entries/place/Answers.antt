@@ -1,7 +1,3 @@
-use Rattle.std.proofs.Common.{◌≡◌, ◌≢◌, ◌∙◌, ◌<◌, ℕ, Some, sym, subst, ap, take}
-use Rattle.cc_trail.specs.declared.entries.Step.{Step}
-use Rattle.cc_trail.specs.Links.{IsIn}
-use Rattle.cc_trail.specs.Steps.{EntriesView}
 use Rattle.cc_trail.proofs.StepLists.{none_of, in_take}
 use Rattle.cc_trail.proofs.EntryViews.{place_here, not_found_here}
 use Rattle.cc_trail.proofs.entries.Entries.place.Goals as goal

@@ -1,9 +1,6 @@
-use Rattle.std.proofs.Common.{◌≡◌, ◌∙◌, ◌+◌, ◌<◌, ℕ, inl, inr, None, List, [], ◌∷◌, ◌++◌, length, take, refl, sym, subst, ap, arith}
-use Rattle.cc_trail.specs.declared.entries.Step.{Step}
+use Rattle.std.proofs.Common.{◌∙◌, ◌+◌, ◌<◌, ℕ, inl, [], ◌∷◌, ◌++◌, refl, sym, subst, ap, arith}
 use Rattle.cc_trail.specs.Steps.{EntriesView}
-use Rattle.cc_trail.proofs.StepLists.{level_count_few}
-use Rattle.cc_trail.proofs.Kept.{front_length}
-use Rattle.cc_trail.proofs.EntryViews.{within_push, kept_then, pushed_here, view_pushed, view_kept, level_is}
+use Rattle.cc_trail.proofs.EntryViews.{within_push, kept_then, pushed_here, view_kept, level_is}
 use Rattle.cc_trail.proofs.entries.Entries.push.Goals as goal
 
 pub index_mut-requires : goal.index_mut-requires

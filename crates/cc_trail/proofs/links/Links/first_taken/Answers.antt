@@ -1,4 +1,4 @@
-use Rattle.std.proofs.Common.{◌≡◌, ◌∙◌, ◌+◌, ◌-◌, ◌<◌, ◌≤◌, ℕ, zero, suc, List, Option, Some, None, length, get_or, drop, refl, sym, subst, ap, arith}
+use Rattle.std.proofs.Common.{◌≡◌, ◌-◌, ◌<◌, ◌≤◌, ℕ, suc, Option, Some, None, length, get_or, drop, subst, arith}
 use Rattle.std.specs.Prelude.{IfSome, SomeIff}
 use Rattle.cc_trail.specs.Links.{IsIn, LinksView, BeginsWith}
 use Rattle.cc_trail.specs.LinkParts.{AreLinks, view_of}

@@ -1,9 +1,9 @@
-use Rattle.std.proofs.Common.{◌≡◌, ◌∙◌, ◌+◌, ◌<◌, ◌≤◌, ℕ, suc, List, [], ◌∷◌, length, get_or, set, drop, refl, sym, subst, ap, arith}
+use Rattle.std.proofs.Common.{◌≡◌, ◌∙◌, ◌+◌, ◌<◌, ◌≤◌, ℕ, suc, ◌∷◌, length, get_or, set, drop, sym, subst, ap, arith}
 use Rattle.cc_trail.specs.Links.{LinksView, BeginsWith, IsLiteralOver, code_of}
 use Rattle.cc_trail.specs.LinkParts.{chain_of, AreLinks, view_of}
 use Rattle.cc_trail.specs.declared.links.Links.TheInside.{Inside}
 use Rattle.cc_defs.specs.Clauses.{Literal}
-use Rattle.cc_trail.proofs.Linked.{links_put, chain_put, put_within, code_bounds, read_at, get_or_after}
+use Rattle.cc_trail.proofs.Linked.{links_put, chain_put, put_within, read_at, get_or_after}
 use Rattle.cc_trail.proofs.links.Links.put.Goals as goal
 
 module _ (inside : Inside) (old : LinksView) (is : view_of inside ≡ old) (links : AreLinks inside.variables inside.heads.items inside.next.items inside.watched.items)

@@ -1,4 +1,4 @@
-use Rattle.std.proofs.Common.{◌≡◌, ◌∙◌, ◌<◌, ℕ, List, [], length, get_or, set, refl, sym, subst, ap, arith}
+use Rattle.std.proofs.Common.{◌≡◌, ◌∙◌, ◌<◌, ℕ, [], length, get_or, set, refl, sym, subst, ap, arith}
 use Rattle.cc_trail.specs.Links.{LinksView, AreTaken, IsLiteralOver, code_of}
 use Rattle.cc_trail.specs.LinkParts.{chain_of, AreLinks, view_of}
 use Rattle.cc_trail.specs.declared.links.Links.TheInside.{Inside}

@@ -1,9 +1,8 @@
-use Rattle.std.proofs.Common.{◌≡◌, ◌∙◌, ℕ, List, sym, subst, ap}
-use Rattle.std.specs.Prelude.{All}
+use Rattle.std.proofs.Common.{◌∙◌, subst, ap}
 use Rattle.std.proofs.lemmas.List.Elements.{All-contains}
-use Rattle.cc_defs.specs.Clauses.{Literal, IsOver}
+use Rattle.cc_defs.specs.Clauses.{Literal}
 use Rattle.cc_trail.specs.Links.{IsLiteralOver}
-use Rattle.cc_trail.specs.Trails.{TrailView, IsTrail, Fits}
+use Rattle.cc_trail.specs.Trails.{TrailView, IsTrail}
 use Rattle.cc_trail.proofs.Attaching.{on_ok, all_over, fits_short, fits_long}
 use Rattle.cc_trail.proofs.trail.Trail.attach.Goals as goal
 

@@ -1,4 +1,4 @@
-use Rattle.std.proofs.Common.{◌≡◌, ◌∙◌, ℕ, min, ap}
+use Rattle.std.proofs.Common.{◌∙◌, ℕ, min, ap}
 use Rattle.cc_trail.proofs.TrailViews.{fits_went, settled_went}
 use Rattle.cc_trail.proofs.trail.Trail.back_to.Goals as goal
 

@@ -1,4 +1,4 @@
-use Rattle.cc_trail.proofs.Starting.{starts, starts_on, is_new, is_settled}
+use Rattle.cc_trail.proofs.Starting.{starts, starts_on}
 use Rattle.cc_trail.proofs.trail.Trail.new.Goals as goal
 
 pub loop-index-init : goal.loop-index-init

@@ -1,0 +1,176 @@
+use Rattle.std.proofs.Common.{◌≡◌, ◌∙◌, ◌+◌, ℕ, inl, inr, List, [], refl, sym, subst, ap, arith}
+use Rattle.std.specs.Prelude.{Contains, is_some}
+use Rattle.cc_defs.specs.Assignments.{HasOpen, IsEarned}
+use Rattle.cc_clauses.specs.RowsOf.{HasRow, IsLeastRowOf}
+use Rattle.cc_defs.specs.Rows.{IsRow}
+use Rattle.cc_kernel.specs.Kernels.{KernelView, clauses_of, derived_count}
+use Rattle.cc_trail.specs.Steps.{values_of}
+use Rattle.cc_cdcl.specs.LeastRows.{row_of}
+use Rattle.cc_cdcl.specs.Sets.{assignment_of}
+use Rattle.cc_cdcl.specs.Searches.{IsSearching}
+use Rattle.cc_cdcl.specs.Solvers.{AddsDerived, axiom_clauses}
+use Rattle.cc_cdcl.proofs.Deriving.{on_err}
+use Rattle.cc_cdcl.proofs.Listing.{count_derived, empty_not_there, empty_there, few_derived, section_kept}
+use Rattle.cc_cdcl.proofs.Standing.{empty_added, kernel_is, least_there, row_room, row_there, row_written, running, searching_back, section_learned, section_refuted, sizes_is, sizes_within, view_found, went_on}
+use Rattle.cc_cdcl.proofs.solver.Solver.next.Goals as goal
+
+pub returns-then-is_some-clause-step : goal.returns-then-is_some-clause-step
+returns-then-is_some-clause-step c = (
+  sizes_is c.self.inside c.args.self.now c.self.view_is c.self.invariant,
+  refl,
+  empty_there c.self.inside.kernel.entries 1 (ap (λ o. is_some {T = ℕ} o) (sym c.refuted.ensures) ∙ sym c.is_some.ensures ∙ c.if-is_some.true),
+  inl (kernel_is c.self.inside c.args.self.now c.self.view_is c.self.invariant),
+)
+
+pub descend-failed-requires-clause-sizes : goal.descend-failed-requires-clause-sizes
+descend-failed-requires-clause-sizes c = sizes_within c.self.inside c.args.self.now c.self.view_is c.self.invariant c.deref.result.now c.deref.ensures.value
+
+pub write_row-requires-clause-sizes : goal.write_row-requires-clause-sizes
+write_row-requires-clause-sizes c =
+    let within = sizes_within c.self.inside c.args.self.now c.self.view_is c.self.invariant c.deref-in-None.result.now c.deref-in-None.ensures.value in
+    let same = c.descend-failed.ensures.searching.fits.variables in omega arith
+
+pub invariant_of-self-in-None : goal.invariant_of-self-in-None
+invariant_of-self-in-None c =
+    let searching : IsSearching c.self.inside.sizes.items c.self.inside.kernel c.descend-failed.new.trail _ =
+    went_on c.self.inside c.args.self.now c.self.view_is c.self.invariant c.requires.ready c.deref.result.now c.deref.ensures.value c.descend-failed.new.trail
+    c.descend-failed.new.cursors c.descend-failed.ensures.searching in
+    let there = row_there c.self.inside.sizes.items c.self.inside.kernel c.descend-failed.new.trail _ c.self.invariant.section searching
+    c.in-None.ensures.full c.in-None.ensures.closed in
+    let written = row_written c.self.inside c.args.self.now c.self.view_is c.self.invariant c.deref-in-None.result.now c.deref-in-None.ensures.value
+    c.descend-failed.new.trail c.write_row.new.row c.write_row.ensures in
+    record {
+      section = c.self.invariant.section;
+      room = row_room c.self.inside c.args.self.now c.self.view_is c.self.invariant c.deref-in-None.result.now c.deref-in-None.ensures.value
+          c.descend-failed.new.trail c.write_row.new.row c.write_row.ensures;
+      stands = (
+        record {
+          derived = (running c.self.inside c.args.self.now c.self.view_is c.self.invariant c.requires.ready).derived;
+          searching = searching;
+        },
+        record {
+          is_row = subst (λ (row : List ℕ). IsRow c.self.inside.sizes.items row) (sym written) there.0;
+          has = subst (λ (row : List ℕ). HasRow c.self.inside.sizes.items (assignment_of (values_of c.descend-failed.new.trail.steps)) row) (sym written) there.1;
+        },
+      );
+    }
+
+pub invariant_of-self-in_err-refute-in-Some : goal.invariant_of-self-in_err-refute-in-Some
+invariant_of-self-in_err-refute-in-Some c = record {
+  section = section_kept c.self.inside.sizes.items c.self.inside.kernel c.refute.new.kernel c.self.invariant.section c.in_err-refute-in-Some.ensures.kept;
+  room = c.self.invariant.room;
+  stands = tt;
+}
+
+pub invariant_of-self-then-level_count-eq0 : goal.invariant_of-self-then-level_count-eq0
+invariant_of-self-then-level_count-eq0 c = record {
+  section = section_refuted c.self.inside.sizes.items c.self.inside.kernel c.refute.new.kernel c.self.invariant.section c.in_ok-refute-in-Some.ensures.refuted;
+  room = c.self.invariant.room;
+  stands = tt;
+}
+
+pub returns-then-level_count-eq0-clause-step : goal.returns-then-level_count-eq0-clause-step
+returns-then-level_count-eq0-clause-step c = (
+  sizes_is c.self.inside c.args.self.now c.self.view_is c.self.invariant,
+  refl,
+  empty_added c.self.inside.kernel c.refute.new.kernel c.in_ok-refute-in-Some.ensures.refuted,
+  inr (subst (λ (k : KernelView). AddsDerived k c.refute.new.kernel []) (kernel_is c.self.inside c.args.self.now c.self.view_is c.self.invariant)
+      c.in_ok-refute-in-Some.ensures.refuted),
+)
+
+pub returns-then-self-budget-clause-step : goal.returns-then-self-budget-clause-step
+returns-then-self-budget-clause-step c = (
+  c.self.view_is,
+  ap (λ (k : KernelView). derived_count k.entries) (sym (kernel_is c.self.inside c.args.self.now c.self.view_is c.self.invariant)) ∙
+      sym (running c.self.inside c.args.self.now c.self.view_is c.self.invariant c.requires.ready).derived ∙ c.if-self-budget.true,
+  subst (λ (k : KernelView). Contains (clauses_of k) [] → ⊥) (kernel_is c.self.inside c.args.self.now c.self.view_is c.self.invariant)
+      (empty_not_there c.self.inside.kernel.entries 1 (ap (λ o. is_some {T = ℕ} o) (sym c.refuted.ensures) ∙ sym c.is_some.ensures ∙ c.if-is_some.false)),
+)
+
+pub returns-then-self-budget-clause-enough : goal.returns-then-self-budget-clause-enough
+returns-then-self-budget-clause-enough c = λ opens open_are most same.
+    let low = few_derived c.earned_lines_are_few.ensures c.self.inside.sizes.items c.self.inside.kernel c.self.invariant.section
+    (empty_not_there c.self.inside.kernel.entries 1 (ap (λ o. is_some {T = ℕ} o) (sym c.refuted.ensures) ∙ sym c.is_some.ensures ∙ c.if-is_some.false)) opens
+    (subst (λ (k : KernelView). HasOpen k.variables (axiom_clauses k) opens) (sym (kernel_is c.self.inside c.args.self.now c.self.view_is c.self.invariant)) open_are) in
+    let count = (running c.self.inside c.args.self.now c.self.view_is c.self.invariant c.requires.ready).derived in
+    let spent = c.if-self-budget.true in omega arith
+
+pub invariant_of-self-in_err-learn-in-Some : goal.invariant_of-self-in_err-learn-in-Some
+invariant_of-self-in_err-learn-in-Some c = record {
+  section = elim c.in_err-learn-in-Some.ensures.broken [
+    | inl kept ↦ section_kept c.self.inside.sizes.items c.self.inside.kernel c.learn.new.kernel c.self.invariant.section kept
+    | inr learns ↦ section_learned c.self.inside.sizes.items c.self.inside.kernel c.learn.new.kernel c.self.invariant.section learns
+  ];
+  room = c.self.invariant.room;
+  stands = tt;
+}
+
+pub returns-in_err-learn-in-Some-clause-broken : goal.returns-in_err-learn-in-Some-clause-broken
+returns-in_err-learn-in-Some-clause-broken c =
+    let same = kernel_is c.self.inside c.args.self.now c.self.view_is c.self.invariant in
+    let sizes = sizes_is c.self.inside c.args.self.now c.self.view_is c.self.invariant in
+    on_err _ c.from_residual-in_err-learn-in-Some.result
+    (elim c.in_err-learn-in-Some.ensures.broken [
+      | inl kept ↦ (
+        record { standing = refl; sizes = sizes },
+        kept.variables ∙ ap (λ (k : KernelView). k.variables) same,
+        inl (kept.entries ∙ ap (λ (k : KernelView). k.entries) same),
+      )
+      | inr learns ↦ (
+        record { standing = refl; sizes = sizes },
+        learns.adds.variables ∙ ap (λ (k : KernelView). k.variables) same,
+        inr (learns.clause, subst (λ (k : KernelView). AddsDerived k c.learn.new.kernel learns.clause) same learns.adds),
+      )
+    ])
+
+pub invariant_of-self-in-Some : goal.invariant_of-self-in-Some
+invariant_of-self-in-Some c =
+    let before = running c.self.inside c.args.self.now c.self.view_is c.self.invariant c.requires.ready in
+    let learns = c.in_ok-learn-in-Some.ensures.learned in
+    let count : derived_count c.learn.new.kernel.entries ≡ derived_count c.self.inside.kernel.entries + 1 =
+    ap derived_count learns.adds.entries ∙ count_derived c.self.inside.kernel.entries learns.clause in
+    let so_far = before.derived in
+    record {
+      section = section_learned c.self.inside.sizes.items c.self.inside.kernel c.learn.new.kernel c.self.invariant.section learns;
+      room = c.self.invariant.room;
+      stands = record {
+        derived = omega arith;
+        searching = searching_back c.self.inside.sizes.items c.self.inside.kernel c.learn.new.kernel c.descend-failed.new.trail c.learn.new.trail _
+            (went_on c.self.inside c.args.self.now c.self.view_is c.self.invariant c.requires.ready c.deref.result.now c.deref.ensures.value c.descend-failed.new.trail
+            c.descend-failed.new.cursors c.descend-failed.ensures.searching) c.level_count.ensures.steps c.in_ok-learn-in-Some.ensures.back;
+      };
+    }
+
+pub returns-in-None-clause-step : goal.returns-in-None-clause-step
+returns-in-None-clause-step c =
+    let same = kernel_is c.self.inside c.args.self.now c.self.view_is c.self.invariant in
+    let sizes = sizes_is c.self.inside c.args.self.now c.self.view_is c.self.invariant in
+    let searching : IsSearching c.self.inside.sizes.items c.self.inside.kernel c.descend-failed.new.trail _ =
+    went_on c.self.inside c.args.self.now c.self.view_is c.self.invariant c.requires.ready c.deref.result.now c.deref.ensures.value c.descend-failed.new.trail
+    c.descend-failed.new.cursors c.descend-failed.ensures.searching in
+    let least = least_there c.self.inside.sizes.items c.self.inside.kernel c.descend-failed.new.trail _ c.self.invariant.section searching
+    c.in-None.ensures.full c.in-None.ensures.closed c.least_row_is_found.ensures in (
+      row_of c.self.inside.sizes.items (assignment_of (values_of c.descend-failed.new.trail.steps)),
+      subst (λ (ns : List ℕ). IsLeastRowOf ns (clauses_of c.args.self.now.kernel) (row_of c.self.inside.sizes.items (assignment_of (values_of c.descend-failed.new.trail.steps)))) sizes
+          (subst (λ (k : KernelView). IsLeastRowOf c.self.inside.sizes.items (clauses_of k) (row_of c.self.inside.sizes.items (assignment_of (values_of c.descend-failed.new.trail.steps)))) same least),
+      view_found c.self.inside c.args.self.now c.self.view_is c.self.invariant c.deref-in-None.result.now c.deref-in-None.ensures.value
+          c.descend-failed.new.trail c.write_row.new.row c.write_row.ensures,
+    )
+
+pub returns-in_ok-learn-in-Some-clause-step : goal.returns-in_ok-learn-in-Some-clause-step
+returns-in_ok-learn-in-Some-clause-step c =
+    let same = kernel_is c.self.inside c.args.self.now c.self.view_is c.self.invariant in
+    let before = running c.self.inside c.args.self.now c.self.view_is c.self.invariant c.requires.ready in
+    let learns = c.in_ok-learn-in-Some.ensures.learned in
+    let count : derived_count c.learn.new.kernel.entries ≡ derived_count c.self.inside.kernel.entries + 1 =
+    ap derived_count learns.adds.entries ∙ count_derived c.self.inside.kernel.entries learns.clause in
+    let equal : derived_count c.self.inside.kernel.entries ≡ derived_count c.args.self.now.kernel.entries = ap (λ (k : KernelView). derived_count k.entries) same in
+    let so_far = before.derived in let most = c.requires.budget in let more = c.if-self-budget.false in (
+      learns.clause,
+      learns.some,
+      subst (λ (k : KernelView). AddsDerived k c.learn.new.kernel learns.clause) same learns.adds,
+      subst (λ (k : KernelView). IsEarned (clauses_of k) learns.clause) same learns.earned,
+      omega arith,
+      sizes_is c.self.inside c.args.self.now c.self.view_is c.self.invariant,
+      refl,
+    )

@@ -1,0 +1,240 @@
+//! Conflict analysis: from a false clause back along the trail to the first unique implication point.
+ghost use Rattle.std.specs.Prelude.{◌≡◌, ◌≢◌, List, ℕ, ◌+◌, ◌<◌, ◌≤◌, ◌⊎◌, Some, None, IfOk, IfSome, IfNone, OnOk, OnErr, IsSome, [], length, option_and_then};
+ghost use Rattle.std.specs.Bool.{MatchBool};
+ghost use Rattle.cc_defs.specs.Assignments.{IsFailed};
+ghost use Rattle.cc_defs.specs.Clauses.{Literal, IsClause, IsOver};
+ghost use Rattle.cc_kernel.specs.Kernels.{ClashesWith, IsThere, added, clauses_of};
+ghost use Rattle.cc_trail.specs.Steps.{AreSteps, step_of, steps_to, values_of};
+ghost use Rattle.cc_trail.specs.Trails.{Fits, IsFailedClause, IsMild, IsSettled, reason_of_step};
+ghost use Rattle.cc_cdcl.specs.Analysis.{HasOneOf, IsFinal, IsUnfinished, OpenLevels, highest_but, is_level, level_but, level_count_in, level_of};
+ghost use Rattle.cc_cdcl.specs.Derivations.{IsBackOver, IsDerived, IsDeriving, Learns};
+ghost use Rattle.cc_cdcl.specs.Searches.{KeepsEntries};
+ghost use Rattle.cc_cdcl.specs.Solvers.{AddsBlock, AddsDerived};
+
+use crate::laws::learned_is_earned;
+use cc_defs::{Lit, OutOfMemory};
+use cc_kernel::{Kernel, Origin};
+use cc_trail::Trail;
+use cc_trail::laws::{adding_keeps_fit, adding_keeps_settled};
+
+// Whether a variable got its value at a level.
+fn is_of(trail: &Trail, level: u32, variable: u32) -> bool
+    requires { variable ≤ trail.now.variables }
+    ensures { result ≡ is_level level (level_of trail.now.steps variable) }
+{
+    match trail.level_of(variable) {
+        Some(other) => other == level,
+        None => false,
+    }
+}
+
+// The level of a variable, or 0 where it is this one.
+fn level_except(trail: &Trail, level: u32, variable: u32) -> u32
+    requires { variable ≤ trail.now.variables }
+    ensures { result ≡ level_but level (level_of trail.now.steps variable) }
+{
+    match trail.level_of(variable) {
+        Some(other) => if other == level { 0 } else { other },
+        None => 0,
+    }
+}
+
+// How many literals of a clause are of a level.
+fn level_count_in(trail: &Trail, level: u32, clause: &[Lit]) -> usize
+    requires { IsOver trail.now.variables clause.now }
+    ensures { result ≡ level_count_in trail.now.steps level clause.now }
+{
+    let mut count = 0;
+    for lit in clause {
+        if is_of(trail, level, lit.variable()) {
+            count += 1;
+        }
+    }
+    count
+}
+
+// The highest level but this one of a clause's literals, or 0.
+fn highest_but(trail: &Trail, level: u32, clause: &[Lit]) -> u32
+    requires { IsOver trail.now.variables clause.now }
+    ensures { result ≡ highest_but trail.now.steps level clause.now }
+{
+    let mut highest = 0;
+    for lit in clause {
+        highest = level_except(trail, level, lit.variable()).max(highest);
+    }
+    highest
+}
+
+// Whether a clause is what analysis derives: where no level was opened the empty one, else one with one literal of the last
+// level.
+fn is_final(trail: &Trail, clause: &[Lit]) -> bool
+    requires clause { IsClause clause.now }
+    requires over { IsOver trail.now.variables clause.now }
+    requires left { (trail.now.level_count ≡ 0) ⊎ HasOneOf trail.now.steps trail.now.level_count clause.now }
+    ensures { MatchBool result (IsFinal trail.now.steps trail.now.level_count clause.now) (IsUnfinished trail.now.steps trail.now.level_count clause.now) }
+{
+    let level = trail.level_count();
+    if level == 0 {
+        return clause.is_empty();
+    }
+    level_count_in(trail, level, clause) == 1
+}
+
+// The reason of a variable's value, where the staged clause clashes with it.
+fn clashing_reason(trail: &Trail, kernel: &Kernel, pivot: u32) -> Option<u32>
+    requires some { 1 ≤ pivot }
+    requires within { pivot ≤ trail.now.variables }
+    requires variables { trail.now.variables ≡ kernel.now.variables }
+    requires staged { IsSome kernel.now.staged }
+    requires there { (id : ℕ) → option_and_then reason_of_step (step_of trail.now.steps pivot) ≡ Some id → IsThere kernel.now id }
+    ensures some { IfSome result (λ id. ClashesWith kernel.now pivot id) }
+    ensures reason { IfSome result (λ id. option_and_then reason_of_step (step_of trail.now.steps pivot) ≡ Some id) }
+    ensures none { IfNone result ((id : ℕ) → option_and_then reason_of_step (step_of trail.now.steps pivot) ≡ Some id → ClashesWith kernel.now pivot id → ⊥) }
+{
+    match trail.reason(pivot) {
+        Some(id) => if kernel.clashes(pivot, id) {
+            Some(id)
+        } else {
+            None
+        },
+        None => None,
+    }
+}
+
+// Resolves the staged clause with the reason of the last true literal in front of a place whose opposite it has, and returns
+// the place of that one.
+fn resolve_next(trail: &Trail, kernel: &mut Kernel, start: usize) -> Result<usize, OutOfMemory>
+    requires fits { Fits trail.now kernel.old }
+    requires opened { OpenLevels trail.now.steps }
+    requires derivation { IsDeriving kernel.old trail.now start }
+    requires unfinished { (clause : List Literal) → kernel.old.staged ≡ Some clause → IsUnfinished trail.now.steps trail.now.level_count clause }
+    ensures derivation { IfOk result (λ place. IsDeriving kernel.new trail.now place) }
+    ensures fewer { IfOk result (λ place. place < start) }
+    ensures kept { KeepsEntries kernel.old kernel.new }
+{
+    let entries = trail.entries();
+    for place in (0..start).rev() {
+        let pivot = entries[place].variable();
+        match clashing_reason(trail, kernel, pivot) {
+            Some(id) => {
+                kernel.step(pivot, id)?;
+                return Ok(place);
+            },
+            None => {},
+        }
+    }
+    Ok(0)
+}
+
+// Resolves the staged clause back along the trail, until it is what analysis derives.
+fn resolve_back(trail: &Trail, kernel: &mut Kernel) -> Result<(), OutOfMemory>
+    requires fits { Fits trail.now kernel.old }
+    requires opened { OpenLevels trail.now.steps }
+    requires derivation { IsDeriving kernel.old trail.now (length trail.now.steps) }
+    ensures derived { OnOk result (IsDerived kernel.new trail.now) }
+    ensures kept { KeepsEntries kernel.old kernel.new }
+{
+    let mut place = trail.entries().len();
+    while !is_final(trail, kernel.current()) {
+        place = resolve_next(trail, kernel, place)?;
+    }
+    Ok(())
+}
+
+// Derives the clause that is learned from a false one, and leaves it staged.
+fn derive(trail: &Trail, kernel: &mut Kernel, id: u32) -> Result<(), OutOfMemory>
+    requires fits { Fits trail.now kernel.old }
+    requires opened { OpenLevels trail.now.steps }
+    requires settled { IsSettled trail.now kernel.old }
+    requires failed { IsFailedClause (clauses_of kernel.old) trail.now.steps id }
+    ensures derived { OnOk result (IsDerived kernel.new trail.now) }
+    ensures kept { KeepsEntries kernel.old kernel.new }
+{
+    kernel.start(id)?;
+    let _level = trail.level_count();
+    resolve_back(trail, kernel)
+}
+
+/// Derives the empty clause from a clause that is false where no level was opened.
+pub fn refute(trail: &Trail, kernel: &mut Kernel, id: u32) -> Result<(), OutOfMemory>
+    requires level { trail.now.level_count ≡ 0 }
+    requires fits { Fits trail.now kernel.old }
+    requires opened { OpenLevels trail.now.steps }
+    requires settled { IsSettled trail.now kernel.old }
+    requires failed { IsFailedClause (clauses_of kernel.old) trail.now.steps id }
+    requires few { length kernel.old.entries < 4000000000 }
+    ensures refuted { OnOk result (AddsDerived kernel.old kernel.new []) }
+    ensures kept { OnErr result (KeepsEntries kernel.old kernel.new) }
+{
+    derive(trail, kernel, id)?;
+    let _level = trail.level_count();
+    kernel.finish()?;
+    Ok(())
+}
+
+/// Derives a clause from one that is false, goes back to the level at which it leaves one literal, and attaches it.
+pub fn learn(trail: &mut Trail, kernel: &mut Kernel, id: u32) -> Result<(), OutOfMemory>
+    requires level { 0 < trail.old.level_count }
+    requires fits { Fits trail.old kernel.old }
+    requires all { trail.old.attached ≡ length kernel.old.entries }
+    requires opened { OpenLevels trail.old.steps }
+    requires settled { IsSettled trail.old kernel.old }
+    requires failed { IsFailedClause (clauses_of kernel.old) trail.old.steps id }
+    requires few { length kernel.old.entries < 4000000000 }
+    ensures learned { OnOk result (Learns kernel.old kernel.new) }
+    ensures back { OnOk result (IsBackOver trail.old trail.new kernel.new) }
+    ensures broken { OnErr result (KeepsEntries kernel.old kernel.new ⊎ Learns kernel.old kernel.new) }
+{
+    learned_is_earned();
+    adding_keeps_fit();
+    adding_keeps_settled();
+    derive(trail, kernel, id)?;
+    let level = trail.level_count();
+    let back = highest_but(trail, level, kernel.current());
+    let number = kernel.finish()?;
+    trail.back_to(back);
+    trail.attach(kernel, number)?;
+    Ok(())
+}
+
+// The level to go back to before a false clause is attached: its highest one where two literals are of it, else the second
+// highest one.
+fn block_level(trail: &Trail, clause: &[Lit]) -> u32
+    requires clause { IsClause clause.now }
+    requires over { IsOver trail.now.variables clause.now }
+    requires failed { IsFailed (values_of trail.now.steps) clause.now }
+    ensures low { result ≤ trail.now.level_count }
+    ensures steps { AreSteps trail.now.variables trail.now.steps trail.now.level_count }
+    ensures mild { IsMild (steps_to result trail.now.steps) result clause.now }
+{
+    let level = trail.level_count();
+    let highest = highest_but(trail, level + 1, clause);
+    if level_count_in(trail, highest, clause) == 1 {
+        return highest_but(trail, highest, clause);
+    }
+    highest
+}
+
+/// Adds a false clause as a block, and goes back to a level at which search goes on from it.
+pub fn block(trail: &mut Trail, kernel: &mut Kernel, clause: &[Lit]) -> Result<u32, OutOfMemory>
+    requires clause { IsClause clause.now }
+    requires over { IsOver kernel.old.variables clause.now }
+    requires failed { IsFailed (values_of trail.old.steps) clause.now }
+    requires fits { Fits trail.old kernel.old }
+    requires all { trail.old.attached ≡ length kernel.old.entries }
+    requires settled { IsSettled trail.old kernel.old }
+    requires few { length kernel.old.entries < 4000000000 }
+    ensures number { IfOk result (λ number. number ≡ length kernel.old.entries + 1) }
+    ensures blocked { OnOk result (kernel.new ≡ added kernel.old clause.now Origin.Block) }
+    ensures back { OnOk result (IsBackOver trail.old trail.new kernel.new) }
+    ensures steps { AreSteps trail.old.variables trail.old.steps trail.old.level_count }
+    ensures broken { OnErr result (KeepsEntries kernel.old kernel.new ⊎ AddsBlock kernel.old kernel.new clause.now) }
+{
+    adding_keeps_fit();
+    adding_keeps_settled();
+    let back = block_level(trail, clause);
+    let number = kernel.block(clause)?;
+    trail.back_to(back);
+    trail.attach(kernel, number)?;
+    Ok(number)
+}

@@ -1,0 +1,176 @@
+-- What the holder of a trail sees after propagation, and that it is closed.
+use Rattle.std.proofs.Common.{◌≡◌, ◌∙◌, ℕ, ◌-◌, ◌*◌, ◌<◌, ◌≤◌, suc, inl, inr, List, [], ◌∷◌, length, get_or, Option, Some, None, option_map, refl, sym, subst, ap, arith}
+use Rattle.std.specs.Prelude.{◌⊎◌, Contains, slice_get, IfNone}
+use Rattle.std.proofs.lemmas.List.{length-map, take_all}
+use Rattle.std.proofs.lemmas.Option.{slice_get-get_or}
+use Rattle.cc_defs.specs.Clauses.{Literal, IsNumbered}
+use Rattle.cc_defs.specs.Assignments.{IsClosed, IsTrueIn, HasNoValue}
+use Rattle.cc_kernel.specs.Kernels.{KernelView, Entry, clauses_of}
+use Rattle.cc_trail.specs.declared.entries.Step.{Step}
+use Rattle.cc_trail.specs.declared.trail.Trail.TheInside.{Inside}
+use Rattle.cc_trail.specs.Links.{IsIn, LinksView, watched_at}
+use Rattle.cc_trail.specs.Steps.{EntriesView, AreApart, step_of, sign_of, values_of}
+use Rattle.cc_trail.specs.Watches.{IsFalseBy, IsWatched, IsShort, partner}
+use Rattle.cc_trail.specs.Trails.{TrailView, Fits, IsSettled, number_of}
+use Rattle.cc_trail.specs.TrailParts.{view_of, AreParts}
+use Rattle.cc_trail.specs.Visits.{AreSound, AreWatched, IsMet}
+use Rattle.cc_trail.proofs.StepLists.{step_found, found_step}
+use Rattle.cc_trail.proofs.Attaching.{half_first, partner_first, partner_second}
+use Rattle.cc_trail.proofs.Adding.{Spares, not_failed, not_unit}
+use Rattle.cc_trail.proofs.Growing.{same_or_opposite}
+use Rattle.cc_trail.proofs.Visiting.{numbered_same}
+
+-- ---- closed
+
+true_by : (steps : List Step) → AreApart steps → (literal : Literal) (step : Step) → IsIn steps step → step.lit ≡ literal → IsTrueIn (values_of steps) literal
+true_by steps apart literal step here is =
+    ap (λ (n : ℕ). option_map sign_of (step_of steps n)) (sym (ap (λ (l : Literal). l.variable) is)) ∙
+    ap (λ (found : Option Step). option_map sign_of found) (found_step steps apart step here) ∙ ap (λ (l : Literal). Some l.positive) is
+
+-- a literal has no value, or a step makes it true, or false
+value_tells : (steps : List Step) (literal : Literal) (found : Option Step) → step_of steps literal.variable ≡ found →
+    HasNoValue (values_of steps) literal ⊎ (((step : Step) × IsIn steps step × (step.lit ≡ literal)) ⊎ IsFalseBy steps literal)
+value_tells steps literal None is = inl (ap (λ (found : Option Step). option_map sign_of found) is)
+value_tells steps literal (Some step) is =
+    let there = step_found steps literal.variable step is in
+    elim (same_or_opposite step.lit literal (there.1)) [
+      | inl same ↦ inr (inl (step, there.0, same))
+      | inr other ↦ inr (inr (step, there.0, other))
+    ]
+
+place_in : (ns : List ℕ) (n : ℕ) → IsIn ns n → (k : ℕ) × (k < length ns) × (get_or ns k 0 ≡ n)
+place_in [] n none = elim none [ ]
+place_in (m ∷ ns) n (inl same) = (0, omega arith, same)
+place_in (m ∷ ns) n (inr here) = let (k, within, at) = place_in ns n here in (suc k, omega (arith, within), at)
+
+module _ (kernel : KernelView) (shorts longs : List ℕ) (visited : ℕ) (entries : EntriesView) (links : LinksView) (sound : AreSound kernel entries)
+    (watched : AreWatched kernel longs visited entries links) (all : visited ≡ length entries.steps)
+    (met : (number : ℕ) → IsIn shorts number → IsMet (clauses_of kernel) entries.steps number)
+    (each : (number : ℕ) → 0 < number → number ≤ length (clauses_of kernel) → IsIn shorts number ⊎ IsIn longs number) where
+  watched_all : (node : ℕ) → node < length links.watched → IsWatched entries.steps entries.steps links.watched node
+  watched_all node low =
+      subst (λ (steps : List Step). IsWatched steps entries.steps links.watched node) (take_all visited entries.steps (omega arith)) (watched.watches node low)
+
+  spares_short : (number : ℕ) (clause : List Literal) → IsNumbered (clauses_of kernel) number clause → IsIn shorts number → Spares (values_of entries.steps) clause
+  spares_short number clause numbered here =
+      let (other, other_numbered, literal, member, step, among, is) = met number here in
+      inl (
+        literal,
+        subst (λ (c : List Literal). Contains c literal) (numbered_same (clauses_of kernel) number other clause other_numbered numbered) member,
+        true_by entries.steps sound.are_steps.apart literal step among is,
+      )
+
+  spares_node : (node : ℕ) → node < length links.watched → partner node < length links.watched → partner (partner node) ≡ node → (clause : List Literal) →
+      IsNumbered (clauses_of kernel) (number_of longs node) clause → Spares (values_of entries.steps) clause
+  spares_node node low partner_low twice clause numbered =
+      let watching = watched.watching node low in
+      let same = numbered_same (clauses_of kernel) (number_of longs node) watching.clause clause watching.numbered numbered in
+      let one = subst (λ (c : List Literal). Contains c (watched_at links.watched node)) same watching.here in
+      let two = subst (λ (c : List Literal). Contains c (watched_at links.watched (partner node))) same watching.there in
+      elim (value_tells entries.steps (watched_at links.watched node) (step_of entries.steps (watched_at links.watched node).variable) refl) [
+        | inr valued ↦ elim valued [
+          | inl (step, among, is) ↦ inl (watched_at links.watched node, one, true_by entries.steps sound.are_steps.apart (watched_at links.watched node) step among is)
+          | inr (step, among, is) ↦
+              let true_is = watched_all node low step among is in
+              inl (watched_at links.watched (partner node), two, true_by entries.steps sound.are_steps.apart (watched_at links.watched (partner node)) true_is.0 true_is.1 true_is.2)
+        ]
+        | inl one_open ↦ elim (value_tells entries.steps (watched_at links.watched (partner node)) (step_of entries.steps (watched_at links.watched (partner node)).variable) refl) [
+          | inl two_open ↦ inr (watched_at links.watched node, watched_at links.watched (partner node), watching.apart, one, two, one_open, two_open)
+          | inr valued ↦ elim valued [
+            | inl (step, among, is) ↦ inl (watched_at links.watched (partner node), two, true_by entries.steps sound.are_steps.apart (watched_at links.watched (partner node)) step among is)
+            | inr (step, among, is) ↦
+                let true_is = watched_all (partner node) partner_low step among is in
+                inl (
+                  watched_at links.watched node,
+                  one,
+                  true_by entries.steps sound.are_steps.apart (watched_at links.watched node) true_is.0 true_is.1
+                      (true_is.2 ∙ ap (λ (k : ℕ). watched_at links.watched k) twice),
+                )
+          ]
+        ]
+      ]
+
+  spares_long : (number : ℕ) (clause : List Literal) → IsNumbered (clauses_of kernel) number clause → IsIn longs number → Spares (values_of entries.steps) clause
+  spares_long number clause numbered here =
+      let (k, within, at) = place_in longs number here in
+      let nodes = watched.nodes in
+      spares_node (2 * k) (omega arith) (rw (partner_first k) (omega arith)) (ap partner (partner_first k) ∙ partner_second k) clause
+      (subst (λ (n : ℕ). IsNumbered (clauses_of kernel) n clause) (sym at ∙ ap (λ (j : ℕ). get_or longs j 0) (sym (half_first k))) numbered)
+
+  spares : (clause : List Literal) → Contains (clauses_of kernel) clause → Spares (values_of entries.steps) clause
+  spares clause (k, within, at) =
+      let back : k ≡ suc k - 1 = omega arith in
+      let numbered : IsNumbered (clauses_of kernel) (suc k) clause =
+      (omega arith, subst (λ (n : ℕ). slice_get (clauses_of kernel) n ≡ Some clause) back (slice_get-get_or (clauses_of kernel) k clause within ∙ ap (λ (c : List Literal). Some c) at)) in
+      elim (each (suc k) (omega arith) (omega arith)) [
+        | inl here ↦ spares_short (suc k) clause numbered here
+        | inr here ↦ spares_long (suc k) clause numbered here
+      ]
+
+  pub closed_then : IsClosed (values_of entries.steps) (clauses_of kernel)
+  closed_then = record {
+    none_failed = λ clause here failed. not_failed (values_of entries.steps) clause (spares clause here) failed;
+    none_unit = λ clause here unit. not_unit (values_of entries.steps) clause (spares clause here) unit;
+  }
+
+-- ---- the parts of a trail, before and after
+
+module _ (inside : Inside) (old : TrailView) (is : view_of inside ≡ old) (parts : AreParts inside) (kernel : KernelView) (fits : Fits old kernel) where
+  fits_here : Fits (view_of inside) kernel
+  fits_here = subst (λ (v : TrailView). Fits v kernel) (sym is) fits
+
+  pub shorts_here : (number : ℕ) → IsIn inside.shorts.items number → IsShort (clauses_of kernel) number
+  shorts_here = fits_here.clauses.shorts
+
+  pub sound_here : IsSettled old kernel → AreSound kernel inside.entries
+  sound_here settled = record {
+    variables = fits_here.variables;
+    are_steps = parts.trail_is.are_steps;
+    reasons = fits_here.clauses.reasons;
+    settled = subst (λ (v : TrailView). IsSettled v kernel) (sym is) settled;
+  }
+
+  pub watched_here : AreWatched kernel inside.longs.items inside.visited inside.entries inside.links
+  watched_here = record {
+    variables = parts.variables ∙ fits_here.variables;
+    within = parts.trail_is.visited;
+    nodes = parts.trail_is.nodes;
+    watching = fits_here.clauses.longs;
+    watches = fits_here.clauses.watches;
+  }
+
+  each_here : old.attached ≡ length kernel.entries → (number : ℕ) → 0 < number → number ≤ length (clauses_of kernel) → IsIn inside.shorts.items number ⊎ IsIn inside.longs.items number
+  each_here attached number some most =
+      let here : inside.attached ≡ old.attached = ap (λ (v : TrailView). v.attached) is in
+      let count : length (clauses_of kernel) ≡ length kernel.entries = length-map kernel.entries (λ (entry : Entry). entry.clause) in
+      fits_here.clauses.each number some (omega arith)
+
+  pub fits_then : (visited : ℕ) (entries : EntriesView) (links : LinksView) → AreSound kernel entries → AreWatched kernel inside.longs.items visited entries links →
+      Fits (record {
+        variables = entries.variables;
+        steps = entries.steps;
+        level_count = entries.level_count;
+        attached = inside.attached;
+        shorts = inside.shorts.items;
+        longs = inside.longs.items;
+        watched = links.watched;
+        visited = visited;
+      }) kernel
+  fits_then visited entries links sound watched = record {
+    variables = sound.variables;
+    clauses = record {
+      attached = fits_here.clauses.attached;
+      reasons = sound.reasons;
+      shorts = fits_here.clauses.shorts;
+      longs = watched.watching;
+      each = fits_here.clauses.each;
+      watches = watched.watches;
+    };
+  }
+
+  pub all_closed : (found : Option ℕ) (visited : ℕ) (entries : EntriesView) (links : LinksView) → old.attached ≡ length kernel.entries → AreSound kernel entries →
+      AreWatched kernel inside.longs.items visited entries links → ((number : ℕ) → IsIn inside.shorts.items number → IsMet (clauses_of kernel) entries.steps number) →
+      IfNone found (visited ≡ length entries.steps) → IfNone found (IsClosed (values_of entries.steps) (clauses_of kernel))
+  all_closed None visited entries links attached sound watched met all =
+      closed_then kernel inside.shorts.items inside.longs.items visited entries links sound watched all met (each_here attached)
+  all_closed (Some number) visited entries links attached sound watched met all = tt

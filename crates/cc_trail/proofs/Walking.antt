@@ -1,0 +1,144 @@
+-- Walks: over the nodes that were taken out, over the steps, and over the clauses of fewer than two literals.
+use Rattle.std.proofs.Common.{◌≡◌, ◌∙◌, ℕ, ◌+◌, ◌<◌, zero, suc, inl, inr, List, [], ◌∷◌, length, set, take, drop, Some, refl, sym, subst, ap, arith}
+use Rattle.std.specs.Prelude.{◌⊎◌, Contains, slice_get}
+use Rattle.std.proofs.lemmas.List.{set-get_or}
+use Rattle.std.proofs.lemmas.Option.{slice_get_within}
+use Rattle.cc_defs.specs.Clauses.{Literal, opposite, IsNumbered}
+use Rattle.cc_kernel.specs.Kernels.{KernelView, clauses_of}
+use Rattle.cc_trail.specs.declared.entries.Step.{Step}
+use Rattle.cc_trail.specs.Links.{IsIn, IsLiteralOver, LinksView, AreTaken, BeginsWith, no_literal, watched_at}
+use Rattle.cc_trail.specs.Steps.{EntriesView}
+use Rattle.cc_trail.specs.Watches.{IsFalseBy, IsWatched, HasReason, IsShort}
+use Rattle.cc_trail.specs.Trails.{IsFailedClause}
+use Rattle.cc_trail.specs.Visits.{AreSound, AreGrown, AreWatched, IsVisiting, IsMet}
+use Rattle.cc_trail.proofs.StepLists.{in_take}
+use Rattle.cc_trail.proofs.Growing.{opposite_twice, literals_tell, grown_in}
+use Rattle.cc_trail.proofs.Visiting.{in_get, take_next, numbered_same, false_by}
+
+-- ---- nodes are put back
+
+pub record IsPutting (old now : LinksView) (literal : Literal) : Type 0 where
+  pub variables : now.variables ≡ old.variables
+  pub watched : now.watched ≡ old.watched
+  pub taken : (node : ℕ) → IsIn now.taken node → (node < length now.watched) × (watched_at now.watched node ≡ literal)
+
+pub putting_on : (old now : LinksView) (literal : Literal) (node : ℕ) → IsPutting old now literal → BeginsWith now.taken node →
+    IsPutting old (record now { watched = set now.watched node literal; taken = drop 1 now.taken }) literal
+putting_on old now literal node putting begins =
+    let mine = putting.taken node (rw (begins.1) (inl refl)) in
+    let same : set now.watched node literal ≡ now.watched = subst (λ (l : Literal). set now.watched node l ≡ now.watched) (mine.1) (set-get_or now.watched node no_literal) in
+    record {
+      variables = putting.variables;
+      watched = same ∙ putting.watched;
+      taken = rw same (λ k here. putting.taken k (rw (begins.1) (inr (subst (λ (ks : List ℕ). IsIn (drop 1 ks) k) (begins.1) here))));
+    }
+
+pub put_all : (old now : LinksView) (literal : Literal) → IsPutting old now literal → now.taken ≡ [] → ◌≡◌ {A = LinksView} now (record old { taken = [] })
+put_all old now literal putting none =
+    ap (λ (n : ℕ). let w : LinksView = record now { variables = n } in w) putting.variables ∙
+    ap (λ (ls : List Literal). let w : LinksView = record now { variables = old.variables; watched = ls } in w) putting.watched ∙
+    ap (λ (ks : List ℕ). let w : LinksView = record old { taken = ks } in w) none
+
+pub fewer_taken : (taken now : List ℕ) (node : ℕ) → BeginsWith taken node → now ≡ drop 1 taken → length now < length taken
+fewer_taken taken now node begins is = rw (is, begins.1) (omega arith)
+
+-- ---- a step is visited
+
+module _ (kernel : KernelView) (longs : List ℕ) (place : ℕ) (step : Step) (entries : EntriesView) (here : slice_get entries.steps place ≡ Some step) where
+  pub fallen_over : (variables : ℕ) → AreSound kernel entries → variables ≡ kernel.variables → IsLiteralOver variables (opposite step.lit)
+  fallen_over variables sound is = rw (is ∙ sym sound.variables) (sound.are_steps.over step (in_take (suc place) entries.steps step (in_get entries.steps place step here)))
+
+  module _ (old new : LinksView) (sound : AreSound kernel entries) (watched : AreWatched kernel longs place entries old) (taken : AreTaken old new (opposite step.lit)) where
+    again : AreWatched kernel longs place entries new
+    again = record {
+      variables = taken.variables ∙ watched.variables;
+      within = watched.within;
+      nodes = ap length taken.watched ∙ watched.nodes;
+      watching = rw taken.watched watched.watching;
+      watches = rw taken.watched watched.watches;
+    }
+
+    done_yet : (node : ℕ) → node < length old.watched → IsIn new.taken node ⊎ IsWatched (take (suc place) entries.steps) entries.steps old.watched node
+    done_yet node low = elim (literals_tell (watched_at old.watched node) (opposite step.lit)) [
+      | inl same ↦ inl ((taken.nodes node).1 (low, same))
+      | inr other ↦ inr (λ s among is. elim (take_next place entries.steps step s here among) [
+        | inl before ↦ watched.watches node low s before is
+        | inr same ↦ absurd (other (sym (opposite_twice (watched_at old.watched node)) ∙ ap opposite (sym is) ∙ ap (λ (t : Step). opposite t.lit) (sym same)))
+      ])
+    ]
+
+    pub visit_begins : IsVisiting kernel longs place step entries new
+    visit_begins = record {
+      sound = sound;
+      watched = again;
+      here = here;
+      taken = rw taken.watched (λ node among. (taken.nodes node).0 among);
+      done = rw taken.watched done_yet;
+    }
+
+pub put_watched : (kernel : KernelView) (longs : List ℕ) (place : ℕ) (entries : EntriesView) (old new : LinksView) → ◌≡◌ {A = LinksView} new (record old { taken = [] }) →
+    AreWatched kernel longs place entries old → AreWatched kernel longs place entries new
+put_watched kernel longs place entries old new is watched = rw is (record {
+  variables = watched.variables;
+  within = watched.within;
+  nodes = watched.nodes;
+  watching = watched.watching;
+  watches = watched.watches;
+})
+
+pub visit_ends : (kernel : KernelView) (longs : List ℕ) (place : ℕ) (step : Step) (entries : EntriesView) (links : LinksView) →
+    IsVisiting kernel longs place step entries links → links.taken ≡ [] → AreWatched kernel longs (place + 1) entries links
+visit_ends kernel longs place step entries links visiting none =
+    let within = slice_get_within entries.steps place step visiting.here in
+    let next : suc place ≡ place + 1 = omega arith in
+    record {
+      variables = visiting.watched.variables;
+      within = omega arith;
+      nodes = visiting.watched.nodes;
+      watching = visiting.watched.watching;
+      watches = λ node low. elim (visiting.done node low) [
+        | inl here ↦ elim (subst (λ (ks : List ℕ). IsIn ks node) none here) [ ]
+        | inr is ↦ subst (λ (n : ℕ). IsWatched (take n entries.steps) entries.steps links.watched node) next is
+      ];
+    }
+
+-- ---- clauses of fewer than two literals
+
+pub short_reason : (clauses : List (List Literal)) (steps : List Step) (number : ℕ) (clause : List Literal) (literal : Literal) → IsNumbered clauses number clause →
+    length clause < 2 → slice_get clause 0 ≡ Some literal → HasReason clauses steps literal number × Contains clause literal × ((other : Literal) → Contains clause other → other ≡ literal)
+short_reason clauses steps number [] literal numbered short is = cc
+short_reason clauses steps number (a ∷ b ∷ clause) literal numbered short is = absurd (omega (arith, short))
+short_reason clauses steps number (a ∷ []) literal numbered short is =
+    ((a ∷ [], numbered, member, (λ other there. inl (only other there))), member, only)
+  where
+    same : a ≡ literal
+    same = cc
+
+    member : Contains (a ∷ []) literal
+    member = (0, omega arith, same)
+
+    only : (other : Literal) → Contains (a ∷ []) other → other ≡ literal
+    only other (zero, within, at) = sym at ∙ same
+    only other (suc k, within, at) = absurd (omega (arith, within))
+
+pub short_failed : (kernel : KernelView) (old new : EntriesView) (number : ℕ) (clause : List Literal) (literal : Literal) → AreSound kernel old →
+    (HasReason (clauses_of kernel) old.steps literal number → AreSound kernel old → AreSound kernel new) →
+    IsShort (clauses_of kernel) number → IsNumbered (clauses_of kernel) number clause → slice_get clause 0 ≡ Some literal → IsFalseBy new.steps literal →
+    IsFailedClause (clauses_of kernel) new.steps number
+short_failed kernel old new number clause literal sound makes (other, other_numbered, short) numbered is false_is =
+    let same = numbered_same (clauses_of kernel) number other clause other_numbered numbered in
+    let here = short_reason (clauses_of kernel) old.steps number clause literal numbered (subst (λ (c : List Literal). length c < 2) same short) is in
+    let then_sound = makes (here.0) sound in
+    (clause, numbered, (λ l among. false_by new.steps then_sound.are_steps.apart l (subst (λ (x : Literal). IsFalseBy new.steps x) (sym (here.2 l among)) false_is)))
+
+pub met_grown : (clauses : List (List Literal)) (old new : EntriesView) (number : ℕ) → AreGrown old new → IsMet clauses old.steps number → IsMet clauses new.steps number
+met_grown clauses old new number grown (clause, numbered, literal, member, step, here, is) = (clause, numbered, literal, member, step, grown_in old new grown step here, is)
+
+pub met_more : (clauses : List (List Literal)) (shorts : List ℕ) (index number : ℕ) (old new : EntriesView) → slice_get shorts index ≡ Some number → AreGrown old new →
+    ((k : ℕ) → IsIn (take index shorts) k → IsMet clauses old.steps k) → IsMet clauses new.steps number → (k : ℕ) → IsIn (take (index + 1) shorts) k → IsMet clauses new.steps k
+met_more clauses shorts index number old new is grown before last k here =
+    let next : index + 1 ≡ suc index = omega arith in
+    elim (take_next index shorts number k is (subst (λ (n : ℕ). IsIn (take n shorts) k) next here)) [
+      | inl among ↦ met_grown clauses old new k grown (before k among)
+      | inr same ↦ subst (λ (j : ℕ). IsMet clauses new.steps j) same last
+    ]

@@ -1,0 +1,30 @@
+use Rattle.std.proofs.Common.{ℕ, List, sym, subst}
+use Rattle.cc_kernel.specs.Kernels.{clauses_of}
+use Rattle.cc_trail.specs.Links.{IsIn}
+use Rattle.cc_trail.specs.Visits.{AreWatched}
+use Rattle.cc_trail.proofs.Growing.{watched_grown}
+use Rattle.cc_trail.proofs.Walking.{met_grown}
+use Rattle.cc_trail.proofs.Propagated.{watched_here, fits_then, all_closed}
+use Rattle.cc_trail.proofs.trail.Trail.propagate.Goals as goal
+
+pub returns-in-Some-clause-fits : goal.returns-in-Some-clause-fits
+returns-in-Some-clause-fits c =
+    fits_then c.self.inside c.args.self.now c.self.view_is c.self.invariant c.args.kernel.now c.requires.fits c.self.inside.visited c.make_shorts.new.entries c.self.inside.links
+    c.make_shorts.ensures.sound
+    (watched_grown c.args.kernel.now c.self.inside.longs.items c.self.inside.visited c.self.inside.entries c.make_shorts.new.entries c.self.inside.links c.make_shorts.ensures.grown
+    (watched_here c.self.inside c.args.self.now c.self.view_is c.self.invariant c.args.kernel.now c.requires.fits))
+
+pub visit_steps-requires-clause-watched : goal.visit_steps-requires-clause-watched
+visit_steps-requires-clause-watched c =
+    rw c.deref-2.ensures.value
+    (watched_grown c.args.kernel.now c.self.inside.longs.items c.self.inside.visited c.self.inside.entries c.make_shorts.new.entries c.self.inside.links c.make_shorts.ensures.grown
+    (watched_here c.self.inside c.args.self.now c.self.view_is c.self.invariant c.args.kernel.now c.requires.fits))
+
+pub returns-clause-closed : goal.returns-clause-closed
+returns-clause-closed c =
+    all_closed c.self.inside c.args.self.now c.self.view_is c.self.invariant c.args.kernel.now c.requires.fits c.visit_steps.result c.visit_steps.new.visited
+    c.visit_steps.new.entries c.visit_steps.new.links c.requires.all c.visit_steps.ensures.sound
+    (subst (λ (ns : List ℕ). AreWatched c.args.kernel.now ns c.visit_steps.new.visited c.visit_steps.new.entries c.visit_steps.new.links) c.deref-2.ensures.value c.visit_steps.ensures.watched)
+    (λ number here. met_grown (clauses_of c.args.kernel.now) c.make_shorts.new.entries c.visit_steps.new.entries number c.visit_steps.ensures.grown
+    (c.in_default.ensures.met number (subst (λ (ns : List ℕ). IsIn ns number) (sym c.deref.ensures.value) here)))
+    c.visit_steps.ensures.all

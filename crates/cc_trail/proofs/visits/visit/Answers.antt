@@ -1,0 +1,89 @@
+use Rattle.std.proofs.Common.{◌∙◌, ℕ, ◌<◌, length, sym, subst, ap}
+use Rattle.std.proofs.lemmas.List.Elements.{All-contains}
+use Rattle.cc_defs.specs.Clauses.{Literal}
+use Rattle.cc_trail.specs.Links.{IsLiteralOver, watched_at}
+use Rattle.cc_trail.specs.Visits.{IsFalseAt}
+use Rattle.cc_trail.proofs.Attaching.{all_over}
+use Rattle.cc_trail.proofs.Growing.{grown_at}
+use Rattle.cc_trail.proofs.Choosing.{not_true, not_false, best_open, best_false, value_true, value_false}
+use Rattle.cc_trail.proofs.Visiting.{low, partner_low, there, fallen_over, fallen_at, visiting_then, others_then, failed_here, kept_then, open_then, fallen_then}
+use Rattle.cc_trail.proofs.visits.visit.Goals as goal
+
+pub watched-other-requires : goal.watched-other-requires
+watched-other-requires c =
+    subst (λ (n : ℕ). n < length c.args.links.now.watched) (sym c.partner_of.ensures)
+    (partner_low c.args.kernel.now c.args.longs.now c.args.place c.args.step.now c.args.entries.now c.args.links.now c.requires.visiting c.args.node c.requires.first c.args.node
+    (low c.args.kernel.now c.args.longs.now c.args.place c.args.step.now c.args.entries.now c.args.links.now c.requires.visiting c.args.node c.requires.first))
+
+pub put-requires-clause-over : goal.put-requires-clause-over
+put-requires-clause-over c =
+    subst (λ (l : Literal). IsLiteralOver c.args.links.now.variables l) (sym c.opposite-fallen.ensures)
+    (fallen_over c.args.kernel.now c.args.longs.now c.args.place c.args.step.now c.args.entries.now c.args.links.now c.requires.visiting c.args.node c.requires.first)
+
+pub returns-then-is_true_to-clause-visiting : goal.returns-then-is_true_to-clause-visiting
+returns-then-is_true_to-clause-visiting c =
+    kept_then c.args.kernel.now c.args.longs.now c.args.place c.args.step.now c.args.entries.now c.args.links.now c.requires.visiting c.args.node c.requires.first c.requires.once
+    c.watched-other.result (c.watched-other.ensures.watched ∙ ap (λ (n : ℕ). watched_at c.args.links.now.watched n) c.partner_of.ensures) c.opposite-fallen.result c.put.new.self
+    c.put.ensures c.opposite-fallen.ensures (c.is_true_to.ensures c.if-is_true_to.true)
+
+pub clause-requires : goal.clause-requires
+clause-requires c =
+    there c.args.kernel.now c.args.longs.now c.args.place c.args.step.now c.args.entries.now c.args.links.now c.requires.visiting c.args.node c.requires.first
+
+pub best_beside-watch-requires-clause-over : goal.best_beside-watch-requires-clause-over
+best_beside-watch-requires-clause-over c =
+    rw c.requires.visiting.sound.variables (all_over c.args.kernel.now.variables c.clause.result.now c.clause.ensures.over)
+
+pub best_beside-watch-requires-clause-fallen : goal.best_beside-watch-requires-clause-fallen
+best_beside-watch-requires-clause-fallen c =
+    subst (λ (l : Literal). IsFalseAt c.args.entries.now.steps l c.args.step.now.level) (sym c.opposite-fallen.ensures)
+    (fallen_at c.args.kernel.now c.args.longs.now c.args.place c.args.step.now c.args.entries.now c.args.links.now c.requires.visiting c.args.node c.requires.first)
+
+pub put-requires-then-not-watch-clause-over : goal.put-requires-then-not-watch-clause-over
+put-requires-then-not-watch-clause-over c =
+    rw c.requires.visiting.watched.variables
+    (All-contains (λ (l : Literal). IsLiteralOver c.args.kernel.now.variables l) c.clause.result.now c.best_beside-watch.result.lit
+    (all_over c.args.kernel.now.variables c.clause.result.now c.clause.ensures.over) c.best_beside-watch.ensures.member)
+
+pub returns-then-not-watch-clause-visiting : goal.returns-then-not-watch-clause-visiting
+returns-then-not-watch-clause-visiting c =
+    open_then c.args.kernel.now c.args.longs.now c.args.place c.args.step.now c.args.entries.now c.args.links.now c.requires.visiting c.args.node c.requires.first c.requires.once
+    c.watched-other.result (c.watched-other.ensures.watched ∙ ap (λ (n : ℕ). watched_at c.args.links.now.watched n) c.partner_of.ensures) c.best_beside-watch.result.lit
+    c.put-then-not-watch.new.self c.put-then-not-watch.ensures c.clause.result.now c.clause.ensures.clause c.best_beside-watch.ensures.member c.best_beside-watch.ensures.apart
+    (best_open c.args.entries.now.steps c.clause.result.now c.watched-other.result c.best_beside-watch.result.lit c.best_beside-watch.result.level
+    c.best_beside-watch.result.is_false (not_true c.best_beside-watch.result.is_false c.if-not-watch.true) c.best_beside-watch.ensures.best)
+
+pub returns-then-make_true-clause-visiting : goal.returns-then-make_true-clause-visiting
+returns-then-make_true-clause-visiting c =
+    let best = best_false c.args.entries.now.steps c.clause.result.now c.watched-other.result c.best_beside-watch.result.lit c.best_beside-watch.result.level
+    c.best_beside-watch.result.is_false (not_false c.best_beside-watch.result.is_false c.if-not-watch.false) c.best_beside-watch.ensures.best in
+    fallen_then c.args.kernel.now c.args.longs.now c.args.place c.args.step.now c.make_true.new.entries c.args.links.now
+    (visiting_then c.args.kernel.now c.args.longs.now c.args.place c.args.step.now c.args.entries.now c.args.links.now c.requires.visiting c.args.node c.requires.first
+    c.watched-other.result (c.watched-other.ensures.watched ∙ ap (λ (n : ℕ). watched_at c.args.links.now.watched n) c.partner_of.ensures) c.clause.result.now c.clause.ensures.clause
+    c.best_beside-watch.result.level (best.1) c.make_true.new.entries c.make_true.ensures.grown (c.make_true.ensures.sound c.args.kernel.now))
+    c.args.node c.requires.first c.requires.once c.watched-other.result
+    (c.watched-other.ensures.watched ∙ ap (λ (n : ℕ). watched_at c.args.links.now.watched n) c.partner_of.ensures) c.best_beside-watch.result.lit
+    c.put-then-make_true.new.self c.put-then-make_true.ensures c.clause.result.now c.clause.ensures.clause c.best_beside-watch.ensures.member c.best_beside-watch.ensures.apart
+    c.best_beside-watch.result.level
+    (grown_at c.args.entries.now c.make_true.new.entries c.make_true.ensures.grown c.best_beside-watch.result.lit c.best_beside-watch.result.level (best.0))
+    (others_then c.args.kernel.now c.args.longs.now c.args.place c.args.step.now c.args.entries.now c.args.links.now c.requires.visiting c.args.node c.requires.first
+    c.watched-other.result (c.watched-other.ensures.watched ∙ ap (λ (n : ℕ). watched_at c.args.links.now.watched n) c.partner_of.ensures) c.clause.result.now c.clause.ensures.clause
+    c.best_beside-watch.result.level (best.1) c.make_true.new.entries c.make_true.ensures.grown (c.make_true.ensures.sound c.args.kernel.now))
+    (value_true c.make_true.new.entries.steps c.make_true.new.entries.level_count c.watched-other.result c.make_true.result c.if-make_true.true c.make_true.ensures.value)
+
+pub returns-clause-visiting : goal.returns-clause-visiting
+returns-clause-visiting c =
+    let best = best_false c.args.entries.now.steps c.clause.result.now c.watched-other.result c.best_beside-watch.result.lit c.best_beside-watch.result.level
+    c.best_beside-watch.result.is_false (not_false c.best_beside-watch.result.is_false c.if-not-watch.false) c.best_beside-watch.ensures.best in
+    visiting_then c.args.kernel.now c.args.longs.now c.args.place c.args.step.now c.args.entries.now c.args.links.now c.requires.visiting c.args.node c.requires.first
+    c.watched-other.result (c.watched-other.ensures.watched ∙ ap (λ (n : ℕ). watched_at c.args.links.now.watched n) c.partner_of.ensures) c.clause.result.now c.clause.ensures.clause
+    c.best_beside-watch.result.level (best.1) c.make_true.new.entries c.make_true.ensures.grown (c.make_true.ensures.sound c.args.kernel.now)
+
+pub returns-clause-failed : goal.returns-clause-failed
+returns-clause-failed c =
+    let best = best_false c.args.entries.now.steps c.clause.result.now c.watched-other.result c.best_beside-watch.result.lit c.best_beside-watch.result.level
+    c.best_beside-watch.result.is_false (not_false c.best_beside-watch.result.is_false c.if-not-watch.false) c.best_beside-watch.ensures.best in
+    failed_here c.args.kernel.now c.args.longs.now c.args.place c.args.step.now c.args.entries.now c.args.links.now c.requires.visiting c.args.node c.requires.first
+    c.watched-other.result (c.watched-other.ensures.watched ∙ ap (λ (n : ℕ). watched_at c.args.links.now.watched n) c.partner_of.ensures) c.clause.result.now c.clause.ensures.clause
+    c.best_beside-watch.result.level (best.1) c.make_true.new.entries c.make_true.ensures.grown (c.make_true.ensures.sound c.args.kernel.now)
+    (value_false c.make_true.new.entries.steps c.make_true.new.entries.level_count c.watched-other.result c.make_true.result c.if-make_true.false c.make_true.ensures.value)

@@ -1,0 +1,76 @@
+//! Propagation: clauses of fewer than two literals, and then the steps that have not been visited.
+ghost use Rattle.std.specs.Prelude.{◌≡◌, ℕ, ◌<◌, [], length, IfSome, IfNone};
+ghost use Rattle.cc_kernel.specs.Kernels.{clauses_of};
+ghost use Rattle.cc_trail.specs.Links.{IsIn};
+ghost use Rattle.cc_trail.specs.Watches.{IsShort};
+ghost use Rattle.cc_trail.specs.Trails.{IsFailedClause};
+ghost use Rattle.cc_trail.specs.Visits.{AreSound, AreGrown, AreWatched, IsMet};
+
+use crate::entries::Entries;
+use crate::links::Links;
+use crate::visits::{make_true, visit_step};
+use cc_kernel::Kernel;
+
+// Makes the literal of a clause of fewer than two literals true. The clause's number where it is false.
+fn make_short(kernel: &Kernel, number: u32, entries: &mut Entries) -> Option<u32>
+    requires short { IsShort (clauses_of kernel.now) number }
+    requires sound { AreSound kernel.now entries.old }
+    ensures grown { AreGrown entries.old entries.new }
+    ensures sound { AreSound kernel.now entries.new }
+    ensures met { IfNone result (IsMet (clauses_of kernel.now) entries.new.steps number) }
+    ensures failed { IfSome result (λ failed. IsFailedClause (clauses_of kernel.now) entries.new.steps failed) }
+{
+    match kernel.clause(number).first() {
+        Some(lit) => if make_true(entries, *lit, number) {
+            None
+        } else {
+            Some(number)
+        },
+        None => Some(number),
+    }
+}
+
+/// Makes the literals of the clauses of fewer than two literals true. The number of a clause that is false, if one is met.
+pub fn make_shorts(kernel: &Kernel, shorts: &[u32], entries: &mut Entries) -> Option<u32>
+    requires short { (number : ℕ) → IsIn shorts.now number → IsShort (clauses_of kernel.now) number }
+    requires sound { AreSound kernel.now entries.old }
+    ensures grown { AreGrown entries.old entries.new }
+    ensures sound { AreSound kernel.now entries.new }
+    ensures met { IfNone result ((number : ℕ) → IsIn shorts.now number → IsMet (clauses_of kernel.now) entries.new.steps number) }
+    ensures failed { IfSome result (λ failed. IsFailedClause (clauses_of kernel.now) entries.new.steps failed) }
+{
+    for index in 0..shorts.len() {
+        if let Some(number) = make_short(kernel, shorts[index], entries) {
+            return Some(number);
+        }
+    }
+    None
+}
+
+/// Visits the steps that have not been visited, those that become so on the way included. The number of a clause that is
+/// false, if one is met.
+pub fn visit_steps(
+    kernel: &Kernel,
+    longs: &[u32],
+    entries: &mut Entries,
+    links: &mut Links,
+    visited: &mut usize,
+) -> Option<u32>
+    requires sound { AreSound kernel.now entries.old }
+    requires watched { AreWatched kernel.now longs.now visited.old entries.old links.old }
+    requires none { links.old.taken ≡ [] }
+    ensures grown { AreGrown entries.old entries.new }
+    ensures sound { AreSound kernel.now entries.new }
+    ensures watched { AreWatched kernel.now longs.now visited.new entries.new links.new }
+    ensures none { links.new.taken ≡ [] }
+    ensures all { IfNone result (visited.new ≡ length entries.new.steps) }
+    ensures failed { IfSome result (λ number. IsFailedClause (clauses_of kernel.now) entries.new.steps number) }
+{
+    while *visited < entries.count() {
+        if let Some(number) = visit_step(kernel, longs, *visited, entries, links) {
+            return Some(number);
+        }
+        *visited += 1;
+    }
+    None
+}

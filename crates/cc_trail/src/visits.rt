@@ -1,0 +1,203 @@
+//! Visits of the nodes that watch a literal that became false.
+ghost use Rattle.std.specs.Prelude.{◌≡◌, ◌≢◌, ℕ, ◌+◌, ◌<◌, ◌≤◌, true, false, IsTrue, [], length, take, drop, All, Contains, IfSome, IfNone, Some, None};
+ghost use Rattle.cc_kernel.specs.Kernels.{KernelView, clauses_of};
+ghost use Rattle.cc_trail.specs.Links.{IsIn, BeginsWith, IsLiteralOver, watched_at};
+ghost use Rattle.cc_trail.specs.Watches.{IsTrueBy, HasReason, partner};
+ghost use Rattle.cc_trail.specs.Trails.{IsFailedClause};
+ghost use Rattle.cc_trail.specs.Visits.{IsFalseAt, IsBest, IsValue, AreSound, AreGrown, AreWatched, IsVisiting};
+
+use crate::entries::{Entries, Step};
+use crate::links::Links;
+use cc_defs::Lit;
+use cc_kernel::Kernel;
+
+/// A literal that may be watched: one that is not false, or one that became false at this level.
+#[derive(Clone, Copy)]
+pub struct Watch {
+    pub lit: Lit,
+    pub level: u32,
+    pub is_false: bool,
+}
+
+// The node of the other watched literal of the same clause.
+fn partner_of(node: u32) -> u32
+    ensures { result ≡ partner node }
+{
+    if node % 2 == 1 { node - 1 } else { node + 1 }
+}
+
+// Whether a literal became true at a level not above this one.
+fn is_true_to(entries: &Entries, lit: Lit, level: u32) -> bool
+    requires { lit.variable ≤ entries.now.variables }
+    ensures { IsTrue result → IsTrueBy entries.now.steps lit level }
+{
+    match entries.find(lit.variable()) {
+        Some(step) => step.lit == lit && step.level <= level,
+        None => false,
+    }
+}
+
+/// Makes a literal true by the clause of a number, if its variable has no value. False where the literal is false.
+pub fn make_true(entries: &mut Entries, lit: Lit, number: u32) -> bool
+    requires over { IsLiteralOver entries.old.variables lit }
+    ensures grown { AreGrown entries.old entries.new }
+    ensures sound { (kernel : KernelView) → HasReason (clauses_of kernel) entries.old.steps lit number → AreSound kernel entries.old → AreSound kernel entries.new }
+    ensures value { IsValue entries.new.steps entries.new.level_count lit result }
+{
+    match entries.find(lit.variable()) {
+        Some(step) => step.lit == lit,
+        None => {
+            entries.push(lit, Some(number));
+            true
+        },
+    }
+}
+
+// The literal at an index, where it is better to watch than what was found.
+fn better(entries: &Entries, clause: &[Lit], index: usize, found: Watch, except: Lit) -> Watch
+    requires over { All (λ literal. IsLiteralOver entries.now.variables literal) clause.now }
+    requires within { index < length clause.now }
+    requires member { Contains clause.now found.lit }
+    requires apart { found.lit ≢ except }
+    requires best { IsBest entries.now.steps (take index clause.now) except found.lit found.level true }
+    ensures member { Contains clause.now result.lit }
+    ensures apart { result.lit ≢ except }
+    ensures best { IsBest entries.now.steps (take (index + 1) clause.now) except result.lit result.level result.is_false }
+{
+    let lit = clause[index];
+    if lit == except {
+        return Watch {
+            is_false: true,
+            ..found
+        };
+    }
+    match entries.find(lit.variable()) {
+        Some(step) => if step.lit == lit {
+            Watch {
+                lit,
+                level: 0,
+                is_false: false,
+            }
+        } else if step.level > found.level {
+            Watch {
+                lit,
+                level: step.level,
+                is_false: true,
+            }
+        } else {
+            Watch {
+                is_false: true,
+                ..found
+            }
+        },
+        None => Watch {
+            lit,
+            level: 0,
+            is_false: false,
+        },
+    }
+}
+
+// The literal of a clause that is best to watch beside `except`. It begins with one that became false at this level.
+fn best_beside(entries: &Entries, clause: &[Lit], start: Lit, level: u32, except: Lit) -> Watch
+    requires over { All (λ literal. IsLiteralOver entries.now.variables literal) clause.now }
+    requires member { Contains clause.now start }
+    requires apart { start ≢ except }
+    requires fallen { IsFalseAt entries.now.steps start level }
+    ensures member { Contains clause.now result.lit }
+    ensures apart { result.lit ≢ except }
+    ensures best { IsBest entries.now.steps clause.now except result.lit result.level result.is_false }
+{
+    let mut found = Watch {
+        lit: start,
+        level,
+        is_false: true,
+    };
+    for index in 0..clause.len() {
+        found = better(entries, clause, index, found, except);
+        if !found.is_false {
+            return found;
+        }
+    }
+    found
+}
+
+// Visits the first of the nodes that were taken out. The other watched literal is looked at first, and the clause is left
+// unread where that is true. The number of the clause where it is false, and then no node is moved.
+fn visit(
+    kernel: &Kernel,
+    longs: &[u32],
+    place: usize,
+    step: &Step,
+    node: u32,
+    entries: &mut Entries,
+    links: &mut Links,
+) -> Option<u32>
+    requires visiting { IsVisiting kernel.now longs.now place step.now entries.old links.old }
+    requires first { BeginsWith links.old.taken node }
+    requires once { IsIn (drop 1 links.old.taken) node → ⊥ }
+    ensures visiting { IsVisiting kernel.now longs.now place step.now entries.new links.new }
+    ensures grown { AreGrown entries.old entries.new }
+    ensures fewer { IfNone result (links.new.taken ≡ drop 1 links.old.taken) }
+    ensures failed { IfSome result (λ number. IsFailedClause (clauses_of kernel.now) entries.new.steps number) }
+{
+    let fallen = step.lit.opposite();
+    let other = links.watched(partner_of(node));
+    if is_true_to(entries, other, step.level) {
+        links.put(node, fallen);
+        return None;
+    }
+    let number = longs[node as usize / 2];
+    let watch = best_beside(entries, kernel.clause(number), fallen, step.level, other);
+    if !watch.is_false {
+        links.put(node, watch.lit);
+        return None;
+    }
+    if make_true(entries, other, number) {
+        links.put(node, watch.lit);
+        return None;
+    }
+    Some(number)
+}
+
+// Puts the nodes that were taken out back into the chain of the literal that they watch.
+fn put_back(links: &mut Links, lit: Lit)
+    requires over { IsLiteralOver links.old.variables lit }
+    requires watch { (node : ℕ) → IsIn links.old.taken node → (node < length links.old.watched) × (watched_at links.old.watched node ≡ lit) }
+    ensures { links.new ≡ record links.old { taken = [] } }
+{
+    while let Some(node) = links.first_taken() {
+        links.put(node, lit);
+    }
+}
+
+/// Visits the nodes that watch the literal that a step made false. The number of a clause that is false, if one is met.
+pub fn visit_step(
+    kernel: &Kernel,
+    longs: &[u32],
+    place: usize,
+    entries: &mut Entries,
+    links: &mut Links,
+) -> Option<u32>
+    requires within { place < length entries.old.steps }
+    requires sound { AreSound kernel.now entries.old }
+    requires watched { AreWatched kernel.now longs.now place entries.old links.old }
+    requires none { links.old.taken ≡ [] }
+    ensures grown { AreGrown entries.old entries.new }
+    ensures sound { AreSound kernel.now entries.new }
+    ensures here { AreWatched kernel.now longs.now place entries.new links.new }
+    ensures next { IfNone result (AreWatched kernel.now longs.now (place + 1) entries.new links.new) }
+    ensures none { links.new.taken ≡ [] }
+    ensures failed { IfSome result (λ number. IsFailedClause (clauses_of kernel.now) entries.new.steps number) }
+{
+    let step = entries.step(place);
+    let fallen = step.lit.opposite();
+    links.take_all(fallen);
+    while let Some(node) = links.first_taken() {
+        if let Some(number) = visit(kernel, longs, place, &step, node, entries, links) {
+            put_back(links, fallen);
+            return Some(number);
+        }
+    }
+    None
+}
