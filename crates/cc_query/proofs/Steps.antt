@@ -1,14 +1,12 @@
 -- The steps of a section, one after another: what they add, and which assignments meet it.
-use Rattle.std.proofs.Common.{◌≡◌, ◌∙◌, ℕ, ◌+◌, ◌-◌, ◌⊎◌, inl, inr, zero, suc, Bool, List, [], ◌∷◌, ◌++◌, map, Some, refl, sym, subst, arith, append_assoc, append-nil, eqb}
+use Rattle.std.proofs.Common.{◌≡◌, ◌∙◌, ℕ, ◌+◌, ◌-◌, ◌⊎◌, inl, inr, zero, suc, Bool, List, [], ◌∷◌, ◌++◌, map, Some, refl, sym, subst, arith, append_assoc, append-nil}
 use Rattle.std.specs.Prelude.{slice_get, IsTrue, Contains}
 use Rattle.std.proofs.lemmas.List.Elements.{Contains-append_left, Contains-append_right, Contains-append_cases}
 use Rattle.std.proofs.lemmas.Grind.{flat_map-append}
 use Rattle.std.proofs.lemmas.Bool.{false≢true}
-use Rattle.std.proofs.lemmas.Bool.Decides.{eqb_tells}
 use Rattle.cc_cdcl.specs.Laws.{DenialDenies, DenialLeavesOthers}
-use Rattle.cc_cdcl.specs.LeastRows as rows
 use Rattle.cc_clauses.specs.Laws.{ResolventsAreSound}
-use Rattle.cc_clauses.specs.RowsOf.{MeetsAll, HasRowFrom, IsRowOf}
+use Rattle.cc_clauses.specs.RowsOf.{MeetsAll, HasRow, IsRowOf}
 use Rattle.cc_defs.specs.Clauses.{Literal, IsNumbered, ReachesFrom, Reaches, meets}
 use Rattle.cc_defs.specs.Rows.{IsRow}
 use Rattle.cc_defs.specs.Runs.{Step, Derive, Tell, AreFairSteps, IsFairLine, counted, counted_in, row_told}
@@ -104,26 +102,11 @@ module _ (sound : ResolventsAreSound) (assignment : ℕ → Bool) where
     ]
   ]
 
-eqb_swapped : (a b : ℕ) → eqb a b ≡ eqb b a
-eqb_swapped a b = elim (eqb_tells a b) [
-  | inl same ↦ elim (eqb_tells b a) [ inl again ↦ same.0 ∙ sym (again.0) | inr other ↦ absurd (other.1 (sym same.1)) ]
-  | inr apart ↦ elim (eqb_tells b a) [ inl again ↦ absurd (apart.1 (sym again.1)) | inr other ↦ apart.0 ∙ sym (other.0) ]
-]
-
--- an assignment that has a row, by the definition that the laws of search cite
-has_row : (first : ℕ) (sizes : List ℕ) (assignment : ℕ → Bool) (row : List ℕ) → IsRow sizes row → HasRowFrom first sizes assignment row →
-    rows.HasRowFrom first sizes assignment row
-has_row first [] assignment [] is has = tt
-has_row first [] assignment (index ∷ row) is has = absurd is
-has_row first (size ∷ sizes) assignment [] is has = absurd is
-has_row first (size ∷ sizes) assignment (index ∷ row) is has =
-    ((λ value low. has.0 value low ∙ eqb_swapped index value), has_row (first + size) sizes assignment row is.1 has.1)
-
 -- ---- which rows are left
 
 -- an assignment with a row that no step tells meets what the steps add
 pub met_behind : (sound : ResolventsAreSound) (leaves : DenialLeavesOthers) (sizes : List ℕ) (assignment : ℕ → Bool) (other : List ℕ) → IsRow sizes other →
-    rows.HasRow sizes assignment other → (before : List (List Literal)) (steps : List Step) (after : List (List Literal)) →
+    HasRow sizes assignment other → (before : List (List Literal)) (steps : List Step) (after : List (List Literal)) →
     ((row : List ℕ) → Contains (rows_in steps) row → IsRow sizes row) → (Contains (rows_in steps) other → ⊥) →
     AreFairSteps sizes before steps after → MeetsAll assignment before → MeetsAll assignment after
 met_behind sound leaves sizes assignment other is has before [] after told apart fair met =
@@ -167,7 +150,7 @@ pub row_not_told : (denies : DenialDenies) (sizes : List ℕ) (before : List (Li
     AreFairSteps sizes before steps after → IsRowOf sizes after row → Contains (rows_in steps) row → ⊥
 row_not_told denies sizes before steps after row fair is there =
     let met = is.meets_all (row_denial sizes row) (denial_behind sizes before steps after row fair there) in
-    let unmet = denies sizes row is.assignment is.is_row (has_row 1 sizes is.assignment row is.is_row is.has) in
+    let unmet = denies sizes row is.assignment is.is_row is.has in
     false≢true (sym unmet ∙ met)
 
 pub row_behind : (sound : ResolventsAreSound) (leaves : DenialLeavesOthers) (sizes : List ℕ) (before : List (List Literal)) (steps : List Step)
@@ -178,7 +161,7 @@ row_behind sound leaves sizes before steps after row fair told apart is =
       is_row = is.is_row;
       assignment = is.assignment;
       has = is.has;
-      meets_all = met_behind sound leaves sizes is.assignment row is.is_row (has_row 1 sizes is.assignment row is.is_row is.has)
+      meets_all = met_behind sound leaves sizes is.assignment row is.is_row is.has
           before steps after told apart fair is.meets_all;
     }
 

@@ -52,6 +52,10 @@ pub record SessionView : Type 0 where
   pub row : List ℕ
   pub phase : Phase
 
+-- neither the ending was given nor did a call fail: there is more to come
+abbrev pub HasMore : SessionView → Type 0
+HasMore session = session.phase ≢ phases.Ended
+
 -- it searches for this query of this description
 pub record IsSessionOf (session : SessionView) (d : Description) (q : Query) : Type 0 where
   pub laws : AreLawsOf session.signature session.laws d
@@ -249,7 +253,7 @@ pub record Gives (old new : SessionView) (event : Event) : Type 0 where
   pub same : IsSame old new
   pub tells : Tells old new event
   pub within : OpensWithin old event
-  pub more : ((ending : Ending) → event ≢ events.Ended ending) → new.phase ≢ phases.Ended
+  pub more : ((ending : Ending) → event ≢ events.Ended ending) → HasMore new
 
 -- ---- what is always true of a session
 

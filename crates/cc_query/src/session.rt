@@ -20,7 +20,7 @@ ghost use Rattle.cc_query.specs.Parts.{axioms_at, is_conditions};
 ghost use Rattle.cc_defs.specs.declared.event.Ending.{Ending as EndingSeen};
 ghost use Rattle.cc_defs.specs.Sections.{HasNoEmpty};
 ghost use Rattle.cc_query.specs.declared.phase.Phase.{Phase as PhaseSeen};
-ghost use Rattle.cc_query.specs.Sessions.{After, Fits, Gives, HasFound, Holds, IsBlocked, IsReady, IsRightFault, IsSame, IsSessionOf, IsWithin, OpensWithin, RowsAreHistories, SessionView, Tells, ending_behind, first_at, last_at, opening_refusal, opens_at, with_row};
+ghost use Rattle.cc_query.specs.Sessions.{After, Fits, Gives, HasFound, HasMore, Holds, IsBlocked, IsReady, IsRightFault, IsSame, IsSessionOf, IsWithin, OpensWithin, RowsAreHistories, SessionView, Tells, ending_behind, first_at, last_at, opening_refusal, opens_at, with_row};
 ghost use Rattle.cc_query.specs.declared.phase.Part.TheVariants as parts;
 ghost use Rattle.cc_query.specs.declared.phase.Phase.TheVariants as phases;
 ghost use Rattle.cc_theory.specs.Theories.{AreLawsFor};
@@ -233,7 +233,7 @@ impl<'a> Session<'a> {
         ensures query { IfOk result (λ session. session.query ≡ plain_ground_query query.entry) }
         ensures ask { IfOk result (λ session. session.ask ≡ ask) }
         ensures begun { (d : Description) (q : Query) → IfOk result (λ session. IsSessionOf session d q → After d q session []) }
-        ensures more { IfOk result (λ session. session.phase ≢ phases.Ended) }
+        ensures more { IfOk result (λ session. HasMore session) }
     {
         let horizon = first_horizon(&query, &ask);
         let part = first_part(&query);
@@ -569,7 +569,7 @@ impl<'a> Session<'a> {
 
     // The next event.
     fn step(&mut self) -> Result<Event, Fault>
-        requires { self.old.phase ≢ phases.Ended }
+        requires { HasMore self.old }
         ensures gives { IfOk result (Gives self.old self.new) }
         ensures fault { IfErr result (IsRightFault self.old) }
     {
@@ -594,12 +594,12 @@ impl<'a> Session<'a> {
     /// clauses of a section pass when it opens (14, rules, variables, axiom clauses or axiom literals), and a history past the
     /// 100,000,000 that may be told at a horizon (14, histories). After an error, as after the ending, nothing more is told.
     pub fn next(&mut self) -> Result<Event, Fault>
-        requires { self.old.phase ≢ phases.Ended }
+        requires { HasMore self.old }
         ensures event { (d : Description) (q : Query) (given : List Told) → IsSessionOf self.old d q → After d q self.old given → IfOk result (λ event. After d q self.new (given ++ with_row event self.new.row ∷ []) × IsSessionOf self.new d q) }
         ensures refused { IfErr result (IsRightFault self.old) }
         ensures opened { IfOk result (OpensWithin self.old) }
         ensures same { OnOk result (IsSame self.old self.new) }
-        ensures more { IfOk result (λ event. ((ending : EndingSeen) → event ≢ events.Ended ending) → self.new.phase ≢ phases.Ended) }
+        ensures more { IfOk result (λ event. ((ending : EndingSeen) → event ≢ events.Ended ending) → HasMore self.new) }
     {
         self.step()
     }
