@@ -11,7 +11,8 @@ A case has, beside the files of a description (the first is the main one), a fil
     query N             which query, from 0; the first where it is not said
     claim               the clause list denies the claim
     after I,I,..        the clause list has the key of this row
-    show WORD WORD      what is printed: rules, causes, models, histories, clauses, log
+    cut N               the log has so many bytes less at its end
+    show WORD WORD      what is printed: rules, causes, rows, clauses, log
 
 and, where the log is shown, a file `log`.
 
@@ -424,10 +425,10 @@ def judge(made, section):
 
 
 def asked_of(files):
-    asked = {"horizon": 0, "query": 0, "claim": False, "after": None, "show": []}
+    asked = {"horizon": 0, "query": 0, "cut": 0, "claim": False, "after": None, "show": []}
     for line in files.get("ask", b"").decode("latin-1").splitlines():
         words = line.split()
-        if words[0] in ("horizon", "query"):
+        if words[0] in ("horizon", "query", "cut"):
             asked[words[0]] = int(words[1])
         elif words[0] == "claim":
             asked["claim"] = True
@@ -456,14 +457,17 @@ def case_lines(files, main):
             lines.append(f"rules {len(theory.rules)}")
         elif what == "causes":
             lines += cause_lines(theory)
-        elif what == "models":
-            lines += ["model " + ",".join(map(str, theory.indexes(row))) for row in paths(description, asked["horizon"])[1]]
+        elif what == "rows":
+            theory, found = paths(description, asked["horizon"])
+            rows = [row for row in found if is_history(theory, query, asked["claim"], row)]
+            indexes = [theory.indexes(row) for row in rows]
+            lines += ["row " + ",".join(map(str, row)) for row in indexes if asked["after"] is None or row > asked["after"]]
         elif what == "clauses":
             made = clause_list(description, query, asked["horizon"], asked["claim"], asked["after"])
             lines.append(f"variables {made.last}")
             lines += [f"clause {number}:" + "".join(f" {literal}" for literal in clause) for number, clause in enumerate(made.clauses, 1)]
         elif what == "log":
-            lines += log_lines(description, query, asked, files["log"])
+            lines += log_lines(description, query, asked, files["log"][: len(files["log"]) - asked["cut"]])
     return lines
 
 
