@@ -1,0 +1,15 @@
+pub mod Beginning
+pub mod Giving
+pub mod Going
+pub mod Holding
+pub mod Joining
+pub mod Opened
+pub mod Positions
+pub mod PartsTold
+pub mod Reaching
+pub mod Refusing
+pub mod Rows
+pub mod Running
+pub mod Steps
+pub mod Told
+pub mod Within

@@ -1,0 +1,98 @@
+-- What a section has when it opens: its clauses, and a search that holds just them.
+use Rattle.std.proofs.Common.{◌≡◌, ◌∙◌, ℕ, ◌≤◌, ◌+◌, suc, Bool, true, false, List, [], ◌∷◌, ◌++◌, length, map, Option, Some, None, option_map, Result, Ok, Err, Bor, refl, sym, subst, ap, arith}
+use Rattle.std.specs.Prelude.{Contains, IfOk, OnOk, not}
+use Rattle.std.specs.Option.{option_or}
+use Rattle.cc_cdcl.specs.Solvers.{SolverView}
+use Rattle.cc_defs.specs.declared.lists.Key.{Key}
+use Rattle.cc_defs.specs.declared.refusal.Refusal.{Refusal}
+use Rattle.cc_defs.specs.ClauseLists.{positions_from}
+use Rattle.cc_defs.specs.Clauses.{Literal}
+use Rattle.cc_defs.specs.Description.{Description}
+use Rattle.cc_defs.specs.Resolved.{Query}
+use Rattle.cc_defs.specs.Runs.{Ask, key_row}
+use Rattle.cc_defs.specs.Sections.{Axioms}
+use Rattle.cc_form.specs.Forms.{TellsHistories, asked, form_of}
+use Rattle.cc_kernel.specs.Kernels.{Entry, KernelView, axiom_of, axioms_of, clauses_of, derived_count}
+use Rattle.cc_query.specs.declared.phase.Part.{Part}
+use Rattle.cc_query.specs.declared.phase.Part.TheVariants as parts
+use Rattle.cc_query.specs.Parts.{axioms_at, is_conditions, query_of}
+use Rattle.cc_query.specs.Sessions.{Holds, IsWithin, RowsAreHistories, SessionView}
+use Rattle.cc_query.proofs.Holding.{axioms_are}
+
+pub told_of : {X E : Type 0} (r : Result X E) (P : X → Type 0) (x : X) → IfOk r (λ form. form ≡ x) → IfOk r P → OnOk r (P x)
+told_of (Ok form) P x is holds = subst P is holds
+told_of (Err e) P x is holds = tt
+
+pub within_both : {X E : Type 0} (r : Result X E) (rules form : Option Refusal) → rules ≡ None → OnOk r (form ≡ None) → OnOk r (option_or rules form ≡ None)
+within_both r rules form none is = subst (λ (o : Option Refusal). OnOk r (option_or o form ≡ None)) (sym none) is
+
+-- the clauses on positions are among those of the kernel
+pub positions_there : (sizes others : List ℕ) (clauses arena : List (List Literal)) (kernel : KernelView) → sizes ≡ others → kernel.entries ≡ axioms_of arena → arena ≡ clauses →
+    ((clause : List Literal) → Contains (positions_from 1 others) clause → Contains clauses clause) →
+    (clause : List Literal) → Contains (positions_from 1 sizes) clause → Contains (clauses_of kernel) clause
+positions_there sizes others clauses arena kernel sizes_are entries arena_is choices clause within =
+    subst (λ (l : List (List Literal)). Contains l clause)
+    (sym (ap (λ (l : List Entry). map (λ entry. entry.clause) l) entries ∙ axioms_are arena ∙ arena_is))
+    (choices clause (subst (λ (l : List ℕ). Contains (positions_from 1 l) clause) sizes_are within))
+
+-- ---- the section of a part
+
+same_form : (d : Description) (q : Query) (s now : SessionView) (part : Part) (denies : Bool) (key : Option Key) → s ≡ now → denies ≡ not (is_conditions part) →
+    key ≡ s.ask.after → form_of d q s.horizon denies key ≡ axioms_at d q now.ask now.horizon part
+same_form d q s now part denies key same denies_is key_is =
+    ap (λ (b : Bool). form_of d q s.horizon b key) denies_is
+    ∙ ap (λ (k : Option Key). form_of d q s.horizon (not (is_conditions part)) k) key_is
+    ∙ ap (λ (v : SessionView). form_of d q v.horizon (not (is_conditions part)) v.ask.after) same
+
+nothing_behind : (entries : List Entry) → entries ++ [] ≡ entries
+nothing_behind [] = refl
+nothing_behind (entry ∷ entries) = ap (λ (l : List Entry). entry ∷ l) (nothing_behind entries)
+
+pub holds_opened : (d : Description) (q : Query) (s now : SessionView) (part : Part) (denies : Bool) (key : Option Key) (form : Axioms) (solver : SolverView) →
+    s ≡ now → denies ≡ not (is_conditions part) → key ≡ s.ask.after → form ≡ form_of d q s.horizon denies key → solver.sizes ≡ form.sizes →
+    solver.kernel.variables ≡ form.variables → form.variables ≤ 4000000 → solver.kernel.entries ≡ axioms_of form.clauses →
+    Holds (axioms_at d q now.ask now.horizon part) [] solver
+holds_opened d q s now part denies key form solver same denies_is key_is is sizes variables few entries =
+    subst (λ (f : Axioms). Holds f [] solver) (is ∙ same_form d q s now part denies key same denies_is key_is)
+    (record { sizes = sizes; variables = variables; few = few; entries = entries ∙ sym (nothing_behind (map axiom_of form.clauses)) })
+
+asked_is : (q : Query) (part : Part) → asked (not (is_conditions part)) q ≡ query_of part q
+asked_is q parts.Histories = refl
+asked_is q parts.Conditions = refl
+asked_is q parts.Claim = refl
+
+rows_of_keys : (after : Option (Bor Key)) → option_map (λ (key : Bor Key). key.now.row) after ≡ option_map (λ (key : Key). key.row) (option_map (λ (key : Bor Key). key.now) after)
+rows_of_keys None = refl
+rows_of_keys (Some key) = refl
+
+pub rows_opened : (d : Description) (q : Query) (s now : SessionView) (part : Part) (denies : Bool) (after : Option (Bor Key)) → s ≡ now → denies ≡ not (is_conditions part) →
+    option_map (λ (key : Bor Key). key.now) after ≡ s.ask.after →
+    TellsHistories d (asked denies q) s.horizon (option_map (λ (key : Bor Key). key.now.row) after) (form_of d q s.horizon denies (option_map (λ (key : Bor Key). key.now) after)) →
+    RowsAreHistories d q now.ask now.horizon part
+rows_opened d q s now part denies after same denies_is key_is tells =
+    let keyed = subst (λ (rows : Option (List ℕ)). TellsHistories d (asked denies q) s.horizon rows (form_of d q s.horizon denies (option_map (λ (key : Bor Key). key.now) after)))
+    (rows_of_keys after) tells in
+    let meant = subst (λ (k : Option Key). TellsHistories d (asked denies q) s.horizon (option_map (λ (key : Key). key.row) k) (form_of d q s.horizon denies k)) key_is keyed in
+    let denied = subst (λ (b : Bool). TellsHistories d (asked b q) s.horizon (key_row s.ask) (form_of d q s.horizon b s.ask.after)) denies_is meant in
+    let there = subst (λ (v : SessionView). TellsHistories d (asked (not (is_conditions part)) q) v.horizon (key_row v.ask) (form_of d q v.horizon (not (is_conditions part)) v.ask.after)) same denied in
+    subst (λ (x : Query). TellsHistories d x now.horizon (key_row now.ask) (form_of d q now.horizon (not (is_conditions part)) now.ask.after)) (asked_is q part) there
+
+-- ---- nothing is derived yet
+
+none_derived : (clauses : List (List Literal)) → derived_count (axioms_of clauses) ≡ 0
+none_derived [] = refl
+none_derived (clause ∷ clauses) = none_derived clauses
+
+as_many : (clauses : List (List Literal)) → length (axioms_of clauses) ≡ length clauses
+as_many [] = refl
+as_many (clause ∷ clauses) = ap suc (as_many clauses)
+
+pub within_opened : (ask : Ask) (solver : SolverView) (clauses : List (List Literal)) → solver.kernel.entries ≡ axioms_of clauses → length clauses ≤ 8000000 → IsWithin ask solver 0
+within_opened ask solver clauses entries few =
+    let none : derived_count solver.kernel.entries ≡ 0 = ap derived_count entries ∙ none_derived clauses in
+    let many : length solver.kernel.entries ≡ length clauses = ap (λ (l : List Entry). length l) entries ∙ as_many clauses in
+    record {
+      derived = omega arith;
+      few = omega arith;
+      denied_few = omega arith;
+    }

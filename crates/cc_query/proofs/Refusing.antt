@@ -1,0 +1,44 @@
+-- Which limit refuses a section that opens.
+use Rattle.std.proofs.Common.{◌≡◌, ℕ, ◌≤◌, Bool, Option, Some, None, Result, Ok, Err, length, sym, subst, arith}
+use Rattle.std.specs.Result.{IsErrAnd}
+use Rattle.std.specs.Prelude.{IfErr, nat_lt, not, if◌then◌else◌}
+use Rattle.std.specs.Option.{option_or}
+use Rattle.std.proofs.lemmas.Bool.Decides.{nat_tests}
+use Rattle.cc_defs.specs.declared.refusal.Fault.{Fault}
+use Rattle.cc_defs.specs.declared.refusal.LimitAt.TheVariants as limits
+use Rattle.cc_defs.specs.declared.refusal.Refusal.{Refusal}
+use Rattle.cc_defs.specs.declared.lists.Key.{Key}
+use Rattle.cc_defs.specs.Description.{Description}
+use Rattle.cc_defs.specs.Refusals.{IsRefusedBy, past}
+use Rattle.cc_defs.specs.Resolved.{Query}
+use Rattle.cc_defs.specs.TimedRules.{timed_rules}
+use Rattle.cc_query.specs.declared.phase.Part.{Part}
+use Rattle.cc_query.specs.Parts.{is_conditions}
+use Rattle.cc_query.specs.Sessions.{SessionView, opening_refusal, refusal_at}
+use Rattle.cc_theory.specs.Theories.{rules_refusal}
+
+not_past : (n : ℕ) → n ≤ 8000000 → (if nat_lt 8000000 n then Some (past limits.Rules) else None) ≡ None
+not_past n few = grind (arith, nat_tests)
+
+pub rules_within : (d : Description) (horizon : ℕ) → length (timed_rules d horizon) ≤ 8000000 → rules_refusal d horizon ≡ None
+rules_within d horizon few = not_past (length (timed_rules d horizon)) few
+
+pub refused_behind : {T : Type 0} (r : Result T Fault) (rules form : Option Refusal) → rules ≡ None → IfErr r (IsRefusedBy form) →
+    IfErr r (IsRefusedBy (option_or rules form))
+refused_behind r rules form none is = subst (λ (o : Option Refusal). IfErr r (IsRefusedBy (option_or o form))) (sym none) is
+
+-- what is said of an error that is handed on
+pub handed_on : {S T : Type 0} (r : Result S Fault) (s : Result T Fault) (fault : Fault) (P : Fault → Type 0) → r ≡ Err fault →
+    IsErrAnd s (λ given. given ≡ fault) → IfErr r P → IfErr s P
+handed_on r (Err given) fault P was is holds = subst P (sym is) (subst (λ (x : Result _ Fault). IfErr x P) was holds)
+handed_on r (Ok value) fault P was is holds = tt
+
+-- what the clauses of a section refuse is what its opening refuses
+pub opening_refused : {S T : Type 0} (r : Result S Fault) (out : Result T Fault) (fault : Fault) (d : Description) (q : Query) (s now : SessionView) (part : Part)
+    (denies : Bool) (key : Option Key) → s ≡ now → denies ≡ not (is_conditions part) → key ≡ s.ask.after → r ≡ Err fault → IsErrAnd out (λ given. given ≡ fault) →
+    IfErr r (IsRefusedBy (refusal_at d q s.horizon denies key)) → IfErr out (IsRefusedBy (opening_refusal d q now.ask now.horizon (is_conditions part)))
+opening_refused r out fault d q s now part denies key same denies_is key_is was is refused =
+    subst (λ (v : SessionView). IfErr out (IsRefusedBy (opening_refusal d q v.ask v.horizon (is_conditions part)))) same
+    (handed_on r out fault (λ (f : Fault). IsRefusedBy (opening_refusal d q s.ask s.horizon (is_conditions part)) f) was is
+    (subst (λ (k : Option Key). IfErr r (IsRefusedBy (refusal_at d q s.horizon (not (is_conditions part)) k))) key_is
+    (subst (λ (b : Bool). IfErr r (IsRefusedBy (refusal_at d q s.horizon b key))) denies_is refused)))

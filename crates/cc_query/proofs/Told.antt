@@ -1,0 +1,179 @@
+-- A section that is searched: what its steps tell is true, line by line, history by history, and with each end word.
+use Rattle.std.proofs.Common.{◌≡◌, ◌∙◌, ℕ, ◌+◌, ◌<◌, ◌≤◌, suc, false, List, [], ◌∷◌, ◌++◌, length, Option, Some, None, refl, sym, subst, ap, arith, append-nil}
+use Rattle.std.specs.Prelude.{Contains, IfSome, IsSome}
+use Rattle.std.proofs.lemmas.List.{length_push}
+use Rattle.cc_clauses.specs.RowsOf.{IsRowOf, IsLeastRowOf}
+use Rattle.cc_defs.specs.declared.log.EndWord.{EndWord}
+use Rattle.cc_defs.specs.declared.log.EndWord.TheVariants as words
+use Rattle.cc_defs.specs.Clauses.{Literal}
+use Rattle.cc_defs.specs.Description.{Description}
+use Rattle.cc_defs.specs.Histories.{IsHistory, IsListing, AreFirst}
+use Rattle.cc_defs.specs.Resolved.{Query}
+use Rattle.cc_defs.specs.Rows.{IsRow}
+use Rattle.cc_defs.specs.Runs.{Ask, Step, Derive, Tell, AreFairSteps, IsFairLine, IsFairSection, LooksForOne, TellsHistories, counted, counted_in, axioms_of, key_row}
+use Rattle.cc_defs.specs.Sections.{Axioms, HasNoEmpty, row_denial}
+use Rattle.cc_form.specs.Forms.{TellsHistories as FormTells}
+use Rattle.cc_query.specs.Laws.{SearchLaws as Laws}
+use Rattle.cc_query.specs.Parts.{rows_in, section_of, open_section}
+use Rattle.cc_query.proofs.Rows.{first_none, first_more, first_are_all}
+use Rattle.cc_query.proofs.Steps.{in_none, fair_line, fair_tell, counted_more, rows_more, rows_kept, row_before, row_not_told, row_behind, none_empty}
+
+-- Fair steps within the budget, by which the first histories are told; these clauses are there behind them.
+pub record HasTold (d : Description) (q : Query) (key : Option (List ℕ)) (form : Axioms) (budget horizon : ℕ) (steps : List Step) (clauses : List (List Literal)) : Type 0 where
+  pub fair : AreFairSteps form.sizes form.clauses steps clauses
+  pub within : counted_in steps ≤ budget
+  pub first : AreFirst d q horizon key (rows_in steps)
+
+module _ (laws : Laws) (d : Description) (q : Query) (key : Option (List ℕ)) (form : Axioms) (budget horizon : ℕ) where
+  pub nothing_told : HasTold d q key form budget horizon [] form.clauses
+  nothing_told = record { fair = refl; within = omega arith; first = first_none d q horizon key }
+
+  module _ (steps : List Step) (clauses : List (List Literal)) (told : HasTold d q key form budget horizon steps clauses) where
+    pub line_told : (clause : List Literal) (chain : List ℕ) → HasNoEmpty clauses → IsFairLine clauses clause chain →
+        counted_in steps + counted (Derive clause chain) ≤ budget →
+        HasTold d q key form budget horizon (steps ++ Derive clause chain ∷ []) (clauses ++ clause ∷ [])
+    line_told clause chain none line most = record {
+      fair = fair_line form.sizes form.clauses steps clauses clause chain told.fair none line;
+      within = let more = counted_more steps (Derive clause chain) in subst (λ (n : ℕ). n ≤ budget) (sym more) most;
+      first = subst (λ (rows : List (List ℕ)). AreFirst d q horizon key rows) (sym (rows_kept steps clause chain)) told.first;
+    }
+
+    module _ (tells : FormTells d q horizon key form) where
+      told_are_rows : (row : List ℕ) → Contains (rows_in steps) row → IsRow form.sizes row
+      told_are_rows row there = ((tells.histories row).1 (told.first.each row there)).is_row
+
+      left_of : (row : List ℕ) → IsHistory d q horizon key row → (Contains (rows_in steps) row → ⊥) → IsRowOf form.sizes clauses row
+      left_of row history apart = row_behind laws.sound laws.leaves form.sizes form.clauses steps clauses row told.fair told_are_rows apart ((tells.histories row).1 history)
+
+      pub row_is_history : (row : List ℕ) → IsRowOf form.sizes clauses row → IsHistory d q horizon key row
+      row_is_history row is = (tells.histories row).0 (row_before form.sizes form.clauses steps clauses row told.fair is)
+
+      pub next_told : (row : List ℕ) → IsLeastRowOf form.sizes clauses row → AreFirst d q horizon key (rows_in steps ++ row ∷ [])
+      next_told row is = first_more d q horizon key (rows_in steps) row told.first (row_is_history row is.one)
+          (row_not_told laws.denies form.sizes form.clauses steps clauses row told.fair is.one)
+          (λ other history apart. is.least other (left_of other history apart))
+
+      pub row_told : (row : List ℕ) → IsLeastRowOf form.sizes clauses row →
+          HasTold d q key form budget horizon (steps ++ Tell row ∷ []) (clauses ++ row_denial form.sizes row ∷ [])
+      row_told row is = record {
+        fair = fair_tell form.sizes form.clauses steps clauses row told.fair (none_empty form.sizes clauses row is.one);
+        within = let more = counted_more steps (Tell row) in let within = told.within in omega arith;
+        first = subst (λ (rows : List (List ℕ)). AreFirst d q horizon key rows) (sym (rows_more steps row)) (next_told row is);
+      }
+
+      pub all_told : Contains clauses [] → IsListing d q horizon key (rows_in steps)
+      all_told there = first_are_all d q horizon key (rows_in steps) told.first
+          (λ row history apart. none_empty form.sizes clauses row (left_of row history apart) there)
+
+    -- ---- the section, with each end
+
+    pub open_fair : (last : Option (List ℕ)) → IsFairSection form budget (section_of steps last None)
+    open_fair last = record { clauses = clauses; steps = told.fair; within = told.within; ends = tt; spent = λ is. absurd cc }
+
+    pub found_fair : (last : Option (List ℕ)) → HasNoEmpty clauses → IsFairSection form budget (section_of steps last (Some words.Found))
+    found_fair last none = record {
+      clauses = clauses;
+      steps = told.fair;
+      within = told.within;
+      ends = ((λ is. absurd cc), (λ there. absurd (none there)));
+      spent = λ is. absurd cc;
+    }
+
+    pub empty_fair : (last : Option (List ℕ)) → Contains clauses [] → IsFairSection form budget (section_of steps last (Some words.Empty))
+    empty_fair last there = record {
+      clauses = clauses;
+      steps = told.fair;
+      within = told.within;
+      ends = ((λ is. there), (λ _. refl));
+      spent = λ is. absurd cc;
+    }
+
+    pub spent_fair : (last : Option (List ℕ)) → HasNoEmpty clauses → counted_in steps ≡ budget → IsFairSection form budget (section_of steps last (Some words.Spent))
+    spent_fair last none all = record {
+      clauses = clauses;
+      steps = told.fair;
+      within = told.within;
+      ends = ((λ is. absurd cc), (λ there. absurd (none there)));
+      spent = λ _. all;
+    }
+
+-- ---- sections of histories
+
+fewer : (count : Option ℕ) (a b : ℕ) → a ≤ b → IfSome count (λ most. b < most) → IfSome count (λ most. a < most)
+fewer None a b low if = tt
+fewer (Some most) a b low if = omega arith
+
+at_most : (count : Option ℕ) (a b : ℕ) → a ≤ suc b → IfSome count (λ most. b < most) → IfSome count (λ most. a ≤ most)
+at_most None a b low if = tt
+at_most (Some most) a b low if = omega arith
+
+module _ (d : Description) (q : Query) (ask : Ask) (horizon : ℕ) (steps : List Step) where
+  -- with no last history
+  module _ (word : Option EndWord) (fair : IsFairSection (axioms_of d q ask.after false horizon) ask.budget (section_of steps None word))
+      (first : AreFirst d q horizon (key_row ask) (rows_in steps)) (few : IfSome ask.count (λ most. length (rows_in steps) < most)) where
+    pub listing_so_far : (word ≡ Some words.Found → ⊥) → (word ≡ Some words.Empty → IsListing d q horizon (key_row ask) (rows_in steps)) →
+        TellsHistories d q ask horizon (section_of steps None word)
+    listing_so_far other all = record {
+      fair = fair;
+      first = subst (λ (rows : List (List ℕ)). AreFirst d q horizon (key_row ask) rows) (sym (append-nil (rows_in steps))) first;
+      asked = at_most ask.count (length (rows_in steps ++ [])) (length (rows_in steps)) (let same = ap (λ (l : List (List ℕ)). length l) (append-nil (rows_in steps)) in omega arith) few;
+      denied = few;
+      all_told = λ is. subst (λ (rows : List (List ℕ)). IsListing d q horizon (key_row ask) rows) (sym (append-nil (rows_in steps))) (all is);
+      enough = λ is. absurd (other is);
+      undenied = λ some. absurd cc;
+    }
+
+  -- with one
+  module _ (word : Option EndWord) (row : List ℕ) (fair : IsFairSection (axioms_of d q ask.after false horizon) ask.budget (section_of steps (Some row) word))
+      (first : AreFirst d q horizon (key_row ask) (rows_in steps ++ row ∷ [])) (few : IfSome ask.count (λ most. length (rows_in steps) < most)) where
+    pub listing_to : (word ≡ Some words.Empty → ⊥) → (word ≡ Some words.Found → ask.count ≡ Some (length (rows_in steps ++ row ∷ []))) →
+        (IsSome word → word ≡ Some words.Found) → TellsHistories d q ask horizon (section_of steps (Some row) word)
+    listing_to other enough found = record {
+      fair = fair;
+      first = first;
+      asked = at_most ask.count (length (rows_in steps ++ row ∷ [])) (length (rows_in steps)) (let same = length_push (rows_in steps) row in omega arith) few;
+      denied = few;
+      all_told = λ is. absurd (other is);
+      enough = enough;
+      undenied = λ _ some. found some;
+    }
+
+-- ---- sections that look for one
+
+module _ (d : Description) (q : Query) (axioms : Axioms) (budget horizon : ℕ) (steps : List Step) (word : Option EndWord)
+    (fair : IsFairSection axioms budget (section_of steps None word)) (silent : rows_in steps ≡ []) where
+  pub looks : (word ≡ Some words.Empty → IsListing d q horizon None (rows_in steps)) →
+      (word ≡ Some words.Found → (row : List ℕ) × IsHistory d q horizon None row) → LooksForOne d q axioms budget horizon (section_of steps None word)
+  looks all some = record {
+    fair = fair;
+    silent = append-nil (rows_in steps) ∙ silent;
+    none = λ is. subst (λ (rows : List (List ℕ)). IsListing d q horizon None rows) silent (all is);
+    some = λ is none. let one = some is in in_none one.0 ((none.members one.0).1 one.1);
+  }
+
+-- ---- what such sections have told
+
+pub told_of_histories : (d : Description) (q : Query) (ask : Ask) (horizon : ℕ) (steps : List Step) → TellsHistories d q ask horizon (open_section steps) →
+    (clauses : List (List Literal)) × HasTold d q (key_row ask) (axioms_of d q ask.after false horizon) ask.budget horizon steps clauses
+told_of_histories d q ask horizon steps tells = (
+  tells.fair.clauses,
+  record {
+    fair = tells.fair.steps;
+    within = tells.fair.within;
+    first = subst (λ (rows : List (List ℕ)). AreFirst d q horizon (key_row ask) rows) (append-nil (rows_in steps)) tells.first;
+  },
+)
+
+pub told_of_look : (d : Description) (q : Query) (axioms : Axioms) (key : Option (List ℕ)) (budget horizon : ℕ) (steps : List Step) →
+    LooksForOne d q axioms budget horizon (open_section steps) →
+    (clauses : List (List Literal)) × HasTold d q key axioms budget horizon steps clauses × (rows_in steps ≡ [])
+told_of_look d q axioms key budget horizon steps looks =
+    let silent : rows_in steps ≡ [] = sym (append-nil (rows_in steps)) ∙ looks.silent in (
+      looks.fair.clauses,
+      record {
+        fair = looks.fair.steps;
+        within = looks.fair.within;
+        first = subst (λ (rows : List (List ℕ)). AreFirst d q horizon key rows) (sym silent) (first_none d q horizon key);
+      },
+      silent,
+    )

@@ -1,0 +1,10 @@
+use Rattle.cc_query.proofs.Joining.{block_ready, blocked_is}
+use Rattle.cc_query.proofs.session.Session.block.Goals as goal
+
+pub stand-requires : goal.stand-requires
+stand-requires c =
+    let ready = block_ready c.args.self.now.ask c.args.solver c.block_row.new.self c.args.listed c.requires.1 c.requires.2 c.in_ok-block_row.ensures.blocked in
+    (c.requires.0, ready.0, ready.1)
+
+pub returns-clause-stands : goal.returns-clause-stands
+returns-clause-stands c = (c.block_row.new.self, blocked_is c.args.solver c.block_row.new.self c.requires.1 c.in_ok-block_row.ensures.blocked, c.stand.ensures)

@@ -1,0 +1,32 @@
+use Rattle.cc_cdcl.specs.declared.solver.Step.TheVariants as answers
+use Rattle.cc_query.proofs.Joining.{askable_of, empty_gives, line_gives, search_spent, step_at}
+use Rattle.cc_query.proofs.session.Session.search_on.Goals as goal
+
+pub returns-in-Line-clause-gives : goal.returns-in-Line-clause-gives
+returns-in-Line-clause-gives c =
+    line_gives c.search_laws.ensures c.line.result c.args.self.now c.line.new.self c.args.solver c.next.new.self c.args.part c.args.listed
+    (askable_of _ c.args.self.now c.self.view_is c.self.invariant)
+    (step_at c.budget_of-budget.result _ c.args.self.now c.args.solver c.next.new.self c.in_ok-next.field-0 answers.Line c.budget_of-budget.ensures c.self.view_is
+    c.in-Line.is c.in_ok-next.ensures.step)
+    c.line.ensures.event c.line.ensures.stands
+
+pub returns-in-Found-clause-fault : goal.returns-in-Found-clause-fault
+returns-in-Found-clause-fault c = c.found.ensures.fault c.args.solver
+    (step_at c.budget_of-budget.result _ c.args.self.now c.args.solver c.next.new.self c.in_ok-next.field-0 answers.Found c.budget_of-budget.ensures c.self.view_is
+    c.in-Found.is c.in_ok-next.ensures.step)
+
+pub returns-in-Refuted-clause-gives : goal.returns-in-Refuted-clause-gives
+returns-in-Refuted-clause-gives c =
+    empty_gives c.search_laws.ensures c.empty_line.result c.args.self.now c.empty_line.new.self c.args.solver c.next.new.self c.args.part c.args.listed
+    (askable_of _ c.args.self.now c.self.view_is c.self.invariant) c.requires.none
+    (step_at c.budget_of-budget.result _ c.args.self.now c.args.solver c.next.new.self c.in_ok-next.field-0 answers.Refuted c.budget_of-budget.ensures c.self.view_is
+    c.in-Refuted.is c.in_ok-next.ensures.step)
+    c.empty_line.ensures.event c.empty_line.ensures.stands
+
+pub returns-in-Spent-clause-gives : goal.returns-in-Spent-clause-gives
+returns-in-Spent-clause-gives c =
+    search_spent c.search_laws.ensures c.args.self.now c.close.new.self c.close.result c.args.solver c.next.new.self c.args.part c.args.listed
+    (askable_of _ c.args.self.now c.self.view_is c.self.invariant)
+    (step_at c.budget_of-budget.result _ c.args.self.now c.args.solver c.next.new.self c.in_ok-next.field-0 answers.Spent c.budget_of-budget.ensures c.self.view_is
+    c.in-Spent.is c.in_ok-next.ensures.step)
+    c.close.ensures.closed c.close.ensures.event

@@ -1,0 +1,307 @@
+-- What a session holds, and what the events so far leave it to hold.
+use Rattle.std.specs.Prelude.{◌≡◌, ◌≢◌, ℕ, ◌+◌, ◌≤◌, ◌⊎◌, Bool, true, false, not, if◌then◌else◌, IfSome, List, [], ◌∷◌, ◌++◌, map, length, Option, Some, None, IsSome, IsNone, Contains}
+use Rattle.std.specs.List.{list_any}
+use Rattle.std.specs.Option.{option_or}
+use Rattle.cc_arena.specs.declared.ground_laws.GroundLaw.{GroundLaw}
+use Rattle.cc_cdcl.specs.Solvers.{SolverView, Found, Ready}
+use Rattle.cc_clauses.specs.RowsOf.{IsLeastRowOf}
+use Rattle.cc_defs.specs.declared.event.Ending.{Ending}
+use Rattle.cc_defs.specs.declared.event.Ending.TheVariants as endings
+use Rattle.cc_defs.specs.declared.event.Event.{Event}
+use Rattle.cc_defs.specs.declared.event.Event.TheVariants as events
+use Rattle.cc_defs.specs.declared.event.Told.{Told}
+use Rattle.cc_defs.specs.declared.log.EndWord.{EndWord}
+use Rattle.cc_defs.specs.declared.log.EndWord.TheVariants as words
+use Rattle.cc_defs.specs.declared.lists.Key.{Key}
+use Rattle.cc_defs.specs.declared.log.LogLine.TheVariants as lines
+use Rattle.cc_defs.specs.declared.refusal.Fault.{Fault}
+use Rattle.cc_defs.specs.declared.refusal.Fault.TheVariants as faults
+use Rattle.cc_defs.specs.declared.refusal.LimitAt.TheVariants as limits
+use Rattle.cc_defs.specs.declared.refusal.Refusal.{Refusal}
+use Rattle.cc_defs.specs.ClauseLists.{clause_list}
+use Rattle.cc_defs.specs.Description.{Description, sizes_at}
+use Rattle.cc_defs.specs.GroundLaws.{PlainGroundQuery, StandsForQuery}
+use Rattle.cc_defs.specs.Histories.{AreFirst}
+use Rattle.cc_defs.specs.Refusals.{past}
+use Rattle.cc_defs.specs.Resolved.{Query}
+use Rattle.cc_defs.specs.Rows.{IsRow}
+use Rattle.cc_defs.specs.Runs.{Ask, Step, Derive, Tell, Section, Horizon, Histories, Conditions, Claim, Failure, Run, EndsWith, IsFairRun, events_of, first_horizon, horizon_at, key_row, rows_of}
+use Rattle.cc_defs.specs.Sections.{Axioms, row_denial}
+use Rattle.cc_defs.specs.Signatures.{Signature}
+use Rattle.cc_form.specs.Forms.{TellsHistories as ClausesTell, form_refusal}
+use Rattle.cc_form.specs.Places.{position_sizes}
+use Rattle.cc_form.specs.Queries.{IsQueryAt}
+use Rattle.cc_kernel.specs.declared.kernel.Origin.TheVariants as origins
+use Rattle.cc_kernel.specs.Kernels.{Entry, added, axiom_of, clauses_of, derived_count}
+use Rattle.cc_query.specs.declared.phase.Part.{Part}
+use Rattle.cc_query.specs.declared.phase.Part.TheVariants as parts
+use Rattle.cc_query.specs.declared.phase.Phase.{Phase}
+use Rattle.cc_query.specs.declared.phase.Phase.TheVariants as phases
+use Rattle.cc_query.specs.Parts.{query_of, axioms_at, is_conditions, told_by, section_of, open_section, rows_in, clauses_behind}
+use Rattle.cc_theory.specs.Theories.{AreLawsFor, AreLawsOf, rules_refusal}
+
+-- The signature, the laws, the query and what is asked; the horizon that is tried, whether a path met the conditions of a query
+-- with a claim at an earlier one, the last row that was told, and what comes next.
+pub record SessionView : Type 0 where
+  pub signature : Signature
+  pub laws : List GroundLaw
+  pub query : PlainGroundQuery
+  pub ask : Ask
+  pub horizon : ℕ
+  pub met : Bool
+  pub row : List ℕ
+  pub phase : Phase
+
+-- neither the ending was given nor did a call fail: there is more to come
+abbrev pub HasMore : SessionView → Type 0
+HasMore session = session.phase ≢ phases.Ended
+
+-- it searches for this query of this description
+pub record IsSessionOf (session : SessionView) (d : Description) (q : Query) : Type 0 where
+  pub laws : AreLawsOf session.signature session.laws d
+  pub query : StandsForQuery session.query d q
+
+-- an event, with the row where it is a history or a counterexample
+abbrev pub with_row : Event → List ℕ → Told
+with_row (events.Log line) row = record { event = events.Log line; row = None }
+with_row (events.NoHistory horizon) row = record { event = events.NoHistory horizon; row = None }
+with_row (events.History horizon number) row = record { event = events.History horizon number; row = Some row }
+with_row (events.NoConditions horizon) row = record { event = events.NoConditions horizon; row = None }
+with_row (events.Holds horizon) row = record { event = events.Holds horizon; row = None }
+with_row (events.Counterexample horizon) row = record { event = events.Counterexample horizon; row = Some row }
+with_row (events.Ended ending) row = record { event = events.Ended ending; row = None }
+
+-- ---- a kernel and the section that made it
+
+abbrev pub entry_of : List ℕ → Step → Entry
+entry_of sizes (Derive clause chain) = record { clause = clause; origin = origins.Derived }
+entry_of sizes (Tell row) = record { clause = row_denial sizes row; origin = origins.Block }
+
+-- it has the axioms of the section and then a clause for each step
+pub record Holds (axioms : Axioms) (steps : List Step) (solver : SolverView) : Type 0 where
+  pub sizes : solver.sizes ≡ axioms.sizes
+  pub variables : solver.kernel.variables ≡ axioms.variables
+  pub few : axioms.variables ≤ 4000000
+  pub entries : solver.kernel.entries ≡ map axiom_of axioms.clauses ++ map (entry_of axioms.sizes) steps
+
+-- ---- what a run leaves
+
+-- some path meets the conditions of a query with a claim at this horizon
+abbrev pub has_conditions : Horizon → Bool
+has_conditions (Histories section) = false
+has_conditions (Conditions section) = false
+has_conditions (Claim conditions claim) = true
+has_conditions (Failure conditions claim row) = true
+
+-- the rows of a part's clauses are the histories that it looks for
+abbrev pub RowsAreHistories : Description → Query → Ask → ℕ → Part → Type 0
+RowsAreHistories d q ask horizon part = ClausesTell d (query_of part q) horizon (key_row ask) (axioms_at d q ask horizon part)
+
+-- the section of a part is the first one of the next horizon
+abbrev pub Opens : Query → Part → Option Horizon → Type 0
+Opens q parts.Histories next = IsNone q.claim × (next ≡ None)
+Opens q parts.Conditions next = IsSome q.claim × (next ≡ None)
+Opens q parts.Claim next = ⊥
+
+-- it is searched
+pub record IsSearched (d : Description) (q : Query) (session : SessionView) (run : Run) (part : Part) (solver : SolverView) (listed : ℕ) : Type 0 where
+  pub steps : List Step
+  pub before : Section
+  pub next : run.next ≡ Some (told_by part before (open_section steps))
+  pub holds : Holds (axioms_at d q session.ask session.horizon part) steps solver
+  pub rows : RowsAreHistories d q session.ask session.horizon part
+  pub listed_is : listed ≡ length (rows_in steps)
+
+-- its last history is not denied yet
+pub record IsTold (d : Description) (q : Query) (session : SessionView) (run : Run) (solver : SolverView) (listed : ℕ) : Type 0 where
+  pub steps : List Step
+  pub next : run.next ≡ Some (Histories (section_of steps (Some session.row) None))
+  pub holds : Holds (axioms_at d q session.ask session.horizon parts.Histories) steps solver
+  pub rows : RowsAreHistories d q session.ask session.horizon parts.Histories
+  pub least : IsLeastRowOf solver.sizes (clauses_of solver.kernel) session.row
+  pub standing : solver.standing ≡ Found session.row
+  pub listed_is : listed ≡ length (rows_in steps) + 1
+
+-- one of its clauses is empty
+pub record IsRefuted (d : Description) (q : Query) (session : SessionView) (run : Run) (part : Part) (listed : ℕ) : Type 0 where
+  pub steps : List Step
+  pub before : Section
+  pub next : run.next ≡ Some (told_by part before (open_section steps))
+  pub rows : RowsAreHistories d q session.ask session.horizon part
+  pub empty : Contains (clauses_behind (axioms_at d q session.ask session.horizon part) steps) []
+  pub listed_is : listed ≡ length (rows_in steps)
+
+-- it has ended; a counterexample is at hand where the section on the claim found one
+pub record IsClosed (d : Description) (q : Query) (session : SessionView) (run : Run) (part : Part) (word : EndWord) (listed : ℕ) : Type 0 where
+  pub section : Section
+  pub before : Section
+  pub next : run.next ≡ Some (told_by part before section)
+  pub word_is : EndsWith word section
+  pub listed_is : listed ≡ length (rows_of section)
+  pub found : part ≡ parts.Claim → word ≡ words.Found → AreFirst d q session.horizon None (session.row ∷ [])
+
+-- it is right that this comes next
+abbrev pub Awaits : Description → Query → SessionView → Run → Phase → Type 0
+Awaits d q session run (phases.Opening part) = (run.ending ≡ None) × Opens q part run.next
+Awaits d q session run (phases.Searching part solver listed) = (run.ending ≡ None) × IsSearched d q session run part solver listed
+Awaits d q session run (phases.Denying solver listed) = (run.ending ≡ None) × IsTold d q session run solver listed
+Awaits d q session run (phases.Refuted part listed) = (run.ending ≡ None) × IsRefuted d q session run part listed
+Awaits d q session run (phases.Closed part word listed) = (run.ending ≡ None) × IsClosed d q session run part word listed
+Awaits d q session run phases.Failing =
+    (run.ending ≡ None) × ((conditions : Section) × (claim : Section) × (run.next ≡ Some (Failure conditions claim session.row)))
+Awaits d q session run phases.Ended = IsSome run.ending
+
+-- the session stands where the run leaves it
+pub record StandsBehind (d : Description) (q : Query) (session : SessionView) (run : Run) : Type 0 where
+  pub horizon : session.horizon ≡ horizon_at (first_horizon q session.ask.after) run
+  pub met : session.met ≡ list_any has_conditions run.done
+  pub awaits : Awaits d q session run session.phase
+
+-- These events were told: they are those of a run that tells the truth, and the session stands where it leaves it.
+abbrev pub After : Description → Query → SessionView → List Told → Type 0
+After d q session given =
+    (run : Run) × IsFairRun d q session.ask run × (given ≡ events_of (first_horizon q session.ask.after) run) × StandsBehind d q session run
+
+-- ---- the horizons
+
+-- the first horizon that is tried, and the last one
+abbrev pub first_at : PlainGroundQuery → Option Key → ℕ
+first_at query None = query.lo
+first_at query (Some key) = key.horizon
+
+abbrev pub last_at : PlainGroundQuery → Option Key → ℕ
+last_at query None = query.hi
+last_at query (Some key) = key.horizon
+
+-- ---- what a call of a session says
+
+-- it searches for the same
+pub record IsSame (old new : SessionView) : Type 0 where
+  pub signature : new.signature ≡ old.signature
+  pub laws : new.laws ≡ old.laws
+  pub query : new.query ≡ old.query
+  pub ask : new.ask ≡ old.ask
+
+-- this event comes behind those that were told
+abbrev pub Tells : SessionView → SessionView → Event → Type 0
+Tells old new event =
+    (d : Description) (q : Query) (given : List Told) → IsSessionOf old d q → After d q old given → After d q new (given ++ with_row event new.row ∷ [])
+
+-- the first limit that the rules or the clause list of a section pass
+abbrev pub refusal_at : Description → Query → ℕ → (with_claim : Bool) → Option Key → Option Refusal
+refusal_at d q horizon with_claim key = option_or (rules_refusal d horizon) (form_refusal (clause_list d q horizon with_claim key))
+
+abbrev pub opening_refusal : Description → Query → Ask → ℕ → (conditions : Bool) → Option Refusal
+opening_refusal d q ask horizon conditions = refusal_at d q horizon (not conditions) ask.after
+
+-- so many histories were told at a horizon as its limit says, and there is one more
+pub record HasTooMany (d : Description) (q : Query) (session : SessionView) (given : List Told) : Type 0 where
+  pub run : Run
+  pub fair : IsFairRun d q session.ask run
+  pub given_is : given ≡ events_of (first_horizon q session.ask.after) run
+  pub section : Section
+  pub next : run.next ≡ Some (Histories section)
+  pub told : List (List ℕ)
+  pub told_is : rows_of section ≡ told
+  pub many : length told ≡ 100000000
+  pub further : List ℕ
+  pub first : AreFirst d q session.horizon (key_row session.ask) (told ++ further ∷ [])
+
+-- the part of a horizon whose section opens next
+abbrev pub opens_at : Phase → Option Part
+opens_at (phases.Opening part) = Some part
+opens_at (phases.Closed parts.Conditions words.Found listed) = Some parts.Claim
+opens_at (phases.Closed part word listed) = None
+opens_at (phases.Searching part solver listed) = None
+opens_at (phases.Denying solver listed) = None
+opens_at (phases.Refuted part listed) = None
+opens_at phases.Failing = None
+opens_at phases.Ended = None
+
+-- this refusal may come: that of the section that opens, or that a history is one too many
+abbrev pub MayRefuse : Description → Query → SessionView → List Told → Refusal → Type 0
+MayRefuse d q session given refusal =
+    ((part : Part) × (opens_at session.phase ≡ Some part) × (session.horizon ≤ last_at session.query session.ask.after)
+    × (opening_refusal d q session.ask session.horizon (is_conditions part) ≡ Some refusal))
+    ⊎ ((refusal ≡ past limits.Histories) × HasTooMany d q session given)
+
+-- or memory was wanting
+abbrev pub IsRightFault : SessionView → Fault → Type 0
+IsRightFault session faults.OutOfMemory = Unit {0}
+IsRightFault session (faults.Refused refusal) =
+    (d : Description) (q : Query) (given : List Told) → IsSessionOf session d q → After d q session given → MayRefuse d q session given refusal
+
+-- a section's rules and clauses are within their limits, where this is its heading
+abbrev pub OpensWithin : SessionView → Event → Type 0
+OpensWithin session event = (d : Description) (q : Query) → IsSessionOf session d q → (conditions : Bool) (horizon : ℕ) →
+    event ≡ events.Log (lines.Section conditions horizon) → opening_refusal d q session.ask horizon conditions ≡ None
+
+-- the ending behind the last horizon
+abbrev pub ending_behind : (met : Bool) → Part → Ending
+ending_behind met parts.Histories = endings.NoHistory
+ending_behind met parts.Conditions = if met then endings.ClaimHolds else endings.ClaimEmpty
+ending_behind met parts.Claim = if met then endings.ClaimHolds else endings.ClaimEmpty
+
+-- the row that was found is denied
+pub record IsBlocked (old new : SolverView) : Type 0 where
+  pub sizes : new.sizes ≡ old.sizes
+  pub kernel : (row : List ℕ) → old.standing ≡ Found row → new.kernel ≡ added old.kernel (row_denial old.sizes row) origins.Block
+
+-- What an event says of the session before and after it: it comes behind those that were told, for the same query; and unless it
+-- is the ending, there is more to come.
+pub record Gives (old new : SessionView) (event : Event) : Type 0 where
+  pub same : IsSame old new
+  pub tells : Tells old new event
+  pub within : OpensWithin old event
+  pub more : ((ending : Ending) → event ≢ events.Ended ending) → HasMore new
+
+-- ---- what is always true of a session
+
+-- a key is a row of one of the query's horizons, and the query has no claim
+pub record Fits (signature : Signature) (query : PlainGroundQuery) (key : Key) : Type 0 where
+  pub least : query.lo ≤ key.horizon
+  pub most : key.horizon ≤ query.hi
+  pub claim : IsNone query.claim
+  pub row : IsRow (position_sizes signature key.horizon) key.row
+
+-- the same of a description with this signature
+pub record FitsIn (d : Description) (query : PlainGroundQuery) (key : Key) : Type 0 where
+  pub least : query.lo ≤ key.horizon
+  pub most : key.horizon ≤ query.hi
+  pub claim : IsNone query.claim
+  pub row : IsRow (sizes_at d key.horizon) key.row
+
+-- what is asked can be searched for
+pub record IsAskable (signature : Signature) (laws : List GroundLaw) (query : PlainGroundQuery) (ask : Ask) : Type 0 where
+  pub laws_fit : AreLawsFor signature laws
+  pub ordered : query.lo ≤ query.hi
+  pub most : query.hi ≤ 1000
+  pub steps : (horizon : ℕ) → query.lo ≤ horizon → horizon ≤ query.hi → IsQueryAt signature horizon query
+  pub key : IfSome ask.after (Fits signature query)
+  pub count : IfSome ask.count (λ most. 1 ≤ most)
+  pub budget : ask.budget ≤ 2000000
+
+-- the solver of a section: not past its budget, and with few clauses behind its axioms, where so many rows were denied
+pub record IsWithin (ask : Ask) (solver : SolverView) (denied : ℕ) : Type 0 where
+  pub derived : derived_count solver.kernel.entries ≤ ask.budget
+  pub few : length solver.kernel.entries ≤ 8000000 + derived_count solver.kernel.entries + denied
+  pub denied_few : denied ≤ 100000000
+
+abbrev pub HasFound : SolverView → Type 0
+HasFound solver = (row : List ℕ) × (solver.standing ≡ Found row)
+
+-- it is ready for what comes next, at a horizon, the last of which is this
+abbrev pub IsReady : Ask → (horizon last : ℕ) → Phase → Type 0
+IsReady ask horizon last (phases.Opening part) = horizon ≤ last + 1
+IsReady ask horizon last (phases.Searching part solver listed) = (horizon ≤ last) × (solver.standing ≡ Ready) × IsWithin ask solver listed
+IsReady ask horizon last (phases.Denying solver listed) =
+    (horizon ≤ last) × HasFound solver × ((denied : ℕ) × (listed ≡ denied + 1) × (denied + 1 ≤ 100000000) × IsWithin ask solver denied)
+IsReady ask horizon last (phases.Refuted part listed) = horizon ≤ last
+IsReady ask horizon last (phases.Closed part word listed) = horizon ≤ last
+IsReady ask horizon last phases.Failing = horizon ≤ last
+IsReady ask horizon last phases.Ended = horizon ≤ last + 1
+
+pub record IsSession (session : SessionView) : Type 0 where
+  pub askable : IsAskable session.signature session.laws session.query session.ask
+  pub first : first_at session.query session.ask.after ≤ session.horizon
+  pub ready : IsReady session.ask session.horizon (last_at session.query session.ask.after) session.phase

@@ -1,0 +1,606 @@
+//! A search for the histories of a query, or for a path that goes against its claim.
+ghost use Rattle.std.specs.Prelude.{◌≡◌, ◌≢◌, ◌⊎◌, Contains, ℕ, ◌+◌, ◌<◌, ◌≤◌, ◌++◌, [], ◌∷◌, List, length, IfOk, IfErr, IfSome, IsNone, IsSome, OnErr, OnOk, Some, None, true, false};
+ghost use Rattle.std.specs.Option.{option_map};
+ghost use Rattle.cc_arena.specs.GroundViews.{plain_ground_query};
+ghost use Rattle.cc_cdcl.specs.Solvers.{SolverView, Found as IsFound, IsStep, Ready};
+ghost use Rattle.cc_cdcl.specs.declared.solver.Step.TheVariants as answers;
+ghost use Rattle.cc_defs.specs.Clauses.{Literal, IsNumbered};
+ghost use Rattle.cc_defs.specs.Description.{Description};
+ghost use Rattle.cc_defs.specs.Refusals.{IsRefusedBy, past};
+ghost use Rattle.cc_defs.specs.declared.refusal.Fault.TheVariants as faults;
+ghost use Rattle.cc_defs.specs.declared.refusal.LimitAt.TheVariants as limits;
+ghost use Rattle.cc_defs.specs.Resolved.{Query};
+ghost use Rattle.cc_defs.specs.declared.event.Event.TheVariants as events;
+ghost use Rattle.cc_defs.specs.declared.event.Told.{Told};
+ghost use Rattle.cc_defs.specs.declared.log.EndWord.TheVariants as words;
+ghost use Rattle.cc_defs.specs.declared.log.LogLine.TheVariants as lines;
+ghost use Rattle.cc_form.specs.Queries.{IsQueryAt};
+ghost use Rattle.cc_kernel.specs.Kernels.{KernelView, clauses_of};
+ghost use Rattle.cc_query.specs.Parts.{axioms_at, is_conditions};
+ghost use Rattle.cc_defs.specs.declared.event.Ending.{Ending as EndingSeen};
+ghost use Rattle.cc_defs.specs.Sections.{HasNoEmpty};
+ghost use Rattle.cc_query.specs.declared.phase.Phase.{Phase as PhaseSeen};
+ghost use Rattle.cc_query.specs.Sessions.{After, Fits, Gives, HasFound, HasMore, Holds, IsBlocked, IsReady, IsRightFault, IsSame, IsSessionOf, IsWithin, OpensWithin, RowsAreHistories, SessionView, Tells, ending_behind, first_at, last_at, opening_refusal, opens_at, with_row};
+ghost use Rattle.cc_query.specs.declared.phase.Part.TheVariants as parts;
+ghost use Rattle.cc_query.specs.declared.phase.Phase.TheVariants as phases;
+ghost use Rattle.cc_theory.specs.Theories.{AreLawsFor};
+
+use crate::ask::Ask;
+use crate::laws::search_laws;
+use crate::opening::{denies_claim, form_at, solver_of};
+use crate::phase::{Part, Phase};
+use cc_arena::{GroundQuery, Laws};
+use cc_cdcl::{Solver, Step};
+use cc_defs::{
+    EndWord, Ending, Event, Fault, Key, LimitAt, Lits, LogLine, Nums, OutOfMemory, Refusal, Row,
+    Sig,
+};
+use cc_kernel::Kernel;
+use std::alloc::Global;
+use std::marker::Model;
+use std::mem;
+
+/// A search for the histories of a query at its horizons, one after another; for a query with a claim, for a path that meets
+/// the conditions and not the claim. It tells its events one by one, those of its log included, and keeps no list of them.
+/// What a horizon needs is let go before the next one begins.
+#[derive(Drop)]
+pub struct Session<'a> {
+    alloc: Global,
+    sig: &'a Sig,
+    laws: &'a Laws<'a>,
+    query: GroundQuery<'a>,
+    ask: Ask,
+    // The horizon that is tried.
+    horizon: u32,
+    // Whether a path met the conditions of a query with a claim at an earlier horizon.
+    met: bool,
+    // The last history, or the counterexample.
+    row: Vec<u32>,
+    phase: Phase,
+}
+
+impl<'a> Model for Session<'a> {
+    ghost use Rattle.cc_arena.specs.GroundViews.{plain_ground_query};
+    ghost use Rattle.cc_query.specs.Sessions.{SessionView, IsSession};
+
+    ghost Value = { SessionView };
+
+    ghost view = { λ s. record { signature = s.sig.now; laws = s.laws.now; query = plain_ground_query s.query; ask = s.ask; horizon = s.horizon; met = s.met; row = s.row.items; phase = s.phase } };
+
+    ghost invariant = { λ s. IsSession (record { signature = s.sig.now; laws = s.laws.now; query = plain_ground_query s.query; ask = s.ask; horizon = s.horizon; met = s.met; row = s.row.items; phase = s.phase }) };
+}
+
+/// One history more than there may be at a horizon.
+fn too_many() -> Fault
+    ensures { result ≡ faults.Refused (past limits.Histories) }
+{
+    Fault::Refused(Refusal {
+        number: 14,
+        file: 0,
+        line: 0,
+        limit: Some(LimitAt::Histories),
+    })
+}
+
+/// The line of the clause that was derived last.
+fn derived(alloc: Global, kernel: &Kernel) -> Result<Event, OutOfMemory>
+    requires { 0 < length kernel.now.entries }
+    ensures { (clause : List Literal) → IsNumbered (clauses_of kernel.now) (length kernel.now.entries) clause → IfOk result (λ event. event ≡ events.Log (lines.Derived clause kernel.now.chain)) }
+{
+    let clause = Vec::from_slice(alloc, kernel.clause(kernel.count()))?;
+    let chain = Vec::from_slice(alloc, kernel.chain())?;
+    Ok(Event::Log(LogLine::Derived {
+        clause: Lits::of(clause),
+        chain: Nums::of(chain),
+    }))
+}
+
+/// The first horizon that is tried.
+fn first_horizon(query: &GroundQuery<'_>, ask: &Ask) -> u32
+    ensures { result ≡ first_at (plain_ground_query query.now) ask.now.after }
+{
+    match &ask.after {
+        Some(key) => key.horizon,
+        None => query.lo,
+    }
+}
+
+/// The last one.
+fn last_horizon(query: &GroundQuery<'_>, ask: &Ask) -> u32
+    ensures { result ≡ last_at (plain_ground_query query.now) ask.now.after }
+{
+    match &ask.after {
+        Some(key) => key.horizon,
+        None => query.hi,
+    }
+}
+
+/// The key that the histories come after.
+fn key_of(ask: &Ask) -> Option<&Key>
+    ensures { option_map (λ key. key.now) result ≡ ask.now.after }
+{
+    ask.after.as_ref()
+}
+
+/// How many derived clauses a section may have.
+fn budget_of(ask: &Ask) -> u32
+    ensures { result ≡ ask.now.budget }
+{
+    ask.budget
+}
+
+/// Whether just so many histories are asked for.
+fn is_asked(ask: &Ask, listed: u32) -> bool
+    ensures is { result ≡ true → ask.now.count ≡ Some listed }
+    ensures other { result ≡ false → ask.now.count ≢ Some listed }
+{
+    match ask.count {
+        Some(count) => count == listed,
+        None => false,
+    }
+}
+
+/// Whether no history was told at a horizon, and none lies before a key.
+fn has_none(ask: &Ask, listed: u32) -> bool
+    ensures none { result ≡ true → listed ≡ 0 }
+    ensures no_key { result ≡ true → ask.now.after ≡ None }
+    ensures some { result ≡ false → (0 < listed) ⊎ IsSome ask.now.after }
+{
+    match &ask.after {
+        Some(_) => false,
+        None => listed == 0,
+    }
+}
+
+/// Whether a part tells the rows that it finds.
+fn is_listing(part: Part) -> bool
+    ensures is { result ≡ true → part ≡ parts.Histories }
+    ensures other { result ≡ false → part ≢ parts.Histories }
+{
+    match part {
+        Part::Histories => true,
+        Part::Conditions | Part::Claim => false,
+    }
+}
+
+/// Whether one of the clauses is empty.
+fn is_refuted(solver: &Solver) -> bool
+    ensures some { result ≡ true → Contains (clauses_of solver.now.kernel) [] }
+    ensures none { result ≡ false → HasNoEmpty (clauses_of solver.now.kernel) }
+{
+    solver.kernel().refuted().is_some()
+}
+
+/// The heading of a section.
+fn heading(part: Part, horizon: u32) -> Event
+    ensures { result ≡ events.Log (lines.Section (is_conditions part) horizon) }
+{
+    let conditions = match part {
+        Part::Conditions => true,
+        Part::Histories | Part::Claim => false,
+    };
+    Event::Log(LogLine::Section {
+        conditions,
+        horizon,
+    })
+}
+
+/// The ending behind the last horizon.
+fn last_ending(met: bool, part: Part) -> Ending
+    ensures { result ≡ ending_behind met part }
+{
+    match part {
+        Part::Histories => Ending::NoHistory,
+        Part::Conditions | Part::Claim => {
+            if met {
+                Ending::ClaimHolds
+            } else {
+                Ending::ClaimEmpty
+            }
+        }
+    }
+}
+
+/// What the first section of a horizon searches for.
+fn first_part(query: &GroundQuery<'_>) -> Part
+    ensures histories { IsNone query.now.claim → result ≡ parts.Histories }
+    ensures conditions { IsSome query.now.claim → result ≡ parts.Conditions }
+{
+    match &query.claim {
+        Some(_) => Part::Conditions,
+        None => Part::Histories,
+    }
+}
+
+impl<'a> Session<'a> {
+    /// A search for a query: the horizons of its range, or the key's alone. What is asked is `ask`.
+    pub fn new(
+        alloc: Global,
+        sig: &'a Sig,
+        laws: &'a Laws<'a>,
+        query: GroundQuery<'a>,
+        ask: Ask,
+    ) -> Result<Session<'a>, OutOfMemory>
+        requires laws { AreLawsFor sig.now laws.now }
+        requires ordered { query.lo ≤ query.hi }
+        requires most { query.hi ≤ 1000 }
+        requires steps { (horizon : ℕ) → query.lo ≤ horizon → horizon ≤ query.hi → IsQueryAt sig.now horizon (plain_ground_query query) }
+        requires key { IfSome ask.after (Fits sig.now (plain_ground_query query)) }
+        requires count { IfSome ask.count (λ most. 1 ≤ most) }
+        requires budget { ask.budget ≤ 2000000 }
+        ensures signature { IfOk result (λ session. session.signature ≡ sig.now) }
+        ensures laws { IfOk result (λ session. session.laws ≡ laws.now) }
+        ensures query { IfOk result (λ session. session.query ≡ plain_ground_query query.entry) }
+        ensures ask { IfOk result (λ session. session.ask ≡ ask) }
+        ensures begun { (d : Description) (q : Query) → IfOk result (λ session. IsSessionOf session d q → After d q session []) }
+        ensures more { IfOk result (λ session. HasMore session) }
+    {
+        let horizon = first_horizon(&query, &ask);
+        let part = first_part(&query);
+        let row = Vec::new(alloc);
+        Ok(Session {
+            alloc,
+            sig,
+            laws,
+            query,
+            ask,
+            horizon,
+            met: false,
+            row,
+            phase: Phase::Opening { part },
+        })
+    }
+
+    /// The row of the last event: a value index for each position.
+    pub fn row(&self) -> &[u32]
+        ensures { result.now ≡ self.now.row }
+    {
+        &self.row
+    }
+
+    // The search over the clauses of a section, at the horizon that is tried.
+    fn solver(&self, part: Part) -> Result<Solver, Fault>
+        requires { self.now.horizon ≤ last_at self.now.query self.now.ask.after }
+        ensures made { (d : Description) (q : Query) → IsSessionOf self.now d q → IfOk result (λ solver. Holds (axioms_at d q self.now.ask self.now.horizon part) [] solver) }
+        ensures rows { (d : Description) (q : Query) → IsSessionOf self.now d q → OnOk result (RowsAreHistories d q self.now.ask self.now.horizon part) }
+        ensures within { (d : Description) (q : Query) → IsSessionOf self.now d q → OnOk result (opening_refusal d q self.now.ask self.now.horizon (is_conditions part) ≡ None) }
+        ensures refused { (d : Description) (q : Query) → IsSessionOf self.now d q → IfErr result (IsRefusedBy (opening_refusal d q self.now.ask self.now.horizon (is_conditions part))) }
+        ensures ready { IfOk result (λ solver. solver.standing ≡ Ready) }
+        ensures few { IfOk result (λ solver. IsWithin self.now.ask solver 0) }
+    {
+        let key = key_of(&self.ask);
+        let form = form_at(
+            self.alloc,
+            self.sig,
+            self.laws,
+            &self.query,
+            key,
+            self.horizon,
+            denies_claim(part),
+        )?;
+        Ok(solver_of(self.alloc, form)?)
+    }
+
+    // What comes next.
+    fn stand(&mut self, phase: Phase)
+        requires { IsReady self.old.ask self.old.horizon (last_at self.old.query self.old.ask.after) phase }
+        ensures { self.new ≡ record self.old { phase = phase } }
+    {
+        let before = mem::replace(&mut self.phase, phase);
+        drop(before);
+    }
+
+    // The end line of a section.
+    fn close(&mut self, part: Part, word: EndWord, listed: u32) -> Event
+        requires { self.old.horizon ≤ last_at self.old.query self.old.ask.after }
+        ensures closed { self.new ≡ record self.old { phase = phases.Closed part word listed } }
+        ensures event { result ≡ events.Log (lines.End word) }
+    {
+        self.stand(Phase::Closed { part, word, listed });
+        Event::Log(LogLine::End(word))
+    }
+
+    // The heading of the section of a part, with all that its search needs.
+    fn open(&mut self, part: Part) -> Result<Event, Fault>
+        requires { self.old.horizon ≤ last_at self.old.query self.old.ask.after }
+        ensures gives { (phase : PhaseSeen) → opens_at phase ≡ Some part → IfOk result (Gives (record self.old { phase = phase }) self.new) }
+        ensures fault { (phase : PhaseSeen) → opens_at phase ≡ Some part → IfErr result (IsRightFault (record self.old { phase = phase })) }
+    {
+        search_laws();
+        let solver = self.solver(part)?;
+        self.stand(Phase::Searching {
+            part,
+            solver,
+            listed: 0,
+        });
+        Ok(heading(part, self.horizon))
+    }
+
+    // The heading of the next horizon's first section, or the ending behind the last one.
+    fn begin(&mut self, part: Part) -> Result<Event, Fault>
+        requires { self.old.phase ≡ phases.Ended }
+        ensures gives { IfOk result (Gives (record self.old { phase = phases.Opening part }) self.new) }
+        ensures fault { IfErr result (IsRightFault (record self.old { phase = phases.Opening part })) }
+    {
+        search_laws();
+        if self.horizon > last_horizon(&self.query, &self.ask) {
+            Ok(Event::Ended(last_ending(self.met, part)))
+        } else {
+            self.open(part)
+        }
+    }
+
+    // A derived line.
+    fn line(&mut self, part: Part, solver: Solver, listed: u32) -> Result<Event, Fault>
+        requires ready { IsReady self.old.ask self.old.horizon (last_at self.old.query self.old.ask.after) (phases.Searching part solver listed) }
+        requires some { 0 < length solver.kernel.entries }
+        ensures event { (clause : List Literal) → IsNumbered (clauses_of solver.kernel) (length solver.kernel.entries) clause → IfOk result (λ event. event ≡ events.Log (lines.Derived clause solver.kernel.chain)) }
+        ensures stands { OnOk result (self.new ≡ record self.old { phase = phases.Searching part solver listed }) }
+        ensures fault { IfErr result (λ fault. fault ≡ faults.OutOfMemory) }
+    {
+        let event = derived(self.alloc, solver.kernel())?;
+        self.stand(Phase::Searching {
+            part,
+            solver,
+            listed,
+        });
+        Ok(event)
+    }
+
+    // The line of the empty clause.
+    fn empty_line(&mut self, part: Part, solver: Solver, listed: u32) -> Result<Event, Fault>
+        requires low { self.old.horizon ≤ last_at self.old.query self.old.ask.after }
+        requires some { 0 < length solver.kernel.entries }
+        ensures event { (clause : List Literal) → IsNumbered (clauses_of solver.kernel) (length solver.kernel.entries) clause → IfOk result (λ event. event ≡ events.Log (lines.Derived clause solver.kernel.chain)) }
+        ensures stands { OnOk result (self.new ≡ record self.old { phase = phases.Refuted part listed }) }
+        ensures fault { IfErr result (λ fault. fault ≡ faults.OutOfMemory) }
+    {
+        let event = derived(self.alloc, solver.kernel())?;
+        self.stand(Phase::Refuted { part, listed });
+        Ok(event)
+    }
+
+    // The next history. It is not denied yet.
+    fn history(&mut self, solver: Solver, listed: u32, row: Vec<u32>) -> Result<Event, Fault>
+        requires low { self.old.horizon ≤ last_at self.old.query self.old.ask.after }
+        requires found { HasFound solver }
+        requires within { IsWithin self.old.ask solver listed }
+        ensures event { IfOk result (λ event. event ≡ events.History self.old.horizon (listed + 1)) }
+        ensures stands { OnOk result (self.new ≡ record self.old { row = row.items; phase = phases.Denying solver (listed + 1) }) }
+        ensures fault { IfErr result (λ fault. fault ≡ faults.Refused (past limits.Histories)) }
+        ensures many { OnErr result (listed ≡ 100000000) }
+    {
+        if listed == LimitAt::Histories.number() {
+            return Err(too_many());
+        }
+        self.row = row;
+        self.stand(Phase::Denying {
+            solver,
+            listed: listed + 1,
+        });
+        Ok(Event::History {
+            horizon: self.horizon,
+            number: listed + 1,
+        })
+    }
+
+    // The line that denies the history that was told.
+    fn block(&mut self, mut solver: Solver, listed: u32) -> Result<Event, Fault>
+        requires { IsReady self.old.ask self.old.horizon (last_at self.old.query self.old.ask.after) (phases.Denying solver listed) }
+        ensures event { IfOk result (λ event. event ≡ events.Log (lines.Block self.old.row)) }
+        ensures stands { OnOk result ((blocked : SolverView) × IsBlocked solver blocked × (self.new ≡ record self.old { phase = phases.Searching parts.Histories blocked listed })) }
+        ensures fault { IfErr result (λ fault. fault ≡ faults.OutOfMemory) }
+    {
+        let row = Vec::from_slice(self.alloc, &self.row)?;
+        solver.block_row()?;
+        self.stand(Phase::Searching {
+            part: Part::Histories,
+            solver,
+            listed,
+        });
+        Ok(Event::Log(LogLine::Block { row: Row::of(row) }))
+    }
+
+    // Behind a history: it is the last one that was asked for, or it is denied.
+    fn deny(&mut self, solver: Solver, listed: u32) -> Result<Event, Fault>
+        requires { IsReady self.old.ask self.old.horizon (last_at self.old.query self.old.ask.after) (phases.Denying solver listed) }
+        ensures gives { IfOk result (Gives (record self.old { phase = phases.Denying solver listed }) self.new) }
+        ensures fault { IfErr result (λ fault. fault ≡ faults.OutOfMemory) }
+    {
+        search_laws();
+        if is_asked(&self.ask, listed) {
+            Ok(self.close(Part::Histories, EndWord::Found, listed))
+        } else {
+            self.block(solver, listed)
+        }
+    }
+
+    // A path that meets the conditions, or that does not meet the claim either: the end line.
+    fn path(&mut self, part: Part, row: Vec<u32>, listed: u32) -> Event
+        requires { self.old.horizon ≤ last_at self.old.query self.old.ask.after }
+        ensures stands { self.new ≡ record self.old { row = row.items; phase = phases.Closed part words.Found listed } }
+        ensures event { result ≡ events.Log (lines.End words.Found) }
+    {
+        self.row = row;
+        self.close(part, EndWord::Found, listed)
+    }
+
+    // A row that was found.
+    fn found(&mut self, part: Part, solver: Solver, listed: u32) -> Result<Event, Fault>
+        requires low { self.old.horizon ≤ last_at self.old.query self.old.ask.after }
+        requires found { HasFound solver }
+        requires within { IsWithin self.old.ask solver listed }
+        ensures gives { (before : SolverView) → IsStep self.old.ask.budget before solver answers.Found → IfOk result (Gives (record self.old { phase = phases.Searching part before listed }) self.new) }
+        ensures fault { (before : SolverView) → IsStep self.old.ask.budget before solver answers.Found → IfErr result (IsRightFault (record self.old { phase = phases.Searching part before listed })) }
+    {
+        search_laws();
+        let row = Vec::from_slice(self.alloc, solver.row())?;
+        if is_listing(part) {
+            self.history(solver, listed, row)
+        } else {
+            Ok(self.path(part, row, listed))
+        }
+    }
+
+    // The next line of a section, or its next history.
+    fn search(&mut self, part: Part, solver: Solver, listed: u32) -> Result<Event, Fault>
+        requires { IsReady self.old.ask self.old.horizon (last_at self.old.query self.old.ask.after) (phases.Searching part solver listed) }
+        ensures gives { IfOk result (Gives (record self.old { phase = phases.Searching part solver listed }) self.new) }
+        ensures fault { IfErr result (IsRightFault (record self.old { phase = phases.Searching part solver listed })) }
+    {
+        search_laws();
+        let _ = &self.alloc;
+        if is_refuted(&solver) {
+            Ok(self.close(part, EndWord::Empty, listed))
+        } else {
+            self.search_on(part, solver, listed)
+        }
+    }
+
+    // The same where no clause is empty.
+    fn search_on(&mut self, part: Part, mut solver: Solver, listed: u32) -> Result<Event, Fault>
+        requires ready { IsReady self.old.ask self.old.horizon (last_at self.old.query self.old.ask.after) (phases.Searching part solver listed) }
+        requires none { HasNoEmpty (clauses_of solver.kernel) }
+        ensures gives { IfOk result (Gives (record self.old { phase = phases.Searching part solver listed }) self.new) }
+        ensures fault { IfErr result (IsRightFault (record self.old { phase = phases.Searching part solver listed })) }
+    {
+        search_laws();
+        let budget = budget_of(&self.ask);
+        match solver.next(budget)? {
+            Step::Line => self.line(part, solver, listed),
+            Step::Found => self.found(part, solver, listed),
+            Step::Refuted => self.empty_line(part, solver, listed),
+            Step::Spent => Ok(self.close(part, EndWord::Spent, listed)),
+        }
+    }
+
+    // The next horizon, whose first section is of this part.
+    fn pass(&mut self, part: Part, met: bool)
+        requires { self.old.horizon ≤ last_at self.old.query self.old.ask.after }
+        ensures { self.new ≡ record self.old { horizon = self.old.horizon + 1; met = met; phase = phases.Opening part } }
+    {
+        self.stand(Phase::Opening { part });
+        self.horizon += 1;
+        self.met = met;
+    }
+
+    // What is said of a horizon whose listing is complete.
+    fn complete(&mut self, listed: u32) -> Event
+        requires low { self.old.horizon ≤ last_at self.old.query self.old.ask.after }
+        requires over { self.old.phase ≡ phases.Ended }
+        ensures { Gives (record self.old { phase = phases.Closed parts.Histories words.Empty listed }) self.new result }
+    {
+        search_laws();
+        let horizon = self.horizon;
+        let met = self.met;
+        if has_none(&self.ask, listed) {
+            self.pass(Part::Histories, met);
+            Event::NoHistory { horizon }
+        } else {
+            Event::Ended(Ending::Complete { horizon, listed })
+        }
+    }
+
+    // What is said of a horizon that has no path to be found.
+    fn exhaust(&mut self, part: Part, listed: u32) -> Event
+        requires low { self.old.horizon ≤ last_at self.old.query self.old.ask.after }
+        requires over { self.old.phase ≡ phases.Ended }
+        ensures { Gives (record self.old { phase = phases.Closed part words.Empty listed }) self.new result }
+    {
+        search_laws();
+        let horizon = self.horizon;
+        let met = self.met;
+        match part {
+            Part::Histories => self.complete(listed),
+            Part::Conditions => {
+                self.pass(Part::Conditions, met);
+                Event::NoConditions { horizon }
+            }
+            Part::Claim => {
+                self.pass(Part::Conditions, true);
+                Event::Holds { horizon }
+            }
+        }
+    }
+
+    // What comes behind an end line that says that a row was found.
+    fn stop(&mut self, part: Part, listed: u32) -> Result<Event, Fault>
+        requires low { self.old.horizon ≤ last_at self.old.query self.old.ask.after }
+        requires over { self.old.phase ≡ phases.Ended }
+        ensures gives { IfOk result (Gives (record self.old { phase = phases.Closed part words.Found listed }) self.new) }
+        ensures fault { IfErr result (IsRightFault (record self.old { phase = phases.Closed part words.Found listed })) }
+    {
+        search_laws();
+        let horizon = self.horizon;
+        match part {
+            Part::Histories => Ok(Event::Ended(Ending::Asked { horizon, listed })),
+            Part::Conditions => self.open(Part::Claim),
+            Part::Claim => {
+                self.stand(Phase::Failing);
+                Ok(Event::Counterexample { horizon })
+            }
+        }
+    }
+
+    // What comes behind an end line.
+    fn conclude(&mut self, part: Part, word: EndWord, listed: u32) -> Result<Event, Fault>
+        requires low { self.old.horizon ≤ last_at self.old.query self.old.ask.after }
+        requires over { self.old.phase ≡ phases.Ended }
+        ensures gives { IfOk result (Gives (record self.old { phase = phases.Closed part word listed }) self.new) }
+        ensures fault { IfErr result (IsRightFault (record self.old { phase = phases.Closed part word listed })) }
+    {
+        search_laws();
+        let horizon = self.horizon;
+        match word {
+            EndWord::Empty => Ok(self.exhaust(part, listed)),
+            EndWord::Found => self.stop(part, listed),
+            EndWord::Spent => Ok(Event::Ended(Ending::Spent { horizon, listed })),
+        }
+    }
+
+    // What was to come next.
+    fn take(&mut self) -> Phase
+        ensures taken { result ≡ self.old.phase }
+        ensures left { self.new ≡ record self.old { phase = phases.Ended } }
+        ensures ready { IsReady self.old.ask self.old.horizon (last_at self.old.query self.old.ask.after) result }
+    {
+        mem::replace(&mut self.phase, Phase::Ended)
+    }
+
+    // The next event.
+    fn step(&mut self) -> Result<Event, Fault>
+        requires { HasMore self.old }
+        ensures gives { IfOk result (Gives self.old self.new) }
+        ensures fault { IfErr result (IsRightFault self.old) }
+    {
+        search_laws();
+        let _ = &self.alloc;
+        match self.take() {
+            Phase::Opening { part } => self.begin(part),
+            Phase::Searching {
+                part,
+                solver,
+                listed,
+            } => self.search(part, solver, listed),
+            Phase::Denying { solver, listed } => self.deny(solver, listed),
+            Phase::Refuted { part, listed } => Ok(self.close(part, EndWord::Empty, listed)),
+            Phase::Closed { part, word, listed } => self.conclude(part, word, listed),
+            Phase::Failing => Ok(Event::Ended(Ending::ClaimFails)),
+            Phase::Ended => unreachable!(),
+        }
+    }
+
+    /// The next event. Where it is a history or a counterexample, `row` has its row. Refuses the first limit that the rules or
+    /// clauses of a section pass when it opens (14, rules, variables, axiom clauses or axiom literals), and a history past the
+    /// 100,000,000 that may be told at a horizon (14, histories). After an error, as after the ending, nothing more is told.
+    pub fn next(&mut self) -> Result<Event, Fault>
+        requires { HasMore self.old }
+        ensures event { (d : Description) (q : Query) (given : List Told) → IsSessionOf self.old d q → After d q self.old given → IfOk result (λ event. After d q self.new (given ++ with_row event self.new.row ∷ []) × IsSessionOf self.new d q) }
+        ensures refused { IfErr result (IsRightFault self.old) }
+        ensures opened { IfOk result (OpensWithin self.old) }
+        ensures same { OnOk result (IsSame self.old self.new) }
+        ensures more { IfOk result (λ event. ((ending : EndingSeen) → event ≢ events.Ended ending) → HasMore self.new) }
+    {
+        self.step()
+    }
+}
