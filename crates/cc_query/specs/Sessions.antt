@@ -22,6 +22,7 @@ use Rattle.cc_defs.specs.ClauseLists.{clause_list}
 use Rattle.cc_defs.specs.Description.{Description, sizes_at}
 use Rattle.cc_defs.specs.GroundLaws.{PlainGroundQuery, StandsForQuery}
 use Rattle.cc_defs.specs.Histories.{AreFirst}
+use Rattle.cc_defs.specs.LogTexts.{IsFormed}
 use Rattle.cc_defs.specs.Refusals.{past}
 use Rattle.cc_defs.specs.Resolved.{Query}
 use Rattle.cc_defs.specs.Rows.{IsRow}
@@ -235,6 +236,16 @@ IsRightFault session (faults.Refused refusal) =
 abbrev pub OpensWithin : SessionView → Event → Type 0
 OpensWithin session event = (d : Description) (q : Query) → IsSessionOf session d q → (conditions : Bool) (horizon : ℕ) →
     event ≡ events.Log (lines.Section conditions horizon) → opening_refusal d q session.ask horizon conditions ≡ None
+
+-- the numbers of a line of the log that is told have at most nine digits, and its chain has a pivot between each two clauses
+abbrev pub IsShortEvent : Event → Type 0
+IsShortEvent (events.Log line) = IsFormed line
+IsShortEvent (events.NoHistory horizon) = Unit {0}
+IsShortEvent (events.History horizon number) = Unit {0}
+IsShortEvent (events.NoConditions horizon) = Unit {0}
+IsShortEvent (events.Holds horizon) = Unit {0}
+IsShortEvent (events.Counterexample horizon) = Unit {0}
+IsShortEvent (events.Ended ending) = Unit {0}
 
 -- the ending behind the last horizon
 abbrev pub ending_behind : (met : Bool) → Part → Ending

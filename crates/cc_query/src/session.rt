@@ -20,7 +20,8 @@ ghost use Rattle.cc_query.specs.Parts.{axioms_at, is_conditions};
 ghost use Rattle.cc_defs.specs.declared.event.Ending.{Ending as EndingSeen};
 ghost use Rattle.cc_defs.specs.Sections.{HasNoEmpty};
 ghost use Rattle.cc_query.specs.declared.phase.Phase.{Phase as PhaseSeen};
-ghost use Rattle.cc_query.specs.Sessions.{After, Fits, Gives, HasFound, HasMore, Holds, IsBlocked, IsReady, IsRightFault, IsSame, IsSessionOf, IsWithin, OpensWithin, RowsAreHistories, SessionView, Tells, ending_behind, first_at, last_at, opening_refusal, opens_at, with_row};
+ghost use Rattle.cc_query.specs.Lefts.{left_of};
+ghost use Rattle.cc_query.specs.Sessions.{After, Fits, Gives, HasFound, HasMore, Holds, IsBlocked, IsReady, IsRightFault, IsSame, IsSessionOf, IsShortEvent, IsWithin, OpensWithin, RowsAreHistories, SessionView, Tells, ending_behind, first_at, last_at, opening_refusal, opens_at, with_row};
 ghost use Rattle.cc_query.specs.declared.phase.Part.TheVariants as parts;
 ghost use Rattle.cc_query.specs.declared.phase.Phase.TheVariants as phases;
 ghost use Rattle.cc_theory.specs.Theories.{AreLawsFor};
@@ -600,6 +601,8 @@ impl<'a> Session<'a> {
         ensures opened { IfOk result (OpensWithin self.old) }
         ensures same { OnOk result (IsSame self.old self.new) }
         ensures more { IfOk result (λ event. ((ending : EndingSeen) → event ≢ events.Ended ending) → HasMore self.new) }
+        ensures less { OnOk result (left_of self.new < left_of self.old) }
+        ensures short { IfOk result IsShortEvent }
     {
         self.step()
     }

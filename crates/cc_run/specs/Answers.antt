@@ -1,23 +1,32 @@
 -- What a run may leave behind.
-use Rattle.std.specs.Prelude.{◌≡◌, ℕ, ◌+◌, ◌≤◌, ◌⊎◌, List, [], ◌∷◌, ◌++◌, Option, Some, codes, if◌then◌else◌, ◌==◌}
+use Rattle.std.specs.Prelude.{◌≡◌, ℕ, ◌+◌, ◌≤◌, ◌⊎◌, Bool, true, false, not, List, [], ◌∷◌, ◌++◌, Option, Some, None, is_some, IsNone, codes, if◌then◌else◌, ◌==◌}
 use Rattle.cc_defs.specs.declared.event.Ending.{Ending}
 use Rattle.cc_defs.specs.declared.event.Ending.TheVariants as endings
+use Rattle.cc_defs.specs.declared.event.Told.{Told}
+use Rattle.cc_defs.specs.declared.log.EndWord.TheVariants as words
+use Rattle.cc_defs.specs.declared.refusal.LimitAt.TheVariants as limits
 use Rattle.cc_defs.specs.declared.refusal.Refusal.{Refusal}
-use Rattle.cc_defs.specs.Events.{out_text}
-use Rattle.cc_run.specs.Listings.{Listing, IsFairListing, events_of}
+use Rattle.cc_defs.specs.Events.{out_text, log_of}
+use Rattle.cc_defs.specs.Histories.{AreFirst}
+use Rattle.cc_defs.specs.Refusals.{past}
+use Rattle.cc_defs.specs.Runs.{Horizon, Histories, Conditions, Claim, Failure, Run, EndsWith, IsFairRun, Section, events_of, first_horizon, horizon_at, key_row, last_horizon, rows_of}
+use Rattle.cc_describe.specs.Places.{Files}
 use Rattle.cc_ports.specs.Contents.{Contents, IsPrefix, Rose}
 use Rattle.cc_print.specs.Refusals.{refusal_line}
+use Rattle.cc_query.specs.Sessions.{opening_refusal}
 use Rattle.cc_run.specs.declared.status.Status.{Status}
 use Rattle.cc_run.specs.declared.status.Status.TheVariants as statuses
-use Rattle.cc_run.specs.Lister.{ask_all}
-use Rattle.cc_run.specs.Reading.{Refuses, Lists}
-use Rattle.cc_run.specs.Small.{Small, description_of, states_query}
+use Rattle.cc_run.specs.Tasks.{Named, RefusesNamed, Task, IsTask, named_by, refusal_without_place, request_of}
+use Rattle.cc_words.specs.Requests.{Listing, Request, ToList, ToCheck, ToMake}
+use Rattle.cc_words.specs.Words.{Text}
+
+-- ---- the lines of Err
 
 abbrev pub usage_line : List ℕ
 usage_line = codes "usage: ccalc [--mode list|check|make] [--query LABEL] [--count N] [--budget B] [--after KEY] [--log NAME] [--size N] [FILE]" ++ 10 ∷ []
 
 -- A refusal is told by its line; that of the words by a second one too.
-abbrev pub refusal_text : Refusal → List ℕ → List ℕ
+abbrev pub refusal_text : Refusal → Text → List ℕ
 refusal_text refusal file = refusal_line refusal file ++ (if refusal.number == 1 then usage_line else [])
 
 abbrev pub read_fault_line : List ℕ
@@ -29,11 +38,48 @@ write_fault_line = codes "ccalc: write fault" ++ 10 ∷ []
 abbrev pub memory_line : List ℕ
 memory_line = codes "ccalc: out of memory" ++ 10 ∷ []
 
--- what a run is to print, and how it is to end
-pub record Plan : Type 0 where
+-- ---- how a run is to end
+
+-- what is given to the three outputs
+pub record Given : Type 0 where
   pub out : List ℕ
   pub err : List ℕ
+  pub log : List ℕ
+
+abbrev pub nothing : Given
+nothing = record { out = []; err = []; log = [] }
+
+abbrev pub only_err : List ℕ → Given
+only_err text = record nothing { err = text }
+
+-- a front of each of them
+pub record AreFronts (given whole : Given) : Type 0 where
+  pub out : IsPrefix given.out whole.out
+  pub err : IsPrefix given.err whole.err
+  pub log : IsPrefix given.log whole.log
+
+-- what a run is to give, whether it is to begin a log, and how it is to end
+pub record Plan : Type 0 where
+  pub given : Given
+  pub begun : Bool
   pub status : Status
+
+-- The refusal of a run, with the name of the file that it speaks of: that of the words, then that of what they name.
+-- Words that ask to check a log, or for a made description, are not taken yet.
+abbrev pub RefusesRequest : Files → Option Request → Refusal → Text → Type 0
+RefusesRequest files None refusal file = (refusal ≡ refusal_without_place 1) × (file ≡ [])
+RefusesRequest files (Some (ToList listing)) refusal file = RefusesNamed files (named_by listing) refusal file
+RefusesRequest files (Some (ToCheck checking)) refusal file = (refusal ≡ refusal_without_place 1) × (file ≡ [])
+RefusesRequest files (Some (ToMake size budget)) refusal file = (refusal ≡ refusal_without_place 1) × (file ≡ [])
+
+-- the run is refused before it begins, and prints just that
+pub record RefusedPlan (files : Files) (words : List Text) (plan : Plan) : Type 0 where
+  pub refusal : Refusal
+  pub file : Text
+  pub refused : RefusesRequest files (request_of words) refusal file
+  pub given : plan.given ≡ only_err (refusal_text refusal file)
+  pub begun : plan.begun ≡ false
+  pub status : plan.status ≡ statuses.Refused
 
 abbrev pub status_of : Ending → Status
 status_of (endings.Complete horizon listed) = statuses.Right
@@ -44,54 +90,118 @@ status_of endings.ClaimHolds = statuses.Right
 status_of endings.ClaimEmpty = statuses.Right
 status_of endings.ClaimFails = statuses.Not
 
--- the run is refused, and prints just that
-pub record RefusedPlan (files : List ℕ → Option (List ℕ)) (words : List (List ℕ)) (plan : Plan) : Type 0 where
-  pub refusal : Refusal
-  pub name : List ℕ
-  pub refused : Refuses files words refusal name
-  pub out : plan.out ≡ []
-  pub err : plan.err ≡ refusal_text refusal name
-  pub status : plan.status ≡ statuses.Refused
+-- the events of a run of a task
+abbrev pub told_by : Task → Run → List Told
+told_by task run = events_of (first_horizon task.query task.ask.after) run
 
--- The run lists: a fair listing of the query for the states that has ended, and nothing else.
-pub record ListedPlan (files : List ℕ → Option (List ℕ)) (words : List (List ℕ)) (plan : Plan) : Type 0 where
-  pub small : Small
-  pub lists : Lists files words small
+-- ---- limits at a horizon
+
+-- the horizon that a run is at
+abbrev pub horizon_of : Task → Run → ℕ
+horizon_of task run = horizon_at (first_horizon task.query task.ask.after) run
+
+-- The section that a run is to open next: the first of a horizon of the range, or that of a claim behind its conditions.
+abbrev pub OpensNext : Task → Run → (conditions : Bool) → Option Horizon → Type 0
+OpensNext task run conditions None =
+    (conditions ≡ is_some task.query.claim) × (horizon_of task run ≤ last_horizon task.query task.ask.after)
+OpensNext task run conditions (Some (Conditions section)) = (conditions ≡ false) × EndsWith words.Found section
+OpensNext task run conditions (Some (Histories section)) = ⊥
+OpensNext task run conditions (Some (Claim before claim)) = ⊥
+OpensNext task run conditions (Some (Failure before claim row)) = ⊥
+
+-- the limit that the rules, the variables or the clauses of this section pass first
+pub record PassesOpening (task : Task) (run : Run) (refusal : Refusal) : Type 0 where
+  pub conditions : Bool
+  pub opens : OpensNext task run conditions run.next
+  pub passed : opening_refusal task.description task.query task.ask (horizon_of task run) conditions ≡ Some refusal
+
+-- so many histories were told at a horizon as its limit says, and there is one more
+pub record PassesHistories (task : Task) (run : Run) (refusal : Refusal) : Type 0 where
+  pub section : Section
+  pub next : run.next ≡ Some (Histories section)
+  pub told : List (List ℕ)
+  pub told_is : rows_of section ≡ told
+  pub many : length told ≡ 100000000
+  pub further : List ℕ
+  pub first : AreFirst task.description task.query (horizon_of task run) (key_row task.ask) (told ++ further ∷ [])
+  pub refused : refusal ≡ past limits.Histories
+
+abbrev pub PassesLimit : Task → Run → Refusal → Type 0
+PassesLimit task run refusal = PassesOpening task run refusal ⊎ PassesHistories task run refusal
+
+-- ---- listings
+
+-- a run of the search: it tells the truth, and this is what it tells and how it ends, or the limit that it passes
+pub record IsTold (task : Task) (run : Run) (given : Given) (status : Status) : Type 0 where
+  pub fair : IsFairRun task.description task.query task.ask run
+  pub out : given.out ≡ out_text task.description (told_by task run)
+  pub log : given.log ≡ log_of (told_by task run)
+  pub ends : ((ending : Ending) × (run.ending ≡ Some ending) × (given.err ≡ []) × (status ≡ status_of ending))
+             ⊎ ((refusal : Refusal) × IsNone run.ending × PassesLimit task run refusal × (given.err ≡ refusal_text refusal [])
+             × (status ≡ statuses.Refused))
+
+-- The first so many histories of a query, within a budget, after a key.
+pub record Lists (files : Files) (words : List Text) (begun : Bool) (task : Task) : Type 0 where
   pub listing : Listing
-  pub fair : IsFairListing (description_of small) states_query ask_all listing
-  pub ending : Ending
-  pub ended : listing.ending ≡ Some ending
-  pub out : plan.out ≡ out_text (description_of small) (events_of 0 listing)
-  pub err : plan.err ≡ []
-  pub status : plan.status ≡ status_of ending
+  pub asked : request_of words ≡ Some (ToList listing)
+  pub is : IsTask files (named_by listing) task
+  pub count : task.ask.count ≡ listing.count
+  pub budget : task.ask.budget ≡ listing.budget
+  pub begun_is : begun ≡ is_some listing.log
 
-abbrev pub IsPlan : (List ℕ → Option (List ℕ)) → List (List ℕ) → Plan → Type 0
+pub record ListedPlan (files : Files) (words : List Text) (plan : Plan) : Type 0 where
+  pub task : Task
+  pub lists : Lists files words plan.begun task
+  pub run : Run
+  pub told : IsTold task run plan.given plan.status
+
+-- a run is refused, or it lists
+abbrev pub IsPlan : Files → List Text → Plan → Type 0
 IsPlan files words plan = RefusedPlan files words plan ⊎ ListedPlan files words plan
 
--- The run came to its end: it printed what it was to print.
-pub record Ended (files : List ℕ → Option (List ℕ)) (words : List (List ℕ)) (status : Status) (out err : List ℕ) : Type 0 where
+-- ---- what is left
+
+-- what was given to the outputs of a run, and whether it began a log
+pub record Left : Type 0 where
+  pub given : Given
+  pub begun : Bool
+
+-- The run came to its end: it gave what it was to give.
+pub record Ended (files : Files) (words : List Text) (status : Status) (left : Left) : Type 0 where
   pub plan : Plan
   pub planned : IsPlan files words plan
-  pub out_whole : out ≡ plan.out
-  pub err_whole : err ≡ plan.err
+  pub given : left.given ≡ plan.given
+  pub begun : left.begun ≡ plan.begun
   pub status_planned : status ≡ plan.status
 
--- What was printed is a front of what was to be printed.
-pub record IsFront (files : List ℕ → Option (List ℕ)) (words : List (List ℕ)) (out err : List ℕ) : Type 0 where
+-- A front of a refusal was given.
+pub record BeganRefusal (files : Files) (words : List Text) (left : Left) : Type 0 where
   pub plan : Plan
-  pub planned : IsPlan files words plan
-  pub out_front : IsPrefix out plan.out
-  pub err_front : IsPrefix err plan.err
+  pub planned : RefusedPlan files words plan
+  pub fronts : AreFronts left.given plan.given
+  pub begun : left.begun ≡ plan.begun
 
--- what was printed before the run stopped: nothing, where it stopped before that was known
-abbrev pub PrintedSoFar : (List ℕ → Option (List ℕ)) → List (List ℕ) → List ℕ → List ℕ → Type 0
-PrintedSoFar files words out err = ((out ≡ []) × (err ≡ [])) ⊎ IsFront files words out err
+-- A front of what a search tells was given; of Err something only where a limit was passed.
+pub record BeganListing (files : Files) (words : List Text) (left : Left) : Type 0 where
+  pub task : Task
+  pub lists : Lists files words left.begun task
+  pub run : Run
+  pub fair : IsFairRun task.description task.query task.ask run
+  pub out : IsPrefix left.given.out (out_text task.description (told_by task run))
+  pub log : IsPrefix left.given.log (log_of (told_by task run))
+  pub err : (left.given.err ≡ []) ⊎ ((refusal : Refusal) × PassesLimit task run refusal × IsPrefix left.given.err (refusal_text refusal []))
 
--- The run was cut short: behind what was printed stands this much of a fault's line.
-pub record CutShort (files : List ℕ → Option (List ℕ)) (words : List (List ℕ)) (out err line : List ℕ) : Type 0 where
-  pub front : List ℕ
-  pub printed : PrintedSoFar files words out front
-  pub behind : err ≡ front ++ line
+-- what was given before a run stopped: nothing, where it stopped before it had anything to give
+abbrev pub GaveSoFar : Files → List Text → Left → Type 0
+GaveSoFar files words left =
+    ((left.given ≡ nothing) × (left.begun ≡ false)) ⊎ (BeganRefusal files words left ⊎ BeganListing files words left)
+
+-- The run was cut short: behind what was given to Err stands this much of a fault's line.
+pub record CutShort (files : Files) (words : List Text) (left : Left) (line : List ℕ) : Type 0 where
+  pub before : Left
+  pub gave : GaveSoFar files words before
+  pub given : left.given ≡ record before.given { err = before.given.err ++ line }
+  pub begun : left.begun ≡ before.begun
 
 -- a count rose by two or more, or stands at the greatest u64
 abbrev pub RoseTwice : ℕ → ℕ → Type 0
@@ -125,20 +235,19 @@ IsFaultLine statuses.Refused counts line = ⊥
 IsFaultLine statuses.Spent counts line = ⊥
 IsFaultLine statuses.Asked counts line = ⊥
 
-abbrev pub CutShortBy : (List ℕ → Option (List ℕ)) → List (List ℕ) → Status → Counts → List ℕ → List ℕ → Type 0
-CutShortBy files words status counts out err = (line : List ℕ) × IsFaultLine status counts line × CutShort files words out err line
+abbrev pub CutShortBy : Files → List Text → Status → Counts → Left → Type 0
+CutShortBy files words status counts left = (line : List ℕ) × IsFaultLine status counts line × CutShort files words left line
 
 -- the answer of a run, by its status
-abbrev pub Answers : (List ℕ → Option (List ℕ)) → List (List ℕ) → Status → Counts → List ℕ → List ℕ → Type 0
-Answers files words statuses.Right counts out err = Ended files words statuses.Right out err
-Answers files words statuses.Not counts out err = Ended files words statuses.Not out err
-Answers files words statuses.Refused counts out err = Ended files words statuses.Refused out err
-Answers files words statuses.ReadFault counts out err = CutShortBy files words statuses.ReadFault counts out err
-Answers files words statuses.WriteFault counts out err = CutShortBy files words statuses.WriteFault counts out err
-Answers files words statuses.OutOfMemory counts out err = CutShortBy files words statuses.OutOfMemory counts out err
--- no search is asked for, so none is spent and no number is reached
-Answers files words statuses.Spent counts out err = ⊥
-Answers files words statuses.Asked counts out err = ⊥
+abbrev pub Answers : Files → List Text → Status → Counts → Left → Type 0
+Answers files words statuses.Right counts left = Ended files words statuses.Right left
+Answers files words statuses.Not counts left = Ended files words statuses.Not left
+Answers files words statuses.Refused counts left = Ended files words statuses.Refused left
+Answers files words statuses.Spent counts left = Ended files words statuses.Spent left
+Answers files words statuses.Asked counts left = Ended files words statuses.Asked left
+Answers files words statuses.ReadFault counts left = CutShortBy files words statuses.ReadFault counts left
+Answers files words statuses.WriteFault counts left = CutShortBy files words statuses.WriteFault counts left
+Answers files words statuses.OutOfMemory counts left = CutShortBy files words statuses.OutOfMemory counts left
 
 -- nothing was written yet
 pub record IsFresh (contents : Contents) : Type 0 where
@@ -146,9 +255,11 @@ pub record IsFresh (contents : Contents) : Type 0 where
   pub err : contents.err ≡ []
   pub log : contents.log ≡ []
 
--- What a run leaves on a desk that tells its contents: the files are as before, nothing is in the log, and the two
--- outputs and the status are the answer to the words.
-pub record Answered (before after : Contents) (words : List (List ℕ)) (status : Status) (counts : Counts) : Type 0 where
+abbrev pub left_in : Contents → Bool → Left
+left_in contents begun = record { given = record { out = contents.out; err = contents.err; log = contents.log }; begun = begun }
+
+-- What a run leaves on a desk that tells its contents: the files are as before, and the three outputs, whether a log was begun,
+-- and the status are the answer to the words.
+pub record Answered (before after : Contents) (begun : Bool) (words : List Text) (status : Status) (counts : Counts) : Type 0 where
   pub files : after.files ≡ before.files
-  pub log : after.log ≡ []
-  pub answer : Answers before.files words status counts after.out after.err
+  pub answer : Answers before.files words status counts (left_in after begun)

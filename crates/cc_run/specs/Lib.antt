@@ -1,15 +1,5 @@
 pub mod Answers
+pub mod Asking
 pub mod Codes
-pub mod Laws
-pub mod Lister
-pub mod ListerViews
-pub mod Listings
-pub mod Parser
-pub mod Pieces
-pub mod Printing
-pub mod ReaderViews
-pub mod Reading
-pub mod Scanner
-pub mod Small
-pub mod SmallViews
 pub mod Stops
+pub mod Tasks

@@ -1,13 +1,26 @@
--- Why a run stops before its end, and what each step of a run prints.
-use Rattle.std.specs.Prelude.{◌≡◌, ℕ, ◌⊎◌, ◌≤◌, Bool, List, ◌++◌, Option, option_map, Result, MatchResult, IfSome, IfOk, IsSomeAnd, IsErrOf}
-use Rattle.cc_ports.specs.Contents.{Contents, appended, IsPrefix, Rose}
+-- Why a run stops before its end, and what each step of a run gives.
+use Rattle.std.specs.Prelude.{◌≡◌, ℕ, ◌⊎◌, ◌≤◌, Bool, true, false, List, [], ◌∷◌, ◌++◌, flat_map, Option, Some, None, option_map, is_some, Result, MatchResult, IfSome, IfOk, IfErr, IsSomeAnd, IsErrOf, ◌||◌}
+use Rattle.cc_defs.specs.declared.event.Event.{Event}
+use Rattle.cc_defs.specs.declared.event.Event.TheVariants as events
+use Rattle.cc_defs.specs.declared.event.Told.{Told}
+use Rattle.cc_defs.specs.Conditions.{IsSignatureOfDescription}
+use Rattle.cc_defs.specs.Description.{Description, sizes_at}
+use Rattle.cc_defs.specs.Events.{line_told, out_text, log_of}
+use Rattle.cc_defs.specs.LogTexts.{line_text}
+use Rattle.cc_defs.specs.Rows.{IsRow}
+use Rattle.cc_defs.specs.Runs.{IsFairRun, Run}
+use Rattle.cc_defs.specs.Signatures.{Signature}
+use Rattle.cc_ports.specs.Contents.{Contents, IsPrefix, Rose}
 use Rattle.cc_ports.specs.declared.desk.To.{To}
 use Rattle.cc_ports.specs.declared.desk.To.TheVariants as outputs
 use Rattle.cc_run.specs.declared.status.Status.{Status}
 use Rattle.cc_run.specs.declared.status.Status.TheVariants as statuses
 use Rattle.cc_run.specs.declared.status.Stop.{Stop}
 use Rattle.cc_run.specs.declared.status.Stop.TheVariants as stops
-use Rattle.cc_run.specs.Answers.{read_fault_line, write_fault_line, memory_line, Ended, PrintedSoFar}
+use Rattle.cc_run.specs.Answers.{Given, AreFronts, IsFresh, IsTold, PassesLimit, Ended, GaveSoFar, left_in, memory_line, nothing, read_fault_line, refusal_text, told_by, write_fault_line}
+use Rattle.cc_run.specs.Tasks.{Task}
+use Rattle.cc_defs.specs.declared.refusal.Refusal.{Refusal}
+use Rattle.cc_words.specs.Requests.{Request, ToList, ToCheck, ToMake}
 
 -- what is known of a desk at a moment
 pub record Moment : Type 0 where
@@ -19,16 +32,69 @@ pub record Moment : Type 0 where
 abbrev pub moment : {D : Type 0} → (D → Option Contents) → (D → Bool) → (D → ℕ) → (D → ℕ) → D → Moment
 moment told begun reads writes desk = record { told = told desk; begun = begun desk; reads = reads desk; writes = writes desk }
 
--- A step that gives a text to an output: all of it, or a front of it where it stops; and the cause of a stop.
-pub record Step {X : Type 0} (to : To) (text : List ℕ) (old new : Moment) (result : Result X Stop) : Type 0 where
-  pub given : List ℕ
-  pub told : new.told ≡ option_map (appended to given) old.told
-  pub how : MatchResult result (λ _. given ≡ text) (λ _. IsPrefix given text)
+-- ---- steps that give something
+
+abbrev pub adding : Given → Contents → Contents
+adding given c = record c { out = c.out ++ given.out; err = c.err ++ given.err; log = c.log ++ given.log }
+
+-- bytes for one output
+abbrev pub given_to : To → List ℕ → Given
+given_to outputs.Out bytes = record nothing { out = bytes }
+given_to outputs.Err bytes = record nothing { err = bytes }
+given_to outputs.Log bytes = record nothing { log = bytes }
+
+-- what moves on: nothing but outputs changes, the counts do not fall, and a stop has its cause
+pub record Moves {X : Type 0} (given : Given) (old new : Moment) (result : Result X Stop) : Type 0 where
+  pub told : new.told ≡ option_map (adding given) old.told
   pub begun : new.begun ≡ old.begun
   pub reads : old.reads ≤ new.reads
   pub writes : old.writes ≤ new.writes
   pub no_read_fault : IsErrOf result stops.ReadFault → ⊥
   pub write_fault : IsErrOf result stops.WriteFault → Rose old.writes new.writes
+
+-- A step that gives texts: all of them, or fronts of them where it stops.
+pub record Step {X : Type 0} (whole : Given) (old new : Moment) (result : Result X Stop) : Type 0 where
+  pub given : Given
+  pub moves : Moves given old new result
+  pub how : MatchResult result (λ _. given ≡ whole) (λ _. AreFronts given whole)
+
+-- ---- events
+
+-- the lines of a log that events make, without the header
+abbrev pub lines_text : List Told → List ℕ
+lines_text told = flat_map line_text (flat_map (λ one. line_told one.event) told)
+
+-- what events give
+abbrev pub texts_of : Description → List Told → Given
+texts_of d told = record { out = out_text d told; err = []; log = lines_text told }
+
+-- the row of a history or a counterexample is one of its horizon
+abbrev pub IsRowOfEvent : Signature → Event → List ℕ → Type 0
+IsRowOfEvent signature (events.History horizon number) row = (d : Description) → IsSignatureOfDescription d signature → IsRow (sizes_at d horizon) row
+IsRowOfEvent signature (events.Counterexample horizon) row = (d : Description) → IsSignatureOfDescription d signature → IsRow (sizes_at d horizon) row
+IsRowOfEvent signature (events.Log line) row = Unit {0}
+IsRowOfEvent signature (events.NoHistory horizon) row = Unit {0}
+IsRowOfEvent signature (events.NoConditions horizon) row = Unit {0}
+IsRowOfEvent signature (events.Holds horizon) row = Unit {0}
+IsRowOfEvent signature (events.Ended ending) row = Unit {0}
+
+-- what a search gives is a front of what it tells
+pub record IsTelling (task : Task) (run : Run) (given : Given) : Type 0 where
+  pub fair : IsFairRun task.description task.query task.ask run
+  pub out : IsPrefix given.out (out_text task.description (told_by task run))
+  pub log : IsPrefix given.log (log_of (told_by task run))
+  pub err : (given.err ≡ []) ⊎ ((refusal : Refusal) × PassesLimit task run refusal × IsPrefix given.err (refusal_text refusal []))
+
+abbrev pub behind : (head : List ℕ) → Given → Given
+behind head given = record given { log = head ++ given.log }
+
+-- A search whose log has this head already: it tells a run up to its ending or to a limit, or it stops within.
+pub record Searches (task : Task) (head : List ℕ) (old new : Moment) (result : Result Status Stop) : Type 0 where
+  pub given : Given
+  pub moves : Moves given old new result
+  pub how : MatchResult result (λ status. (run : Run) × IsTold task run (behind head given) status) (λ _. (run : Run) × IsTelling task run (behind head given))
+
+-- ---- stops
 
 -- the line of a stop, the status with it whole, and the status where it was cut
 abbrev pub stop_line : Stop → List ℕ
@@ -49,39 +115,51 @@ cut_status stops.OutOfMemory = statuses.OutOfMemory
 -- so much of the line of a stop was given, with this status
 pub record TellsStop (stop : Stop) (old new : Moment) (status : Status) : Type 0 where
   pub line : List ℕ
-  pub told : new.told ≡ option_map (appended outputs.Err line) old.told
+  pub told : new.told ≡ option_map (adding (given_to outputs.Err line)) old.told
   pub how : ((line ≡ stop_line stop) × (status ≡ stop_status stop)) ⊎ (IsPrefix line (stop_line stop) × (status ≡ cut_status stop) × Rose old.writes new.writes)
   pub begun : new.begun ≡ old.begun
   pub reads : old.reads ≤ new.reads
   pub writes : old.writes ≤ new.writes
+
+-- ---- a run up to its end, or to its stop
 
 -- a status with which a run comes to its end
 abbrev pub IsEndStatus : Status → Type 0
 IsEndStatus statuses.Right = Unit {0}
 IsEndStatus statuses.Not = Unit {0}
 IsEndStatus statuses.Refused = Unit {0}
-IsEndStatus statuses.Spent = ⊥
+IsEndStatus statuses.Spent = Unit {0}
+IsEndStatus statuses.Asked = Unit {0}
 IsEndStatus statuses.ReadFault = ⊥
 IsEndStatus statuses.WriteFault = ⊥
 IsEndStatus statuses.OutOfMemory = ⊥
-IsEndStatus statuses.Asked = ⊥
 
--- what a run adds to a desk's outputs, up to its end or to its stop
-pub record PrintsOver (words : List (List ℕ)) (before after : Contents) (result : Result Status Stop) : Type 0 where
-  pub out : List ℕ
-  pub err : List ℕ
+-- what is on the desk where a run ended or stopped
+pub record Leaves (words : List (List ℕ)) (before after : Contents) (begun : Bool) (result : Result Status Stop) : Type 0 where
   pub files : after.files ≡ before.files
-  pub out_is : after.out ≡ before.out ++ out
-  pub err_is : after.err ≡ before.err ++ err
-  pub log : after.log ≡ before.log
-  pub how : MatchResult result (λ status. Ended before.files words status out err) (λ _. PrintedSoFar before.files words out err)
+  pub how : MatchResult result (λ status. Ended before.files words status (left_in after begun)) (λ _. GaveSoFar before.files words (left_in after begun))
+
+-- whether a log is to be begun
+abbrev pub names_log : Option Request → Bool
+names_log (Some (ToList listing)) = is_some listing.log
+names_log (Some (ToCheck checking)) = false
+names_log (Some (ToMake size budget)) = false
+names_log None = false
 
 -- a run up to its end, or to its stop with its cause
-pub record Prints (words : List (List ℕ)) (old new : Moment) (result : Result Status Stop) : Type 0 where
-  pub told : IfSome old.told (λ before. IsSomeAnd new.told (λ after. PrintsOver words before after result))
+pub record Prints (words : List (List ℕ)) (begins : Bool) (old new : Moment) (result : Result Status Stop) : Type 0 where
+  pub told : IfSome old.told (λ before. IsFresh before → old.begun ≡ false → IsSomeAnd new.told (λ after. Leaves words before after new.begun result))
   pub ends : IfOk result IsEndStatus
-  pub begun : new.begun ≡ old.begun
+  pub begun : begins ≡ false → new.begun ≡ old.begun
   pub reads : old.reads ≤ new.reads
   pub writes : old.writes ≤ new.writes
   pub read_fault : IsErrOf result stops.ReadFault → Rose old.reads new.reads
   pub write_fault : IsErrOf result stops.WriteFault → Rose old.writes new.writes
+
+-- A log is begun, where one is named; on a desk on which nothing was written nothing is there afterwards.
+pub record Begins {X : Type 0} (named : Bool) (old new : Moment) (result : Result X Stop) : Type 0 where
+  pub told : IfSome old.told (λ before. IsFresh before → new.told ≡ Some before)
+  pub begun : MatchResult result (λ _. new.begun ≡ (named || old.begun)) (λ _. new.begun ≡ old.begun)
+  pub failed : IfErr result (λ stop. (stop ≡ stops.WriteFault) × Rose old.writes new.writes × (named ≡ true))
+  pub reads : old.reads ≤ new.reads
+  pub writes : old.writes ≤ new.writes

@@ -1,37 +1,52 @@
 //! The top call.
-ghost use Rattle.std.specs.Prelude.{◌≡◌, ◌≢◌, ℕ, List, ◌≤◌, ◌<◌, ◌^◌, length, map, Some, None, IfSome, IsSomeAnd, string_bytes, option_copied};
+ghost use Rattle.std.specs.Prelude.{◌≡◌, ◌≢◌, ◌≤◌, List, false, map, Some, IfSome, IsSomeAnd, is_some, string_bytes};
+ghost use Rattle.cc_arena.specs.GroundViews.{plain_ground_query};
+ghost use Rattle.cc_asked.specs.Descriptions.{IsDescriptionOf};
+ghost use Rattle.cc_defs.specs.Description.{Description};
+ghost use Rattle.cc_defs.specs.Resolved.{Query};
+ghost use Rattle.cc_describe.specs.FirstRefusal as refusals;
+ghost use Rattle.cc_describe.specs.Describing.{Describes, SaysAll, AsksFormulas, HasForms};
 ghost use Rattle.cc_ports.specs.Contents.{Rose};
-ghost use Rattle.cc_defs.specs.Limits.{limit_number};
-ghost use Rattle.cc_defs.specs.declared.refusal.LimitAt.TheVariants.{FileBytes};
-ghost use Rattle.cc_run.specs.Answers.{IsFresh, Answered, Counts, counts};
-ghost use Rattle.cc_run.specs.Reading.{file_of as file_named, first_undeclared, refusal_without_place as refusal_of, too_long as longer};
-ghost use Rattle.cc_run.specs.Small.{IsSmall};
-ghost use Rattle.cc_run.specs.SmallViews.{small_view};
-ghost use Rattle.cc_run.specs.Stops.{Prints, moment};
+ghost use Rattle.cc_run.specs.Answers.{IsFresh, Answered, counts};
+ghost use Rattle.cc_run.specs.Asking.{AreOf, AreSearchable};
+ghost use Rattle.cc_run.specs.Stops.{Begins, Prints, moment, names_log};
+ghost use Rattle.cc_run.specs.Tasks.{IsTask, named_by, request_of};
+ghost use Rattle.cc_sorts.specs.Tables.{IsSignatureFor};
+ghost use Rattle.cc_words.specs.Requests.{Listing, ToList};
+ghost use Rattle.cc_words.specs.Views.{plain_request};
+ghost use Rattle.cc_words.specs.declared.asked.Asked.TheVariants as requests;
+ghost use Rattle.cc_words.specs.Words.{Text};
 
-use crate::lister::resolve;
+use crate::asking::{prepare, refusal_without_place, Prepared};
 use crate::listing::list;
 use crate::printing::{refuse, tell_stop};
-use crate::reader::read_small;
-use crate::small::Small;
 use crate::status::{Status, Stop};
-use cc_defs::{LimitAt, OutOfMemory, Refusal};
-use cc_ports::{Desk, Files, ReadStop, StillDesk, read_all};
+use bumpalo::Bump;
+use cc_arena::Terms;
+use cc_defs::{Fault, Name, Refusal};
+use cc_describe::{DescribeStop, Described, describe};
+use cc_ports::{Desk, Files, StillDesk};
+use cc_query::Ask;
+use cc_words::{Asked, ListAsked, read};
 use std::alloc::Global;
 
-/// Reads the words, which name a file; reads the file, which is of the small form; and lists its states.
+/// Reads the words, which name a file and a query of the description in it; and lists the histories of that query, or judges
+/// its claim, at the first of its horizons that has any.
 ///
-/// `words` are the program's words without its name. Each line of an output is given by one `give_all`. After a fault
-/// of the desk or want of memory one fixed line is given to Err, which takes no memory.
+/// `words` are the program's words without its name. Each line of an output is given by one `give_all`. The lines of the log
+/// are given to Log whether or not the words name a file for it. After a fault of the desk or want of memory one fixed line is
+/// given to Err, which takes no memory.
 pub fn run<D: Desk>(alloc: Global, words: &[String], desk: &mut D) -> Status
-    // Where the desk tells its contents and nothing was written yet, the files, the two outputs and the status are the
-    // answer to the words: the refusal; or the first histories of the query for the states, marked complete only where
-    // they are all of them, and `no history` only where there is none; or, after a fault, a front of either.
-    ensures answer { IfSome (D.told desk.old) (λ before. IsFresh before →
-        IsSomeAnd (D.told desk.new) (λ after. Answered before after (map string_bytes words.now) result
+    // Where the desk tells its contents, nothing was written yet and no log was begun, the files, the three outputs, whether a
+    // log was begun, and the status are the answer to the words: exactly the first refusal; or the first histories of the
+    // query, in ascending order, each once, marked complete only where they are all, and a horizon said to be empty only where
+    // it has none, with the log of the search; or, where a horizon passes a limit, that refusal behind what was told before; or,
+    // after a fault, fronts of these.
+    ensures answer { IfSome (D.told desk.old) (λ before. IsFresh before → D.begun desk.old ≡ false →
+        IsSomeAnd (D.told desk.new) (λ after. Answered before after (D.begun desk.new) (map string_bytes words.now) result
         (counts (D.read_faults desk.old) (D.read_faults desk.new) (D.write_faults desk.old) (D.write_faults desk.new)))) }
-    ensures no_log { D.begun desk.new ≡ D.begun desk.old }
-
+    // A log is begun only where the words name one.
+    ensures no_log { names_log (request_of (map string_bytes words.now)) ≡ false → D.begun desk.new ≡ D.begun desk.old }
     // A fault is answered only where the desk counted one.
     ensures read_fault { result ≡ Status.ReadFault → Rose (D.read_faults desk.old) (D.read_faults desk.new) }
     ensures write_fault { result ≡ Status.WriteFault → Rose (D.write_faults desk.old) (D.write_faults desk.new) }
@@ -44,97 +59,113 @@ pub fn run<D: Desk>(alloc: Global, words: &[String], desk: &mut D) -> Status
 
 /// The answer up to its end, or to where it stops.
 fn answer<D: Desk>(alloc: Global, words: &[String], desk: &mut D) -> Result<Status, Stop>
-    ensures { Prints (map string_bytes words.now) (moment D.told D.begun D.read_faults D.write_faults desk.old) (moment D.told D.begun D.read_faults D.write_faults desk.new) result }
+    ensures { Prints (map string_bytes words.now) (names_log (request_of (map string_bytes words.now))) (moment D.told D.begun D.read_faults D.write_faults desk.old) (moment D.told D.begun D.read_faults D.write_faults desk.new) result }
 {
-    match file_of(words) {
-        Some(name) => answer_file(alloc, desk, name),
-        None => refuse(alloc, desk, &refusal_without_place(1), ""),
+    match read(alloc, words)? {
+        Some(Asked::List(asked)) => answer_list(alloc, desk, &asked),
+        _ => refuse(alloc, desk, &refusal_without_place(1), ""),
     }
 }
 
-/// The file that the words name: there is one word, and it does not begin with `-`.
-fn file_of(words: &[String]) -> Option<&str>
-    ensures { option_copied result ≡ file_named (map string_bytes words.now) }
+/// The answer to words that ask for histories.
+fn answer_list<D: Desk>(
+    alloc: Global,
+    desk: &mut D,
+    asked: &ListAsked<'_>,
+) -> Result<Status, Stop>
+    requires count { IfSome asked.now.count (λ count. 1 ≤ count) }
+    requires budget { asked.now.budget ≤ 2000000 }
+    ensures { (words : List Text) → request_of words ≡ Some (plain_request (requests.List asked.now)) →
+        Prints words (is_some asked.now.log) (moment D.told D.begun D.read_faults D.write_faults desk.old) (moment D.told D.begun D.read_faults D.write_faults desk.new) result }
 {
-    let [word] = words else {
-        return None;
+    match describe(alloc, desk, asked.file) {
+        Ok(described) => list_described(alloc, desk, asked, &described),
+        Err(DescribeStop::Refused { refusal, file }) => refuse(alloc, desk, &refusal, file.text()),
+        Err(DescribeStop::ReadFault) => Err(Stop::ReadFault),
+        Err(DescribeStop::OutOfMemory) => Err(Stop::OutOfMemory),
+    }
+}
+
+/// The name of the file that a refusal speaks of; an empty one where it has no place.
+fn file_named<'n>(names: &'n [Name], refusal: &Refusal) -> &'n str
+    ensures { result.now ≡ refusals.file_named names.now refusal.now }
+{
+    if refusal.line == 0 {
+        return "";
+    }
+    match names.get(refusal.file as usize) {
+        Some(name) => name.text(),
+        None => "",
+    }
+}
+
+/// Lists the histories of a query of a description, where nothing of what is named is refused.
+fn list_described<D: Desk>(
+    alloc: Global,
+    desk: &mut D,
+    asked: &ListAsked<'_>,
+    described: &Described,
+) -> Result<Status, Stop>
+    requires count { IfSome asked.now.count (λ count. 1 ≤ count) }
+    requires budget { asked.now.budget ≤ 2000000 }
+    requires says { SaysAll described.now }
+    requires forms { HasForms described.now }
+    requires formulas { AsksFormulas described.now }
+    ensures { (words : List Text) → request_of words ≡ Some (plain_request (requests.List asked.now)) →
+        IfSome (D.told desk.old) (λ before. Describes before.files asked.now.file.now described.now) →
+        Prints words (is_some asked.now.log) (moment D.told D.begun D.read_faults D.write_faults desk.old) (moment D.told D.begun D.read_faults D.write_faults desk.new) result }
+{
+    let arena = Bump::new(alloc);
+    let terms = Terms::new(&arena);
+    match prepare(alloc, described, asked.query, asked.after, &terms) {
+        Ok(prepared) => list_prepared(alloc, desk, asked, described, prepared),
+        Err(Fault::Refused(refusal)) => {
+            let file = file_named(described.files.items(), &refusal);
+            refuse(alloc, desk, &refusal, file)
+        }
+        Err(Fault::OutOfMemory) => Err(Stop::OutOfMemory),
+    }
+}
+
+/// Begins a log where one is named.
+fn begin_log<D: Desk>(desk: &mut D, name: Option<&str>) -> Result<(), Stop>
+    ensures { Begins (is_some name) (moment D.told D.begun D.read_faults D.write_faults desk.old) (moment D.told D.begun D.read_faults D.write_faults desk.new) result }
+{
+    match name {
+        Some(name) => match desk.create_file(name) {
+            Ok(()) => Ok(()),
+            Err(_) => Err(Stop::WriteFault),
+        },
+        None => Ok(()),
+    }
+}
+
+/// Begins the log where one is named, and lists the histories.
+fn list_prepared<D: Desk>(
+    alloc: Global,
+    desk: &mut D,
+    asked: &ListAsked<'_>,
+    described: &Described,
+    prepared: Prepared<'_>,
+) -> Result<Status, Stop>
+    requires count { IfSome asked.now.count (λ count. 1 ≤ count) }
+    requires budget { asked.now.budget ≤ 2000000 }
+    requires signature { IsSignatureFor described.now.table described.now.sig }
+    requires searchable { AreSearchable described.now.sig prepared.laws (plain_ground_query prepared.query) prepared.key }
+    requires of { (d : Description) × (q : Query) × IsDescriptionOf described.now d × AreOf described.now.sig prepared.laws (plain_ground_query prepared.query) d q }
+    ensures { (words : List Text) (listing : Listing) (d : Description) (q : Query) → request_of words ≡ Some (ToList listing) →
+        plain_request (requests.List asked.now) ≡ ToList listing → IsDescriptionOf described.now d →
+        AreOf described.now.sig prepared.entry.laws (plain_ground_query prepared.entry.query) d q →
+        IfSome (D.told desk.old) (λ before. IsTask before.files (named_by listing) (record { description = d; query = q; ask = record { count = asked.now.count; budget = asked.now.budget; after = prepared.entry.key } })) →
+        Prints words (is_some asked.now.log) (moment D.told D.begun D.read_faults D.write_faults desk.old) (moment D.told D.begun D.read_faults D.write_faults desk.new) result }
+{
+    begin_log(desk, asked.log)?;
+    let ask = Ask {
+        count: asked.count,
+        budget: asked.budget,
+        after: prepared.key,
     };
-    match word.as_bytes() {
-        [b'-', ..] => None,
-        _ => Some(word.as_str()),
-    }
-}
-
-fn answer_file<D: Desk>(alloc: Global, desk: &mut D, name: &str) -> Result<Status, Stop>
-    ensures { (words : List (List ℕ)) → file_named words ≡ Some name.now →
-        Prints words (moment D.told D.begun D.read_faults D.write_faults desk.old) (moment D.told D.begun D.read_faults D.write_faults desk.new) result }
-{
-    let most = LimitAt::FileBytes.number() as usize;
-    match read_all(alloc, desk, name, most) {
-        Ok(bytes) => answer_text(alloc, desk, name, bytes.items()),
-        Err(ReadStop::Limit) => refuse(alloc, desk, &too_long(), name),
-        Err(ReadStop::Failed) => Err(Stop::ReadFault),
-        Err(ReadStop::OutOfMemory) => Err(Stop::OutOfMemory),
-    }
-}
-
-fn answer_text<D: Desk>(
-    alloc: Global,
-    desk: &mut D,
-    name: &str,
-    bytes: &[u8],
-) -> Result<Status, Stop>
-    requires { length bytes.now ≤ limit_number FileBytes }
-    ensures { (words : List (List ℕ)) → file_named words ≡ Some name.now →
-        IfSome (D.told desk.old) (λ before. before.files name.now ≡ Some bytes.now) →
-        Prints words (moment D.told D.begun D.read_faults D.write_faults desk.old) (moment D.told D.begun D.read_faults D.write_faults desk.new) result }
-{
-    match read_small(alloc, bytes) {
-        Ok(Some(small)) => answer_small(alloc, desk, name, &small),
-        Ok(None) => refuse(alloc, desk, &refusal_without_place(13), name),
-        Err(OutOfMemory) => Err(Stop::OutOfMemory),
-    }
-}
-
-fn answer_small<D: Desk>(
-    alloc: Global,
-    desk: &mut D,
-    name: &str,
-    small: &Small<'_>,
-) -> Result<Status, Stop>
-    requires { length small.now.names.items ≤ 12 }
-    ensures { (words : List (List ℕ)) (bytes : List ℕ) → file_named words ≡ Some name.now →
-        length bytes ≤ limit_number FileBytes → IsSmall bytes (small_view small.now) →
-        IfSome (D.told desk.old) (λ before. before.files name.now ≡ Some bytes) →
-        Prints words (moment D.told D.begun D.read_faults D.write_faults desk.old) (moment D.told D.begun D.read_faults D.write_faults desk.new) result }
-{
-    match resolve(alloc, small) {
-        Ok(Ok(rules)) => list(alloc, desk, small, &rules),
-        Ok(Err(refusal)) => refuse(alloc, desk, &refusal, name),
-        Err(OutOfMemory) => Err(Stop::OutOfMemory),
-    }
-}
-
-fn refusal_without_place(number: u8) -> Refusal
-    ensures { result ≡ refusal_of number }
-{
-    Refusal {
-        number,
-        file: 0,
-        line: 0,
-        limit: None,
-    }
-}
-
-fn too_long() -> Refusal
-    ensures { result ≡ longer }
-{
-    Refusal {
-        number: 14,
-        file: 0,
-        line: 1,
-        limit: Some(LimitAt::FileBytes),
-    }
+    list(alloc, desk, described, &prepared.laws, prepared.query, ask)
 }
 
 /// Runs over a desk that never fails: neither fault is answered, since its counts of faults stay 0.

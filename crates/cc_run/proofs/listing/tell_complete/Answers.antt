@@ -1,9 +1,0 @@
-use Rattle.cc_run.proofs.Steps.{step_again, step_done}
-use Rattle.cc_run.proofs.listing.tell_complete.Goals as goal
-
-pub returns-in_err-tell_event-clause-told : goal.returns-in_err-tell_event-clause-told
-returns-in_err-tell_event-clause-told g c =
-    step_again _ _ _ _ c.tell_event.result c.in_err-tell_event.field-0.0 c.from_residual.result c.tell_event.ensures c.in_err-tell_event.was c.from_residual.ensures.1
-
-pub returns-clause-told : goal.returns-clause-told
-returns-clause-told g c = step_done _ _ _ _ c.tell_event.result c.in_ok-tell_event.field-0 _ c.tell_event.ensures c.in_ok-tell_event.was
