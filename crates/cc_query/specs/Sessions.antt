@@ -3,6 +3,7 @@ use Rattle.std.specs.Prelude.{◌≡◌, ◌≢◌, ℕ, ◌+◌, ◌≤◌, ◌
 use Rattle.std.specs.List.{list_any}
 use Rattle.std.specs.Option.{option_or}
 use Rattle.cc_arena.specs.declared.ground_laws.GroundLaw.{GroundLaw}
+use Rattle.cc_query.specs.Accepted.{AreGoodAxioms}
 use Rattle.cc_cdcl.specs.Solvers.{SolverView, Found, Ready}
 use Rattle.cc_clauses.specs.RowsOf.{IsLeastRowOf}
 use Rattle.cc_defs.specs.declared.event.Ending.{Ending}
@@ -26,7 +27,7 @@ use Rattle.cc_defs.specs.LogTexts.{IsFormed}
 use Rattle.cc_defs.specs.Refusals.{past}
 use Rattle.cc_defs.specs.Resolved.{Query}
 use Rattle.cc_defs.specs.Rows.{IsRow}
-use Rattle.cc_defs.specs.Runs.{Ask, Step, Derive, Tell, Section, Horizon, Histories, Conditions, Claim, Failure, Run, EndsWith, IsFairRun, events_of, first_horizon, horizon_at, key_row, rows_of}
+use Rattle.cc_defs.specs.Runs.{Ask, Step, Derive, Tell, Section, Horizon, Histories, Conditions, Claim, Failure, Run, EndsWith, IsFairRun, axioms_of, events_of, first_horizon, horizon_at, key_row, rows_of}
 use Rattle.cc_defs.specs.Sections.{Axioms, row_denial}
 use Rattle.cc_defs.specs.Signatures.{Signature}
 use Rattle.cc_form.specs.Forms.{TellsHistories as ClausesTell, form_refusal}
@@ -236,6 +237,11 @@ IsRightFault session (faults.Refused refusal) =
 abbrev pub OpensWithin : SessionView → Event → Type 0
 OpensWithin session event = (d : Description) (q : Query) → IsSessionOf session d q → (conditions : Bool) (horizon : ℕ) →
     event ≡ events.Log (lines.Section conditions horizon) → opening_refusal d q session.ask horizon conditions ≡ None
+
+-- and its axioms are clauses over their variables, the first of which are those of the positions
+abbrev pub OpensGood : SessionView → Event → Type 0
+OpensGood session event = (d : Description) (q : Query) → IsSessionOf session d q → (conditions : Bool) (horizon : ℕ) →
+    event ≡ events.Log (lines.Section conditions horizon) → AreGoodAxioms (axioms_of d q session.ask.after conditions horizon)
 
 -- the numbers of a line of the log that is told have at most nine digits, and its chain has a pivot between each two clauses
 abbrev pub IsShortEvent : Event → Type 0

@@ -1,5 +1,6 @@
 //! Laws of listings, each the contract of a function that does nothing, or calls the laws that it rests on.
-ghost use Rattle.cc_query.specs.Laws.{ListingsResume, SearchLaws};
+ghost use Rattle.cc_query.specs.Accepted.{WrittenLogsAreAccepted};
+ghost use Rattle.cc_query.specs.Laws.{ListingsResume, SearchLaws, SpentBudgetsAreSmall};
 
 use cc_cdcl::laws::{denial_denies, denial_leaves_others};
 use cc_clauses::laws::resolvents_are_sound;
@@ -17,3 +18,13 @@ pub(crate) fn search_laws()
     denial_denies();
     denial_leaves_others();
 }
+
+/// The log of a search is accepted up to each horizon that it reported to have no history, or whose listing is complete.
+pub fn written_logs_are_accepted()
+    ensures { WrittenLogsAreAccepted }
+{}
+
+/// Where the budget of a section is spent, it is less than the power of 3 to the number of variables that its axioms leave open.
+pub fn spent_budgets_are_small()
+    ensures { SpentBudgetsAreSmall }
+{}
