@@ -26,6 +26,7 @@ use Rattle.cc_defs.specs.Clauses.{Literal, IsNumbered}
 use Rattle.cc_defs.specs.Description.{Description}
 use Rattle.cc_defs.specs.Refusals.{IsRefusedBy, past}
 use Rattle.cc_defs.specs.Resolved.{Query}
+use Rattle.cc_defs.specs.Rows.{IsRow}
 use Rattle.cc_defs.specs.Runs.{Ask}
 use Rattle.cc_defs.specs.Sections.{HasNoEmpty, row_denial}
 use Rattle.cc_kernel.specs.declared.kernel.Origin.TheVariants as origins
@@ -36,7 +37,8 @@ use Rattle.cc_query.specs.declared.phase.Phase.{Phase}
 use Rattle.cc_query.specs.declared.phase.Phase.TheVariants as phases
 use Rattle.cc_query.specs.Laws.{SearchLaws}
 use Rattle.cc_query.specs.Parts.{is_conditions}
-use Rattle.cc_query.specs.Sessions.{SessionView, After, Gives, HasFound, IsAskable, IsBlocked, IsRightFault, IsSession, IsSessionOf, IsWithin, ending_behind, last_at, opening_refusal, opens_at, with_row}
+use Rattle.cc_query.specs.Events.{Gives}
+use Rattle.cc_query.specs.Sessions.{SessionView, After, HasFound, IsAskable, IsBlocked, IsRightFault, IsSession, IsSessionOf, IsWithin, ending_behind, last_at, opening_refusal, opens_at, with_row}
 use Rattle.cc_query.proofs.Giving.{asks_for, gives_all_asked, gives_block, gives_budget, gives_complete, gives_counterexample, gives_empty, gives_empty_line, gives_failing, gives_found, gives_history, gives_holds, gives_last, gives_line, gives_no_conditions, gives_no_history, gives_refuted, gives_spent}
 use Rattle.cc_query.proofs.Going.{history_too_many}
 use Rattle.cc_query.proofs.Refusing.{handed_on}
@@ -66,18 +68,25 @@ pub block_ready : (ask : Ask) (old new : SolverView) (listed : ℕ) → HasFound
 block_ready ask old new listed found (denied, listed_is, few, within) blocked = (
   ap (λ (v : SolverView). v.standing) (blocked found.0 found.1),
   subst (λ (n : ℕ). IsWithin ask new n) (sym listed_is)
-      (block_within ask old new denied (row_denial old.sizes found.0) within few (ap (λ (v : SolverView). v.kernel) (blocked found.0 found.1))),
+      (block_within ask old new denied found.0 within few found.2 (ap (λ (v : SolverView). v.sizes) (blocked found.0 found.1))
+      (ap (λ (v : SolverView). v.kernel) (blocked found.0 found.1))),
 )
 
 pub block_gives : (laws : SearchLaws) (r : Result Event Fault) (now new : SessionView) (solver : SolverView) (listed : ℕ) →
-    IsAskable now.signature now.laws now.query now.ask → (now.ask.count ≡ Some listed → ⊥) → IfOk r (λ event. event ≡ events.Log (lines.Block now.row)) →
-    OnOk r ((blocked : SolverView) × IsBlocked solver blocked × (new ≡ record now { phase = phases.Searching parts.Histories blocked listed })) →
-    IfOk r (Gives (record now { phase = phases.Denying solver listed }) new)
-block_gives laws (Err fault) now new solver listed askable other event stands = tt
-block_gives laws (Ok given) now new solver listed askable other event (blocked, is, new_is) =
+    IsAskable now.signature now.laws now.query now.ask → (now.ask.count ≡ Some listed → ⊥) →
+    ((row : List ℕ) → solver.standing ≡ Found row → IfOk r (λ event. event ≡ events.Log (lines.Block row))) →
+    OnOk r ((blocked : SolverView) × IsBlocked solver blocked × (new ≡ record now { phase = phases.Searching parts.Histories blocked listed })) → HasFound solver →
+    ((denied : ℕ) × (listed ≡ denied + 1) × (denied + 1 ≤ 100000000) × IsWithin now.ask solver denied) → IfOk r (Gives (record now { phase = phases.Denying solver listed }) new)
+block_gives laws (Err fault) now new solver listed askable other event stands found within = tt
+block_gives laws (Ok given) now new solver listed askable other event (blocked, is, new_is) found within =
     gives_at (record now { phase = phases.Denying solver listed }) new (record now { phase = phases.Searching parts.Histories blocked listed }) given
-    (events.Log (lines.Block now.row)) new_is event
-    (gives_block laws (record now { phase = phases.Denying solver listed }) askable solver blocked listed refl other is.sizes is.kernel)
+    (events.Log (lines.Block found.0)) new_is (event found.0 found.1)
+    (gives_block laws (record now { phase = phases.Denying solver listed }) askable solver blocked listed within.0 refl other is.sizes is.kernel found within.3)
+
+-- the row that was copied
+pub block_event : (event : Event) (solver : SolverView) (items row : List ℕ) → solver.standing ≡ Found items → event ≡ events.Log (lines.Block items) →
+    solver.standing ≡ Found row → event ≡ events.Log (lines.Block row)
+block_event event solver items row here event_is there = let same : items ≡ row = cc in event_is ∙ ap (λ (l : List ℕ). events.Log (lines.Block l)) same
 
 -- ---- opening
 
@@ -112,12 +121,13 @@ memory_fault (Err fault) s is = subst (λ (f : Fault). IsRightFault s f) (sym is
 pub line_gives : (laws : SearchLaws) (r : Result Event Fault) (now new : SessionView) (old solver : SolverView) (part : Part) (listed : ℕ) →
     IsAskable now.signature now.laws now.query now.ask → IsStep now.ask.budget old solver answers.Line →
     ((clause : List Literal) → IsNumbered (clauses_of solver.kernel) (length solver.kernel.entries) clause → IfOk r (λ event. event ≡ events.Log (lines.Derived clause solver.kernel.chain))) →
-    OnOk r (new ≡ record now { phase = phases.Searching part solver listed }) → IfOk r (Gives (record now { phase = phases.Searching part old listed }) new)
-line_gives laws (Err fault) now new old solver part listed askable step event stands = tt
-line_gives laws (Ok given) now new old solver part listed askable (clause, some, adds, earned, most, sizes, ready) event stands =
+    OnOk r (new ≡ record now { phase = phases.Searching part solver listed }) → IsWithin now.ask old listed →
+    IfOk r (Gives (record now { phase = phases.Searching part old listed }) new)
+line_gives laws (Err fault) now new old solver part listed askable step event stands within = tt
+line_gives laws (Ok given) now new old solver part listed askable (clause, some, adds, earned, most, sizes, ready) event stands within =
     gives_at (record now { phase = phases.Searching part old listed }) new (record now { phase = phases.Searching part solver listed }) given
     (events.Log (lines.Derived clause solver.kernel.chain)) stands (event clause (last_numbered old.kernel solver.kernel clause adds))
-    (gives_line laws (record now { phase = phases.Searching part old listed }) askable part old solver listed refl clause adds earned most sizes)
+    (gives_line laws (record now { phase = phases.Searching part old listed }) askable part old solver listed refl clause adds earned most sizes within)
 
 -- the empty clause was derived, where there was none
 added_empty : (old solver : SolverView) → HasNoEmpty (clauses_of old.kernel) → Contains (clauses_of solver.kernel) [] →
@@ -135,27 +145,35 @@ refuted_some budget old solver (sizes, standing, there, added) = some_of solver.
 pub empty_gives : (laws : SearchLaws) (r : Result Event Fault) (now new : SessionView) (old solver : SolverView) (part : Part) (listed : ℕ) →
     IsAskable now.signature now.laws now.query now.ask → HasNoEmpty (clauses_of old.kernel) → IsStep now.ask.budget old solver answers.Refuted →
     ((clause : List Literal) → IsNumbered (clauses_of solver.kernel) (length solver.kernel.entries) clause → IfOk r (λ event. event ≡ events.Log (lines.Derived clause solver.kernel.chain))) →
-    OnOk r (new ≡ record now { phase = phases.Refuted part listed }) → IfOk r (Gives (record now { phase = phases.Searching part old listed }) new)
-empty_gives laws (Err fault) now new old solver part listed askable none step event stands = tt
-empty_gives laws (Ok given) now new old solver part listed askable none (sizes, standing, there, added) event stands =
+    OnOk r (new ≡ record now { phase = phases.Refuted part listed }) → IsWithin now.ask old listed →
+    IfOk r (Gives (record now { phase = phases.Searching part old listed }) new)
+empty_gives laws (Err fault) now new old solver part listed askable none step event stands within = tt
+empty_gives laws (Ok given) now new old solver part listed askable none (sizes, standing, there, added) event stands within =
     let adds = added_empty old solver none there added in
     gives_at (record now { phase = phases.Searching part old listed }) new (record now { phase = phases.Refuted part listed }) given
     (events.Log (lines.Derived [] solver.kernel.chain)) stands (event [] (last_numbered old.kernel solver.kernel [] adds))
-    (gives_empty_line laws (record now { phase = phases.Searching part old listed }) askable part old solver listed refl adds none)
+    (gives_empty_line laws (record now { phase = phases.Searching part old listed }) askable part old solver listed refl adds none within)
 
-pub line_ready : (ask : Ask) (old solver : SolverView) (listed : ℕ) → IsStep ask.budget old solver answers.Line → IsWithin ask old listed →
+pub line_ready : (ask : Ask) (old solver : SolverView) (listed : ℕ) → ask.budget ≤ 2000000 → IsStep ask.budget old solver answers.Line → IsWithin ask old listed →
     (solver.standing ≡ Ready) × IsWithin ask solver listed × (0 < length solver.kernel.entries)
-line_ready ask old solver listed (clause, some, adds, earned, most, sizes, ready) within = (
+line_ready ask old solver listed budget (clause, some, adds, earned, most, sizes, ready) within = (
   ready,
-  line_within ask old solver listed clause within adds most,
+  line_within ask old solver listed clause budget within adds most sizes,
   let long : length solver.kernel.entries ≡ length old.kernel.entries + 1 =
       ap (λ (l : List Entry). length l) adds.entries ∙ length_push old.kernel.entries (record { clause = clause; origin = origins.Derived }) in omega arith,
 )
 
 pub found_ready : (ask : Ask) (old solver : SolverView) (listed : ℕ) → IsStep ask.budget old solver answers.Found → IsWithin ask old listed → HasFound solver × IsWithin ask solver listed
 found_ready ask old solver listed (row, least, is) within = (
-  (row, ap (λ (v : SolverView). v.standing) is),
-  subst (λ (v : SolverView). IsWithin ask v listed) (sym is) (record { derived = within.derived; few = within.few; denied_few = within.denied_few }),
+  (row, ap (λ (v : SolverView). v.standing) is, subst (λ (v : SolverView). IsRow v.sizes row) (sym is) least.one.is_row),
+  subst (λ (v : SolverView). IsWithin ask v listed) (sym is) (record {
+    derived = within.derived;
+    few = within.few;
+    denied_few = within.denied_few;
+    over = within.over;
+    variables = within.variables;
+    positions = within.positions;
+  }),
 )
 
 -- ---- rows that were found
@@ -172,13 +190,14 @@ least_there budget old solver items step standing =
 pub history_gives : (laws : SearchLaws) (r : Result Event Fault) (now new : SessionView) (old solver : SolverView) (listed : ℕ) (items : List ℕ) →
     IsAskable now.signature now.laws now.query now.ask → IsStep now.ask.budget old solver answers.Found → solver.standing ≡ Found items →
     IfOk r (λ event. event ≡ events.History now.horizon (listed + 1)) →
-    OnOk r (new ≡ record now { row = items; phase = phases.Denying solver (listed + 1) }) → IfOk r (Gives (record now { phase = phases.Searching parts.Histories old listed }) new)
-history_gives laws (Err fault) now new old solver listed items askable step standing event stands = tt
-history_gives laws (Ok given) now new old solver listed items askable step standing event stands =
+    OnOk r (new ≡ record now { row = items; phase = phases.Denying solver (listed + 1) }) → OnOk r (listed + 1 ≤ 100000000) →
+    IfOk r (Gives (record now { phase = phases.Searching parts.Histories old listed }) new)
+history_gives laws (Err fault) now new old solver listed items askable step standing event stands few = tt
+history_gives laws (Ok given) now new old solver listed items askable step standing event stands few =
     let there = least_there now.ask.budget old solver items step standing in
     gives_at (record now { phase = phases.Searching parts.Histories old listed }) new (record now { row = items; phase = phases.Denying solver (listed + 1) }) given
     (events.History now.horizon (listed + 1)) stands event
-    (gives_history laws (record now { phase = phases.Searching parts.Histories old listed }) askable old solver listed refl items there.0 there.1)
+    (gives_history laws (record now { phase = phases.Searching parts.Histories old listed }) askable old solver listed refl items there.0 there.1 few)
 
 pub history_fault : (laws : SearchLaws) (r : Result Event Fault) (now : SessionView) (old solver : SolverView) (listed : ℕ) (items : List ℕ) →
     IsAskable now.signature now.laws now.query now.ask → IsStep now.ask.budget old solver answers.Found → solver.standing ≡ Found items →
@@ -232,16 +251,16 @@ some_first number (entry ∷ entries) is = elim (one_some entry.clause number (f
 
 -- ---- behind end lines
 
-pub complete_none : (laws : SearchLaws) (v now new : SessionView) (listed : ℕ) → v ≡ now → IsSession v → listed ≡ 0 → v.ask.after ≡ None →
+pub complete_none : (laws : SearchLaws) (v now new : SessionView) (listed : ℕ) → v ≡ now → IsSession v → listed ≡ 0 → v.ask.after ≡ None → now.horizon ≤ last_at now.query now.ask.after →
     new ≡ record now { horizon = now.horizon + 1; met = v.met; phase = phases.Opening parts.Histories } →
     Gives (record now { phase = phases.Closed parts.Histories words.Empty listed }) new (events.NoHistory v.horizon)
-complete_none laws v now new listed same is none no_key new_is =
+complete_none laws v now new listed same is none no_key low new_is =
     gives_at (record now { phase = phases.Closed parts.Histories words.Empty listed }) new
     (record now { horizon = now.horizon + 1; phase = phases.Opening parts.Histories }) (events.NoHistory v.horizon) (events.NoHistory now.horizon)
     (new_is ∙ ap (λ (s : SessionView). record now { horizon = now.horizon + 1; met = s.met; phase = phases.Opening parts.Histories }) same)
     (ap (λ (s : SessionView). events.NoHistory s.horizon) same)
     (gives_no_history laws (record now { phase = phases.Closed parts.Histories words.Empty listed }) (askable_of v now same is)
-    (ap (λ (n : ℕ). phases.Closed parts.Histories words.Empty n) none) (ap (λ (s : SessionView). s.ask.after) (sym same) ∙ no_key))
+    (ap (λ (n : ℕ). phases.Closed parts.Histories words.Empty n) none) (ap (λ (s : SessionView). s.ask.after) (sym same) ∙ no_key) low)
 
 pub complete_some : (laws : SearchLaws) (v now : SessionView) (listed : ℕ) → v ≡ now → IsSession v → now.phase ≡ phases.Ended →
     (0 < listed) ⊎ IsSome v.ask.after →
@@ -254,25 +273,27 @@ complete_some laws v now listed same is over some =
     (subst (λ (s : SessionView). (0 < listed) ⊎ IsSome s.ask.after) same some))
 
 pub conditions_none : (laws : SearchLaws) (v now new : SessionView) (part : Part) (listed : ℕ) → v ≡ now → IsSession v → part ≡ parts.Conditions →
+    now.horizon ≤ last_at now.query now.ask.after →
     new ≡ record now { horizon = now.horizon + 1; met = v.met; phase = phases.Opening parts.Conditions } →
     Gives (record now { phase = phases.Closed part words.Empty listed }) new (events.NoConditions v.horizon)
-conditions_none laws v now new part listed same is part_is new_is =
+conditions_none laws v now new part listed same is part_is low new_is =
     gives_at (record now { phase = phases.Closed part words.Empty listed }) new
     (record now { horizon = now.horizon + 1; phase = phases.Opening parts.Conditions }) (events.NoConditions v.horizon) (events.NoConditions now.horizon)
     (new_is ∙ ap (λ (s : SessionView). record now { horizon = now.horizon + 1; met = s.met; phase = phases.Opening parts.Conditions }) same)
     (ap (λ (s : SessionView). events.NoConditions s.horizon) same)
     (gives_no_conditions laws (record now { phase = phases.Closed part words.Empty listed }) (askable_of v now same is) listed
-    (ap (λ (p : Part). phases.Closed p words.Empty listed) part_is))
+    (ap (λ (p : Part). phases.Closed p words.Empty listed) part_is) low)
 
 pub claim_holds : (laws : SearchLaws) (v now new : SessionView) (part : Part) (listed : ℕ) → v ≡ now → IsSession v → part ≡ parts.Claim →
+    now.horizon ≤ last_at now.query now.ask.after →
     new ≡ record now { horizon = now.horizon + 1; met = true; phase = phases.Opening parts.Conditions } →
     Gives (record now { phase = phases.Closed part words.Empty listed }) new (events.Holds v.horizon)
-claim_holds laws v now new part listed same is part_is new_is =
+claim_holds laws v now new part listed same is part_is low new_is =
     gives_at (record now { phase = phases.Closed part words.Empty listed }) new
     (record now { horizon = now.horizon + 1; met = true; phase = phases.Opening parts.Conditions }) (events.Holds v.horizon) (events.Holds now.horizon)
     new_is (ap (λ (s : SessionView). events.Holds s.horizon) same)
     (gives_holds laws (record now { phase = phases.Closed part words.Empty listed }) (askable_of v now same is) listed
-    (ap (λ (p : Part). phases.Closed p words.Empty listed) part_is))
+    (ap (λ (p : Part). phases.Closed p words.Empty listed) part_is) low)
 
 pub stop_asked : (laws : SearchLaws) (v now : SessionView) (part : Part) (listed : ℕ) → v ≡ now → IsSession v → now.phase ≡ phases.Ended → part ≡ parts.Histories →
     Gives (record now { phase = phases.Closed part words.Found listed }) now (events.Ended (endings.Asked v.horizon listed))

@@ -3,6 +3,7 @@ pub mod Giving
 pub mod Going
 pub mod Holding
 pub mod Joining
+pub mod Lessening
 pub mod Opened
 pub mod Positions
 pub mod PartsTold
@@ -10,6 +11,7 @@ pub mod Reaching
 pub mod Refusing
 pub mod Rows
 pub mod Running
+pub mod Shortness
 pub mod Steps
 pub mod Told
 pub mod Within

@@ -1,12 +1,13 @@
 -- What a section has when it opens: its clauses, and a search that holds just them.
 use Rattle.std.proofs.Common.{◌≡◌, ◌∙◌, ℕ, ◌≤◌, ◌+◌, suc, Bool, true, false, List, [], ◌∷◌, ◌++◌, length, map, Option, Some, None, option_map, Result, Ok, Err, Bor, refl, sym, subst, ap, arith}
-use Rattle.std.specs.Prelude.{Contains, IfOk, OnOk, not}
+use Rattle.std.specs.Prelude.{Contains, IfOk, OnOk, not, sum}
+use Rattle.std.specs.List.{AllByRecursion}
 use Rattle.std.specs.Option.{option_or}
 use Rattle.cc_cdcl.specs.Solvers.{SolverView}
 use Rattle.cc_defs.specs.declared.lists.Key.{Key}
 use Rattle.cc_defs.specs.declared.refusal.Refusal.{Refusal}
 use Rattle.cc_defs.specs.ClauseLists.{positions_from}
-use Rattle.cc_defs.specs.Clauses.{Literal}
+use Rattle.cc_defs.specs.Clauses.{Literal, IsOver}
 use Rattle.cc_defs.specs.Description.{Description}
 use Rattle.cc_defs.specs.Resolved.{Query}
 use Rattle.cc_defs.specs.Runs.{Ask, key_row}
@@ -15,6 +16,7 @@ use Rattle.cc_form.specs.Forms.{TellsHistories, asked, form_of}
 use Rattle.cc_kernel.specs.Kernels.{Entry, KernelView, axiom_of, axioms_of, clauses_of, derived_count}
 use Rattle.cc_query.specs.declared.phase.Part.{Part}
 use Rattle.cc_query.specs.declared.phase.Part.TheVariants as parts
+use Rattle.cc_query.specs.Accepted.{AreGoodAxioms}
 use Rattle.cc_query.specs.Parts.{axioms_at, is_conditions, query_of}
 use Rattle.cc_query.specs.Sessions.{Holds, IsWithin, RowsAreHistories, SessionView}
 use Rattle.cc_query.proofs.Holding.{axioms_are}
@@ -87,12 +89,25 @@ as_many : (clauses : List (List Literal)) → length (axioms_of clauses) ≡ len
 as_many [] = refl
 as_many (clause ∷ clauses) = ap suc (as_many clauses)
 
-pub within_opened : (ask : Ask) (solver : SolverView) (clauses : List (List Literal)) → solver.kernel.entries ≡ axioms_of clauses → length clauses ≤ 8000000 → IsWithin ask solver 0
-within_opened ask solver clauses entries few =
-    let none : derived_count solver.kernel.entries ≡ 0 = ap derived_count entries ∙ none_derived clauses in
-    let many : length solver.kernel.entries ≡ length clauses = ap (λ (l : List Entry). length l) entries ∙ as_many clauses in
+pub within_opened : (ask : Ask) (solver : SolverView) (form : Axioms) → AreGoodAxioms form → solver.sizes ≡ form.sizes → solver.kernel.variables ≡ form.variables →
+    form.variables ≤ 4000000 → solver.kernel.entries ≡ axioms_of form.clauses → length form.clauses ≤ 8000000 → IsWithin ask solver 0
+within_opened ask solver form good sizes variables low entries few =
+    let none : derived_count solver.kernel.entries ≡ 0 = ap derived_count entries ∙ none_derived form.clauses in
+    let many : length solver.kernel.entries ≡ length form.clauses = ap (λ (l : List Entry). length l) entries ∙ as_many form.clauses in
+    let clauses : clauses_of solver.kernel ≡ form.clauses = ap (λ (l : List Entry). map (λ entry. entry.clause) l) entries ∙ axioms_are form.clauses in
     record {
       derived = omega arith;
       few = omega arith;
       denied_few = omega arith;
+      over = subst (λ (l : List (List Literal)). AllByRecursion (IsOver solver.kernel.variables) l) (sym clauses)
+          (subst (λ (n : ℕ). AllByRecursion (IsOver n) form.clauses) (sym variables) good.over);
+      variables = subst (λ (n : ℕ). n ≤ 4000000) (sym variables) low;
+      positions = subst (λ (n : ℕ). sum solver.sizes ≤ n) (sym variables) (subst (λ (l : List ℕ). sum l ≤ form.variables) (sym sizes) good.positions);
     }
+
+-- its axioms are good
+pub good_opened : (d : Description) (q : Query) (s now : SessionView) (part : Part) (denies : Bool) (key : Option Key) (form : Axioms) →
+    s ≡ now → denies ≡ not (is_conditions part) → key ≡ s.ask.after → form ≡ form_of d q s.horizon denies key → AreGoodAxioms form →
+    AreGoodAxioms (axioms_at d q now.ask now.horizon part)
+good_opened d q s now part denies key form same denies_is key_is is good =
+    subst AreGoodAxioms (is ∙ same_form d q s now part denies key same denies_is key_is) good

@@ -1,4 +1,5 @@
 pub mod Accepted
+pub mod Events
 pub mod Laws
 pub mod Lefts
 pub mod Parts

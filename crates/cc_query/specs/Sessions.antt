@@ -1,6 +1,6 @@
 -- What a session holds, and what the events so far leave it to hold.
-use Rattle.std.specs.Prelude.{◌≡◌, ◌≢◌, ℕ, ◌+◌, ◌≤◌, ◌⊎◌, Bool, true, false, not, if◌then◌else◌, IfSome, List, [], ◌∷◌, ◌++◌, map, length, Option, Some, None, IsSome, IsNone, Contains}
-use Rattle.std.specs.List.{list_any}
+use Rattle.std.specs.Prelude.{◌≡◌, ◌≢◌, ℕ, ◌+◌, ◌≤◌, ◌⊎◌, Bool, true, false, not, if◌then◌else◌, IfSome, List, [], ◌∷◌, ◌++◌, map, length, sum, Option, Some, None, IsSome, IsNone, Contains}
+use Rattle.std.specs.List.{AllByRecursion, list_any}
 use Rattle.std.specs.Option.{option_or}
 use Rattle.cc_arena.specs.declared.ground_laws.GroundLaw.{GroundLaw}
 use Rattle.cc_query.specs.Accepted.{AreGoodAxioms}
@@ -20,6 +20,7 @@ use Rattle.cc_defs.specs.declared.refusal.Fault.TheVariants as faults
 use Rattle.cc_defs.specs.declared.refusal.LimitAt.TheVariants as limits
 use Rattle.cc_defs.specs.declared.refusal.Refusal.{Refusal}
 use Rattle.cc_defs.specs.ClauseLists.{clause_list}
+use Rattle.cc_defs.specs.Clauses.{IsOver}
 use Rattle.cc_defs.specs.Description.{Description, sizes_at}
 use Rattle.cc_defs.specs.GroundLaws.{PlainGroundQuery, StandsForQuery}
 use Rattle.cc_defs.specs.Histories.{AreFirst}
@@ -264,14 +265,6 @@ pub record IsBlocked (old new : SolverView) : Type 0 where
   pub sizes : new.sizes ≡ old.sizes
   pub kernel : (row : List ℕ) → old.standing ≡ Found row → new.kernel ≡ added old.kernel (row_denial old.sizes row) origins.Block
 
--- What an event says of the session before and after it: it comes behind those that were told, for the same query; and unless it
--- is the ending, there is more to come.
-pub record Gives (old new : SessionView) (event : Event) : Type 0 where
-  pub same : IsSame old new
-  pub tells : Tells old new event
-  pub within : OpensWithin old event
-  pub more : ((ending : Ending) → event ≢ events.Ended ending) → HasMore new
-
 -- ---- what is always true of a session
 
 -- a key is a row of one of the query's horizons, and the query has no claim
@@ -298,14 +291,19 @@ pub record IsAskable (signature : Signature) (laws : List GroundLaw) (query : Pl
   pub count : IfSome ask.count (λ most. 1 ≤ most)
   pub budget : ask.budget ≤ 2000000
 
--- the solver of a section: not past its budget, and with few clauses behind its axioms, where so many rows were denied
+-- the solver of a section: not past its budget, and with few clauses behind its axioms, where so many rows were denied; they
+-- are over its variables, the first of which are those of the positions
 pub record IsWithin (ask : Ask) (solver : SolverView) (denied : ℕ) : Type 0 where
   pub derived : derived_count solver.kernel.entries ≤ ask.budget
   pub few : length solver.kernel.entries ≤ 8000000 + derived_count solver.kernel.entries + denied
   pub denied_few : denied ≤ 100000000
+  pub over : AllByRecursion (IsOver solver.kernel.variables) (clauses_of solver.kernel)
+  pub variables : solver.kernel.variables ≤ 4000000
+  pub positions : sum solver.sizes ≤ solver.kernel.variables
 
+-- a row of its positions was found
 abbrev pub HasFound : SolverView → Type 0
-HasFound solver = (row : List ℕ) × (solver.standing ≡ Found row)
+HasFound solver = (row : List ℕ) × (solver.standing ≡ Found row) × IsRow solver.sizes row
 
 -- it is ready for what comes next, at a horizon, the last of which is this
 abbrev pub IsReady : Ask → (horizon last : ℕ) → Phase → Type 0

@@ -11,6 +11,7 @@ ghost use Rattle.cc_defs.specs.Resolved.{Query};
 ghost use Rattle.cc_form.specs.Forms.{TellsHistories, asked, form_of, form_refusal};
 ghost use Rattle.cc_form.specs.Queries.{IsKeyAt, IsQueryAt};
 ghost use Rattle.cc_kernel.specs.Kernels.{axioms_of};
+ghost use Rattle.cc_query.specs.Accepted.{AreGoodAxioms};
 ghost use Rattle.cc_query.specs.Parts.{is_conditions};
 ghost use Rattle.cc_query.specs.Sessions.{refusal_at};
 ghost use Rattle.cc_theory.specs.Theories.{AreLawsFor, AreLawsOf};
@@ -64,6 +65,7 @@ pub(crate) fn solver_of(alloc: Global, form: Form) -> Result<Solver, OutOfMemory
     ensures few { OnOk result (form.variables ≤ 4000000) }
     ensures entries { IfOk result (λ solver. solver.kernel.entries ≡ axioms_of form.clauses) }
     ensures count { OnOk result (length form.clauses ≤ 8000000) }
+    ensures good { OnOk result (AreGoodAxioms form) }
     ensures ready { IfOk result (λ solver. solver.standing ≡ Ready) }
 {
     let variables = form.variables();

@@ -20,8 +20,10 @@ ghost use Rattle.cc_query.specs.Parts.{axioms_at, is_conditions};
 ghost use Rattle.cc_defs.specs.declared.event.Ending.{Ending as EndingSeen};
 ghost use Rattle.cc_defs.specs.Sections.{HasNoEmpty};
 ghost use Rattle.cc_query.specs.declared.phase.Phase.{Phase as PhaseSeen};
+ghost use Rattle.cc_query.specs.Accepted.{AreGoodAxioms};
+ghost use Rattle.cc_query.specs.Events.{Gives};
 ghost use Rattle.cc_query.specs.Lefts.{left_of};
-ghost use Rattle.cc_query.specs.Sessions.{After, Fits, Gives, HasFound, HasMore, Holds, IsBlocked, IsReady, IsRightFault, IsSame, IsSessionOf, IsShortEvent, IsWithin, OpensGood, OpensWithin, RowsAreHistories, SessionView, Tells, ending_behind, first_at, last_at, opening_refusal, opens_at, with_row};
+ghost use Rattle.cc_query.specs.Sessions.{After, Fits, HasFound, HasMore, Holds, IsBlocked, IsReady, IsRightFault, IsSame, IsSessionOf, IsShortEvent, IsWithin, OpensGood, OpensWithin, RowsAreHistories, SessionView, Tells, ending_behind, first_at, last_at, opening_refusal, opens_at, with_row};
 ghost use Rattle.cc_query.specs.declared.phase.Part.TheVariants as parts;
 ghost use Rattle.cc_query.specs.declared.phase.Phase.TheVariants as phases;
 ghost use Rattle.cc_theory.specs.Theories.{AreLawsFor};
@@ -266,6 +268,7 @@ impl<'a> Session<'a> {
         ensures rows { (d : Description) (q : Query) → IsSessionOf self.now d q → OnOk result (RowsAreHistories d q self.now.ask self.now.horizon part) }
         ensures within { (d : Description) (q : Query) → IsSessionOf self.now d q → OnOk result (opening_refusal d q self.now.ask self.now.horizon (is_conditions part) ≡ None) }
         ensures refused { (d : Description) (q : Query) → IsSessionOf self.now d q → IfErr result (IsRefusedBy (opening_refusal d q self.now.ask self.now.horizon (is_conditions part))) }
+        ensures good { (d : Description) (q : Query) → IsSessionOf self.now d q → OnOk result (AreGoodAxioms (axioms_at d q self.now.ask self.now.horizon part)) }
         ensures ready { IfOk result (λ solver. solver.standing ≡ Ready) }
         ensures few { IfOk result (λ solver. IsWithin self.now.ask solver 0) }
     {
@@ -370,6 +373,7 @@ impl<'a> Session<'a> {
         ensures stands { OnOk result (self.new ≡ record self.old { row = row.items; phase = phases.Denying solver (listed + 1) }) }
         ensures fault { IfErr result (λ fault. fault ≡ faults.Refused (past limits.Histories)) }
         ensures many { OnErr result (listed ≡ 100000000) }
+        ensures few { OnOk result (listed + 1 ≤ 100000000) }
     {
         if listed == LimitAt::Histories.number() {
             return Err(too_many());
@@ -388,11 +392,11 @@ impl<'a> Session<'a> {
     // The line that denies the history that was told.
     fn block(&mut self, mut solver: Solver, listed: u32) -> Result<Event, Fault>
         requires { IsReady self.old.ask self.old.horizon (last_at self.old.query self.old.ask.after) (phases.Denying solver listed) }
-        ensures event { IfOk result (λ event. event ≡ events.Log (lines.Block self.old.row)) }
+        ensures event { (row : List ℕ) → solver.standing ≡ IsFound row → IfOk result (λ event. event ≡ events.Log (lines.Block row)) }
         ensures stands { OnOk result ((blocked : SolverView) × IsBlocked solver blocked × (self.new ≡ record self.old { phase = phases.Searching parts.Histories blocked listed })) }
         ensures fault { IfErr result (λ fault. fault ≡ faults.OutOfMemory) }
     {
-        let row = Vec::from_slice(self.alloc, &self.row)?;
+        let row = Vec::from_slice(self.alloc, solver.row())?;
         solver.block_row()?;
         self.stand(Phase::Searching {
             part: Part::Histories,

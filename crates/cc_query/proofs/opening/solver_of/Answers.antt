@@ -8,3 +8,6 @@ new-requires-clause-positions c =
     positions_there c.deref.result.now c.args.form.sizes c.args.form.clauses c.into_clauses.result c.of-kernel.result
     (c.deref.ensures.value ∙ c.in_ok-sizes.ensures.items ∙ c.sizes.ensures.sizes) (ap (λ (k : KernelView). k.entries) c.of-kernel.ensures.kernel) c.into_clauses.ensures.clauses
     c.sizes.ensures.choices
+
+pub returns-clause-good : goal.returns-clause-good
+returns-clause-good c = ?

@@ -8,3 +8,6 @@ stand-requires c =
 
 pub returns-clause-stands : goal.returns-clause-stands
 returns-clause-stands c = (c.block_row.new.self, blocked_is c.args.solver c.block_row.new.self c.requires.1 c.in_ok-block_row.ensures.blocked, c.stand.ensures)
+
+pub returns-clause-event : goal.returns-clause-event
+returns-clause-event c = λ row there. ?

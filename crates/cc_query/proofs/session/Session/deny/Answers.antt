@@ -17,3 +17,4 @@ returns-else-is_asked-clause-gives c =
     block_gives c.search_laws.ensures c.block.result c.args.self.now c.block.new.self c.args.solver c.args.listed
     (askable_of _ c.args.self.now c.self.view_is c.self.invariant)
     (λ is. c.is_asked.ensures.other c.if-is_asked.false (ap (λ (v : SessionView). v.ask.count) c.self.view_is ∙ is)) c.block.ensures.event c.block.ensures.stands
+    c.requires.1 c.requires.2

@@ -3,8 +3,8 @@ use Rattle.cc_query.proofs.session.Session.exhaust.Goals as goal
 
 pub returns-in-Conditions : goal.returns-in-Conditions
 returns-in-Conditions c = conditions_none c.search_laws.ensures _ c.args.self.now c.pass.new.self c.args.part c.args.listed c.self.view_is c.self.invariant
-    c.in-Conditions.is c.pass.ensures
+    c.in-Conditions.is c.requires.low c.pass.ensures
 
 pub returns-in-Claim : goal.returns-in-Claim
 returns-in-Claim c = claim_holds c.search_laws.ensures _ c.args.self.now c.pass-in-Claim.new.self c.args.part c.args.listed c.self.view_is c.self.invariant
-    c.in-Claim.is c.pass-in-Claim.ensures
+    c.in-Claim.is c.requires.low c.pass-in-Claim.ensures

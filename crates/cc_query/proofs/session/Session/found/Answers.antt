@@ -3,7 +3,8 @@ use Rattle.std.specs.Prelude.{IfOk, IfErr}
 use Rattle.cc_cdcl.specs.Solvers.{Found}
 use Rattle.cc_query.specs.declared.phase.Part.{Part}
 use Rattle.cc_query.specs.declared.phase.Phase.TheVariants as phases
-use Rattle.cc_query.specs.Sessions.{Gives, IsRightFault}
+use Rattle.cc_query.specs.Events.{Gives}
+use Rattle.cc_query.specs.Sessions.{IsRightFault}
 use Rattle.cc_query.proofs.Joining.{askable_of, history_fault, history_gives, path_gives}
 use Rattle.cc_query.proofs.session.Session.found.Goals as goal
 
@@ -13,7 +14,7 @@ returns-then-is_listing-clause-gives c = λ before step.
     (sym (c.is_listing.ensures.is c.if-is_listing.true))
     (history_gives c.search_laws.ensures c.history.result c.args.self.now c.history.new.self before c.args.solver c.args.listed c.in_ok-row.row.items
     (askable_of _ c.args.self.now c.self.view_is c.self.invariant) step (c.row.ensures ∙ ap (λ (r : List ℕ). Found r) (sym c.in_ok-row.ensures.items))
-    c.history.ensures.event c.history.ensures.stands)
+    c.history.ensures.event c.history.ensures.stands c.history.ensures.few)
 
 pub returns-then-is_listing-clause-fault : goal.returns-then-is_listing-clause-fault
 returns-then-is_listing-clause-fault c = λ before step.

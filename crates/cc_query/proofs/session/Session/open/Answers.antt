@@ -24,4 +24,4 @@ returns-clause-gives c = λ phase opens.
     c.args.part c.in_ok-solver.solver opens c.requires
     (λ d q of.
     let there : IsSessionOf c.args.self.now d q = record { laws = of.laws; query = of.query } in
-    (c.in_ok-solver.ensures.made d q there, c.in_ok-solver.ensures.rows d q there, c.in_ok-solver.ensures.within d q there)))
+    (c.in_ok-solver.ensures.made d q there, c.in_ok-solver.ensures.rows d q there, c.in_ok-solver.ensures.within d q there, c.in_ok-solver.ensures.good d q there)))

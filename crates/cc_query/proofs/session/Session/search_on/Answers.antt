@@ -8,7 +8,7 @@ returns-in-Line-clause-gives c =
     (askable_of _ c.args.self.now c.self.view_is c.self.invariant)
     (step_at c.budget_of-budget.result _ c.args.self.now c.args.solver c.next.new.self c.in_ok-next.field-0 answers.Line c.budget_of-budget.ensures c.self.view_is
     c.in-Line.is c.in_ok-next.ensures.step)
-    c.line.ensures.event c.line.ensures.stands
+    c.line.ensures.event c.line.ensures.stands c.requires.ready.2
 
 pub returns-in-Found-clause-fault : goal.returns-in-Found-clause-fault
 returns-in-Found-clause-fault c = c.found.ensures.fault c.args.solver
@@ -21,7 +21,7 @@ returns-in-Refuted-clause-gives c =
     (askable_of _ c.args.self.now c.self.view_is c.self.invariant) c.requires.none
     (step_at c.budget_of-budget.result _ c.args.self.now c.args.solver c.next.new.self c.in_ok-next.field-0 answers.Refuted c.budget_of-budget.ensures c.self.view_is
     c.in-Refuted.is c.in_ok-next.ensures.step)
-    c.empty_line.ensures.event c.empty_line.ensures.stands
+    c.empty_line.ensures.event c.empty_line.ensures.stands c.requires.ready.2
 
 pub returns-in-Spent-clause-gives : goal.returns-in-Spent-clause-gives
 returns-in-Spent-clause-gives c =

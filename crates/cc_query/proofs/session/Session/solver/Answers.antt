@@ -1,6 +1,6 @@
 use Rattle.std.proofs.Common.{sym, subst}
 use Rattle.std.specs.Option.{option_map}
-use Rattle.cc_query.proofs.Opened.{holds_opened, rows_opened, within_opened}
+use Rattle.cc_query.proofs.Opened.{good_opened, holds_opened, rows_opened, within_opened}
 use Rattle.cc_query.proofs.Reaching.{query_there}
 use Rattle.cc_query.proofs.Refusing.{opening_refused}
 use Rattle.cc_query.specs.Sessions.{SessionView, IsSessionOf}
@@ -30,4 +30,11 @@ returns-clause-rows c = λ d q of.
     (c.in_ok-form.ensures.tells d q there.laws there.query)
 
 pub returns-clause-few : goal.returns-clause-few
-returns-clause-few c = within_opened c.args.self.now.ask c.in_ok-solver_of.field-0 c.in_ok-form.form.clauses c.in_ok-solver_of.ensures.entries c.in_ok-solver_of.ensures.count
+returns-clause-few c = within_opened c.args.self.now.ask c.in_ok-solver_of.field-0 c.in_ok-form.form c.in_ok-solver_of.ensures.good c.in_ok-solver_of.ensures.sizes
+    c.in_ok-solver_of.ensures.variables c.in_ok-solver_of.ensures.few c.in_ok-solver_of.ensures.entries c.in_ok-solver_of.ensures.count
+
+pub returns-clause-good : goal.returns-clause-good
+returns-clause-good c = λ d q of.
+    let there = subst (λ (v : SessionView). IsSessionOf v d q) (sym c.self.view_is) of in
+    good_opened d q _ c.args.self.now c.args.part c.denies_claim.result (option_map (λ key. key.now) c.key_of-key.result) c.in_ok-form.form
+    c.self.view_is c.denies_claim.ensures c.key_of-key.ensures (c.in_ok-form.ensures.made d q there.laws there.query) c.in_ok-solver_of.ensures.good
