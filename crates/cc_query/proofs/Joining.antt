@@ -84,9 +84,9 @@ block_gives laws (Ok given) now new solver listed askable other event (blocked, 
     (gives_block laws (record now { phase = phases.Denying solver listed }) askable solver blocked listed within.0 refl other is.sizes is.kernel found within.3)
 
 -- the row that was copied
-pub block_event : (event : Event) (solver : SolverView) (items row : List ℕ) → solver.standing ≡ Found items → event ≡ events.Log (lines.Block items) →
-    solver.standing ≡ Found row → event ≡ events.Log (lines.Block row)
-block_event event solver items row here event_is there = let same : items ≡ row = cc in event_is ∙ ap (λ (l : List ℕ). events.Log (lines.Block l)) same
+pub block_event : (solver : SolverView) (copied : List ℕ) (row items : List ℕ) → solver.standing ≡ Found items → copied ≡ items → solver.standing ≡ Found row →
+    events.Log (lines.Block copied) ≡ events.Log (lines.Block row)
+block_event solver copied row items here same there = let one : items ≡ row = cc in ap (λ (l : List ℕ). events.Log (lines.Block l)) (same ∙ one)
 
 -- ---- opening
 

@@ -1,6 +1,6 @@
 -- The lines of a session's log have short numbers.
-use Rattle.std.proofs.Common.{◌≡◌, ◌∙◌, ℕ, ◌+◌, ◌*◌, ◌-◌, ◌<◌, ◌≤◌, zero, suc, inl, inr, List, [], ◌∷◌, ◌++◌, length, map, Option, Some, None, refl, sym, subst, ap, arith}
-use Rattle.std.specs.Prelude.{All, Contains, IfSome, slice_get, sum}
+use Rattle.std.proofs.Common.{◌≡◌, ◌∙◌, ℕ, ◌+◌, ◌*◌, ◌-◌, ◌<◌, ◌≤◌, zero, suc, inl, inr, List, [], ◌∷◌, ◌++◌, length, map, Option, Some, None, Result, Ok, Err, refl, sym, subst, ap, arith}
+use Rattle.std.specs.Prelude.{All, Contains, IfSome, OnOk, slice_get, sum}
 use Rattle.std.specs.List.{AllByRecursion}
 use Rattle.std.proofs.lemmas.List.Elements.{All-head, All-tail}
 use Rattle.std.proofs.lemmas.List.Sums.{sum_by-cons}
@@ -14,9 +14,10 @@ use Rattle.cc_defs.specs.Rows.{IsRow}
 use Rattle.cc_defs.specs.Runs.{Ask}
 use Rattle.cc_defs.specs.Sections.{Axioms, denial_from}
 use Rattle.cc_defs.specs.Signatures.{Signature}
+use Rattle.cc_form.specs.Forms.{IsAxioms}
 use Rattle.cc_kernel.specs.Kernels.{Entry, KernelView, clauses_of}
 use Rattle.cc_query.specs.Accepted.{AreGoodAxioms}
-use Rattle.cc_query.specs.Sessions.{Fits, IsAskable, IsWithin, last_at}
+use Rattle.cc_query.specs.Sessions.{Fits, IsWithin, last_at}
 use Rattle.cc_query.proofs.Steps.{in_cases, in_first, in_none, in_rest}
 
 -- ---- clauses over variables
@@ -155,9 +156,15 @@ each_of : {X : Type 0} (P : X → Type 0) (xs : List X) → All P xs → AllByRe
 each_of P [] all = tt
 each_of P (x ∷ xs) all = (All-head P x xs all, each_of P xs (All-tail P x xs all))
 
-pub good_axioms : (axioms : Axioms) → All IsClause axioms.clauses → All (IsOver axioms.variables) axioms.clauses → sum axioms.sizes + 1 ≤ axioms.variables → AreGoodAxioms axioms
-good_axioms axioms clauses over least = record {
-  clauses = each_of IsClause axioms.clauses clauses;
-  over = each_of (IsOver axioms.variables) axioms.clauses over;
-  positions = omega arith;
-}
+good_of : (axioms : Axioms) → IsAxioms axioms → AreGoodAxioms axioms
+good_of axioms is =
+    let least = is.least in
+    record {
+      clauses = each_of IsClause axioms.clauses is.each;
+      over = each_of (IsOver axioms.variables) axioms.clauses is.over;
+      positions = omega arith;
+    }
+
+pub good_axioms : {S E : Type 0} (r : Result S E) (axioms now : Axioms) → axioms ≡ now → IsAxioms axioms → OnOk r (AreGoodAxioms now)
+good_axioms (Ok value) axioms now same is = subst AreGoodAxioms same (good_of axioms is)
+good_axioms (Err error) axioms now same is = tt

@@ -1,6 +1,7 @@
 use Rattle.std.proofs.Common.{◌∙◌, ap}
 use Rattle.cc_kernel.specs.Kernels.{KernelView}
 use Rattle.cc_query.proofs.Opened.{positions_there}
+use Rattle.cc_query.proofs.Shortness.{good_axioms}
 use Rattle.cc_query.proofs.opening.solver_of.Goals as goal
 
 pub new-requires-clause-positions : goal.new-requires-clause-positions
@@ -10,4 +11,4 @@ new-requires-clause-positions c =
     c.sizes.ensures.choices
 
 pub returns-clause-good : goal.returns-clause-good
-returns-clause-good c = ?
+returns-clause-good c = good_axioms c.new.result _ c.args.form c.form.view_is c.form.invariant.axioms

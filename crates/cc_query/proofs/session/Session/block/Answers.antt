@@ -1,4 +1,5 @@
-use Rattle.cc_query.proofs.Joining.{block_ready, blocked_is}
+use Rattle.std.proofs.Common.{◌∙◌}
+use Rattle.cc_query.proofs.Joining.{block_event, block_ready, blocked_is}
 use Rattle.cc_query.proofs.session.Session.block.Goals as goal
 
 pub stand-requires : goal.stand-requires
@@ -10,4 +11,5 @@ pub returns-clause-stands : goal.returns-clause-stands
 returns-clause-stands c = (c.block_row.new.self, blocked_is c.args.solver c.block_row.new.self c.requires.1 c.in_ok-block_row.ensures.blocked, c.stand.ensures)
 
 pub returns-clause-event : goal.returns-clause-event
-returns-clause-event c = λ row there. ?
+returns-clause-event c = λ row there.
+    block_event c.args.solver c.of.result row c.row.result.now c.row.ensures (c.of.ensures ∙ c.in_ok-row.ensures.items) there

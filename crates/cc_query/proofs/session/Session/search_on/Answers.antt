@@ -1,6 +1,21 @@
 use Rattle.cc_cdcl.specs.declared.solver.Step.TheVariants as answers
-use Rattle.cc_query.proofs.Joining.{askable_of, empty_gives, line_gives, search_spent, step_at}
+use Rattle.cc_query.proofs.Joining.{askable_of, empty_gives, found_ready, line_ready, line_gives, search_spent, step_at}
 use Rattle.cc_query.proofs.session.Session.search_on.Goals as goal
+
+pub line-requires-clause-ready : goal.line-requires-clause-ready
+line-requires-clause-ready c =
+    let askable = askable_of _ c.args.self.now c.self.view_is c.self.invariant in
+    let ready = line_ready c.args.self.now.ask c.args.solver c.next.new.self c.args.listed askable.budget
+    (step_at c.budget_of-budget.result _ c.args.self.now c.args.solver c.next.new.self c.in_ok-next.field-0 answers.Line c.budget_of-budget.ensures c.self.view_is
+    c.in-Line.is c.in_ok-next.ensures.step)
+    c.requires.ready.2 in
+    (c.requires.ready.0, ready.0, ready.1)
+
+pub found-requires-clause-within : goal.found-requires-clause-within
+found-requires-clause-within c = (found_ready c.args.self.now.ask c.args.solver c.next.new.self c.args.listed
+    (step_at c.budget_of-budget.result _ c.args.self.now c.args.solver c.next.new.self c.in_ok-next.field-0 answers.Found c.budget_of-budget.ensures c.self.view_is
+    c.in-Found.is c.in_ok-next.ensures.step)
+    c.requires.ready.2).1
 
 pub returns-in-Line-clause-gives : goal.returns-in-Line-clause-gives
 returns-in-Line-clause-gives c =
