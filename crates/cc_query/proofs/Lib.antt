@@ -13,3 +13,6 @@ pub mod Running
 pub mod Steps
 pub mod Told
 pub mod Within
+pub mod AcceptedLines
+pub mod AcceptedSections
+pub mod SpentBudgets
