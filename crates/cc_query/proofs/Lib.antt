@@ -16,3 +16,4 @@ pub mod Within
 pub mod AcceptedLines
 pub mod AcceptedSections
 pub mod SpentBudgets
+pub mod AcceptedRuns
