@@ -1,6 +1,6 @@
 -- The log of a run is accepted, section by section, horizon by horizon.
-use Rattle.std.proofs.Common.{◌≡◌, ◌≢◌, ◌∙◌, ℕ, ◌+◌, ◌-◌, ◌<◌, ◌≤◌, ◌⊎◌, inl, inr, zero, suc, Bool, true, false, List, [], ◌∷◌, ◌++◌, map, length, Option, Some, None, refl, sym, subst, ap, ap₂, arith, append_assoc, append-nil}
-use Rattle.std.specs.Prelude.{Contains, IsSome, IsNone, IfSome, ◌&&◌, not, is_some, flat_map}
+use Rattle.std.proofs.Common.{◌≡◌, ◌≢◌, ◌∙◌, ℕ, ◌+◌, ◌-◌, ◌≤◌, inl, inr, zero, suc, Bool, true, false, List, [], ◌∷◌, ◌++◌, map, length, Option, Some, None, refl, sym, subst, ap, ap₂, arith, append_assoc, append-nil}
+use Rattle.std.specs.Prelude.{Contains, IsNone, IfSome, ◌&&◌, not, is_some, flat_map}
 use Rattle.std.specs.List.{AllByRecursion}
 use Rattle.std.proofs.lemmas.Grind.{flat_map-append}
 use Rattle.std.proofs.lemmas.List.{map-append}
@@ -14,19 +14,19 @@ use Rattle.cc_defs.specs.declared.log.LogLine.{LogLine}
 use Rattle.cc_defs.specs.declared.log.LogLine.TheVariants as lines
 use Rattle.cc_defs.specs.declared.log.LogVerdict.TheVariants as verdicts
 use Rattle.cc_defs.specs.Description.{Description, sizes_at}
-use Rattle.cc_defs.specs.Events.{line_told, log_of}
-use Rattle.cc_defs.specs.Histories.{IsHistory, AreFirst}
-use Rattle.cc_defs.specs.LogTexts.{IsFormed, IsShort, header, line_text, lines_in}
-use Rattle.cc_defs.specs.Logs.{Subject, SectionText, Standing, AreSections, AreJudged, IsContinued, IsVerdict, IsVerdictOf, IsVerdictBehind, at_first}
+use Rattle.cc_defs.specs.Events.{line_told}
+use Rattle.cc_defs.specs.Histories.{AreFirst}
+use Rattle.cc_defs.specs.LogTexts.{IsFormed, IsShort, line_text}
+use Rattle.cc_defs.specs.Logs.{Subject, SectionText, Standing, AreSections, AreJudged, IsContinued, IsVerdictOf, IsVerdictBehind, at_first}
 use Rattle.cc_defs.specs.Paths.{IsPath}
 use Rattle.cc_defs.specs.Resolved.{Query}
 use Rattle.cc_defs.specs.Rows.{IsRow}
-use Rattle.cc_defs.specs.Runs.{Ask, Run, Step, Derive, Tell, Section, Horizon, Histories, Conditions, Claim, Failure, AreDone, IsTrueOf, IsExhausted, IsFairRun, IsFairSection, TellsHistories, OfConditions, OfClaim, EndsWith, axioms_of, denied_rows, rows_of, optional, key_row, told, logged, told_row, step_events, section_events, horizon_events, said_of, done_events, events_of, first_horizon, last_horizon, horizon_at}
-use Rattle.cc_defs.specs.Sections.{Axioms, Right, EndsRightly}
+use Rattle.cc_defs.specs.Runs.{Ask, Run, Step, Derive, Tell, Section, Horizon, Histories, Conditions, Claim, Failure, AreDone, IsTrueOf, IsExhausted, IsFairRun, IsFairSection, TellsHistories, EndsWith, axioms_of, denied_rows, rows_of, optional, key_row, told, logged, told_row, step_events, section_events, horizon_events, said_of, done_events, events_of, first_horizon, last_horizon, horizon_at}
+use Rattle.cc_defs.specs.Sections.{Right, EndsRightly}
 use Rattle.cc_query.specs.Accepted.{AreGoodAxioms, HaveGoodAxioms, IsReported, WrittenLogsAreAccepted, lines_of, subject_of}
 use Rattle.cc_query.proofs.AcceptedLines.{all_front, all_behind, log_cut, no_headings, read_back}
 use Rattle.cc_query.proofs.AcceptedSections.{IsWritten, inner_lines, step_lines, written}
-use Rattle.cc_query.proofs.Steps.{in_none, in_first, in_rest}
+use Rattle.cc_query.proofs.Steps.{in_first, in_rest}
 
 -- ---- headings
 
@@ -117,7 +117,7 @@ section_logged conditions horizon section word ends =
     let rows = map (told_row (events.History horizon (length (denied_rows section) + 1))) (optional section.last) in
     let last = map (λ w. logged (lines.End w)) (optional section.word) in
     let front : lines_of (steps ++ rows) ≡ step_lines section.steps ++ [] =
-        lines_append steps rows ∙ ap₂ (λ (a b : List LogLine). a ++ b) (steps_logged horizon 1 section.steps) (last_logged horizon (length (denied_rows section) + 1) section.last) in
+    lines_append steps rows ∙ ap₂ (λ (a b : List LogLine). a ++ b) (steps_logged horizon 1 section.steps) (last_logged horizon (length (denied_rows section) + 1) section.last) in
     ap (λ (all : List LogLine). lines.Section conditions horizon ∷ all)
     (lines_append (steps ++ rows) last ∙ ap₂ (λ (a b : List LogLine). a ++ b) (front ∙ append-nil (step_lines section.steps)) (word_logged word section.word ends))
 
@@ -219,7 +219,7 @@ module _ (d : Description) (q : Query) (ask : Ask) where
       IsAcceptedAt subject false horizon (lines_of (section_events false horizon section) ++ more)
   ended_histories horizon section more claim tells ends formed good most next =
       let rows = all_front (IsRow (sizes_at d horizon)) (denied_rows section) (optional section.last)
-          (first_are_rows d q horizon (key_row ask) (rows_of section) tells.first) in
+      (first_are_rows d q horizon (key_row ask) (rows_of section) tells.first) in
       let is = section_is_logged false horizon section words.Empty tells.fair rows ends formed good in
       ended false false horizon section (lines_of (section_events false horizon section)) more is (no_claim (is_some q.claim) claim) most next
 
@@ -240,11 +240,11 @@ module _ (d : Description) (q : Query) (ask : Ask) where
       let spelled = subst (AllByRecursion IsFormed) both formed in
       let there = subst (HaveGoodAxioms d q ask.after) both good in
       let front_is = section_is_logged true horizon conditions words.Found looks.fair
-          (none_are_rows (sizes_at d horizon) (denied_rows conditions) (optional conditions.last) looks.silent) found
-          (all_front IsFormed front behind spelled) (good_front front behind there) in
+      (none_are_rows (sizes_at d horizon) (denied_rows conditions) (optional conditions.last) looks.silent) found
+      (all_front IsFormed front behind spelled) (good_front front behind there) in
       let behind_is = section_is_logged false horizon section words.Empty denies.fair
-          (none_are_rows (sizes_at d horizon) (denied_rows section) (optional section.last) denies.silent) ends
-          (all_behind IsFormed front behind spelled) (good_behind front behind there) in
+      (none_are_rows (sizes_at d horizon) (denied_rows section) (optional section.last) denies.silent) ends
+      (all_behind IsFormed front behind spelled) (good_behind front behind there) in
       subst (IsAcceptedAt subject false horizon) (sym (ap (λ (all : List LogLine). all ++ more) both ∙ append_assoc front behind more))
       (met horizon conditions front (behind ++ more) front_is (sym claim) most
       (ended true false horizon section behind more behind_is (in_middle (is_some q.claim)) most next))
@@ -310,7 +310,7 @@ module _ (d : Description) (q : Query) (ask : Ask) where
 verdict_behind : (subject : Subject) (all : List LogLine) (sections : List SectionText) (last blocked : ℕ) → AreSections 2 (map line_text all) sections →
     AreJudged subject (at_first subject) sections (verdicts.Accepted subject.first last blocked) →
     IsVerdictBehind subject (map line_text all) (verdicts.Accepted subject.first last blocked)
-verdict_behind subject [] [] last blocked are judged = elim judged [ | inl closed ↦ absurd (closed.1 refl) | inr refused ↦ absurd cc ]
+verdict_behind subject [] [] last blocked are judged = elim judged [ inl closed ↦ absurd (closed.1 refl) | inr refused ↦ absurd cc ]
 verdict_behind subject [] (section ∷ sections) last blocked are judged = let none = are.2 in absurd cc
 verdict_behind subject (line ∷ all) sections last blocked are judged = inr (inr (sections, are, judged))
 

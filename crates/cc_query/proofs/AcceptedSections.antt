@@ -1,5 +1,5 @@
 -- The sections of a fair run are found right.
-use Rattle.std.proofs.Common.{◌≡◌, ◌∙◌, ℕ, ◌+◌, ◌-◌, ◌<◌, ◌≤◌, ◌⊎◌, inl, inr, zero, suc, List, [], ◌∷◌, ◌++◌, map, length, Some, None, refl, sym, subst, ap, arith}
+use Rattle.std.proofs.Common.{◌≡◌, ℕ, ◌+◌, ◌-◌, ◌<◌, ◌≤◌, inl, inr, zero, suc, false, List, [], ◌∷◌, ◌++◌, map, Some, refl, sym, subst, arith}
 use Rattle.std.specs.Prelude.{Contains, slice_get}
 use Rattle.std.specs.List.{AllByRecursion, sum}
 use Rattle.std.proofs.lemmas.List.Sums.{sum_by-cons}
@@ -7,7 +7,7 @@ use Rattle.cc_defs.specs.declared.log.EndWord.{EndWord}
 use Rattle.cc_defs.specs.declared.log.LogLine.{LogLine}
 use Rattle.cc_defs.specs.declared.log.LogLine.TheVariants as lines
 use Rattle.cc_defs.specs.ClauseForms.{positive}
-use Rattle.cc_defs.specs.Clauses.{Literal, IsClause, IsOver, IsNumbered, IsResolvent, ReachesFrom, Reaches, opposite}
+use Rattle.cc_defs.specs.Clauses.{Literal, IsClause, IsOver, IsResolvent, ReachesFrom, Reaches, opposite}
 use Rattle.cc_defs.specs.LogTexts.{IsFormed, line_text}
 use Rattle.cc_defs.specs.Rows.{IsRow}
 use Rattle.cc_defs.specs.Runs.{Step, Derive, Tell, AreFairSteps}
@@ -87,8 +87,8 @@ clause_tail last (literal ∷ clause) is = is.1
 
 denial_clause : (sizes row : List ℕ) → IsRow sizes row → IsClause (row_denial sizes row)
 denial_clause sizes row is =
-    clause_tail (record { variable = 0; positive = Rattle.std.proofs.Common.false }) (row_denial sizes row)
-    (denial_ascends 1 sizes row (record { variable = 0; positive = Rattle.std.proofs.Common.false }) is (omega arith))
+    clause_tail (record { variable = 0; positive = false }) (row_denial sizes row)
+    (denial_ascends 1 sizes row (record { variable = 0; positive = false }) is (omega arith))
 
 -- ---- right sections
 
@@ -129,16 +129,16 @@ found_right axioms most word [] before after blocks line good rows fair formed e
 found_right axioms most word (Derive clause chain ∷ steps) before after blocks line good rows (none, fair_line, fair) formed ends =
     let is_good = reached (IsGoodClause axioms.variables) (good_resolved axioms.variables) before good chain clause fair_line.reached in
     let (count, last, found) = found_right axioms most word steps (before ++ clause ∷ []) after blocks (line + 1)
-        (all_append (IsGoodClause axioms.variables) before (clause ∷ []) good (is_good, tt)) rows fair formed.1 ends in (
+    (all_append (IsGoodClause axioms.variables) before (clause ∷ []) good (is_good, tt)) rows fair formed.1 ends in (
       count,
       last,
       inr (lines.Derived clause chain, read_back (lines.Derived clause chain) formed.0, inr (inr (none, is_good.0, is_good.1, fair_line.reached, found))),
     )
 found_right axioms most word (Tell row ∷ steps) before after blocks line good rows (none, fair) formed ends =
     let is_good : IsGoodClause axioms.variables (row_denial axioms.sizes row) =
-        (denial_clause axioms.sizes row rows.0, denial_over axioms.variables axioms.sizes row most rows.0) in
+    (denial_clause axioms.sizes row rows.0, denial_over axioms.variables axioms.sizes row most rows.0) in
     let (count, last, found) = found_right axioms most word steps (before ++ row_denial axioms.sizes row ∷ []) after (blocks + 1) (line + 1)
-        (all_append (IsGoodClause axioms.variables) before (row_denial axioms.sizes row ∷ []) good (is_good, tt)) rows.1 fair formed.1 ends in (
+    (all_append (IsGoodClause axioms.variables) before (row_denial axioms.sizes row ∷ []) good (is_good, tt)) rows.1 fair formed.1 ends in (
       count,
       last,
       inr (lines.Block row, read_back (lines.Block row) formed.0, inr (inr (none, rows.0, found))),

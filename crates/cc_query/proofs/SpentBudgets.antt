@@ -1,16 +1,13 @@
 -- A budget that is spent is less than the power of 3 to the number of open variables.
-use Rattle.std.proofs.Common.{◌≡◌, ◌∙◌, ℕ, ◌+◌, ◌<◌, ◌≤◌, suc, List, [], ◌∷◌, ◌++◌, map, refl, sym, subst, arith}
-use Rattle.std.proofs.lemmas.List.{nil_from_length}
+use Rattle.std.proofs.Common.{◌≡◌, ◌∙◌, ℕ, ◌<◌, ◌≤◌, List, [], ◌∷◌, ◌++◌, map, refl, subst, arith}
 use Rattle.std.specs.Prelude.{◌^◌, sum}
 use Rattle.std.specs.List.{AllByRecursion}
 use Rattle.cc_cdcl.specs.Earned.{Line, Derived, Given, AreEarnedBehind, IsEarnedBehind, earned_count}
 use Rattle.cc_cdcl.specs.Laws.{EarnedLinesAreFew}
-use Rattle.cc_defs.specs.declared.log.EndWord.TheVariants as words
-use Rattle.cc_defs.specs.Assignments.{HasOpen}
 use Rattle.cc_defs.specs.Clauses.{Literal, IsOver}
 use Rattle.cc_defs.specs.Rows.{IsRow}
-use Rattle.cc_defs.specs.Runs.{Step, Derive, Tell, Section, AreFairSteps, IsFairLine, IsFairSection, EndsWith, counted_in}
-use Rattle.cc_defs.specs.Sections.{Axioms, row_denial}
+use Rattle.cc_defs.specs.Runs.{Step, Derive, Tell, AreFairSteps, IsFairLine, counted_in}
+use Rattle.cc_defs.specs.Sections.{row_denial}
 use Rattle.cc_query.specs.Laws.{SpentBudgetsAreSmall}
 use Rattle.cc_query.specs.Parts.{rows_in}
 use Rattle.cc_query.proofs.AcceptedLines.{all_append}
@@ -29,13 +26,17 @@ earned_lines : (variables : ℕ) (sizes : List ℕ) → sum sizes ≤ variables 
     AreEarnedBehind variables before (map (line_of sizes) steps)
 earned_lines variables sizes most before [] after over rows fair = tt
 earned_lines variables sizes most before (Derive clause chain ∷ steps) after over rows (none, line, fair) =
-    let is_over = reached (IsOver variables) (over_resolved variables) before over chain clause line.reached in
-    (is_over, earned_line before clause chain line,
-    earned_lines variables sizes most (before ++ clause ∷ []) steps after (all_append (IsOver variables) before (clause ∷ []) over (is_over, tt)) rows fair)
+    let is_over = reached (IsOver variables) (over_resolved variables) before over chain clause line.reached in (
+      is_over,
+      earned_line before clause chain line,
+      earned_lines variables sizes most (before ++ clause ∷ []) steps after (all_append (IsOver variables) before (clause ∷ []) over (is_over, tt)) rows fair,
+    )
 earned_lines variables sizes most before (Tell row ∷ steps) after over rows (none, fair) =
-    let is_over = denial_over variables sizes row most rows.0 in
-    (is_over, tt,
-    earned_lines variables sizes most (before ++ row_denial sizes row ∷ []) steps after (all_append (IsOver variables) before (row_denial sizes row ∷ []) over (is_over, tt)) rows.1 fair)
+    let is_over = denial_over variables sizes row most rows.0 in (
+      is_over,
+      tt,
+      earned_lines variables sizes most (before ++ row_denial sizes row ∷ []) steps after (all_append (IsOver variables) before (row_denial sizes row ∷ []) over (is_over, tt)) rows.1 fair,
+    )
 
 counted_are_earned : (sizes : List ℕ) (steps : List Step) → earned_count (map (line_of sizes) steps) ≡ counted_in steps
 counted_are_earned sizes [] = refl
