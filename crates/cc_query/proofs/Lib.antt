@@ -15,3 +15,7 @@ pub mod Shortness
 pub mod Steps
 pub mod Told
 pub mod Within
+pub mod AcceptedLines
+pub mod AcceptedSections
+pub mod SpentBudgets
+pub mod AcceptedRuns

@@ -1,5 +1,5 @@
 -- The log of a search is accepted, as far as the search reported its horizons.
-use Rattle.std.specs.Prelude.{◌≡◌, ℕ, ◌+◌, ◌-◌, ◌<◌, ◌≤◌, ◌⊎◌, Bool, List, [], length, flat_map, sum, Option, Some, None, is_some, Contains}
+use Rattle.std.specs.Prelude.{◌≡◌, ℕ, ◌<◌, ◌≤◌, ◌⊎◌, Bool, List, length, flat_map, sum, Option, Some, None, is_some, Contains}
 use Rattle.std.specs.List.{AllByRecursion}
 use Rattle.cc_defs.specs.declared.event.Told.{Told}
 use Rattle.cc_defs.specs.declared.lists.Key.{Key}

@@ -2,7 +2,7 @@
 ghost use Rattle.cc_query.specs.Accepted.{WrittenLogsAreAccepted};
 ghost use Rattle.cc_query.specs.Laws.{ListingsResume, SearchLaws, SpentBudgetsAreSmall};
 
-use cc_cdcl::laws::{denial_denies, denial_leaves_others};
+use cc_cdcl::laws::{denial_denies, denial_leaves_others, earned_lines_are_few};
 use cc_clauses::laws::resolvents_are_sound;
 
 /// A listing that stopped at its asked number, and the one that goes on after its last key, make up the whole.
@@ -27,4 +27,6 @@ pub fn written_logs_are_accepted()
 /// Where the budget of a section is spent, it is less than the power of 3 to the number of variables that its axioms leave open.
 pub fn spent_budgets_are_small()
     ensures { SpentBudgetsAreSmall }
-{}
+{
+    earned_lines_are_few();
+}
