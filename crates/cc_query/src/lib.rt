@@ -10,4 +10,5 @@ mod session;
 
 pub use ask::Ask;
 pub use keys::fits;
+pub use opening::form_at;
 pub use session::Session;

@@ -36,7 +36,7 @@ pub(crate) fn denies_claim(part: Part) -> bool
 }
 
 /// The clauses of a section at a horizon. Refuses the first limit that its rules or clauses pass.
-pub(crate) fn form_at(
+pub fn form_at(
     alloc: Global,
     sig: &Sig,
     laws: &Laws<'_>,
