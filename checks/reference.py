@@ -1549,18 +1549,19 @@ def first_files(files):
     return found
 
 
-def show(book):
+def show_book(book, lines_of):
+    """Prints each case of a book: its title, and what `lines_of` says of its files, in their order."""
     for title, files in cases_of(book):
-        lines = case_lines(first_files(files), files[0][0])
-        sys.stdout.write("\n".join([f"=== {title}"] + lines) + "\n")
+        sys.stdout.write("\n".join([f"=== {title}"] + lines_of(files)) + "\n")
 
 
-def main():
+def show_books(lines_of):
+    """Does so with the books that the words of the command line name."""
     if len(sys.argv) < 2:
-        sys.exit("usage: checks/reference.py BOOK..")
+        sys.exit(f"usage: {sys.argv[0]} BOOK..")
     for name in sys.argv[1:]:
         with open(name, "rb") as file:
-            show(file.read())
+            show_book(file.read(), lines_of)
 
 
 def run_deep(function):
@@ -1585,4 +1586,4 @@ def run_deep(function):
 
 
 if __name__ == "__main__":
-    run_deep(main)
+    run_deep(lambda: show_books(lambda files: case_lines(first_files(files), files[0][0])))

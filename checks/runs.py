@@ -1,5 +1,5 @@
 #!/usr/bin/env python3
-"""A plain second reading of a run in list mode: Out, Err and the code, by brute force from the definition of a model.
+"""A plain second reading of a run in list and check mode: Out, Err and the code, by brute force from the definition of a model.
 
 Reads books of runs, as cc_rows does, and prints for each case the lines of Out and Err and the code. The log is not foretold, and no
 budget is taken to be spent. Words are those of the plain form. Nothing here is meant to be fast: a few constants and horizons.
@@ -7,12 +7,11 @@ budget is taken to be spent. Words are those of the plain form. Nothing here is 
 Usage: checks/runs.py BOOK..
 """
 import re
-import sys
 
 from reference import (
-    Refused, cases_of, check_ground_limits, check_limit, check_steps, described, first_files, is_boolean_constant, node_count, run_deep,
+    Refused, check_ground_limits, check_limit, check_steps, described, first_files, is_boolean_constant, node_count, run_deep, show_books,
 )
-from sections import Theory, is_history, paths
+from sections import Theory, clause_list, is_history, judge, paths, split_log
 
 USAGE = "usage: ccalc [--mode list|check|make] [--query LABEL] [--count N] [--budget B] [--after KEY] [--log NAME] [--size N] [FILE]"
 OPTIONS = ("--mode", "--query", "--count", "--budget", "--after", "--log", "--size")
@@ -33,16 +32,21 @@ def number_of(text, most):
     return int(text)
 
 
-def words_read(words):
-    """The options of words of the plain form in list mode."""
-    given = {}
-    while len(words) >= 2 and words[0] in OPTIONS and words[0] not in given and not words[1].startswith("-"):
-        given[words[0]], words = words[1], words[2:]
-    if len(words) != 1 or words[0].startswith("-") or given.get("--mode", "list") != "list" or "--size" in given:
-        refuse(1)
-    count = number_of(given["--count"], 1000000) if "--count" in given else None
-    number_of(given.get("--budget", "1"), 2000000)
-    return words[0], given.get("--query"), count, given.get("--after")
+class Words:
+    """What words of the plain form ask for, in list or check mode."""
+
+    def __init__(self, words):
+        given = {}
+        while len(words) >= 2 and words[0] in OPTIONS and words[0] not in given and not words[1].startswith("-"):
+            given[words[0]], words = words[1], words[2:]
+        self.mode = given.get("--mode", "list")
+        if len(words) != 1 or words[0].startswith("-") or self.mode not in ("list", "check") or "--size" in given:
+            refuse(1)
+        if self.mode == "check" and ("--count" in given or "--budget" in given or "--log" not in given):
+            refuse(1)
+        self.count = number_of(given["--count"], 1000000) if "--count" in given else None
+        number_of(given.get("--budget", "1"), 2000000)
+        self.file, self.label, self.after, self.log = words[0], given.get("--query"), given.get("--after"), given.get("--log")
 
 
 def key_of(text):
@@ -114,28 +118,83 @@ def checked_key(description, query, text):
     return key
 
 
+def named(asked, files):
+    """The description, the query and the key that words name."""
+    description, stop = described(files, asked.file)
+    if stop == "read fault":
+        raise Stop(["ccalc: read fault"], 4)
+    if stop is not None:
+        raise Stop(["ccalc: " + stop_line(stop)], 2)
+    try:
+        check_ground_limits(description.table, description.laws)
+        query = chosen(description, asked.label)
+        check_steps(description.table, query)
+        parts = list(query.conditions) + ([query.claim] if query.claim else [])
+        check_limit("ground nodes", sum(node_count(description.table, part.formula) for part in parts), None)
+    except Refused as refused:
+        raise Stop(["ccalc: " + stop_line("refused " + refused.text(description.file_names))], 2)
+    return description, query, None if asked.after is None else checked_key(description, query, asked.after)
+
+
+def verdict_of(description, query, key, log):
+    """Whether a log is accepted, with its horizons and the number of its blocks, or its first wrong line and the cause."""
+    sections, wrong = split_log(log)
+    if wrong:
+        return ("refused",) + wrong
+    first, last = (query.range.lo, query.range.hi) if key is None else (key[0], key[0])
+    horizon, is_claim_next, blocked, line = first, False, 0, 2
+    for letter, at, heading, texts in sections:
+        on_conditions = query.claim is not None and not is_claim_next
+        if letter != ("w" if on_conditions else "h") or at != horizon or at > last:
+            return "refused", heading, "section"
+        made = clause_list(description, query, at, not on_conditions and query.claim is not None, key[1] if key else None)
+        found = judge(made, (letter, at, heading, texts)).split()
+        if found[0] == "wrong":
+            return "refused", int(found[1]), " ".join(found[2:])
+        word, blocked, line = found[1], blocked + int(found[3]), int(found[5]) + 1
+        if word == "empty":
+            horizon, is_claim_next = horizon + 1, False
+        elif word == "found" and on_conditions:
+            is_claim_next = True
+        else:
+            return "refused", line - 1, "not refuted"
+    if is_claim_next or horizon == first:
+        return "refused", line, "section"
+    return "accepted", first, horizon - 1, blocked
+
+
+def checking(description, query, key, log):
+    verdict = verdict_of(description, query, key, log)
+    if verdict[0] == "accepted":
+        return [f"log accepted: horizons {verdict[1]} to {verdict[2]}, blocked {verdict[3]}"], 0
+    return [f"log refused: line {verdict[1]}, {verdict[2]}"], 1
+
+
 def answer(words, files):
     """Out, Err and the code."""
     try:
-        name, label, count, after = words_read(words)
-        description, stop = described(files, name)
-        if stop == "read fault":
-            raise Stop(["ccalc: read fault"], 4)
-        if stop is not None:
-            raise Stop(["ccalc: " + stop_line(stop)], 2)
-        try:
-            check_ground_limits(description.table, description.laws)
-            query = chosen(description, label)
-            check_steps(description.table, query)
-            parts = list(query.conditions) + ([query.claim] if query.claim else [])
-            check_limit("ground nodes", sum(node_count(description.table, part.formula) for part in parts), None)
-        except Refused as refused:
-            raise Stop(["ccalc: " + stop_line("refused " + refused.text(description.file_names))], 2)
-        key = None if after is None else checked_key(description, query, after)
-        out, code = claiming(description, query) if query.claim else listing(description, query, count, key)
+        asked = Words(words)
+        description, query, key = named(asked, files)
+        if asked.mode == "check":
+            if asked.log not in files:
+                raise Stop(["ccalc: read fault"], 4)
+            out, code = checking(description, query, key, files[asked.log])
+        elif query.claim:
+            out, code = claiming(description, query)
+        else:
+            out, code = listing(description, query, asked.count, key)
         return out, [], code
     except Stop as stop:
         return [], stop.args[0], stop.args[1]
+
+
+def answered(words, files):
+    """The description, the query and the key of a run that lists; none where it is refused or checks."""
+    try:
+        asked = Words(words)
+        return named(asked, files) if asked.mode == "list" else None
+    except Stop:
+        return None
 
 
 def stop_line(stop):
@@ -146,22 +205,13 @@ def stop_line(stop):
     return " ".join(words)
 
 
-def show(book):
-    for title, files in cases_of(book):
-        found = first_files(files)
-        words = found.get("words", b"").decode("latin-1").split("\n")[:-1]
-        out, err, code = answer(words, found)
-        lines = [f"out: {line}" for line in out] + [f"err: {line}" for line in err] + [f"code {code}"]
-        sys.stdout.write("\n".join([f"=== {title}"] + lines) + "\n")
-
-
-def main():
-    if len(sys.argv) < 2:
-        sys.exit("usage: checks/runs.py BOOK..")
-    for name in sys.argv[1:]:
-        with open(name, "rb") as file:
-            show(file.read())
+def run_lines(files):
+    """What is printed of a case: the lines of Out and Err, and the code."""
+    found = first_files(files)
+    words = found.get("words", b"").decode("latin-1").split("\n")[:-1]
+    out, err, code = answer(words, found)
+    return [f"out: {line}" for line in out] + [f"err: {line}" for line in err] + [f"code {code}"]
 
 
 if __name__ == "__main__":
-    run_deep(main)
+    run_deep(lambda: show_books(run_lines))

@@ -20,11 +20,10 @@ Usage: checks/sections.py BOOK..
 """
 import itertools
 import re
-import sys
 
 from reference import (
-    Constant, NoConcurrency, action_pairs, applied, bracket_environments, cases_of, common_values, described, domain_of,
-    environments, first_files, ground_constants, ground_name, run_deep, value_of,
+    Constant, NoConcurrency, action_pairs, applied, bracket_environments, common_values, described, domain_of,
+    environments, first_files, ground_constants, ground_name, run_deep, show_books, value_of,
 )
 
 
@@ -492,19 +491,5 @@ def log_lines(description, query, asked, log):
     return lines
 
 
-def show(book):
-    for title, files in cases_of(book):
-        lines = case_lines(first_files(files), files[0][0])
-        sys.stdout.write("\n".join([f"=== {title}"] + lines) + "\n")
-
-
-def main():
-    if len(sys.argv) < 2:
-        sys.exit("usage: checks/sections.py BOOK..")
-    for name in sys.argv[1:]:
-        with open(name, "rb") as file:
-            show(file.read())
-
-
 if __name__ == "__main__":
-    run_deep(main)
+    run_deep(lambda: show_books(lambda files: case_lines(first_files(files), files[0][0])))

@@ -28,7 +28,7 @@ impl Setting {
         Setting {
             fails: Vec::new(alloc),
             most: 4096,
-            room: [65_536, 4096, 4096],
+            room: [1_048_576; 3],
         }
     }
 

@@ -23,9 +23,6 @@ const CLASH: &str = ":- constants p :: simpleFluent. caused p. caused -p. :- que
 
 #[test]
 fn laws_may_be_called() {
-    cc_run::laws::rows_that_pass_are_the_states();
-    cc_run::laws::listing_is_fair();
-    cc_run::laws::texts_declare_one_thing();
     cc_syntax::laws::one_tree();
 }
 

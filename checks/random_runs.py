@@ -1,0 +1,153 @@
+#!/usr/bin/env python3
+"""Makes a book of random runs in list mode over small descriptions, for cc_rows and checks/runs.py.
+
+A description has two to four constants with few values, some laws of each kind, and one or two queries, some with a claim; the words
+ask for a label, a number of histories, or the histories after a key. About one case in eight has words, a query or a key that is
+refused. The same number of cases and the same seed give the same book.
+
+Usage: checks/random_runs.py CASES SEED      (the book goes to standard output)
+"""
+import random
+import sys
+
+
+def chance(number):
+    return random.random() < number
+
+
+class Description:
+    """Constants, each with its kind and its values, and the texts of statements over them."""
+
+    def __init__(self):
+        self.lines = [":- sorts s. :- objects a, b, c :: s. :- variables V :: s."]
+        self.fluents, self.determined, self.actions = {}, {}, {}
+        for name in ["p", "q", "r"][: random.randint(1, 2)]:
+            self.fluents[name] = self.declare(name, random.choice(["simpleFluent", "inertialFluent", "inertialFluent"]))
+        if chance(0.3):
+            self.determined["d"] = self.declare("d", "sdFluent")
+        for name in ["x", "y"][: random.randint(0, 2)]:
+            self.actions[name] = self.declare(name, random.choice(["action", "exogenousAction", "exogenousAction"]), True)
+        for _ in range(random.randint(0, 5)):
+            self.lines.append(self.law())
+
+    def declare(self, name, kind, is_boolean=False):
+        if is_boolean or chance(0.75):
+            self.lines.append(f":- constants {name} :: {kind}.")
+            return None
+        self.lines.append(f":- constants {name} :: {kind}(s).")
+        return ["a", "b", "c"]
+
+    def literal(self, constants):
+        name = random.choice(list(constants))
+        if constants[name] is None:
+            return ("" if chance(0.5) else "-") + name
+        return name + random.choice(["=", "=", "\\="]) + random.choice(constants[name])
+
+    def atom(self, constants):
+        """A literal that may be a head."""
+        name = random.choice(list(constants))
+        return ("" if chance(0.6) else "-") + name if constants[name] is None else f"{name}={random.choice(constants[name])}"
+
+    def formula(self, constants, depth=2):
+        if depth == 0 or chance(0.55):
+            return self.literal(constants)
+        mark = random.choice([" & ", " ++ ", " ->> ", " <-> "])
+        return "(" + self.formula(constants, depth - 1) + mark + self.formula(constants, depth - 1) + ")"
+
+    def states(self):
+        return {**self.fluents, **self.determined}
+
+    def law(self):
+        states, all_ = self.states(), {**self.states(), **self.actions}
+        kinds = ["caused", "caused", "constraint", "default", "after", "after"]
+        kinds += ["causes", "causes", "may", "non", "action"] if self.actions else []
+        kinds += ["noconcurrency"] if len(self.actions) > 1 and chance(0.2) else []
+        kind = random.choice(kinds)
+        if kind == "caused":
+            return f"caused {self.atom(states)} if {self.formula(states)}."
+        if kind == "constraint":
+            return f"constraint {self.formula(states)}."
+        if kind == "default":
+            return f"default {self.atom(states)}."
+        if kind == "after":
+            return f"caused {self.atom(self.fluents)} if {self.formula(states)} after {self.formula(all_)}."
+        if kind == "causes":
+            return f"{self.literal_of_action()} causes {self.atom(self.fluents)} if {self.formula(states)}."
+        if kind == "may":
+            return f"{self.literal_of_action()} may cause {self.atom(self.fluents)}."
+        if kind == "non":
+            return f"nonexecutable {self.literal_of_action()} if {self.formula(states)}."
+        if kind == "action":
+            return f"caused {self.atom(self.actions)} if {self.formula(all_)}."
+        return "noconcurrency."
+
+    def literal_of_action(self):
+        return random.choice(list(self.actions))
+
+    def condition(self, lo):
+        """A step with a formula of what is there."""
+        states, all_ = self.states(), {**self.states(), **self.actions}
+        if chance(0.4):
+            return f"maxstep: {self.formula(states)}"
+        step = random.randint(0, lo)
+        return f"{step}: {self.formula(states if step == lo else all_)}"
+
+    def query(self, label):
+        lo = random.randint(0, 2)
+        hi = min(2, lo + random.choice([0, 0, 1, 2]))
+        items = [f"label :: {label}", f"maxstep :: {lo}..{hi}" if hi > lo else f"maxstep :: {lo}"]
+        items += [self.condition(lo) for _ in range(random.randint(0, 2))]
+        if chance(0.3):
+            step, _, formula = self.condition(lo).partition(": ")
+            items.append(f"claim :: {step}: {formula}")
+        if chance(0.05):
+            items.append(f"{lo + 1}: {self.formula(self.states())}")
+        random.shuffle(items)
+        return ":- query " + "; ".join(items) + ".", lo, hi
+
+    def key(self, lo, hi):
+        horizon = random.randint(lo, hi) if chance(0.9) else hi + 1
+        constants = [v for v in self.states().values()], [v for v in self.actions.values()]
+        sizes = [2 if v is None else 3 for v in constants[0]]
+        row = list(sizes)
+        for _ in range(horizon):
+            row += [2 if v is None else 3 for v in constants[1]] + sizes
+        indexes = [random.randrange(size) if chance(0.97) else size for size in row]
+        if chance(0.04):
+            indexes.append(0)
+        return f"{horizon}:" + ",".join(str(index) for index in indexes)
+
+
+def case(number):
+    description = Description()
+    first, lo, hi = description.query("first")
+    description.lines.append(first)
+    words = []
+    if chance(0.25):
+        second, *range_ = description.query("second")
+        description.lines.append(second)
+        if chance(0.7):
+            words += ["--query", "second"]
+            lo, hi = range_
+    if chance(0.05):
+        words += ["--query", "third"][: 2 if "--query" not in words else 0]
+    if chance(0.35):
+        words += ["--count", str(random.randint(1, 6))]
+    if chance(0.3):
+        words += ["--after", description.key(lo, hi)]
+    if chance(0.3):
+        words += ["--log", "l"]
+    words.append("f.cc")
+    return f"=== {number}\n--- words\n" + "".join(word + "\n" for word in words) + "--- f.cc\n" + "".join(line + "\n" for line in description.lines)
+
+
+def main():
+    if len(sys.argv) != 3:
+        sys.exit("usage: checks/random_runs.py CASES SEED")
+    random.seed(int(sys.argv[2]))
+    for number in range(int(sys.argv[1])):
+        sys.stdout.write(case(number))
+
+
+if __name__ == "__main__":
+    main()

@@ -1,1 +1,0 @@
-:- constants p, q :: simpleFluent. :- query maxstep :: 0.
