@@ -122,8 +122,17 @@ fn best_beside(entries: &Entries, clause: &[Lit], start: Lit, level: u32, except
     found
 }
 
-// Visits the first of the nodes that were taken out. The other watched literal is looked at first, and the clause is left
-// unread where that is true. The number of the clause where it is false, and then no node is moved.
+// Whether a clause that is met is read all the same: one time in 16, as if by chance (multiplicative hashing), since clauses
+// are added all the while.
+fn is_due(count: usize, node: u32) -> bool {
+    let number = (count as u64).wrapping_add(u64::from(node / 2));
+    number.wrapping_mul(0x9E37_79B9_7F4A_7C15) < 0x1000_0000_0000_0000
+}
+
+// Visits the first of the nodes that were taken out. The other watched literal is looked at first, and the clause is mostly
+// left unread where that is true. But clauses that deny rows are met for long and wait at literals that change often, and would
+// be visited ever again: so now and then such a clause is read, and watches a literal that is not false. The number of the
+// clause where it is false, and then no node is moved.
 fn visit(
     kernel: &Kernel,
     longs: &[u32],
@@ -143,7 +152,7 @@ fn visit(
 {
     let fallen = step.lit.opposite();
     let other = links.watched(partner_of(node));
-    if is_true_to(entries, other, step.level) {
+    if is_true_to(entries, other, step.level) && !is_due(longs.len(), node) {
         links.put(node, fallen);
         return None;
     }

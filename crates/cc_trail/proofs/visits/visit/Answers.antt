@@ -20,8 +20,8 @@ put-requires-clause-over c =
     subst (λ (l : Literal). IsLiteralOver c.args.links.now.variables l) (sym c.opposite-fallen.ensures)
     (fallen_over c.args.kernel.now c.args.longs.now c.args.place c.args.step.now c.args.entries.now c.args.links.now c.requires.visiting c.args.node c.requires.first)
 
-pub returns-then-is_true_to-clause-visiting : goal.returns-then-is_true_to-clause-visiting
-returns-then-is_true_to-clause-visiting c =
+pub returns-then-not-is_due-clause-visiting : goal.returns-then-not-is_due-clause-visiting
+returns-then-not-is_due-clause-visiting c =
     kept_then c.args.kernel.now c.args.longs.now c.args.place c.args.step.now c.args.entries.now c.args.links.now c.requires.visiting c.args.node c.requires.first c.requires.once
     c.watched-other.result (c.watched-other.ensures.watched ∙ ap (λ (n : ℕ). watched_at c.args.links.now.watched n) c.partner_of.ensures) c.opposite-fallen.result c.put.new.self
     c.put.ensures c.opposite-fallen.ensures (c.is_true_to.ensures c.if-is_true_to.true)
