@@ -1,0 +1,169 @@
+-- How many lines and blocks there are: no more than bytes.
+use Rattle.std.proofs.Common.{◌≡◌, ◌∙◌, ℕ, ◌+◌, ◌<◌, ◌≤◌, ◌⊎◌, Bool, true, false, inl, inr, zero, suc, List, [], ◌∷◌, ◌++◌, length, drop, slice_get, Some, refl, subst, ap, arith, length-append}
+use Rattle.std.specs.Prelude.{◌==◌, if◌then◌else◌, Contains}
+use Rattle.cc_check.specs.declared.judge.Verdict.{Verdict}
+use Rattle.cc_check.specs.declared.judge.Verdict.TheVariants as findings
+use Rattle.cc_check.specs.Clauses.{finding_of}
+use Rattle.cc_check.specs.Splits.{Parts, IsSplit, IsSplitBehind, IsSplitOf}
+use Rattle.cc_defs.specs.declared.log.EndWord.{EndWord}
+use Rattle.cc_defs.specs.declared.log.EndWord.TheVariants as words
+use Rattle.cc_defs.specs.declared.log.LogLine.TheVariants as lines
+use Rattle.cc_defs.specs.Clauses.{Literal}
+use Rattle.cc_defs.specs.LogTexts.{before_lines, header, lines_in}
+use Rattle.cc_defs.specs.Logs.{SectionText, Standing, AreSections}
+use Rattle.cc_defs.specs.Sections.{Axioms, Finding, Right, Wrong, IsEnded, IsFound, row_denial}
+use Rattle.cc_judge.specs.declared.standing.Next.{Next}
+use Rattle.cc_judge.specs.declared.standing.Next.TheVariants as nexts
+use Rattle.cc_judge.specs.declared.standing.Standing.{Standing as Held}
+use Rattle.cc_judge.specs.Judging.{HasSections}
+use Rattle.cc_judge.specs.Standings.{AreFew, HasRoom, IsBehind, IsBehindFinding, IsEarly, IsForward}
+
+-- ---- within a section
+
+pub ended : (other : EndWord) (blocks line : ℕ) (texts : List (List ℕ)) (word : EndWord) (count end_line : ℕ) → IsEnded other blocks line texts (Right word count end_line) →
+    (word ≡ other) × (count ≡ blocks) × (end_line ≡ line)
+ended other blocks line [] word count end_line is = (cc, cc, cc)
+ended other blocks line (text ∷ texts) word count end_line (inl (none, is)) = absurd cc
+ended other blocks line (text ∷ texts) word count end_line (inr (read, is)) = absurd cc
+
+module _ (axioms : Axioms) (word : EndWord) (count end_line : ℕ) where
+  pub found_few : (before : List (List Literal)) (blocks line : ℕ) (texts : List (List ℕ)) → IsFound axioms before blocks line texts (Right word count end_line) →
+      (count ≤ blocks + length texts) × (end_line < line + length texts)
+  found_few before blocks line [] is = absurd cc
+  found_few before blocks line (text ∷ texts) (inl (none, is)) = absurd cc
+  found_few before blocks line (text ∷ texts) (inr (lines.Section conditions horizon, read, is)) = absurd cc
+  found_few before blocks line (text ∷ texts) (inr (lines.End other, read, inl (right, is))) =
+      let same = ended other blocks line texts word count end_line is in
+      let counts = same.1 in let ends = same.2 in (omega arith, omega arith)
+  found_few before blocks line (text ∷ texts) (inr (lines.End other, read, inr (wrong, is))) = absurd cc
+  found_few before blocks line (text ∷ texts) (inr (lines.Derived clause chain, read, inl (there, is))) = absurd cc
+  found_few before blocks line (text ∷ texts) (inr (lines.Derived clause chain, read, inr (inl (none, (cause, wrongly, is))))) = absurd cc
+  found_few before blocks line (text ∷ texts) (inr (lines.Derived clause chain, read, inr (inr (none, is_clause, over, reached, goes)))) =
+      let rest = found_few (before ++ clause ∷ []) blocks (line + 1) texts goes in
+      let counts = rest.0 in let ends = rest.1 in (omega arith, omega arith)
+  found_few before blocks line (text ∷ texts) (inr (lines.Block row, read, inl (there, is))) = absurd cc
+  found_few before blocks line (text ∷ texts) (inr (lines.Block row, read, inr (inl (none, wrong, is)))) = absurd cc
+  found_few before blocks line (text ∷ texts) (inr (lines.Block row, read, inr (inr (none, is_row, goes)))) =
+      let rest = found_few (before ++ row_denial axioms.sizes row ∷ []) (blocks + 1) (line + 1) texts goes in
+      let counts = rest.0 in let ends = rest.1 in (omega arith, omega arith)
+
+pub room_for : (axioms : Axioms) (blocked : ℕ) (section : SectionText) (verdict : Verdict) → IsEarly blocked section →
+    IsFound axioms axioms.clauses 0 (section.line + 1) section.texts (finding_of verdict) → HasRoom blocked verdict
+room_for axioms blocked section (findings.Right word count end_line) early found =
+    let few = found_few axioms word count end_line axioms.clauses 0 (section.line + 1) section.texts found in
+    let counts = few.0 in let ends = few.1 in let first = early.0 in let last = early.1 in (omega arith, omega arith)
+room_for axioms blocked section (findings.Refused line cause) early found = tt
+
+-- ---- behind it
+
+-- where it goes on, the blocks are counted, and the horizon is the same one or, behind an empty clause, the next
+pub moved : (standing : Standing) (conditions : Bool) (word : EndWord) (blocks line : ℕ) (held : Held) → IsBehind standing conditions word blocks line (nexts.Goes held) →
+    (held.blocked ≡ standing.blocked + blocks) × ((held.horizon ≡ standing.horizon) ⊎ ((word ≡ words.Empty) × (held.horizon ≡ standing.horizon + 1)))
+moved standing true words.Empty blocks line held is = (ap (λ (s : Standing). s.blocked) is, inr (refl, ap (λ (s : Standing). s.horizon) is))
+moved standing false words.Empty blocks line held is = (ap (λ (s : Standing). s.blocked) is, inr (refl, ap (λ (s : Standing). s.horizon) is))
+moved standing true words.Found blocks line held is = (ap (λ (s : Standing). s.blocked) is, inl (ap (λ (s : Standing). s.horizon) is))
+moved standing false words.Found blocks line held is = absurd cc
+moved standing true words.Spent blocks line held is = absurd cc
+moved standing false words.Spent blocks line held is = absurd cc
+
+pub forward : (axioms : Axioms) (standing : Standing) (section : SectionText) (conditions : Bool) (finding : Finding) (next : Next) → IsEarly standing.blocked section →
+    IsFound axioms axioms.clauses 0 (section.line + 1) section.texts finding → IsBehindFinding standing conditions finding next → IsForward standing section next
+forward axioms standing section conditions finding (nexts.Wrong line cause) early found is = tt
+forward axioms standing section conditions (Wrong line cause) (nexts.Goes held) early found is = absurd cc
+forward axioms standing section conditions (Right word count end_line) (nexts.Goes held) early found is =
+    let few = found_few axioms word count end_line axioms.clauses 0 (section.line + 1) section.texts found in
+    let first = early.0 in let counts = few.0 in
+    let both = moved standing conditions word count end_line held is in
+    let more = both.0 in
+    (elim both.1 [ inl same ↦ omega arith | inr up ↦ (let higher = up.1 in omega arith) ], omega arith)
+
+-- ---- the lines of a text
+
+shorter : (stops : Bool) (byte : ℕ) (lines : List (List ℕ)) → length (if stops then (10 ∷ []) ∷ lines else before_lines byte lines) ≤ suc (length lines)
+shorter true byte lines = omega arith
+shorter false byte [] = omega arith
+shorter false byte (line ∷ lines) = omega arith
+
+lines_few : (bytes : List ℕ) → length (lines_in bytes) ≤ length bytes
+lines_few [] = omega arith
+lines_few (byte ∷ bytes) = let rest = lines_few bytes in let front = shorter (byte == 10) byte (lines_in bytes) in omega arith
+
+-- ---- the sections of a split log
+
+split_behind : (texts : List (List ℕ)) (sections : List SectionText) → IsSplitBehind texts (Parts sections) → AreSections 2 texts sections
+split_behind [] sections is = absurd cc
+split_behind (text ∷ texts) sections (inl (none, is)) = absurd cc
+split_behind (text ∷ texts) sections (inr (inl (none, read, is))) = absurd cc
+split_behind (text ∷ texts) sections (inr (inr (others, are, is))) =
+    let same : others ≡ sections = cc in subst (λ (l : List SectionText). AreSections 2 (text ∷ texts) l) same are
+
+split_of : (lines : List (List ℕ)) (sections : List SectionText) → IsSplitOf lines (Parts sections) →
+    (texts : List (List ℕ)) × (lines ≡ header ∷ texts) × AreSections 2 texts sections
+split_of [] sections is = absurd cc
+split_of (text ∷ texts) sections (inl (other, is)) = absurd cc
+split_of (text ∷ texts) sections (inr (same, behind)) = (texts, ap (λ (t : List ℕ). t ∷ texts) same, split_behind texts sections behind)
+
+pub has_sections : (bytes : List ℕ) (sections : List SectionText) → IsSplit bytes (Parts sections) → HasSections bytes sections
+has_sections bytes sections split = split_of (lines_in bytes) sections split
+
+pub are_few : (bytes : List ℕ) (sections : List SectionText) → length bytes ≤ 268435456 → IsSplit bytes (Parts sections) → AreFew sections
+are_few bytes sections most split =
+    let has = has_sections bytes sections split in
+    let few = lines_few bytes in
+    let as_many : length (lines_in bytes) ≡ suc (length has.0) = ap (λ (l : List (List ℕ)). length l) has.1 in
+    (has.0, has.2, omega arith)
+
+-- ---- sections one after another
+
+-- these sections are left, behind so many lines and no more blocks
+pub record AreLeft (sections : List SectionText) (blocked : ℕ) : Type 0 where
+  pub line : ℕ
+  pub texts : List (List ℕ)
+  pub are : AreSections line texts sections
+  pub most : line + length texts ≤ 268435458
+  pub few : blocked ≤ line
+
+pub left_at_first : (sections : List SectionText) → AreFew sections → AreLeft sections 0
+left_at_first sections few = let most = few.2 in record { line = 2; texts = few.0; are = few.1; most = omega arith; few = omega arith }
+
+-- the texts of a first section and of the others
+many : (texts : List (List ℕ)) (heading : List ℕ) (inside rest : List (List ℕ)) → texts ≡ heading ∷ inside ++ rest → length texts ≡ 1 + length inside + length rest
+many texts heading inside rest is =
+    let longer = length-append inside rest in
+    let whole : length texts ≡ suc (length (inside ++ rest)) = ap (λ (l : List (List ℕ)). length l) is in omega arith
+
+pub early : (section : SectionText) (sections : List SectionText) (blocked : ℕ) → AreLeft (section ∷ sections) blocked → IsEarly blocked section
+early section sections blocked left =
+    let (heading, rest, texts, at, read, none, others) = left.are in
+    let count = many left.texts heading section.texts rest texts in
+    let most = left.most in let few = left.few in
+    (omega arith, omega arith)
+
+pub left_behind : (section : SectionText) (sections : List SectionText) (blocked more : ℕ) → AreLeft (section ∷ sections) blocked →
+    more ≤ section.line + 1 + length section.texts → AreLeft sections more
+left_behind section sections blocked more left less =
+    let (heading, rest, texts, at, read, none, others) = left.are in
+    let count = many left.texts heading section.texts rest texts in
+    let most = left.most in
+    record {
+      line = left.line + 1 + length section.texts;
+      texts = rest;
+      are = others;
+      most = omega arith;
+      few = omega arith;
+    }
+
+-- ---- a list from an index on
+
+pub from_index : {A : Type 0} (xs : List A) (i : ℕ) (x : A) → slice_get xs i ≡ Some x → drop i xs ≡ x ∷ drop (i + 1) xs
+from_index [] i x is = absurd cc
+from_index (y ∷ xs) zero x is = let same : y ≡ x = cc in ap (λ z. z ∷ xs) same
+from_index (y ∷ xs) (suc i) x is = from_index xs i x is ∙ ap (λ (n : ℕ). x ∷ drop n (y ∷ xs)) (add_one i)
+  where
+    add_one : (n : ℕ) → suc (n + 1) ≡ suc n + 1
+    add_one n = omega arith
+
+pub is_there : {A : Type 0} (xs : List A) (i : ℕ) (x : A) → slice_get xs i ≡ Some x → Contains xs x
+is_there [] i x is = absurd cc
+is_there (y ∷ xs) zero x is = let same : y ≡ x = cc in (zero, omega arith, same)
+is_there (y ∷ xs) (suc i) x is = let (k, within, at) = is_there xs i x is in (suc k, omega arith, at)

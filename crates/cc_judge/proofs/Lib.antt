@@ -1,0 +1,5 @@
+mod Blocking
+mod Counting
+mod Going
+mod Passing
+mod Placing

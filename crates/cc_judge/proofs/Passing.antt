@@ -1,0 +1,167 @@
+-- What a section in its place does to the verdict of a log.
+use Rattle.std.proofs.Common.{◌≡◌, ◌∙◌, ℕ, ◌+◌, ◌<◌, ◌⊎◌, inl, inr, Bool, true, false, not, List, Option, Result, Ok, Err, Bor, refl, sym, subst, ap, arith, option_map}
+use Rattle.std.specs.Prelude.{IfErr}
+use Rattle.std.specs.Result.{IsErrAnd}
+use Rattle.std.proofs.lemmas.Bool.{cases_lt}
+use Rattle.cc_cdcl.specs.Laws.{DenialLeavesOthers}
+use Rattle.cc_clauses.specs.Laws.{ResolventsAreSound}
+use Rattle.cc_defs.specs.declared.lists.Key.{Key}
+use Rattle.cc_defs.specs.declared.log.Cause.{Cause}
+use Rattle.cc_defs.specs.declared.log.Cause.TheVariants as causes
+use Rattle.cc_defs.specs.declared.log.EndWord.{EndWord}
+use Rattle.cc_defs.specs.declared.log.EndWord.TheVariants as words
+use Rattle.cc_defs.specs.declared.log.LogVerdict.{LogVerdict}
+use Rattle.cc_defs.specs.declared.log.LogVerdict.TheVariants as verdicts
+use Rattle.cc_defs.specs.declared.refusal.Fault.{Fault}
+use Rattle.cc_defs.specs.declared.refusal.Fault.TheVariants as faults
+use Rattle.cc_defs.specs.Description.{Description}
+use Rattle.cc_defs.specs.GroundLaws.{PlainGroundQuery, StandsForQuery}
+use Rattle.cc_defs.specs.Histories.{IsHistory}
+use Rattle.cc_defs.specs.Logs.{SectionText, Standing, AreJudged, IsContinued, IsNext}
+use Rattle.cc_defs.specs.Refusals.{IsRefusedBy}
+use Rattle.cc_defs.specs.Resolved.{Query}
+use Rattle.cc_defs.specs.Sections.{Axioms, Finding, Right, Wrong, IsFound}
+use Rattle.cc_form.specs.Forms.{TellsHistories, asked, form_of}
+use Rattle.cc_query.specs.Accepted.{subject_of}
+use Rattle.cc_query.specs.Sessions.{refusal_at}
+use Rattle.cc_judge.specs.declared.standing.Next.{Next}
+use Rattle.cc_judge.specs.declared.standing.Next.TheVariants as nexts
+use Rattle.cc_judge.specs.declared.standing.Standing.{Standing as Held}
+use Rattle.cc_judge.specs.Judging.{GoesOnBehind, ReachesLimit, limit_of}
+use Rattle.cc_judge.specs.Standings.{IsBehind, IsBehindFinding, IsJudgedTo, IsPlaced, IsRowDenied, IsSectionFault, row_of, seen}
+use Rattle.cc_judge.proofs.Blocking.{history_blocked}
+use Rattle.cc_judge.proofs.Counting.{moved}
+use Rattle.cc_judge.proofs.Placing.{next_of, tells_rows}
+
+-- ---- what follows the end of a section
+
+continued : (Goes : Standing → Type 0) (standing : Standing) (conditions : Bool) (word : EndWord) (blocks line : ℕ) (verdict : LogVerdict) (held : Held) →
+    IsBehind standing conditions word blocks line (nexts.Goes held) → Goes (seen held) → IsContinued Goes standing conditions word blocks line verdict
+continued Goes standing true words.Empty blocks line verdict held is goes = subst Goes is goes
+continued Goes standing false words.Empty blocks line verdict held is goes = subst Goes is goes
+continued Goes standing true words.Found blocks line verdict held is goes = subst Goes is goes
+continued Goes standing false words.Found blocks line verdict held is goes = absurd cc
+continued Goes standing true words.Spent blocks line verdict held is goes = absurd cc
+continued Goes standing false words.Spent blocks line verdict held is goes = absurd cc
+
+goes_on : (Goes : Standing → Type 0) (standing : Standing) (conditions : Bool) (word : EndWord) (blocks line : ℕ) (held : Held) →
+    IsBehind standing conditions word blocks line (nexts.Goes held) → Goes (seen held) → GoesOnBehind Goes standing conditions word blocks line
+goes_on Goes standing true words.Empty blocks line held is goes = subst Goes is goes
+goes_on Goes standing false words.Empty blocks line held is goes = subst Goes is goes
+goes_on Goes standing true words.Found blocks line held is goes = subst Goes is goes
+goes_on Goes standing false words.Found blocks line held is goes = absurd cc
+goes_on Goes standing true words.Spent blocks line held is goes = absurd cc
+goes_on Goes standing false words.Spent blocks line held is goes = absurd cc
+
+stopped : (Goes : Standing → Type 0) (standing : Standing) (conditions : Bool) (word : EndWord) (blocks line at : ℕ) (cause : Cause) →
+    IsBehind standing conditions word blocks line (nexts.Wrong at cause) → IsContinued Goes standing conditions word blocks line (verdicts.Refused at cause)
+stopped Goes standing true words.Empty blocks line at cause is = absurd is
+stopped Goes standing false words.Empty blocks line at cause is = absurd is
+stopped Goes standing true words.Found blocks line at cause is = absurd is
+stopped Goes standing false words.Found blocks line at cause is = cc
+stopped Goes standing true words.Spent blocks line at cause is = cc
+stopped Goes standing false words.Spent blocks line at cause is = cc
+
+module _ (d : Description) (q : Query) (key : Option Key) (standing : Standing) (section : SectionText) where
+  -- ---- a section out of its place, and one that passes a limit
+
+  pub out_of_place : (IsNext (subject_of d q key) standing section → ⊥) → IsJudgedTo d q key standing section (nexts.Wrong section.line causes.Section)
+  out_of_place other = λ sections. inl (other, refl)
+
+  pub at_limit : IsNext (subject_of d q key) standing section → (fault : Fault) → IsRefusedBy (limit_of d q key section.conditions section.horizon) fault →
+      IsSectionFault d q key standing section fault
+  at_limit next (faults.Refused refusal) is = λ sections. (next, inl is)
+  at_limit next faults.OutOfMemory is = tt
+
+module _ (sound : ResolventsAreSound) (leaves : DenialLeavesOthers) (d : Description) (q : Query) (key : Option Key) (standing : Standing) (section : SectionText) where
+  abbrev axioms : Axioms
+  axioms = form_of d q section.horizon (not section.conditions) key
+
+  -- ---- a section that was checked
+
+  denied : IsNext (subject_of d q key) standing section → TellsHistories d (asked (not section.conditions) q) section.horizon (row_of key) axioms →
+      (word : EndWord) (blocks line : ℕ) (held : Held) → IsFound axioms axioms.clauses 0 (section.line + 1) section.texts (Right word blocks line) →
+      IsBehind standing section.conditions word blocks line (nexts.Goes held) →
+      (horizon : ℕ) (row : List ℕ) → horizon < held.horizon → IsHistory d q horizon (row_of key) row → (horizon < standing.horizon) ⊎ IsRowDenied section horizon row
+  denied next tells word blocks line held found is horizon row less history =
+      let ends = moved standing section.conditions word blocks line held is in
+      elim ends.1 [
+        | inl same ↦ inl (omega arith)
+        | inr up ↦ (let higher = up.1 in elim (cases_lt horizon standing.horizon) [
+          | inl low ↦ inl low
+          | inr most ↦ (let at : section.horizon ≡ horizon = next.horizon ∙ omega arith in
+              inr (
+                at,
+                history_blocked sound leaves d q (not section.conditions) section.horizon (row_of key) axioms (section.line + 1) section.texts word blocks line tells found up.0 row
+                    (subst (λ (n : ℕ). IsHistory d q n (row_of key) row) (sym at) history),
+              ))
+        ])
+      ]
+
+  pub in_place : IsNext (subject_of d q key) standing section → TellsHistories d (asked (not section.conditions) q) section.horizon (row_of key) axioms →
+      (finding : Finding) (next : Next) → IsFound axioms axioms.clauses 0 (section.line + 1) section.texts finding →
+      IsBehindFinding standing section.conditions finding next → IsJudgedTo d q key standing section next
+  in_place at tells (Wrong line cause) (nexts.Goes held) found is = absurd cc
+  in_place at tells (Wrong line cause) (nexts.Wrong other because) found is = λ sections. inr (at, (Wrong line cause, found, cc))
+  in_place at tells (Right word blocks line) (nexts.Wrong other because) found is = λ sections.
+      inr (
+        at,
+        (
+          Right word blocks line,
+          found,
+          stopped (λ after. AreJudged (subject_of d q key) after sections (verdicts.Refused other because)) standing section.conditions word blocks line other because is,
+        ),
+      )
+  in_place at tells (Right word blocks line) (nexts.Goes held) found is = record {
+    judged = λ sections verdict behind.
+        inr (
+          at,
+          (
+            Right word blocks line,
+            found,
+            continued (λ after. AreJudged (subject_of d q key) after sections verdict) standing section.conditions word blocks line verdict held is behind,
+          ),
+        );
+    limited = λ sections refusal behind. (
+      at,
+      inr (
+        Right word blocks line,
+        found,
+        goes_on (λ after. ReachesLimit (subject_of d q key) (limit_of d q key) after sections refusal) standing section.conditions word blocks line held is behind,
+      ),
+    );
+    denied = denied at tells word blocks line held found is;
+  }
+
+-- ---- with what a call was given
+
+pub as_err : {T : Type 0} (P : Fault → Type 0) (result : Result T Fault) (fault : Fault) → IsErrAnd result (λ given. given ≡ fault) → P fault → IfErr result P
+as_err P (Ok x) fault same holds = tt
+as_err P (Err given) fault same holds = subst P (sym same) holds
+
+abbrev key_of : Option (Bor Key) → Option Key
+key_of after = option_map (λ (key : Bor Key). key.now) after
+
+pub section_at_limit : (query : PlainGroundQuery) (d : Description) (q : Query) (stands : StandsForQuery query d q) (after : Option (Bor Key)) (standing : Standing) (section : SectionText)
+    (horizon : ℕ) (conditions : Bool) (fault : Fault) → horizon ≡ section.horizon → conditions ≡ section.conditions → IsPlaced query (key_of after) standing section →
+    IsRefusedBy (refusal_at d q horizon (not conditions) (key_of after)) fault → IsSectionFault d q (key_of after) standing section fault
+section_at_limit query d q stands after standing section horizon conditions fault horizon_is conditions_is placed is =
+    at_limit d q (key_of after) standing section (next_of query d q stands (key_of after) standing section placed) fault
+    (subst (λ (b : Bool). IsRefusedBy (refusal_at d q section.horizon (not b) (key_of after)) fault) conditions_is
+    (subst (λ (n : ℕ). IsRefusedBy (refusal_at d q n (not conditions) (key_of after)) fault) horizon_is is))
+
+pub section_judged : (sound : ResolventsAreSound) (leaves : DenialLeavesOthers) (query : PlainGroundQuery) (d : Description) (q : Query) (stands : StandsForQuery query d q)
+    (after : Option (Bor Key)) (standing : Standing) (section : SectionText) (horizon : ℕ) (conditions again : Bool) (form : Axioms) (finding : Finding) (next : Next) →
+    horizon ≡ section.horizon → conditions ≡ section.conditions → again ≡ section.conditions → IsPlaced query (key_of after) standing section →
+    form ≡ form_of d q horizon (not conditions) (key_of after) →
+    TellsHistories d (asked (not conditions) q) horizon (option_map (λ (key : Bor Key). key.now.row) after) (form_of d q horizon (not conditions) (key_of after)) →
+    IsFound form form.clauses 0 (section.line + 1) section.texts finding → IsBehindFinding standing again finding next → IsJudgedTo d q (key_of after) standing section next
+section_judged sound leaves query d q stands after standing section horizon conditions again form finding next horizon_is conditions_is again_is placed made tells found behind =
+    let form_is : form ≡ form_of d q section.horizon (not section.conditions) (key_of after) =
+    made ∙ ap (λ (n : ℕ). form_of d q n (not conditions) (key_of after)) horizon_is ∙ ap (λ (b : Bool). form_of d q section.horizon (not b) (key_of after)) conditions_is in
+    let found_here = subst (λ (f : Axioms). IsFound f f.clauses 0 (section.line + 1) section.texts finding) form_is found in
+    let tells_there = subst (λ (n : ℕ). TellsHistories d (asked (not conditions) q) n (option_map (λ (key : Bor Key). key.now.row) after) (form_of d q n (not conditions) (key_of after))) horizon_is tells in
+    let tells_here = subst (λ (b : Bool). TellsHistories d (asked (not b) q) section.horizon (option_map (λ (key : Bor Key). key.now.row) after) (form_of d q section.horizon (not b) (key_of after))) conditions_is tells_there in
+    in_place sound leaves d q (key_of after) standing section (next_of query d q stands (key_of after) standing section placed)
+    (tells_rows d q section.horizon (not section.conditions) after tells_here) finding next found_here
+    (subst (λ (b : Bool). IsBehindFinding standing b finding next) again_is behind)

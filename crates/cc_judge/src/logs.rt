@@ -1,0 +1,137 @@
+//! What a checker says of a log of a query.
+ghost use Rattle.std.specs.Prelude.{◌≡◌, ℕ, ◌≤◌, IfErr, IfOk, IfSome, length, option_map};
+ghost use Rattle.cc_arena.specs.GroundViews.{plain_ground_query};
+ghost use Rattle.cc_defs.specs.Description.{Description};
+ghost use Rattle.cc_defs.specs.GroundLaws.{StandsForQuery};
+ghost use Rattle.cc_defs.specs.Logs.{IsVerdict};
+ghost use Rattle.cc_defs.specs.Resolved.{Query};
+ghost use Rattle.cc_form.specs.Queries.{IsQueryAt};
+ghost use Rattle.cc_judge.specs.Judging.{BlocksHistories, IsJudgeFault};
+ghost use Rattle.cc_judge.specs.Standings.{AreFew, IsEarly, IsFaultOn, IsForward, IsJudgedTo, IsSectionFault, IsVerdictOn, seen};
+ghost use Rattle.cc_query.specs.Accepted.{subject_of};
+ghost use Rattle.cc_query.specs.Sessions.{Fits, first_at};
+ghost use Rattle.cc_theory.specs.Theories.{AreLawsFor, AreLawsOf};
+
+use crate::standing::{Next, Standing, closing, first_of, follow, is_next};
+use cc_arena::{GroundQuery, Laws};
+use cc_cdcl::laws::denial_leaves_others;
+use cc_check::laws::{misreads_are_verdicts, sections_give_verdicts};
+use cc_check::{CheckFault, Section, Sections, check};
+use cc_clauses::laws::resolvents_are_sound;
+use cc_defs::{Cause, Fault, Key, LogVerdict, Sig};
+use cc_query::form_at;
+use std::alloc::Global;
+
+// What is behind a section, which is judged over the clause list of its horizon where it is the one that comes next.
+fn judge_section(
+    alloc: Global,
+    sig: &Sig,
+    laws: &Laws<'_>,
+    query: &GroundQuery<'_>,
+    after: Option<&Key>,
+    standing: &Standing,
+    section: &Section<'_>,
+) -> Result<Next, Fault>
+    requires laws { AreLawsFor sig.now laws.now }
+    requires most { query.now.hi ≤ 1000 }
+    requires steps { (horizon : ℕ) → query.now.lo ≤ horizon → horizon ≤ query.now.hi → IsQueryAt sig.now horizon (plain_ground_query query.now) }
+    requires key { IfSome after (λ key. Fits sig.now (plain_ground_query query.now) key.now) }
+    requires first { first_at (plain_ground_query query.now) (option_map (λ key. key.now) after) ≤ standing.now.horizon }
+    requires early { IsEarly standing.now.blocked section.now }
+    ensures judged { (d : Description) (q : Query) → AreLawsOf sig.now laws.now d → StandsForQuery (plain_ground_query query.now) d q →
+        IfOk result (IsJudgedTo d q (option_map (λ key. key.now) after.entry) (seen standing.now) section.now) }
+    ensures forward { IfOk result (IsForward (seen standing.now) section.now) }
+    ensures refused { (d : Description) (q : Query) → AreLawsOf sig.now laws.now d → StandsForQuery (plain_ground_query query.now) d q →
+        IfErr result (IsSectionFault d q (option_map (λ key. key.now) after.entry) (seen standing.now) section.now) }
+{
+    resolvents_are_sound();
+    denial_leaves_others();
+    if !is_next(query, after, standing, section) {
+        return Ok(Next::Wrong {
+            line: section.line(),
+            cause: Cause::Section,
+        });
+    }
+    let form = form_at(
+        alloc,
+        sig,
+        laws,
+        query,
+        after,
+        section.horizon(),
+        !section.conditions(),
+    )?;
+    let verdict = check(alloc, &form, section)?;
+    Ok(follow(standing, section.conditions(), verdict))
+}
+
+// The verdict of a log that is split into its sections.
+fn judge_sections(
+    alloc: Global,
+    sig: &Sig,
+    laws: &Laws<'_>,
+    query: &GroundQuery<'_>,
+    after: Option<&Key>,
+    sections: &Sections<'_>,
+) -> Result<LogVerdict, Fault>
+    requires laws { AreLawsFor sig.now laws.now }
+    requires most { query.now.hi ≤ 1000 }
+    requires steps { (horizon : ℕ) → query.now.lo ≤ horizon → horizon ≤ query.now.hi → IsQueryAt sig.now horizon (plain_ground_query query.now) }
+    requires key { IfSome after (λ key. Fits sig.now (plain_ground_query query.now) key.now) }
+    requires few { AreFew sections.now }
+    ensures judged { (d : Description) (q : Query) → AreLawsOf sig.now laws.now d → StandsForQuery (plain_ground_query query.now) d q →
+        IfOk result (IsVerdictOn d q (option_map (λ key. key.now) after.entry) sections.now) }
+    ensures refused { (d : Description) (q : Query) → AreLawsOf sig.now laws.now d → StandsForQuery (plain_ground_query query.now) d q →
+        IfErr result (IsFaultOn d q (option_map (λ key. key.now) after.entry) sections.now) }
+{
+    let first = first_of(query, after);
+    let mut standing = Standing {
+        middle: false,
+        horizon: first,
+        blocked: 0,
+        line: 2,
+    };
+    for i in 0..sections.count() {
+        let section = sections.section(i);
+        match judge_section(alloc, sig, laws, query, after, &standing, &section)? {
+            Next::Goes(next) => standing = next,
+            Next::Wrong { line, cause } => return Ok(LogVerdict::Refused { line, cause }),
+        }
+    }
+    Ok(closing(first, &standing))
+}
+
+/// What a checker says of the bytes of a log: that of a query over its horizons, or after a key over the key's alone. A section
+/// is a part of the bytes; its clause list is made when it is come to, and gone before the next. Refuses the first limit that
+/// the rules or clauses of a section pass which stands in its place, with right sections before it (14).
+pub fn judge(
+    alloc: Global,
+    sig: &Sig,
+    laws: &Laws<'_>,
+    query: &GroundQuery<'_>,
+    after: Option<&Key>,
+    bytes: &[u8],
+) -> Result<LogVerdict, Fault>
+    requires laws { AreLawsFor sig.now laws.now }
+    requires ordered { query.now.lo ≤ query.now.hi }
+    requires most { query.now.hi ≤ 1000 }
+    requires steps { (horizon : ℕ) → query.now.lo ≤ horizon → horizon ≤ query.now.hi → IsQueryAt sig.now horizon (plain_ground_query query.now) }
+    requires key { IfSome after (λ key. Fits sig.now (plain_ground_query query.now) key.now) }
+    requires few { length bytes.now ≤ 268435456 }
+    // It is the verdict of the log, and where that is accepted, each history of the log's horizons is blocked in it.
+    ensures verdict { (d : Description) (q : Query) → AreLawsOf sig.now laws.now d → StandsForQuery (plain_ground_query query.now) d q →
+        IfOk result (IsVerdict (subject_of d q (option_map (λ key. key.now) after.entry)) bytes.now) }
+    ensures whole { (d : Description) (q : Query) → AreLawsOf sig.now laws.now d → StandsForQuery (plain_ground_query query.now) d q →
+        IfOk result (BlocksHistories d q (option_map (λ key. key.now) after.entry) bytes.now) }
+    ensures refused { (d : Description) (q : Query) → AreLawsOf sig.now laws.now d → StandsForQuery (plain_ground_query query.now) d q →
+        IfErr result (IsJudgeFault d q (option_map (λ key. key.now) after.entry) bytes.now) }
+{
+    misreads_are_verdicts();
+    sections_give_verdicts();
+    let sections = match Sections::read(alloc, bytes) {
+        Ok(sections) => sections,
+        Err(CheckFault::Refused { line, cause }) => return Ok(LogVerdict::Refused { line, cause }),
+        Err(CheckFault::OutOfMemory) => return Err(Fault::OutOfMemory),
+    };
+    judge_sections(alloc, sig, laws, query, after, &sections)
+}
