@@ -209,6 +209,9 @@ def run_lines(files):
     """What is printed of a case: the lines of Out and Err, and the code."""
     found = first_files(files)
     words = found.get("words", b"").decode("latin-1").split("\n")[:-1]
+    cut = re.search(rb"^cut ([0-9]+)$", found.get("desk", b""), re.MULTILINE)
+    if cut:
+        found["log"] = found["log"][: len(found["log"]) - int(cut.group(1))]
     out, err, code = answer(words, found)
     return [f"out: {line}" for line in out] + [f"err: {line}" for line in err] + [f"code {code}"]
 

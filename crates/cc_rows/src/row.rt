@@ -27,12 +27,12 @@ fn words_of(alloc: Global, text: &str) -> Result<Vec<String>, OutOfMemory> {
 }
 
 /// The files of the desk.
-fn files_of(alloc: Global, parts: &[&[u8]]) -> Result<Files, OutOfMemory> {
+fn files_of(alloc: Global, parts: &[&[u8]], setting: &Setting) -> Result<Files, OutOfMemory> {
     let mut files = Vec::new(alloc);
     for part in parts {
         let name = head(part);
         if name != "words" && name != "desk" {
-            let bytes = Bytes::of(Vec::from_slice(alloc, body(part))?);
+            let bytes = Bytes::of(Vec::from_slice(alloc, setting.kept(name, body(part)))?);
             files.push((Name::of(String::from_str(alloc, name)?), bytes))?;
         }
     }
@@ -41,8 +41,8 @@ fn files_of(alloc: Global, parts: &[&[u8]]) -> Result<Files, OutOfMemory> {
 
 /// The desk of a case.
 fn desk_of(alloc: Global, parts: &[&[u8]]) -> Result<MemoryDesk, OutOfMemory> {
-    let files = files_of(alloc, parts)?;
     let setting = Setting::read(alloc, text_of(parts, "desk"))?;
+    let files = files_of(alloc, parts, &setting)?;
     let most = setting.most();
     let room = setting.room;
     MemoryDesk::new(alloc, files, Nums::of(setting.fails), most, room)

@@ -10,6 +10,8 @@ pub(crate) struct Setting {
     pub(crate) fails: Vec<u32>,
     most: u32,
     pub(crate) room: [usize; 3],
+    /// How many bytes less the file `log` has at its end.
+    cut: u32,
 }
 
 /// The numbers in a line, behind its first word.
@@ -29,6 +31,7 @@ impl Setting {
             fails: Vec::new(alloc),
             most: 4096,
             room: [1_048_576; 3],
+            cut: 0,
         }
     }
 
@@ -43,12 +46,22 @@ impl Setting {
         }
     }
 
+    /// The bytes that the desk has of a file.
+    pub(crate) fn kept<'b>(&self, name: &str, bytes: &'b [u8]) -> &'b [u8] {
+        if name != "log" {
+            return bytes;
+        }
+        let length = bytes.len().saturating_sub(self.cut as usize);
+        bytes.get(..length).unwrap_or(bytes)
+    }
+
     /// Takes in what a line says.
     fn read_line(&mut self, alloc: Global, line: &str) -> Result<(), OutOfMemory> {
         let numbers = numbers(alloc, line)?;
         match (line.split_whitespace().next(), numbers.as_slice()) {
             (Some("fails"), fails) => self.fails.extend_from_slice(fails)?,
             (Some("reads"), [most]) => self.most = *most,
+            (Some("cut"), [cut]) => self.cut = *cut,
             (Some("room"), [out, err, log]) => {
                 self.room = [*out as usize, *err as usize, *log as usize];
             }
