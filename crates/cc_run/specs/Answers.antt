@@ -1,5 +1,5 @@
 -- What a run may leave behind.
-use Rattle.std.specs.Prelude.{◌≡◌, ℕ, ◌+◌, ◌≤◌, ◌⊎◌, Bool, true, false, not, List, [], ◌∷◌, ◌++◌, Option, Some, None, is_some, IsNone, codes, if◌then◌else◌, ◌==◌}
+use Rattle.std.specs.Prelude.{◌≡◌, ℕ, ◌+◌, ◌≤◌, ◌⊎◌, Bool, false, List, [], ◌∷◌, ◌++◌, length, Option, Some, None, is_some, IsNone, codes, if◌then◌else◌, ◌==◌}
 use Rattle.cc_defs.specs.declared.event.Ending.{Ending}
 use Rattle.cc_defs.specs.declared.event.Ending.TheVariants as endings
 use Rattle.cc_defs.specs.declared.event.Told.{Told}
@@ -16,7 +16,7 @@ use Rattle.cc_print.specs.Refusals.{refusal_line}
 use Rattle.cc_query.specs.Sessions.{opening_refusal}
 use Rattle.cc_run.specs.declared.status.Status.{Status}
 use Rattle.cc_run.specs.declared.status.Status.TheVariants as statuses
-use Rattle.cc_run.specs.Tasks.{Named, RefusesNamed, Task, IsTask, named_by, refusal_without_place, request_of}
+use Rattle.cc_run.specs.Tasks.{RefusesNamed, Task, IsTask, named_by, refusal_without_place, request_of}
 use Rattle.cc_words.specs.Requests.{Listing, Request, ToList, ToCheck, ToMake}
 use Rattle.cc_words.specs.Words.{Text}
 
@@ -137,8 +137,8 @@ pub record IsTold (task : Task) (run : Run) (given : Given) (status : Status) : 
   pub out : given.out ≡ out_text task.description (told_by task run)
   pub log : given.log ≡ log_of (told_by task run)
   pub ends : ((ending : Ending) × (run.ending ≡ Some ending) × (given.err ≡ []) × (status ≡ status_of ending))
-             ⊎ ((refusal : Refusal) × IsNone run.ending × PassesLimit task run refusal × (given.err ≡ refusal_text refusal [])
-             × (status ≡ statuses.Refused))
+      ⊎ ((refusal : Refusal) × IsNone run.ending × PassesLimit task run refusal × (given.err ≡ refusal_text refusal [])
+      × (status ≡ statuses.Refused))
 
 -- The first so many histories of a query, within a budget, after a key.
 pub record Lists (files : Files) (words : List Text) (begun : Bool) (task : Task) : Type 0 where

@@ -3,3 +3,4 @@ pub mod Asking
 pub mod Codes
 pub mod Stops
 pub mod Tasks
+pub mod Telling

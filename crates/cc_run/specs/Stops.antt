@@ -1,5 +1,5 @@
 -- Why a run stops before its end, and what each step of a run gives.
-use Rattle.std.specs.Prelude.{◌≡◌, ℕ, ◌⊎◌, ◌≤◌, Bool, true, false, List, [], ◌∷◌, ◌++◌, flat_map, Option, Some, None, option_map, is_some, Result, MatchResult, IfSome, IfOk, IfErr, IsSomeAnd, IsErrOf, ◌||◌}
+use Rattle.std.specs.Prelude.{◌≡◌, ℕ, ◌⊎◌, ◌≤◌, Bool, true, false, List, [], ◌++◌, flat_map, Option, Some, None, option_map, is_some, Result, MatchResult, IfSome, IfOk, IfErr, IsSomeAnd, IsErrOf, ◌||◌}
 use Rattle.cc_defs.specs.declared.event.Event.{Event}
 use Rattle.cc_defs.specs.declared.event.Event.TheVariants as events
 use Rattle.cc_defs.specs.declared.event.Told.{Told}

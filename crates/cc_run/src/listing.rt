@@ -1,25 +1,30 @@
 //! Lists the histories of a query, event by event, each line of an output by one call of the desk.
-ghost use Rattle.std.specs.Prelude.{◌≡◌, ◌≤◌, ◌∷◌, ◌++◌, [], IfOk, IfSome, string_bytes};
+ghost use Rattle.std.specs.Prelude.{◌≡◌, ◌<◌, ◌≤◌, List, ◌∷◌, ◌++◌, [], IfOk, IfSome, IsNone, Some, string_bytes};
 ghost use Rattle.cc_arena.specs.GroundViews.{plain_ground_query};
 ghost use Rattle.cc_asked.specs.Descriptions.{IsDescriptionOf};
 ghost use Rattle.cc_defs.specs.Conditions.{IsSignatureOfDescription};
 ghost use Rattle.cc_defs.specs.Description.{Description, sizes_at};
-ghost use Rattle.cc_defs.specs.LogTexts.{header};
+ghost use Rattle.cc_defs.specs.declared.event.Told.{Told};
+ghost use Rattle.cc_defs.specs.Events.{event_text as event_line};
+ghost use Rattle.cc_defs.specs.LogTexts.{header, line_text, IsFormed};
 ghost use Rattle.cc_defs.specs.Resolved.{Query as QueryAsked};
 ghost use Rattle.cc_defs.specs.Rows.{IsRow};
 ghost use Rattle.cc_defs.specs.Texts as texts;
 ghost use Rattle.cc_ports.specs.declared.desk.To.TheVariants as outputs;
-ghost use Rattle.cc_query.specs.Sessions.{After, HasMore, IsSessionOf, IsShortEvent, with_row};
+ghost use Rattle.cc_query.specs.Lefts.{left_of};
+ghost use Rattle.cc_query.specs.Sessions.{After, HasMore, IsSame, IsSessionOf, IsShortEvent, with_row};
 ghost use Rattle.cc_run.specs.Answers as answers;
+ghost use Rattle.cc_run.specs.Answers.{only_err};
 ghost use Rattle.cc_run.specs.Asking.{AreOf, AreSearchable};
 ghost use Rattle.cc_run.specs.Stops.{IsRowOfEvent, Searches, Step, moment, given_to, texts_of};
+ghost use Rattle.cc_run.specs.Telling.{GoesOn, IsOfSome, status_told};
 ghost use Rattle.cc_sorts.specs.Tables.{IsSignatureFor};
 
 use crate::printing::{give, refuse};
 use crate::status::{Status, Stop};
 use cc_arena::{GroundQuery, Laws};
 use cc_check::put_line;
-use cc_defs::{Ending, Event, Fault, OutOfMemory};
+use cc_defs::{Ending, Event, Fault, LogLine, OutOfMemory, Refusal};
 use cc_describe::Described;
 use cc_ports::{Desk, To};
 use cc_print::{event_text, history_text, key_text};
@@ -77,7 +82,50 @@ fn tell_row<D: Desk>(
 {
     let history = history_text(alloc, &described.table, &described.sig, horizon, row)?;
     give_lines(desk, history.text())?;
-    give(desk, To::Out, key_line(alloc, horizon, row)?.as_bytes())
+    tell_key(alloc, desk, horizon, row)
+}
+
+/// Gives the line of a key to Out.
+fn tell_key<D: Desk>(alloc: Global, desk: &mut D, horizon: u32, row: &[u32]) -> Result<(), Stop>
+    ensures { Step (given_to outputs.Out (texts.key_line horizon row.now)) (moment D.told D.begun D.read_faults D.write_faults desk.old) (moment D.told D.begun D.read_faults D.write_faults desk.new) result }
+{
+    let line = key_line(alloc, horizon, row)?;
+    give(desk, To::Out, line.as_bytes())
+}
+
+/// Gives the line of an event to Out.
+fn tell_event<D: Desk>(alloc: Global, desk: &mut D, event: &Event) -> Result<(), Stop>
+    ensures { Step (given_to outputs.Out (event_line event.now)) (moment D.told D.begun D.read_faults D.write_faults desk.old) (moment D.told D.begun D.read_faults D.write_faults desk.new) result }
+{
+    let text = event_text(alloc, event)?;
+    give(desk, To::Out, text.text().as_bytes())
+}
+
+/// Gives a line of the log to Log.
+fn tell_line<D: Desk>(alloc: Global, desk: &mut D, line: &LogLine) -> Result<(), Stop>
+    requires { IsFormed line.now }
+    ensures { Step (given_to outputs.Log (line_text line.now)) (moment D.told D.begun D.read_faults D.write_faults desk.old) (moment D.told D.begun D.read_faults D.write_faults desk.new) result }
+{
+    let text = put_line(alloc, line)?;
+    give(desk, To::Log, text.text().as_bytes())
+}
+
+/// Gives the line of a history or a counterexample to Out, and behind it the history and its key.
+fn tell_history<D: Desk>(
+    alloc: Global,
+    desk: &mut D,
+    described: &Described,
+    event: &Event,
+    horizon: u32,
+    row: &[u32],
+) -> Result<(), Stop>
+    requires signature { IsSignatureFor described.now.table described.now.sig }
+    requires row { (d : Description) → IsSignatureOfDescription d described.now.sig → IsRow (sizes_at d horizon) row.now }
+    ensures { (d : Description) → IsDescriptionOf described.now d →
+        Step (given_to outputs.Out (event_line event.now ++ (texts.history_text d horizon row.now ++ texts.key_line horizon row.now))) (moment D.told D.begun D.read_faults D.write_faults desk.old) (moment D.told D.begun D.read_faults D.write_faults desk.new) result }
+{
+    tell_event(alloc, desk, event)?;
+    tell_row(alloc, desk, described, horizon, row)
 }
 
 /// Gives what an event is told by: to Out its line, and behind it the history and its key; or to Log its line. The row is that of
@@ -96,12 +144,86 @@ fn tell<D: Desk>(
         Step (texts_of d (with_row event.now row.now ∷ [])) (moment D.told D.begun D.read_faults D.write_faults desk.old) (moment D.told D.begun D.read_faults D.write_faults desk.new) result }
 {
     match event {
-        Event::Log(line) => give(desk, To::Log, put_line(alloc, line)?.text().as_bytes()),
-        Event::History { horizon, .. } | Event::Counterexample { horizon } => {
-            give(desk, To::Out, event_text(alloc, event)?.text().as_bytes())?;
-            tell_row(alloc, desk, described, *horizon, row)
+        Event::Log(line) => tell_line(alloc, desk, line),
+        Event::History { horizon, .. } => tell_history(
+            alloc, desk, described, event, *horizon, row,
+        ),
+        Event::Counterexample { horizon } => {
+            tell_history(alloc, desk, described, event, *horizon, row)
         }
-        _ => give(desk, To::Out, event_text(alloc, event)?.text().as_bytes()),
+        Event::NoHistory { .. } => tell_event(alloc, desk, event),
+        Event::NoConditions { .. } => tell_event(alloc, desk, event),
+        Event::Holds { .. } => tell_event(alloc, desk, event),
+        Event::Ended(_) => tell_event(alloc, desk, event),
+    }
+}
+
+/// The status of a run whose last event this is; none where more is to come.
+fn status_behind(event: &Event) -> Option<Status>
+    ensures { result ≡ status_told event.now }
+{
+    match event {
+        Event::Ended(ending) => Some(status_of(*ending)),
+        Event::Log(_) => None,
+        Event::History { .. } => None,
+        Event::Counterexample { .. } => None,
+        Event::NoHistory { .. } => None,
+        Event::NoConditions { .. } => None,
+        Event::Holds { .. } => None,
+    }
+}
+
+/// Tells an event, and answers the run's status where it is the last one.
+fn tell_next<D: Desk>(
+    alloc: Global,
+    desk: &mut D,
+    described: &Described,
+    event: &Event,
+    row: &[u32],
+) -> Result<Option<Status>, Stop>
+    requires signature { IsSignatureFor described.now.table described.now.sig }
+    requires row { IsRowOfEvent described.now.sig event.now row.now }
+    requires short { IsShortEvent event.now }
+    ensures told { (d : Description) → IsDescriptionOf described.now d →
+        Step (texts_of d (with_row event.now row.now ∷ [])) (moment D.told D.begun D.read_faults D.write_faults desk.old) (moment D.told D.begun D.read_faults D.write_faults desk.new) result }
+    ensures status { IfOk result (λ status. status ≡ status_told event.now) }
+{
+    tell(alloc, desk, described, event, row)?;
+    Ok(status_behind(event))
+}
+
+/// Tells a limit that a horizon passes.
+fn tell_limit<D: Desk>(
+    alloc: Global,
+    desk: &mut D,
+    refusal: &Refusal,
+) -> Result<Option<Status>, Stop>
+    ensures told { Step (only_err (answers.refusal_text refusal.now [])) (moment D.told D.begun D.read_faults D.write_faults desk.old) (moment D.told D.begun D.read_faults D.write_faults desk.new) result }
+    ensures status { IfOk result (λ status. status ≡ Some Status.Refused) }
+{
+    let status = refuse(alloc, desk, refusal, "")?;
+    Ok(Some(status))
+}
+
+/// Tells the next event of a search, or the limit that a horizon passes, and answers the run's status where that was the last.
+fn list_event<D: Desk>(
+    alloc: Global,
+    desk: &mut D,
+    described: &Described,
+    session: &mut Session<'_>,
+) -> Result<Option<Status>, Stop>
+    requires signature { IsSignatureFor described.now.table described.now.sig }
+    requires same { described.now.sig ≡ session.old.signature }
+    requires more { HasMore session.old }
+    requires of { IsOfSome described.now session.old }
+    ensures goes { (d : Description) (q : QueryAsked) (given : List Told) → IsDescriptionOf described.now d → IsSessionOf session.old d q → After d q session.old given →
+        GoesOn d q given session.old session.new (moment D.told D.begun D.read_faults D.write_faults desk.old) (moment D.told D.begun D.read_faults D.write_faults desk.new) result }
+    ensures next { IfOk result (λ status. IsNone status → IsSame session.old session.new × HasMore session.new × (left_of session.new < left_of session.old)) }
+{
+    match session.next() {
+        Ok(event) => tell_next(alloc, desk, described, &event, session.row()),
+        Err(Fault::Refused(refusal)) => tell_limit(alloc, desk, &refusal),
+        Err(Fault::OutOfMemory) => Err(Stop::OutOfMemory),
     }
 }
 
@@ -120,15 +242,9 @@ fn list_events<D: Desk>(
         Searches (record { description = d; query = q; ask = session.entry.ask }) header (moment D.told D.begun D.read_faults D.write_faults desk.old) (moment D.told D.begun D.read_faults D.write_faults desk.new) result }
 {
     loop {
-        match session.next() {
-            Ok(event) => {
-                tell(alloc, desk, described, &event, session.row())?;
-                if let Event::Ended(ending) = event {
-                    return Ok(status_of(ending));
-                }
-            }
-            Err(Fault::Refused(refusal)) => return refuse(alloc, desk, &refusal, ""),
-            Err(Fault::OutOfMemory) => return Err(Stop::OutOfMemory),
+        match list_event(alloc, desk, described, &mut session)? {
+            Some(status) => return Ok(status),
+            None => {}
         }
     }
 }

@@ -1,0 +1,6 @@
+pub mod EventTexts
+pub mod GivenSteps
+pub mod LineSteps
+pub mod Listed
+pub mod Passing
+pub mod RunEvents
