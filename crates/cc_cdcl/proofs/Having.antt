@@ -121,7 +121,7 @@ pub positions_next : (clauses : List (List Literal)) (sizes : List ℕ) (i first
 positions_next clauses sizes i first end within end_is so_far values pairs =
     let size_is : end - first ≡ get_or sizes i 0 = omega arith in
     let here : HasEach clauses (exactly_one (position_variables first (get_or sizes i 0))) = subst (λ (n : ℕ). HasEach clauses (exactly_one (position_variables first n))) size_is
-        (each_join clauses (position_variables first (end - first) ∷ []) (pairs_denied (position_variables first (end - first))) (each_one clauses (position_variables first (end - first)) values) pairs) in
+    (each_join clauses (position_variables first (end - first) ∷ []) (pairs_denied (position_variables first (end - first))) (each_one clauses (position_variables first (end - first)) values) pairs) in
     subst (λ (n : ℕ). HasEach clauses (positions_from n (drop (i + 1) sizes)) → HasEach clauses (positions_from 1 sizes)) (sym end_is)
     (left_front clauses (positions_from first (drop i sizes)) (exactly_one (position_variables first (get_or sizes i 0))) (positions_from (first + get_or sizes i 0) (drop (i + 1) sizes)) (positions_from 1 sizes)
     (positions_front first sizes i within) so_far here)
@@ -142,5 +142,5 @@ turned budget old between new step is found blocked low =
     let (row, least, between_is) = subst (IsStep budget old between) found is in
     let new_is = blocked row (ap (λ (s : SolverView). s.standing) between_is) in
     let same : derived_count new.kernel.entries ≡ derived_count old.kernel.entries =
-        ap (λ (s : SolverView). derived_count s.kernel.entries) new_is ∙ count_block between.kernel.entries (row_denial between.sizes row) ∙ ap (λ (s : SolverView). derived_count s.kernel.entries) between_is in
+    ap (λ (s : SolverView). derived_count s.kernel.entries) new_is ∙ count_block between.kernel.entries (row_denial between.sizes row) ∙ ap (λ (s : SolverView). derived_count s.kernel.entries) between_is in
     (ap (λ (s : SolverView). s.standing) new_is, omega arith)
