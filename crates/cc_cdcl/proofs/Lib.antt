@@ -19,3 +19,4 @@ mod Levelling
 mod Deriving
 mod Listing
 mod Standing
+mod Having

@@ -6,5 +6,7 @@ mod choice;
 pub mod laws;
 mod search;
 mod solver;
+#[cfg(test)]
+mod tests;
 
 pub use solver::{Solver, Step};
