@@ -147,20 +147,6 @@ pub record AreLogsAccepted (task : Task) (run : Run) : Type 0 where
 
 -- ---- listings
 
--- ---- what the log is worth
-
--- the horizons that a run reported to have no history, and nothing else of it
-abbrev pub only_reported : Run → Run
-only_reported run = record { done = run.done; next = None; ending = None }
-
-abbrev pub IsLogAccepted : Task → Run → Type 0
-IsLogAccepted task run = IsAccepted (subject_of task.description task.query task.ask.after) (log_of (told_by task run))
-
--- A checker accepts the log up to the last horizon that was reported to have no history, and that of a complete listing.
-pub record AreLogsAccepted (task : Task) (run : Run) : Type 0 where
-  pub reported : 0 < length run.done → IsLogAccepted task (only_reported run)
-  pub complete : (horizon listed : ℕ) → run.ending ≡ Some (endings.Complete horizon listed) → IsLogAccepted task run
-
 -- a run of the search: it tells the truth, and this is what it tells and how it ends, or the limit that it passes
 pub record IsTold (task : Task) (run : Run) (given : Given) (status : Status) : Type 0 where
   pub fair : IsFairRun task.description task.query task.ask run
