@@ -4,3 +4,4 @@ pub mod LineSteps
 pub mod Listed
 pub mod Passing
 pub mod RunEvents
+pub mod Worth

@@ -19,7 +19,8 @@ use Rattle.cc_defs.specs.Signatures.{Signature}
 use Rattle.cc_describe.specs.declared.description.Described.{Described}
 use Rattle.cc_ports.specs.Contents.{IsPrefix}
 use Rattle.cc_ports.specs.declared.desk.To.TheVariants as outputs
-use Rattle.cc_query.specs.Sessions.{After, HasMore, IsSame, IsSessionOf, SessionView, with_row}
+use Rattle.cc_query.specs.Accepted.{WrittenLogsAreAccepted}
+use Rattle.cc_query.specs.Sessions.{After, HasMore, IsSame, IsSessionOf, IsShortEvent, SessionView, with_row}
 use Rattle.cc_run.specs.declared.status.Status.{Status}
 use Rattle.cc_run.specs.declared.status.Status.TheVariants as statuses
 use Rattle.cc_run.specs.declared.status.Stop.{Stop}
@@ -28,12 +29,13 @@ use Rattle.cc_run.specs.Answers.{Given, AreFronts, IsTold, PassesLimit, nothing,
 use Rattle.cc_run.specs.Asking.{AreOf}
 use Rattle.cc_run.specs.Stops.{IsRowOfEvent, IsTelling, Moment, Moves, Searches, Step, behind, given_to, lines_text, texts_of}
 use Rattle.cc_run.specs.Tasks.{Task}
-use Rattle.cc_run.specs.Telling.{Finishes, GoesOn, IsListing, TellsOne, joined, status_told, task_of}
+use Rattle.cc_run.specs.Telling.{Finishes, GoesOn, HasGoodLines, IsListing, TellsOne, joined, status_told, task_of}
 use Rattle.cc_theory.specs.Theories.{AreLawsOf}
 use Rattle.cc_run.proofs.EventTexts.{lines_more, out_more, texts_more}
 use Rattle.cc_run.proofs.GivenSteps.{given_all, fronts-nothing, moves_again, moves_both, moves_done, moves_none, moves_nothing, prefix_behind, step_again}
 use Rattle.cc_run.proofs.Passing.{StopsAt, no_run}
 use Rattle.cc_run.proofs.RunEvents.{ends_so, last_row}
+use Rattle.cc_run.proofs.Worth.{HeadsGood, logs_accepted, next_good, no_lines}
 
 -- what is behind the header of a log
 abbrev so_far : Description → List Told → Given
@@ -90,9 +92,10 @@ ending_told (events.Counterexample horizon) status is = absurd cc
 ending_told (events.Ended ending) status is = (ending, refl, cc)
 
 module _ (d : Description) (q : Query) (ask : Ask) (given : List Told) (x y : Moment) where
-  ends_so_told : (ending : Ending) (status : Status) (row : List ℕ) → AreFair d q ask (given ++ with_row (events.Ended ending) row ∷ []) → status ≡ status_of ending →
+  ends_so_told : WrittenLogsAreAccepted → (ending : Ending) (status : Status) (row : List ℕ) →
+      HasGoodLines d q ask.after (given ++ with_row (events.Ended ending) row ∷ []) → AreFair d q ask (given ++ with_row (events.Ended ending) row ∷ []) → status ≡ status_of ending →
       Moves (texts_of d (with_row (events.Ended ending) row ∷ [])) x y (Ok status) → Finishes (task_of d q ask) (so_far d given) x y (Ok status)
-  ends_so_told ending status row fair is moves =
+  ends_so_told law ending status row lines fair is moves =
       let last = with_row (events.Ended ending) row ∷ [] in
       let all = all_more d given last (events_of (first_horizon q ask.after) fair.0) fair.2 in
       record {
@@ -104,6 +107,7 @@ module _ (d : Description) (q : Query) (ask : Ask) (given : List Told) (x y : Mo
             fair = fair.1;
             out = all.out;
             log = all.log;
+            accepted = logs_accepted d q ask fair.0 law fair.1 (subst (λ (l : List Told). HasGoodLines d q ask.after l) fair.2 lines);
             ends = inl (ending, ends_so (first_horizon q ask.after) fair.0 given ending fair.2, refl, is);
           },
         );
@@ -124,9 +128,9 @@ module _ (d : Description) (q : Query) (ask : Ask) (given : List Told) (x y : Mo
       }
 
   -- a limit was told
-  limit_ends : (refusal : Refusal) (status : Status) → StopsAt d q ask given refusal → status ≡ statuses.Refused →
+  limit_ends : WrittenLogsAreAccepted → HasGoodLines d q ask.after given → (refusal : Refusal) (status : Status) → StopsAt d q ask given refusal → status ≡ statuses.Refused →
       Moves (only_err (refusal_text refusal [])) x y (Ok status) → Finishes (task_of d q ask) (so_far d given) x y (Ok status)
-  limit_ends refusal status at is moves =
+  limit_ends law lines refusal status at is moves =
       let all = all_err d given (events_of (first_horizon q ask.after) at.run) (refusal_text refusal []) at.given_is in
       record {
         given = only_err (refusal_text refusal []);
@@ -137,6 +141,7 @@ module _ (d : Description) (q : Query) (ask : Ask) (given : List Told) (x y : Mo
             fair = at.fair;
             out = all.out;
             log = all.log;
+            accepted = logs_accepted d q ask at.run law at.fair (subst (λ (l : List Told). HasGoodLines d q ask.after l) at.given_is lines);
             ends = inr (refusal, at.still, at.passes, refl, is);
           },
         );
@@ -158,41 +163,51 @@ module _ (d : Description) (q : Query) (ask : Ask) (given : List Told) (x y : Mo
 
 module _ (d : Description) (q : Query) (given : List Told) (session next : SessionView) where
   -- the next event was told, or a front of it
-  pub event_told : (event : Event) (row : List ℕ) (x y : Moment) (r : Result (Option Status) Stop) → row ≡ next.row → IsSame session next →
+  pub event_told : WrittenLogsAreAccepted → HasGoodLines d q session.ask.after given → (event : Event) → IsShortEvent event → HeadsGood d q session.ask.after event → (row : List ℕ) (x y : Moment) (r : Result (Option Status) Stop) → row ≡ next.row → IsSame session next →
       After d q next (given ++ with_row event next.row ∷ []) × IsSessionOf next d q →
       Step (texts_of d (with_row event row ∷ [])) x y r → IfOk r (λ status. status ≡ status_told event) → GoesOn d q given session next x y r
-  event_told event row x y (Ok None) is same after step status =
+  event_told law lines event short heads row x y (Ok None) is same after step status =
       let here : Step {X = Option Status} (texts_of d (with_row event next.row ∷ [])) x y (Ok None) =
       subst (λ (l : List ℕ). Step {X = Option Status} (texts_of d (with_row event l ∷ [])) x y (Ok None)) is step in
-      record { told = with_row event next.row; is = after.1; after = after.0; moves = given_all _ x y None here }
-  event_told event row x y (Ok (Some status)) is same after step told =
+      let all = next_good d q session.ask.after given event next.row lines short heads in
+      record {
+        told = with_row event next.row;
+        is = after.1;
+        after = after.0;
+        lines = subst (λ (a : Ask). HasGoodLines d q a.after (given ++ with_row event next.row ∷ [])) (sym same.ask) all;
+        moves = given_all _ x y None here;
+      }
+  event_told law lines event short heads row x y (Ok (Some status)) is same after step told =
       let ending = ending_told event status told in
       let fair = fair_of d q next session.ask (given ++ with_row event next.row ∷ []) same.ask after.0 in
       let here : Step {X = Option Status} (texts_of d (with_row event next.row ∷ [])) x y (Ok (Some status)) =
       subst (λ (l : List ℕ). Step {X = Option Status} (texts_of d (with_row event l ∷ [])) x y (Ok (Some status))) is step in
       let moves = moves_done (texts_of d (with_row event next.row ∷ [])) x y (Some status) status (given_all _ x y (Some status) here) in
+      let all = next_good d q session.ask.after given event next.row lines short heads in
+      let here : HasGoodLines d q session.ask.after (given ++ with_row (events.Ended ending.0) next.row ∷ []) =
+      subst (λ (e : Event). HasGoodLines d q session.ask.after (given ++ with_row e next.row ∷ [])) ending.1 all in
       let both : AreFair d q session.ask (given ++ with_row (events.Ended ending.0) next.row ∷ [])
       × Moves (texts_of d (with_row (events.Ended ending.0) next.row ∷ [])) x y (Ok status) =
       subst (λ (e : Event). AreFair d q session.ask (given ++ with_row e next.row ∷ []) × Moves (texts_of d (with_row e next.row ∷ [])) x y (Ok status))
       ending.1 (fair, moves) in
-      ends_so_told d q session.ask given x y ending.0 status next.row both.0 ending.2 both.1
-  event_told event row x y (Err stop) is same after step status =
+      ends_so_told d q session.ask given x y law ending.0 status next.row here both.0 ending.2 both.1
+  event_told law lines event short heads row x y (Err stop) is same after step status =
       let fair = fair_of d q next session.ask (given ++ with_row event next.row ∷ []) same.ask after.0 in
       let here : Step {X = Option Status} (texts_of d (with_row event next.row ∷ [])) x y (Err stop) =
       subst (λ (l : List ℕ). Step {X = Option Status} (texts_of d (with_row event l ∷ [])) x y (Err stop)) is step in
       stops_within d q session.ask given x y (with_row event next.row ∷ []) stop fair here
 
   -- a limit was told, or a front of its line
-  pub limit_told : (refusal : Refusal) (x y : Moment) (r : Result (Option Status) Stop) → StopsAt d q session.ask given refusal →
+  pub limit_told : WrittenLogsAreAccepted → HasGoodLines d q session.ask.after given → (refusal : Refusal) (x y : Moment) (r : Result (Option Status) Stop) → StopsAt d q session.ask given refusal →
       Step (only_err (refusal_text refusal [])) x y r → IfOk r (λ status. status ≡ Some statuses.Refused) → GoesOn d q given session next x y r
-  limit_told refusal x y (Ok None) at step status = absurd cc
-  limit_told refusal x y (Ok (Some status)) at step told =
-      limit_ends d q session.ask given x y refusal status at (some_status status statuses.Refused told)
+  limit_told law lines refusal x y (Ok None) at step status = absurd cc
+  limit_told law lines refusal x y (Ok (Some status)) at step told =
+      limit_ends d q session.ask given x y law lines refusal status at (some_status status statuses.Refused told)
       (moves_done (only_err (refusal_text refusal [])) x y (Some status) status (given_all _ x y (Some status) step))
     where
       some_status : (a b : Status) → Some a ≡ Some b → a ≡ b
       some_status a b is = cc
-  limit_told refusal x y (Err stop) at step status = limit_stops d q session.ask given x y refusal stop at step
+  limit_told law lines refusal x y (Err stop) at step status = limit_stops d q session.ask given x y refusal stop at step
 
   -- memory was wanting
   pub memory_told : (m : Moment) (r : Result (Option Status) Stop) → After d q session given → r ≡ Err stops.OutOfMemory → GoesOn d q given session next m m r
@@ -215,13 +230,13 @@ module _ (described : Described) (entry : SessionView) where
   listing_begins m more of = record {
     same = record { signature = refl; laws = refl; query = refl; ask = refl };
     more = more;
-    of = (of.0, of.1, [], of.2, of.3, of.4);
-    so_far = λ d q is is_of after. record { given = []; is = is_of; after = after; moves = moves_none m tt };
+    of = (of.0, of.1, [], of.2, of.3, of.4, no_lines of.0 of.1 entry.ask.after);
+    so_far = λ d q is is_of after. record { given = []; is = is_of; after = after; lines = no_lines d q entry.ask.after; moves = moves_none m tt };
   }
 
   module _ (session next : SessionView) (x y z : Moment) (r : Result (Option Status) Stop) (listing : IsListing described entry session x y)
       (goes : (d : Description) (q : Query) (given : List Told) → IsDescriptionOf described d → IsSessionOf session d q → After d q session given →
-      GoesOn d q given session next y z r) where
+      HasGoodLines d q session.ask.after given → GoesOn d q given session next y z r) where
     pub listing_next : r ≡ Ok None → IsSame session next → HasMore next → IsListing described entry next x z
     listing_next is same more = record {
       same = record {
@@ -233,23 +248,25 @@ module _ (described : Described) (entry : SessionView) where
       more = more;
       of =
           let of = listing.of in
-          let one = one_more of.0 of.1 of.2 of.3 of.4 of.5 in
-          (of.0, of.1, of.2 ++ one.told ∷ [], of.3, one.is, one.after);
+          let one = one_more of.0 of.1 of.2 of.3 of.4 of.5 of.6 in
+          (of.0, of.1, of.2 ++ one.told ∷ [], of.3, one.is, one.after, one.lines);
       so_far = λ d q is_described is_of after.
           let old = listing.so_far d q is_described is_of after in
-          let one = one_more d q old.given is_described old.is old.after in
+          let one = one_more d q old.given is_described old.is old.after old.lines in
           record {
             given = old.given ++ one.told ∷ [];
             is = one.is;
             after = one.after;
+            lines = one.lines;
             moves = subst (λ (g : Given). Moves {X = Unit {0}} g x z (Ok tt)) (texts_more d old.given (one.told ∷ []))
                 (moves_both (texts_of d old.given) (texts_of d (one.told ∷ [])) x y z tt (Ok tt) old.moves (moves_done (texts_of d (one.told ∷ [])) y z None tt one.moves));
           };
     }
       where
-        one_more : (d : Description) (q : Query) (given : List Told) → IsDescriptionOf described d → IsSessionOf session d q → After d q session given → TellsOne d q given next y z
-        one_more d q given is_described is_of after =
-            subst (λ (s : Result (Option Status) Stop). GoesOn d q given session next y z s) is (goes d q given is_described is_of after)
+        one_more : (d : Description) (q : Query) (given : List Told) → IsDescriptionOf described d → IsSessionOf session d q → After d q session given →
+            HasGoodLines d q session.ask.after given → TellsOne d q given next y z
+        one_more d q given is_described is_of after lines =
+            subst (λ (s : Result (Option Status) Stop). GoesOn d q given session next y z s) is (goes d q given is_described is_of after lines)
 
     headed : (d : Description) (q : Query) (given : List Told) (s : Result Status Stop) → Moves {X = Unit {0}} (texts_of d given) x y (Ok tt) →
         Finishes (task_of d q entry.ask) (so_far d given) y z s → Searches (task_of d q entry.ask) header x z s
@@ -268,7 +285,7 @@ module _ (described : Described) (entry : SessionView) where
     listing_ends status is d q is_described is_of after =
         let old = listing.so_far d q is_described is_of after in
         let ends : Finishes (task_of d q session.ask) (so_far d old.given) y z (Ok status) =
-        subst (λ (s : Result (Option Status) Stop). GoesOn d q old.given session next y z s) is (goes d q old.given is_described old.is old.after) in
+        subst (λ (s : Result (Option Status) Stop). GoesOn d q old.given session next y z s) is (goes d q old.given is_described old.is old.after old.lines) in
         headed d q old.given (Ok status) old.moves
         (subst (λ (a : Ask). Finishes (task_of d q a) (so_far d old.given) y z (Ok status)) listing.same.ask ends)
 
@@ -278,7 +295,7 @@ module _ (described : Described) (entry : SessionView) where
     listing_stops stop (Err error) is same d q is_described is_of after =
         let old = listing.so_far d q is_described is_of after in
         let ends : Finishes (task_of d q session.ask) (so_far d old.given) y z (Err stop) =
-        subst (λ (s : Result (Option Status) Stop). GoesOn d q old.given session next y z s) is (goes d q old.given is_described old.is old.after) in
+        subst (λ (s : Result (Option Status) Stop). GoesOn d q old.given session next y z s) is (goes d q old.given is_described old.is old.after old.lines) in
         let here : Finishes (task_of d q entry.ask) (so_far d old.given) y z (Err stop) =
         subst (λ (a : Ask). Finishes (task_of d q a) (so_far d old.given) y z (Err stop)) listing.same.ask ends in
         headed d q old.given (Err error) old.moves

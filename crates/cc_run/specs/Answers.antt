@@ -1,5 +1,5 @@
 -- What a run may leave behind.
-use Rattle.std.specs.Prelude.{◌≡◌, ℕ, ◌+◌, ◌≤◌, ◌⊎◌, Bool, false, List, [], ◌∷◌, ◌++◌, length, Option, Some, None, is_some, IsNone, codes, if◌then◌else◌, ◌==◌}
+use Rattle.std.specs.Prelude.{◌≡◌, ℕ, ◌+◌, ◌<◌, ◌≤◌, ◌⊎◌, Bool, false, List, [], ◌∷◌, ◌++◌, length, Option, Some, None, is_some, IsNone, codes, if◌then◌else◌, ◌==◌}
 use Rattle.cc_defs.specs.declared.event.Ending.{Ending}
 use Rattle.cc_defs.specs.declared.event.Ending.TheVariants as endings
 use Rattle.cc_defs.specs.declared.event.Told.{Told}
@@ -8,11 +8,13 @@ use Rattle.cc_defs.specs.declared.refusal.LimitAt.TheVariants as limits
 use Rattle.cc_defs.specs.declared.refusal.Refusal.{Refusal}
 use Rattle.cc_defs.specs.Events.{out_text, log_of}
 use Rattle.cc_defs.specs.Histories.{AreFirst}
+use Rattle.cc_defs.specs.Logs.{IsAccepted}
 use Rattle.cc_defs.specs.Refusals.{past}
 use Rattle.cc_defs.specs.Runs.{Horizon, Histories, Conditions, Claim, Failure, Run, EndsWith, IsFairRun, Section, events_of, first_horizon, horizon_at, key_row, last_horizon, rows_of}
 use Rattle.cc_describe.specs.Places.{Files}
 use Rattle.cc_ports.specs.Contents.{Contents, IsPrefix, Rose}
 use Rattle.cc_print.specs.Refusals.{refusal_line}
+use Rattle.cc_query.specs.Accepted.{subject_of}
 use Rattle.cc_query.specs.Sessions.{opening_refusal}
 use Rattle.cc_run.specs.declared.status.Status.{Status}
 use Rattle.cc_run.specs.declared.status.Status.TheVariants as statuses
@@ -129,6 +131,20 @@ pub record PassesHistories (task : Task) (run : Run) (refusal : Refusal) : Type 
 abbrev pub PassesLimit : Task → Run → Refusal → Type 0
 PassesLimit task run refusal = PassesOpening task run refusal ⊎ PassesHistories task run refusal
 
+-- ---- what the log is worth
+
+-- the horizons that a run reported to have no history, and nothing else of it
+abbrev pub only_reported : Run → Run
+only_reported run = record { done = run.done; next = None; ending = None }
+
+abbrev pub IsLogAccepted : Task → Run → Type 0
+IsLogAccepted task run = IsAccepted (subject_of task.description task.query task.ask.after) (log_of (told_by task run))
+
+-- A checker accepts the log up to the last horizon that was reported to have no history, and that of a complete listing.
+pub record AreLogsAccepted (task : Task) (run : Run) : Type 0 where
+  pub reported : 0 < length run.done → IsLogAccepted task (only_reported run)
+  pub complete : (horizon listed : ℕ) → run.ending ≡ Some (endings.Complete horizon listed) → IsLogAccepted task run
+
 -- ---- listings
 
 -- a run of the search: it tells the truth, and this is what it tells and how it ends, or the limit that it passes
@@ -136,6 +152,7 @@ pub record IsTold (task : Task) (run : Run) (given : Given) (status : Status) : 
   pub fair : IsFairRun task.description task.query task.ask run
   pub out : given.out ≡ out_text task.description (told_by task run)
   pub log : given.log ≡ log_of (told_by task run)
+  pub accepted : AreLogsAccepted task run
   pub ends : ((ending : Ending) × (run.ending ≡ Some ending) × (given.err ≡ []) × (status ≡ status_of ending))
       ⊎ ((refusal : Refusal) × IsNone run.ending × PassesLimit task run refusal × (given.err ≡ refusal_text refusal [])
       × (status ≡ statuses.Refused))

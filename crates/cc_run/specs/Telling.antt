@@ -1,14 +1,17 @@
 -- What is told of one event of a search, and how a search goes on behind what it told before.
 use Rattle.std.specs.Prelude.{List, [], ◌∷◌, ◌++◌, Option, Some, None, Result, Ok, Err, MatchResult}
+use Rattle.std.specs.List.{AllByRecursion}
 use Rattle.cc_asked.specs.Descriptions.{IsDescriptionOf}
 use Rattle.cc_defs.specs.declared.event.Event.{Event}
 use Rattle.cc_defs.specs.declared.event.Event.TheVariants as events
 use Rattle.cc_defs.specs.declared.event.Told.{Told}
+use Rattle.cc_defs.specs.declared.lists.Key.{Key}
 use Rattle.cc_defs.specs.Description.{Description}
-use Rattle.cc_defs.specs.LogTexts.{header}
+use Rattle.cc_defs.specs.LogTexts.{IsFormed, header}
 use Rattle.cc_defs.specs.Resolved.{Query}
 use Rattle.cc_defs.specs.Runs.{Ask, Run}
 use Rattle.cc_describe.specs.declared.description.Described.{Described}
+use Rattle.cc_query.specs.Accepted.{HaveGoodAxioms, lines_of}
 use Rattle.cc_query.specs.Sessions.{After, HasMore, IsSame, IsSessionOf, SessionView}
 use Rattle.cc_run.specs.declared.status.Status.{Status}
 use Rattle.cc_run.specs.declared.status.Stop.{Stop}
@@ -33,6 +36,11 @@ status_told (events.Ended ending) = Some (status_of ending)
 abbrev pub task_of : Description → Query → Ask → Task
 task_of d q ask = record { description = d; query = q; ask = ask }
 
+-- The lines of the log that events make are formed, and the axioms of each section whose heading is among them are good.
+pub record HasGoodLines (d : Description) (q : Query) (key : Option Key) (told : List Told) : Type 0 where
+  pub formed : AllByRecursion IsFormed (lines_of told)
+  pub good : HaveGoodAxioms d q key (lines_of told)
+
 -- A search that gave this before: it tells a run up to its ending or to a limit, or it stops within.
 pub record Finishes (task : Task) (before : Given) (old new : Moment) (result : Result Status Stop) : Type 0 where
   pub given : Given
@@ -44,6 +52,7 @@ pub record TellsOne (d : Description) (q : Query) (given : List Told) (session :
   pub told : Told
   pub is : IsSessionOf session d q
   pub after : After d q session (given ++ told ∷ [])
+  pub lines : HasGoodLines d q session.ask.after (given ++ told ∷ [])
   pub moves : Moves {X = Option Status} (texts_of d (told ∷ [])) old new (Ok None)
 
 -- behind these events a session tells the next one, or it is done
@@ -57,12 +66,14 @@ pub record ListedSoFar (d : Description) (q : Query) (session : SessionView) (ol
   pub given : List Told
   pub is : IsSessionOf session d q
   pub after : After d q session given
+  pub lines : HasGoodLines d q session.ask.after given
   pub moves : Moves {X = Unit {0}} (texts_of d given) old new (Ok tt)
 
--- there are a description and a query of which it is a session
+-- there are a description and a query of which it is a session, and events that it told
 abbrev pub IsOfSome : Described → SessionView → Type 0
 IsOfSome described session =
     (d : Description) × (q : Query) × (given : List Told) × IsDescriptionOf described d × IsSessionOf session d q × After d q session given
+    × HasGoodLines d q session.ask.after given
 
 -- a search that is still on
 pub record IsListing (described : Described) (entry session : SessionView) (old new : Moment) : Type 0 where

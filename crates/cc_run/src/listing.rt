@@ -17,7 +17,7 @@ ghost use Rattle.cc_run.specs.Answers as answers;
 ghost use Rattle.cc_run.specs.Answers.{only_err};
 ghost use Rattle.cc_run.specs.Asking.{AreOf, AreSearchable};
 ghost use Rattle.cc_run.specs.Stops.{IsRowOfEvent, Searches, Step, moment, given_to, texts_of};
-ghost use Rattle.cc_run.specs.Telling.{GoesOn, IsOfSome, status_told};
+ghost use Rattle.cc_run.specs.Telling.{GoesOn, HasGoodLines, IsOfSome, status_told};
 ghost use Rattle.cc_sorts.specs.Tables.{IsSignatureFor};
 
 use crate::printing::{give, refuse};
@@ -28,6 +28,7 @@ use cc_defs::{Ending, Event, Fault, LogLine, OutOfMemory, Refusal};
 use cc_describe::Described;
 use cc_ports::{Desk, To};
 use cc_print::{event_text, history_text, key_text};
+use cc_query::laws::written_logs_are_accepted;
 use cc_query::{Ask, Session};
 use std::alloc::Global;
 
@@ -216,10 +217,11 @@ fn list_event<D: Desk>(
     requires same { described.now.sig ≡ session.old.signature }
     requires more { HasMore session.old }
     requires of { IsOfSome described.now session.old }
-    ensures goes { (d : Description) (q : QueryAsked) (given : List Told) → IsDescriptionOf described.now d → IsSessionOf session.old d q → After d q session.old given →
+    ensures goes { (d : Description) (q : QueryAsked) (given : List Told) → IsDescriptionOf described.now d → IsSessionOf session.old d q → After d q session.old given → HasGoodLines d q session.old.ask.after given →
         GoesOn d q given session.old session.new (moment D.told D.begun D.read_faults D.write_faults desk.old) (moment D.told D.begun D.read_faults D.write_faults desk.new) result }
     ensures next { IfOk result (λ status. IsNone status → IsSame session.old session.new × HasMore session.new × (left_of session.new < left_of session.old)) }
 {
+    written_logs_are_accepted();
     match session.next() {
         Ok(event) => tell_next(alloc, desk, described, &event, session.row()),
         Err(Fault::Refused(refusal)) => tell_limit(alloc, desk, &refusal),

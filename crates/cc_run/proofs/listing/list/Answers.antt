@@ -18,6 +18,14 @@ returns-in_err-session g c = λ d q is of.
     c.give.result c.in_ok-give.field-0 c.from_residual-in_err-session.result (one_as outputs.Log _ header _ _ c.give.result c.as_bytes.ensures.value c.give.ensures) c.in_ok-give.was
     c.from_residual-in_err-session.ensures.1
 
+pub list_events-requires-clause-of : goal.list_events-requires-clause-of
+list_events-requires-clause-of g c =
+    let of = c.requires.of in
+    let session = c.in_ok-session.session in
+    let of_it = session_of session c.args.described.now.sig c.args.laws.now (plain_ground_query c.args.query) of.0 of.1 c.in_ok-session.ensures.signature c.in_ok-session.ensures.laws
+    c.in_ok-session.ensures.query of.3 in
+    (of.0, of.1, of.2, of_it, c.in_ok-session.ensures.begun of.0 of.1 of_it)
+
 pub returns : goal.returns
 returns g c = λ d q is of.
     let session = c.in_ok-session.session in
