@@ -2,6 +2,10 @@ pub mod EventTexts
 pub mod GivenSteps
 pub mod LineSteps
 pub mod Listed
+pub mod Named
+pub mod Outcomes
 pub mod Passing
+pub mod Readings
+pub mod Requests
 pub mod RunEvents
 pub mod Worth

@@ -5,13 +5,15 @@ use Rattle.cc_defs.specs.declared.lists.Key.{Key}
 use Rattle.cc_defs.specs.declared.refusal.Fault.{Fault}
 use Rattle.cc_defs.specs.declared.refusal.Fault.TheVariants as faults
 use Rattle.cc_defs.specs.declared.refusal.Refusal.{Refusal}
+use Rattle.cc_defs.specs.declared.signature.Symbol.{Symbol}
 use Rattle.cc_defs.specs.Description.{Description}
 use Rattle.cc_defs.specs.GroundLaws.{PlainGroundQuery, StandsForQuery}
 use Rattle.cc_defs.specs.Resolved.{Query}
 use Rattle.cc_defs.specs.Signatures.{Signature}
 use Rattle.cc_form.specs.Queries.{IsQueryAt}
+use Rattle.cc_laws.specs.Questions.{steps_refusal}
 use Rattle.cc_query.specs.Sessions.{Fits}
-use Rattle.cc_run.specs.Tasks.{HasNoKey, IsKeyNamed, asked_refusal, query_named, refusal_without_place}
+use Rattle.cc_run.specs.Tasks.{HasNoKey, IsKeyNamed, asked_refusal, query_named, query_refusal, refusal_without_place}
 use Rattle.cc_theory.specs.Theories.{AreLawsFor, AreLawsOf}
 use Rattle.cc_words.specs.Words.{Text}
 
@@ -33,6 +35,18 @@ pub record AreNamed (d : Description) (queries : List Query) (label after : Opti
   pub query : query_named label queries ≡ Some q
   pub unrefused : asked_refusal d (Some q) ≡ None
   pub key_is : IsKeyNamed d q after key
+
+-- the ground query stands for the one that is named, and nothing of it is refused
+pub record IsAskedAs (d : Description) (queries : List Query) (label : Option Text) (made : PlainGroundQuery) : Type 0 where
+  pub query : Query
+  pub named_is : query_named label queries ≡ Some query
+  pub unrefused : query_refusal d (Some query) ≡ None
+  pub stands : StandsForQuery made d query
+
+-- 15 where there is no such query, or the refusal of its steps
+abbrev pub found_refusal : List Symbol → Option Query → Option Refusal
+found_refusal symbols None = Some (refusal_without_place 15)
+found_refusal symbols (Some query) = steps_refusal symbols query
 
 -- the refusal of what is named
 abbrev pub IsRefusedNamed : Description → List Query → (label after : Option Text) → Refusal → Type 0

@@ -1,5 +1,5 @@
 //! The top call.
-ghost use Rattle.std.specs.Prelude.{◌≡◌, ◌≢◌, ◌≤◌, List, false, map, Some, IfSome, IsSomeAnd, is_some, string_bytes};
+ghost use Rattle.std.specs.Prelude.{◌≡◌, ◌≢◌, ◌≤◌, List, false, map, Some, IfSome, IsSomeAnd, MatchOption, is_some, string_bytes};
 ghost use Rattle.cc_arena.specs.GroundViews.{plain_ground_query};
 ghost use Rattle.cc_asked.specs.Descriptions.{IsDescriptionOf};
 ghost use Rattle.cc_defs.specs.Description.{Description};
@@ -9,15 +9,15 @@ ghost use Rattle.cc_describe.specs.Describing.{Describes, SaysAll, AsksFormulas,
 ghost use Rattle.cc_ports.specs.Contents.{Rose};
 ghost use Rattle.cc_run.specs.Answers.{IsFresh, Answered, counts};
 ghost use Rattle.cc_run.specs.Asking.{AreOf, AreSearchable};
-ghost use Rattle.cc_run.specs.Stops.{Begins, Prints, moment, names_log};
+ghost use Rattle.cc_run.specs.Stops.{Begins, IsNoListing, Prints, moment, names_log};
 ghost use Rattle.cc_run.specs.Tasks.{IsTask, named_by, request_of};
 ghost use Rattle.cc_sorts.specs.Tables.{IsSignatureFor};
 ghost use Rattle.cc_words.specs.Requests.{Listing, ToList};
-ghost use Rattle.cc_words.specs.Views.{plain_request};
+ghost use Rattle.cc_words.specs.Views.{plain_asked, plain_request};
 ghost use Rattle.cc_words.specs.declared.asked.Asked.TheVariants as requests;
 ghost use Rattle.cc_words.specs.Words.{Text};
 
-use crate::asking::{prepare, refusal_without_place, Prepared};
+use crate::asking::{Prepared, prepare, refusal_without_place};
 use crate::listing::list;
 use crate::printing::{refuse, tell_stop};
 use crate::status::{Status, Stop};
@@ -61,25 +61,37 @@ pub fn run<D: Desk>(alloc: Global, words: &[String], desk: &mut D) -> Status
 fn answer<D: Desk>(alloc: Global, words: &[String], desk: &mut D) -> Result<Status, Stop>
     ensures { Prints (map string_bytes words.now) (names_log (request_of (map string_bytes words.now))) (moment D.told D.begun D.read_faults D.write_faults desk.old) (moment D.told D.begun D.read_faults D.write_faults desk.new) result }
 {
-    match read(alloc, words)? {
-        Some(Asked::List(asked)) => answer_list(alloc, desk, &asked),
-        _ => refuse(alloc, desk, &refusal_without_place(1), ""),
+    match listing_asked(read(alloc, words)?) {
+        Some(asked) => answer_list(alloc, desk, &asked),
+        None => refuse(alloc, desk, &refusal_without_place(1), ""),
+    }
+}
+
+/// The histories that are asked for; nothing where something else is.
+fn listing_asked<'a>(asked: Option<Asked<'a>>) -> Option<ListAsked<'a>>
+    ensures { MatchOption result (IsNoListing (plain_asked asked.entry)) (λ list. plain_asked asked.entry ≡ Some (plain_request (requests.List list))) }
+{
+    match asked {
+        Some(Asked::List(list)) => Some(list),
+        Some(Asked::Check(_)) => None,
+        Some(Asked::Make { .. }) => None,
+        None => None,
     }
 }
 
 /// The answer to words that ask for histories.
-fn answer_list<D: Desk>(
-    alloc: Global,
-    desk: &mut D,
-    asked: &ListAsked<'_>,
-) -> Result<Status, Stop>
+fn answer_list<D: Desk>(alloc: Global, desk: &mut D, asked: &ListAsked<'_>) -> Result<Status, Stop>
     requires count { IfSome asked.now.count (λ count. 1 ≤ count) }
     requires budget { asked.now.budget ≤ 2000000 }
     ensures { (words : List Text) → request_of words ≡ Some (plain_request (requests.List asked.now)) →
         Prints words (is_some asked.now.log) (moment D.told D.begun D.read_faults D.write_faults desk.old) (moment D.told D.begun D.read_faults D.write_faults desk.new) result }
 {
     match describe(alloc, desk, asked.file) {
-        Ok(described) => list_described(alloc, desk, asked, &described),
+        Ok(described) => {
+            let answer = list_described(alloc, desk, asked, &described);
+            drop(described);
+            answer
+        }
         Err(DescribeStop::Refused { refusal, file }) => refuse(alloc, desk, &refusal, file.text()),
         Err(DescribeStop::ReadFault) => Err(Stop::ReadFault),
         Err(DescribeStop::OutOfMemory) => Err(Stop::OutOfMemory),
@@ -129,7 +141,7 @@ fn list_described<D: Desk>(
 
 /// Begins a log where one is named.
 fn begin_log<D: Desk>(desk: &mut D, name: Option<&str>) -> Result<(), Stop>
-    ensures { Begins (is_some name) (moment D.told D.begun D.read_faults D.write_faults desk.old) (moment D.told D.begun D.read_faults D.write_faults desk.new) result }
+    ensures { Begins (is_some name.entry) (moment D.told D.begun D.read_faults D.write_faults desk.old) (moment D.told D.begun D.read_faults D.write_faults desk.new) result }
 {
     match name {
         Some(name) => match desk.create_file(name) {
@@ -160,12 +172,13 @@ fn list_prepared<D: Desk>(
         Prints words (is_some asked.now.log) (moment D.told D.begun D.read_faults D.write_faults desk.old) (moment D.told D.begun D.read_faults D.write_faults desk.new) result }
 {
     begin_log(desk, asked.log)?;
+    let Prepared { laws, query, key } = prepared;
     let ask = Ask {
         count: asked.count,
         budget: asked.budget,
-        after: prepared.key,
+        after: key,
     };
-    list(alloc, desk, described, &prepared.laws, prepared.query, ask)
+    list(alloc, desk, described, &laws, query, ask)
 }
 
 /// Runs over a desk that never fails: neither fault is answered, since its counts of faults stay 0.

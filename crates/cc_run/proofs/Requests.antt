@@ -1,0 +1,124 @@
+-- What words ask for: the numbers of a listing are within their bounds.
+use Rattle.std.proofs.Common.{◌≡◌, refl, subst, ℕ, ◌≤◌, Bool, true, false, cond, List, [], Option, Some, None, IfSome, option_map, is_some, unwrap_or, nat_le, arith, length}
+use Rattle.std.specs.Prelude.{◌&&◌, option_and_then}
+use Rattle.std.proofs.lemmas.Bool.{leb-true}
+use Rattle.cc_defs.specs.Grammar.{number_of}
+use Rattle.cc_defs.specs.Tokens.{is_number}
+use Rattle.cc_run.specs.Stops.{IsNoListing}
+use Rattle.cc_run.specs.Tasks.{request_of, refusal_without_place}
+use Rattle.cc_run.specs.Answers.{RefusesRequest}
+use Rattle.cc_describe.specs.Places.{Files}
+use Rattle.cc_words.specs.Readings.{reading}
+use Rattle.cc_words.specs.Requests.{Check, Checking, Listing, List as Listed, Make, Mode, Request, ToCheck, ToList, ToMake, asked_in, asked_of, bars_make, budget_of, count_of, mode_of, number_up_to, optional, provided, to_check, to_list, to_make}
+use Rattle.cc_words.specs.Words.{Given, Text}
+
+abbrev some : {X : Type 0} → X → Option X
+some x = Some x
+
+some_is : {X : Type 0} (x y : X) → some x ≡ some y → x ≡ y
+some_is x y e = cc
+
+from_provided : {X Y : Type 0} (o : Option X) (make : X → Option Y) (y : Y) → provided o make ≡ Some y → (x : X) × (o ≡ Some x) × (make x ≡ Some y)
+from_provided None make y e = absurd cc
+from_provided (Some x) make y e = (x, refl, e)
+
+from_map : {X Y : Type 0} (f : X → Y) (o : Option X) (y : Y) → option_map f o ≡ Some y → (x : X) × (o ≡ Some x) × (f x ≡ y)
+from_map f None y e = absurd cc
+from_map f (Some x) y e = (x, refl, some_is (f x) y e)
+
+from_test : {X : Type 0} (b : Bool) (x y : X) → cond b (Some x) None ≡ Some y → (b ≡ true) × (x ≡ y)
+from_test true x y e = (refl, some_is x y e)
+from_test false x y e = absurd cc
+
+from_barred : {X : Type 0} (b : Bool) (o : Option X) (y : X) → cond b None o ≡ Some y → o ≡ Some y
+from_barred true o y e = absurd cc
+from_barred false o y e = e
+
+both : (a b : Bool) → (a && b) ≡ true → (a ≡ true) × (b ≡ true)
+both true b e = (refl, e)
+both false b e = absurd cc
+
+-- a number that was read
+pub number_within : (most n : ℕ) (text : Text) → number_up_to most text ≡ Some n → (1 ≤ n) × (n ≤ most)
+number_within most n text e =
+    let tested = from_test ((is_number text && nat_le (length text) 7) && (nat_le 1 (number_of text) && nat_le (number_of text) most)) (number_of text) n e in
+    let range = both (nat_le 1 (number_of text)) (nat_le (number_of text) most) (both (is_number text && nat_le (length text) 7) (nat_le 1 (number_of text) && nat_le (number_of text) most) tested.0).1 in
+    let least : 1 ≤ number_of text = leb-true 1 (number_of text) range.0 in
+    let greatest : number_of text ≤ most = leb-true (number_of text) most range.1 in
+    (subst (λ k. 1 ≤ k) tested.1 least, subst (λ k. k ≤ most) tested.1 greatest)
+
+optional_within : (most : ℕ) (o : Option Text) (found : Option ℕ) → optional (number_up_to most) o ≡ Some found → IfSome found (λ n. (1 ≤ n) × (n ≤ most))
+optional_within most None found e = subst (λ (f : Option ℕ). IfSome f (λ n. (1 ≤ n) × (n ≤ most))) (some_is None found e) tt
+optional_within most (Some text) found e =
+    let made = from_map (λ (n : ℕ). some n) (number_up_to most text) found e in
+    subst (λ (f : Option ℕ). IfSome f (λ n. (1 ≤ n) × (n ≤ most))) made.2 (number_within most made.0 text made.1)
+
+count_within : (given : Given) (count : Option ℕ) → count_of given ≡ Some count → IfSome count (λ n. 1 ≤ n)
+count_within given count e = weaker count (optional_within 1000000 given.count count e)
+  where
+    weaker : (o : Option ℕ) → IfSome o (λ n. (1 ≤ n) × (n ≤ 1000000)) → IfSome o (λ n. 1 ≤ n)
+    weaker None h = tt
+    weaker (Some n) h = h.0
+
+budget_within : (given : Given) (budget : ℕ) → budget_of given ≡ Some budget → budget ≤ 2000000
+budget_within given budget e =
+    let made = from_map (λ (o : Option ℕ). unwrap_or o 200000) (optional (number_up_to 2000000) given.budget) budget e in
+    subst (λ k. k ≤ 2000000) made.2 (within made.0 (optional_within 2000000 given.budget made.0 made.1))
+  where
+    within : (o : Option ℕ) → IfSome o (λ n. (1 ≤ n) × (n ≤ 2000000)) → unwrap_or o 200000 ≤ 2000000
+    within None h = omega arith
+    within (Some n) h = h.1
+
+-- a listing that is asked for
+abbrev IsWithin : Listing → Type 0
+IsWithin listing = IfSome listing.count (λ n. 1 ≤ n) × (listing.budget ≤ 2000000)
+
+same_listing : (a b : Listing) → some (ToList a) ≡ some (ToList b) → a ≡ b
+same_listing a b e = cc
+
+listed_within : (given : Given) (listing : Listing) → to_list given ≡ Some (ToList listing) → IsWithin listing
+listed_within given listing e =
+    let file = from_provided given.file _ (ToList listing) (from_barred (is_some given.size) _ (ToList listing) e) in
+    let count = from_provided (count_of given) _ (ToList listing) file.2 in
+    let budget = from_provided (budget_of given) _ (ToList listing) count.2 in
+    subst IsWithin (same_listing _ listing budget.2) (count_within given count.0 count.1, budget_within given budget.0 budget.1)
+
+not_checking : (checking : Checking) (listing : Listing) → some (ToCheck checking) ≡ some (ToList listing) → ⊥
+not_checking checking listing e = absurd cc
+
+not_making : (size budget : ℕ) (listing : Listing) → some (ToMake size budget) ≡ some (ToList listing) → ⊥
+not_making size budget listing e = absurd cc
+
+no_check : (given : Given) (listing : Listing) → to_check given ≡ Some (ToList listing) → ⊥
+no_check given listing e =
+    let file = from_provided given.file _ (ToList listing) (from_barred _ _ (ToList listing) e) in
+    let log = from_provided given.log _ (ToList listing) file.2 in
+    not_checking _ listing log.2
+
+no_make : (given : Given) (listing : Listing) → to_make given ≡ Some (ToList listing) → ⊥
+no_make given listing e =
+    let text = from_provided given.size _ (ToList listing) (from_barred (bars_make given) _ (ToList listing) e) in
+    let size = from_provided (number_up_to 100 text.0) _ (ToList listing) text.2 in
+    let budget = from_provided (budget_of given) _ (ToList listing) size.2 in
+    not_making size.0 budget.0 listing budget.2
+
+asked_within : (mode : Mode) (given : Given) (listing : Listing) → asked_in mode given ≡ Some (ToList listing) → IsWithin listing
+asked_within Listed given listing e = listed_within given listing e
+asked_within Check given listing e = absurd (no_check given listing e)
+asked_within Make given listing e = absurd (no_make given listing e)
+
+read_within : (o : Option Given) (listing : Listing) → option_and_then asked_of o ≡ Some (ToList listing) → IsWithin listing
+read_within None listing e = absurd cc
+read_within (Some given) listing e =
+    let mode = from_provided (mode_of given) _ (ToList listing) e in
+    asked_within mode.0 given listing mode.2
+
+pub listing_within : (words : List Text) (listing : Listing) → request_of words ≡ Some (ToList listing) → IfSome listing.count (λ n. 1 ≤ n) × (listing.budget ≤ 2000000)
+listing_within words listing e = read_within (reading words) listing e
+
+-- words that ask for something else, or for nothing, are refused
+pub refuses_request : (files : Files) (request : Option Request) → IsNoListing request → RefusesRequest files request (refusal_without_place 1) []
+refuses_request files None other = (refl, refl)
+refuses_request files (Some (ToList listing)) other = absurd other
+refuses_request files (Some (ToCheck checking)) other = (refl, refl)
+refuses_request files (Some (ToMake size budget)) other = (refl, refl)
