@@ -96,7 +96,7 @@ module _ (sound : ResolventsAreSound) (leaves : DenialLeavesOthers) (axioms : Ax
       absurd (false≢true (met [] (right.0 (sym same.0 ∙ empty))))
   blocked before blocks line (text ∷ texts) met (inr (lines.End other, read, inr (wrong, is))) = absurd cc
   blocked before blocks line (text ∷ texts) met (inr (lines.Derived clause chain, read, inl (there, is))) = absurd cc
-  blocked before blocks line (text ∷ texts) met (inr (lines.Derived clause chain, read, inr (inl (none, (cause, wrongly, is))))) = absurd cc
+  blocked before blocks line (text ∷ texts) met (inr (lines.Derived clause chain, read, inr (inl (none, (reason, wrongly, is))))) = absurd cc
   blocked before blocks line (text ∷ texts) met (inr (lines.Derived clause chain, read, inr (inr (none, is_clause, over, reached, goes)))) =
       in_rest text (line_text (lines.Block row)) texts
       (blocked (before ++ clause ∷ []) blocks (line + 1) texts (met_more sound assignment before clause met (met_reached sound assignment before met chain clause reached)) goes)

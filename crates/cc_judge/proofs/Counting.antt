@@ -37,7 +37,7 @@ module _ (axioms : Axioms) (word : EndWord) (count end_line : ℕ) where
       let counts = same.1 in let ends = same.2 in (omega arith, omega arith)
   found_few before blocks line (text ∷ texts) (inr (lines.End other, read, inr (wrong, is))) = absurd cc
   found_few before blocks line (text ∷ texts) (inr (lines.Derived clause chain, read, inl (there, is))) = absurd cc
-  found_few before blocks line (text ∷ texts) (inr (lines.Derived clause chain, read, inr (inl (none, (cause, wrongly, is))))) = absurd cc
+  found_few before blocks line (text ∷ texts) (inr (lines.Derived clause chain, read, inr (inl (none, (reason, wrongly, is))))) = absurd cc
   found_few before blocks line (text ∷ texts) (inr (lines.Derived clause chain, read, inr (inr (none, is_clause, over, reached, goes)))) =
       let rest = found_few (before ++ clause ∷ []) blocks (line + 1) texts goes in
       let counts = rest.0 in let ends = rest.1 in (omega arith, omega arith)
@@ -52,7 +52,7 @@ pub room_for : (axioms : Axioms) (blocked : ℕ) (section : SectionText) (verdic
 room_for axioms blocked section (findings.Right word count end_line) early found =
     let few = found_few axioms word count end_line axioms.clauses 0 (section.line + 1) section.texts found in
     let counts = few.0 in let ends = few.1 in let first = early.0 in let last = early.1 in (omega arith, omega arith)
-room_for axioms blocked section (findings.Refused line cause) early found = tt
+room_for axioms blocked section (findings.Refused line reason) early found = tt
 
 -- ---- behind it
 
@@ -68,8 +68,8 @@ moved standing false words.Spent blocks line held is = absurd cc
 
 pub forward : (axioms : Axioms) (standing : Standing) (section : SectionText) (conditions : Bool) (finding : Finding) (next : Next) → IsEarly standing.blocked section →
     IsFound axioms axioms.clauses 0 (section.line + 1) section.texts finding → IsBehindFinding standing conditions finding next → IsForward standing section next
-forward axioms standing section conditions finding (nexts.Wrong line cause) early found is = tt
-forward axioms standing section conditions (Wrong line cause) (nexts.Goes held) early found is = absurd cc
+forward axioms standing section conditions finding (nexts.Wrong line reason) early found is = tt
+forward axioms standing section conditions (Wrong line reason) (nexts.Goes held) early found is = absurd cc
 forward axioms standing section conditions (Right word count end_line) (nexts.Goes held) early found is =
     let few = found_few axioms word count end_line axioms.clauses 0 (section.line + 1) section.texts found in
     let first = early.0 in let counts = few.0 in

@@ -58,9 +58,9 @@ module _ (d : Description) (q : Query) (key : Option Key) (sections : List Secti
     ];
   }
 
-  pub passed_wrong : (standing : Standing) (section : SectionText) (left : List SectionText) (line : ℕ) (cause : Cause) → ArePassed d q key sections standing (section ∷ left) →
-      IsJudgedTo d q key standing section (nexts.Wrong line cause) → IsVerdictOn d q key sections (verdicts.Refused line cause)
-  passed_wrong standing section left line cause so_far wrong = (so_far.judged (verdicts.Refused line cause) (wrong left), tt)
+  pub passed_wrong : (standing : Standing) (section : SectionText) (left : List SectionText) (line : ℕ) (reason : Cause) → ArePassed d q key sections standing (section ∷ left) →
+      IsJudgedTo d q key standing section (nexts.Wrong line reason) → IsVerdictOn d q key sections (verdicts.Refused line reason)
+  passed_wrong standing section left line reason so_far wrong = (so_far.judged (verdicts.Refused line reason) (wrong left), tt)
 
   pub passed_fault : (standing : Standing) (section : SectionText) (left : List SectionText) (fault : Fault) → ArePassed d q key sections standing (section ∷ left) →
       IsSectionFault d q key standing section fault → IsFaultOn d q key sections fault
@@ -72,7 +72,7 @@ module _ (d : Description) (q : Query) (key : Option Key) (sections : List Secti
 
   closed_denied : (standing : Standing) (first : ℕ) (verdict : LogVerdict) → first ≡ first_horizon q key → first ≤ standing.horizon → ArePassed d q key sections standing [] →
       IsClosedAt first standing verdict → Denies verdict
-  closed_denied standing first (verdicts.Refused line cause) first_same most so_far closed = tt
+  closed_denied standing first (verdicts.Refused line reason) first_same most so_far closed = tt
   closed_denied standing first (verdicts.Accepted from to blocked) first_same most so_far (inl (middle, apart, is)) = λ horizon row low high history.
       (let from_is : from ≡ first = cc in
       let to_is : to ≡ standing.horizon - 1 = cc in
@@ -124,9 +124,9 @@ module _ (signature : Signature) (laws : List GroundLaw) (query : PlainGroundQue
           passed = λ d q of stands. passed_more d q key sections (seen held) (seen next) section left (is_there sections index section is) (passed_here d q of stands) (judged d q of stands);
         }
 
-    pub went_wrong : (line : ℕ) (cause : Cause) (d : Description) (q : Query) → AreLawsOf signature laws d → StandsForQuery query d q →
-        IsJudgedTo d q key (seen held) section (nexts.Wrong line cause) → IsVerdictOn d q key sections (verdicts.Refused line cause)
-    went_wrong line cause d q of stands wrong = passed_wrong d q key sections (seen held) section left line cause (passed_here d q of stands) wrong
+    pub went_wrong : (line : ℕ) (reason : Cause) (d : Description) (q : Query) → AreLawsOf signature laws d → StandsForQuery query d q →
+        IsJudgedTo d q key (seen held) section (nexts.Wrong line reason) → IsVerdictOn d q key sections (verdicts.Refused line reason)
+    went_wrong line reason d q of stands wrong = passed_wrong d q key sections (seen held) section left line reason (passed_here d q of stands) wrong
 
     pub went_past : (fault : Fault) (d : Description) (q : Query) → AreLawsOf signature laws d → StandsForQuery query d q →
         IsSectionFault d q key (seen held) section fault → IsFaultOn d q key sections fault
@@ -148,7 +148,7 @@ module _ (d : Description) (q : Query) (key : Option Key) (bytes : List ℕ) (se
   whole_blocks (verdicts.Accepted first last blocked) is = λ horizon row low high history.
       (let (section, there, denied) = is.1 horizon row low high history in
       record { sections = sections; are = has_sections bytes sections split; section = section; there = there; horizon_is = denied.0; blocked = denied.1 })
-  whole_blocks (verdicts.Refused line cause) is = tt
+  whole_blocks (verdicts.Refused line reason) is = tt
 
   pub ok_verdict : SectionsGiveVerdicts → (result : Result LogVerdict Fault) → IfOk result (IsVerdictOn d q key sections) → IfOk result (IsVerdict (subject_of d q key) bytes)
   ok_verdict law (Ok verdict) is = whole_verdict law verdict is

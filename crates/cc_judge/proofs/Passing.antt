@@ -53,14 +53,14 @@ goes_on Goes standing false words.Found blocks line held is goes = absurd cc
 goes_on Goes standing true words.Spent blocks line held is goes = absurd cc
 goes_on Goes standing false words.Spent blocks line held is goes = absurd cc
 
-stopped : (Goes : Standing → Type 0) (standing : Standing) (conditions : Bool) (word : EndWord) (blocks line at : ℕ) (cause : Cause) →
-    IsBehind standing conditions word blocks line (nexts.Wrong at cause) → IsContinued Goes standing conditions word blocks line (verdicts.Refused at cause)
-stopped Goes standing true words.Empty blocks line at cause is = absurd is
-stopped Goes standing false words.Empty blocks line at cause is = absurd is
-stopped Goes standing true words.Found blocks line at cause is = absurd is
-stopped Goes standing false words.Found blocks line at cause is = cc
-stopped Goes standing true words.Spent blocks line at cause is = cc
-stopped Goes standing false words.Spent blocks line at cause is = cc
+stopped : (Goes : Standing → Type 0) (standing : Standing) (conditions : Bool) (word : EndWord) (blocks line at : ℕ) (reason : Cause) →
+    IsBehind standing conditions word blocks line (nexts.Wrong at reason) → IsContinued Goes standing conditions word blocks line (verdicts.Refused at reason)
+stopped Goes standing true words.Empty blocks line at reason is = absurd is
+stopped Goes standing false words.Empty blocks line at reason is = absurd is
+stopped Goes standing true words.Found blocks line at reason is = absurd is
+stopped Goes standing false words.Found blocks line at reason is = cc
+stopped Goes standing true words.Spent blocks line at reason is = cc
+stopped Goes standing false words.Spent blocks line at reason is = cc
 
 module _ (d : Description) (q : Query) (key : Option Key) (standing : Standing) (section : SectionText) where
   -- ---- a section out of its place, and one that passes a limit
@@ -101,8 +101,8 @@ module _ (sound : ResolventsAreSound) (leaves : DenialLeavesOthers) (d : Descrip
   pub in_place : IsNext (subject_of d q key) standing section → TellsHistories d (asked (not section.conditions) q) section.horizon (row_of key) axioms →
       (finding : Finding) (next : Next) → IsFound axioms axioms.clauses 0 (section.line + 1) section.texts finding →
       IsBehindFinding standing section.conditions finding next → IsJudgedTo d q key standing section next
-  in_place at tells (Wrong line cause) (nexts.Goes held) found is = absurd cc
-  in_place at tells (Wrong line cause) (nexts.Wrong other because) found is = λ sections. inr (at, (Wrong line cause, found, cc))
+  in_place at tells (Wrong line reason) (nexts.Goes held) found is = absurd cc
+  in_place at tells (Wrong line reason) (nexts.Wrong other because) found is = λ sections. inr (at, (Wrong line reason, found, cc))
   in_place at tells (Right word blocks line) (nexts.Wrong other because) found is = λ sections.
       inr (
         at,

@@ -30,7 +30,7 @@ GoesOnBehind Goes standing false words.Found blocks line = ⊥
 GoesOnBehind Goes standing conditions words.Spent blocks line = ⊥
 
 abbrev pub GoesOn : (Standing → Type 0) → Standing → (conditions : Bool) → Finding → Type 0
-GoesOn Goes standing conditions (Wrong line cause) = ⊥
+GoesOn Goes standing conditions (Wrong line reason) = ⊥
 GoesOn Goes standing conditions (Right word blocks line) = GoesOnBehind Goes standing conditions word blocks line
 
 -- A section stands in its place, and its axioms pass this limit; each section before it is right.
@@ -69,4 +69,4 @@ pub record IsBlockedIn (bytes : List ℕ) (horizon : ℕ) (row : List ℕ) : Typ
 abbrev pub BlocksHistories : Description → Query → Option Key → List ℕ → LogVerdict → Type 0
 BlocksHistories d q key bytes (verdicts.Accepted first last blocked) =
     (horizon : ℕ) (row : List ℕ) → first ≤ horizon → horizon ≤ last → IsHistory d q horizon (option_map (λ low. low.row) key) row → IsBlockedIn bytes horizon row
-BlocksHistories d q key bytes (verdicts.Refused line cause) = Unit {0}
+BlocksHistories d q key bytes (verdicts.Refused line reason) = Unit {0}

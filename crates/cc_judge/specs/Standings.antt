@@ -38,7 +38,7 @@ IsPlaced query key standing section =
 
 abbrev pub GoesTo : Standing → Next → Type 0
 GoesTo standing (nexts.Goes held) = seen held ≡ standing
-GoesTo standing (nexts.Wrong line cause) = ⊥
+GoesTo standing (nexts.Wrong line reason) = ⊥
 
 abbrev pub IsBehind : Standing → (conditions : Bool) → EndWord → (blocks line : ℕ) → Next → Type 0
 IsBehind standing conditions words.Empty blocks line next = GoesTo (next_horizon standing blocks line) next
@@ -48,12 +48,12 @@ IsBehind standing conditions words.Spent blocks line next = next ≡ nexts.Wrong
 
 abbrev pub IsBehindFinding : Standing → (conditions : Bool) → Finding → Next → Type 0
 IsBehindFinding standing conditions (Right word blocks line) next = IsBehind standing conditions word blocks line next
-IsBehindFinding standing conditions (Wrong line cause) next = next ≡ nexts.Wrong line cause
+IsBehindFinding standing conditions (Wrong line reason) next = next ≡ nexts.Wrong line reason
 
 -- so many blocks were counted, and there is room for those of a section, and a line behind it
 abbrev pub HasRoom : ℕ → Verdict → Type 0
 HasRoom blocked (findings.Right ending blocks line) = (blocked + blocks ≤ 4294967295) × (line < 4294967295)
-HasRoom blocked (findings.Refused line cause) = Unit {0}
+HasRoom blocked (findings.Refused line reason) = Unit {0}
 
 -- what closes a log, by its first horizon
 abbrev pub IsClosedAt : ℕ → Standing → LogVerdict → Type 0
@@ -81,8 +81,8 @@ pub record IsPassed (d : Description) (q : Query) (key : Option Key) (standing :
 
 abbrev pub IsJudgedTo : Description → Query → Option Key → Standing → SectionText → Next → Type 0
 IsJudgedTo d q key standing section (nexts.Goes held) = IsPassed d q key standing section (seen held)
-IsJudgedTo d q key standing section (nexts.Wrong line cause) =
-    (sections : List SectionText) → AreJudged (subject_of d q key) standing (section ∷ sections) (verdicts.Refused line cause)
+IsJudgedTo d q key standing section (nexts.Wrong line reason) =
+    (sections : List SectionText) → AreJudged (subject_of d q key) standing (section ∷ sections) (verdicts.Refused line reason)
 
 -- the limit that it passes, or memory was wanting
 abbrev pub IsSectionFault : Description → Query → Option Key → Standing → SectionText → Fault → Type 0
@@ -99,7 +99,7 @@ IsEarly blocked section = (blocked ≤ section.line) × (section.line + length s
 -- the horizon does not go down, and no more blocks stand before the next heading than lines
 abbrev pub IsForward : Standing → SectionText → Next → Type 0
 IsForward standing section (nexts.Goes held) = (standing.horizon ≤ held.horizon) × (held.blocked ≤ section.line + 1 + length section.texts)
-IsForward standing section (nexts.Wrong line cause) = Unit {0}
+IsForward standing section (nexts.Wrong line reason) = Unit {0}
 
 -- ---- the sections of a log
 
@@ -114,7 +114,7 @@ IsDeniedIn sections horizon row = (section : SectionText) × Contains sections s
 abbrev pub AreAllDenied : Description → Query → Option Key → List SectionText → LogVerdict → Type 0
 AreAllDenied d q key sections (verdicts.Accepted first last blocked) =
     (horizon : ℕ) (row : List ℕ) → first ≤ horizon → horizon ≤ last → IsHistory d q horizon (row_of key) row → IsDeniedIn sections horizon row
-AreAllDenied d q key sections (verdicts.Refused line cause) = Unit {0}
+AreAllDenied d q key sections (verdicts.Refused line reason) = Unit {0}
 
 abbrev pub IsVerdictOn : Description → Query → Option Key → List SectionText → LogVerdict → Type 0
 IsVerdictOn d q key sections verdict =
