@@ -49,7 +49,6 @@
 //! Want of memory ends the program.
 #![tactic(auto)]
 
-mod book;
 mod case;
 mod counts;
 mod formulas;
@@ -62,12 +61,13 @@ mod tables;
 mod trees;
 
 use anyhow::Result;
+use cc_books::cases;
 
 /// Prints what the cases of a book say.
 fn show_book(rt: &HostRuntime, name: &str) -> Result<()> {
     let alloc = rt.alloc();
     let bytes = std::fs::read(rt, name)?;
-    for part in book::parts(alloc, &bytes, book::CASE)? {
+    for part in cases(alloc, &bytes)? {
         rt.print(case::shown(alloc, part)?)?;
     }
     Ok(())
