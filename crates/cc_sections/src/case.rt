@@ -1,13 +1,10 @@
 //! A case: what is asked of its description.
-ghost use Rattle.std.specs.Prelude.{◌≡◌, ◌≤◌, ℕ, List, None};
+ghost use Rattle.std.specs.Prelude.{ℕ, ◌≤◌, IfOk};
 ghost use Rattle.cc_arena.specs.GroundViews.{plain_ground_query};
-ghost use Rattle.cc_defs.specs.Declarations.{Declaration, symbols};
-ghost use Rattle.cc_defs.specs.Resolved.{plain_query};
 ghost use Rattle.cc_describe.specs.Describing.{AsksFormulas, HasForms};
-ghost use Rattle.cc_laws.specs.Laws.{HasFormulas};
+ghost use Rattle.cc_form.specs.Queries.{IsQueryAt};
 ghost use Rattle.cc_sections.specs.Asked.{AreAskable};
-ghost use Rattle.cc_sorts.specs.Tables.{IsSignatureFor, IsTable};
-ghost use Rattle.cc_theory.specs.Theories.{AreLawsFor};
+ghost use Rattle.cc_sorts.specs.Tables.{IsSignatureFor};
 
 use crate::ask::{Ask, Show};
 use crate::clauses::{form_at, show_form, theory_at};
@@ -108,6 +105,8 @@ fn query_asked<'a>(
 ) -> Result<GroundQuery<'a>, Halt>
     requires signature { IsSignatureFor described.now.table described.now.sig }
     requires formulas { AsksFormulas described.now }
+    ensures most { IfOk result (λ made. made.hi ≤ 1000) }
+    ensures steps { IfOk result (λ made. (horizon : ℕ) → made.lo ≤ horizon → horizon ≤ made.hi → IsQueryAt described.now.sig horizon (plain_ground_query made)) }
 {
     let Some(query) = described.queries.items().get(number as usize) else {
         return Err(Halt::Query);

@@ -1,7 +1,5 @@
 //! Clause lists.
-ghost use Rattle.std.specs.Prelude.{◌≤◌};
 ghost use Rattle.cc_arena.specs.GroundViews.{plain_ground_query};
-ghost use Rattle.cc_form.specs.Queries.{IsKeyAt};
 ghost use Rattle.cc_sections.specs.Asked.{AreAskable};
 
 use crate::halt::Halt;

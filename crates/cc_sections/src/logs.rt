@@ -1,5 +1,4 @@
 //! The sections of a log, each checked over a clause list of its own.
-ghost use Rattle.std.specs.Prelude.{◌≤◌, length};
 ghost use Rattle.cc_arena.specs.GroundViews.{plain_ground_query};
 ghost use Rattle.cc_sections.specs.Asked.{AreAskable};
 

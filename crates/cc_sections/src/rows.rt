@@ -1,5 +1,5 @@
 //! The rows that the search finds for a clause list.
-ghost use Rattle.std.specs.Prelude.{◌≡◌, ◌<◌, ℕ, List, Some, IfOk, OnOk};
+ghost use Rattle.std.specs.Prelude.{◌≡◌, ℕ, List, IfOk, OnOk, true};
 ghost use Rattle.cc_cdcl.specs.Solvers.{Found as IsFound, Ready};
 ghost use Rattle.cc_cdcl.specs.declared.solver.Step.TheVariants as steps;
 
@@ -44,7 +44,7 @@ fn find(solver: &mut Solver) -> Result<bool, Halt>
     requires { solver.old.standing ≡ Ready }
     ensures { IfOk result (λ found. found ≡ true → (row : List ℕ) × (solver.new.standing ≡ IsFound row)) }
 {
-    for _ in 0..MOST_STEPS {
+    for turn in 0..MOST_STEPS {
         match step(solver)? {
             Step::Line => {}
             Step::Found => return Ok(true),
@@ -83,7 +83,7 @@ fn show_row(out: &mut String, row: &[u32]) -> Result<(), OutOfMemory> {
 fn show_found(out: &mut String, mut solver: Solver) -> Result<(), Halt>
     requires { solver.standing ≡ Ready }
 {
-    for _ in 0..MOST_STEPS {
+    for number in 0..MOST_STEPS {
         if !find(&mut solver)? {
             return Ok(());
         }

@@ -1,13 +1,10 @@
 //! The rules of a theory, by their heads.
-ghost use Rattle.std.specs.Prelude.{◌<◌, ◌≤◌};
+ghost use Rattle.std.specs.Prelude.{◌<◌, ◌≤◌, length};
 ghost use Rattle.cc_defs.specs.Signatures.{position_count};
-ghost use Rattle.cc_theory.specs.Theories.{AreLawsFor, IsAtom};
+ghost use Rattle.cc_theory.specs.Theories.{IsAtom};
 
-use crate::halt::Halt;
-use cc_arena::Laws;
-use cc_defs::{OutOfMemory, Sig};
+use cc_defs::{Const, OutOfMemory};
 use cc_theory::Theory;
-use std::alloc::Global;
 use std::fmt::Write;
 
 /// How many rules a theory has.
@@ -39,17 +36,29 @@ fn show_atom(
     show_numbers(out, theory.completion(position, value))
 }
 
+/// How many values a constant has.
+fn size_of(constant: &Const) -> u32
+    ensures { result ≤ length constant.now.domain }
+{
+    match u32::try_from(constant.domain.items().len()) {
+        Ok(size) => size,
+        Err(_) => 0,
+    }
+}
+
 /// The rules whose heads are the atoms of a position.
 fn show_position(out: &mut String, theory: &Theory<'_>, position: u64) -> Result<(), OutOfMemory>
     requires { position < position_count theory.now.signature theory.now.horizon }
 {
     let sig = theory.sig();
-    let count = u64::from(sig.fluents()) + u64::from(sig.actions());
+    let Some(count) = sig.fluents().checked_add(sig.actions()) else {
+        return Ok(());
+    };
     if count == 0 {
         return Ok(());
     }
-    let constant = sig.constant((position % count) as u32);
-    for value in 0..constant.domain.items().len() as u32 {
+    let constant = sig.constant((position % u64::from(count)) as u32);
+    for value in 0..size_of(constant) {
         show_atom(out, theory, position, value)?;
     }
     Ok(())
