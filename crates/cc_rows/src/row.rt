@@ -1,6 +1,6 @@
 //! A case: what a run over its files gives.
-use crate::book::{FILE, body, head, parts};
 use crate::setting::Setting;
+use cc_books::{body, bytes_named, head, parts};
 use cc_defs::{Bytes, Name, Nums, OutOfMemory};
 use cc_ports::{Files, MemoryDesk, To};
 use cc_run::run;
@@ -9,12 +9,7 @@ use std::fmt::Write;
 
 /// The text of the file of this name; an empty one where it is not there.
 fn text_of<'b>(parts: &[&'b [u8]], name: &str) -> &'b str {
-    for part in parts {
-        if head(part) == name {
-            return std::str::from_utf8(body(part)).unwrap_or("");
-        }
-    }
-    ""
+    std::str::from_utf8(bytes_named(parts, name)).unwrap_or("")
 }
 
 /// The lines of a text.
@@ -91,7 +86,7 @@ pub(crate) fn shown(alloc: Global, case: &[u8]) -> Result<String, OutOfMemory> {
     let mut out = String::from_str(alloc, "=== ")?;
     out.push_str(head(case))?;
     out.push_str("\n")?;
-    let parts = parts(alloc, case, FILE)?;
+    let parts = parts(alloc, case)?;
     let words = words_of(alloc, text_of(&parts, "words"))?;
     let mut desk = desk_of(alloc, &parts)?;
     let status = run(alloc, &words, &mut desk);

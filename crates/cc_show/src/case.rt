@@ -1,7 +1,6 @@
 //! A case: what describing its main file gives.
 ghost use Rattle.cc_sorts.specs.Tables.{IsSignatureFor};
 
-use crate::book::{files, head};
 use crate::counts::counted;
 use crate::ground_laws::show_ground;
 use crate::laws::show_laws;
@@ -9,6 +8,7 @@ use crate::queries::show_queries;
 use crate::refusals::show_stop;
 use crate::tables::{show_constants, show_files, show_sorts, show_symbols, show_variables};
 use crate::trees::show_trees;
+use cc_books::{files, head, parts};
 use cc_defs::{Nums, OutOfMemory};
 use cc_describe::{DescribeStop, Described, describe};
 use cc_ports::{Files, MemoryDesk};
@@ -61,7 +61,8 @@ fn show_description(
 fn shown_behind(alloc: Global, title: &str, case: &[u8]) -> Result<String, OutOfMemory> {
     let mut out = String::new(alloc);
     let mut main = String::new(alloc);
-    let files = files(alloc, case)?;
+    let parts = parts(alloc, case)?;
+    let files = files(alloc, &parts)?;
     if let Some((name, text)) = files.items().first() {
         main.push_str(name.text())?;
         if title.starts_with("tree") {

@@ -1,11 +1,6 @@
 //! Prints what descriptions say, case by case, in a form that a second implementation can print too.
 //!
-//! # Books
-//!
-//! A book is a file of cases. A line that begins with `=== ` begins a case; the rest of the line is its title. A line that
-//! begins with `--- ` begins a file of the case; the rest of the line is its name, and the lines up to the next line that
-//! begins with `=== ` or `--- ` are its bytes, each with its line feed. The first file is the main one. What stands before
-//! the first case, or in a case before its first file, is left out. Of files of one name the first counts.
+//! The form of a book stands at the head of the library of books. The first file of a case is the main one.
 //!
 //! # What is printed
 //!
@@ -49,7 +44,6 @@
 //! Want of memory ends the program.
 #![tactic(auto)]
 
-mod book;
 mod case;
 mod counts;
 mod formulas;
@@ -62,12 +56,13 @@ mod tables;
 mod trees;
 
 use anyhow::Result;
+use cc_books::cases;
 
 /// Prints what the cases of a book say.
 fn show_book(rt: &HostRuntime, name: &str) -> Result<()> {
     let alloc = rt.alloc();
     let bytes = std::fs::read(rt, name)?;
-    for part in book::parts(alloc, &bytes, book::CASE)? {
+    for part in cases(alloc, &bytes)? {
         rt.print(case::shown(alloc, part)?)?;
     }
     Ok(())

@@ -1,10 +1,10 @@
-//! Books of cases.
+//! The cases of a book, and the files of a case.
 use cc_defs::{Bytes, Name, OutOfMemory};
 use cc_ports::Files;
 use std::alloc::Global;
 
 /// What a line that begins a case begins with.
-pub(crate) const CASE: &[u8] = b"=== ";
+const CASE: &[u8] = b"=== ";
 
 /// What a line that begins a file begins with.
 const FILE: &[u8] = b"--- ";
@@ -23,11 +23,7 @@ fn places(alloc: Global, bytes: &[u8], mark: &[u8]) -> Result<Vec<usize>, OutOfM
 }
 
 /// The parts that begin with a line that begins with the mark, each up to the next.
-pub(crate) fn parts<'b>(
-    alloc: Global,
-    bytes: &'b [u8],
-    mark: &[u8],
-) -> Result<Vec<&'b [u8]>, OutOfMemory> {
+fn parts_at<'b>(alloc: Global, bytes: &'b [u8], mark: &[u8]) -> Result<Vec<&'b [u8]>, OutOfMemory> {
     let mut parts = Vec::new(alloc);
     let mut end = bytes.len();
     let places = places(alloc, bytes, mark)?;
@@ -41,8 +37,18 @@ pub(crate) fn parts<'b>(
     Ok(parts)
 }
 
-/// The first line of a part, without its mark of four bytes; empty where it is no text.
-pub(crate) fn head(part: &[u8]) -> &str {
+/// The cases of a book.
+pub fn cases(alloc: Global, book: &[u8]) -> Result<Vec<&[u8]>, OutOfMemory> {
+    parts_at(alloc, book, CASE)
+}
+
+/// The files of a case, each with the line of its name.
+pub fn parts(alloc: Global, case: &[u8]) -> Result<Vec<&[u8]>, OutOfMemory> {
+    parts_at(alloc, case, FILE)
+}
+
+/// The title of a case, or the name of a file: its first line without the mark; empty where it is no text.
+pub fn head(part: &[u8]) -> &str {
     let line = match part.split(|byte| *byte == b'\n').next() {
         Some(line) => line,
         None => part,
@@ -53,18 +59,28 @@ pub(crate) fn head(part: &[u8]) -> &str {
     }
 }
 
-/// The lines of a part behind its first.
-fn body(part: &[u8]) -> &[u8] {
+/// The lines of a case or a file behind its first.
+pub fn body(part: &[u8]) -> &[u8] {
     match part.iter().position(|byte| *byte == b'\n') {
         Some(place) => part.get(place + 1..).unwrap_or(&[]),
         None => &[],
     }
 }
 
-/// The files of a case.
-pub(crate) fn files(alloc: Global, case: &[u8]) -> Result<Files, OutOfMemory> {
+/// The bytes of the file of this name; none where it is not there.
+pub fn bytes_named<'b>(parts: &[&'b [u8]], name: &str) -> &'b [u8] {
+    for part in parts {
+        if head(part) == name {
+            return body(part);
+        }
+    }
+    &[]
+}
+
+/// The files of a case, for a desk.
+pub fn files(alloc: Global, parts: &[&[u8]]) -> Result<Files, OutOfMemory> {
     let mut files = Vec::new(alloc);
-    for part in parts(alloc, case, FILE)? {
+    for part in parts {
         let name = Name::of(String::from_str(alloc, head(part))?);
         let bytes = Bytes::of(Vec::from_slice(alloc, body(part))?);
         files.push((name, bytes))?;
