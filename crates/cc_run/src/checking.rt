@@ -1,14 +1,26 @@
 //! Judges a log that words name.
-ghost use Rattle.std.specs.Prelude.{◌≡◌, ◌≤◌, IfOk, length};
+ghost use Rattle.std.specs.Prelude.{◌≡◌, ◌≤◌, List, false, IfOk, IfSome, Some, length};
+ghost use Rattle.cc_arena.specs.GroundViews.{plain_ground_query};
+ghost use Rattle.cc_defs.specs.Description.{Description};
 ghost use Rattle.cc_defs.specs.Limits.{limit_number};
 ghost use Rattle.cc_defs.specs.declared.refusal.LimitAt.TheVariants as limits;
 ghost use Rattle.cc_defs.specs.Refusals as refusals;
+ghost use Rattle.cc_defs.specs.Resolved.{Query};
+ghost use Rattle.cc_describe.specs.Describing.{AsksFormulas, Describes, HasForms, SaysAll};
 ghost use Rattle.cc_print.specs.Verdicts.{verdict_line};
 ghost use Rattle.cc_run.specs.Answers as answers;
-ghost use Rattle.cc_run.specs.Stops.{Step, moment};
+ghost use Rattle.cc_run.specs.Answers.{NamesLog};
+ghost use Rattle.cc_run.specs.Asking.{AreOf, AreSearchable};
+ghost use Rattle.cc_run.specs.Stops.{Prints, Step, moment};
+ghost use Rattle.cc_run.specs.Tasks.{IsTask, named_in, request_of};
+ghost use Rattle.cc_run.specs.Telling.{task_to_check};
+ghost use Rattle.cc_words.specs.Requests.{Checking, ToCheck};
+ghost use Rattle.cc_words.specs.Views.{plain_request};
+ghost use Rattle.cc_words.specs.declared.asked.Asked.TheVariants as requests;
+ghost use Rattle.cc_words.specs.Words.{Text};
 
 use crate::asking::{Prepared, prepare};
-use crate::printing::{give, refuse};
+use crate::printing::{file_named, give, refuse};
 use crate::status::{Status, Stop};
 use bumpalo::Bump;
 use cc_arena::Terms;
@@ -60,7 +72,12 @@ fn check_log<D: Desk>(
     prepared: &Prepared<'_>,
     bytes: &[u8],
 ) -> Result<Status, Stop>
-    requires { length bytes.now ≤ limit_number limits.LogBytes }
+    requires searchable { AreSearchable described.now.sig prepared.now.laws (plain_ground_query prepared.now.query) prepared.now.key }
+    requires few { length bytes.now ≤ limit_number limits.LogBytes }
+    ensures { (words : List Text) (checking : Checking) (d : Description) (q : Query) → request_of words ≡ Some (ToCheck checking) →
+        AreOf described.now.sig prepared.now.laws (plain_ground_query prepared.now.query) d q →
+        IfSome (D.told desk.old) (λ before. NamesLog before.files checking (task_to_check d q prepared.now.key) bytes.now) →
+        Prints words false (moment D.told D.begun D.read_faults D.write_faults desk.old) (moment D.told D.begun D.read_faults D.write_faults desk.new) result }
 {
     match judge(
         alloc,
@@ -84,6 +101,12 @@ fn check_prepared<D: Desk>(
     described: &Described,
     prepared: &Prepared<'_>,
 ) -> Result<Status, Stop>
+    requires searchable { AreSearchable described.now.sig prepared.now.laws (plain_ground_query prepared.now.query) prepared.now.key }
+    ensures { (words : List Text) (checking : Checking) (d : Description) (q : Query) → request_of words ≡ Some (ToCheck checking) →
+        plain_request (requests.Check asked.now) ≡ ToCheck checking →
+        AreOf described.now.sig prepared.now.laws (plain_ground_query prepared.now.query) d q →
+        IfSome (D.told desk.old) (λ before. IsTask before.files (named_in checking) (task_to_check d q prepared.now.key)) →
+        Prints words false (moment D.told D.begun D.read_faults D.write_faults desk.old) (moment D.told D.begun D.read_faults D.write_faults desk.new) result }
 {
     match read_all(alloc, desk, asked.log, LimitAt::LogBytes.number() as usize) {
         Ok(bytes) => check_log(alloc, desk, described, prepared, bytes.items()),
@@ -100,6 +123,12 @@ pub(crate) fn check_described<D: Desk>(
     asked: &CheckAsked<'_>,
     described: &Described,
 ) -> Result<Status, Stop>
+    requires says { SaysAll described.now }
+    requires forms { HasForms described.now }
+    requires formulas { AsksFormulas described.now }
+    ensures { (words : List Text) → request_of words ≡ Some (plain_request (requests.Check asked.now)) →
+        IfSome (D.told desk.old) (λ before. Describes before.files asked.now.file.now described.now) →
+        Prints words false (moment D.told D.begun D.read_faults D.write_faults desk.old) (moment D.told D.begun D.read_faults D.write_faults desk.new) result }
 {
     let arena = Bump::new(alloc);
     let terms = Terms::new(&arena);
