@@ -31,11 +31,11 @@ pub log_is : (asked : CheckAsked) (checking : Checking) → ToCheck (checking_by
 log_is asked checking e = ap (λ (c : Checking). c.log) (same_checking (checking_by asked) checking e)
 
 -- what was read is the log
-pub names_log : (o : Option Contents) (checking : Checking) (task : Task) (name read bytes : List ℕ) → name ≡ checking.log → bytes ≡ read →
+pub is_log_of : (o : Option Contents) (checking : Checking) (task : Task) (name read bytes : List ℕ) → name ≡ checking.log → bytes ≡ read →
     IfSome o (λ before. IsTask before.files (named_in checking) task) → IfSome o (λ c. c.files name ≡ Some read) →
     IfSome o (λ before. NamesLog before.files checking task bytes)
-names_log None checking task name read bytes same same_bytes is there = tt
-names_log (Some c) checking task name read bytes same same_bytes is there = record {
+is_log_of None checking task name read bytes same same_bytes is there = tt
+is_log_of (Some c) checking task name read bytes same same_bytes is there = record {
   is = is;
   there = subst (λ (b : List ℕ). c.files checking.log ≡ Some b) (sym same_bytes) (subst (λ (n : Text). c.files n ≡ Some read) same there);
 }

@@ -8,7 +8,7 @@ ghost use Rattle.cc_describe.specs.Describing.{Describes, SaysAll, AsksFormulas,
 ghost use Rattle.cc_ports.specs.Contents.{Rose};
 ghost use Rattle.cc_run.specs.Answers.{IsFresh, Answered, counts};
 ghost use Rattle.cc_run.specs.Asking.{AreOf, AreSearchable};
-ghost use Rattle.cc_run.specs.Stops.{Begins, IsNoListing, Prints, moment, names_log};
+ghost use Rattle.cc_run.specs.Stops.{Begins, Prints, moment, names_log};
 ghost use Rattle.cc_run.specs.Tasks.{IsTask, named_by, request_of};
 ghost use Rattle.cc_sorts.specs.Tables.{IsSignatureFor};
 ghost use Rattle.cc_words.specs.Requests.{Listing, ToList};

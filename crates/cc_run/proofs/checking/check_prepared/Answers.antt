@@ -2,7 +2,7 @@ use Rattle.std.proofs.Common.{[], ap, Err}
 use Rattle.cc_run.specs.Answers.{NamesLog, RefusesRequest}
 use Rattle.cc_run.specs.Tasks.{request_of}
 use Rattle.cc_run.specs.Telling.{task_to_check}
-use Rattle.cc_run.proofs.Judged.{log_is, names_log, refuses_long}
+use Rattle.cc_run.proofs.Judged.{log_is, is_log_of, refuses_long}
 use Rattle.cc_run.proofs.Outcomes.{files_stay, prints_after_read, prints_refusal}
 use Rattle.cc_run.proofs.checking.check_prepared.Goals as goal
 
@@ -10,7 +10,7 @@ pub returns-in-Ok : goal.returns-in-Ok
 returns-in-Ok g c = λ words checking d q asked same of is.
     let read = c.read_all.ensures in
     let task = task_to_check d q c.args.prepared.now.key in
-    let named = names_log _ checking task c.args.asked.now.log.now c.in-Ok.bytes c.items.result.now (log_is c.args.asked.now checking same) c.items.ensures is c.in-Ok.ensures.bytes in
+    let named = is_log_of _ checking task c.args.asked.now.log.now c.in-Ok.bytes c.items.result.now (log_is c.args.asked.now checking same) c.items.ensures is c.in-Ok.ensures.bytes in
     let there = files_stay read.after.0 (λ files. NamesLog files checking task c.items.result.now) _ _ read.after.1 named in
     prints_after_read words _ read.after.0 _ _ _ c.check_log.result read.after.1 read.begun read.reads_count read.writes_count
     (c.check_log.ensures words checking d q asked of there)
