@@ -1,6 +1,7 @@
 pub mod EventTexts
 pub mod GivenSteps
 pub mod LineSteps
+pub mod Judged
 pub mod Listed
 pub mod Named
 pub mod Outcomes

@@ -1,21 +1,29 @@
 -- What a run leaves behind, from its steps.
-use Rattle.std.proofs.Common.{◌≡◌, ◌∙◌, refl, sym, ap, subst, ℕ, ◌≤◌, Bool, true, false, List, [], ◌++◌, Option, Some, None, Result, Ok, Err, IfSome, IfOk, MatchResult, inl, inr, option_map, append-nil, arith}
+use Rattle.std.proofs.Common.{◌≡◌, ◌∙◌, refl, sym, ap, subst, ℕ, ◌≤◌, Bool, true, false, List, [], ◌++◌, Option, Some, None, Result, Ok, Err, IfSome, IfOk, MatchResult, inl, inr, option_map, append-nil, length, arith}
 use Rattle.std.specs.Prelude.{◌⊎◌, IsSomeAnd, ◌||◌}
 use Rattle.cc_defs.specs.declared.event.Ending.{Ending}
 use Rattle.cc_defs.specs.declared.event.Ending.TheVariants as endings
+use Rattle.cc_defs.specs.declared.log.LogVerdict.{LogVerdict}
+use Rattle.cc_defs.specs.declared.log.LogVerdict.TheVariants as verdicts
+use Rattle.cc_defs.specs.declared.refusal.LimitAt.TheVariants as limits
 use Rattle.cc_defs.specs.declared.refusal.Refusal.{Refusal}
+use Rattle.cc_defs.specs.Limits.{limit_number}
+use Rattle.cc_defs.specs.Logs.{IsVerdict}
 use Rattle.cc_describe.specs.Places.{Files}
 use Rattle.cc_ports.specs.Contents.{Contents, Rose, IsPrefix, with_rest}
 use Rattle.cc_ports.specs.declared.desk.To.TheVariants as outputs
+use Rattle.cc_judge.specs.Judging.{BlocksHistories}
+use Rattle.cc_print.specs.Verdicts.{verdict_line}
+use Rattle.cc_query.specs.Accepted.{subject_of}
 use Rattle.cc_run.specs.declared.status.Status.{Status}
 use Rattle.cc_run.specs.declared.status.Status.TheVariants as statuses
 use Rattle.cc_run.specs.declared.status.Stop.{Stop}
 use Rattle.cc_run.specs.declared.status.Stop.TheVariants as stops
-use Rattle.cc_run.specs.Answers.{Answered, Answers, AreFronts, Counts, Ended, GaveSoFar, Given, IsFresh, IsTold, Left, Lists, RefusesRequest, RoseTwice, counts, left_in, only_err, refusal_text, status_of}
+use Rattle.cc_run.specs.Answers.{Answered, Answers, AreFronts, CheckedPlan, Counts, Ended, GaveSoFar, Given, IsFresh, IsTold, Left, Lists, NamesLog, Plan, RefusesRequest, RoseTwice, counts, left_in, only_err, only_out, refusal_text, status_of, verdict_status}
 use Rattle.cc_run.specs.Stops.{Begins, IsEndStatus, IsTelling, Leaves, Moment, Prints, Searches, Step, TellsStop, adding, cut_status, given_to, stop_line, stop_status}
 use Rattle.cc_run.specs.Tasks.{Task, request_of}
 use Rattle.cc_defs.specs.Runs.{Run}
-use Rattle.cc_words.specs.Requests.{Request}
+use Rattle.cc_words.specs.Requests.{Checking, Request, ToCheck}
 use Rattle.cc_words.specs.Words.{Text}
 
 -- ---- counts
@@ -111,6 +119,78 @@ prints_refusal words begins refusal file x z r refused step is = record {
   write_fault = step.moves.write_fault;
 }
 
+-- ---- a verdict
+
+verdict_ends : (verdict : LogVerdict) → IsEndStatus (verdict_status verdict)
+verdict_ends (verdicts.Accepted first last blocked) = tt
+verdict_ends (verdicts.Refused line reason) = tt
+
+ends_verdict : (verdict : LogVerdict) (r : Result Status Stop) → IfOk r (λ status. status ≡ verdict_status verdict) → IfOk r IsEndStatus
+ends_verdict verdict (Ok status) is = subst IsEndStatus (sym is) (verdict_ends verdict)
+ends_verdict verdict (Err stop) is = tt
+
+-- what is said of a log
+pub record IsSaid (task : Task) (bytes : List ℕ) (verdict : LogVerdict) : Type 0 where
+  pub few : length bytes ≤ limit_number limits.LogBytes
+  pub judged : IsVerdict (subject_of task.description task.query task.ask.after) bytes verdict
+  pub whole : BlocksHistories task.description task.query task.ask.after bytes verdict
+
+abbrev verdict_plan : LogVerdict → Plan
+verdict_plan verdict = record { given = only_out (verdict_line verdict); begun = false; status = verdict_status verdict }
+
+verdict_planned : (files : Files) (words : List Text) (checking : Checking) (task : Task) (bytes : List ℕ) (verdict : LogVerdict) →
+    request_of words ≡ Some (ToCheck checking) → NamesLog files checking task bytes → IsSaid task bytes verdict → CheckedPlan files words (verdict_plan verdict)
+verdict_planned files words checking task bytes verdict asked named said = record {
+  checking = checking;
+  asked = asked;
+  task = task;
+  bytes = bytes;
+  named = named;
+  few = said.few;
+  verdict = verdict;
+  judged = said.judged;
+  whole = said.whole;
+  given = refl;
+  begun = refl;
+  status = refl;
+}
+
+verdict_comes : (files : Files) (words : List Text) (verdict : LogVerdict) (given : Given) (begun : Bool) (r : Result Status Stop) →
+    CheckedPlan files words (verdict_plan verdict) → begun ≡ false →
+    MatchResult r (λ _. given ≡ only_out (verdict_line verdict)) (λ _. AreFronts given (only_out (verdict_line verdict))) →
+    IfOk r (λ status. status ≡ verdict_status verdict) → Comes files words (left given begun) r
+verdict_comes files words verdict given begun (Ok status) planned none how is = record {
+  plan = verdict_plan verdict;
+  planned = inr (inr planned);
+  given = how;
+  begun = none;
+  status_planned = is;
+}
+verdict_comes files words verdict given begun (Err stop) planned none how is = inr (inr (inr (record {
+  plan = verdict_plan verdict;
+  planned = planned;
+  fronts = how;
+  begun = none;
+})))
+
+pub prints_verdict : (words : List Text) (begins : Bool) (checking : Checking) (task : Task) (bytes : List ℕ) (verdict : LogVerdict) (x z : Moment) (r : Result Status Stop) →
+    request_of words ≡ Some (ToCheck checking) → IfSome x.told (λ c. NamesLog c.files checking task bytes) → IsSaid task bytes verdict →
+    Step (only_out (verdict_line verdict)) x z r → IfOk r (λ status. status ≡ verdict_status verdict) → Prints words begins x z r
+prints_verdict words begins checking task bytes verdict x z r asked named said step is = record {
+  told = told_given words step.given x.told z.told x.begun z.begun r step.moves.told
+      (known x.told (λ c. NamesLog c.files checking task bytes) (λ c. x.begun ≡ false → Comes c.files words (left step.given z.begun) r)
+      (λ c log none. verdict_comes c.files words verdict step.given z.begun r (verdict_planned c.files words checking task bytes verdict asked log said)
+      (step.moves.begun ∙ none) step.how is) named);
+  ends = ends_verdict verdict r is;
+  begun = λ _. step.moves.begun;
+  reads = step.moves.reads;
+  writes = step.moves.writes;
+  read_fault = λ fault. absurd (step.moves.no_read_fault fault);
+  write_fault = step.moves.write_fault;
+}
+
+-- ---- other words
+
 -- the same run, where whether it begins a log is spelled otherwise
 pub prints_as : (words : List Text) (a b : Bool) (x z : Moment) (r : Result Status Stop) → a ≡ b → Prints words a x z r → Prints words b x z r
 prints_as words a b x z r same prints = subst (λ begins. Prints words begins x z r) same prints
@@ -183,12 +263,12 @@ search_comes : (files : Files) (words : List Text) (task : Task) (given : Given)
     MatchResult r (λ status. (run : Run) × IsTold task run given status) (λ _. (run : Run) × IsTelling task run given) → Comes files words (left given begun) r
 search_comes files words task given begun (Ok status) lists how = record {
   plan = record { given = given; begun = begun; status = status };
-  planned = inr (record { task = task; lists = lists; run = how.0; told = how.1 });
+  planned = inr (inl (record { task = task; lists = lists; run = how.0; told = how.1 }));
   given = refl;
   begun = refl;
   status_planned = refl;
 }
-search_comes files words task given begun (Err stop) lists how = inr (inr (record {
+search_comes files words task given begun (Err stop) lists how = inr (inr (inl (record {
   task = task;
   lists = lists;
   run = how.0;
@@ -196,7 +276,7 @@ search_comes files words task given begun (Err stop) lists how = inr (inr (recor
   out = how.1.out;
   log = how.1.log;
   err = how.1.err;
-}))
+})))
 
 told_search : (words : List Text) (given : Given) (old mid new : Option Contents) (was begun : Bool) (r : Result Status Stop) →
     IfSome old (λ before. IsFresh before → mid ≡ Some before) → new ≡ option_map (adding given) mid →

@@ -14,9 +14,10 @@ use Rattle.cc_ports.specs.Contents.{Contents}
 use Rattle.cc_run.specs.Answers.{Lists, RefusesRequest}
 use Rattle.cc_run.specs.Asking.{AreNamed, IsRefusedNamed}
 use Rattle.cc_run.specs.Stops.{names_log}
-use Rattle.cc_run.specs.Tasks.{AreRead, IsTask, RefusesNamed, asked_refusal, description_in, named_by, query_named, request_of}
+use Rattle.cc_run.specs.Tasks.{AreRead, IsTask, Named, RefusesNamed, asked_refusal, description_in, named_by, named_in, query_named, request_of}
+use Rattle.cc_words.specs.declared.asked.CheckAsked.{CheckAsked}
 use Rattle.cc_words.specs.declared.asked.ListAsked.{ListAsked}
-use Rattle.cc_words.specs.Requests.{Listing, ToList}
+use Rattle.cc_words.specs.Requests.{Checking, Listing, ToCheck, ToList}
 use Rattle.cc_words.specs.Views.{plain_text}
 use Rattle.cc_words.specs.Words.{Text}
 
@@ -29,6 +30,14 @@ listing_by list = record {
   budget = list.budget;
   after = plain_text list.after;
   log = plain_text list.log;
+}
+
+abbrev pub checking_by : CheckAsked → Checking
+checking_by check = record {
+  file = check.file.now;
+  query = plain_text check.query;
+  after = plain_text check.after;
+  log = check.log.now;
 }
 
 -- ---- the description of places
@@ -62,26 +71,26 @@ known (Some c) P Q f h = f c h
 
 -- ---- what is listed
 
-is_task : (files : Files) (listing : Listing) (places : List Place) (described : Described) (q : Query) (count : Option ℕ) (budget : ℕ) (key : Option Key) →
-    IsDescribed places described → AreNamed (description_in places) (map plain_query described.queries) listing.query listing.after q key →
-    AreRead files listing.file places →
-    IsTask files (named_by listing) (record { description = description_in places; query = q; ask = record { count = count; budget = budget; after = key } })
-is_task files listing places described q count budget key said named read = record {
+is_task : (files : Files) (by : Named) (places : List Place) (described : Described) (q : Query) (count : Option ℕ) (budget : ℕ) (key : Option Key) →
+    IsDescribed places described → AreNamed (description_in places) (map plain_query described.queries) by.query by.after q key →
+    AreRead files by.file places →
+    IsTask files by (record { description = description_in places; query = q; ask = record { count = count; budget = budget; after = key } })
+is_task files by places described q count budget key said named read = record {
   places = places;
   read = read;
   description = refl;
-  query = subst (λ queries. query_named listing.query queries ≡ Some q) said.queries named.query;
+  query = subst (λ queries. query_named by.query queries ≡ Some q) said.queries named.query;
   unrefused = named.unrefused;
   key = named.key_is;
 }
 
-pub task_read : (o : Option Contents) (listing : Listing) (described : Described) (of : IsRead o listing.file described) (q : Query) (count : Option ℕ) (budget : ℕ) (key : Option Key) →
-    AreNamed (description_in of.places) (map plain_query described.queries) listing.query listing.after q key →
-    IfSome o (λ before. IsTask before.files (named_by listing) (record { description = description_in of.places; query = q; ask = record { count = count; budget = budget; after = key } }))
-task_read o listing described of q count budget key named =
-    known o (λ before. AreRead before.files listing.file of.places)
-    (λ before. IsTask before.files (named_by listing) (record { description = description_in of.places; query = q; ask = record { count = count; budget = budget; after = key } }))
-    (λ before read. is_task before.files listing of.places described q count budget key of.said named read) of.read
+pub task_read : (o : Option Contents) (by : Named) (described : Described) (of : IsRead o by.file described) (q : Query) (count : Option ℕ) (budget : ℕ) (key : Option Key) →
+    AreNamed (description_in of.places) (map plain_query described.queries) by.query by.after q key →
+    IfSome o (λ before. IsTask before.files by (record { description = description_in of.places; query = q; ask = record { count = count; budget = budget; after = key } }))
+task_read o by described of q count budget key named =
+    known o (λ before. AreRead before.files by.file of.places)
+    (λ before. IsTask before.files by (record { description = description_in of.places; query = q; ask = record { count = count; budget = budget; after = key } }))
+    (λ before read. is_task before.files by of.places described q count budget key of.said named read) of.read
 
 pub lists_asked : (o : Option Contents) (words : List Text) (listing : Listing) (begins : Bool) (d : Description) (q : Query) (count : Option ℕ) (budget : ℕ) (key : Option Key) →
     request_of words ≡ Some (ToList listing) → count ≡ listing.count → budget ≡ listing.budget → begins ≡ is_some listing.log →
@@ -110,42 +119,48 @@ named_log words asked e = log_named asked ∙ sym (ap names_log e)
 
 -- ---- what is refused
 
-asked_refused : (files : Files) (words : List Text) (listing : Listing) (refusal : Refusal) (file : Text) → request_of words ≡ Some (ToList listing) →
-    RefusesNamed files (named_by listing) refusal file → RefusesRequest files (request_of words) refusal file
-asked_refused files words listing refusal file asked refused = subst (λ request. RefusesRequest files request refusal file) (sym asked) refused
+-- where what is named is refused, the run is refused so
+abbrev pub RefusesWith : List Text → Named → Type 0
+RefusesWith words by = (files : Files) (refusal : Refusal) (file : Text) → RefusesNamed files by refusal file → RefusesRequest files (request_of words) refusal file
 
-pub refuses_description : (o : Option Contents) (words : List Text) (listing : Listing) (refusal : Refusal) (file : Text) → request_of words ≡ Some (ToList listing) →
-    IfSome o (λ before. HasStopped before.files listing.file (describe_stops.Refused refusal file)) → IfSome o (λ before. RefusesRequest before.files (request_of words) refusal file)
-refuses_description o words listing refusal file asked =
-    known o (λ before. HasStopped before.files listing.file (describe_stops.Refused refusal file)) (λ before. RefusesRequest before.files (request_of words) refusal file)
-    (λ before stopped. asked_refused before.files words listing refusal file asked
+pub listing_refused : (words : List Text) (listing : Listing) → request_of words ≡ Some (ToList listing) → RefusesWith words (named_by listing)
+listing_refused words listing asked files refusal file refused = subst (λ request. RefusesRequest files request refusal file) (sym asked) refused
+
+pub checking_refused : (words : List Text) (checking : Checking) → request_of words ≡ Some (ToCheck checking) → RefusesWith words (named_in checking)
+checking_refused words checking asked files refusal file refused = subst (λ request. RefusesRequest files request refusal file) (sym asked) (inl refused)
+
+pub refuses_description : (o : Option Contents) (words : List Text) (by : Named) (refusal : Refusal) (file : Text) → RefusesWith words by →
+    IfSome o (λ before. HasStopped before.files by.file (describe_stops.Refused refusal file)) → IfSome o (λ before. RefusesRequest before.files (request_of words) refusal file)
+refuses_description o words by refusal file refuses =
+    known o (λ before. HasStopped before.files by.file (describe_stops.Refused refusal file)) (λ before. RefusesRequest before.files (request_of words) refusal file)
+    (λ before stopped. refuses before.files refusal file
     (inl (record { places = stopped.0; all = stopped.1; refused = stopped.2; there = stopped.4; name = stopped.3 })))
 
-named_refused : (files : Files) (listing : Listing) (places : List Place) (described : Described) (refusal : Refusal) (file : Text) → IsDescribed places described →
-    AreRead files listing.file places → file ≡ file_named described.files refusal →
-    IsRefusedNamed (description_in places) (map plain_query described.queries) listing.query listing.after refusal → RefusesNamed files (named_by listing) refusal file
-named_refused files listing places described refusal file said read name (inl refused) = inr (inl (record {
+named_refused : (files : Files) (by : Named) (places : List Place) (described : Described) (refusal : Refusal) (file : Text) → IsDescribed places described →
+    AreRead files by.file places → file ≡ file_named described.files refusal →
+    IsRefusedNamed (description_in places) (map plain_query described.queries) by.query by.after refusal → RefusesNamed files by refusal file
+named_refused files by places described refusal file said read name (inl refused) = inr (inl (record {
   places = places;
   read = read;
-  refused = subst (λ queries. asked_refusal (description_in places) (query_named listing.query queries) ≡ Some refusal) said.queries refused;
+  refused = subst (λ queries. asked_refusal (description_in places) (query_named by.query queries) ≡ Some refusal) said.queries refused;
   name = name ∙ ap (λ names. file_named names refusal) said.names;
 }))
-named_refused files listing places described refusal file said read name (inr (q, named, unrefused, no_key, same)) = inr (inr (record {
+named_refused files by places described refusal file said read name (inr (q, named, unrefused, no_key, same)) = inr (inr (record {
   places = places;
   read = read;
   query = q;
-  named_is = subst (λ queries. query_named listing.query queries ≡ Some q) said.queries named;
+  named_is = subst (λ queries. query_named by.query queries ≡ Some q) said.queries named;
   unrefused = unrefused;
   no_key = no_key;
   refused = same;
   name = name ∙ ap (file_named described.files) same;
 }))
 
-pub refuses_named : (o : Option Contents) (words : List Text) (listing : Listing) (described : Described) (of : IsRead o listing.file described) (refusal : Refusal) (file : Text) →
-    request_of words ≡ Some (ToList listing) → file ≡ file_named described.files refusal →
-    IsRefusedNamed (description_in of.places) (map plain_query described.queries) listing.query listing.after refusal →
+pub refuses_named : (o : Option Contents) (words : List Text) (by : Named) (described : Described) (of : IsRead o by.file described) (refusal : Refusal) (file : Text) →
+    RefusesWith words by → file ≡ file_named described.files refusal →
+    IsRefusedNamed (description_in of.places) (map plain_query described.queries) by.query by.after refusal →
     IfSome o (λ before. RefusesRequest before.files (request_of words) refusal file)
-refuses_named o words listing described of refusal file asked name refused =
-    known o (λ before. AreRead before.files listing.file of.places) (λ before. RefusesRequest before.files (request_of words) refusal file)
-    (λ before read. asked_refused before.files words listing refusal file asked
-    (named_refused before.files listing of.places described refusal file of.said read name refused)) of.read
+refuses_named o words by described of refusal file refuses name refused =
+    known o (λ before. AreRead before.files by.file of.places) (λ before. RefusesRequest before.files (request_of words) refusal file)
+    (λ before read. refuses before.files refusal file
+    (named_refused before.files by of.places described refusal file of.said read name refused)) of.read

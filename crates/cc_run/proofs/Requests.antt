@@ -1,15 +1,16 @@
 -- What words ask for: the numbers of a listing are within their bounds.
-use Rattle.std.proofs.Common.{◌≡◌, refl, subst, ℕ, ◌≤◌, Bool, true, false, cond, List, [], Option, Some, None, IfSome, option_map, is_some, unwrap_or, nat_le, arith, length}
+use Rattle.std.proofs.Common.{◌≡◌, ◌∙◌, refl, sym, ap, subst, ℕ, ◌≤◌, Bool, true, false, cond, List, [], Option, Some, None, IfSome, option_map, is_some, unwrap_or, nat_le, arith, length}
 use Rattle.std.specs.Prelude.{◌&&◌, option_and_then}
 use Rattle.std.proofs.lemmas.Bool.{leb-true}
 use Rattle.cc_defs.specs.Grammar.{number_of}
 use Rattle.cc_defs.specs.Tokens.{is_number}
-use Rattle.cc_run.specs.Stops.{IsNoListing}
 use Rattle.cc_run.specs.Tasks.{request_of, refusal_without_place}
 use Rattle.cc_run.specs.Answers.{RefusesRequest}
 use Rattle.cc_describe.specs.Places.{Files}
+use Rattle.cc_words.specs.declared.asked.Asked.{Asked}
 use Rattle.cc_words.specs.Readings.{reading}
 use Rattle.cc_words.specs.Requests.{Check, Checking, Listing, List as Listed, Make, Mode, Request, ToCheck, ToList, ToMake, asked_in, asked_of, bars_make, budget_of, count_of, mode_of, number_up_to, optional, provided, to_check, to_list, to_make}
+use Rattle.cc_words.specs.Views.{plain_asked, plain_request}
 use Rattle.cc_words.specs.Words.{Given, Text}
 
 abbrev some : {X : Type 0} → X → Option X
@@ -116,9 +117,16 @@ read_within (Some given) listing e =
 pub listing_within : (words : List Text) (listing : Listing) → request_of words ≡ Some (ToList listing) → IfSome listing.count (λ n. 1 ≤ n) × (listing.budget ≤ 2000000)
 listing_within words listing e = read_within (reading words) listing e
 
--- words that ask for something else, or for nothing, are refused
-pub refuses_request : (files : Files) (request : Option Request) → IsNoListing request → RefusesRequest files request (refusal_without_place 1) []
-refuses_request files None other = (refl, refl)
-refuses_request files (Some (ToList listing)) other = absurd other
-refuses_request files (Some (ToCheck checking)) other = (refl, refl)
-refuses_request files (Some (ToMake size budget)) other = (refl, refl)
+-- what the words were read as
+pub asked_is : (words : List Text) (o : Option Asked) (a b : Asked) → plain_asked o ≡ request_of words → o ≡ Some a → a ≡ b → request_of words ≡ Some (plain_request b)
+asked_is words o a b taken is same = sym taken ∙ (ap plain_asked is ∙ ap (λ (x : Asked). some (plain_request x)) same)
+
+pub asked_none : (words : List Text) (o : Option Asked) → plain_asked o ≡ request_of words → o ≡ None → request_of words ≡ None
+asked_none words o taken is = sym taken ∙ ap plain_asked is
+
+-- words that ask for a made description, or for nothing, are refused
+pub refuses_make : (files : Files) (request : Option Request) (size budget : ℕ) → request ≡ Some (ToMake size budget) → RefusesRequest files request (refusal_without_place 1) []
+refuses_make files request size budget is = subst (λ (o : Option Request). RefusesRequest files o (refusal_without_place 1) []) (sym is) (refl, refl)
+
+pub refuses_none : (files : Files) (request : Option Request) → request ≡ None → RefusesRequest files request (refusal_without_place 1) []
+refuses_none files request is = subst (λ (o : Option Request). RefusesRequest files o (refusal_without_place 1) []) (sym is) (refl, refl)

@@ -4,22 +4,28 @@ use Rattle.cc_defs.specs.declared.event.Ending.{Ending}
 use Rattle.cc_defs.specs.declared.event.Ending.TheVariants as endings
 use Rattle.cc_defs.specs.declared.event.Told.{Told}
 use Rattle.cc_defs.specs.declared.log.EndWord.TheVariants as words
+use Rattle.cc_defs.specs.declared.log.LogVerdict.{LogVerdict}
+use Rattle.cc_defs.specs.declared.log.LogVerdict.TheVariants as verdicts
+use Rattle.cc_defs.specs.declared.refusal.Fault.TheVariants as faults
 use Rattle.cc_defs.specs.declared.refusal.LimitAt.TheVariants as limits
 use Rattle.cc_defs.specs.declared.refusal.Refusal.{Refusal}
 use Rattle.cc_defs.specs.Events.{out_text, log_of}
 use Rattle.cc_defs.specs.Histories.{AreFirst}
-use Rattle.cc_defs.specs.Logs.{IsAccepted}
+use Rattle.cc_defs.specs.Limits.{limit_number}
+use Rattle.cc_defs.specs.Logs.{IsAccepted, IsVerdict}
 use Rattle.cc_defs.specs.Refusals.{past}
 use Rattle.cc_defs.specs.Runs.{Horizon, Histories, Conditions, Claim, Failure, Run, EndsWith, IsFairRun, Section, events_of, first_horizon, horizon_at, key_row, last_horizon, rows_of}
 use Rattle.cc_describe.specs.Places.{Files}
+use Rattle.cc_judge.specs.Judging.{BlocksHistories, IsJudgeFault}
 use Rattle.cc_ports.specs.Contents.{Contents, IsPrefix, Rose}
 use Rattle.cc_print.specs.Refusals.{refusal_line}
+use Rattle.cc_print.specs.Verdicts.{verdict_line}
 use Rattle.cc_query.specs.Accepted.{subject_of}
 use Rattle.cc_query.specs.Sessions.{opening_refusal}
 use Rattle.cc_run.specs.declared.status.Status.{Status}
 use Rattle.cc_run.specs.declared.status.Status.TheVariants as statuses
-use Rattle.cc_run.specs.Tasks.{RefusesNamed, Task, IsTask, named_by, refusal_without_place, request_of}
-use Rattle.cc_words.specs.Requests.{Listing, Request, ToList, ToCheck, ToMake}
+use Rattle.cc_run.specs.Tasks.{RefusesNamed, Task, IsTask, named_by, named_in, refusal_without_place, request_of}
+use Rattle.cc_words.specs.Requests.{Checking, Listing, Request, ToList, ToCheck, ToMake}
 use Rattle.cc_words.specs.Words.{Text}
 
 -- ---- the lines of Err
@@ -54,6 +60,9 @@ nothing = record { out = []; err = []; log = [] }
 abbrev pub only_err : List ℕ → Given
 only_err text = record nothing { err = text }
 
+abbrev pub only_out : List ℕ → Given
+only_out text = record nothing { out = text }
+
 -- a front of each of them
 pub record AreFronts (given whole : Given) : Type 0 where
   pub out : IsPrefix given.out whole.out
@@ -66,12 +75,28 @@ pub record Plan : Type 0 where
   pub begun : Bool
   pub status : Status
 
--- The refusal of a run, with the name of the file that it speaks of: that of the words, then that of what they name.
--- Words that ask to check a log, or for a made description, are not taken yet.
+-- A log that is to be judged is too long, or it reaches a section that passes a limit.
+abbrev pub RefusesLog : Task → List ℕ → Refusal → Type 0
+RefusesLog task bytes refusal =
+    ((limit_number limits.LogBytes < length bytes) × (refusal ≡ past limits.LogBytes))
+    ⊎ ((length bytes ≤ limit_number limits.LogBytes) × IsJudgeFault task.description task.query task.ask.after bytes (faults.Refused refusal))
+
+-- the log that words name, and what it is to be the log of
+pub record NamesLog (files : Files) (checking : Checking) (task : Task) (bytes : List ℕ) : Type 0 where
+  pub is : IsTask files (named_in checking) task
+  pub there : files checking.log ≡ Some bytes
+
+abbrev pub RefusesChecking : Files → Checking → Refusal → Text → Type 0
+RefusesChecking files checking refusal file =
+    RefusesNamed files (named_in checking) refusal file
+    ⊎ ((task : Task) × (bytes : List ℕ) × NamesLog files checking task bytes × RefusesLog task bytes refusal × (file ≡ []))
+
+-- The refusal of a run, with the name of the file that it speaks of: that of the words, then that of what they name, then that of
+-- a log that is to be judged. Words that ask for a made description are not taken yet.
 abbrev pub RefusesRequest : Files → Option Request → Refusal → Text → Type 0
 RefusesRequest files None refusal file = (refusal ≡ refusal_without_place 1) × (file ≡ [])
 RefusesRequest files (Some (ToList listing)) refusal file = RefusesNamed files (named_by listing) refusal file
-RefusesRequest files (Some (ToCheck checking)) refusal file = (refusal ≡ refusal_without_place 1) × (file ≡ [])
+RefusesRequest files (Some (ToCheck checking)) refusal file = RefusesChecking files checking refusal file
 RefusesRequest files (Some (ToMake size budget)) refusal file = (refusal ≡ refusal_without_place 1) × (file ≡ [])
 
 -- the run is refused before it begins, and prints just that
@@ -172,9 +197,30 @@ pub record ListedPlan (files : Files) (words : List Text) (plan : Plan) : Type 0
   pub run : Run
   pub told : IsTold task run plan.given plan.status
 
--- a run is refused, or it lists
+-- ---- verdicts
+
+abbrev pub verdict_status : LogVerdict → Status
+verdict_status (verdicts.Accepted first last blocked) = statuses.Right
+verdict_status (verdicts.Refused line reason) = statuses.Not
+
+-- A log is judged: what a checker says of it is given to Out. Where it is accepted, each history of its horizons is blocked in it.
+pub record CheckedPlan (files : Files) (words : List Text) (plan : Plan) : Type 0 where
+  pub checking : Checking
+  pub asked : request_of words ≡ Some (ToCheck checking)
+  pub task : Task
+  pub bytes : List ℕ
+  pub named : NamesLog files checking task bytes
+  pub few : length bytes ≤ limit_number limits.LogBytes
+  pub verdict : LogVerdict
+  pub judged : IsVerdict (subject_of task.description task.query task.ask.after) bytes verdict
+  pub whole : BlocksHistories task.description task.query task.ask.after bytes verdict
+  pub given : plan.given ≡ only_out (verdict_line verdict)
+  pub begun : plan.begun ≡ false
+  pub status : plan.status ≡ verdict_status verdict
+
+-- a run is refused, or it lists, or it judges
 abbrev pub IsPlan : Files → List Text → Plan → Type 0
-IsPlan files words plan = RefusedPlan files words plan ⊎ ListedPlan files words plan
+IsPlan files words plan = RefusedPlan files words plan ⊎ (ListedPlan files words plan ⊎ CheckedPlan files words plan)
 
 -- ---- what is left
 
@@ -198,6 +244,13 @@ pub record BeganRefusal (files : Files) (words : List Text) (left : Left) : Type
   pub fronts : AreFronts left.given plan.given
   pub begun : left.begun ≡ plan.begun
 
+-- A front of a verdict was given.
+pub record BeganVerdict (files : Files) (words : List Text) (left : Left) : Type 0 where
+  pub plan : Plan
+  pub planned : CheckedPlan files words plan
+  pub fronts : AreFronts left.given plan.given
+  pub begun : left.begun ≡ plan.begun
+
 -- A front of what a search tells was given; of Err something only where a limit was passed.
 pub record BeganListing (files : Files) (words : List Text) (left : Left) : Type 0 where
   pub task : Task
@@ -211,7 +264,7 @@ pub record BeganListing (files : Files) (words : List Text) (left : Left) : Type
 -- what was given before a run stopped: nothing, where it stopped before it had anything to give
 abbrev pub GaveSoFar : Files → List Text → Left → Type 0
 GaveSoFar files words left =
-    ((left.given ≡ nothing) × (left.begun ≡ false)) ⊎ (BeganRefusal files words left ⊎ BeganListing files words left)
+    ((left.given ≡ nothing) × (left.begun ≡ false)) ⊎ (BeganRefusal files words left ⊎ (BeganListing files words left ⊎ BeganVerdict files words left))
 
 -- The run was cut short: behind what was given to Err stands this much of a fault's line.
 pub record CutShort (files : Files) (words : List Text) (left : Left) (line : List ℕ) : Type 0 where

@@ -146,13 +146,6 @@ names_log (Some (ToCheck checking)) = false
 names_log (Some (ToMake size budget)) = false
 names_log None = false
 
--- no histories are asked for
-abbrev pub IsNoListing : Option Request → Type 0
-IsNoListing (Some (ToList listing)) = ⊥
-IsNoListing (Some (ToCheck checking)) = Unit {0}
-IsNoListing (Some (ToMake size budget)) = Unit {0}
-IsNoListing None = Unit {0}
-
 -- a run up to its end, or to its stop with its cause
 pub record Prints (words : List (List ℕ)) (begins : Bool) (old new : Moment) (result : Result Status Stop) : Type 0 where
   pub told : IfSome old.told (λ before. IsFresh before → old.begun ≡ false → IsSomeAnd new.told (λ after. Leaves words before after new.begun result))

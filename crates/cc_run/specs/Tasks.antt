@@ -16,7 +16,7 @@ use Rattle.cc_ground.specs.Counting.{laws_refusal}
 use Rattle.cc_laws.specs.Questions.{first, steps_refusal}
 use Rattle.cc_print.specs.Keys.{IsKeyText}
 use Rattle.cc_words.specs.Readings.{reading}
-use Rattle.cc_words.specs.Requests.{Listing, Request, asked_of}
+use Rattle.cc_words.specs.Requests.{Checking, Listing, Request, asked_of}
 use Rattle.cc_words.specs.Words.{Text}
 
 -- ---- what is named
@@ -33,6 +33,9 @@ pub record Named : Type 0 where
 
 abbrev pub named_by : Listing → Named
 named_by listing = record { file = listing.file; query = listing.query; after = listing.after }
+
+abbrev pub named_in : Checking → Named
+named_in checking = record { file = checking.file; query = checking.query; after = checking.after }
 
 -- the description that these places make, and its queries
 abbrev pub description_in : List Place → Description

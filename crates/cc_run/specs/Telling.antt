@@ -36,6 +36,10 @@ status_told (events.Ended ending) = Some (status_of ending)
 abbrev pub task_of : Description → Query → Ask → Task
 task_of d q ask = record { description = d; query = q; ask = ask }
 
+-- what a log is judged for: nothing is searched
+abbrev pub task_to_check : Description → Query → Option Key → Task
+task_to_check d q key = task_of d q (record { count = None; budget = 0; after = key })
+
 -- The lines of the log that events make are formed, and the axioms of each section whose heading is among them are good.
 pub record HasGoodLines (d : Description) (q : Query) (key : Option Key) (told : List Told) : Type 0 where
   pub formed : AllByRecursion IsFormed (lines_of told)

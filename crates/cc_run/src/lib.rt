@@ -2,6 +2,7 @@
 #![tactic(auto)]
 
 mod asking;
+mod checking;
 mod listing;
 mod printing;
 mod status;

@@ -1,12 +1,13 @@
 //! What a run gives to its outputs beside its events, each line by one call.
 ghost use Rattle.std.specs.Prelude.{◌≡◌, [], IfOk, if◌then◌else◌, ◌==◌};
+ghost use Rattle.cc_describe.specs.FirstRefusal as refusals;
 ghost use Rattle.cc_ports.specs.declared.desk.To.TheVariants as outputs;
 ghost use Rattle.cc_print.specs.Refusals.{refusal_line};
 ghost use Rattle.cc_run.specs.Answers.{only_err, refusal_text as whole_refusal_text, usage_line};
 ghost use Rattle.cc_run.specs.Stops.{Step, TellsStop, given_to, moment, stop_line, stop_status, cut_status as status_when_cut};
 
 use crate::status::{Status, Stop};
-use cc_defs::Refusal;
+use cc_defs::{Name, Refusal};
 use cc_ports::{Desk, To, give_all};
 use cc_print::refusal_text;
 use std::alloc::Global;
@@ -22,6 +23,19 @@ pub(crate) fn give<D: Desk>(desk: &mut D, to: To, bytes: &[u8]) -> Result<(), St
     match give_all(desk, to, bytes) {
         Ok(()) => Ok(()),
         Err(_) => Err(Stop::WriteFault),
+    }
+}
+
+/// The name of the file that a refusal speaks of; an empty one where it has no place.
+pub(crate) fn file_named<'n>(names: &'n [Name], refusal: &Refusal) -> &'n str
+    ensures { result.now ≡ refusals.file_named names.now refusal.now }
+{
+    if refusal.line == 0 {
+        return "";
+    }
+    match names.get(refusal.file as usize) {
+        Some(name) => name.text(),
+        None => "",
     }
 }
 

@@ -4,12 +4,11 @@ ghost use Rattle.cc_arena.specs.GroundViews.{plain_ground_query};
 ghost use Rattle.cc_asked.specs.Descriptions.{IsDescriptionOf};
 ghost use Rattle.cc_defs.specs.Description.{Description};
 ghost use Rattle.cc_defs.specs.Resolved.{Query};
-ghost use Rattle.cc_describe.specs.FirstRefusal as refusals;
 ghost use Rattle.cc_describe.specs.Describing.{Describes, SaysAll, AsksFormulas, HasForms};
 ghost use Rattle.cc_ports.specs.Contents.{Rose};
 ghost use Rattle.cc_run.specs.Answers.{IsFresh, Answered, counts};
 ghost use Rattle.cc_run.specs.Asking.{AreOf, AreSearchable};
-ghost use Rattle.cc_run.specs.Stops.{Begins, IsNoListing, Prints, moment, names_log};
+ghost use Rattle.cc_run.specs.Stops.{Begins, Prints, moment, names_log};
 ghost use Rattle.cc_run.specs.Tasks.{IsTask, named_by, request_of};
 ghost use Rattle.cc_sorts.specs.Tables.{IsSignatureFor};
 ghost use Rattle.cc_words.specs.Requests.{Listing, ToList};
@@ -18,20 +17,21 @@ ghost use Rattle.cc_words.specs.declared.asked.Asked.TheVariants as requests;
 ghost use Rattle.cc_words.specs.Words.{Text};
 
 use crate::asking::{Prepared, prepare, refusal_without_place};
+use crate::checking::check_described;
 use crate::listing::list;
-use crate::printing::{refuse, tell_stop};
+use crate::printing::{file_named, refuse, tell_stop};
 use crate::status::{Status, Stop};
 use bumpalo::Bump;
 use cc_arena::Terms;
-use cc_defs::{Fault, Name, Refusal};
+use cc_defs::Fault;
 use cc_describe::{DescribeStop, Described, describe};
 use cc_ports::{Desk, Files, StillDesk};
 use cc_query::Ask;
-use cc_words::{Asked, ListAsked, read};
+use cc_words::{Asked, CheckAsked, ListAsked, read};
 use std::alloc::Global;
 
 /// Reads the words, which name a file and a query of the description in it; and lists the histories of that query, or judges
-/// its claim, at the first of its horizons that has any.
+/// its claim, at the first of its horizons that has any; or judges a log of that query, which the words name too.
 ///
 /// `words` are the program's words without its name. Each line of an output is given by one `give_all`. The lines of the log
 /// are given to Log whether or not the words name a file for it. After a fault of the desk or want of memory one fixed line is
@@ -40,8 +40,8 @@ pub fn run<D: Desk>(alloc: Global, words: &[String], desk: &mut D) -> Status
     // Where the desk tells its contents, nothing was written yet and no log was begun, the files, the three outputs, whether a
     // log was begun, and the status are the answer to the words: exactly the first refusal; or the first histories of the
     // query, in ascending order, each once, marked complete only where they are all, and a horizon said to be empty only where
-    // it has none, with the log of the search; or, where a horizon passes a limit, that refusal behind what was told before; or,
-    // after a fault, fronts of these.
+    // it has none, with the log of the search; or, where a horizon passes a limit, that refusal behind what was told before; or
+    // what a checker says of the log that they name; or, after a fault, fronts of these.
     ensures answer { IfSome (D.told desk.old) (λ before. IsFresh before → D.begun desk.old ≡ false →
         IsSomeAnd (D.told desk.new) (λ after. Answered before after (D.begun desk.new) (map string_bytes words.now) result
         (counts (D.read_faults desk.old) (D.read_faults desk.new) (D.write_faults desk.old) (D.write_faults desk.new)))) }
@@ -61,21 +61,11 @@ pub fn run<D: Desk>(alloc: Global, words: &[String], desk: &mut D) -> Status
 fn answer<D: Desk>(alloc: Global, words: &[String], desk: &mut D) -> Result<Status, Stop>
     ensures { Prints (map string_bytes words.now) (names_log (request_of (map string_bytes words.now))) (moment D.told D.begun D.read_faults D.write_faults desk.old) (moment D.told D.begun D.read_faults D.write_faults desk.new) result }
 {
-    match listing_asked(read(alloc, words)?) {
-        Some(asked) => answer_list(alloc, desk, &asked),
+    match read(alloc, words)? {
+        Some(Asked::List(asked)) => answer_list(alloc, desk, &asked),
+        Some(Asked::Check(asked)) => answer_check(alloc, desk, &asked),
+        Some(Asked::Make { .. }) => refuse(alloc, desk, &refusal_without_place(1), ""),
         None => refuse(alloc, desk, &refusal_without_place(1), ""),
-    }
-}
-
-/// The histories that are asked for; nothing where something else is.
-fn listing_asked<'a>(asked: Option<Asked<'a>>) -> Option<ListAsked<'a>>
-    ensures { MatchOption result (IsNoListing (plain_asked asked.entry)) (λ list. plain_asked asked.entry ≡ Some (plain_request (requests.List list))) }
-{
-    match asked {
-        Some(Asked::List(list)) => Some(list),
-        Some(Asked::Check(_)) => None,
-        Some(Asked::Make { .. }) => None,
-        None => None,
     }
 }
 
@@ -98,16 +88,24 @@ fn answer_list<D: Desk>(alloc: Global, desk: &mut D, asked: &ListAsked<'_>) -> R
     }
 }
 
-/// The name of the file that a refusal speaks of; an empty one where it has no place.
-fn file_named<'n>(names: &'n [Name], refusal: &Refusal) -> &'n str
-    ensures { result.now ≡ refusals.file_named names.now refusal.now }
+/// The answer to words that ask whether a log is right.
+fn answer_check<D: Desk>(
+    alloc: Global,
+    desk: &mut D,
+    asked: &CheckAsked<'_>,
+) -> Result<Status, Stop>
+    ensures { (words : List Text) → request_of words ≡ Some (plain_request (requests.Check asked.now)) →
+        Prints words false (moment D.told D.begun D.read_faults D.write_faults desk.old) (moment D.told D.begun D.read_faults D.write_faults desk.new) result }
 {
-    if refusal.line == 0 {
-        return "";
-    }
-    match names.get(refusal.file as usize) {
-        Some(name) => name.text(),
-        None => "",
+    match describe(alloc, desk, asked.file) {
+        Ok(described) => {
+            let answer = check_described(alloc, desk, asked, &described);
+            drop(described);
+            answer
+        }
+        Err(DescribeStop::Refused { refusal, file }) => refuse(alloc, desk, &refusal, file.text()),
+        Err(DescribeStop::ReadFault) => Err(Stop::ReadFault),
+        Err(DescribeStop::OutOfMemory) => Err(Stop::OutOfMemory),
     }
 }
 

@@ -1,29 +1,49 @@
-use Rattle.std.proofs.Common.{◌∙◌, [], map, string_bytes, subst, sym}
-use Rattle.cc_run.specs.Stops.{IsNoListing}
+use Rattle.std.proofs.Common.{[], ap, map, string_bytes, sym}
+use Rattle.cc_words.specs.declared.asked.Asked.TheVariants as requests
+use Rattle.cc_run.specs.Stops.{names_log}
 use Rattle.cc_run.specs.Tasks.{refusal_without_place, request_of}
 use Rattle.cc_run.proofs.Outcomes.{prints_as, prints_refusal, refused_known}
-use Rattle.cc_run.proofs.Requests.{listing_within, refuses_request}
+use Rattle.cc_run.proofs.Requests.{asked_is, asked_none, listing_within, refuses_make, refuses_none}
 use Rattle.cc_run.proofs.Readings.{listing_by, named_log}
 use Rattle.cc_run.proofs.top.answer.Goals as goal
 
 pub answer_list-requires-clause-count : goal.answer_list-requires-clause-count
 answer_list-requires-clause-count g c =
-    (listing_within (map string_bytes c.args.words.now) (listing_by c.in-Some.asked) (sym c.in_ok-read.ensures.taken ∙ c.in-Some.ensures)).0
+    let words = map string_bytes c.args.words.now in
+    let asked = asked_is words _ _ (requests.List c.in-Some-List.asked) c.in_ok-asked.ensures.taken c.in-Some-List.is c.in-Some-List.field-0-is in
+    (listing_within words (listing_by c.in-Some-List.asked) asked).0
 
 pub answer_list-requires-clause-budget : goal.answer_list-requires-clause-budget
 answer_list-requires-clause-budget g c =
-    (listing_within (map string_bytes c.args.words.now) (listing_by c.in-Some.asked) (sym c.in_ok-read.ensures.taken ∙ c.in-Some.ensures)).1
-
-pub returns-in-Some : goal.returns-in-Some
-returns-in-Some g c =
     let words = map string_bytes c.args.words.now in
-    let asked = sym c.in_ok-read.ensures.taken ∙ c.in-Some.ensures in
-    prints_as words _ _ _ _ c.answer_list.result (named_log words c.in-Some.asked asked) (c.answer_list.ensures words asked)
+    let asked = asked_is words _ _ (requests.List c.in-Some-List.asked) c.in_ok-asked.ensures.taken c.in-Some-List.is c.in-Some-List.field-0-is in
+    (listing_within words (listing_by c.in-Some-List.asked) asked).1
+
+pub returns-in-Some-List : goal.returns-in-Some-List
+returns-in-Some-List g c =
+    let words = map string_bytes c.args.words.now in
+    let asked = asked_is words _ _ (requests.List c.in-Some-List.asked) c.in_ok-asked.ensures.taken c.in-Some-List.is c.in-Some-List.field-0-is in
+    prints_as words _ _ _ _ c.answer_list.result (named_log words c.in-Some-List.asked asked) (c.answer_list.ensures words asked)
+
+pub returns-in-Some-Check : goal.returns-in-Some-Check
+returns-in-Some-Check g c =
+    let words = map string_bytes c.args.words.now in
+    let asked = asked_is words _ _ (requests.Check c.in-Some-Check.asked) c.in_ok-asked.ensures.taken c.in-Some-Check.is c.in-Some-Check.field-0-is in
+    prints_as words _ _ _ _ c.answer_check.result (sym (ap names_log asked)) (c.answer_check.ensures words asked)
+
+pub returns-in-Some-Make : goal.returns-in-Some-Make
+returns-in-Some-Make g c =
+    let words = map string_bytes c.args.words.now in
+    let asked = asked_is words _ _ (requests.Make c.in-Some-Make.field-0-0 c.in-Some-Make.field-0-1) c.in_ok-asked.ensures.taken c.in-Some-Make.is c.in-Some-Make.field-0-is in
+    prints_refusal words _ c.refusal_without_place.result [] _ _ c.refuse.result
+    (rw c.refusal_without_place.ensures (refused_known _ (request_of words) (refusal_without_place 1) []
+    (λ files. refuses_make files (request_of words) c.in-Some-Make.field-0-0 c.in-Some-Make.field-0-1 asked)))
+    c.refuse.ensures.told c.refuse.ensures.status
 
 pub returns-in-None : goal.returns-in-None
 returns-in-None g c =
     let words = map string_bytes c.args.words.now in
-    let none = subst IsNoListing c.in_ok-read.ensures.taken c.in-None.ensures in
-    prints_refusal words _ c.refusal_without_place.result [] _ _ c.refuse.result
-    (rw c.refusal_without_place.ensures (refused_known _ (request_of words) (refusal_without_place 1) [] (λ files. refuses_request files (request_of words) none)))
-    c.refuse.ensures.told c.refuse.ensures.status
+    let none = asked_none words _ c.in_ok-asked.ensures.taken c.in-None.is in
+    prints_refusal words _ c.refusal_without_place-in-None.result [] _ _ c.refuse-in-None.result
+    (rw c.refusal_without_place-in-None.ensures (refused_known _ (request_of words) (refusal_without_place 1) [] (λ files. refuses_none files (request_of words) none)))
+    c.refuse-in-None.ensures.told c.refuse-in-None.ensures.status

@@ -1,7 +1,8 @@
 use Rattle.cc_describe.specs.declared.description.DescribeStop.TheVariants as stops
 use Rattle.cc_describe.specs.Describing.{Describes, HasStopped}
 use Rattle.cc_run.proofs.Outcomes.{files_stay, prints_after_read, prints_refusal}
-use Rattle.cc_run.proofs.Readings.{listing_by, refuses_description}
+use Rattle.cc_run.specs.Tasks.{named_by}
+use Rattle.cc_run.proofs.Readings.{listing_by, listing_refused, refuses_description}
 use Rattle.cc_run.proofs.top.answer_list.Goals as goal
 
 pub returns-in-Ok : goal.returns-in-Ok
@@ -18,5 +19,6 @@ returns-in-Err-Refused g c = λ words asked.
     (rw c.in-Err-Refused.field-0-is at c.in-Err-Refused.ensures.refused) in
     prints_after_read words _ read.after.0 _ _ _ c.refuse.result read.after.1 read.begun read.reads_count read.writes_count
     (prints_refusal words _ c.in-Err-Refused.refusal c.text.result.now _ _ c.refuse.result
-    (rw c.text.ensures (refuses_description _ words (listing_by c.args.asked.now) c.in-Err-Refused.refusal c.in-Err-Refused.file asked stopped))
+    (rw c.text.ensures (refuses_description _ words (named_by (listing_by c.args.asked.now)) c.in-Err-Refused.refusal c.in-Err-Refused.file
+    (listing_refused words (listing_by c.args.asked.now) asked) stopped))
     c.refuse.ensures.told c.refuse.ensures.status)

@@ -1,8 +1,8 @@
 use Rattle.std.proofs.Common.{◌∙◌, ap, refl}
 use Rattle.cc_describe.specs.FirstRefusal.{file_named}
-use Rattle.cc_run.specs.Tasks.{description_in}
+use Rattle.cc_run.specs.Tasks.{description_in, named_by}
 use Rattle.cc_run.proofs.Outcomes.{prints_refusal}
-use Rattle.cc_run.proofs.Readings.{description_is, is_read, listing_by, refuses_named, task_read}
+use Rattle.cc_run.proofs.Readings.{description_is, is_read, listing_by, listing_refused, refuses_named, task_read}
 use Rattle.cc_run.proofs.top.list_described.Goals as goal
 
 pub list_prepared-requires-clause-of : goal.list_prepared-requires-clause-of
@@ -19,7 +19,7 @@ returns-in-Ok g c = λ words asked describes.
     let description = description_is of.places c.args.described.now of.said in
     let named = c.in-Ok.ensures.named (description_in of.places) description in
     c.list_prepared.ensures words listing (description_in of.places) named.0 asked refl description named.1
-    (task_read _ listing c.args.described.now of named.0 _ _ _ named.2)
+    (task_read _ (named_by listing) c.args.described.now of named.0 _ _ _ named.2)
 
 pub returns-in-Err-Refused : goal.returns-in-Err-Refused
 returns-in-Err-Refused g c = λ words asked describes.
@@ -28,5 +28,5 @@ returns-in-Err-Refused g c = λ words asked describes.
     let refused = rw c.in-Err-Refused.field-0-is at (c.in-Err-Refused.ensures.refused (description_in of.places) (description_is of.places c.args.described.now of.said)) in
     let name = c.file_named-file.ensures ∙ ap (λ names. file_named names c.in-Err-Refused.refusal) c.items.ensures in
     prints_refusal words _ c.in-Err-Refused.refusal c.file_named-file.result.now _ _ c.refuse.result
-    (refuses_named _ words listing c.args.described.now of c.in-Err-Refused.refusal c.file_named-file.result.now asked name refused)
+    (refuses_named _ words (named_by listing) c.args.described.now of c.in-Err-Refused.refusal c.file_named-file.result.now (listing_refused words listing asked) name refused)
     c.refuse.ensures.told c.refuse.ensures.status

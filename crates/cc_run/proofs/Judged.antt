@@ -1,0 +1,77 @@
+-- A log that is to be judged: that it is the one that words name, and what is refused of it.
+use Rattle.std.proofs.Common.{◌≡◌, refl, sym, ap, subst, ◌<◌, ◌≤◌, List, [], ℕ, Option, Some, None, IfSome, length, inl, inr}
+use Rattle.cc_defs.specs.declared.lists.Key.{Key}
+use Rattle.cc_defs.specs.declared.log.LogVerdict.{LogVerdict}
+use Rattle.cc_defs.specs.declared.refusal.Fault.{Fault}
+use Rattle.cc_defs.specs.declared.refusal.Fault.TheVariants as faults
+use Rattle.cc_defs.specs.declared.refusal.LimitAt.TheVariants as limits
+use Rattle.cc_defs.specs.declared.refusal.Refusal.{Refusal}
+use Rattle.cc_defs.specs.Description.{Description}
+use Rattle.cc_defs.specs.Limits.{limit_number}
+use Rattle.cc_defs.specs.Logs.{IsVerdict}
+use Rattle.cc_defs.specs.Refusals.{past}
+use Rattle.cc_defs.specs.Resolved.{Query}
+use Rattle.cc_describe.specs.Places.{Files}
+use Rattle.cc_judge.specs.Judging.{BlocksHistories, IsJudgeFault}
+use Rattle.cc_ports.specs.Contents.{Contents}
+use Rattle.cc_query.specs.Accepted.{subject_of}
+use Rattle.cc_run.specs.Answers.{NamesLog, RefusesLog, RefusesRequest}
+use Rattle.cc_run.specs.Tasks.{IsTask, Task, named_in, request_of}
+use Rattle.cc_run.specs.Telling.{task_to_check}
+use Rattle.cc_run.proofs.Outcomes.{IsSaid}
+use Rattle.cc_run.proofs.Readings.{checking_by}
+use Rattle.cc_words.specs.declared.asked.CheckAsked.{CheckAsked}
+use Rattle.cc_words.specs.Requests.{Checking, ToCheck}
+use Rattle.cc_words.specs.Words.{Text}
+
+same_checking : (a b : Checking) → ToCheck a ≡ ToCheck b → a ≡ b
+same_checking a b e = cc
+
+pub log_is : (asked : CheckAsked) (checking : Checking) → ToCheck (checking_by asked) ≡ ToCheck checking → asked.log.now ≡ checking.log
+log_is asked checking e = ap (λ (c : Checking). c.log) (same_checking (checking_by asked) checking e)
+
+-- what was read is the log
+pub is_log_of : (o : Option Contents) (checking : Checking) (task : Task) (name read bytes : List ℕ) → name ≡ checking.log → bytes ≡ read →
+    IfSome o (λ before. IsTask before.files (named_in checking) task) → IfSome o (λ c. c.files name ≡ Some read) →
+    IfSome o (λ before. NamesLog before.files checking task bytes)
+is_log_of None checking task name read bytes same same_bytes is there = tt
+is_log_of (Some c) checking task name read bytes same same_bytes is there = record {
+  is = is;
+  there = subst (λ (b : List ℕ). c.files checking.log ≡ Some b) (sym same_bytes) (subst (λ (n : Text). c.files n ≡ Some read) same there);
+}
+
+-- ---- what is said
+
+pub is_said : (d : Description) (q : Query) (key found : Option Key) (bytes : List ℕ) (verdict : LogVerdict) → found ≡ key → length bytes ≤ limit_number limits.LogBytes →
+    IsVerdict (subject_of d q found) bytes verdict → BlocksHistories d q found bytes verdict → IsSaid (task_to_check d q key) bytes verdict
+is_said d q key found bytes verdict same few judged whole = record {
+  few = few;
+  judged = subst (λ (k : Option Key). IsVerdict (subject_of d q k) bytes verdict) same judged;
+  whole = subst (λ (k : Option Key). BlocksHistories d q k bytes verdict) same whole;
+}
+
+pub fault_as : (d : Description) (q : Query) (key found : Option Key) (bytes : List ℕ) (fault : Fault) → found ≡ key → IsJudgeFault d q found bytes fault → IsJudgeFault d q key bytes fault
+fault_as d q key found bytes fault same is = subst (λ (k : Option Key). IsJudgeFault d q k bytes fault) same is
+
+-- ---- what is refused
+
+log_refused : (files : Files) (words : List Text) (checking : Checking) (task : Task) (bytes : List ℕ) (refusal : Refusal) → request_of words ≡ Some (ToCheck checking) →
+    NamesLog files checking task bytes → RefusesLog task bytes refusal → RefusesRequest files (request_of words) refusal []
+log_refused files words checking task bytes refusal asked named refused =
+    subst (λ request. RefusesRequest files request refusal []) (sym asked) (inr (task, bytes, named, refused, refl))
+
+-- it reaches a section that passes a limit
+pub refuses_section : (o : Option Contents) (words : List Text) (checking : Checking) (task : Task) (bytes : List ℕ) (refusal : Refusal) →
+    request_of words ≡ Some (ToCheck checking) → IfSome o (λ before. NamesLog before.files checking task bytes) → length bytes ≤ limit_number limits.LogBytes →
+    IsJudgeFault task.description task.query task.ask.after bytes (faults.Refused refusal) → IfSome o (λ before. RefusesRequest before.files (request_of words) refusal [])
+refuses_section None words checking task bytes refusal asked named few fault = tt
+refuses_section (Some c) words checking task bytes refusal asked named few fault = log_refused c.files words checking task bytes refusal asked named (inr (few, fault))
+
+-- it is too long
+pub refuses_long : (o : Option Contents) (words : List Text) (checking : Checking) (task : Task) (name : List ℕ) (most : ℕ) (refusal : Refusal) →
+    request_of words ≡ Some (ToCheck checking) → name ≡ checking.log → IfSome o (λ before. IsTask before.files (named_in checking) task) →
+    IfSome o (λ c. (bytes : List ℕ) × (c.files name ≡ Some bytes) × (most < length bytes)) → most ≡ limit_number limits.LogBytes → refusal ≡ past limits.LogBytes →
+    IfSome o (λ before. RefusesRequest before.files (request_of words) refusal [])
+refuses_long None words checking task name most refusal asked same is long most_is past_is = tt
+refuses_long (Some c) words checking task name most refusal asked same is long most_is past_is =
+    log_refused c.files words checking task long.0 refusal asked (record { is = is; there = subst (λ (n : Text). c.files n ≡ Some long.0) same long.1 }) (inl (subst (λ (n : ℕ). n < length long.0) most_is long.2, past_is))
