@@ -1,5 +1,5 @@
 -- A budget that a search spends is small: it is less than the power of 3 to the number of open variables of its last section.
-use Rattle.std.proofs.Common.{◌≡◌, ℕ, zero, suc, Bool, true, false, List, [], ◌∷◌, ◌++◌, map, Option, Some, None, refl, sym, ap, subst, ◌∙◌, append-nil, arith}
+use Rattle.std.proofs.Common.{◌≡◌, ℕ, zero, suc, Bool, true, false, List, [], ◌∷◌, ◌++◌, map, Option, Some, None, refl, subst, arith}
 use Rattle.std.specs.Prelude.{◌<◌, ◌≤◌, ◌^◌, flat_map, Contains, IfSome}
 use Rattle.std.specs.List.{AllByRecursion}
 use Rattle.std.proofs.lemmas.List.Elements.{Contains-append_left, Contains-append_right}
@@ -17,7 +17,6 @@ use Rattle.cc_defs.specs.Paths.{IsPath}
 use Rattle.cc_defs.specs.Resolved.{Query}
 use Rattle.cc_defs.specs.Rows.{IsRow}
 use Rattle.cc_defs.specs.Runs.{Ask, Horizon, Histories, Conditions, Claim, Failure, Run, Section, EndsWith, IsFairRun, IsFairSection, IsTrueOf, LooksForOne, MayEnd, MayEndWithin, axioms_of, denied_rows, done_events, events_of, first_horizon, horizon_at, horizon_events, key_row, last_horizon, optional, rows_of, section_events, told}
-use Rattle.cc_defs.specs.Sections.{Axioms}
 use Rattle.cc_query.specs.Accepted.{HaveGoodAxioms, lines_of}
 use Rattle.cc_query.specs.Laws.{SpentBudgetsAreSmall}
 use Rattle.cc_run.specs.Answers.{IsSpentEarly, axioms_in}
