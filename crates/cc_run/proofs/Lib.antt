@@ -9,4 +9,5 @@ pub mod Passing
 pub mod Readings
 pub mod Requests
 pub mod RunEvents
+pub mod Spending
 pub mod Worth

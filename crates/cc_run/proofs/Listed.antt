@@ -20,6 +20,7 @@ use Rattle.cc_describe.specs.declared.description.Described.{Described}
 use Rattle.cc_ports.specs.Contents.{IsPrefix}
 use Rattle.cc_ports.specs.declared.desk.To.TheVariants as outputs
 use Rattle.cc_query.specs.Accepted.{WrittenLogsAreAccepted}
+use Rattle.cc_query.specs.Laws.{SpentBudgetsAreSmall}
 use Rattle.cc_query.specs.Sessions.{After, HasMore, IsSame, IsSessionOf, IsShortEvent, SessionView, with_row}
 use Rattle.cc_run.specs.declared.status.Status.{Status}
 use Rattle.cc_run.specs.declared.status.Status.TheVariants as statuses
@@ -35,6 +36,7 @@ use Rattle.cc_run.proofs.EventTexts.{lines_more, out_more, texts_more}
 use Rattle.cc_run.proofs.GivenSteps.{given_all, fronts-nothing, moves_again, moves_both, moves_done, moves_none, moves_nothing, prefix_behind, step_again}
 use Rattle.cc_run.proofs.Passing.{StopsAt, no_run}
 use Rattle.cc_run.proofs.RunEvents.{ends_so, last_row}
+use Rattle.cc_run.proofs.Spending.{budget_small}
 use Rattle.cc_run.proofs.Worth.{HeadsGood, logs_accepted, next_good, no_lines}
 
 -- what is behind the header of a log
@@ -92,10 +94,10 @@ ending_told (events.Counterexample horizon) status is = absurd cc
 ending_told (events.Ended ending) status is = (ending, refl, cc)
 
 module _ (d : Description) (q : Query) (ask : Ask) (given : List Told) (x y : Moment) where
-  ends_so_told : WrittenLogsAreAccepted → (ending : Ending) (status : Status) (row : List ℕ) →
+  ends_so_told : WrittenLogsAreAccepted → SpentBudgetsAreSmall → (ending : Ending) (status : Status) (row : List ℕ) →
       HasGoodLines d q ask.after (given ++ with_row (events.Ended ending) row ∷ []) → AreFair d q ask (given ++ with_row (events.Ended ending) row ∷ []) → status ≡ status_of ending →
       Moves (texts_of d (with_row (events.Ended ending) row ∷ [])) x y (Ok status) → Finishes (task_of d q ask) (so_far d given) x y (Ok status)
-  ends_so_told law ending status row lines fair is moves =
+  ends_so_told law small ending status row lines fair is moves =
       let last = with_row (events.Ended ending) row ∷ [] in
       let all = all_more d given last (events_of (first_horizon q ask.after) fair.0) fair.2 in
       record {
@@ -108,6 +110,7 @@ module _ (d : Description) (q : Query) (ask : Ask) (given : List Told) (x y : Mo
             out = all.out;
             log = all.log;
             accepted = logs_accepted d q ask fair.0 law fair.1 (subst (λ (l : List Told). HasGoodLines d q ask.after l) fair.2 lines);
+            spent = budget_small d q ask small fair.0 fair.1 (subst (λ (l : List Told). HasGoodLines d q ask.after l) fair.2 lines);
             ends = inl (ending, ends_so (first_horizon q ask.after) fair.0 given ending fair.2, refl, is);
           },
         );
@@ -128,9 +131,9 @@ module _ (d : Description) (q : Query) (ask : Ask) (given : List Told) (x y : Mo
       }
 
   -- a limit was told
-  limit_ends : WrittenLogsAreAccepted → HasGoodLines d q ask.after given → (refusal : Refusal) (status : Status) → StopsAt d q ask given refusal → status ≡ statuses.Refused →
+  limit_ends : WrittenLogsAreAccepted → SpentBudgetsAreSmall → HasGoodLines d q ask.after given → (refusal : Refusal) (status : Status) → StopsAt d q ask given refusal → status ≡ statuses.Refused →
       Moves (only_err (refusal_text refusal [])) x y (Ok status) → Finishes (task_of d q ask) (so_far d given) x y (Ok status)
-  limit_ends law lines refusal status at is moves =
+  limit_ends law small lines refusal status at is moves =
       let all = all_err d given (events_of (first_horizon q ask.after) at.run) (refusal_text refusal []) at.given_is in
       record {
         given = only_err (refusal_text refusal []);
@@ -142,6 +145,7 @@ module _ (d : Description) (q : Query) (ask : Ask) (given : List Told) (x y : Mo
             out = all.out;
             log = all.log;
             accepted = logs_accepted d q ask at.run law at.fair (subst (λ (l : List Told). HasGoodLines d q ask.after l) at.given_is lines);
+            spent = budget_small d q ask small at.run at.fair (subst (λ (l : List Told). HasGoodLines d q ask.after l) at.given_is lines);
             ends = inr (refusal, at.still, at.passes, refl, is);
           },
         );
@@ -163,10 +167,10 @@ module _ (d : Description) (q : Query) (ask : Ask) (given : List Told) (x y : Mo
 
 module _ (d : Description) (q : Query) (given : List Told) (session next : SessionView) where
   -- the next event was told, or a front of it
-  pub event_told : WrittenLogsAreAccepted → HasGoodLines d q session.ask.after given → (event : Event) → IsShortEvent event → HeadsGood d q session.ask.after event → (row : List ℕ) (x y : Moment) (r : Result (Option Status) Stop) → row ≡ next.row → IsSame session next →
+  pub event_told : WrittenLogsAreAccepted → SpentBudgetsAreSmall → HasGoodLines d q session.ask.after given → (event : Event) → IsShortEvent event → HeadsGood d q session.ask.after event → (row : List ℕ) (x y : Moment) (r : Result (Option Status) Stop) → row ≡ next.row → IsSame session next →
       After d q next (given ++ with_row event next.row ∷ []) × IsSessionOf next d q →
       Step (texts_of d (with_row event row ∷ [])) x y r → IfOk r (λ status. status ≡ status_told event) → GoesOn d q given session next x y r
-  event_told law lines event short heads row x y (Ok None) is same after step status =
+  event_told law small lines event short heads row x y (Ok None) is same after step status =
       let here : Step {X = Option Status} (texts_of d (with_row event next.row ∷ [])) x y (Ok None) =
       subst (λ (l : List ℕ). Step {X = Option Status} (texts_of d (with_row event l ∷ [])) x y (Ok None)) is step in
       let all = next_good d q session.ask.after given event next.row lines short heads in
@@ -177,7 +181,7 @@ module _ (d : Description) (q : Query) (given : List Told) (session next : Sessi
         lines = subst (λ (a : Ask). HasGoodLines d q a.after (given ++ with_row event next.row ∷ [])) (sym same.ask) all;
         moves = given_all _ x y None here;
       }
-  event_told law lines event short heads row x y (Ok (Some status)) is same after step told =
+  event_told law small lines event short heads row x y (Ok (Some status)) is same after step told =
       let ending = ending_told event status told in
       let fair = fair_of d q next session.ask (given ++ with_row event next.row ∷ []) same.ask after.0 in
       let here : Step {X = Option Status} (texts_of d (with_row event next.row ∷ [])) x y (Ok (Some status)) =
@@ -190,24 +194,24 @@ module _ (d : Description) (q : Query) (given : List Told) (session next : Sessi
       × Moves (texts_of d (with_row (events.Ended ending.0) next.row ∷ [])) x y (Ok status) =
       subst (λ (e : Event). AreFair d q session.ask (given ++ with_row e next.row ∷ []) × Moves (texts_of d (with_row e next.row ∷ [])) x y (Ok status))
       ending.1 (fair, moves) in
-      ends_so_told d q session.ask given x y law ending.0 status next.row here both.0 ending.2 both.1
-  event_told law lines event short heads row x y (Err stop) is same after step status =
+      ends_so_told d q session.ask given x y law small ending.0 status next.row here both.0 ending.2 both.1
+  event_told law small lines event short heads row x y (Err stop) is same after step status =
       let fair = fair_of d q next session.ask (given ++ with_row event next.row ∷ []) same.ask after.0 in
       let here : Step {X = Option Status} (texts_of d (with_row event next.row ∷ [])) x y (Err stop) =
       subst (λ (l : List ℕ). Step {X = Option Status} (texts_of d (with_row event l ∷ [])) x y (Err stop)) is step in
       stops_within d q session.ask given x y (with_row event next.row ∷ []) stop fair here
 
   -- a limit was told, or a front of its line
-  pub limit_told : WrittenLogsAreAccepted → HasGoodLines d q session.ask.after given → (refusal : Refusal) (x y : Moment) (r : Result (Option Status) Stop) → StopsAt d q session.ask given refusal →
+  pub limit_told : WrittenLogsAreAccepted → SpentBudgetsAreSmall → HasGoodLines d q session.ask.after given → (refusal : Refusal) (x y : Moment) (r : Result (Option Status) Stop) → StopsAt d q session.ask given refusal →
       Step (only_err (refusal_text refusal [])) x y r → IfOk r (λ status. status ≡ Some statuses.Refused) → GoesOn d q given session next x y r
-  limit_told law lines refusal x y (Ok None) at step status = absurd cc
-  limit_told law lines refusal x y (Ok (Some status)) at step told =
-      limit_ends d q session.ask given x y law lines refusal status at (some_status status statuses.Refused told)
+  limit_told law small lines refusal x y (Ok None) at step status = absurd cc
+  limit_told law small lines refusal x y (Ok (Some status)) at step told =
+      limit_ends d q session.ask given x y law small lines refusal status at (some_status status statuses.Refused told)
       (moves_done (only_err (refusal_text refusal [])) x y (Some status) status (given_all _ x y (Some status) step))
     where
       some_status : (a b : Status) → Some a ≡ Some b → a ≡ b
       some_status a b is = cc
-  limit_told law lines refusal x y (Err stop) at step status = limit_stops d q session.ask given x y refusal stop at step
+  limit_told law small lines refusal x y (Err stop) at step status = limit_stops d q session.ask given x y refusal stop at step
 
   -- memory was wanting
   pub memory_told : (m : Moment) (r : Result (Option Status) Stop) → After d q session given → r ≡ Err stops.OutOfMemory → GoesOn d q given session next m m r

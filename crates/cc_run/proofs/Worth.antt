@@ -24,10 +24,10 @@ use Rattle.cc_run.specs.Telling.{HasGoodLines, task_of}
 
 -- ---- lines behind others
 
-lines_both : (front more : List Told) → lines_of (front ++ more) ≡ lines_of front ++ lines_of more
+pub lines_both : (front more : List Told) → lines_of (front ++ more) ≡ lines_of front ++ lines_of more
 lines_both front more = flat_map-append (λ (one : Told). line_told one.event) front more
 
-all_front : {A : Type 0} (P : A → Type 0) (front more : List A) → AllByRecursion P (front ++ more) → AllByRecursion P front
+pub all_front : {A : Type 0} (P : A → Type 0) (front more : List A) → AllByRecursion P (front ++ more) → AllByRecursion P front
 all_front P [] more all = tt
 all_front P (x ∷ front) more all = (all.0, all_front P front more all.1)
 

@@ -1,5 +1,5 @@
 -- What a run may leave behind.
-use Rattle.std.specs.Prelude.{◌≡◌, ℕ, ◌+◌, ◌<◌, ◌≤◌, ◌⊎◌, Bool, false, List, [], ◌∷◌, ◌++◌, length, Option, Some, None, is_some, IsNone, codes, if◌then◌else◌, ◌==◌}
+use Rattle.std.specs.Prelude.{◌≡◌, ℕ, ◌+◌, ◌<◌, ◌^◌, ◌≤◌, ◌⊎◌, Bool, true, false, List, [], ◌∷◌, ◌++◌, length, Option, Some, None, is_some, IsNone, codes, if◌then◌else◌, ◌==◌}
 use Rattle.cc_defs.specs.declared.event.Ending.{Ending}
 use Rattle.cc_defs.specs.declared.event.Ending.TheVariants as endings
 use Rattle.cc_defs.specs.declared.event.Told.{Told}
@@ -9,12 +9,14 @@ use Rattle.cc_defs.specs.declared.log.LogVerdict.TheVariants as verdicts
 use Rattle.cc_defs.specs.declared.refusal.Fault.TheVariants as faults
 use Rattle.cc_defs.specs.declared.refusal.LimitAt.TheVariants as limits
 use Rattle.cc_defs.specs.declared.refusal.Refusal.{Refusal}
+use Rattle.cc_defs.specs.Assignments.{HasOpen}
 use Rattle.cc_defs.specs.Events.{out_text, log_of}
 use Rattle.cc_defs.specs.Histories.{AreFirst}
 use Rattle.cc_defs.specs.Limits.{limit_number}
 use Rattle.cc_defs.specs.Logs.{IsAccepted, IsVerdict}
 use Rattle.cc_defs.specs.Refusals.{past}
-use Rattle.cc_defs.specs.Runs.{Horizon, Histories, Conditions, Claim, Failure, Run, EndsWith, IsFairRun, Section, events_of, first_horizon, horizon_at, key_row, last_horizon, rows_of}
+use Rattle.cc_defs.specs.Runs.{Horizon, Histories, Conditions, Claim, Failure, Run, EndsWith, IsFairRun, Section, axioms_of, events_of, first_horizon, horizon_at, key_row, last_horizon, rows_of}
+use Rattle.cc_defs.specs.Sections.{Axioms}
 use Rattle.cc_describe.specs.Places.{Files}
 use Rattle.cc_judge.specs.Judging.{BlocksHistories, IsJudgeFault}
 use Rattle.cc_ports.specs.Contents.{Contents, IsPrefix, Rose}
@@ -170,6 +172,18 @@ pub record AreLogsAccepted (task : Task) (run : Run) : Type 0 where
   pub reported : 0 < length run.done → IsLogAccepted task (only_reported run)
   pub complete : (horizon listed : ℕ) → run.ending ≡ Some (endings.Complete horizon listed) → IsLogAccepted task run
 
+-- the axioms of the last section that is told of a horizon
+abbrev pub axioms_in : Task → ℕ → Horizon → Axioms
+axioms_in task horizon (Histories section) = axioms_of task.description task.query task.ask.after false horizon
+axioms_in task horizon (Conditions section) = axioms_of task.description task.query task.ask.after true horizon
+axioms_in task horizon (Claim conditions claim) = axioms_of task.description task.query task.ask.after false horizon
+axioms_in task horizon (Failure conditions claim row) = axioms_of task.description task.query task.ask.after false horizon
+
+-- A budget that is spent is less than the power of 3 to the number of variables that the axioms of its section leave open.
+abbrev pub IsSpentEarly : Task → Run → Type 0
+IsSpentEarly task run = (at listed : ℕ) (next : Horizon) (opens : ℕ) → run.ending ≡ Some (endings.Spent at listed) → run.next ≡ Some next →
+    HasOpen (axioms_in task at next).variables (axioms_in task at next).clauses opens → task.ask.budget < 3 ^ opens
+
 -- ---- listings
 
 -- a run of the search: it tells the truth, and this is what it tells and how it ends, or the limit that it passes
@@ -178,6 +192,7 @@ pub record IsTold (task : Task) (run : Run) (given : Given) (status : Status) : 
   pub out : given.out ≡ out_text task.description (told_by task run)
   pub log : given.log ≡ log_of (told_by task run)
   pub accepted : AreLogsAccepted task run
+  pub spent : IsSpentEarly task run
   pub ends : ((ending : Ending) × (run.ending ≡ Some ending) × (given.err ≡ []) × (status ≡ status_of ending))
       ⊎ ((refusal : Refusal) × IsNone run.ending × PassesLimit task run refusal × (given.err ≡ refusal_text refusal [])
       × (status ≡ statuses.Refused))

@@ -28,7 +28,7 @@ use cc_defs::{Ending, Event, Fault, LogLine, OutOfMemory, Refusal};
 use cc_describe::Described;
 use cc_ports::{Desk, To};
 use cc_print::{event_text, history_text, key_text};
-use cc_query::laws::written_logs_are_accepted;
+use cc_query::laws::{spent_budgets_are_small, written_logs_are_accepted};
 use cc_query::{Ask, Session};
 use std::alloc::Global;
 
@@ -222,6 +222,7 @@ fn list_event<D: Desk>(
     ensures next { IfOk result (λ status. IsNone status → IsSame session.old session.new × HasMore session.new × (left_of session.new < left_of session.old)) }
 {
     written_logs_are_accepted();
+    spent_budgets_are_small();
     match session.next() {
         Ok(event) => tell_next(alloc, desk, described, &event, session.row()),
         Err(Fault::Refused(refusal)) => tell_limit(alloc, desk, &refusal),

@@ -12,14 +12,14 @@ tell_next-requires-clause-row g c =
 
 pub returns-in-Ok-clause-goes : goal.returns-in-Ok-clause-goes
 returns-in-Ok-clause-goes g c = λ d q given is is_of after lines.
-    event_told d q given c.args.session.now c.next.new.self c.written_logs_are_accepted.ensures lines c.in-Ok.event c.in-Ok.ensures.short (c.in-Ok.ensures.good d q is_of)
+    event_told d q given c.args.session.now c.next.new.self c.written_logs_are_accepted.ensures c.spent_budgets_are_small.ensures lines c.in-Ok.event c.in-Ok.ensures.short (c.in-Ok.ensures.good d q is_of)
     c.row.result.now _ _ c.tell_next.result c.row.ensures c.in-Ok.ensures.same
     (c.in-Ok.ensures.event d q given is_of after) (c.tell_next.ensures.told d is) c.tell_next.ensures.status
 
 pub returns-in-Err-Refused-clause-goes : goal.returns-in-Err-Refused-clause-goes
 returns-in-Err-Refused-clause-goes g c = λ d q given is is_of after lines.
     let refused = subst (λ fault. IsRightFault c.args.session.now fault) c.in-Err-Refused.field-0-is c.in-Err-Refused.ensures.refused in
-    limit_told d q given c.args.session.now c.next.new.self c.written_logs_are_accepted.ensures lines c.in-Err-Refused.refusal _ _ c.tell_limit.result
+    limit_told d q given c.args.session.now c.next.new.self c.written_logs_are_accepted.ensures c.spent_budgets_are_small.ensures lines c.in-Err-Refused.refusal _ _ c.tell_limit.result
     (stops_at d q c.args.session.now given c.in-Err-Refused.refusal is_of c.requires.more after (refused d q given is_of after))
     c.tell_limit.ensures.told c.tell_limit.ensures.status
 
