@@ -1,8 +1,9 @@
 #!/usr/bin/env python3
-"""A plain second reading of a run in list and check mode: Out, Err and the code, by brute force from the definition of a model.
+"""A plain second reading of a run: Out, Err and the code, by brute force from the definition of a model.
 
 Reads books of runs, as cc_rows does, and prints for each case the lines of Out and Err and the code. The log is not foretold, and no
-budget is taken to be spent. Words are those of the plain form. Nothing here is meant to be fast: a few constants and horizons.
+budget is taken to be spent. Words are those of the plain form. Nothing here is meant to be fast: a few constants and horizons, and
+made descriptions of at most four locks.
 
 Usage: checks/runs.py BOOK..
 """
@@ -18,8 +19,16 @@ OPTIONS = ("--mode", "--query", "--count", "--budget", "--after", "--log", "--si
 NAMES = {1: "Words", 15: "NoQuery", 18: "Key"}
 
 
+LOCKS = 4
+NOT_READ = ["not read"]
+
+
 class Stop(Exception):
     """The run ends with these lines of Err and this code."""
+
+
+class Large(Exception):
+    """The made description has more locks than are read here."""
 
 
 def refuse(number):
@@ -33,20 +42,45 @@ def number_of(text, most):
 
 
 class Words:
-    """What words of the plain form ask for, in list or check mode."""
+    """What words of the plain form ask for."""
 
     def __init__(self, words):
         given = {}
         while len(words) >= 2 and words[0] in OPTIONS and words[0] not in given and not words[1].startswith("-"):
             given[words[0]], words = words[1], words[2:]
-        self.mode = given.get("--mode", "list")
-        if len(words) != 1 or words[0].startswith("-") or self.mode not in ("list", "check") or "--size" in given:
+        self.mode = given.pop("--mode", "list")
+        if len(words) > 1 or any(word.startswith("-") for word in words):
             refuse(1)
-        if self.mode == "check" and ("--count" in given or "--budget" in given or "--log" not in given):
+        taken = {
+            "list": {"--query", "--count", "--budget", "--after", "--log"},
+            "check": {"--query", "--after", "--log"},
+            "make": {"--size", "--budget"},
+        }
+        if self.mode not in taken or not set(given) <= taken[self.mode] or (self.mode == "make") != (not words):
+            refuse(1)
+        if self.mode == "check" and "--log" not in given or self.mode == "make" and "--size" not in given:
             refuse(1)
         self.count = number_of(given["--count"], 1000000) if "--count" in given else None
+        self.size = number_of(given["--size"], 100) if "--size" in given else None
         number_of(given.get("--budget", "1"), 2000000)
-        self.file, self.label, self.after, self.log = words[0], given.get("--query"), given.get("--after"), given.get("--log")
+        self.file = words[0] if words else "made"
+        self.label, self.after, self.log = given.get("--query"), given.get("--after"), given.get("--log")
+
+
+def made_text(size):
+    """The made description of a size."""
+    names = [f"k{number}" for number in range(1, size + 1)]
+    lines = [
+        ":- sorts lock.",
+        f":- objects {', '.join(names)} :: lock.",
+        ":- variables L :: lock.",
+        ":- constants unlocked(lock) :: inertialFluent; turn(lock) :: exogenousAction.",
+        "turn(L) causes unlocked(L).",
+        "nonexecutable turn(L) if unlocked(L).",
+    ]
+    lines += [f"nonexecutable turn({later}) if -unlocked({name})." for name, later in zip(names, names[1:])]
+    lines.append(f":- query maxstep :: 0..{size}; 0: [/\\L | -unlocked(L)]; maxstep: unlocked({names[-1]}).")
+    return "".join(line + "\n" for line in lines).encode()
 
 
 def key_of(text):
@@ -119,7 +153,11 @@ def checked_key(description, query, text):
 
 
 def named(asked, files):
-    """The description, the query and the key that words name."""
+    """The description, the query and the key that words name, or those of the made description."""
+    if asked.mode == "make":
+        if asked.size > LOCKS:
+            raise Large
+        files = {asked.file: made_text(asked.size)}
     description, stop = described(files, asked.file)
     if stop == "read fault":
         raise Stop(["ccalc: read fault"], 4)
@@ -134,6 +172,15 @@ def named(asked, files):
     except Refused as refused:
         raise Stop(["ccalc: " + stop_line("refused " + refused.text(description.file_names))], 2)
     return description, query, None if asked.after is None else checked_key(description, query, asked.after)
+
+
+def summing(description, query, size):
+    out, code = listing(description, query, None, None)
+    empty = [line for line in out if line.endswith(": no history")]
+    horizon, listed, word = empty[-1].split(" ")[1][:-1] if empty else 0, 0, "none"
+    if code == 0:
+        horizon, listed, word = re.fullmatch(r"horizon ([0-9]+): complete, ([0-9]+) listed", out[-1]).groups() + ("complete",)
+    return [f"locks {size}", f"empty horizons {len(empty)}", f"horizon {horizon}", f"histories {listed}", f"ending {word}"], code
 
 
 def verdict_of(description, query, key, log):
@@ -179,6 +226,8 @@ def answer(words, files):
             if asked.log not in files:
                 raise Stop(["ccalc: read fault"], 4)
             out, code = checking(description, query, key, files[asked.log])
+        elif asked.mode == "make":
+            out, code = summing(description, query, asked.size)
         elif query.claim:
             out, code = claiming(description, query)
         else:
@@ -189,11 +238,11 @@ def answer(words, files):
 
 
 def answered(words, files):
-    """The description, the query and the key of a run that lists; none where it is refused or checks."""
+    """The description, the query and the key of a run that lists; none where it is refused, checks, or is not read here."""
     try:
         asked = Words(words)
-        return named(asked, files) if asked.mode == "list" else None
-    except Stop:
+        return named(asked, files) if asked.mode != "check" else None
+    except (Stop, Large):
         return None
 
 
@@ -206,13 +255,16 @@ def stop_line(stop):
 
 
 def run_lines(files):
-    """What is printed of a case: the lines of Out and Err, and the code."""
+    """What is printed of a case: the lines of Out and Err, and the code; or that a made description is too large."""
     found = first_files(files)
     words = found.get("words", b"").decode("latin-1").split("\n")[:-1]
     cut = re.search(rb"^cut ([0-9]+)$", found.get("desk", b""), re.MULTILINE)
     if cut:
         found["log"] = found["log"][: len(found["log"]) - int(cut.group(1))]
-    out, err, code = answer(words, found)
+    try:
+        out, err, code = answer(words, found)
+    except Large:
+        return NOT_READ
     return [f"out: {line}" for line in out] + [f"err: {line}" for line in err] + [f"code {code}"]
 
 

@@ -28,3 +28,7 @@ noconcurrency.
 :- query label :: 1; maxstep :: 0..10;
   0: loc(monkey)=l1, loc(bananas)=l2, loc(box)=l3;
   maxstep: hasBananas.
+% Three steps are too few.
+:- query label :: early; maxstep :: 0..3;
+  0: loc(monkey)=l1, loc(bananas)=l2, loc(box)=l3;
+  maxstep: hasBananas.

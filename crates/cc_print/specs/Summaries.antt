@@ -1,5 +1,5 @@
--- The summary of a listing: the events of a search without a claim, with its ending.
-use Rattle.std.specs.Prelude.{◌≡◌, ℕ, ◌<◌, List, [], ◌∷◌, ◌++◌, flat_map, length, None, unwrap_or, codes, decimal}
+-- The summary of a listing, by the events of its search.
+use Rattle.std.specs.Prelude.{ℕ, List, [], ◌∷◌, ◌++◌, flat_map, length, None, unwrap_or, codes, decimal}
 use Rattle.std.specs.List.{last_or}
 use Rattle.cc_defs.specs.declared.event.Ending.{Ending}
 use Rattle.cc_defs.specs.declared.event.Ending.TheVariants as endings
@@ -34,23 +34,6 @@ ending_told (events.Counterexample horizon) = []
 abbrev pub endings_told : List Told → List Ending
 endings_told told = flat_map (λ one. ending_told one.event) told
 
--- A listing that was not asked for a number of histories ends in one of three ways: at a horizon that it listed whole,
--- where its budget was spent, or without a history at the horizons that it tried.
-abbrev pub EndsListing : List ℕ → Ending → Type 0
-EndsListing empty (endings.Complete horizon listed) = Unit {0}
-EndsListing empty (endings.Spent horizon listed) = Unit {0}
-EndsListing empty endings.NoHistory = 0 < length empty
-EndsListing empty (endings.Asked horizon listed) = ⊥
-EndsListing empty endings.ClaimHolds = ⊥
-EndsListing empty endings.ClaimEmpty = ⊥
-EndsListing empty endings.ClaimFails = ⊥
-
--- it ends once, and that is its last event
-abbrev pub IsListed : List Told → Type 0
-IsListed told =
-    (before : List Told) × (last : Told) × (ending : Ending) × (told ≡ before ++ last ∷ []) × (last.event ≡ events.Ended ending)
-    × (endings_told before ≡ []) × EndsListing (empty_horizons before) ending
-
 -- ---- its summary
 
 -- a line of a name and a number
@@ -61,7 +44,7 @@ abbrev pub ended_lines : ℕ → ℕ → List ℕ → List ℕ
 ended_lines horizon listed word = number_line (codes "horizon") horizon ++ number_line (codes "histories") listed ++ codes "ending " ++ word ++ 10 ∷ []
 
 -- The last horizon that was tried, how many histories were listed, and the ending. The number is the last horizon without
--- a history.
+-- a history. A search that was asked for a number of histories, or for a claim, has none of these lines at its end.
 abbrev pub ending_lines : ℕ → Ending → List ℕ
 ending_lines empty (endings.Complete horizon listed) = ended_lines horizon listed (codes "complete")
 ending_lines empty (endings.Spent horizon listed) = ended_lines horizon listed (codes "spent")

@@ -1,7 +1,7 @@
 //! The summary of a listing.
 ghost use Rattle.std.specs.Prelude.{◌≡◌, ◌++◌, ◌∷◌, [], IfOk, OnOk, None, flat_map, length, string_bytes, unwrap_or};
 ghost use Rattle.std.specs.List.{last_or};
-ghost use Rattle.cc_print.specs.Summaries.{EndsListing, IsListed, empty_horizons, ended_lines, ending_lines, endings_told, number_line, summary};
+ghost use Rattle.cc_print.specs.Summaries.{empty_horizons, ended_lines, ending_lines, endings_told, number_line, summary};
 
 use crate::texts::push_count;
 use cc_defs::{Ending, Event, OutOfMemory, Outcome, Text, Told};
@@ -9,9 +9,8 @@ use std::alloc::Global;
 
 /// The summary of a listing over the made text of a size, a line each: its number of locks, how many horizons have no
 /// history, the last horizon that was tried, how many histories were listed, and the ending (`complete`, `spent`, or `none`
-/// where no horizon has a history).
+/// where no horizon has a history). The last three lines are there only where the search has ended so.
 pub fn summary_text(alloc: Global, size: u32, outcome: &Outcome) -> Result<Text, OutOfMemory>
-    requires { IsListed outcome.now }
     ensures { IfOk result (λ text. text ≡ summary size outcome.now) }
 {
     let mut text = String::new(alloc);
@@ -21,12 +20,11 @@ pub fn summary_text(alloc: Global, size: u32, outcome: &Outcome) -> Result<Text,
 
 /// Writes the lines of the summary.
 fn push_summary(text: &mut String, size: u32, told: &[Told]) -> Result<(), OutOfMemory>
-    requires { IsListed told.now }
     ensures { OnOk result (string_bytes text.new ≡ string_bytes text.old ++ summary size told.now) }
 {
     push_line(text, "locks", u64::from(size))?;
     push_line(text, "empty horizons", empty_count(told) as u64)?;
-    push_ending(text, told)
+    push_endings(text, told)
 }
 
 /// Writes a line of a name and a number.
@@ -40,15 +38,31 @@ fn push_line(text: &mut String, name: &str, number: u64) -> Result<(), OutOfMemo
     Ok(())
 }
 
-/// Writes what is said of the ending.
-fn push_ending(text: &mut String, told: &[Told]) -> Result<(), OutOfMemory>
-    requires { IsListed told.now }
+/// Writes what is said of the ending, where there is one.
+fn push_endings(text: &mut String, told: &[Told]) -> Result<(), OutOfMemory>
     ensures { OnOk result (string_bytes text.new ≡ string_bytes text.old ++ flat_map (ending_lines (unwrap_or (last_or None (empty_horizons told.now)) 0)) (endings_told told.now)) }
 {
-    match ending_of(told) {
+    let tried = last_empty(told).unwrap_or(0);
+    for one in told {
+        if let Event::Ended(ending) = one.event {
+            push_ending(text, tried, ending)?;
+        }
+    }
+    Ok(())
+}
+
+/// Writes what is said of an ending; `tried` is the last horizon without a history.
+fn push_ending(text: &mut String, tried: u32, ending: Ending) -> Result<(), OutOfMemory>
+    ensures { OnOk result (string_bytes text.new ≡ string_bytes text.old ++ ending_lines tried ending) }
+{
+    match ending {
         Ending::Complete { horizon, listed } => push_ended(text, horizon, listed, "complete"),
         Ending::Spent { horizon, listed } => push_ended(text, horizon, listed, "spent"),
-        _ => push_ended(text, last_empty(told).unwrap_or(0), 0, "none"),
+        Ending::NoHistory => push_ended(text, tried, 0, "none"),
+        Ending::Asked { .. } => Ok(()),
+        Ending::ClaimHolds => Ok(()),
+        Ending::ClaimEmpty => Ok(()),
+        Ending::ClaimFails => Ok(()),
     }
 }
 
@@ -88,22 +102,4 @@ fn last_empty(told: &[Told]) -> Option<u32>
         }
     }
     last
-}
-
-/// How the listing ends.
-fn ending_of(told: &[Told]) -> Ending
-    requires { IsListed told.now }
-    ensures its { endings_told told.now ≡ result ∷ [] }
-    ensures listing { EndsListing (empty_horizons told.now) result }
-{
-    match told {
-        [
-            ..,
-            Told {
-                event: Event::Ended(ending),
-                ..
-            },
-        ] => *ending,
-        _ => unreachable!(),
-    }
 }

@@ -1,6 +1,5 @@
 //! The texts, each form once.
 ghost use Rattle.std.specs.Prelude.{IfOk};
-ghost use Rattle.cc_print.specs.Summaries.{IsListed};
 
 use crate::{event_text, key_text, read_key, refusal_text, summary_text, verdict_text};
 use cc_defs::{
@@ -85,9 +84,7 @@ fn verdicts_are_written(rt: HostRuntime) -> Result<(), Fail> {
 }
 
 /// Two horizons without a history, and one with four.
-fn listing(alloc: Global) -> Result<Outcome, OutOfMemory>
-    ensures { IfOk result IsListed }
-{
+fn listing(alloc: Global) -> Result<Outcome, OutOfMemory> {
     let told = vec![in alloc;
         Told {
             event: Event::NoHistory { horizon: 0 },

@@ -35,8 +35,7 @@ fn files_of(alloc: Global, parts: &[&[u8]], setting: &Setting) -> Result<Files, 
 }
 
 /// The desk of a case.
-fn desk_of(alloc: Global, parts: &[&[u8]]) -> Result<MemoryDesk, OutOfMemory> {
-    let setting = Setting::read(alloc, text_of(parts, "desk"))?;
+fn desk_of(alloc: Global, parts: &[&[u8]], setting: Setting) -> Result<MemoryDesk, OutOfMemory> {
     let files = files_of(alloc, parts, &setting)?;
     let most = setting.most();
     let room = setting.room;
@@ -69,14 +68,35 @@ fn show_output(out: &mut String, name: &str, bytes: &[u8]) -> Result<(), OutOfMe
     }
 }
 
+/// How many lines a log has.
+fn show_count(out: &mut String, log: &[u8]) -> Result<(), OutOfMemory> {
+    let lines = log.iter().filter(|byte| **byte == b'\n').count();
+    write!(out, "log has {lines} lines\n")?;
+    Ok(())
+}
+
+/// A log: its lines, or how many it has.
+fn show_log(out: &mut String, log: &[u8], counted: bool) -> Result<(), OutOfMemory> {
+    if counted {
+        show_count(out, log)
+    } else {
+        show_output(out, "log", log)
+    }
+}
+
 /// What a desk has, and a code.
-fn show_desk(out: &mut String, desk: &MemoryDesk, code: u8) -> Result<(), OutOfMemory> {
+fn show_desk(
+    out: &mut String,
+    desk: &MemoryDesk,
+    counted: bool,
+    code: u8,
+) -> Result<(), OutOfMemory> {
     show_output(out, "out", desk.written(To::Out))?;
     show_output(out, "err", desk.written(To::Err))?;
     if desk.has_begun() {
         out.push_str("log begun\n")?;
     }
-    show_output(out, "log", desk.written(To::Log))?;
+    show_log(out, desk.written(To::Log), counted)?;
     write!(out, "code {code}\n")?;
     Ok(())
 }
@@ -88,8 +108,10 @@ pub(crate) fn shown(alloc: Global, case: &[u8]) -> Result<String, OutOfMemory> {
     out.push_str("\n")?;
     let parts = parts(alloc, case)?;
     let words = words_of(alloc, text_of(&parts, "words"))?;
-    let mut desk = desk_of(alloc, &parts)?;
+    let setting = Setting::read(alloc, text_of(&parts, "desk"))?;
+    let counted = setting.counted;
+    let mut desk = desk_of(alloc, &parts, setting)?;
     let status = run(alloc, &words, &mut desk);
-    show_desk(&mut out, &desk, status.code())?;
+    show_desk(&mut out, &desk, counted, status.code())?;
     Ok(out)
 }

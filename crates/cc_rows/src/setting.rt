@@ -12,6 +12,8 @@ pub(crate) struct Setting {
     pub(crate) room: [usize; 3],
     /// How many bytes less the file `log` has at its end.
     cut: u32,
+    /// Whether the lines of the log are counted, and not shown.
+    pub(crate) counted: bool,
 }
 
 /// The numbers in a line, behind its first word.
@@ -32,6 +34,7 @@ impl Setting {
             most: 4096,
             room: [1_048_576; 3],
             cut: 0,
+            counted: false,
         }
     }
 
@@ -62,6 +65,7 @@ impl Setting {
             (Some("fails"), fails) => self.fails.extend_from_slice(fails)?,
             (Some("reads"), [most]) => self.most = *most,
             (Some("cut"), [cut]) => self.cut = *cut,
+            (Some("counted"), []) => self.counted = true,
             (Some("room"), [out, err, log]) => {
                 self.room = [*out as usize, *err as usize, *log as usize];
             }

@@ -10,4 +10,5 @@ pub mod Readings
 pub mod Requests
 pub mod RunEvents
 pub mod Spending
+pub mod SummedTexts
 pub mod Worth

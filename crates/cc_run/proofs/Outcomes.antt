@@ -19,7 +19,7 @@ use Rattle.cc_run.specs.declared.status.Status.{Status}
 use Rattle.cc_run.specs.declared.status.Status.TheVariants as statuses
 use Rattle.cc_run.specs.declared.status.Stop.{Stop}
 use Rattle.cc_run.specs.declared.status.Stop.TheVariants as stops
-use Rattle.cc_run.specs.Answers.{Answered, Answers, AreFronts, CheckedPlan, Counts, Ended, GaveSoFar, Given, IsFresh, IsTold, Left, Lists, NamesLog, Plan, RefusesRequest, RoseTwice, counts, left_in, only_err, only_out, refusal_text, status_of, verdict_status}
+use Rattle.cc_run.specs.Answers.{Answered, Answers, AreFronts, CheckedPlan, Counts, Ended, GaveSoFar, Given, IsFresh, IsTold, Left, Lists, Manner, NamesLog, Plan, RefusesRequest, RoseTwice, counts, left_in, only_err, only_out, refusal_text, status_of, verdict_status}
 use Rattle.cc_run.specs.Stops.{Begins, IsEndStatus, IsTelling, Leaves, Moment, Prints, Searches, Step, TellsStop, adding, cut_status, given_to, stop_line, stop_status}
 use Rattle.cc_run.specs.Tasks.{Task, request_of}
 use Rattle.cc_defs.specs.Runs.{Run}
@@ -248,27 +248,28 @@ ending_ends endings.ClaimHolds = tt
 ending_ends endings.ClaimEmpty = tt
 ending_ends endings.ClaimFails = tt
 
-told_ends : (task : Task) (run : Run) (given : Given) (status : Status) → IsTold task run given status → IsEndStatus status
-told_ends task run given status told = elim told.ends [
+told_ends : (manner : Manner) (task : Task) (run : Run) (given : Given) (status : Status) → IsTold manner task run given status → IsEndStatus status
+told_ends manner task run given status told = elim told.ends [
   | inl ended ↦ subst IsEndStatus (sym ended.3) (ending_ends ended.0)
   | inr refused ↦ subst IsEndStatus (sym refused.4) tt
 ]
 
-search_ends : (task : Task) (given : Given) (r : Result Status Stop) →
-    MatchResult r (λ status. (run : Run) × IsTold task run given status) (λ _. (run : Run) × IsTelling task run given) → IfOk r IsEndStatus
-search_ends task given (Ok status) how = told_ends task how.0 given status how.1
-search_ends task given (Err stop) how = tt
+search_ends : (manner : Manner) (task : Task) (given : Given) (r : Result Status Stop) →
+    MatchResult r (λ status. (run : Run) × IsTold manner task run given status) (λ _. (run : Run) × IsTelling manner task run given) → IfOk r IsEndStatus
+search_ends manner task given (Ok status) how = told_ends manner task how.0 given status how.1
+search_ends manner task given (Err stop) how = tt
 
-search_comes : (files : Files) (words : List Text) (task : Task) (given : Given) (begun : Bool) (r : Result Status Stop) → Lists files words begun task →
-    MatchResult r (λ status. (run : Run) × IsTold task run given status) (λ _. (run : Run) × IsTelling task run given) → Comes files words (left given begun) r
-search_comes files words task given begun (Ok status) lists how = record {
+search_comes : (files : Files) (words : List Text) (manner : Manner) (task : Task) (given : Given) (begun : Bool) (r : Result Status Stop) → Lists files words begun manner task →
+    MatchResult r (λ status. (run : Run) × IsTold manner task run given status) (λ _. (run : Run) × IsTelling manner task run given) → Comes files words (left given begun) r
+search_comes files words manner task given begun (Ok status) lists how = record {
   plan = record { given = given; begun = begun; status = status };
-  planned = inr (inl (record { task = task; lists = lists; run = how.0; told = how.1 }));
+  planned = inr (inl (record { manner = manner; task = task; lists = lists; run = how.0; told = how.1 }));
   given = refl;
   begun = refl;
   status_planned = refl;
 }
-search_comes files words task given begun (Err stop) lists how = inr (inr (inl (record {
+search_comes files words manner task given begun (Err stop) lists how = inr (inr (inl (record {
+  manner = manner;
   task = task;
   lists = lists;
   run = how.0;
@@ -288,19 +289,19 @@ told_search words given (Some c) mid new was begun r told moves how = λ fresh n
     (comes_over words c c given begun r fresh refl (how none))
 
 -- a log was begun where one is named, and a search behind it
-pub prints_search : {X : Type 0} (words : List Text) (begins : Bool) (task : Task) (x y z : Moment) (b : Result X Stop) (v : X) (r : Result Status Stop) →
-    Begins begins x y b → b ≡ Ok v → Searches task [] y z r → IfSome x.told (λ before. Lists before.files words begins task) → Prints words begins x z r
-prints_search {X = X} words begins task x y z b v r at is searched lists =
+pub prints_search : {X : Type 0} (words : List Text) (begins : Bool) (manner : Manner) (task : Task) (x y z : Moment) (b : Result X Stop) (v : X) (r : Result Status Stop) →
+    Begins begins x y b → b ≡ Ok v → Searches manner task [] y z r → IfSome x.told (λ before. Lists before.files words begins manner task) → Prints words begins x z r
+prints_search {X = X} words begins manner task x y z b v r at is searched lists =
     let made : Result X Stop = Ok v in
     let done : Begins begins x y made = subst (λ b. Begins begins x y b) is at in
     let given = searched.given in
     let moves = searched.moves in
     record {
       told = told_search words given x.told y.told z.told x.begun z.begun r done.told moves.told
-          (known x.told (λ before. Lists before.files words begins task) (λ before. x.begun ≡ false → Comes before.files words (left given z.begun) r)
-          (λ before lists none. search_comes before.files words task given z.begun r
-          (subst (λ (w : Bool). Lists before.files words w task) (begun_as begins x.begun y.begun z.begun done.begun moves.begun none) lists) searched.how) lists);
-      ends = search_ends task given r searched.how;
+          (known x.told (λ before. Lists before.files words begins manner task) (λ before. x.begun ≡ false → Comes before.files words (left given z.begun) r)
+          (λ before lists none. search_comes before.files words manner task given z.begun r
+          (subst (λ (w : Bool). Lists before.files words w manner task) (begun_as begins x.begun y.begun z.begun done.begun moves.begun none) lists) searched.how) lists);
+      ends = search_ends manner task given r searched.how;
       begun = λ none. moves.begun ∙ (done.begun ∙ ap (λ w. w || x.begun) none);
       reads = omega (arith, done.reads, moves.reads);
       writes = omega (arith, done.writes, moves.writes);
@@ -311,6 +312,19 @@ prints_search {X = X} words begins task x y z b v r at is searched lists =
     begun_as : (named was at begun : Bool) → at ≡ (named || was) → begun ≡ at → was ≡ false → named ≡ begun
     begun_as true was at begun one two none = sym (two ∙ one)
     begun_as false was at begun one two none = sym (two ∙ (one ∙ none))
+
+-- where no log is named, nothing is begun
+begins_none : (x : Moment) → Begins {X = Unit {0}} false x x (Ok tt)
+begins_none x = record { told = same x.told; begun = refl; failed = tt; reads = omega arith; writes = omega arith }
+  where
+    same : (o : Option Contents) → IfSome o (λ before. IsFresh before → o ≡ Some before)
+    same None = tt
+    same (Some c) = λ fresh. refl
+
+-- a search whose log was not begun
+pub prints_made : (words : List Text) (manner : Manner) (task : Task) (x z : Moment) (r : Result Status Stop) → Searches manner task [] x z r →
+    IfSome x.told (λ before. Lists before.files words false manner task) → Prints words false x z r
+prints_made words manner task x z r searched lists = prints_search words false manner task x x z (Ok tt) tt r (begins_none x) refl searched lists
 
 -- ---- the end of a run
 

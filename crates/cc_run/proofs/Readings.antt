@@ -1,23 +1,25 @@
 -- A description that was read, by its places, and what is listed or refused of it.
-use Rattle.std.proofs.Common.{◌≡◌, ◌∙◌, refl, sym, ap, subst, ℕ, Bool, List, map, Option, Some, None, IfSome, inl, inr, is_some}
+use Rattle.std.proofs.Common.{◌≡◌, ◌∙◌, refl, sym, ap, subst, ℕ, Bool, false, List, [], map, Option, Some, None, IfSome, inl, inr, is_some}
+use Rattle.std.specs.Prelude.{IsNone}
 use Rattle.cc_asked.specs.Descriptions.{IsDescriptionOf, description_of}
 use Rattle.cc_defs.specs.declared.lists.Key.{Key}
 use Rattle.cc_defs.specs.declared.refusal.Refusal.{Refusal}
-use Rattle.cc_defs.specs.Description.{Description}
 use Rattle.cc_defs.specs.Resolved.{Query, plain_query}
 use Rattle.cc_describe.specs.declared.description.Described.{Described}
 use Rattle.cc_describe.specs.declared.description.DescribeStop.TheVariants as describe_stops
 use Rattle.cc_describe.specs.Describing.{Describes, HasStopped, IsDescribed, SaysAll}
 use Rattle.cc_describe.specs.FirstRefusal.{declared_in, file_named}
 use Rattle.cc_describe.specs.Places.{Files, Place}
+use Rattle.cc_make.specs.Locks.{made_text}
+use Rattle.cc_make.specs.Single.{contents_of}
 use Rattle.cc_ports.specs.Contents.{Contents}
-use Rattle.cc_run.specs.Answers.{Lists, RefusesRequest}
+use Rattle.cc_run.specs.Answers.{Lists, RefusesRequest, Summed, Whole}
 use Rattle.cc_run.specs.Asking.{AreNamed, IsRefusedNamed}
 use Rattle.cc_run.specs.Stops.{names_log}
-use Rattle.cc_run.specs.Tasks.{AreRead, IsTask, Named, RefusesNamed, asked_refusal, description_in, named_by, named_in, query_named, request_of}
+use Rattle.cc_run.specs.Tasks.{AreRead, IsTask, Named, RefusesNamed, Task, asked_refusal, description_in, made_files, made_named, named_by, named_in, query_named, request_of}
 use Rattle.cc_words.specs.declared.asked.CheckAsked.{CheckAsked}
 use Rattle.cc_words.specs.declared.asked.ListAsked.{ListAsked}
-use Rattle.cc_words.specs.Requests.{Checking, Listing, ToCheck, ToList}
+use Rattle.cc_words.specs.Requests.{Checking, Listing, ToCheck, ToList, ToMake}
 use Rattle.cc_words.specs.Views.{plain_text}
 use Rattle.cc_words.specs.Words.{Text}
 
@@ -64,6 +66,10 @@ is_read (Some c) name described says describes = record {
   read = record { all = describes.1; unrefused = describes.2; there = describes.4 };
 }
 
+-- a desk that a made description is read from
+abbrev pub made_source : ℕ → Contents
+made_source size = contents_of (record { text = made_text size; rest = []; write_faults = 0 })
+
 -- what is true of the files, where the desk tells these
 known : (o : Option Contents) (P Q : Contents → Type 0) → ((c : Contents) → P c → Q c) → IfSome o P → IfSome o Q
 known None P Q f h = tt
@@ -92,14 +98,18 @@ task_read o by described of q count budget key named =
     (λ before. IsTask before.files by (record { description = description_in of.places; query = q; ask = record { count = count; budget = budget; after = key } }))
     (λ before read. is_task before.files by of.places described q count budget key of.said named read) of.read
 
-pub lists_asked : (o : Option Contents) (words : List Text) (listing : Listing) (begins : Bool) (d : Description) (q : Query) (count : Option ℕ) (budget : ℕ) (key : Option Key) →
-    request_of words ≡ Some (ToList listing) → count ≡ listing.count → budget ≡ listing.budget → begins ≡ is_some listing.log →
-    IfSome o (λ before. IsTask before.files (named_by listing) (record { description = d; query = q; ask = record { count = count; budget = budget; after = key } })) →
-    IfSome o (λ before. Lists before.files words begins (record { description = d; query = q; ask = record { count = count; budget = budget; after = key } }))
-lists_asked o words listing begins d q count budget key asked same_count same_budget log =
-    known o (λ before. IsTask before.files (named_by listing) (record { description = d; query = q; ask = record { count = count; budget = budget; after = key } }))
-    (λ before. Lists before.files words begins (record { description = d; query = q; ask = record { count = count; budget = budget; after = key } }))
-    (λ before task. record { listing = listing; asked = asked; is = task; count = same_count; budget = same_budget; begun_is = log })
+pub lists_asked : (o : Option Contents) (words : List Text) (listing : Listing) (begins : Bool) (task : Task) → request_of words ≡ Some (ToList listing) →
+    task.ask.count ≡ listing.count → task.ask.budget ≡ listing.budget → begins ≡ is_some listing.log → IfSome o (λ before. IsTask before.files (named_by listing) task) →
+    IfSome o (λ before. Lists before.files words begins Whole task)
+lists_asked o words listing begins task asked same_count same_budget log =
+    known o (λ before. IsTask before.files (named_by listing) task) (λ before. Lists before.files words begins Whole task)
+    (λ before is. inl (record { listing = listing; asked = asked; is = is; count = same_count; budget = same_budget; manner_is = refl; begun_is = log }))
+
+pub lists_made : (o : Option Contents) (words : List Text) (size : ℕ) (task : Task) → IsTask (made_files size) made_named task → IsNone task.ask.count →
+    request_of words ≡ Some (ToMake size task.ask.budget) → IfSome o (λ before. Lists before.files words false (Summed size) task)
+lists_made None words size task is all asked = tt
+lists_made (Some c) words size task is all asked =
+    inr (record { size = size; budget = task.ask.budget; asked = asked; is = is; count = all; budget_is = refl; manner_is = refl; begun_is = refl })
 
 same_request : (a b : Listing) → ToList a ≡ ToList b → a ≡ b
 same_request a b e = cc
@@ -129,14 +139,23 @@ listing_refused words listing asked files refusal file refused = subst (λ reque
 pub checking_refused : (words : List Text) (checking : Checking) → request_of words ≡ Some (ToCheck checking) → RefusesWith words (named_in checking)
 checking_refused words checking asked files refusal file refused = subst (λ request. RefusesRequest files request refusal file) (sym asked) (inl refused)
 
+pub refuses_made : (o : Option Contents) (words : List Text) (size budget : ℕ) (refusal : Refusal) (file : Text) → request_of words ≡ Some (ToMake size budget) →
+    RefusesNamed (made_files size) made_named refusal file → IfSome o (λ before. RefusesRequest before.files (request_of words) refusal file)
+refuses_made None words size budget refusal file asked refused = tt
+refuses_made (Some c) words size budget refusal file asked refused = subst (λ request. RefusesRequest c.files request refusal file) (sym asked) refused
+
+pub stopped_refuses : (files : Files) (by : Named) (refusal : Refusal) (file : Text) → HasStopped files by.file (describe_stops.Refused refusal file) →
+    RefusesNamed files by refusal file
+stopped_refuses files by refusal file stopped =
+    inl (record { places = stopped.0; all = stopped.1; refused = stopped.2; there = stopped.4; name = stopped.3 })
+
 pub refuses_description : (o : Option Contents) (words : List Text) (by : Named) (refusal : Refusal) (file : Text) → RefusesWith words by →
     IfSome o (λ before. HasStopped before.files by.file (describe_stops.Refused refusal file)) → IfSome o (λ before. RefusesRequest before.files (request_of words) refusal file)
 refuses_description o words by refusal file refuses =
     known o (λ before. HasStopped before.files by.file (describe_stops.Refused refusal file)) (λ before. RefusesRequest before.files (request_of words) refusal file)
-    (λ before stopped. refuses before.files refusal file
-    (inl (record { places = stopped.0; all = stopped.1; refused = stopped.2; there = stopped.4; name = stopped.3 })))
+    (λ before stopped. refuses before.files refusal file (stopped_refuses before.files by refusal file stopped))
 
-named_refused : (files : Files) (by : Named) (places : List Place) (described : Described) (refusal : Refusal) (file : Text) → IsDescribed places described →
+pub named_refused : (files : Files) (by : Named) (places : List Place) (described : Described) (refusal : Refusal) (file : Text) → IsDescribed places described →
     AreRead files by.file places → file ≡ file_named described.files refusal →
     IsRefusedNamed (description_in places) (map plain_query described.queries) by.query by.after refusal → RefusesNamed files by refusal file
 named_refused files by places described refusal file said read name (inl refused) = inr (inl (record {

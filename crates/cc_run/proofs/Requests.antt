@@ -1,4 +1,4 @@
--- What words ask for: the numbers of a listing are within their bounds.
+-- What words ask for: its numbers are within their bounds.
 use Rattle.std.proofs.Common.{◌≡◌, ◌∙◌, refl, sym, ap, subst, ℕ, ◌≤◌, Bool, true, false, cond, List, [], Option, Some, None, IfSome, option_map, is_some, unwrap_or, nat_le, arith, length}
 use Rattle.std.specs.Prelude.{◌&&◌, option_and_then}
 use Rattle.std.proofs.lemmas.Bool.{leb-true}
@@ -9,7 +9,7 @@ use Rattle.cc_run.specs.Answers.{RefusesRequest}
 use Rattle.cc_describe.specs.Places.{Files}
 use Rattle.cc_words.specs.declared.asked.Asked.{Asked}
 use Rattle.cc_words.specs.Readings.{reading}
-use Rattle.cc_words.specs.Requests.{Check, Checking, Listing, List as Listed, Make, Mode, Request, ToCheck, ToList, ToMake, asked_in, asked_of, bars_make, budget_of, count_of, mode_of, number_up_to, optional, provided, to_check, to_list, to_make}
+use Rattle.cc_words.specs.Requests.{Check, Listing, List as Listed, Make, Mode, Request, ToCheck, ToList, ToMake, asked_in, asked_of, bars_make, budget_of, count_of, mode_of, number_up_to, optional, provided}
 use Rattle.cc_words.specs.Views.{plain_asked, plain_request}
 use Rattle.cc_words.specs.Words.{Given, Text}
 
@@ -70,52 +70,39 @@ budget_within given budget e =
     within None h = omega arith
     within (Some n) h = h.1
 
--- a listing that is asked for
-abbrev IsWithin : Listing → Type 0
-IsWithin listing = IfSome listing.count (λ n. 1 ≤ n) × (listing.budget ≤ 2000000)
+-- its numbers are within their bounds
+abbrev IsWithin : Request → Type 0
+IsWithin (ToList listing) = IfSome listing.count (λ n. 1 ≤ n) × (listing.budget ≤ 2000000)
+IsWithin (ToCheck checking) = Unit {0}
+IsWithin (ToMake size budget) = (1 ≤ size) × (budget ≤ 2000000)
 
-same_listing : (a b : Listing) → some (ToList a) ≡ some (ToList b) → a ≡ b
-same_listing a b e = cc
+asked_within : (mode : Mode) (given : Given) (request : Request) → asked_in mode given ≡ Some request → IsWithin request
+asked_within Listed given request e =
+    let file = from_provided given.file _ request (from_barred (is_some given.size) _ request e) in
+    let count = from_provided (count_of given) _ request file.2 in
+    let budget = from_provided (budget_of given) _ request count.2 in
+    subst IsWithin (some_is _ request budget.2) (count_within given count.0 count.1, budget_within given budget.0 budget.1)
+asked_within Check given request e =
+    let file = from_provided given.file _ request (from_barred _ _ request e) in
+    let log = from_provided given.log _ request file.2 in
+    subst IsWithin (some_is _ request log.2) tt
+asked_within Make given request e =
+    let text = from_provided given.size _ request (from_barred (bars_make given) _ request e) in
+    let size = from_provided (number_up_to 100 text.0) _ request text.2 in
+    let budget = from_provided (budget_of given) _ request size.2 in
+    subst IsWithin (some_is _ request budget.2) ((number_within 100 size.0 text.0 size.1).0, budget_within given budget.0 budget.1)
 
-listed_within : (given : Given) (listing : Listing) → to_list given ≡ Some (ToList listing) → IsWithin listing
-listed_within given listing e =
-    let file = from_provided given.file _ (ToList listing) (from_barred (is_some given.size) _ (ToList listing) e) in
-    let count = from_provided (count_of given) _ (ToList listing) file.2 in
-    let budget = from_provided (budget_of given) _ (ToList listing) count.2 in
-    subst IsWithin (same_listing _ listing budget.2) (count_within given count.0 count.1, budget_within given budget.0 budget.1)
-
-not_checking : (checking : Checking) (listing : Listing) → some (ToCheck checking) ≡ some (ToList listing) → ⊥
-not_checking checking listing e = absurd cc
-
-not_making : (size budget : ℕ) (listing : Listing) → some (ToMake size budget) ≡ some (ToList listing) → ⊥
-not_making size budget listing e = absurd cc
-
-no_check : (given : Given) (listing : Listing) → to_check given ≡ Some (ToList listing) → ⊥
-no_check given listing e =
-    let file = from_provided given.file _ (ToList listing) (from_barred _ _ (ToList listing) e) in
-    let log = from_provided given.log _ (ToList listing) file.2 in
-    not_checking _ listing log.2
-
-no_make : (given : Given) (listing : Listing) → to_make given ≡ Some (ToList listing) → ⊥
-no_make given listing e =
-    let text = from_provided given.size _ (ToList listing) (from_barred (bars_make given) _ (ToList listing) e) in
-    let size = from_provided (number_up_to 100 text.0) _ (ToList listing) text.2 in
-    let budget = from_provided (budget_of given) _ (ToList listing) size.2 in
-    not_making size.0 budget.0 listing budget.2
-
-asked_within : (mode : Mode) (given : Given) (listing : Listing) → asked_in mode given ≡ Some (ToList listing) → IsWithin listing
-asked_within Listed given listing e = listed_within given listing e
-asked_within Check given listing e = absurd (no_check given listing e)
-asked_within Make given listing e = absurd (no_make given listing e)
-
-read_within : (o : Option Given) (listing : Listing) → option_and_then asked_of o ≡ Some (ToList listing) → IsWithin listing
-read_within None listing e = absurd cc
-read_within (Some given) listing e =
-    let mode = from_provided (mode_of given) _ (ToList listing) e in
-    asked_within mode.0 given listing mode.2
+read_within : (o : Option Given) (request : Request) → option_and_then asked_of o ≡ Some request → IsWithin request
+read_within None request e = absurd cc
+read_within (Some given) request e =
+    let mode = from_provided (mode_of given) _ request e in
+    asked_within mode.0 given request mode.2
 
 pub listing_within : (words : List Text) (listing : Listing) → request_of words ≡ Some (ToList listing) → IfSome listing.count (λ n. 1 ≤ n) × (listing.budget ≤ 2000000)
-listing_within words listing e = read_within (reading words) listing e
+listing_within words listing e = read_within (reading words) (ToList listing) e
+
+pub making_within : (words : List Text) (size budget : ℕ) → request_of words ≡ Some (ToMake size budget) → (1 ≤ size) × (budget ≤ 2000000)
+making_within words size budget e = read_within (reading words) (ToMake size budget) e
 
 -- what the words were read as
 pub asked_is : (words : List Text) (o : Option Asked) (a b : Asked) → plain_asked o ≡ request_of words → o ≡ Some a → a ≡ b → request_of words ≡ Some (plain_request b)
@@ -124,9 +111,6 @@ asked_is words o a b taken is same = sym taken ∙ (ap plain_asked is ∙ ap (λ
 pub asked_none : (words : List Text) (o : Option Asked) → plain_asked o ≡ request_of words → o ≡ None → request_of words ≡ None
 asked_none words o taken is = sym taken ∙ ap plain_asked is
 
--- words that ask for a made description, or for nothing, are refused
-pub refuses_make : (files : Files) (request : Option Request) (size budget : ℕ) → request ≡ Some (ToMake size budget) → RefusesRequest files request (refusal_without_place 1) []
-refuses_make files request size budget is = subst (λ (o : Option Request). RefusesRequest files o (refusal_without_place 1) []) (sym is) (refl, refl)
-
+-- words that ask for nothing are refused
 pub refuses_none : (files : Files) (request : Option Request) → request ≡ None → RefusesRequest files request (refusal_without_place 1) []
 refuses_none files request is = subst (λ (o : Option Request). RefusesRequest files o (refusal_without_place 1) []) (sym is) (refl, refl)

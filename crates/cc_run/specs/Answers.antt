@@ -11,6 +11,7 @@ use Rattle.cc_defs.specs.declared.refusal.LimitAt.TheVariants as limits
 use Rattle.cc_defs.specs.declared.refusal.Refusal.{Refusal}
 use Rattle.cc_defs.specs.Assignments.{HasOpen}
 use Rattle.cc_defs.specs.Events.{out_text, log_of}
+use Rattle.cc_defs.specs.Description.{Description}
 use Rattle.cc_defs.specs.Histories.{AreFirst}
 use Rattle.cc_defs.specs.Limits.{limit_number}
 use Rattle.cc_defs.specs.Logs.{IsAccepted, IsVerdict}
@@ -21,12 +22,13 @@ use Rattle.cc_describe.specs.Places.{Files}
 use Rattle.cc_judge.specs.Judging.{BlocksHistories, IsJudgeFault}
 use Rattle.cc_ports.specs.Contents.{Contents, IsPrefix, Rose}
 use Rattle.cc_print.specs.Refusals.{refusal_line}
+use Rattle.cc_print.specs.Summaries.{endings_told, summary}
 use Rattle.cc_print.specs.Verdicts.{verdict_line}
 use Rattle.cc_query.specs.Accepted.{subject_of}
 use Rattle.cc_query.specs.Sessions.{opening_refusal}
 use Rattle.cc_run.specs.declared.status.Status.{Status}
 use Rattle.cc_run.specs.declared.status.Status.TheVariants as statuses
-use Rattle.cc_run.specs.Tasks.{RefusesNamed, Task, IsTask, named_by, named_in, refusal_without_place, request_of}
+use Rattle.cc_run.specs.Tasks.{RefusesNamed, Task, IsTask, made_files, made_named, named_by, named_in, refusal_without_place, request_of}
 use Rattle.cc_words.specs.Requests.{Checking, Listing, Request, ToList, ToCheck, ToMake}
 use Rattle.cc_words.specs.Words.{Text}
 
@@ -93,13 +95,13 @@ RefusesChecking files checking refusal file =
     RefusesNamed files (named_in checking) refusal file
     ⊎ ((task : Task) × (bytes : List ℕ) × NamesLog files checking task bytes × RefusesLog task bytes refusal × (file ≡ []))
 
--- The refusal of a run, with the name of the file that it speaks of: that of the words, then that of what they name, then that of
--- a log that is to be judged. Words that ask for a made description are not taken yet.
+-- The refusal of a run, with the name of the file that it speaks of: that of the words, then that of what they name or of the made
+-- description, then that of a log that is to be judged.
 abbrev pub RefusesRequest : Files → Option Request → Refusal → Text → Type 0
 RefusesRequest files None refusal file = (refusal ≡ refusal_without_place 1) × (file ≡ [])
 RefusesRequest files (Some (ToList listing)) refusal file = RefusesNamed files (named_by listing) refusal file
 RefusesRequest files (Some (ToCheck checking)) refusal file = RefusesChecking files checking refusal file
-RefusesRequest files (Some (ToMake size budget)) refusal file = (refusal ≡ refusal_without_place 1) × (file ≡ [])
+RefusesRequest files (Some (ToMake size budget)) refusal file = RefusesNamed (made_files size) made_named refusal file
 
 -- the run is refused before it begins, and prints just that
 pub record RefusedPlan (files : Files) (words : List Text) (plan : Plan) : Type 0 where
@@ -186,10 +188,25 @@ IsSpentEarly task run = (at listed : ℕ) (next : Horizon) (opens : ℕ) → run
 
 -- ---- listings
 
+-- How a search is told to Out: each event as it comes, or a summary at the end, as that of a made description of a size.
+pub data Manner : Type 0 where
+  Whole : Manner
+  Summed : (size : ℕ) → Manner
+
+-- a summary, where a search has ended
+abbrev pub summed : ℕ → List Told → List Ending → List ℕ
+summed size told [] = []
+summed size told (ending ∷ others) = summary size told
+
+-- what a search gives to Out
+abbrev pub out_told : Manner → Description → List Told → List ℕ
+out_told Whole d told = out_text d told
+out_told (Summed size) d told = summed size told (endings_told told)
+
 -- a run of the search: it tells the truth, and this is what it tells and how it ends, or the limit that it passes
-pub record IsTold (task : Task) (run : Run) (given : Given) (status : Status) : Type 0 where
+pub record IsTold (manner : Manner) (task : Task) (run : Run) (given : Given) (status : Status) : Type 0 where
   pub fair : IsFairRun task.description task.query task.ask run
-  pub out : given.out ≡ out_text task.description (told_by task run)
+  pub out : given.out ≡ out_told manner task.description (told_by task run)
   pub log : given.log ≡ log_of (told_by task run)
   pub accepted : AreLogsAccepted task run
   pub spent : IsSpentEarly task run
@@ -198,19 +215,35 @@ pub record IsTold (task : Task) (run : Run) (given : Given) (status : Status) : 
       × (status ≡ statuses.Refused))
 
 -- The first so many histories of a query, within a budget, after a key.
-pub record Lists (files : Files) (words : List Text) (begun : Bool) (task : Task) : Type 0 where
+pub record ListsNamed (files : Files) (words : List Text) (begun : Bool) (manner : Manner) (task : Task) : Type 0 where
   pub listing : Listing
   pub asked : request_of words ≡ Some (ToList listing)
   pub is : IsTask files (named_by listing) task
   pub count : task.ask.count ≡ listing.count
   pub budget : task.ask.budget ≡ listing.budget
+  pub manner_is : manner ≡ Whole
   pub begun_is : begun ≡ is_some listing.log
 
+-- All histories of the query of a made description, within a budget: they are summed up, and no log is begun.
+pub record ListsMade (words : List Text) (begun : Bool) (manner : Manner) (task : Task) : Type 0 where
+  pub size : ℕ
+  pub budget : ℕ
+  pub asked : request_of words ≡ Some (ToMake size budget)
+  pub is : IsTask (made_files size) made_named task
+  pub count : IsNone task.ask.count
+  pub budget_is : task.ask.budget ≡ budget
+  pub manner_is : manner ≡ Summed size
+  pub begun_is : begun ≡ false
+
+abbrev pub Lists : Files → List Text → Bool → Manner → Task → Type 0
+Lists files words begun manner task = ListsNamed files words begun manner task ⊎ ListsMade words begun manner task
+
 pub record ListedPlan (files : Files) (words : List Text) (plan : Plan) : Type 0 where
+  pub manner : Manner
   pub task : Task
-  pub lists : Lists files words plan.begun task
+  pub lists : Lists files words plan.begun manner task
   pub run : Run
-  pub told : IsTold task run plan.given plan.status
+  pub told : IsTold manner task run plan.given plan.status
 
 -- ---- verdicts
 
@@ -268,11 +301,12 @@ pub record BeganVerdict (files : Files) (words : List Text) (left : Left) : Type
 
 -- A front of what a search tells was given; of Err something only where a limit was passed.
 pub record BeganListing (files : Files) (words : List Text) (left : Left) : Type 0 where
+  pub manner : Manner
   pub task : Task
-  pub lists : Lists files words left.begun task
+  pub lists : Lists files words left.begun manner task
   pub run : Run
   pub fair : IsFairRun task.description task.query task.ask run
-  pub out : IsPrefix left.given.out (out_text task.description (told_by task run))
+  pub out : IsPrefix left.given.out (out_told manner task.description (told_by task run))
   pub log : IsPrefix left.given.log (log_of (told_by task run))
   pub err : (left.given.err ≡ []) ⊎ ((refusal : Refusal) × PassesLimit task run refusal × IsPrefix left.given.err (refusal_text refusal []))
 

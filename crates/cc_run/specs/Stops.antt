@@ -1,11 +1,11 @@
 -- Why a run stops before its end, and what each step of a run gives.
-use Rattle.std.specs.Prelude.{◌≡◌, ℕ, ◌⊎◌, ◌≤◌, Bool, true, false, List, [], ◌++◌, flat_map, Option, Some, None, option_map, is_some, Result, MatchResult, IfSome, IfOk, IfErr, IsSomeAnd, IsErrOf, ◌||◌}
+use Rattle.std.specs.Prelude.{◌≡◌, ℕ, ◌⊎◌, ◌≤◌, Bool, true, false, List, [], ◌∷◌, ◌++◌, flat_map, Option, Some, None, option_map, is_some, Result, MatchResult, IfSome, IfOk, IfErr, IsSomeAnd, IsErrOf, ◌||◌}
 use Rattle.cc_defs.specs.declared.event.Event.{Event}
 use Rattle.cc_defs.specs.declared.event.Event.TheVariants as events
 use Rattle.cc_defs.specs.declared.event.Told.{Told}
 use Rattle.cc_defs.specs.Conditions.{IsSignatureOfDescription}
 use Rattle.cc_defs.specs.Description.{Description, sizes_at}
-use Rattle.cc_defs.specs.Events.{line_told, out_text, log_of}
+use Rattle.cc_defs.specs.Events.{line_told, log_of}
 use Rattle.cc_defs.specs.LogTexts.{line_text}
 use Rattle.cc_defs.specs.Rows.{IsRow}
 use Rattle.cc_defs.specs.Runs.{IsFairRun, Run}
@@ -17,7 +17,7 @@ use Rattle.cc_run.specs.declared.status.Status.{Status}
 use Rattle.cc_run.specs.declared.status.Status.TheVariants as statuses
 use Rattle.cc_run.specs.declared.status.Stop.{Stop}
 use Rattle.cc_run.specs.declared.status.Stop.TheVariants as stops
-use Rattle.cc_run.specs.Answers.{Given, AreFronts, IsFresh, IsTold, PassesLimit, Ended, GaveSoFar, left_in, memory_line, nothing, read_fault_line, refusal_text, told_by, write_fault_line}
+use Rattle.cc_run.specs.Answers.{Manner, Whole, Summed, Given, AreFronts, IsFresh, IsTold, PassesLimit, Ended, GaveSoFar, left_in, memory_line, nothing, out_told, read_fault_line, refusal_text, told_by, write_fault_line}
 use Rattle.cc_run.specs.Tasks.{Task}
 use Rattle.cc_defs.specs.declared.refusal.Refusal.{Refusal}
 use Rattle.cc_words.specs.Requests.{Request, ToList, ToCheck, ToMake}
@@ -65,8 +65,13 @@ abbrev pub lines_text : List Told → List ℕ
 lines_text told = flat_map line_text (flat_map (λ one. line_told one.event) told)
 
 -- what events give
-abbrev pub texts_of : Description → List Told → Given
-texts_of d told = record { out = out_text d told; err = []; log = lines_text told }
+abbrev pub texts_of : Manner → Description → List Told → Given
+texts_of manner d told = record { out = out_told manner d told; err = []; log = lines_text told }
+
+-- what one more event gives behind others, with which the search has not ended
+abbrev pub texts_behind : Manner → Description → List Told → Told → Given
+texts_behind Whole d before told = texts_of Whole d (told ∷ [])
+texts_behind (Summed size) d before told = record { out = out_told (Summed size) d (before ++ told ∷ []); err = []; log = lines_text (told ∷ []) }
 
 -- the row of a history or a counterexample is one of its horizon
 abbrev pub IsRowOfEvent : Signature → Event → List ℕ → Type 0
@@ -79,9 +84,9 @@ IsRowOfEvent signature (events.Holds horizon) row = Unit {0}
 IsRowOfEvent signature (events.Ended ending) row = Unit {0}
 
 -- what a search gives is a front of what it tells
-pub record IsTelling (task : Task) (run : Run) (given : Given) : Type 0 where
+pub record IsTelling (manner : Manner) (task : Task) (run : Run) (given : Given) : Type 0 where
   pub fair : IsFairRun task.description task.query task.ask run
-  pub out : IsPrefix given.out (out_text task.description (told_by task run))
+  pub out : IsPrefix given.out (out_told manner task.description (told_by task run))
   pub log : IsPrefix given.log (log_of (told_by task run))
   pub err : (given.err ≡ []) ⊎ ((refusal : Refusal) × PassesLimit task run refusal × IsPrefix given.err (refusal_text refusal []))
 
@@ -89,10 +94,10 @@ abbrev pub behind : (head : List ℕ) → Given → Given
 behind head given = record given { log = head ++ given.log }
 
 -- A search whose log has this head already: it tells a run up to its ending or to a limit, or it stops within.
-pub record Searches (task : Task) (head : List ℕ) (old new : Moment) (result : Result Status Stop) : Type 0 where
+pub record Searches (manner : Manner) (task : Task) (head : List ℕ) (old new : Moment) (result : Result Status Stop) : Type 0 where
   pub given : Given
   pub moves : Moves given old new result
-  pub how : MatchResult result (λ status. (run : Run) × IsTold task run (behind head given) status) (λ _. (run : Run) × IsTelling task run (behind head given))
+  pub how : MatchResult result (λ status. (run : Run) × IsTold manner task run (behind head given) status) (λ _. (run : Run) × IsTelling manner task run (behind head given))
 
 -- ---- stops
 

@@ -1,5 +1,6 @@
--- What a run works on: the description, the query and the key that its words name; and what is refused of these, in order.
-use Rattle.std.specs.Prelude.{◌≡◌, ℕ, ◌≤◌, ◌⊎◌, Bool, false, List, [], Option, Some, None, IsNone, find, option_and_then}
+-- What a run works on: the description, the query and the key that its words name, or a description that it makes; and what is
+-- refused of these, in order.
+use Rattle.std.specs.Prelude.{◌≡◌, ℕ, ◌≤◌, ◌⊎◌, Bool, false, List, [], Option, Some, None, IsNone, codes, find, option_and_then}
 use Rattle.std.specs.Option.{option_or, option_map_or}
 use Rattle.cc_asked.specs.Descriptions.{description_of, nodes_refusal}
 use Rattle.cc_defs.specs.declared.lists.Key.{Key}
@@ -14,6 +15,8 @@ use Rattle.cc_describe.specs.FirstRefusal.{declared_in, file_named, first_refusa
 use Rattle.cc_describe.specs.Places.{Files, Place, opened_in, AreAllPlaces, AreThere}
 use Rattle.cc_ground.specs.Counting.{laws_refusal}
 use Rattle.cc_laws.specs.Questions.{first, steps_refusal}
+use Rattle.cc_make.specs.Locks.{made_text}
+use Rattle.cc_make.specs.Single.{each_is}
 use Rattle.cc_print.specs.Keys.{IsKeyText}
 use Rattle.cc_words.specs.Readings.{reading}
 use Rattle.cc_words.specs.Requests.{Checking, Listing, Request, asked_of}
@@ -36,6 +39,13 @@ named_by listing = record { file = listing.file; query = listing.query; after = 
 
 abbrev pub named_in : Checking → Named
 named_in checking = record { file = checking.file; query = checking.query; after = checking.after }
+
+-- A made description of this size is read from files that are all it; it asks one query.
+abbrev pub made_files : ℕ → Files
+made_files size = each_is (made_text size)
+
+abbrev pub made_named : Named
+made_named = record { file = codes "made"; query = None; after = None }
 
 -- the description that these places make, and its queries
 abbrev pub description_in : List Place → Description

@@ -1,5 +1,5 @@
 -- What is told of one event of a search, and how a search goes on behind what it told before.
-use Rattle.std.specs.Prelude.{List, [], ◌∷◌, ◌++◌, Option, Some, None, Result, Ok, Err, MatchResult}
+use Rattle.std.specs.Prelude.{◌≡◌, List, [], ◌∷◌, ◌++◌, Option, Some, None, Result, Ok, Err, MatchResult}
 use Rattle.std.specs.List.{AllByRecursion}
 use Rattle.cc_asked.specs.Descriptions.{IsDescriptionOf}
 use Rattle.cc_defs.specs.declared.event.Event.{Event}
@@ -11,12 +11,15 @@ use Rattle.cc_defs.specs.LogTexts.{IsFormed, header}
 use Rattle.cc_defs.specs.Resolved.{Query}
 use Rattle.cc_defs.specs.Runs.{Ask, Run}
 use Rattle.cc_describe.specs.declared.description.Described.{Described}
+use Rattle.cc_print.specs.Summaries.{empty_horizons, endings_told}
 use Rattle.cc_query.specs.Accepted.{HaveGoodAxioms, lines_of}
 use Rattle.cc_query.specs.Sessions.{After, HasMore, IsSame, IsSessionOf, SessionView}
 use Rattle.cc_run.specs.declared.status.Status.{Status}
 use Rattle.cc_run.specs.declared.status.Stop.{Stop}
-use Rattle.cc_run.specs.Answers.{Given, IsTold, status_of}
-use Rattle.cc_run.specs.Stops.{IsTelling, Moment, Moves, behind, texts_of}
+use Rattle.cc_run.specs.declared.telling.Teller.{Teller}
+use Rattle.cc_run.specs.declared.telling.Teller.TheVariants as tellers
+use Rattle.cc_run.specs.Answers.{Given, IsTold, Manner, Whole, Summed, status_of}
+use Rattle.cc_run.specs.Stops.{IsTelling, Moment, Moves, behind, texts_behind, texts_of}
 use Rattle.cc_run.specs.Tasks.{Task}
 
 -- one after the other
@@ -46,42 +49,63 @@ pub record HasGoodLines (d : Description) (q : Query) (key : Option Key) (told :
   pub good : HaveGoodAxioms d q key (lines_of told)
 
 -- A search that gave this before: it tells a run up to its ending or to a limit, or it stops within.
-pub record Finishes (task : Task) (before : Given) (old new : Moment) (result : Result Status Stop) : Type 0 where
+pub record Finishes (manner : Manner) (task : Task) (before : Given) (old new : Moment) (result : Result Status Stop) : Type 0 where
   pub given : Given
   pub moves : Moves given old new result
-  pub how : MatchResult result (λ status. (run : Run) × IsTold task run (joined before given) status) (λ _. (run : Run) × IsTelling task run (joined before given))
+  pub how : MatchResult result (λ status. (run : Run) × IsTold manner task run (joined before given) status) (λ _. (run : Run) × IsTelling manner task run (joined before given))
+
+-- ---- how events are told
+
+abbrev pub manner_of : Teller → Manner
+manner_of tellers.Whole = Whole
+manner_of (tellers.Summed size outcome) = Summed size
+
+-- these events have the summary of those
+abbrev pub SumUp : List Told → List Told → Type 0
+SumUp outcome told = (empty_horizons outcome ≡ empty_horizons told) × (endings_told outcome ≡ endings_told told)
+
+-- What a teller keeps is right for the events that were told, with which the search has not ended.
+abbrev pub KeepsUp : Teller → List Told → Type 0
+KeepsUp tellers.Whole told = Unit {0}
+KeepsUp (tellers.Summed size outcome) told = SumUp outcome.items told × (endings_told told ≡ [])
 
 -- one event more of it was told
-pub record TellsOne (d : Description) (q : Query) (given : List Told) (session : SessionView) (old new : Moment) : Type 0 where
+pub record TellsOne (manner : Manner) (d : Description) (q : Query) (given : List Told) (teller : Teller) (session : SessionView) (old new : Moment) : Type 0 where
   pub told : Told
   pub is : IsSessionOf session d q
   pub after : After d q session (given ++ told ∷ [])
   pub lines : HasGoodLines d q session.ask.after (given ++ told ∷ [])
-  pub moves : Moves {X = Option Status} (texts_of d (told ∷ [])) old new (Ok None)
+  pub keeps : KeepsUp teller (given ++ told ∷ [])
+  pub moves : Moves {X = Option Status} (texts_behind manner d given told) old new (Ok None)
 
 -- behind these events a session tells the next one, or it is done
-abbrev pub GoesOn : Description → Query → List Told → SessionView → SessionView → Moment → Moment → Result (Option Status) Stop → Type 0
-GoesOn d q given session next old new (Ok None) = TellsOne d q given next old new
-GoesOn d q given session next old new (Ok (Some status)) = Finishes (task_of d q session.ask) (behind header (texts_of d given)) old new (Ok status)
-GoesOn d q given session next old new (Err stop) = Finishes (task_of d q session.ask) (behind header (texts_of d given)) old new (Err stop)
+abbrev pub GoesOn : Manner → Description → Query → List Told → Teller → SessionView → SessionView → Moment → Moment → Result (Option Status) Stop → Type 0
+GoesOn manner d q given teller session next old new (Ok None) = TellsOne manner d q given teller next old new
+GoesOn manner d q given teller session next old new (Ok (Some status)) =
+    Finishes manner (task_of d q session.ask) (behind header (texts_of manner d given)) old new (Ok status)
+GoesOn manner d q given teller session next old new (Err stop) =
+    Finishes manner (task_of d q session.ask) (behind header (texts_of manner d given)) old new (Err stop)
 
 -- the events so far were told, and nothing else was given
-pub record ListedSoFar (d : Description) (q : Query) (session : SessionView) (old new : Moment) : Type 0 where
+pub record ListedSoFar (manner : Manner) (d : Description) (q : Query) (teller : Teller) (session : SessionView) (old new : Moment) : Type 0 where
   pub given : List Told
   pub is : IsSessionOf session d q
   pub after : After d q session given
   pub lines : HasGoodLines d q session.ask.after given
-  pub moves : Moves {X = Unit {0}} (texts_of d given) old new (Ok tt)
+  pub keeps : KeepsUp teller given
+  pub moves : Moves {X = Unit {0}} (texts_of manner d given) old new (Ok tt)
 
 -- there are a description and a query of which it is a session, and events that it told
-abbrev pub IsOfSome : Described → SessionView → Type 0
-IsOfSome described session =
+abbrev pub IsOfSome : Described → Teller → SessionView → Type 0
+IsOfSome described teller session =
     (d : Description) × (q : Query) × (given : List Told) × IsDescriptionOf described d × IsSessionOf session d q × After d q session given
-    × HasGoodLines d q session.ask.after given
+    × HasGoodLines d q session.ask.after given × KeepsUp teller given
 
 -- a search that is still on
-pub record IsListing (described : Described) (entry session : SessionView) (old new : Moment) : Type 0 where
+pub record IsListing (described : Described) (manner : Manner) (entry : SessionView) (teller : Teller) (session : SessionView) (old new : Moment) : Type 0 where
+  pub manner_is : manner_of teller ≡ manner
   pub same : IsSame entry session
   pub more : HasMore session
-  pub of : IsOfSome described session
-  pub so_far : (d : Description) (q : Query) → IsDescriptionOf described d → IsSessionOf entry d q → After d q entry [] → ListedSoFar d q session old new
+  pub of : IsOfSome described teller session
+  pub so_far : (d : Description) (q : Query) → IsDescriptionOf described d → IsSessionOf entry d q → After d q entry [] →
+      ListedSoFar manner d q teller session old new

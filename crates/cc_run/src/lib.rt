@@ -4,8 +4,11 @@
 mod asking;
 mod checking;
 mod listing;
+mod making;
 mod printing;
 mod status;
+mod summing;
+mod telling;
 mod top;
 
 pub use status::Status;

@@ -1,5 +1,5 @@
 //! The top call.
-ghost use Rattle.std.specs.Prelude.{◌≡◌, ◌≢◌, ◌≤◌, List, false, map, Some, IfSome, IsSomeAnd, MatchOption, is_some, string_bytes};
+ghost use Rattle.std.specs.Prelude.{◌≡◌, ◌≢◌, ◌≤◌, List, false, map, Some, IfSome, IsSomeAnd, is_some, string_bytes};
 ghost use Rattle.cc_arena.specs.GroundViews.{plain_ground_query};
 ghost use Rattle.cc_asked.specs.Descriptions.{IsDescriptionOf};
 ghost use Rattle.cc_defs.specs.Description.{Description};
@@ -12,15 +12,17 @@ ghost use Rattle.cc_run.specs.Stops.{Begins, Prints, moment, names_log};
 ghost use Rattle.cc_run.specs.Tasks.{IsTask, named_by, request_of};
 ghost use Rattle.cc_sorts.specs.Tables.{IsSignatureFor};
 ghost use Rattle.cc_words.specs.Requests.{Listing, ToList};
-ghost use Rattle.cc_words.specs.Views.{plain_asked, plain_request};
+ghost use Rattle.cc_words.specs.Views.{plain_request};
 ghost use Rattle.cc_words.specs.declared.asked.Asked.TheVariants as requests;
 ghost use Rattle.cc_words.specs.Words.{Text};
 
 use crate::asking::{Prepared, prepare, refusal_without_place};
 use crate::checking::check_described;
 use crate::listing::list;
+use crate::making::answer_make;
 use crate::printing::{file_named, refuse, tell_stop};
 use crate::status::{Status, Stop};
+use crate::telling::Teller;
 use bumpalo::Bump;
 use cc_arena::Terms;
 use cc_defs::Fault;
@@ -64,7 +66,7 @@ fn answer<D: Desk>(alloc: Global, words: &[String], desk: &mut D) -> Result<Stat
     match read(alloc, words)? {
         Some(Asked::List(asked)) => answer_list(alloc, desk, &asked),
         Some(Asked::Check(asked)) => answer_check(alloc, desk, &asked),
-        Some(Asked::Make { .. }) => refuse(alloc, desk, &refusal_without_place(1), ""),
+        Some(Asked::Make { size, budget }) => answer_make(alloc, desk, size, budget),
         None => refuse(alloc, desk, &refusal_without_place(1), ""),
     }
 }
@@ -176,7 +178,7 @@ fn list_prepared<D: Desk>(
         budget: asked.budget,
         after: key,
     };
-    list(alloc, desk, described, &laws, query, ask)
+    list(alloc, desk, described, &laws, query, ask, Teller::Whole)
 }
 
 /// Runs over a desk that never fails: neither fault is answered, since its counts of faults stay 0.

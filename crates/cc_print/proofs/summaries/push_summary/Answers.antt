@@ -10,9 +10,9 @@ regrouped old one two three first second a b =
 pub returns : goal.returns
 returns c =
     let told = c.args.told.now in
-    subst (λ whole. OnOk c.push_ending.result (string_bytes c.push_ending.new.text ≡ whole))
+    subst (λ whole. OnOk c.push_endings.result (string_bytes c.push_endings.new.text ≡ whole))
     (regrouped (string_bytes c.args.text.now) (number_line (codes "locks") c.args.size) (number_line (codes "empty horizons") (length (empty_horizons told)))
     (flat_map (ending_lines (unwrap_or (last_or None (empty_horizons told)) 0)) (endings_told told)) (string_bytes c.push_line.new.text) (string_bytes c.push_line-2.new.text)
     (c.in_ok-push_line.ensures ∙ ap (λ number. string_bytes c.args.text.now ++ number_line (codes "locks") number) c.from.ensures)
     (c.in_ok-push_line-2.ensures ∙ ap (λ number. string_bytes c.push_line.new.text ++ number_line (codes "empty horizons") number) c.empty_count.ensures))
-    c.push_ending.ensures
+    c.push_endings.ensures

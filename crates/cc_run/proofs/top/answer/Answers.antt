@@ -3,21 +3,16 @@ use Rattle.cc_words.specs.declared.asked.Asked.TheVariants as requests
 use Rattle.cc_run.specs.Stops.{names_log}
 use Rattle.cc_run.specs.Tasks.{refusal_without_place, request_of}
 use Rattle.cc_run.proofs.Outcomes.{prints_as, prints_refusal, refused_known}
-use Rattle.cc_run.proofs.Requests.{asked_is, asked_none, listing_within, refuses_make, refuses_none}
+use Rattle.cc_run.proofs.Requests.{asked_is, asked_none, listing_within, making_within, refuses_none}
 use Rattle.cc_run.proofs.Readings.{listing_by, named_log}
 use Rattle.cc_run.proofs.top.answer.Goals as goal
 
-pub answer_list-requires-clause-count : goal.answer_list-requires-clause-count
-answer_list-requires-clause-count g c =
+pub answer_list-requires : goal.answer_list-requires
+answer_list-requires g c =
     let words = map string_bytes c.args.words.now in
     let asked = asked_is words _ _ (requests.List c.in-Some-List.asked) c.in_ok-asked.ensures.taken c.in-Some-List.is c.in-Some-List.field-0-is in
-    (listing_within words (listing_by c.in-Some-List.asked) asked).0
-
-pub answer_list-requires-clause-budget : goal.answer_list-requires-clause-budget
-answer_list-requires-clause-budget g c =
-    let words = map string_bytes c.args.words.now in
-    let asked = asked_is words _ _ (requests.List c.in-Some-List.asked) c.in_ok-asked.ensures.taken c.in-Some-List.is c.in-Some-List.field-0-is in
-    (listing_within words (listing_by c.in-Some-List.asked) asked).1
+    let within = listing_within words (listing_by c.in-Some-List.asked) asked in
+    record { count = within.0; budget = within.1 }
 
 pub returns-in-Some-List : goal.returns-in-Some-List
 returns-in-Some-List g c =
@@ -31,19 +26,23 @@ returns-in-Some-Check g c =
     let asked = asked_is words _ _ (requests.Check c.in-Some-Check.asked) c.in_ok-asked.ensures.taken c.in-Some-Check.is c.in-Some-Check.field-0-is in
     prints_as words _ _ _ _ c.answer_check.result (sym (ap names_log asked)) (c.answer_check.ensures words asked)
 
+pub answer_make-requires : goal.answer_make-requires
+answer_make-requires g c =
+    let words = map string_bytes c.args.words.now in
+    let asked = asked_is words _ _ (requests.Make c.in-Some-Make.size c.in-Some-Make.budget) c.in_ok-asked.ensures.taken c.in-Some-Make.is c.in-Some-Make.field-0-is in
+    let within = making_within words c.in-Some-Make.size c.in-Some-Make.budget asked in
+    record { size = within.0; budget = within.1 }
+
 pub returns-in-Some-Make : goal.returns-in-Some-Make
 returns-in-Some-Make g c =
     let words = map string_bytes c.args.words.now in
-    let asked = asked_is words _ _ (requests.Make c.in-Some-Make.field-0-0 c.in-Some-Make.field-0-1) c.in_ok-asked.ensures.taken c.in-Some-Make.is c.in-Some-Make.field-0-is in
-    prints_refusal words _ c.refusal_without_place.result [] _ _ c.refuse.result
-    (rw c.refusal_without_place.ensures (refused_known _ (request_of words) (refusal_without_place 1) []
-    (λ files. refuses_make files (request_of words) c.in-Some-Make.field-0-0 c.in-Some-Make.field-0-1 asked)))
-    c.refuse.ensures.told c.refuse.ensures.status
+    let asked = asked_is words _ _ (requests.Make c.in-Some-Make.size c.in-Some-Make.budget) c.in_ok-asked.ensures.taken c.in-Some-Make.is c.in-Some-Make.field-0-is in
+    prints_as words _ _ _ _ c.answer_make.result (sym (ap names_log asked)) (c.answer_make.ensures words asked)
 
 pub returns-in-None : goal.returns-in-None
 returns-in-None g c =
     let words = map string_bytes c.args.words.now in
     let none = asked_none words _ c.in_ok-asked.ensures.taken c.in-None.is in
-    prints_refusal words _ c.refusal_without_place-in-None.result [] _ _ c.refuse-in-None.result
-    (rw c.refusal_without_place-in-None.ensures (refused_known _ (request_of words) (refusal_without_place 1) [] (λ files. refuses_none files (request_of words) none)))
-    c.refuse-in-None.ensures.told c.refuse-in-None.ensures.status
+    prints_refusal words _ c.refusal_without_place.result [] _ _ c.refuse.result
+    (rw c.refusal_without_place.ensures (refused_known _ (request_of words) (refusal_without_place 1) [] (λ files. refuses_none files (request_of words) none)))
+    c.refuse.ensures.told c.refuse.ensures.status
