@@ -1,9 +1,9 @@
 #!/usr/bin/env python3
-"""Makes a book of random runs in list mode over small descriptions, for cc_rows and checks/runs.py.
+"""Makes a book of random runs in list mode over small descriptions, and in make mode, for cc_rows and checks/runs.py.
 
 A description has two to four constants with few values, some laws of each kind, and one or two queries, some with a claim; the words
 ask for a label, a number of histories, or the histories after a key. About one case in eight has words, a query or a key that is
-refused. The same number of cases and the same seed give the same book.
+refused. About one in ten asks for a made description, or nearly does. The same number of cases and the same seed give the same book.
 
 Usage: checks/random_runs.py CASES SEED      (the book goes to standard output)
 """
@@ -118,6 +118,16 @@ class Description:
         return f"{horizon}:" + ",".join(str(index) for index in indexes)
 
 
+def made_words():
+    """Words that ask for a made description, or have something that does not go with it."""
+    options = [["--mode", "make"]] if chance(0.95) else []
+    options += [["--size", random.choice(["1", "2", "3", "4", "1", "002", "0", "101", "1a", "00000001"])]] if chance(0.9) else []
+    for option, value in [("--budget", "9"), ("--query", "first"), ("--count", "1"), ("--after", "1:0,0,1"), ("--log", "l")]:
+        options += [[option, value]] if chance(0.06) else []
+    random.shuffle(options)
+    return sum(options, []) + (["f.cc"] if chance(0.1) else [])
+
+
 def case(number):
     description = Description()
     first, lo, hi = description.query("first")
@@ -138,6 +148,8 @@ def case(number):
     if chance(0.3):
         words += ["--log", "l"]
     words.append("f.cc")
+    if chance(0.1):
+        words = made_words()
     return f"=== {number}\n--- words\n" + "".join(word + "\n" for word in words) + "--- f.cc\n" + "".join(line + "\n" for line in description.lines)
 
 
