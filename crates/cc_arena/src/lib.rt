@@ -4,8 +4,6 @@
 mod ground_laws;
 pub mod laws;
 mod terms;
-#[cfg(test)]
-mod tests;
 
 pub use ground_laws::{GroundCondition, GroundLaw, GroundQuery, Laws};
 pub use terms::{Terms, one_formula, value};

@@ -19,4 +19,3 @@ mod Levelling
 mod Deriving
 mod Listing
 mod Standing
-mod Having

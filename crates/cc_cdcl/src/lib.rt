@@ -6,7 +6,5 @@ mod choice;
 pub mod laws;
 mod search;
 mod solver;
-#[cfg(test)]
-mod tests;
 
 pub use solver::{Solver, Step};

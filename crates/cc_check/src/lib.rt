@@ -9,8 +9,6 @@ mod line;
 mod number;
 mod put;
 mod sections;
-#[cfg(test)]
-mod tests;
 mod text;
 
 pub use fault::CheckFault;

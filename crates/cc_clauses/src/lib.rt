@@ -4,8 +4,6 @@
 mod arena;
 pub mod laws;
 mod resolution;
-#[cfg(test)]
-mod tests;
 
 pub use arena::ClauseArena;
 pub use resolution::{clash_on, resolve_into};

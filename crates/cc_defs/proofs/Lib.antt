@@ -1,6 +1,3 @@
 pub mod Ascending
-pub mod Deciding
-pub mod Finite
 pub mod Places
 pub mod Positions
-pub mod Telling

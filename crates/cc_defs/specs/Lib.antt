@@ -8,7 +8,6 @@ pub mod Declarations
 pub mod Description
 pub mod Environments
 pub mod Events
-pub mod Examples
 pub mod Forms
 pub mod Grammar
 pub mod GroundLaws
@@ -26,7 +25,6 @@ pub mod Rows
 pub mod Rules
 pub mod Runs
 pub mod Satisfaction
-pub mod SearchExamples
 pub mod Sections
 pub mod Signatures
 pub mod Statements

@@ -4,8 +4,6 @@
 #![tactic(auto)]
 
 mod event;
-#[cfg(test)]
-mod examples;
 mod formula;
 mod law;
 pub mod laws;
@@ -16,12 +14,8 @@ mod log;
 mod node;
 mod refusal;
 mod rows;
-#[cfg(test)]
-mod search_examples;
 mod sig;
 mod signature;
-#[cfg(test)]
-mod tests;
 mod token;
 mod tree;
 

@@ -2,7 +2,5 @@
 #![tactic(auto)]
 
 mod kernel;
-#[cfg(test)]
-mod tests;
 
 pub use kernel::{Kernel, Origin};

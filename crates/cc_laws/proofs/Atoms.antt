@@ -1,44 +1,48 @@
--- The head that a constant has a value.
-use Rattle.std.proofs.Common.{◌≡◌, ◌∙◌, ℕ, List, [], ◌∷◌, ◌++◌, map, ap, sym}
-use Rattle.std.specs.Prelude.{Some}
+-- The head that a constant has a value, by its term with numbers in place of names.
+use Rattle.std.proofs.Common.{◌≡◌, ◌∙◌, ℕ, List, [], ◌∷◌, ◌++◌, map, refl, ap, sym}
+use Rattle.std.specs.Prelude.{Option, Some, None}
 use Rattle.std.proofs.lemmas.List.{map-append}
+use Rattle.std.specs.Global.{Vec}
 use Rattle.cc_defs.specs.declared.formula.Term as kept
 use Rattle.cc_defs.specs.declared.law.Head.{Head as HeadTree}
 use Rattle.cc_defs.specs.declared.law.Head.TheVariants as heads
-use Rattle.cc_defs.specs.declared.signature.Symbol.{Symbol}
-use Rattle.cc_defs.specs.declared.tree.TermTree.{TermTree, out-TermTree}
-use Rattle.cc_defs.specs.Resolved.{Term, Terms, Head, Atom, plain_head}
+use Rattle.cc_defs.specs.Resolved.{Term, Terms, Head, Atom, plain_head, plain_term}
 use Rattle.cc_defs.specs.Resolved as resolved
-use Rattle.cc_defs.specs.Trees.{plain_term}
-use Rattle.cc_laws.specs.Heads.{atom, atom_meant, both_heads}
-use Rattle.cc_laws.specs.Resolving.{Binding, resolve_terms}
-use Rattle.cc_laws.specs.Views.{plain_terms, row_terms}
-use Rattle.cc_laws.specs.Vocabulary.{Vocabulary, Meaning, Constant, meaning}
-use Rattle.cc_laws.proofs.Mentions.{plain_parts}
+use Rattle.cc_defs.specs.Trees.{PlainTerm, Applied}
+use Rattle.cc_laws.specs.Heads.{listed, atom, atom_meant, both_heads}
+use Rattle.cc_laws.specs.Resolving.{Binding, number_in, variable_at, term_meant, resolve_term, resolve_terms}
+use Rattle.cc_laws.specs.Vocabulary.{Vocabulary, Meaning, Unknown, Nothing, Object, Variable, Constant, meaning}
+use Rattle.cc_laws.proofs.ActionNames.{plain_constant}
 use Rattle.cc_laws.proofs.Rows.{listed_rows}
 
--- by the name and the arguments of its term
-pub atom_parts : (v : Vocabulary) (scope : List Binding) (term : TermTree) (value : Term) →
-    atom v scope (plain_term term) value
-    ≡ atom_meant (meaning v (out-TermTree term).name.now) (resolve_terms v scope (plain_terms (out-TermTree term).args.items)) value
-atom_parts v scope term value = ap (λ plain. atom v scope plain value) (plain_parts term)
+abbrev pub atom_by : Term → Term → Option (List Head)
+atom_by (resolved.Constant number args) value = Some (Atom number (listed args) value ∷ [])
+atom_by term value = None
 
-made_atom : (v : Vocabulary) (scope : List Binding) (term : TermTree) (value : Term) (number : ℕ) (symbol : Symbol) (args : List kept.Term) →
-    Constant number symbol ≡ meaning v (out-TermTree term).name.now →
-    row_terms args ≡ resolve_terms v scope (plain_terms (out-TermTree term).args.items) →
-    Some (Atom number (map resolved.plain_term args) value ∷ []) ≡ atom v scope (plain_term term) value
-made_atom v scope term value number symbol args means made =
-    ap (λ (l : List Term). Some (Atom number l value ∷ [])) (sym (listed_rows args))
-    ∙ ap (λ (m : Meaning). atom_meant m (row_terms args) value) means
-    ∙ ap (λ (l : Terms). atom_meant (meaning v (out-TermTree term).name.now) l value) made
-    ∙ sym (atom_parts v scope term value)
+no_atom : (number : Option ℕ) (value : Term) → atom_by (variable_at number) value ≡ None
+no_atom (Some number) value = refl
+no_atom None value = refl
 
-pub atom_added : (v : Vocabulary) (scope : List Binding) (term : TermTree) (value : kept.Term) (number : ℕ) (symbol : Symbol) (args : List kept.Term) (old new : List HeadTree) →
-    Constant number symbol ≡ meaning v (out-TermTree term).name.now →
-    row_terms args ≡ resolve_terms v scope (plain_terms (out-TermTree term).args.items) →
-    new ≡ old ++ heads.Atom number args value ∷ [] →
-    Some (map plain_head new) ≡ both_heads (Some (map plain_head old)) (atom v scope (plain_term term) (resolved.plain_term value))
-atom_added v scope term value number symbol args old new means made push =
+atom_of : (scope : List Binding) (means : Meaning) (args : Terms) (value : Term) → atom_by (term_meant scope means args) value ≡ atom_meant means args value
+atom_of scope Unknown args value = refl
+atom_of scope Nothing args value = refl
+atom_of scope (Object number sort) args value = refl
+atom_of scope (Variable number sort) args value = no_atom (number_in scope number) value
+atom_of scope (Constant number symbol) args value = refl
+
+atom_is : (v : Vocabulary) (scope : List Binding) (term : PlainTerm) (value : Term) → atom_by (resolve_term v scope term) value ≡ atom v scope term value
+atom_is v scope (Applied name args) value = atom_of scope (meaning v name) (resolve_terms v scope args) value
+
+pub atom_added : (v : Vocabulary) (scope : List Binding) (term : PlainTerm) (value made : kept.Term) (symbol : ℕ) (args : Vec kept.Term) (given : List kept.Term) (old new : List HeadTree) →
+    made ≡ kept.Constant symbol args → plain_term made ≡ resolve_term v scope term → given ≡ args.items →
+    new ≡ old ++ heads.Atom symbol given value ∷ [] →
+    Some (map plain_head new) ≡ both_heads (Some (map plain_head old)) (atom v scope term (plain_term value))
+atom_added v scope term value made symbol args given old new is e same push =
+    let one = plain_term value in
     ap (λ (l : List HeadTree). Some (map plain_head l)) push
-    ∙ ap Some (map-append plain_head old (heads.Atom number args value ∷ []))
-    ∙ ap (both_heads (Some (map plain_head old))) (made_atom v scope term (resolved.plain_term value) number symbol args means made)
+    ∙ ap Some (map-append plain_head old (heads.Atom symbol given value ∷ []))
+    ∙ ap (both_heads (Some (map plain_head old)))
+    (ap (λ (l : List kept.Term). Some (Atom symbol (map plain_term l) one ∷ [])) same
+    ∙ ap (λ (l : List Term). Some (Atom symbol l one ∷ [])) (sym (listed_rows args.items))
+    ∙ ap (λ (t : Term). atom_by t one) (sym (plain_constant symbol args) ∙ ap plain_term (sym is) ∙ e)
+    ∙ atom_is v scope term one)

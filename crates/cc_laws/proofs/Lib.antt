@@ -12,6 +12,7 @@ pub mod FormsOfLaws
 pub mod FormsOfSplits
 pub mod FormsOfValues
 pub mod Gathered
+pub mod HeadLaws
 pub mod HeadSymbols
 pub mod HeadTests
 pub mod ItemLaws
@@ -21,6 +22,7 @@ pub mod MoreSymbols
 pub mod QueryForms
 pub mod Rows
 pub mod Scopes
+pub mod Shortened
 pub mod SymbolsMeant
 pub mod TermRows
 pub mod TreeSizes

@@ -7,5 +7,6 @@ pub mod Laws
 pub mod Leaves
 pub mod Questions
 pub mod Resolving
+pub mod Shortened
 pub mod Views
 pub mod Vocabulary

@@ -122,7 +122,7 @@ persistence_of kept_persistences.Rigid = Rigid
 abbrev pub frame_of : KeptFrame → Frame
 frame_of frame = record {
   ranges = frame.ranges.items;
-  test = plain_formula frame.test;
+  test = plain_formula frame.test.value;
   scope = scope_of frame.names;
   next = frame.names.next;
   file = frame.file;

@@ -52,7 +52,7 @@ fn formulas_fail(table: &Table, check: Check, law: &LawTree<'_>) -> bool
             formula_fails(table, check, first)
                 || (formula_fails(table, check, second) || part_fails(table, check, body))
         }
-        LawTree::Exogenous(_) | LawTree::Inertial(_) | LawTree::NoConcurrency => false,
+        _ => false,
     }
 }
 
@@ -62,14 +62,7 @@ fn subject<'t, 's>(law: &'t LawTree<'s>) -> Option<&'t TermTree<'s>>
 {
     match law {
         LawTree::Exogenous(constant) | LawTree::Inertial(constant) => Some(constant),
-        LawTree::Caused(..)
-        | LawTree::Constraint(_)
-        | LawTree::Always(_)
-        | LawTree::Nonexecutable(..)
-        | LawTree::Default(..)
-        | LawTree::Causes(..)
-        | LawTree::MayCause(..)
-        | LawTree::NoConcurrency => None,
+        _ => None,
     }
 }
 
@@ -189,22 +182,8 @@ pub(crate) fn law_variables(
     firsts(alloc, &found)
 }
 
-/// Whether a `where` test has a variable that is not free in the law before it.
+/// Whether a `where` test, which may be missing, has a variable that is not free in the law before it.
 fn has_unbound(
-    alloc: Global,
-    table: &Table,
-    law: &LawTree<'_>,
-    test: &Tree<'_>,
-) -> Result<bool, OutOfMemory>
-    ensures { IfOk result (λ unbound. unbound ≡ faults.has_unbound (vocabulary_of table.now) (faults.law_variables (vocabulary_of table.now) (plain_law law.now)) (plain_tree test.now)) }
-{
-    let variables = law_variables(alloc, table, law)?;
-    let used = free_in(alloc, table, test)?;
-    Ok(some_is_new(&used, &variables))
-}
-
-/// The same where there may be no test.
-fn has_unbound_part(
     alloc: Global,
     table: &Table,
     law: &LawTree<'_>,
@@ -212,10 +191,12 @@ fn has_unbound_part(
 ) -> Result<bool, OutOfMemory>
     ensures { IfOk result (λ unbound. unbound ≡ list_any (faults.has_unbound (vocabulary_of table.now) (faults.law_variables (vocabulary_of table.now) (plain_law law.now))) (optional (option_map plain_tree test.now))) }
 {
-    match test {
-        Some(test) => has_unbound(alloc, table, law, test),
-        None => Ok(false),
-    }
+    let Some(test) = test else {
+        return Ok(false);
+    };
+    let variables = law_variables(alloc, table, law)?;
+    let used = free_in(alloc, table, test)?;
+    Ok(some_is_new(&used, &variables))
 }
 
 /// The least number of a fault of a law, if it has one.
@@ -236,7 +217,7 @@ fn law_fault(
     if law_misfits(table, law, test) {
         return Ok(Some(7));
     }
-    if has_unbound_part(alloc, table, law, test)? {
+    if has_unbound(alloc, table, law, test)? {
         return Ok(Some(8));
     }
     if lacks_form(table, law) {
@@ -257,12 +238,7 @@ fn part_fault(alloc: Global, table: &Table, part: &Part<'_>) -> Result<Option<u8
 {
     match part {
         Part::Law(law, test) => law_fault(alloc, table, law, test),
-        Part::Sorts(_)
-        | Part::Objects(_)
-        | Part::Variables(_)
-        | Part::Constants(_)
-        | Part::Query(_)
-        | Part::Include(_) => Ok(None),
+        _ => Ok(None),
     }
 }
 

@@ -37,7 +37,7 @@ fn is_value(term: &Term) -> bool
 {
     match term {
         Term::Constant { .. } => false,
-        Term::Object(_) | Term::Variable(_) | Term::Nothing => true,
+        _ => true,
     }
 }
 

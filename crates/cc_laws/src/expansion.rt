@@ -1,5 +1,5 @@
 //! The base laws that a statement stands for.
-ghost use Rattle.std.specs.Prelude.{◌≡◌, ◌+◌, ◌++◌, ◌∷◌, ◌<◌, ◌&&◌, List as Items, [], length, map, flat_map, is_none, IfOk, IfErr, OnOk};
+ghost use Rattle.std.specs.Prelude.{◌≡◌, ◌+◌, ◌++◌, ◌∷◌, ◌<◌, ◌&&◌, if◌then◌else◌, List as Items, [], length, map, flat_map, Some, is_none, IfOk, IfErr, OnOk};
 ghost use Rattle.std.specs.Option.{option_map};
 ghost use Rattle.cc_defs.specs.Declarations.{Declaration as Declared};
 ghost use Rattle.cc_defs.specs.Refusals.{IsRefusedBy};
@@ -9,7 +9,8 @@ ghost use Rattle.cc_defs.specs.Trees.{plain_const_item, plain_kind, plain_law, p
 ghost use Rattle.cc_laws.specs.Expansion as words;
 ghost use Rattle.cc_laws.specs.Expansion.{Expands};
 ghost use Rattle.cc_laws.specs.LawFaults.{law_refusal};
-ghost use Rattle.cc_laws.specs.Resolving.{alone};
+ghost use Rattle.cc_laws.specs.Resolving.{alone, numbered_from, resolve};
+ghost use Rattle.cc_laws.specs.Shortened.{law_short_for, other_laws as laws_of_others};
 ghost use Rattle.cc_laws.specs.Views.{frame_from, frame_of, head_piece, persistence_of, plain_caused, plain_meaning, plain_piece, row_terms, scope_of};
 ghost use Rattle.cc_laws.specs.Vocabulary.{vocabulary, vocabulary_of};
 ghost use Rattle.cc_sorts.specs.Tables.{IsTable};
@@ -21,8 +22,8 @@ use crate::meaning::{Meaning, meaning_of};
 use crate::mention::Property;
 use crate::names::{Names, names_of};
 use crate::pieces::{Caused, HeadPiece, Piece, effect, law_of, resolve_piece};
-use crate::resolving::{Joint, join, negated, resolve_terms};
-use crate::values::{Frame, Persistence, base_law, value_law};
+use crate::resolving::{negated, resolve_term};
+use crate::values::{Frame, Parts, Persistence, base_law, equation_of, value_law};
 use cc_defs::{
     BaseLaw, BaseLaws, ConstItem, Fault, Formula, Head, KindTree, KindWord, LawTree, List,
     OutOfMemory, Part, Range, Statement, Term, TermTree, Tree,
@@ -86,7 +87,7 @@ fn law_frame(alloc: Global, table: &Table, source: Source<'_, '_>) -> Result<Fra
     let test = written(alloc, table, &mut names, Piece::Maybe(source.test))?;
     Ok(Frame {
         ranges,
-        test,
+        test: Box::new(alloc, test)?,
         names,
         file: source.file,
         line: source.line,
@@ -102,29 +103,13 @@ fn is_missing(piece: Piece<'_, '_>) -> bool
     }
 }
 
-/// Whether a head has an action.
-fn head_acts(table: &Table, head: HeadPiece<'_, '_>) -> bool
-    ensures { result ≡ words.part_acts (vocabulary_of table.now) (head_piece head.entry) }
-{
-    match head {
-        HeadPiece::Falsity => false,
-        HeadPiece::One(formula) => has(table, Property::Action, formula),
-    }
-}
-
 /// Whether a law denies a step where a part of its head is `false`. It goes through the whole head: asked once for a law.
 fn denies(table: &Table, law: Caused<'_, '_>) -> bool
     ensures { result ≡ is_none (plain_caused law.entry).after && words.part_acts (vocabulary_of table.now) (plain_caused law.entry).head }
 {
-    is_missing(law.after) && head_acts(table, law.head)
-}
-
-fn is_falsity_head(head: &Head) -> bool
-    ensures { result ≡ words.is_falsity_head (plain_head head.now) }
-{
-    match head {
-        Head::Falsity => true,
-        Head::Atom { .. } => false,
+    match law.head {
+        HeadPiece::Falsity => false,
+        HeadPiece::One(formula) => is_missing(law.after) && has(table, Property::Action, formula),
     }
 }
 
@@ -132,37 +117,60 @@ fn is_falsity_head(head: &Head) -> bool
 fn denies_step(denying: bool, head: &Head) -> bool
     ensures { result ≡ denying && words.is_falsity_head (plain_head head.now) }
 {
-    denying && is_falsity_head(head)
+    match head {
+        Head::Falsity => denying,
+        Head::Atom { .. } => false,
+    }
+}
+
+/// The parts of a base law that denies a step or not.
+fn law_parts(
+    alloc: Global,
+    table: &Table,
+    names: &mut Names,
+    law: Caused<'_, '_>,
+    denied: bool,
+) -> Result<Parts, OutOfMemory>
+    ensures body { IfOk result (λ made. plain_formula made.body ≡ (if denied then resolved.Truth else words.part (vocabulary_of table.now) (scope_of names.old) names.old.next (plain_caused law.entry).body)) }
+    ensures after { IfOk result (λ made. option_map plain_formula made.after ≡ (if denied then Some (words.part (vocabulary_of table.now) (scope_of names.old) names.old.next (plain_caused law.entry).body) else option_map (resolve (vocabulary_of table.now) (scope_of names.old) (names.old.next + words.part_brackets (plain_caused law.entry).body)) (plain_caused law.entry).after)) }
+{
+    let body = written(alloc, table, names, law.body)?;
+    if denied {
+        return Ok(Parts {
+            body: Formula::True,
+            after: Some(body),
+        });
+    }
+    let after = resolve_piece(alloc, table, names, law.after)?;
+    Ok(Parts { body, after })
 }
 
 /// The base law of a part of a head.
 fn law_for(
     alloc: Global,
     table: &Table,
-    mut frame: Frame,
+    source: Source<'_, '_>,
     law: Caused<'_, '_>,
     denying: bool,
     head: Head,
 ) -> Result<BaseLaw, OutOfMemory>
     requires { denying ≡ is_none (plain_caused law).after && words.part_acts (vocabulary_of table.now) (plain_caused law).head }
-    ensures { IfOk result (λ made. plain_base_law made ≡ words.law_for (vocabulary_of table.now) (frame_of frame) (plain_caused law.entry) (plain_head head)) }
+    ensures { IfOk result (λ made. plain_base_law made ≡ words.law_for (vocabulary_of table.now) (frame_from (vocabulary_of table.now) source.entry) (plain_caused law.entry) (plain_head head)) }
 {
-    let body = written(alloc, table, &mut frame.names, law.body)?;
-    if denies_step(denying, &head) {
-        return Ok(base_law(table, frame, head, Formula::True, Some(body)));
-    }
-    let after = resolve_piece(alloc, table, &mut frame.names, law.after)?;
-    Ok(base_law(table, frame, head, body, after))
+    let denied = denies_step(denying, &head);
+    let mut frame = law_frame(alloc, table, source)?;
+    let parts = law_parts(alloc, table, &mut frame.names, law, denied)?;
+    Ok(base_law(table, frame, head, parts.body, parts.after))
 }
 
-/// The parts of a head.
+/// The parts of the head of a law with these variables.
 fn head_parts(
     alloc: Global,
     table: &Table,
-    names: &Names,
+    variables: &[u32],
     head: HeadPiece<'_, '_>,
 ) -> Result<Vec<Head>, OutOfMemory>
-    ensures { IfOk result (λ found. map plain_head found.items ≡ words.head_parts (vocabulary_of table.now) (scope_of names.now) (head_piece head.entry)) }
+    ensures { IfOk result (λ found. map plain_head found.items ≡ words.head_parts (vocabulary_of table.now) (numbered_from 0 variables.now) (head_piece head.entry)) }
 {
     match head {
         HeadPiece::Falsity => {
@@ -170,7 +178,10 @@ fn head_parts(
             found.push(Head::Falsity)?;
             Ok(found)
         }
-        HeadPiece::One(formula) => heads_of(alloc, table, names, formula),
+        HeadPiece::One(formula) => {
+            let names = names_of(alloc, variables)?;
+            heads_of(alloc, table, &names, formula)
+        }
     }
 }
 
@@ -183,13 +194,11 @@ fn split(
 ) -> Result<Vec<BaseLaw>, OutOfMemory>
     ensures { IfOk result (λ made. map plain_base_law made.items ≡ words.split (vocabulary_of table.now) (frame_from (vocabulary_of table.now) source.entry) (plain_caused law.entry)) }
 {
-    let names = names_of(alloc, source.variables)?;
-    let heads = head_parts(alloc, table, &names, law.head)?;
+    let heads = head_parts(alloc, table, source.variables, law.head)?;
     let denying = denies(table, law);
     let mut made = Vec::with_capacity(alloc, heads.len())?;
     for head in heads {
-        let frame = law_frame(alloc, table, source)?;
-        made.push(law_for(alloc, table, frame, law, denying, head)?)?;
+        made.push(law_for(alloc, table, source, law, denying, head)?)?;
     }
     Ok(made)
 }
@@ -204,7 +213,6 @@ fn only(alloc: Global, law: BaseLaw) -> Result<Vec<BaseLaw>, OutOfMemory>
 }
 
 /// The base law of what is exogenous or inertial.
-#[tactic(auto, using(crate::proofs::Expanded::subject_parts))]
 fn subject_laws(
     alloc: Global,
     table: &Table,
@@ -214,25 +222,50 @@ fn subject_laws(
 ) -> Result<Vec<BaseLaw>, OutOfMemory>
     ensures { IfOk result (λ made. map plain_base_law made.items ≡ words.subject_laws (vocabulary_of table.now) (frame_from (vocabulary_of table.now) source.entry) (persistence_of persistence) (plain_term constant.now)) }
 {
-    let Meaning::Constant(symbol, _) = meaning_of(table, constant.name) else {
-        return Ok(Vec::new(alloc));
-    };
     let frame = law_frame(alloc, table, source)?;
-    let args = resolve_terms(alloc, table, &frame.names, &constant.args)?;
-    only(
-        alloc,
-        value_law(alloc, table, frame, persistence, symbol, args)?,
-    )
+    match resolve_term(alloc, table, &frame.names, constant)? {
+        Term::Constant { symbol, args } => {
+            let law = value_law(alloc, table, frame, persistence, symbol, args)?;
+            only(alloc, law)
+        }
+        _ => Ok(Vec::new(alloc)),
+    }
 }
 
-/// The base laws of a law.
-fn laws_with(
+/// The law `caused F if G after H` that a law is short for, if it is short for one.
+fn short_for<'t, 's>(table: &Table, law: &'t LawTree<'s>) -> Option<Caused<'t, 's>>
+    ensures { option_map plain_caused result ≡ law_short_for (vocabulary_of table.now) (plain_law law.now) }
+{
+    match law {
+        LawTree::Caused(f, g, h) => {
+            Some(law_of(HeadPiece::One(f), Piece::Maybe(g), Piece::Maybe(h)))
+        }
+        LawTree::Constraint(f) => {
+            Some(law_of(HeadPiece::Falsity, Piece::Denied(f), Piece::Missing))
+        }
+        LawTree::Always(f) => { Some(law_of(HeadPiece::Falsity, Piece::Missing, Piece::Denied(f))) }
+        LawTree::Nonexecutable(f, g) => {
+            Some(law_of(HeadPiece::Falsity, Piece::Missing, Piece::Both(f, g)))
+        }
+        LawTree::Default(f, g, h) => {
+            Some(law_of(HeadPiece::One(f), Piece::Both(f, g), Piece::Maybe(h)))
+        }
+        LawTree::Causes(a, f, g) => Some(effect(is_fluent_formula(table, f), a, f, g)),
+        LawTree::MayCause(a, f, g) => {
+            Some(law_of(HeadPiece::One(f), Piece::One(f), Piece::Both(a, g)))
+        }
+        _ => None,
+    }
+}
+
+/// The base laws of a law that is short for none.
+fn other_laws(
     alloc: Global,
     table: &Table,
     source: Source<'_, '_>,
     law: &LawTree<'_>,
 ) -> Result<Vec<BaseLaw>, OutOfMemory>
-    ensures { IfOk result (λ made. map plain_base_law made.items ≡ words.laws_with (vocabulary_of table.now) (frame_from (vocabulary_of table.now) source.entry) (plain_law law.now)) }
+    ensures { IfOk result (λ made. map plain_base_law made.items ≡ laws_of_others (vocabulary_of table.now) (frame_from (vocabulary_of table.now) source.entry) (plain_law law.now)) }
 {
     match law {
         LawTree::Exogenous(constant) => {
@@ -245,34 +278,22 @@ fn laws_with(
             let (file, line) = (source.file, source.line);
             only(alloc, BaseLaw::NoConcurrency { file, line })
         }
-        LawTree::Caused(f, g, h) => {
-            let short = law_of(HeadPiece::One(f), Piece::Maybe(g), Piece::Maybe(h));
-            split(alloc, table, source, short)
-        }
-        LawTree::Constraint(f) => {
-            let short = law_of(HeadPiece::Falsity, Piece::Denied(f), Piece::Missing);
-            split(alloc, table, source, short)
-        }
-        LawTree::Always(f) => {
-            let short = law_of(HeadPiece::Falsity, Piece::Missing, Piece::Denied(f));
-            split(alloc, table, source, short)
-        }
-        LawTree::Nonexecutable(f, g) => {
-            let short = law_of(HeadPiece::Falsity, Piece::Missing, Piece::Both(f, g));
-            split(alloc, table, source, short)
-        }
-        LawTree::Default(f, g, h) => {
-            let short = law_of(HeadPiece::One(f), Piece::Both(f, g), Piece::Maybe(h));
-            split(alloc, table, source, short)
-        }
-        LawTree::Causes(a, f, g) => {
-            let short = effect(is_fluent_formula(table, f), a, f, g);
-            split(alloc, table, source, short)
-        }
-        LawTree::MayCause(a, f, g) => {
-            let short = law_of(HeadPiece::One(f), Piece::One(f), Piece::Both(a, g));
-            split(alloc, table, source, short)
-        }
+        _ => Ok(Vec::new(alloc)),
+    }
+}
+
+/// The base laws of a law.
+fn laws_with(
+    alloc: Global,
+    table: &Table,
+    source: Source<'_, '_>,
+    law: &LawTree<'_>,
+) -> Result<Vec<BaseLaw>, OutOfMemory>
+    ensures { IfOk result (λ made. map plain_base_law made.items ≡ words.laws_with (vocabulary_of table.now) (frame_from (vocabulary_of table.now) source.entry) (plain_law law.now)) }
+{
+    match short_for(table, law) {
+        Some(short) => split(alloc, table, source, short),
+        None => other_laws(alloc, table, source, law),
     }
 }
 
@@ -324,7 +345,7 @@ fn shape_frame(alloc: Global, file: u32, line: u32, sorts: &[u32]) -> Result<Fra
     };
     Ok(Frame {
         ranges,
-        test: Formula::True,
+        test: Box::new(alloc, Formula::True)?,
         names,
         file,
         line,
@@ -344,8 +365,8 @@ fn shape_law(
     requires { length sorts.now < 4000000000 }
     ensures { IfOk result (λ made. plain_base_law made ≡ words.value_law (vocabulary_of table.now) (words.shape_frame file line sorts.now) (persistence_of persistence) number (words.places 0 sorts.now)) }
 {
-    let frame = shape_frame(alloc, file, line, sorts)?;
     let args = places(alloc, sorts)?;
+    let frame = shape_frame(alloc, file, line, sorts)?;
     value_law(alloc, table, frame, persistence, number, args)
 }
 
@@ -355,23 +376,23 @@ fn equation(alloc: Global, symbol: u32, sorts: &[u32], value: Term) -> Result<Fo
     ensures { IfOk result (λ made. plain_formula made ≡ resolved.Equal (resolved.Constant symbol (words.places 0 sorts.now)) (resolved.plain_term value)) }
 {
     let args = places(alloc, sorts)?;
-    Ok(Formula::Equal(Term::Constant { symbol, args }, value))
+    Ok(equation_of(symbol, args, value))
 }
 
-/// That an attribute is `none` exactly where its action is not done.
-fn none_where_undone(
+/// The denial that an attribute is `none` exactly where its action is not done.
+fn denied_attribute(
     alloc: Global,
     number: u32,
     action: u32,
     sorts: &[u32],
 ) -> Result<Formula, OutOfMemory>
     requires { length sorts.now < 4000000000 }
-    ensures { IfOk result (λ made. plain_formula made ≡ resolved.Same (resolved.Equal (resolved.Constant number (words.places 0 sorts.now)) resolved.Nothing) (resolved.Not (alone (resolved.Constant action (words.places 0 sorts.now))))) }
+    ensures { IfOk result (λ made. plain_formula made ≡ resolved.Not (resolved.Same (resolved.Equal (resolved.Constant number (words.places 0 sorts.now)) resolved.Nothing) (resolved.Not (alone (resolved.Constant action (words.places 0 sorts.now)))))) }
 {
     let done = equation(alloc, action, sorts, Term::Object(1))?;
-    let denied = negated(alloc, done)?;
-    let none = equation(alloc, number, sorts, Term::Nothing)?;
-    join(alloc, Joint::Same, none, denied)
+    let denied = Box::new(alloc, negated(alloc, done)?)?;
+    let none = Box::new(alloc, equation(alloc, number, sorts, Term::Nothing)?)?;
+    negated(alloc, Formula::Same(none, denied))
 }
 
 /// The law that denies a step where an attribute is not `none` exactly where its action is not done.
@@ -388,8 +409,7 @@ fn attribute_law(
     ensures { IfOk result (λ made. plain_base_law made ≡ words.attribute_law (vocabulary_of table.now) (words.shape_frame file line sorts.now) number action (words.places 0 sorts.now)) }
 {
     let frame = shape_frame(alloc, file, line, sorts)?;
-    let same = none_where_undone(alloc, number, action, sorts)?;
-    let differ = negated(alloc, same)?;
+    let differ = denied_attribute(alloc, number, action, sorts)?;
     Ok(base_law(table, frame, Head::Falsity, Formula::True, Some(differ)))
 }
 
@@ -401,7 +421,7 @@ fn persistence_for(word: KindWord) -> Option<Persistence>
         KindWord::Inertial => Some(Persistence::Inertial),
         KindWord::ExogenousAction => Some(Persistence::Exogenous),
         KindWord::Rigid => Some(Persistence::Rigid),
-        KindWord::Simple | KindWord::Determined | KindWord::Action => None,
+        _ => None,
     }
 }
 
@@ -533,11 +553,7 @@ fn base_laws(
     match part {
         Part::Law(law, test) => laws_in(alloc, file, table, line, law, test),
         Part::Constants(items) => declared_laws(alloc, file, table, line, items.items()),
-        Part::Sorts(_)
-        | Part::Objects(_)
-        | Part::Variables(_)
-        | Part::Query(_)
-        | Part::Include(_) => Ok(Vec::new(alloc)),
+        _ => Ok(Vec::new(alloc)),
     }
 }
 

@@ -77,7 +77,7 @@ pub(crate) fn lacks_form(table: &Table, law: &LawTree<'_>) -> bool
         LawTree::MayCause(actions, head, _) => {
             !is_action_formula(table, actions) || !is_fluent_formula(table, head)
         }
-        LawTree::Always(_) | LawTree::Exogenous(_) | LawTree::NoConcurrency => false,
+        _ => false,
     }
 }
 
@@ -103,11 +103,7 @@ pub(crate) fn has_determined_head(table: &Table, law: &LawTree<'_>) -> bool
         LawTree::Causes(_, head, _) | LawTree::MayCause(_, head, _) => {
             has(table, Property::Determined, head)
         }
-        LawTree::Constraint(_)
-        | LawTree::Always(_)
-        | LawTree::Nonexecutable(..)
-        | LawTree::Exogenous(_)
-        | LawTree::NoConcurrency => false,
+        _ => false,
     }
 }
 
@@ -120,11 +116,6 @@ pub(crate) fn has_indefinite_head(table: &Table, law: &LawTree<'_>) -> bool
         | LawTree::Default(head, _, _)
         | LawTree::Causes(_, head, _)
         | LawTree::MayCause(_, head, _) => !is_definite(table, head),
-        LawTree::Constraint(_)
-        | LawTree::Always(_)
-        | LawTree::Nonexecutable(..)
-        | LawTree::Exogenous(_)
-        | LawTree::Inertial(_)
-        | LawTree::NoConcurrency => false,
+        _ => false,
     }
 }

@@ -5,35 +5,25 @@ ghost use Rattle.cc_defs.specs.Trees.{plain_term, plain_tree, Bare as bare, Equa
 ghost use Rattle.cc_laws.specs.Heads as words;
 ghost use Rattle.cc_laws.specs.Heads.{both_heads, only_if};
 ghost use Rattle.cc_laws.specs.Resolving as resolving;
-ghost use Rattle.cc_laws.specs.Views.{plain_meaning, scope_of};
+ghost use Rattle.cc_laws.specs.Views.{scope_of};
 ghost use Rattle.cc_laws.specs.Vocabulary.{vocabulary_of};
 
 use crate::heads::{compares_boolean, is_boolean_term, is_constant_term, is_falsity_term};
-use crate::meaning::{Meaning, meaning_of, meaning_of_term};
+use crate::meaning::{Meaning, meaning_of_term};
 use crate::names::Names;
-use crate::resolving::{resolve_term, resolve_terms};
+use crate::resolving::resolve_term;
 use cc_defs::{Head, List, OutOfMemory, Term, TermTree, Tree};
 use cc_sorts::Table;
 use std::alloc::Global;
 
 /// The other one of `false` and `true`.
-fn opposite_of(value: &Meaning<'_>) -> Term
-    ensures { resolved_term result ≡ words.opposite_of (plain_meaning value.now) }
-{
-    match value {
-        Meaning::Object(0, _) => Term::Object(1),
-        Meaning::Object(..)
-        | Meaning::Unknown
-        | Meaning::Nothing
-        | Meaning::Variable(..)
-        | Meaning::Constant(..) => Term::Object(0),
-    }
-}
-
 fn opposite(table: &Table, value: &TermTree<'_>) -> Term
     ensures { resolved_term result ≡ words.opposite (vocabulary_of table.now) (plain_term value.now) }
 {
-    opposite_of(&meaning_of_term(table, value))
+    match meaning_of_term(table, value) {
+        Meaning::Object(0, _) => Term::Object(1),
+        _ => Term::Object(0),
+    }
 }
 
 /// Adds the head that a constant has a value; answers whether the term is a constant.
@@ -47,16 +37,18 @@ fn add_atom(
 ) -> Result<bool, OutOfMemory>
     ensures { IfOk result (λ definite. only_if definite (Some (map plain_head found.new.items)) ≡ both_heads (Some (map plain_head found.old.items)) (words.atom (vocabulary_of table.now) (scope_of names.now) (plain_term constant.now) (resolved_term value))) }
 {
-    let Meaning::Constant(symbol, _) = meaning_of(table, constant.name) else {
-        return Ok(false);
-    };
-    let args = List::of(resolve_terms(alloc, table, names, &constant.args)?);
-    found.push(Head::Atom {
-        symbol,
-        args,
-        value,
-    })?;
-    Ok(true)
+    match resolve_term(alloc, table, names, constant)? {
+        Term::Constant { symbol, args } => {
+            let args = List::of(args);
+            found.push(Head::Atom {
+                symbol,
+                args,
+                value,
+            })?;
+            Ok(true)
+        }
+        _ => Ok(false),
+    }
 }
 
 /// Adds the head of a term alone: falsity, or that a Boolean constant is true.
@@ -183,14 +175,7 @@ fn add_denied(
         Tree::Bare(term) => add_denied_term(alloc, table, names, term, found),
         Tree::Equal(left, right) => add_denied_equation(alloc, table, names, left, right, found),
         Tree::Paren(inner) => add_denied(alloc, table, names, inner, found),
-        Tree::Differ(..)
-        | Tree::Not(..)
-        | Tree::Both(..)
-        | Tree::Either(..)
-        | Tree::Implies(..)
-        | Tree::Same(..)
-        | Tree::ForAll(..)
-        | Tree::Exists(..) => Ok(false),
+        _ => Ok(false),
     }
 }
 
@@ -217,11 +202,7 @@ fn add_heads(
                 Ok(false)
             }
         }
-        Tree::Either(..)
-        | Tree::Implies(..)
-        | Tree::Same(..)
-        | Tree::ForAll(..)
-        | Tree::Exists(..) => Ok(false),
+        _ => Ok(false),
     }
 }
 

@@ -87,14 +87,7 @@ fn is_deniable(table: &Table, formula: &Tree<'_>) -> bool
         Tree::Bare(term) => is_deniable_term(table, term),
         Tree::Equal(left, right) => is_deniable_equation(table, left, right),
         Tree::Paren(inner) => is_deniable(table, inner),
-        Tree::Differ(..)
-        | Tree::Not(..)
-        | Tree::Both(..)
-        | Tree::Either(..)
-        | Tree::Implies(..)
-        | Tree::Same(..)
-        | Tree::ForAll(..)
-        | Tree::Exists(..) => false,
+        _ => false,
     }
 }
 
@@ -111,10 +104,6 @@ pub(crate) fn is_definite(table: &Table, formula: &Tree<'_>) -> bool
         Tree::Paren(inner) => is_definite(table, inner),
         Tree::Not(inner) => is_deniable(table, inner),
         Tree::Both(first, second) => is_definite(table, first) && is_definite(table, second),
-        Tree::Either(..)
-        | Tree::Implies(..)
-        | Tree::Same(..)
-        | Tree::ForAll(..)
-        | Tree::Exists(..) => false,
+        _ => false,
     }
 }

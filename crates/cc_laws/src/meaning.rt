@@ -1,8 +1,7 @@
 //! What a name means.
-ghost use Rattle.std.specs.Prelude.{◌≡◌, Some};
+ghost use Rattle.std.specs.Prelude.{◌≡◌};
 ghost use Rattle.cc_defs.specs.Declarations as declared;
 ghost use Rattle.cc_defs.specs.Trees.{plain_term};
-ghost use Rattle.cc_defs.specs.Universe.{is_boolean_symbol as is_boolean};
 ghost use Rattle.cc_laws.specs.FormulaFaults.{is_miscounted as has_other_count, stands_alone as may_stand_alone, term_meaning};
 ghost use Rattle.cc_laws.specs.Views.{asks, plain_meaning};
 ghost use Rattle.cc_laws.specs.Vocabulary as words;
@@ -49,28 +48,12 @@ pub(crate) fn meaning_of_term<'t>(table: &'t Table, term: &TermTree<'_>) -> Mean
     meaning_of(table, term.name)
 }
 
-/// Whether a symbol has the values `false` and `true` alone.
-fn is_boolean_symbol(symbol: &Symbol) -> bool
-    ensures { result ≡ is_boolean (Some symbol.now) }
-{
-    symbol.attribute.is_none() && symbol.domain == 0
-}
-
 pub(crate) fn is_action(kind: Kind) -> bool
     ensures { result ≡ declared.is_action kind }
 {
     match kind {
         Kind::Action => true,
-        Kind::Simple | Kind::Determined => false,
-    }
-}
-
-fn is_determined(kind: Kind) -> bool
-    ensures { result ≡ words.is_determined_kind kind }
-{
-    match kind {
-        Kind::Determined => true,
-        Kind::Simple | Kind::Action => false,
+        _ => false,
     }
 }
 
@@ -80,10 +63,7 @@ impl<'t> Meaning<'t> {
     {
         match self {
             Meaning::Unknown => true,
-            Meaning::Nothing
-            | Meaning::Object(..)
-            | Meaning::Variable(..)
-            | Meaning::Constant(..) => false,
+            _ => false,
         }
     }
 
@@ -103,8 +83,7 @@ impl<'t> Meaning<'t> {
     {
         match self {
             Meaning::Constant(..) => true,
-            Meaning::Unknown | Meaning::Nothing | Meaning::Object(..) | Meaning::Variable(..) =>
-                false,
+            _ => false,
         }
     }
 
@@ -113,8 +92,7 @@ impl<'t> Meaning<'t> {
     {
         match self {
             Meaning::Constant(_, symbol) => is_action(symbol.kind),
-            Meaning::Unknown | Meaning::Nothing | Meaning::Object(..) | Meaning::Variable(..) =>
-                false,
+            _ => false,
         }
     }
 
@@ -123,8 +101,7 @@ impl<'t> Meaning<'t> {
     {
         match self {
             Meaning::Constant(_, symbol) => !is_action(symbol.kind),
-            Meaning::Unknown | Meaning::Nothing | Meaning::Object(..) | Meaning::Variable(..) =>
-                false,
+            _ => false,
         }
     }
 
@@ -132,19 +109,21 @@ impl<'t> Meaning<'t> {
         ensures { result ≡ words.is_determined_constant (plain_meaning self.now) }
     {
         match self {
-            Meaning::Constant(_, symbol) => is_determined(symbol.kind),
-            Meaning::Unknown | Meaning::Nothing | Meaning::Object(..) | Meaning::Variable(..) =>
-                false,
+            Meaning::Constant(_, symbol) => match symbol.kind {
+                Kind::Determined => true,
+                _ => false,
+            },
+            _ => false,
         }
     }
 
+    /// Whether it is a constant with the values `false` and `true` alone.
     pub(crate) fn is_boolean_constant(&self) -> bool
         ensures { result ≡ words.is_boolean_constant (plain_meaning self.now) }
     {
         match self {
-            Meaning::Constant(_, symbol) => is_boolean_symbol(symbol),
-            Meaning::Unknown | Meaning::Nothing | Meaning::Object(..) | Meaning::Variable(..) =>
-                false,
+            Meaning::Constant(_, symbol) => symbol.attribute.is_none() && symbol.domain == 0,
+            _ => false,
         }
     }
 
@@ -154,8 +133,7 @@ impl<'t> Meaning<'t> {
     {
         match self {
             Meaning::Object(number, _) => *number == 0 || *number == 1,
-            Meaning::Unknown | Meaning::Nothing | Meaning::Variable(..) | Meaning::Constant(..) =>
-                false,
+            _ => false,
         }
     }
 
@@ -165,8 +143,7 @@ impl<'t> Meaning<'t> {
     {
         match self {
             Meaning::Object(number, _) => *number == 0,
-            Meaning::Unknown | Meaning::Nothing | Meaning::Variable(..) | Meaning::Constant(..) =>
-                false,
+            _ => false,
         }
     }
 

@@ -10,7 +10,7 @@ use cc_defs::TermTree;
 use cc_sorts::Table;
 
 /// What is asked of a name.
-#[derive(Clone, Copy, PartialEq, Eq)]
+#[derive(Clone, Copy)]
 pub(crate) enum Property {
     /// It is not declared.
     Unknown,

@@ -29,7 +29,7 @@ fn argument_misfits(table: &Table, sort: u32, argument: &Meaning<'_>) -> bool
 {
     match argument {
         Meaning::Object(_, own) | Meaning::Variable(_, own) => !sort_below(table, *own, sort),
-        Meaning::Unknown | Meaning::Nothing | Meaning::Constant(..) => true,
+        _ => true,
     }
 }
 
@@ -37,9 +37,15 @@ fn argument_misfits(table: &Table, sort: u32, argument: &Meaning<'_>) -> bool
 fn some_argument_misfits(table: &Table, sorts: &[u32], args: &[TermTree<'_>]) -> bool
     ensures { result ≡ faults.some_argument_misfits (vocabulary_of table.now) sorts.now (plain_terms args.now) }
 {
-    sorts.iter().zip(args).any(|(sort, argument)| {
-        argument_misfits(table, *sort, &meaning_of_term(table, argument))
-    })
+    for place in 0..sorts.len() {
+        let Some(argument) = args.get(place) else {
+            return false;
+        };
+        if argument_misfits(table, sorts[place], &meaning_of_term(table, argument)) {
+            return true;
+        }
+    }
+    false
 }
 
 /// Whether an argument of a name with this meaning does not fit.
@@ -48,7 +54,7 @@ fn arguments_misfit(table: &Table, means: &Meaning<'_>, args: &[TermTree<'_>]) -
 {
     match means {
         Meaning::Constant(_, symbol) => some_argument_misfits(table, symbol.sorts.items(), args),
-        Meaning::Unknown | Meaning::Nothing | Meaning::Object(..) | Meaning::Variable(..) => false,
+        _ => false,
     }
 }
 
@@ -77,8 +83,7 @@ fn nothing_misfits(means: &Meaning<'_>) -> bool
 {
     match means {
         Meaning::Nothing => true,
-        Meaning::Unknown | Meaning::Object(..) | Meaning::Variable(..) | Meaning::Constant(..) =>
-            false,
+        _ => false,
     }
 }
 
@@ -90,16 +95,6 @@ fn sides_misfit(table: &Table, left: &Meaning<'_>, right: &Meaning<'_>) -> bool
         (Meaning::Constant(_, symbol), other) => value_misfits(table, symbol, other),
         (other, Meaning::Constant(_, symbol)) => value_misfits(table, symbol, other),
         (one, other) => nothing_misfits(one) || nothing_misfits(other),
-    }
-}
-
-/// Whether a name with this meaning is no name of a bracket.
-fn is_no_bracket(means: &Meaning<'_>) -> bool
-    ensures { result ≡ faults.bracket_misfits (plain_meaning means.now) }
-{
-    match means {
-        Meaning::Unknown | Meaning::Variable(..) => false,
-        Meaning::Nothing | Meaning::Object(..) | Meaning::Constant(..) => true,
     }
 }
 
@@ -125,5 +120,8 @@ pub(crate) fn equation_misfits(table: &Table, left: &TermTree<'_>, right: &TermT
 pub(crate) fn bracket_misfits(table: &Table, name: &str) -> bool
     ensures { result ≡ faults.bracket_misfits (words.meaning (vocabulary_of table.now) name.now) }
 {
-    is_no_bracket(&meaning_of(table, name))
+    match meaning_of(table, name) {
+        Meaning::Unknown | Meaning::Variable(..) => false,
+        _ => true,
+    }
 }

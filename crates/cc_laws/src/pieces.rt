@@ -2,14 +2,14 @@
 ghost use Rattle.std.specs.Prelude.{◌≡◌, ◌+◌, IfOk, OnOk};
 ghost use Rattle.std.specs.Option.{option_map};
 ghost use Rattle.cc_defs.specs.Resolved.{plain_formula};
-ghost use Rattle.cc_defs.specs.Trees.{Not as denied, plain_tree};
+ghost use Rattle.cc_defs.specs.Trees.{plain_tree};
 ghost use Rattle.cc_laws.specs.Expansion as words;
 ghost use Rattle.cc_laws.specs.Resolving as resolving;
 ghost use Rattle.cc_laws.specs.Views.{head_piece, plain_caused, plain_piece, scope_of};
 ghost use Rattle.cc_laws.specs.Vocabulary.{vocabulary_of};
 
 use crate::names::Names;
-use crate::resolving::{Joint, join, negated, resolve};
+use crate::resolving::{Joint, resolve, resolve_not, resolve_two};
 use cc_defs::{Formula, OutOfMemory, Tree};
 use cc_sorts::Table;
 use std::alloc::Global;
@@ -83,29 +83,10 @@ fn resolve_both(
     ensures kept { OnOk result (names.new.bindings.items ≡ names.old.bindings.items) }
     ensures next { OnOk result (names.new.next ≡ names.old.next + resolving.brackets (words.both (plain_tree first.now) (option_map plain_tree second.now))) }
 {
-    let first = resolve(alloc, table, names, first)?;
     match second {
-        Some(second) => {
-            let second = resolve(alloc, table, names, second)?;
-            join(alloc, Joint::Both, first, second)
-        }
-        None => Ok(first),
+        Some(second) => resolve_two(alloc, table, names, Joint::Both, first, second),
+        None => resolve(alloc, table, names, first),
     }
-}
-
-/// The denial of a formula, with numbers in place of names.
-fn resolve_denied(
-    alloc: Global,
-    table: &Table,
-    names: &mut Names,
-    formula: &Tree<'_>,
-) -> Result<Formula, OutOfMemory>
-    ensures made { IfOk result (λ made. plain_formula made ≡ resolving.resolve (vocabulary_of table.now) (scope_of names.old) names.old.next (denied (plain_tree formula.now))) }
-    ensures kept { OnOk result (names.new.bindings.items ≡ names.old.bindings.items) }
-    ensures next { OnOk result (names.new.next ≡ names.old.next + resolving.brackets (plain_tree formula.now)) }
-{
-    let formula = resolve(alloc, table, names, formula)?;
-    negated(alloc, formula)
 }
 
 /// A part with numbers in place of names; nothing where it is missing.
@@ -124,7 +105,7 @@ pub(crate) fn resolve_piece(
         Piece::One(formula) | Piece::Maybe(Some(formula)) => {
             Ok(Some(resolve(alloc, table, names, formula)?))
         }
-        Piece::Denied(formula) => Ok(Some(resolve_denied(alloc, table, names, formula)?)),
+        Piece::Denied(formula) => Ok(Some(resolve_not(alloc, table, names, formula)?)),
         Piece::Both(first, second) => {
             Ok(Some(resolve_both(alloc, table, names, first, second)?))
         }

@@ -32,12 +32,7 @@ fn items_of<'t, 's>(part: &'t Part<'s>) -> &'t [QueryItem<'s>]
 {
     match part {
         Part::Query(items) => items.items(),
-        Part::Sorts(_)
-        | Part::Objects(_)
-        | Part::Variables(_)
-        | Part::Constants(_)
-        | Part::Include(_)
-        | Part::Law(..) => &[],
+        _ => &[],
     }
 }
 
@@ -88,9 +83,12 @@ fn gives_twice(items: &[QueryItem<'_>]) -> bool
 fn some_fails(table: &Table, check: Check, formulas: &[Tree<'_>]) -> bool
     ensures { result ≡ list_any (fails (vocabulary_of table.now) check) (map plain_tree formulas.now) }
 {
-    formulas
-        .iter()
-        .any(|formula| formula_fails(table, check, formula))
+    for formula in formulas {
+        if formula_fails(table, check, formula) {
+            return true;
+        }
+    }
+    false
 }
 
 /// The formulas of a part of a query.
@@ -99,7 +97,7 @@ fn formulas_in<'t, 's>(item: &'t QueryItem<'s>) -> &'t [Tree<'s>]
 {
     match item {
         QueryItem::Condition { parts, .. } => parts.items(),
-        QueryItem::Label(_) | QueryItem::Range(..) => &[],
+        _ => &[],
     }
 }
 
@@ -207,12 +205,22 @@ fn range_of(items: &[QueryItem<'_>]) -> Option<(u32, u32)>
     None
 }
 
-/// Two formulas, joined by `&`.
-fn conjunction(alloc: Global, first: Formula, second: Formula) -> Result<Formula, OutOfMemory>
-    ensures { IfOk result (λ made. plain_formula made ≡ both (plain_formula first) (plain_formula second)) }
+/// A formula that was made and another one, joined by `&`.
+fn and_next(
+    alloc: Global,
+    table: &Table,
+    names: &mut Names,
+    made: Formula,
+    formula: &Tree<'_>,
+) -> Result<Formula, OutOfMemory>
+    requires { names.old.bindings.items ≡ [] }
+    ensures made { IfOk result (λ joined. plain_formula joined ≡ both (plain_formula made) (resolving.resolve (vocabulary_of table.now) [] names.old.next (plain_tree formula.now))) }
+    ensures kept { OnOk result (names.new.bindings.items ≡ []) }
+    ensures next { OnOk result (names.new.next ≡ names.old.next + resolving.brackets (plain_tree formula.now)) }
 {
-    let first = Box::new(alloc, first)?;
-    Ok(Formula::Both(first, Box::new(alloc, second)?))
+    let made = Box::new(alloc, made)?;
+    let next = Box::new(alloc, resolve(alloc, table, names, formula)?)?;
+    Ok(Formula::Both(made, next))
 }
 
 /// The formulas, joined by `&`, which groups to the left. Their brackets are numbered on.
@@ -232,8 +240,7 @@ fn joined(
     };
     let mut made = resolve(alloc, table, names, first)?;
     for formula in others {
-        let next = resolve(alloc, table, names, formula)?;
-        made = conjunction(alloc, made, next)?;
+        made = and_next(alloc, table, names, made, formula)?;
     }
     Ok(made)
 }

@@ -4,7 +4,7 @@ ghost use Rattle.cc_defs.specs.Resolved.{plain_term as resolved_term, plain_form
 ghost use Rattle.cc_defs.specs.Resolved as resolved;
 ghost use Rattle.cc_defs.specs.Trees.{plain_term, plain_tree};
 ghost use Rattle.cc_laws.specs.Resolving as words;
-ghost use Rattle.cc_laws.specs.Views.{bracket_over, joined_by, plain_binding, plain_meaning, plain_terms, row_terms, scope_of};
+ghost use Rattle.cc_laws.specs.Views.{bracket_over, joined_by, plain_binding, plain_meaning, row_terms, scope_of};
 ghost use Rattle.cc_laws.specs.Vocabulary as vocabulary;
 ghost use Rattle.cc_laws.specs.Vocabulary.{vocabulary_of};
 
@@ -14,16 +14,6 @@ use cc_defs::{Formula, OutOfMemory, Term, TermTree, Tree};
 use cc_sorts::Table;
 use std::alloc::Global;
 
-/// A variable, by the number that it has.
-fn variable_at(number: Option<u32>) -> Term
-    ensures { resolved_term result ≡ words.variable_at number }
-{
-    match number {
-        Some(number) => Term::Variable(number),
-        None => Term::Nothing,
-    }
-}
-
 /// A term that has this meaning and these arguments.
 #[tactic(auto, using(crate::proofs::TermRows::row_made))]
 fn term_meant(names: &Names, means: Meaning<'_>, args: Vec<Term>) -> Term
@@ -32,7 +22,10 @@ fn term_meant(names: &Names, means: Meaning<'_>, args: Vec<Term>) -> Term
     match means {
         Meaning::Unknown | Meaning::Nothing => Term::Nothing,
         Meaning::Object(number, _) => Term::Object(number),
-        Meaning::Variable(number, _) => variable_at(names.number_in(number)),
+        Meaning::Variable(number, _) => match names.number_in(number) {
+            Some(number) => Term::Variable(number),
+            None => Term::Nothing,
+        },
         Meaning::Constant(symbol, _) => Term::Constant { symbol, args },
     }
 }
@@ -51,22 +44,6 @@ pub(crate) fn resolve_term(
         args.push(resolve_term(alloc, table, names, argument)?)?;
     }
     Ok(term_meant(names, meaning_of(table, term.name), args))
-}
-
-/// The terms with numbers in place of names.
-pub(crate) fn resolve_terms(
-    alloc: Global,
-    table: &Table,
-    names: &Names,
-    terms: &[TermTree<'_>],
-) -> Result<Vec<Term>, OutOfMemory>
-    ensures { IfOk result (λ made. row_terms made.items ≡ words.resolve_terms (vocabulary_of table.now) (scope_of names.now) (plain_terms terms.now)) }
-{
-    let mut made = Vec::with_capacity(alloc, terms.len())?;
-    for term in terms {
-        made.push(resolve_term(alloc, table, names, term)?)?;
-    }
-    Ok(made)
 }
 
 /// The formula that a term alone is.
@@ -107,24 +84,6 @@ pub(crate) enum Joint {
     Either,
     Implies,
     Same,
-}
-
-pub(crate) fn join(
-    alloc: Global,
-    joint: Joint,
-    first: Formula,
-    second: Formula,
-) -> Result<Formula, OutOfMemory>
-    ensures { IfOk result (λ made. plain_formula made ≡ joined_by joint (plain_formula first) (plain_formula second)) }
-{
-    let first = Box::new(alloc, first)?;
-    let second = Box::new(alloc, second)?;
-    Ok(match joint {
-        Joint::Both => Formula::Both(first, second),
-        Joint::Either => Formula::Either(first, second),
-        Joint::Implies => Formula::Implies(first, second),
-        Joint::Same => Formula::Same(first, second),
-    })
 }
 
 /// Whether a bracket is over all objects or over some.
@@ -177,7 +136,7 @@ fn resolve_alone(
 
 #[cycle(resolve)]
 #[inline(never)]
-fn resolve_not(
+pub(crate) fn resolve_not(
     alloc: Global,
     table: &Table,
     names: &mut Names,
@@ -191,9 +150,10 @@ fn resolve_not(
     negated(alloc, inner)
 }
 
+/// Two formulas, joined. The first is put into its box before the second is made.
 #[cycle(resolve)]
 #[inline(never)]
-fn resolve_two(
+pub(crate) fn resolve_two(
     alloc: Global,
     table: &Table,
     names: &mut Names,
@@ -205,9 +165,14 @@ fn resolve_two(
     ensures kept { OnOk result (names.new.bindings.items ≡ names.old.bindings.items) }
     ensures next { OnOk result (names.new.next ≡ names.old.next + (words.brackets (plain_tree first.now) + words.brackets (plain_tree second.now))) }
 {
-    let first = resolve(alloc, table, names, first)?;
-    let second = resolve(alloc, table, names, second)?;
-    join(alloc, joint, first, second)
+    let first = Box::new(alloc, resolve(alloc, table, names, first)?)?;
+    let second = Box::new(alloc, resolve(alloc, table, names, second)?)?;
+    Ok(match joint {
+        Joint::Both => Formula::Both(first, second),
+        Joint::Either => Formula::Either(first, second),
+        Joint::Implies => Formula::Implies(first, second),
+        Joint::Same => Formula::Same(first, second),
+    })
 }
 
 /// A formula inside a bracket, which sees the variable of the bracket.
@@ -251,7 +216,7 @@ fn resolve_bracket(
             let inner = resolve_inside(alloc, table, names, Binding { variable, number }, inner)?;
             bracket_of(alloc, bracket, number, sort, inner)
         }
-        Meaning::Unknown | Meaning::Nothing | Meaning::Object(..) | Meaning::Constant(..) => {
+        _ => {
             drop(resolve(alloc, table, names, inner)?);
             Ok(Formula::False)
         }

@@ -38,7 +38,7 @@ fn term_names_action(table: &Table, term: &Term) -> bool
             }
             false
         }
-        Term::Object(_) | Term::Variable(_) | Term::Nothing => false,
+        _ => false,
     }
 }
 
@@ -62,28 +62,26 @@ fn names_action(table: &Table, formula: &Formula) -> bool
     }
 }
 
-/// Whether a formula may not stand at a step of a query with this least horizon.
-fn step_fails(table: &Table, lo: u32, at: At, formula: &Formula) -> bool
-    ensures { result ≡ words.step_fails (vocabulary_of table.now).symbols lo at (plain_formula formula.now) }
+/// Whether the formula of a condition may not stand at its step in a query with this least horizon.
+fn condition_fails(table: &Table, lo: u32, condition: &Condition) -> bool
+    ensures { result ≡ words.condition_fails (vocabulary_of table.now).symbols lo (plain_condition condition.now) }
 {
-    match at {
+    let formula = &condition.formula;
+    match condition.at {
         At::Number(step) => step > lo || (step == lo && names_action(table, formula)),
         At::Last => names_action(table, formula),
     }
 }
 
-fn condition_fails(table: &Table, lo: u32, condition: &Condition) -> bool
-    ensures { result ≡ words.condition_fails (vocabulary_of table.now).symbols lo (plain_condition condition.now) }
-{
-    step_fails(table, lo, condition.at, &condition.formula)
-}
-
 fn some_condition_fails(table: &Table, lo: u32, conditions: &[Condition]) -> bool
     ensures { result ≡ list_any (words.condition_fails (vocabulary_of table.now).symbols lo) (map plain_condition conditions.now) }
 {
-    conditions
-        .iter()
-        .any(|condition| condition_fails(table, lo, condition))
+    for condition in conditions {
+        if condition_fails(table, lo, condition) {
+            return true;
+        }
+    }
+    false
 }
 
 fn claim_fails(table: &Table, lo: u32, claim: &Option<Condition>) -> bool

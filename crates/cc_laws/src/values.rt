@@ -1,6 +1,7 @@
 //! Laws about each value of a constant.
-ghost use Rattle.std.specs.Prelude.{◌≡◌, IfOk};
+ghost use Rattle.std.specs.Prelude.{◌≡◌, ◌++◌, ◌∷◌, [], length, IfOk};
 ghost use Rattle.std.specs.Option.{option_map};
+ghost use Rattle.cc_defs.specs.declared.law.Range.TheVariants as variants;
 ghost use Rattle.cc_defs.specs.Resolved.{plain_base_law, plain_formula, plain_term as resolved_term};
 ghost use Rattle.cc_defs.specs.Resolved as resolved;
 ghost use Rattle.cc_laws.specs.Expansion as words;
@@ -25,11 +26,11 @@ pub(crate) enum Persistence {
 }
 
 /// What the base laws of a statement have in common: what their variables go over, their test, what their formulas see
-/// behind the test, and their place.
+/// behind the test, and their place. The test has a box, so that it is let go by one call wherever a step may end.
 #[derive(Drop)]
 pub(crate) struct Frame {
     pub(crate) ranges: Vec<Range>,
-    pub(crate) test: Formula,
+    pub(crate) test: Box<Formula>,
     pub(crate) names: Names,
     pub(crate) file: u32,
     pub(crate) line: u32,
@@ -51,7 +52,7 @@ pub(crate) fn base_law(
         head,
         body,
         after,
-        test: frame.test,
+        test: Box::into_inner(frame.test),
         kind,
         file: frame.file,
         line: frame.line,
@@ -90,49 +91,62 @@ pub(crate) fn copy_terms(alloc: Global, terms: &[Term]) -> Result<Vec<Term>, Out
     Ok(copies)
 }
 
-/// That a constant has the value of a variable.
-fn equal(alloc: Global, symbol: u32, args: &[Term], variable: u32) -> Result<Formula, OutOfMemory>
-    ensures { IfOk result (λ made. plain_formula made ≡ resolved.Equal (resolved.Constant symbol (row_terms args.now)) (resolved.Variable variable)) }
+/// That a constant with these arguments has a value.
+pub(crate) fn equation_of(symbol: u32, args: Vec<Term>, value: Term) -> Formula
+    ensures { plain_formula result ≡ resolved.Equal (resolved.Constant symbol (row_terms args.items)) (resolved_term value) }
 {
-    let constant = Term::Constant {
-        symbol,
-        args: copy_terms(alloc, args)?,
-    };
-    Ok(Formula::Equal(constant, Term::Variable(variable)))
+    Formula::Equal(Term::Constant { symbol, args }, value)
 }
 
-/// The `if` part of a law about a value.
-fn body_of(
+/// The parts `if` and `after` of a law.
+#[derive(Drop)]
+pub(crate) struct Parts {
+    pub(crate) body: Formula,
+    pub(crate) after: Option<Formula>,
+}
+
+/// The parts of a law about a value.
+fn value_parts(
     alloc: Global,
     persistence: Persistence,
     symbol: u32,
     args: &[Term],
     variable: u32,
-) -> Result<Formula, OutOfMemory>
-    ensures { IfOk result (λ made. plain_formula made ≡ words.body_of (persistence_of persistence) (resolved.Equal (resolved.Constant symbol (row_terms args.now)) (resolved.Variable variable))) }
+) -> Result<Parts, OutOfMemory>
+    ensures body { IfOk result (λ made. plain_formula made.body ≡ words.body_of (persistence_of persistence) (resolved.Equal (resolved.Constant symbol (row_terms args.now)) (resolved.Variable variable))) }
+    ensures after { IfOk result (λ made. option_map plain_formula made.after ≡ words.after_of (persistence_of persistence) (resolved.Equal (resolved.Constant symbol (row_terms args.now)) (resolved.Variable variable))) }
 {
+    let copies = copy_terms(alloc, args)?;
     match persistence {
-        Persistence::Exogenous | Persistence::Inertial => equal(alloc, symbol, args, variable),
-        Persistence::Rigid => Ok(Formula::True),
-    }
-}
-
-/// The `after` part of a law about a value.
-fn after_of(
-    alloc: Global,
-    persistence: Persistence,
-    symbol: u32,
-    args: &[Term],
-    variable: u32,
-) -> Result<Option<Formula>, OutOfMemory>
-    ensures { IfOk result (λ made. option_map plain_formula made ≡ words.after_of (persistence_of persistence) (resolved.Equal (resolved.Constant symbol (row_terms args.now)) (resolved.Variable variable))) }
-{
-    match persistence {
-        Persistence::Exogenous => Ok(None),
-        Persistence::Inertial | Persistence::Rigid => {
-            Ok(Some(equal(alloc, symbol, args, variable)?))
+        Persistence::Exogenous => Ok(Parts {
+            body: equation_of(symbol, copies, Term::Variable(variable)),
+            after: None,
+        }),
+        Persistence::Inertial => {
+            let others = copy_terms(alloc, args)?;
+            Ok(Parts {
+                body: equation_of(symbol, copies, Term::Variable(variable)),
+                after: Some(equation_of(symbol, others, Term::Variable(variable))),
+            })
         }
+        Persistence::Rigid => Ok(Parts {
+            body: Formula::True,
+            after: Some(equation_of(symbol, copies, Term::Variable(variable))),
+        }),
     }
+}
+
+/// Adds the range of a constant's value; answers the place of its variable, which is behind the others.
+fn add_domain(ranges: &mut Vec<Range>, symbol: u32) -> Result<u32, OutOfMemory>
+    ensures added { IfOk result (λ place. ranges.new.items ≡ ranges.old.items ++ variants.Domain symbol ∷ []) }
+    ensures place { IfOk result (λ place. place ≡ length ranges.old.items) }
+{
+    let count = ranges.len();
+    if count >= 4_000_000_000 {
+        return Err(OutOfMemory);
+    }
+    ranges.push(Range::Domain(symbol))?;
+    Ok(count as u32)
 }
 
 /// The law about each value of a constant; the variable of the value stands behind the others.
@@ -146,18 +160,12 @@ pub(crate) fn value_law(
 ) -> Result<BaseLaw, OutOfMemory>
     ensures { IfOk result (λ made. plain_base_law made ≡ words.value_law (vocabulary_of table.now) (frame_of frame) (persistence_of persistence) symbol (row_terms args.items)) }
 {
-    let count = frame.ranges.len();
-    if count >= 4_000_000_000 {
-        return Err(OutOfMemory);
-    }
-    let variable = count as u32;
-    frame.ranges.push(Range::Domain(symbol))?;
-    let body = body_of(alloc, persistence, symbol, &args, variable)?;
-    let after = after_of(alloc, persistence, symbol, &args, variable)?;
+    let variable = add_domain(&mut frame.ranges, symbol)?;
+    let parts = value_parts(alloc, persistence, symbol, &args, variable)?;
     let head = Head::Atom {
         symbol,
         args: List::of(args),
         value: Term::Variable(variable),
     };
-    Ok(base_law(table, frame, head, body, after))
+    Ok(base_law(table, frame, head, parts.body, parts.after))
 }

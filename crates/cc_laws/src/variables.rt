@@ -14,7 +14,12 @@ use std::alloc::Global;
 pub(crate) fn is_among(numbers: &[u32], number: u32) -> bool
     ensures { result ≡ words.is_among numbers.now number }
 {
-    numbers.iter().any(|other| number == *other)
+    for other in numbers {
+        if number == *other {
+            return true;
+        }
+    }
+    false
 }
 
 /// The number of the variable that a name is.
@@ -23,7 +28,7 @@ pub(crate) fn variable(table: &Table, name: &str) -> Option<u32>
 {
     match meaning_of(table, name) {
         Meaning::Variable(number, _) => Some(number),
-        Meaning::Unknown | Meaning::Nothing | Meaning::Object(..) | Meaning::Constant(..) => None,
+        _ => None,
     }
 }
 
@@ -131,5 +136,10 @@ pub(crate) fn firsts(alloc: Global, numbers: &[u32]) -> Result<Vec<u32>, OutOfMe
 pub(crate) fn some_is_new(numbers: &[u32], others: &[u32]) -> bool
     ensures { result ≡ words.some_is_new others.now numbers.now }
 {
-    numbers.iter().any(|number| !is_among(others, *number))
+    for number in numbers {
+        if !is_among(others, *number) {
+            return true;
+        }
+    }
+    false
 }

@@ -13,7 +13,7 @@ use cc_defs::{TermTree, Tree};
 use cc_sorts::Table;
 
 /// What is asked of the terms and brackets of a formula.
-#[derive(Clone, Copy, PartialEq, Eq)]
+#[derive(Clone, Copy)]
 pub(crate) enum Check {
     /// That a name in a term has the property.
     Mentions(Property),

@@ -2,8 +2,6 @@
 #![tactic(auto)]
 
 mod desk;
-#[cfg(test)]
-mod tests;
 mod text;
 
 pub use desk::TextDesk;

@@ -8,7 +8,7 @@ use std::fmt::Write;
 
 /// A description of locks in a row, `k1` to `kN` for the size N. A lock can be turned once, and each but the first only
 /// where the one before it is unlocked. The query begins with all of them locked, and asks at horizons 0 to N for the last
-/// one unlocked: there is one history, at horizon N.
+/// one unlocked.
 pub fn make_text(alloc: Global, size: u32) -> Result<Text, OutOfMemory>
     requires { 1 ≤ size }
     ensures { IfOk result (λ text. text ≡ made_text size) }

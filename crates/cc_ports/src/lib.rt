@@ -8,8 +8,6 @@ mod memory;
 mod real;
 mod sheet;
 mod still;
-#[cfg(test)]
-mod tests;
 mod whole;
 
 pub use desk::{Desk, Failed, To};

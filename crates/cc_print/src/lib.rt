@@ -5,8 +5,6 @@ mod histories;
 mod keys;
 pub mod laws;
 mod summaries;
-#[cfg(test)]
-mod tests;
 mod texts;
 mod verdicts;
 

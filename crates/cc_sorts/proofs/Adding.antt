@@ -22,26 +22,19 @@ added-more plain declare start found pushed names i x n within is_pushed is_plai
     ∙ ap (λ xs. map plain start ++ map declare xs) (sym (take-suc names i n within) ∙ ap (λ k. take k names) (sym (add-one i)))
 
 -- the declarations of another item were added
-pub parts-more : {D X T N : Type 0} (plain : D → X) (parts : N → List X) (view : T → N) (found pushed : List D) (items : List T) (i : ℕ) (item : T) →
-    i < length items → item ≡ get_or items i item → map plain pushed ≡ map plain found ++ parts (view item) →
-    map plain found ≡ flat_map parts (map view (take i items)) →
-    map plain pushed ≡ flat_map parts (map view (take (i + 1) items))
-parts-more plain parts view found pushed items i item within is_item is_pushed so_far =
+pub parts-more : {X T N : Type 0} (parts : N → List X) (view : T → N) (start found pushed : List X) (items : List T) (i : ℕ) (item : T) →
+    i < length items → item ≡ get_or items i item → pushed ≡ found ++ parts (view item) →
+    found ≡ start ++ flat_map parts (map view (take i items)) →
+    pushed ≡ start ++ flat_map parts (map view (take (i + 1) items))
+parts-more parts view start found pushed items i item within is_item is_pushed so_far =
     is_pushed
     ∙ ap (λ xs. xs ++ parts (view item)) so_far
-    ∙ ap (λ xs. flat_map parts (map view (take i items)) ++ xs) (sym (append-nil (parts (view item))))
-    ∙ sym (flat_map-append parts (map view (take i items)) (view item ∷ []))
-    ∙ ap (flat_map parts) (sym (map-append view (take i items) (item ∷ [])))
-    ∙ ap (λ x. flat_map parts (map view (take i items ++ x ∷ []))) is_item
-    ∙ ap (λ xs. flat_map parts (map view xs)) (sym (take-suc items i item within) ∙ ap (λ k. take k items) (sym (add-one i)))
-
--- two declarations were added, behind which others stand
-pub two-more : {D X : Type 0} (plain : D → X) (found one pushed : List D) (x y : D) (rest : List X) →
-    one ≡ found ++ x ∷ [] → pushed ≡ one ++ y ∷ [] → map plain pushed ++ rest ≡ map plain found ++ plain x ∷ plain y ∷ rest
-two-more plain found one pushed x y rest is_one is_pushed =
-    ap (λ xs. map plain xs ++ rest) (is_pushed ∙ ap (λ xs. xs ++ y ∷ []) is_one ∙ append_assoc found (x ∷ []) (y ∷ []))
-    ∙ ap (λ xs. xs ++ rest) (map-append plain found (x ∷ y ∷ []))
-    ∙ append_assoc (map plain found) (plain x ∷ plain y ∷ []) rest
+    ∙ append_assoc start (flat_map parts (map view (take i items))) (parts (view item))
+    ∙ ap (λ xs. start ++ (flat_map parts (map view (take i items)) ++ xs)) (sym (append-nil (parts (view item))))
+    ∙ ap (λ xs. start ++ xs) (sym (flat_map-append parts (map view (take i items)) (view item ∷ [])))
+    ∙ ap (λ xs. start ++ flat_map parts xs) (sym (map-append view (take i items) (item ∷ [])))
+    ∙ ap (λ x. start ++ flat_map parts (map view (take i items ++ x ∷ []))) is_item
+    ∙ ap (λ xs. start ++ flat_map parts (map view xs)) (sym (take-suc items i item within) ∙ ap (λ k. take k items) (sym (add-one i)))
 
 pub added-all : {D X N Y : Type 0} (plain : D → X) (declare : Y → X) (view : N → Y) (start found : List D) (names : List N) (i : ℕ) →
     length names ≤ i → map plain found ≡ map plain start ++ map (λ name. declare (view name)) (take i names) →
@@ -51,9 +44,9 @@ added-all plain declare view start found names i past so_far =
     ∙ ap (λ xs. map plain start ++ map (λ name. declare (view name)) xs) (take_all i names past)
     ∙ ap (λ xs. map plain start ++ xs) (sym (map-map declare view names))
 
-pub parts-all : {D X T N : Type 0} (plain : D → X) (parts : N → List X) (view : T → N) (found : List D) (items : List T) (i : ℕ) →
-    length items ≤ i → map plain found ≡ flat_map parts (map view (take i items)) → map plain found ≡ flat_map parts (map view items)
-parts-all plain parts view found items i past so_far = so_far ∙ ap (λ xs. flat_map parts (map view xs)) (take_all i items past)
+pub parts-all : {X T N : Type 0} (parts : N → List X) (view : T → N) (start found : List X) (items : List T) (i : ℕ) →
+    length items ≤ i → found ≡ start ++ flat_map parts (map view (take i items)) → found ≡ start ++ flat_map parts (map view items)
+parts-all parts view start found items i past so_far = so_far ∙ ap (λ xs. start ++ flat_map parts (map view xs)) (take_all i items past)
 
 -- a chain whose links are all there
 pub chain-all : (start first found : List Declared) {N : Type 0} (view : N → List ℕ) (plain : Declared → Declaration) (head last : N) (links : List N) (x : Declared) (i : ℕ) →
@@ -67,16 +60,15 @@ chain-all start first found view plain head last links x i past is_first is_link
     ∙ ap (λ xs. xs ++ chain_behind (view head) (map view links)) (ap (map plain) is_first ∙ map-append plain start (x ∷ []) ∙ ap (λ y. map plain start ++ y ∷ []) is_link)
     ∙ append_assoc (map plain start) (Link (view head) ∷ []) (chain_behind (view head) (map view links))
 
--- two links were added to a chain
-pub chain-more : (found one pushed : List Declared) (plain_whole : List Declaration) {N : Type 0} (view : N → List ℕ) (plain : Declared → Declaration) (upper name other : N) (links : List N) (x y : Declared) (i : ℕ) →
-    i < length links → one ≡ found ++ x ∷ [] → pushed ≡ one ++ y ∷ [] → name ≡ get_or links i other → plain x ≡ Link (view name) → plain y ≡ Subsort (view upper) (view name) →
-    map plain found ++ chain_behind (view upper) (map view (drop i links)) ≡ plain_whole →
-    map plain pushed ++ chain_behind (view name) (map view (drop (i + 1) links)) ≡ plain_whole
-chain-more found one pushed plain_whole view plain upper name other links x y i within is_one is_pushed is_name is_link is_pair so_far =
-    two-more plain found one pushed x y (chain_behind (view name) (map view (drop (i + 1) links))) is_one is_pushed
-    ∙ ap (λ z. map plain found ++ z ∷ plain y ∷ chain_behind (view name) (map view (drop (i + 1) links))) is_link
-    ∙ ap (λ z. map plain found ++ Link (view name) ∷ z ∷ chain_behind (view name) (map view (drop (i + 1) links))) is_pair
-    ∙ ap (λ k. map plain found ++ chain_behind (view upper) (map view (name ∷ drop k links))) (add-one i)
-    ∙ ap (λ z. map plain found ++ chain_behind (view upper) (map view (z ∷ drop (suc i) links))) is_name
-    ∙ ap (λ xs. map plain found ++ chain_behind (view upper) (map view xs)) (sym (drop-cons links i other within))
+-- another link was added to a chain
+pub chain-more : (found pushed whole : List Declaration) {N : Type 0} (view : N → List ℕ) (upper name other : N) (links : List N) (i : ℕ) →
+    i < length links → pushed ≡ found ++ Link (view name) ∷ Subsort (view upper) (view name) ∷ [] → name ≡ get_or links i other →
+    found ++ chain_behind (view upper) (map view (drop i links)) ≡ whole →
+    pushed ++ chain_behind (view name) (map view (drop (i + 1) links)) ≡ whole
+chain-more found pushed whole view upper name other links i within is_pushed is_name so_far =
+    ap (λ xs. xs ++ chain_behind (view name) (map view (drop (i + 1) links))) is_pushed
+    ∙ append_assoc found (Link (view name) ∷ Subsort (view upper) (view name) ∷ []) (chain_behind (view name) (map view (drop (i + 1) links)))
+    ∙ ap (λ k. found ++ chain_behind (view upper) (map view (name ∷ drop k links))) (add-one i)
+    ∙ ap (λ z. found ++ chain_behind (view upper) (map view (z ∷ drop (suc i) links))) is_name
+    ∙ ap (λ xs. found ++ chain_behind (view upper) (map view xs)) (sym (drop-cons links i other within))
     ∙ so_far

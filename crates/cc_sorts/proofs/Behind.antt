@@ -43,9 +43,6 @@ objects_same left d e = ap (λ (w : List Named). (codes "false", boolean) ∷ (c
 objects_end : (left : List Declaration) (name sort : List ℕ) → objects (left ++ Object name sort ∷ []) ≡ objects left ++ (name, sort) ∷ []
 objects_end left name sort = ap (λ (w : List Named). (codes "false", boolean) ∷ (codes "true", boolean) ∷ w) (flat_end object_declared left (Object name sort))
 
-pub constants_same : (left : List Declaration) (d : Declaration) → constant_declared d ≡ [] → constants (left ++ d ∷ []) ≡ constants left
-constants_same left d e = flat_same constant_declared left d e
-
 -- ---- sorts that are known
 
 pub known_link : (left : List Declaration) (name : List ℕ) → is_sort (left ++ Link name ∷ []) name ≡ true

@@ -1,28 +1,20 @@
 -- How many arguments shapes and constants have.
-use Rattle.std.proofs.Common.{◌≡◌, ◌≢◌, ◌⊎◌, inl, inr, eqb, ◌∙◌, ℕ, ◌==◌, ◌&&◌, Bool, true, false, cond, List, [], ◌∷◌, map, length, Option, Some, None, is_some, refl, sym, ap, subst}
+use Rattle.std.proofs.Common.{◌≡◌, ◌≢◌, ◌⊎◌, inl, inr, eqb, ◌∙◌, ℕ, ◌==◌, ◌&&◌, Bool, true, false, cond, List, [], ◌∷◌, length, Option, Some, None, is_some, refl, sym, ap, subst}
 use Rattle.std.specs.Cmp.Lexicographic.{bytes_decides}
-use Rattle.std.specs.List.{list_all, find}
+use Rattle.std.specs.List.{find}
 use Rattle.std.specs.Map.{lookup}
 use Rattle.std.specs.Option.{option_map, option_or}
 use Rattle.std.proofs.lemmas.List.{length-map}
 use Rattle.std.proofs.lemmas.Bool.Decides.{eqb_tells}
 use Rattle.cc_defs.specs.declared.signature.Symbol.{Symbol}
-use Rattle.cc_defs.specs.declared.tree.Shape.{Shape}
 use Rattle.cc_defs.specs.DeclarationFaults.{constant_named, sorts_of_constant, declared_sorts}
 use Rattle.cc_defs.specs.Declarations.{Declaration, Declared, constants, symbol_of, number_in, sort_names}
 use Rattle.cc_defs.specs.Grammar.{same_text}
-use Rattle.cc_defs.specs.Trees.{plain_shape}
 use Rattle.cc_sorts.specs.Lefts.{Shaped, shaped, arguments_of, plain_constant, left_constant, table_symbol, IsLeft}
 use Rattle.cc_sorts.specs.Tables.{TableView, placed_of, IsTable}
 use Rattle.cc_sorts.specs.declared.left.Constant.{Constant as Constant'}
 use Rattle.cc_sorts.specs.declared.left.Left.{Left}
 use Rattle.cc_sorts.proofs.Lefts.{or_none, same_swap}
-
-pub counts_plain : (count : ℕ) (shapes : List Shape) → list_all (λ shape. length shape.sorts == count) shapes ≡ list_all (λ shape. length shape.sorts == count) (map plain_shape shapes)
-counts_plain count [] = refl
-counts_plain count (shape ∷ shapes) =
-    ap (λ n. (n == count) && list_all (λ s. length s.sorts == count) shapes) (sym (length-map shape.sorts (λ sort. sort.now)))
-    ∙ ap (λ t. (length (plain_shape shape).sorts == count) && t) (counts_plain count shapes)
 
 -- ---- the constant of a name
 

@@ -6,13 +6,10 @@ use Rattle.cc_defs.specs.declared.refusal.Fault.TheVariants as faults
 use Rattle.std.proofs.lemmas.List.{append-nil, length-map}
 use Rattle.std.proofs.lemmas.Grind.{flat_map-append}
 use Rattle.cc_defs.specs.declared.refusal.LimitAt.TheVariants as limits
-use Rattle.cc_defs.specs.declared.refusal.Refusal.{Refusal}
 use Rattle.cc_defs.specs.DeclarationFaults.{refusal_for, object_count, declaration_fault}
 use Rattle.cc_defs.specs.Declarations.{Declaration, Named, object_declared, objects, number_in, sort_names, declarations_of}
 use Rattle.cc_defs.specs.Limits.{limit_number}
 use Rattle.cc_defs.specs.Trees.{PlainStatement}
-use Rattle.cc_sorts.specs.Declaring.{plain_declarations}
-use Rattle.cc_sorts.specs.declared.declaration.Declaration as declarations
 use Rattle.cc_sorts.specs.Steps.{IsFrontOf, behind_all, AllClear, judged_refusal}
 use Rattle.cc_sorts.specs.Tables.{TableView, Numbered, IsTable, Declares, HasFront}
 use Rattle.cc_sorts.proofs.Behind.{behind_all_is, clear_front}
@@ -96,12 +93,3 @@ judged_none file line left ds e p =
 pub want_of_memory : {A : Type 0} (result : Result A Fault) (Q : Fault → Type 0) → IsErrAnd result (λ fault. fault ≡ faults.OutOfMemory) → Q faults.OutOfMemory → IfErr result Q
 want_of_memory (Ok x) Q e q = tt
 want_of_memory (Err e) Q is q = subst Q (sym is) q
-
-pub none_judged : (file line : ℕ) (left : List Declaration) (one other items : List declarations.Declaration) (refusal : Option Refusal) → one ≡ items → other ≡ items →
-    refusal ≡ judged_refusal file line left (plain_declarations file line one) → refusal ≡ None → judged_refusal file line left (plain_declarations file line other) ≡ None
-none_judged file line left one other items refusal a b e n =
-    ap (λ (w : List declarations.Declaration). judged_refusal file line left (plain_declarations file line w)) (b ∙ sym a) ∙ sym e ∙ n
-
-pub same_declarations : (file line : ℕ) (statement : PlainStatement) (other items : List declarations.Declaration) → other ≡ items →
-    plain_declarations file line items ≡ declarations_of file statement → plain_declarations file line other ≡ declarations_of file statement
-same_declarations file line statement other items b e = ap (λ (w : List declarations.Declaration). plain_declarations file line w) b ∙ e

@@ -9,7 +9,6 @@ use denote.Bor.{Bor}
 use Rattle.std.proofs.lemmas.List.Quantifiers.{position-Some}
 use Rattle.std.proofs.Math.Dec.{eqb-suc-zero, eqb-zero-suc}
 use Rattle.cc_defs.specs.declared.signature.Symbol.{Symbol}
-use Rattle.cc_defs.specs.declared.tree.Shape.{Shape}
 use Rattle.cc_defs.specs.DeclarationFaults.{is_sort, are_sorts, constant_named, same_sorts, is_plain}
 use Rattle.cc_defs.specs.Declarations.{Declaration, Declared, boolean, constants, symbol_of, number_in, sort_names, value_sort, action_of}
 use Rattle.cc_defs.specs.Grammar.{same_text}
@@ -22,10 +21,6 @@ use Rattle.cc_sorts.specs.declared.left.Left.{Left}
 use Rattle.cc_sorts.proofs.Counts.{of_table, new_known}
 use Rattle.cc_sorts.proofs.Lefts.{same_swap}
 use Rattle.cc_sorts.proofs.Decided.{is_some_number}
-
-pub all_plain : (test : PlainShape → Bool) (shapes : List Shape) → list_all (λ shape. test (plain_shape shape)) shapes ≡ list_all test (map plain_shape shapes)
-all_plain test [] = refl
-all_plain test (shape ∷ shapes) = ap (λ t. test (plain_shape shape) && t) (all_plain test shapes)
 
 -- ---- the action by its shape and its kind
 

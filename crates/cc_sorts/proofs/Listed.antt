@@ -1,5 +1,5 @@
 -- Instances, their rows of arguments and their counts.
-use Rattle.std.proofs.Common.{◌≡◌, ◌∙◌, ℕ, zero, suc, ◌+◌, ◌*◌, ◌<◌, ◌≤◌, min, inl, inr, Bool, true, false, not, ◌&&◌, ◌||◌, cond, nat_lt, List, [], ◌∷◌, ◌++◌, length, map, flat_map, take, drop, slice_get, option_map, Option, Some, None, get_or, refl, sym, ap, arith, length-append, append_assoc, mul-le-mul}
+use Rattle.std.proofs.Common.{◌≡◌, ◌∙◌, ℕ, zero, suc, ◌+◌, ◌*◌, ◌<◌, ◌≤◌, min, inl, inr, Bool, true, false, not, ◌&&◌, ◌||◌, cond, nat_lt, List, [], ◌∷◌, ◌++◌, length, map, flat_map, take, drop, slice_get, option_map, Option, Some, None, get_or, refl, sym, ap, arith, length-append, append_assoc}
 use Rattle.std.specs.Prelude.{if◌then◌else◌, ◌==◌}
 use Rattle.std.specs.List.{AllByRecursion, list_any, find}
 use Rattle.std.proofs.lemmas.Bool.{cases_lt, lt-ltb}
@@ -15,18 +15,6 @@ use Rattle.cc_sorts.specs.SortViews.{SortsView, members_at}
 
 -- ---- counts that stop
 
-pub product_fits : (count number : ℕ) → count ≤ 20001 → count * min number 20001 ≤ 20001 * 20001
-product_fits count number p = let q : min number 20001 ≤ 20001 = omega arith in mul-le-mul p q
-
-product_stops : (count number : ℕ) → min (count * min number 20001) 20001 ≡ min (count * number) 20001
-product_stops zero number = omega arith
-product_stops (suc count) number = elim (cases_lt number 20001) [
-  | inl less ↦ let same : min number 20001 ≡ number = omega arith in ap (λ (m : ℕ). min (suc count * m) 20001) same
-  | inr more ↦
-      let same : min number 20001 ≡ 20001 = omega arith in
-      ap (λ (m : ℕ). min (suc count * m) 20001) same ∙ omega (arith, more)
-]
-
 count_stops : (count number : ℕ) → min (min count 20001 * number) 20001 ≡ min (count * number) 20001
 count_stops count zero = omega arith
 count_stops count (suc number) = elim (cases_lt count 20001) [
@@ -38,9 +26,6 @@ count_stops count (suc number) = elim (cases_lt count 20001) [
   where
     count_past : (count number : ℕ) → 20001 ≤ count → min (20001 * suc number) 20001 ≡ min (count * suc number) 20001
     count_past count number more = let least : count ≤ count * suc number = omega arith in omega (arith, least)
-
-pub product_is : (count number : ℕ) → min (count * min number 20001) 20001 ≡ min (count * number) 20001
-product_is count number = product_stops count number
 
 -- ---- rows
 

@@ -10,7 +10,7 @@ use Rattle.cc_sorts.specs.Dictionaries.{values_of}
 use Rattle.cc_sorts.specs.Steps.{HasRoom}
 use Rattle.cc_sorts.specs.Tables.{Fits, Numbered, TableView}
 use Rattle.cc_sorts.specs.declared.table.Placed.{Placed}
-use Rattle.cc_sorts.specs.SortViews.{SortsView, IsPast, changed_above, with_sort, with_pair, with_implied, with_object, members_at, name_at, AllAscend}
+use Rattle.cc_sorts.specs.SortViews.{SortsView, IsPast, changed_above, with_pair, with_implied, with_object, members_at, name_at, AllAscend}
 
 abbrev pub Below : ℕ → List ℕ → Type 0
 Below bound list = AllByRecursion (λ member. member < bound) list
@@ -51,13 +51,6 @@ changed_below bound other pairs sort change (name ∷ names) (list ∷ lists) ke
   elim (is_below pairs sort name) as (λ above. Below other (if above then change list else list)) [ true ↦ step list p.0 | false ↦ keep list p.0 ],
   changed_below bound other pairs sort change names lists keep step p.1,
 )
-
-append_below : (bound : ℕ) (lists : List (List ℕ)) → AllByRecursion (Below bound) lists → AllByRecursion (Below bound) (lists ++ [] ∷ [])
-append_below bound [] p = (tt, tt)
-append_below bound (list ∷ lists) p = (p.0, append_below bound lists p.1)
-
-pub past_sort : (bound : ℕ) (sorts : SortsView) (name : List ℕ) → IsPast bound sorts → IsPast bound (with_sort sorts name)
-past_sort bound sorts name p = append_below bound sorts.members p
 
 pub past_pair : (bound : ℕ) (sorts : SortsView) (upper lower : ℕ) → IsPast bound sorts → IsPast bound (with_pair sorts upper lower)
 past_pair bound sorts upper lower p =

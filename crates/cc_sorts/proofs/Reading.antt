@@ -26,17 +26,8 @@ module _ (inside : Inside) (view : SortsView) (is : seen_inside inside ≡ view)
     pub read_below : old ≡ get_or inside.below.items sort old → list ≡ list_at (lists_of inside.below.items) sort
     read_below there = list_read inside.below.items sort (length (names_of inside.names)) old list kept.below_are.as_many within there same
 
-    pub read_members : old ≡ get_or inside.members.items sort old → list ≡ list_at (lists_of inside.members.items) sort
-    read_members there = list_read inside.members.items sort (length (names_of inside.names)) old list kept.members_count within there same
-
   pub above_below : AreBelow (length (names_of inside.names)) (list_at (lists_of inside.above.items) sort)
   above_below = kept.above_are.within sort within
 
   pub above_ascend : Ascends (list_at (lists_of inside.above.items) sort)
   above_ascend = ascends_at (lists_of inside.above.items) sort kept.above_are.ascend
-
-  pub below_below : AreBelow (length (names_of inside.names)) (list_at (lists_of inside.below.items) sort)
-  below_below = kept.below_are.within sort within
-
-  pub below_ascend : Ascends (list_at (lists_of inside.below.items) sort)
-  below_ascend = ascends_at (lists_of inside.below.items) sort kept.below_are.ascend

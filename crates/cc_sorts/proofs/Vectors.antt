@@ -1,7 +1,7 @@
 -- A vector in place of another among vectors of numbers: what their lists and capacities become.
-use Rattle.std.proofs.Common.{zero, suc, drop, add-one, drop-cons, ◌≡◌, ◌∙◌, ℕ, ◌+◌, ◌<◌, ◌≤◌, ◌≢◌, inl, inr, List, [], ◌∷◌, ◌++◌, length, get_or, slice_set, sym, subst, ap, arith, Vec}
+use Rattle.std.proofs.Common.{zero, suc, drop, add-one, drop-cons, ◌≡◌, ◌∙◌, ℕ, ◌+◌, ◌<◌, ◌≤◌, ◌≢◌, inl, inr, List, [], ◌∷◌, length, get_or, slice_set, sym, subst, ap, arith, Vec}
 use Rattle.std.proofs.lemmas.Bool.{cases_order}
-use Rattle.std.proofs.lemmas.List.{get_or-map, map-append, map-set, get_or-set_same, get_or-set_other}
+use Rattle.std.proofs.lemmas.List.{get_or-map, map-set, get_or-set_same, get_or-set_other}
 use Rattle.std.proofs.Math.Seq.{map-set_same}
 use Rattle.std.proofs.Math.ListN.{length-map}
 use Rattle.std.specs.List.{AllByRecursion}
@@ -70,13 +70,6 @@ module _ {Z : Type 0} (vectors : List (Vec ℕ Z)) (number : ℕ) (old new : Vec
   has_room more to_move same room room_to_move =
       let here : list_at (lists_of (slice_set vectors number new)) number ≡ new.items = ap (λ (lists : List (List ℕ)). list_at lists number) (same_lists same) ∙ list_here ∙ sym same in
       (omega (arith, ap length here, new_capacity), omega (arith, ap length here))
-
--- a vector behind the others
-pub lists_pushed : {Z : Type 0} (old room new : List (Vec ℕ Z)) (vector : Vec ℕ Z) (list : List ℕ) → room ≡ old → new ≡ room ++ vector ∷ [] → vector.items ≡ list →
-    lists_of new ≡ lists_of old ++ list ∷ []
-lists_pushed {Z} old room new vector list same is items =
-    ap lists_of (is ∙ ap (λ (vectors : List (Vec ℕ Z)). vectors ++ vector ∷ []) same) ∙ map-append items_of old (vector ∷ [])
-    ∙ ap (λ (last : List ℕ). lists_of old ++ last ∷ []) items
 
 -- ---- the next of the numbers
 

@@ -1,5 +1,5 @@
 -- What loops over declarations have done so far.
-use Rattle.std.proofs.Common.{◌≡◌, ◌∙◌, ℕ, zero, suc, ◌+◌, ◌<◌, ◌≤◌, ◌^◌, Bool, true, false, List, [], ◌∷◌, ◌++◌, length, map, flat_map, take, drop, get_or, Option, Some, None, Result, Ok, Err, OnErr, Bor, refl, sym, ap, subst, arith, length-append, add-one}
+use Rattle.std.proofs.Common.{◌≡◌, ◌∙◌, ℕ, zero, suc, ◌+◌, ◌<◌, ◌≤◌, ◌^◌, Bool, true, false, List, [], ◌∷◌, ◌++◌, length, map, flat_map, take, drop, get_or, Option, Some, None, Result, Ok, Err, OnErr, OnOk, Bor, refl, sym, ap, subst, arith, length-append, add-one}
 use Rattle.std.proofs.Math.Seq.{take-suc}
 use Rattle.std.proofs.lemmas.List.{map-append, length-map}
 use Rattle.std.proofs.lemmas.Grind.{flat_map-append}
@@ -165,6 +165,10 @@ pub numbers_more : (f : List ℕ → ℕ) (xs : List (Bor (List ℕ))) (i : ℕ)
     map f (map (λ x. x.now) (take (i + 1) xs)) ≡ map f (map (λ x. x.now) (take i xs)) ++ f ((get_or xs i d).now) ∷ []
 numbers_more f xs i d within =
     ap (map f) (mapped_more (λ (x : Bor (List ℕ)). x.now) xs i d within) ∙ map-append f (map (λ (x : Bor (List ℕ)). x.now) (take i xs)) ((get_or xs i d).now ∷ [])
+
+pub on_ok : {A E : Type 0} (r : Result A E) (P : Type 0) → P → OnOk r P
+on_ok (Ok x) P p = p
+on_ok (Err e) P p = tt
 
 pub on_err : {A E : Type 0} (r : Result A E) (P : Type 0) → P → OnErr r P
 on_err (Ok x) P p = tt

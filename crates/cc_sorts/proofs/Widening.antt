@@ -166,13 +166,6 @@ module _ (names : List (List ℕ)) (pairs known : List SortPair) (above below me
       (subst (λ (n : ℕ). AreBelow n uppers) (sym kept.members_count) uppers_within) has_upper)
       ∙ ap (λ (o : List ℕ). (let view : SortsView = record { names = names; pairs = (list_at names upper, list_at names lower) ∷ named_pairs names pairs; members = changed_above (named_pairs names pairs) (list_at names upper) (λ list. union list o) names members } in view)) is_objects
 
--- the same change, of what is the same
-pub each_same : (numbers read others again : List ℕ) (lists room new : List (List ℕ)) → new ≡ at_each read (λ list. union list again) room →
-    read ≡ numbers → again ≡ others → room ≡ lists → new ≡ at_each numbers (λ list. union list others) lists
-each_same numbers read others again lists room new is same_numbers_read same_others same_lists =
-    is ∙ ap (λ (n : List ℕ). at_each n (λ list. union list again) room) same_numbers_read
-    ∙ ap (λ (o : List ℕ). at_each numbers (λ list. union list o) room) same_others ∙ ap (at_each numbers (λ list. union list others)) same_lists
-
 pub pushed : {X : Type 0} (old room new : List X) (x : X) → new ≡ room ++ x ∷ [] → room ≡ old → new ≡ old ++ x ∷ []
 pushed old room new x is same = is ∙ ap (λ xs. xs ++ x ∷ []) same
 

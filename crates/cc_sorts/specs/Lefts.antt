@@ -5,12 +5,14 @@ use Rattle.std.specs.Map.{lookup}
 use Rattle.std.specs.Option.{option_map, option_or}
 use Rattle.std.specs.declared.vec.Vec.{Vec}
 use Rattle.cc_defs.specs.declared.signature.Symbol.{Symbol}
-use Rattle.cc_defs.specs.DeclarationFaults.{is_sort, is_taken, same_pair, constant_named, sorts_of_constant, is_boolean_action, is_plain, same_sorts}
+use Rattle.cc_defs.specs.DeclarationFaults.{is_sort, is_taken, is_twice, is_unknown, has_wrong_count, has_wrong_sort, same_pair, constant_named, sorts_of_constant, is_boolean_action, is_plain, same_sorts}
 use Rattle.cc_defs.specs.Declarations.{Declaration, Declared, boolean, is_action, kind_of_constant, value_sort, Pair, pairs, sort_named, pair_declared, object_declared, variable_declared, constant_declared}
 use Rattle.cc_defs.specs.Trees.{PlainShape, PlainKind, plain_shape, plain_kind}
 use Rattle.cc_defs.specs.Grammar.{same_text}
 use Rattle.cc_sorts.specs.Dictionaries.{names_of, number_of}
 use Rattle.cc_sorts.specs.Tables.{TableView, symbol_names, IsTable}
+use Rattle.cc_sorts.specs.declared.fault.FaultKind.{FaultKind}
+use Rattle.cc_sorts.specs.declared.fault.FaultKind.TheVariants as kinds
 use Rattle.cc_sorts.specs.declared.left.Constant.{Constant}
 use Rattle.cc_sorts.specs.declared.left.Left.{Left}
 use Rattle.cc_sorts.specs.declared.left.SortPair.{SortPair}
@@ -110,6 +112,13 @@ pub record Adds (old new : Left) (declaration : Declaration) : Type 0 where
   pub linked : IsLinked old → IsLinked new
   pub constants_are : (name : List ℕ) →
       left_constant new name ≡ option_or (left_constant old name) (option_map shaped (find (λ constant. same_text name constant.shape.name) (constant_declared declaration)))
+
+-- whether a declaration has a fault behind others
+abbrev pub fault_of : FaultKind → List Declaration → Declaration → Bool
+fault_of kinds.Twice = is_twice
+fault_of kinds.Unknown = is_unknown
+fault_of kinds.WrongCount = has_wrong_count
+fault_of kinds.WrongSort = has_wrong_sort
 
 -- ---- the action of an attribute
 

@@ -9,6 +9,9 @@ pub record SortsView : Type 0 where
   pub pairs : List Pair
   pub members : List (List ℕ)
 
+abbrev pub no_sorts : SortsView
+no_sorts = record { names = []; pairs = []; members = [] }
+
 abbrev pub first_sorts : SortsView
 first_sorts = record { names = boolean ∷ []; pairs = []; members = (0 ∷ 1 ∷ []) ∷ [] }
 

@@ -1,9 +1,10 @@
 //! The single declarations of a statement.
-ghost use Rattle.std.specs.Prelude.{◌≡◌, ℕ, IfOk, OnOk, map, flat_map, ◌++◌};
-ghost use Rattle.cc_defs.specs.Declarations.{declarations_of, chain_behind, sort_declarations, object_declarations, variable_declarations, constant_declarations, Sort, Object, Variable, Constant};
+ghost use Rattle.std.specs.Prelude.{◌≡◌, ℕ, IfOk, OnOk, map, flat_map, ◌++◌, ◌∷◌, []};
+ghost use Rattle.cc_defs.specs.Declarations.{declarations_of, chain_behind, sort_declarations, object_declarations, variable_declarations, constant_declarations, Sort, Link, Subsort, Object, Variable, Constant};
 ghost use Rattle.cc_defs.specs.Trees.{plain_statement, plain_sort_item, plain_list_item, plain_const_item, plain_shape, plain_kind, Chain};
 ghost use Rattle.cc_sorts.specs.Declaring.{plain_declarations};
 
+use crate::puts::put_last;
 use cc_defs::{ConstItem, KindTree, List, ListItem, OutOfMemory, Part, Shape, SortItem, Statement};
 use std::alloc::Global;
 
@@ -31,66 +32,82 @@ pub(crate) fn declarations<'t, 's>(
 ) -> Result<Vec<Declaration<'t, 's>>, OutOfMemory>
     ensures { (file : ℕ) → IfOk result (λ found. plain_declarations file statement.now.line found.items ≡ declarations_of file (plain_statement statement.now)) }
 {
+    let mut found = Vec::new(alloc);
+    add_declarations(&mut found, statement)?;
+    Ok(found)
+}
+
+fn add_declarations<'t, 's>(
+    found: &mut Vec<Declaration<'t, 's>>,
+    statement: &'t Statement<'s>,
+) -> Result<(), OutOfMemory>
+    ensures { (file : ℕ) → OnOk result (plain_declarations file statement.now.line found.new.items ≡ plain_declarations file statement.now.line found.old.items ++ declarations_of file (plain_statement statement.now)) }
+{
     match &statement.part {
-        Part::Sorts(items) => of_sorts(alloc, items.items()),
-        Part::Objects(items) => of_objects(alloc, items.items()),
-        Part::Variables(items) => of_variables(alloc, items.items()),
-        Part::Constants(items) => of_constants(alloc, items.items()),
-        _ => Ok(Vec::new(alloc)),
+        Part::Sorts(items) => add_sort_items(found, items.items()),
+        Part::Objects(items) => add_object_items(found, items.items()),
+        Part::Variables(items) => add_variable_items(found, items.items()),
+        Part::Constants(items) => add_const_items(found, items.items()),
+        _ => Ok(()),
     }
 }
 
-fn of_sorts<'t, 's>(
-    alloc: Global,
+fn add_sort_items<'t, 's>(
+    found: &mut Vec<Declaration<'t, 's>>,
     items: &'t [SortItem<'s>],
-) -> Result<Vec<Declaration<'t, 's>>, OutOfMemory>
-    ensures { (file line : ℕ) → IfOk result (λ found. plain_declarations file line found.items ≡ flat_map sort_declarations (map plain_sort_item items.now)) }
+) -> Result<(), OutOfMemory>
+    ensures { (file line : ℕ) → OnOk result (plain_declarations file line found.new.items ≡ plain_declarations file line found.old.items ++ flat_map sort_declarations (map plain_sort_item items.now)) }
 {
-    let mut found = Vec::new(alloc);
     for item in items {
-        add_sort_item(&mut found, item)?;
+        add_sort_item(found, item)?;
     }
-    Ok(found)
+    Ok(())
 }
 
-fn of_objects<'t, 's>(
-    alloc: Global,
+fn add_object_items<'t, 's>(
+    found: &mut Vec<Declaration<'t, 's>>,
     items: &'t [ListItem<'s>],
-) -> Result<Vec<Declaration<'t, 's>>, OutOfMemory>
-    ensures { (file line : ℕ) → IfOk result (λ found. plain_declarations file line found.items ≡ flat_map object_declarations (map plain_list_item items.now)) }
+) -> Result<(), OutOfMemory>
+    ensures { (file line : ℕ) → OnOk result (plain_declarations file line found.new.items ≡ plain_declarations file line found.old.items ++ flat_map object_declarations (map plain_list_item items.now)) }
 {
-    let mut found = Vec::new(alloc);
     for item in items {
-        add_objects(&mut found, item.names.items(), item.sort)?;
+        add_objects(found, item.names.items(), item.sort)?;
     }
-    Ok(found)
+    Ok(())
 }
 
-fn of_variables<'t, 's>(
-    alloc: Global,
+fn add_variable_items<'t, 's>(
+    found: &mut Vec<Declaration<'t, 's>>,
     items: &'t [ListItem<'s>],
-) -> Result<Vec<Declaration<'t, 's>>, OutOfMemory>
-    ensures { (file line : ℕ) → IfOk result (λ found. plain_declarations file line found.items ≡ flat_map variable_declarations (map plain_list_item items.now)) }
+) -> Result<(), OutOfMemory>
+    ensures { (file line : ℕ) → OnOk result (plain_declarations file line found.new.items ≡ plain_declarations file line found.old.items ++ flat_map variable_declarations (map plain_list_item items.now)) }
 {
-    let mut found = Vec::new(alloc);
     for item in items {
-        add_variables(&mut found, item.names.items(), item.sort)?;
+        add_variables(found, item.names.items(), item.sort)?;
     }
-    Ok(found)
+    Ok(())
 }
 
-fn of_constants<'t, 's>(
-    alloc: Global,
+fn add_const_items<'t, 's>(
+    found: &mut Vec<Declaration<'t, 's>>,
     items: &'t [ConstItem<'s>],
-) -> Result<Vec<Declaration<'t, 's>>, OutOfMemory>
-    ensures { (file line : ℕ) → IfOk result (λ found. plain_declarations file line found.items ≡ flat_map (constant_declarations file line) (map plain_const_item items.now)) }
+) -> Result<(), OutOfMemory>
+    ensures { (file line : ℕ) → OnOk result (plain_declarations file line found.new.items ≡ plain_declarations file line found.old.items ++ flat_map (constant_declarations file line) (map plain_const_item items.now)) }
 {
-    let mut found = Vec::new(alloc);
     for item in items {
-        add_constants(&mut found, item.shapes.items(), &item.kind)?;
-        found.push(Declaration::Kinds(&item.shapes, &item.kind))?;
+        add_const_item(found, item)?;
     }
-    Ok(found)
+    Ok(())
+}
+
+fn add_const_item<'t, 's>(
+    found: &mut Vec<Declaration<'t, 's>>,
+    item: &'t ConstItem<'s>,
+) -> Result<(), OutOfMemory>
+    ensures { (file line : ℕ) → OnOk result (plain_declarations file line found.new.items ≡ plain_declarations file line found.old.items ++ constant_declarations file line (plain_const_item item.now)) }
+{
+    add_constants(found, item.shapes.items(), &item.kind)?;
+    put_last(found, Declaration::Kinds(&item.shapes, &item.kind))
 }
 
 fn add_sort_item<'t, 's>(
@@ -112,7 +129,7 @@ fn add_sorts<'t, 's>(
     ensures { (file line : ℕ) → OnOk result (plain_declarations file line found.new.items ≡ plain_declarations file line found.old.items ++ map Sort (map (λ name. name.now) names.now)) }
 {
     for name in names {
-        found.push(Declaration::Sort(name))?;
+        put_last(found, Declaration::Sort(name))?;
     }
     Ok(())
 }
@@ -127,14 +144,24 @@ fn add_chain<'t, 's>(
     let Some((first, lower)) = names.split_first() else {
         return Ok(());
     };
-    found.push(Declaration::Link(first))?;
+    put_last(found, Declaration::Link(first))?;
     let mut upper: &'s str = first;
     for name in lower {
-        found.push(Declaration::Link(name))?;
-        found.push(Declaration::Subsort(upper, name))?;
+        add_link(found, upper, name)?;
         upper = name;
     }
     Ok(())
+}
+
+fn add_link<'t, 's>(
+    found: &mut Vec<Declaration<'t, 's>>,
+    upper: &'s str,
+    name: &'s str,
+) -> Result<(), OutOfMemory>
+    ensures { (file line : ℕ) → OnOk result (plain_declarations file line found.new.items ≡ plain_declarations file line found.old.items ++ Link name.now ∷ Subsort upper.now name.now ∷ []) }
+{
+    put_last(found, Declaration::Link(name))?;
+    put_last(found, Declaration::Subsort(upper, name))
 }
 
 fn add_objects<'t, 's>(
@@ -145,7 +172,7 @@ fn add_objects<'t, 's>(
     ensures { (file line : ℕ) → OnOk result (plain_declarations file line found.new.items ≡ plain_declarations file line found.old.items ++ map (λ name. Object name sort.now) (map (λ name. name.now) names.now)) }
 {
     for name in names {
-        found.push(Declaration::Object(name, sort))?;
+        put_last(found, Declaration::Object(name, sort))?;
     }
     Ok(())
 }
@@ -158,7 +185,7 @@ fn add_variables<'t, 's>(
     ensures { (file line : ℕ) → OnOk result (plain_declarations file line found.new.items ≡ plain_declarations file line found.old.items ++ map (λ name. Variable name sort.now) (map (λ name. name.now) names.now)) }
 {
     for name in names {
-        found.push(Declaration::Variable(name, sort))?;
+        put_last(found, Declaration::Variable(name, sort))?;
     }
     Ok(())
 }
@@ -171,7 +198,7 @@ fn add_constants<'t, 's>(
     ensures { (file line : ℕ) → OnOk result (plain_declarations file line found.new.items ≡ plain_declarations file line found.old.items ++ map (λ shape. Constant shape (plain_kind kind.now) file line) (map plain_shape shapes.now)) }
 {
     for shape in shapes {
-        found.push(Declaration::Constant(shape, kind))?;
+        put_last(found, Declaration::Constant(shape, kind))?;
     }
     Ok(())
 }

@@ -3,8 +3,8 @@ ghost use Rattle.std.specs.Prelude.{◌≡◌, ◌<◌, ◌≤◌, ℕ, List as 
 ghost use Rattle.cc_defs.specs.Declarations.{number_in, kind_of_constant, object_declared};
 ghost use Rattle.cc_defs.specs.Declarations as words;
 ghost use Rattle.cc_defs.specs.Declarations.{Declaration as Declared};
-ghost use Rattle.cc_defs.specs.Trees.{plain_kind, plain_shape, plain_statement};
-ghost use Rattle.cc_sorts.specs.Declaring.{plain_declaration, plain_declarations};
+ghost use Rattle.cc_defs.specs.Trees.{PlainPart, plain_kind, plain_shape, plain_statement};
+ghost use Rattle.cc_sorts.specs.Declaring.{plain_declaration, plain_declarations, statement_of, AreOfPart};
 ghost use Rattle.cc_sorts.specs.Dictionaries.{number_of, names_of};
 ghost use Rattle.cc_sorts.specs.Steps.{HasRoom, IsFrontOf, behind, behind_all, put_sort as sort_put, put_pair as pair_put, put_object as object_put, put_variable as variable_put, put_symbol as symbol_put, new_object, placed_in, action_in, judged_refusal};
 ghost use Rattle.cc_sorts.specs.Tables.{symbol_names, IsTable, Declares, HasRefused};
@@ -313,6 +313,27 @@ impl Register {
         Ok(None)
     }
 
+    /// Declares these declarations of a statement, or refuses them.
+    fn declare_all(
+        &mut self,
+        alloc: Global,
+        file: u32,
+        line: u32,
+        new: &[Declaration<'_, '_>],
+    ) -> Result<(), Fault>
+        ensures declared { (left : Items Declared) (part : PlainPart) → IsTable self.old left → AreOfPart file line part new.now → OnOk result (Declares file left (statement_of line part) self.new) }
+        ensures refused { (left : Items Declared) (part : PlainPart) → IsTable self.old left → AreOfPart file line part new.now → IfErr result (HasRefused file left (statement_of line part) self.old self.new) }
+    {
+        if let Some(refusal) = self.refusal_of(alloc, file, line, new)? {
+            return Err(Fault::Refused(refusal));
+        }
+        if !self.has_room(new.len()) {
+            return Err(Fault::OutOfMemory);
+        }
+        self.put_all(alloc, file, line, new)?;
+        Ok(())
+    }
+
     /// Declares what a statement says, or refuses it: `Table::declare`.
     pub(crate) fn declare(
         &mut self,
@@ -327,13 +348,8 @@ impl Register {
             Ok(new) => new,
             Err(error) => return Err(Fault::from(error)),
         };
-        if let Some(refusal) = self.refusal_of(alloc, file, statement.line, &new)? {
-            return Err(Fault::Refused(refusal));
-        }
-        if !self.has_room(new.len()) {
-            return Err(Fault::OutOfMemory);
-        }
-        self.put_all(alloc, file, statement.line, &new)?;
-        Ok(())
+        let declared = self.declare_all(alloc, file, statement.line, &new);
+        drop(new);
+        declared
     }
 }

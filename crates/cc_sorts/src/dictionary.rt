@@ -2,6 +2,7 @@
 ghost use Rattle.std.specs.Prelude.{◌≡◌, ◌-◌, ◌<◌, ◌++◌, ◌∷◌, [], None, length, take, slice_get, option_map, OnOk, OnErr, Some};
 ghost use Rattle.cc_sorts.specs.Dictionaries.{number_of, names_of, values_of};
 
+use crate::puts::put_entry;
 use cc_defs::OutOfMemory;
 use indexmap::IndexMap;
 use std::alloc::Global;
@@ -71,8 +72,7 @@ impl<V: Drop> Dictionary<V> {
         ensures unchanged { OnErr result (self.new ≡ self.old) }
     {
         let name = String::from_str(alloc, name)?;
-        self.entries.insert(name, value)?;
-        Ok(())
+        put_entry(&mut self.entries, name, value)
     }
 
     /// Takes the last entry out again.

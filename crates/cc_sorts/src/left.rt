@@ -16,6 +16,7 @@ ghost use Rattle.cc_sorts.specs.SortViews.{name_at};
 ghost use Rattle.cc_sorts.specs.Tables.{IsTable};
 
 use crate::declaration::Declaration;
+use crate::puts::{put_entry, put_key, put_last};
 use crate::register::Register;
 use crate::sorts::Sorts;
 use cc_defs::{Kind, KindTree, KindWord, List, OutOfMemory, Shape, Symbol};
@@ -105,7 +106,12 @@ impl<'d, 't, 's> Left<'d, 't, 's> {
     fn has_each(&self, names: &[&str]) -> bool
         ensures { result ≡ list_all (λ name. left_has_sort self.now name.now) names.now }
     {
-        names.iter().all(|name| self.is_sort(name))
+        for name in names {
+            if !self.is_sort(name) {
+                return false;
+            }
+        }
+        true
     }
 
     fn are_sorts(&self, names: &List<&str>) -> bool
@@ -230,36 +236,43 @@ impl<'d, 't, 's> Left<'d, 't, 's> {
     }
 
     /// Whether a search upwards from a sort finds the other.
-    fn is_found_above(
-        &self,
-        alloc: Global,
-        lower: &'s str,
-        upper: &'s str,
-    ) -> Result<bool, OutOfMemory>
-        ensures { (left : Items Declared) → IsLeft self.now left → IfOk result (λ below. below ≡ is_below (pairs left) lower.now upper.now) }
-    {
-        let found = self.found_above(alloc, lower)?;
-        Ok(found.contains(upper))
-    }
-
-    /// A sort and all sorts above it.
-    fn found_above<'a>(
+    fn is_found_above<'a>(
         &'a self,
         alloc: Global,
         lower: &'a str,
-    ) -> Result<IndexSet<&'a str>, OutOfMemory>
-        ensures { IfOk result (λ found. IsClosed self.now lower.now found.keys) }
+        upper: &'a str,
+    ) -> Result<bool, OutOfMemory>
+        ensures { (left : Items Declared) → IsLeft self.now left → IfOk result (λ below. below ≡ is_below (pairs left) lower.now upper.now) }
     {
         let mut found: IndexSet<&'a str> = IndexSet::new(alloc);
-        found.insert(lower)?;
         let mut closed: IndexSet<&'a str> = IndexSet::new(alloc);
+        let searched = self.search_above(lower, &mut found, &mut closed);
+        let is_found = found.contains(upper);
+        drop(found);
+        drop(closed);
+        searched?;
+        Ok(is_found)
+    }
+
+    /// Finds a sort and all sorts above it.
+    fn search_above<'a>(
+        &'a self,
+        lower: &'a str,
+        found: &mut IndexSet<&'a str>,
+        closed: &mut IndexSet<&'a str>,
+    ) -> Result<(), OutOfMemory>
+        requires found { found.old.keys ≡ [] }
+        requires closed { closed.old.keys ≡ [] }
+        ensures { OnOk result (IsClosed self.now lower.now found.new.keys) }
+    {
+        put_key(found, lower)?;
         let mut done = 0;
         'search: while done < found.len() {
             let sort: &'a str = found[done];
-            self.add_above(sort, &mut found, &mut closed)?;
+            self.add_above(sort, found, closed)?;
             done += 1;
         }
-        Ok(found)
+        Ok(())
     }
 
     /// Adds the sorts above a sort by the table, and its new upper sorts.
@@ -361,16 +374,14 @@ impl<'d, 't, 's> Left<'d, 't, 's> {
     fn add_sort(&mut self, name: &'s str) -> Result<(), OutOfMemory>
         ensures { OnOk result (Adds self.old self.new (Link name.now)) }
     {
-        self.sorts.insert(name)?;
-        Ok(())
+        put_key(&mut self.sorts, name)
     }
 
     fn add_name(&mut self, name: &'s str) -> Result<(), OutOfMemory>
         ensures object { (sort : Items ℕ) → OnOk result (Adds self.old self.new (Object name.now sort)) }
         ensures variable { (sort : Items ℕ) → OnOk result (Adds self.old self.new (Variable name.now sort)) }
     {
-        self.names.insert(name)?;
-        Ok(())
+        put_key(&mut self.names, name)
     }
 
     fn add_constant(
@@ -380,21 +391,19 @@ impl<'d, 't, 's> Left<'d, 't, 's> {
     ) -> Result<(), OutOfMemory>
         ensures { (file line : ℕ) → OnOk result (Adds self.old self.new (ConstantOf (plain_shape shape.now) (plain_kind kind.now) file line)) }
     {
-        self.names.insert(shape.name)?;
+        put_key(&mut self.names, shape.name)?;
         if self.constants.contains_key(shape.name) {
             return Ok(());
         }
-        self.constants.insert(shape.name, Constant { shape, kind })?;
-        Ok(())
+        put_entry(&mut self.constants, shape.name, Constant { shape, kind })
     }
 
     fn add_pair(&mut self, alloc: Global, upper: &'s str, lower: &'s str) -> Result<(), OutOfMemory>
         ensures { OnOk result (Adds self.old self.new (Subsort upper.now lower.now)) }
     {
-        self.pairs.insert(SortPair { upper, lower })?;
-        self.uppers.insert(upper)?;
-        add_upper(alloc, &mut self.uppers_of, upper, lower)?;
-        Ok(())
+        put_key(&mut self.pairs, SortPair { upper, lower })?;
+        put_key(&mut self.uppers, upper)?;
+        add_upper(alloc, &mut self.uppers_of, upper, lower)
     }
 }
 
@@ -408,13 +417,10 @@ fn add_upper<'s>(
     ensures { OnOk result (AddsUpper uppers_of.old.entries uppers_of.new.entries (upper.now, lower.now)) }
 {
     if let Some(uppers) = uppers_of.get_mut(lower) {
-        uppers.push(upper)?;
-        return Ok(());
+        return put_last(uppers, upper);
     }
-    let mut uppers = Vec::new(alloc);
-    uppers.push(upper)?;
-    uppers_of.insert(lower, uppers)?;
-    Ok(())
+    let uppers = Vec::from_slice(alloc, &[upper])?;
+    put_entry(uppers_of, lower, uppers)
 }
 
 /// Adds the sorts above a sort by a table, and itself if it is one of them.
@@ -440,7 +446,7 @@ fn add_numbered<'a>(
     ensures { OnOk result (Grows found.old.keys found.new.keys (map (name_at sorts.now) numbers.now)) }
 {
     for number in numbers {
-        found.insert(sorts.name(*number as usize))?;
+        put_key(found, sorts.name(*number as usize))?;
     }
     Ok(())
 }
@@ -449,7 +455,7 @@ fn add_names<'a>(names: &[&'a str], found: &mut IndexSet<&'a str>) -> Result<(),
     ensures { OnOk result (Grows found.old.keys found.new.keys (map (λ name. name.now) names.now)) }
 {
     for name in names {
-        found.insert(*name)?;
+        put_key(found, *name)?;
     }
     Ok(())
 }
@@ -484,15 +490,13 @@ fn symbol_named<'a>(table: &'a Register, name: &str) -> Option<&'a Symbol>
 fn have_count(shapes: &List<Shape>, count: usize) -> bool
     ensures { result ≡ list_all (λ shape. length shape.sorts == count) (map plain_shape shapes.now) }
 {
-    each_has_count(shapes.items(), count)
-}
-
-fn each_has_count(shapes: &[Shape], count: usize) -> bool
-    ensures { result ≡ list_all (λ shape. length shape.sorts == count) shapes.now }
-{
-    shapes
-        .iter()
-        .all(|shape| shape.sorts.items().len() == count)
+    let items = shapes.items();
+    for shape in items {
+        if shape.sorts.items().len() != count {
+            return false;
+        }
+    }
+    true
 }
 
 fn is_boolean(sort: &str) -> bool
@@ -544,15 +548,13 @@ fn are_numbered(table: &Register, sorts: &[&str], numbers: &[u32]) -> bool
 fn have_numbers(table: &Register, shapes: &List<Shape>, numbers: &[u32]) -> bool
     ensures { result ≡ list_all (λ shape. are_numbered table.now.sorts.names shape.sorts numbers.now) (map plain_shape shapes.now) }
 {
-    each_has_numbers(table, shapes.items(), numbers)
-}
-
-fn each_has_numbers(table: &Register, shapes: &[Shape], numbers: &[u32]) -> bool
-    ensures { result ≡ list_all (λ shape. are_numbered table.now.sorts.names (map (λ sort. sort.now) shape.sorts) numbers.now) shapes.now }
-{
-    shapes
-        .iter()
-        .all(|shape| are_numbered(table, shape.sorts.items(), numbers))
+    let items = shapes.items();
+    for shape in items {
+        if !are_numbered(table, shape.sorts.items(), numbers) {
+            return false;
+        }
+    }
+    true
 }
 
 /// Whether a new constant is a Boolean action with these sorts.
@@ -586,13 +588,11 @@ fn same_sorts(sorts: &[&str], others: &[&str]) -> bool
 fn each_has_sorts(shapes: &List<Shape>, sorts: &[&str]) -> bool
     ensures { result ≡ list_all (λ shape. same_sorts shape.sorts (map (λ sort. sort.now) sorts.now)) (map plain_shape shapes.now) }
 {
-    all_have_sorts(shapes.items(), sorts)
-}
-
-fn all_have_sorts(shapes: &[Shape], sorts: &[&str]) -> bool
-    ensures { result ≡ list_all (λ shape. same_sorts (map (λ sort. sort.now) shape.sorts) (map (λ sort. sort.now) sorts.now)) shapes.now }
-{
-    shapes
-        .iter()
-        .all(|shape| same_sorts(shape.sorts.items(), sorts))
+    let items = shapes.items();
+    for shape in items {
+        if !same_sorts(shape.sorts.items(), sorts) {
+            return false;
+        }
+    }
+    true
 }

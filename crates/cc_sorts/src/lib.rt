@@ -9,6 +9,7 @@ pub mod laws;
 mod left;
 mod lists;
 mod numbers;
+mod puts;
 mod register;
 mod signature;
 mod sorts;

@@ -9,6 +9,7 @@ ghost use Rattle.cc_sorts.specs.Instances.{values_by, rows_by, constant_by, pass
 ghost use Rattle.cc_sorts.specs.SortViews.{members_at, AllAscend};
 ghost use Rattle.cc_sorts.specs.Tables.{IsTable, IsSignatureOf};
 
+use crate::puts::put_last;
 use crate::register::Register;
 use crate::table::Placed;
 use cc_defs::{Const, Fault, Kind, LimitAt, Nums, OutOfMemory, Refusal, Sig, Symbol};
@@ -54,7 +55,7 @@ fn longer_rows(
     ensures { OnOk result (rows.new.items ≡ rows.old.items ++ map (λ object. row.now ++ object ∷ []) objects.now) }
 {
     for object in objects {
-        rows.push(longer_row(alloc, row, *object)?)?;
+        put_last(rows, longer_row(alloc, row, *object)?)?;
     }
     Ok(())
 }
@@ -270,7 +271,7 @@ impl Register {
         ensures { IfOk result (λ rows. rows.items ≡ rows_by self.now.sorts sorts.now) }
     {
         let mut rows = Vec::new(alloc);
-        rows.push(Nums::of(Vec::new(alloc)))?;
+        put_last(&mut rows, Nums::of(Vec::new(alloc)))?;
         for sort in sorts {
             rows = with_objects(alloc, &rows, self.members(*sort))?;
         }
@@ -289,12 +290,13 @@ impl Register {
         ensures { OnOk result (written.new.items ≡ written.old.items ++ map (constant_by self.now.sorts number symbol.now) rows.items) }
     {
         for args in rows {
-            written.push(Const {
+            let constant = Const {
                 symbol: number,
                 args,
                 kind: symbol.kind,
                 domain: self.values(alloc, symbol)?,
-            })?;
+            };
+            put_last(written, constant)?;
         }
         Ok(())
     }

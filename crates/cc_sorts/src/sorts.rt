@@ -1,15 +1,19 @@
 //! Sorts by number, which of them stand below which, and the objects of each.
-ghost use Rattle.std.specs.Prelude.{◌≡◌, ◌<◌, true, false, None, length, IfOk, OnOk, OnErr};
+ghost use Rattle.std.specs.Prelude.{◌≡◌, ◌<◌, ◌++◌, ◌∷◌, [], true, false, None, length, IfOk, IsOk, OnOk, OnErr};
+ghost use Rattle.std.specs.Vec.{vec_len, vec_capacity};
 ghost use Rattle.std.specs.List.{list_any};
 ghost use Rattle.cc_defs.specs.DeclarationFaults.{same_pair};
 ghost use Rattle.cc_defs.specs.Declarations.{is_below, numbers_where};
 ghost use Rattle.cc_defs.specs.Grammar.{same_text};
 ghost use Rattle.cc_sorts.specs.Dictionaries.{number_of};
-ghost use Rattle.cc_sorts.specs.SortViews.{SortsView, first_sorts, name_at, members_at, with_sort, with_pair, with_implied, with_object, IsPast};
+ghost use Rattle.indexmap.specs.IndexSet.{insert_key, spare};
+ghost use Rattle.cc_sorts.specs.SortParts.{same_numbers};
+ghost use Rattle.cc_sorts.specs.SortViews.{SortsView, no_sorts, first_sorts, name_at, members_at, with_sort, with_pair, with_implied, with_object, IsPast};
 
 use crate::dictionary::Dictionary;
-use crate::lists::{make_room, unite_each};
+use crate::lists::{Moves, make_room, put_lists, unite_each};
 use crate::numbers::has;
+use crate::puts::{put_key, put_last};
 use cc_defs::OutOfMemory;
 use indexmap::IndexSet;
 use std::alloc::Global;
@@ -40,6 +44,36 @@ pub(crate) struct Sorts {
     moved: Vec<u32>,
 }
 
+fn make_room_for_pair(
+    pairs: &mut Vec<SortPair>,
+    known: &mut IndexSet<SortPair>,
+) -> Result<(), OutOfMemory>
+    ensures pairs { pairs.new.items ≡ pairs.old.items }
+    ensures known { known.new.keys ≡ known.old.keys }
+    ensures room { OnOk result (vec_len pairs.new < vec_capacity pairs.new) }
+    ensures room_to_know { OnOk result (0 < spare known.new) }
+{
+    pairs.reserve(1)?;
+    known.reserve(1)?;
+    Ok(())
+}
+
+/// Adds a pair for which there is room.
+fn record_pair(
+    pairs: &mut Vec<SortPair>,
+    known: &mut IndexSet<SortPair>,
+    pair: SortPair,
+) -> Result<(), OutOfMemory>
+    requires room { vec_len pairs.old < vec_capacity pairs.old }
+    requires room_to_know { 0 < spare known.old }
+    ensures done { IsOk result }
+    ensures pairs { pairs.new.items ≡ pairs.old.items ++ pair ∷ [] }
+    ensures known { known.new.keys ≡ insert_key same_numbers known.old.keys pair }
+{
+    put_last(pairs, pair)?;
+    put_key(known, pair)
+}
+
 impl Model for Sorts {
     ghost use Rattle.cc_sorts.specs.SortViews.{SortsView};
 
@@ -55,24 +89,36 @@ impl Model for Sorts {
 }
 
 impl Sorts {
+    fn empty(alloc: Global) -> Sorts
+        ensures { result ≡ no_sorts }
+    {
+        Sorts {
+            names: Dictionary::new(alloc),
+            pairs: Vec::new(alloc),
+            known: IndexSet::new(alloc),
+            above: Vec::new(alloc),
+            below: Vec::new(alloc),
+            members: Vec::new(alloc),
+            moved: Vec::new(alloc),
+        }
+    }
+
     /// The sort `boolean`, with its objects 0 and 1.
     pub(crate) fn new(alloc: Global) -> Result<Sorts, OutOfMemory>
         ensures { IfOk result (λ sorts. sorts ≡ first_sorts) }
     {
-        let mut names = Dictionary::new(alloc);
-        names.push(alloc, "boolean", ())?;
-        let above = vec![in alloc; Vec::from_slice(alloc, &[0])?]?;
-        let below = vec![in alloc; Vec::from_slice(alloc, &[0])?]?;
-        let members = vec![in alloc; Vec::from_slice(alloc, &[0, 1])?]?;
-        Ok(Sorts {
-            names,
-            pairs: Vec::new(alloc),
-            known: IndexSet::new(alloc),
-            above,
-            below,
-            members,
-            moved: Vec::new(alloc),
-        })
+        let mut sorts = Sorts::empty(alloc);
+        sorts.add_boolean(alloc)?;
+        Ok(sorts)
+    }
+
+    fn add_boolean(&mut self, alloc: Global) -> Result<(), OutOfMemory>
+        requires { self.old ≡ no_sorts }
+        ensures { OnOk result (self.new ≡ first_sorts) }
+    {
+        self.add(alloc, "boolean")?;
+        self.add_object(0, 0)?;
+        self.add_object(0, 1)
     }
 
     pub(crate) fn len(&self) -> usize
@@ -160,7 +206,7 @@ impl Sorts {
         }
     }
 
-    /// Adds a sort whose name is not there; after want of memory nothing is changed.
+    /// Adds a sort whose name is not there; if memory is wanting for its lists, the name is taken out again.
     pub(crate) fn add(&mut self, alloc: Global, name: &str) -> Result<(), OutOfMemory>
         requires new { number_of self.now.names name.now ≡ None }
         requires few { length self.now.names < 4000000000 }
@@ -168,17 +214,20 @@ impl Sorts {
         ensures unchanged { OnErr result (self.new ≡ self.old) }
     {
         let number = self.names.len() as u32;
-        let above = Vec::from_slice(alloc, &[number])?;
-        let below = Vec::from_slice(alloc, &[number])?;
-        self.above.reserve(1)?;
-        self.below.reserve(1)?;
-        self.members.reserve(1)?;
         self.names.push(alloc, name, ())?;
-        // From here on there is room for all.
-        self.above.push(above)?;
-        self.below.push(below)?;
-        self.members.push(Vec::new(alloc))?;
-        Ok(())
+        match put_lists(
+            alloc,
+            &mut self.above,
+            &mut self.below,
+            &mut self.members,
+            number,
+        ) {
+            Ok(()) => Ok(()),
+            Err(error) => {
+                self.names.pop();
+                Err(error)
+            }
+        }
     }
 
     /// Adds the pair of a sort that is below the other already; after want of memory nothing is changed.
@@ -190,16 +239,12 @@ impl Sorts {
         ensures added { OnOk result (self.new ≡ with_implied self.old upper lower) }
         ensures unchanged { OnErr result (self.new ≡ self.old) }
     {
-        self.pairs.reserve(1)?;
-        self.known.reserve(1)?;
-        // From here on there is room for it.
+        make_room_for_pair(&mut self.pairs, &mut self.known)?;
         let pair = SortPair {
             upper: upper as u32,
             lower: lower as u32,
         };
-        self.pairs.push(pair)?;
-        self.known.insert(pair)?;
-        Ok(())
+        record_pair(&mut self.pairs, &mut self.known, pair)
     }
 
     /// Puts a sort below another that is not below it; after want of memory nothing is changed.
@@ -216,25 +261,19 @@ impl Sorts {
         ensures unchanged { OnErr result (self.new ≡ self.old) }
     {
         // They are copied, since they stand among the lists that they are put into.
-        let uppers = Vec::from_slice(alloc, &self.above[upper])?;
-        let lowers = Vec::from_slice(alloc, &self.below[lower])?;
-        let objects = Vec::from_slice(alloc, &self.members[lower])?;
-        make_room(&mut self.above, &lowers, uppers.len(), &mut self.moved)?;
-        make_room(&mut self.below, &uppers, lowers.len(), &mut self.moved)?;
-        make_room(&mut self.members, &uppers, objects.len(), &mut self.moved)?;
-        self.pairs.reserve(1)?;
-        self.known.reserve(1)?;
-        // From here on there is room for all.
-        unite_each(&mut self.above, &lowers, &uppers, &mut self.moved)?;
-        unite_each(&mut self.below, &uppers, &lowers, &mut self.moved)?;
-        unite_each(&mut self.members, &uppers, &objects, &mut self.moved)?;
+        let moves = Moves::of(alloc, &self.above, &self.below, &self.members, upper, lower)?;
+        make_room_for_pair(&mut self.pairs, &mut self.known)?;
+        moves.put(
+            &mut self.above,
+            &mut self.below,
+            &mut self.members,
+            &mut self.moved,
+        )?;
         let pair = SortPair {
             upper: upper as u32,
             lower: lower as u32,
         };
-        self.pairs.push(pair)?;
-        self.known.insert(pair)?;
-        Ok(())
+        record_pair(&mut self.pairs, &mut self.known, pair)
     }
 
     /// Adds an object to a sort and to all above it; after want of memory nothing is changed.

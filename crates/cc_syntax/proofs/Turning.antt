@@ -1,51 +1,40 @@
 -- A turn of the reader of formulas is a step of what defines it.
-use Rattle.std.proofs.Common.{◌≡◌, ◌≢◌, ℕ, suc, ◌-◌, ◌<◌, List, drop, Some, None, refl, subst, arith}
+use Rattle.std.proofs.Common.{◌≡◌, ◌≢◌, ℕ, zero, suc, ◌-◌, ◌<◌, List, Some, None, refl, ap, sym, ◌∙◌, arith}
+use Rattle.std.proofs.lemmas.Option.{same_Some}
 use Rattle.cc_defs.specs.declared.token.Token.{Token}
 use Rattle.cc_defs.specs.declared.tree.Tree.{Tree}
-use Rattle.cc_defs.specs.Trees.{PlainTree, plain_tree}
-use Rattle.cc_defs.specs.Grammar.{Terminal}
 use Rattle.cc_syntax.specs.declared.formulas.Turn.{Turn}
 use Rattle.cc_syntax.specs.declared.formulas.Turn.TheVariants as turns
-use Rattle.cc_syntax.specs.Formulas.{PlainFrame, Wants, Has, Held, begun, gone_on, run_from}
-use Rattle.cc_syntax.specs.Turns.{plain_turn}
-use Rattle.cc_syntax.specs.Views.{seen}
+use Rattle.cc_syntax.specs.Formulas.{PlainFrame, Wants, Has, Ends, Held, run_from}
+use Rattle.cc_syntax.specs.Turns.{plain_turn, turn_of}
 
-wants_step : (n : ℕ) (frames : List PlainFrame) (here : List Terminal) (after : Held) → begun frames here ≡ Some after
-    → run_from (suc n) (frames, Wants here) ≡ run_from n after
+-- a formula that ended is read
+pub ended : (n : ℕ) (frames : List PlainFrame) (tree : _) (rest : _) → run_from n (frames, Ends tree rest) ≡ Some (tree, rest)
 unfolding run_from
-wants_step n frames here after e = rw e refl
+ended zero frames tree rest = refl
+ended (suc n) frames tree rest = refl
 
-has_step : (n : ℕ) (frames : List PlainFrame) (tree : PlainTree) (here : List Terminal) (after : Held) → gone_on frames tree here ≡ Some after
-    → run_from (suc n) (frames, Has tree here) ≡ run_from n after
+-- a turn was made
+pub turned-on : (left less : ℕ) (held after : Held) → 0 < left → less ≡ left - 1 → turn_of held ≡ Some after → run_from left held ≡ run_from less after
 unfolding run_from
-has_step n frames tree here after e = rw e refl
+turned-on zero less held after some one_less e = absurd (omega arith)
+turned-on (suc n) less (frames, Wants here) after some one_less e = rw e (ap (λ m. run_from m after) (omega arith))
+turned-on (suc n) less (frames, Has tree here) after some one_less e = rw e (ap (λ m. run_from m after) (omega arith))
+turned-on (suc n) less (frames, Ends tree rest) after some one_less e = sym (ended less frames tree rest) ∙ ap (run_from less) (same_Some _ _ e)
 
-run_out : (tokens : List Token) (frames : List PlainFrame) (turn : Turn) → ((tree : Tree) (at : ℕ) → turn ≢ turns.Ends tree at)
-    → run_from 0 (frames, plain_turn tokens turn) ≡ None
+-- no turn can be made
+pub turned_out : (left : ℕ) (held : Held) → 0 < left → turn_of held ≡ None → run_from left held ≡ None
 unfolding run_from
-run_out tokens frames (turns.Wants at) none = refl
-run_out tokens frames (turns.Has tree at) none = refl
-run_out tokens frames (turns.Ends tree at) none = absurd (none tree at refl)
+turned_out zero held some e = absurd (omega arith)
+turned_out (suc n) (frames, Wants here) some e = rw e refl
+turned_out (suc n) (frames, Has tree here) some e = rw e refl
+turned_out (suc n) (frames, Ends tree rest) some e = absurd cc
 
-module _ (tokens : List Token) (frames : List PlainFrame) (turn : Turn) where
-  module _ (left less : ℕ) (some : 0 < left) (one_less : less ≡ left - 1) (after : Held) where
-    again : suc less ≡ left
-    again = omega arith
-
-    -- an operand was wanted
-    pub turned-wants : (at : ℕ) → turn ≡ turns.Wants at → begun frames (drop at (seen tokens)) ≡ Some after
-        → run_from left (frames, plain_turn tokens turn) ≡ run_from less after
-    turned-wants at is e =
-        rw is (subst (λ (n : ℕ). run_from n (frames, Wants (drop at (seen tokens))) ≡ run_from less after) again
-        (wants_step less frames (drop at (seen tokens)) after e))
-
-    -- an operand was read
-    pub turned-has : (tree : Tree) (at : ℕ) → turn ≡ turns.Has tree at → gone_on frames (plain_tree tree) (drop at (seen tokens)) ≡ Some after
-        → run_from left (frames, plain_turn tokens turn) ≡ run_from less after
-    turned-has tree at is e =
-        rw is (subst (λ (n : ℕ). run_from n (frames, Has (plain_tree tree) (drop at (seen tokens))) ≡ run_from less after) again
-        (has_step less frames (plain_tree tree) (drop at (seen tokens)) after e))
-
-  -- no turn is left, and the formula does not end
-  pub turned-out : (left : ℕ) → left ≡ 0 → ((tree : Tree) (at : ℕ) → turn ≢ turns.Ends tree at) → run_from left (frames, plain_turn tokens turn) ≡ None
-  turned-out left e none = rw e (run_out tokens frames turn none)
+-- no turn is left, and the formula does not end
+pub turns-spent : (tokens : List Token) (frames : List PlainFrame) (turn : Turn) (left : ℕ) → left ≡ 0 → ((tree : Tree) (at : ℕ) → turn ≢ turns.Ends tree at)
+    → run_from left (frames, plain_turn tokens turn) ≡ None
+unfolding run_from
+turns-spent tokens frames turn (suc left) e none = absurd (omega arith)
+turns-spent tokens frames (turns.Wants at) zero e none = refl
+turns-spent tokens frames (turns.Has tree at) zero e none = refl
+turns-spent tokens frames (turns.Ends tree at) zero e none = absurd (none tree at refl)

@@ -7,7 +7,7 @@ use Rattle.cc_syntax.specs.declared.formulas.Turn.TheVariants as turns
 use Rattle.cc_syntax.specs.declared.frames.Frame.{Frame}
 use Rattle.cc_syntax.specs.declared.stop.Stop.{Stop}
 use Rattle.cc_syntax.specs.declared.stop.Stop.TheVariants as stops
-use Rattle.cc_syntax.specs.Formulas.{PlainFrame, plain_frame, stack, ends_before, PlainTurn, Wants, Has, Ends, Held}
+use Rattle.cc_syntax.specs.Formulas.{PlainFrame, plain_frame, stack, ends_before, PlainTurn, Wants, Has, Ends, Held, begun, gone_on}
 use Rattle.cc_syntax.specs.Views.{seen}
 
 -- whether the innermost frame's operand goes on
@@ -32,3 +32,9 @@ abbrev pub Turns : List Token → List Frame → Result Turn Stop → Option Hel
 Turns tokens frames (Ok turn) found = found ≡ Some (stack frames, plain_turn tokens turn)
 Turns tokens frames (Err stops.NoTree) found = found ≡ None
 Turns tokens frames (Err stops.OutOfMemory) found = Unit {0}
+
+-- the next turn; there is none where the formula ended
+abbrev pub turn_of : Held → Option Held
+turn_of (frames, Wants tokens) = begun frames tokens
+turn_of (frames, Has tree tokens) = gone_on frames tree tokens
+turn_of (frames, Ends tree rest) = Some (frames, Ends tree rest)

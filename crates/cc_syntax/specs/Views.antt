@@ -27,3 +27,9 @@ abbrev pub Passes : List Token → Result ℕ Stop → Option (List Terminal) �
 Passes tokens (Ok next) found = found ≡ Some (drop next (seen tokens))
 Passes tokens (Err stops.NoTree) found = found ≡ None
 Passes tokens (Err stops.OutOfMemory) found = ⊥
+
+-- the same while something else is kept
+abbrev pub PassesBehind : {K : Type 0} → List Token → Result (K × ℕ) Stop → Option (List Terminal) → Type 0
+PassesBehind tokens (Ok passed) found = found ≡ Some (drop passed.1 (seen tokens))
+PassesBehind tokens (Err stops.NoTree) found = found ≡ None
+PassesBehind tokens (Err stops.OutOfMemory) found = ⊥

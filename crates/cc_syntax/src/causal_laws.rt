@@ -1,53 +1,29 @@
 //! Readers of laws.
-ghost use Rattle.std.specs.Prelude.{◌≡◌, drop, IfOk, Option};
+ghost use Rattle.std.specs.Prelude.{◌≡◌, Err, drop, codes, IfOk, None, Option};
 ghost use Rattle.std.specs.Option.{option_map};
-ghost use Rattle.cc_defs.specs.Trees.{PlainTree, PlainLaw, plain_tree, plain_law, plain_part};
+ghost use Rattle.std.specs.Result.{MatchResult};
+ghost use Rattle.cc_defs.specs.Trees.{PlainTree, PlainLaw, plain_tree, plain_law, plain_part, plain_term};
 ghost use Rattle.cc_defs.specs.Trees as trees;
 ghost use Rattle.cc_syntax.specs.Formulas.{formula_at};
-ghost use Rattle.cc_syntax.specs.Laws.{caused_at, effect_at, alone_at, of_term_at, worded_at, acting_at, opens_formula as opening, law_at, tested_law_at};
-ghost use Rattle.cc_syntax.specs.Readers.{optional_at};
-ghost use Rattle.cc_syntax.specs.Views.{seen, Reads};
+ghost use Rattle.cc_syntax.specs.Laws.{caused_at, effect_at, worded_at, acting_at, opens_formula as opening, law_at, tested_law_at};
+ghost use Rattle.cc_syntax.specs.Readers.{given, word_at, optional_at};
+ghost use Rattle.cc_syntax.specs.Terms.{term_at};
+ghost use Rattle.cc_syntax.specs.Views.{seen, Reads, Passes};
 
 use crate::formulas::formula;
+use crate::reading::{made, placed};
 use crate::stop::Stop;
 use crate::terms::term;
 use crate::tokens::{token_at, word};
 use crate::words::{is_reserved_word, is_word_of_value};
-use cc_defs::{LawTree, Mark, Part, Token, TokenKind, Tree};
+use cc_defs::{LawTree, Mark, Part, TermTree, Token, TokenKind, Tree};
 use std::alloc::Global;
 
-/// A formula that is kept while more is read. A struct, since its drop is one call wherever the reading may end.
-#[derive(Drop)]
-struct Kept<'s> {
-    formula: Tree<'s>,
-}
-
 /// `F if G`
-#[derive(Drop)]
-struct EffectParts<'s> {
-    formula: Tree<'s>,
-    condition: Option<Tree<'s>>,
-}
+type Effect<'s> = (Tree<'s>, Option<Tree<'s>>);
 
 /// `F if G after H`
-#[derive(Drop)]
-struct CausedParts<'s> {
-    formula: Tree<'s>,
-    condition: Option<Tree<'s>>,
-    before: Option<Tree<'s>>,
-}
-
-/// A formula that is kept.
-fn read_formula<'s>(
-    alloc: Global,
-    tokens: &[Token<'s>],
-    at: usize,
-) -> Result<(Kept<'s>, usize), Stop>
-    ensures { Reads (λ read. plain_tree read.formula) tokens.now result (formula_at (drop at (seen tokens.now))) }
-{
-    let (formula, next) = formula(alloc, tokens, at)?;
-    Ok((Kept { formula }, next))
-}
+type Caused<'s> = (Effect<'s>, Option<Tree<'s>>);
 
 /// A formula behind the word, if the word is there.
 fn optional<'s>(
@@ -65,168 +41,142 @@ fn optional<'s>(
     Ok((Some(read), next))
 }
 
-/// `F if G`, for any law that has it behind its word.
-#[tactic(auto, unfolding(crate::specs::Laws::effect_at))]
-fn effect<'s>(
+/// What was read, and a formula behind the word, if the word is there. What was read is of any type, so that its drop is one
+/// call.
+fn optional_behind<'s, K: Drop>(
     alloc: Global,
     tokens: &[Token<'s>],
-    at: usize,
-) -> Result<(EffectParts<'s>, usize), Stop>
-    ensures { (make : PlainTree → Option PlainTree → PlainLaw) →
-        Reads (λ read. make (plain_tree read.formula) (option_map plain_tree read.condition)) tokens.now result (effect_at make (drop at (seen tokens.now))) }
+    read: Result<(K, usize), Stop>,
+    text: &str,
+) -> Result<((K, Option<Tree<'s>>), usize), Stop>
+    ensures { MatchResult read
+        (λ r. IfOk result (λ both. both.0.0 ≡ r.0) × Reads (λ both. option_map plain_tree both.1) tokens.now result (optional_at formula_at text.now (drop r.1 (seen tokens.now))))
+        (λ stop. result ≡ Err stop) }
 {
-    let (kept, next) = read_formula(alloc, tokens, at)?;
-    let (condition, next) = optional(alloc, tokens, next, "if")?;
-    Ok((
-        EffectParts {
-            formula: kept.formula,
-            condition,
-        },
-        next,
-    ))
+    let (kept, next) = read?;
+    let (formula, next) = optional(alloc, tokens, next, text)?;
+    Ok(((kept, formula), next))
+}
+
+/// `F if G`, for any law that has it behind its word.
+#[tactic(auto, unfolding(crate::specs::Laws::effect_at))]
+fn effect<'s>(alloc: Global, tokens: &[Token<'s>], at: usize) -> Result<(Effect<'s>, usize), Stop>
+    ensures { (make : PlainTree → Option PlainTree → PlainLaw) →
+        Reads (λ read. make (plain_tree read.0) (option_map plain_tree read.1)) tokens.now result (effect_at make (drop at (seen tokens.now))) }
+{
+    optional_behind(alloc, tokens, formula(alloc, tokens, at), "if")
 }
 
 /// `F if G after H`, for any law that has it behind its word.
 #[tactic(auto, unfolding(crate::specs::Laws::caused_at))]
-fn caused<'s>(
-    alloc: Global,
-    tokens: &[Token<'s>],
-    at: usize,
-) -> Result<(CausedParts<'s>, usize), Stop>
+fn caused<'s>(alloc: Global, tokens: &[Token<'s>], at: usize) -> Result<(Caused<'s>, usize), Stop>
     ensures { (make : PlainTree → Option PlainTree → Option PlainTree → PlainLaw) →
-        Reads (λ read. make (plain_tree read.formula) (option_map plain_tree read.condition) (option_map plain_tree read.before)) tokens.now result (caused_at make (drop at (seen tokens.now))) }
+        Reads (λ read. make (plain_tree read.0.0) (option_map plain_tree read.0.1) (option_map plain_tree read.1)) tokens.now result (caused_at make (drop at (seen tokens.now))) }
 {
-    let (kept, next) = read_formula(alloc, tokens, at)?;
-    let (condition, next) = optional(alloc, tokens, next, "if")?;
-    let (before, next) = optional(alloc, tokens, next, "after")?;
-    Ok((
-        CausedParts {
-            formula: kept.formula,
-            condition,
-            before,
-        },
-        next,
-    ))
+    let formula = formula(alloc, tokens, at);
+    let effect = optional_behind(alloc, tokens, formula, "if");
+    optional_behind(alloc, tokens, effect, "after")
 }
 
-/// What is behind `caused`.
-#[tactic(auto, unfolding(crate::specs::Laws::caused_at))]
-fn caused_law<'s>(
-    alloc: Global,
-    tokens: &[Token<'s>],
-    at: usize,
-) -> Result<(LawTree<'s>, usize), Stop>
-    ensures { Reads plain_law tokens.now result (caused_at trees.Caused (drop at (seen tokens.now))) }
+/// `caused`, with what is behind it.
+fn caused_tree<'s>(parts: Caused<'s>) -> LawTree<'s>
+    ensures { plain_law result ≡ trees.Caused (plain_tree parts.entry.0.0) (option_map plain_tree parts.entry.0.1) (option_map plain_tree parts.entry.1) }
 {
-    let (parts, next) = caused(alloc, tokens, at)?;
-    Ok((
-        LawTree::Caused(parts.formula, parts.condition, parts.before),
-        next,
-    ))
+    let ((formula, condition), before) = parts;
+    LawTree::Caused(formula, condition, before)
 }
 
-/// What is behind `constraint`.
-#[tactic(auto, unfolding(crate::specs::Laws::alone_at))]
-fn constraint<'s>(
-    alloc: Global,
-    tokens: &[Token<'s>],
-    at: usize,
-) -> Result<(LawTree<'s>, usize), Stop>
-    ensures { Reads plain_law tokens.now result (alone_at trees.Constraint (drop at (seen tokens.now))) }
+/// `default`, with what is behind it.
+fn default_tree<'s>(parts: Caused<'s>) -> LawTree<'s>
+    ensures { plain_law result ≡ trees.Default (plain_tree parts.entry.0.0) (option_map plain_tree parts.entry.0.1) (option_map plain_tree parts.entry.1) }
 {
-    let (formula, next) = formula(alloc, tokens, at)?;
-    Ok((LawTree::Constraint(formula), next))
+    let ((formula, condition), before) = parts;
+    LawTree::Default(formula, condition, before)
 }
 
-/// What is behind `always`.
-#[tactic(auto, unfolding(crate::specs::Laws::alone_at))]
-fn always<'s>(alloc: Global, tokens: &[Token<'s>], at: usize) -> Result<(LawTree<'s>, usize), Stop>
-    ensures { Reads plain_law tokens.now result (alone_at trees.Always (drop at (seen tokens.now))) }
+/// `nonexecutable`, with what is behind it.
+fn nonexecutable_tree<'s>(parts: Effect<'s>) -> LawTree<'s>
+    ensures { plain_law result ≡ trees.Nonexecutable (plain_tree parts.entry.0) (option_map plain_tree parts.entry.1) }
 {
-    let (formula, next) = formula(alloc, tokens, at)?;
-    Ok((LawTree::Always(formula), next))
+    let (formula, condition) = parts;
+    LawTree::Nonexecutable(formula, condition)
 }
 
-/// What is behind `nonexecutable`.
-#[tactic(auto, unfolding(crate::specs::Laws::effect_at))]
-fn nonexecutable<'s>(
-    alloc: Global,
-    tokens: &[Token<'s>],
-    at: usize,
-) -> Result<(LawTree<'s>, usize), Stop>
-    ensures { Reads plain_law tokens.now result (effect_at trees.Nonexecutable (drop at (seen tokens.now))) }
-{
-    let (parts, next) = effect(alloc, tokens, at)?;
-    Ok((LawTree::Nonexecutable(parts.formula, parts.condition), next))
-}
-
-/// What is behind `default`.
-#[tactic(auto, unfolding(crate::specs::Laws::caused_at))]
-fn default_law<'s>(
-    alloc: Global,
-    tokens: &[Token<'s>],
-    at: usize,
-) -> Result<(LawTree<'s>, usize), Stop>
-    ensures { Reads plain_law tokens.now result (caused_at trees.Default (drop at (seen tokens.now))) }
-{
-    let (parts, next) = caused(alloc, tokens, at)?;
-    Ok((
-        LawTree::Default(parts.formula, parts.condition, parts.before),
-        next,
-    ))
-}
-
-/// What is behind `exogenous`.
-#[tactic(auto, unfolding(crate::specs::Laws::of_term_at))]
-fn exogenous<'s>(
-    alloc: Global,
-    tokens: &[Token<'s>],
-    at: usize,
-) -> Result<(LawTree<'s>, usize), Stop>
-    ensures { Reads plain_law tokens.now result (of_term_at trees.Exogenous (drop at (seen tokens.now))) }
-{
-    let (constant, next) = term(alloc, tokens, at)?;
-    Ok((LawTree::Exogenous(constant), next))
-}
-
-/// What is behind `inertial`.
-#[tactic(auto, unfolding(crate::specs::Laws::of_term_at))]
+/// `inertial`, and the constant behind it.
 fn inertial<'s>(
     alloc: Global,
     tokens: &[Token<'s>],
     at: usize,
-) -> Result<(LawTree<'s>, usize), Stop>
-    ensures { Reads plain_law tokens.now result (of_term_at trees.Inertial (drop at (seen tokens.now))) }
+) -> Result<(TermTree<'s>, usize), Stop>
+    ensures { Reads plain_term tokens.now result (given (word_at (codes "inertial") (drop at (seen tokens.now))) None term_at) }
 {
-    let (constant, next) = term(alloc, tokens, at)?;
-    Ok((LawTree::Inertial(constant), next))
+    let next = word(tokens, at, "inertial")?;
+    term(alloc, tokens, next)
 }
 
 /// A law that begins with its word.
-#[tactic(auto, unfolding(crate::specs::Laws::worded_at))]
+#[tactic(auto, unfolding(crate::specs::Laws::worded_at, crate::specs::Laws::alone_at, crate::specs::Laws::of_term_at))]
 fn worded<'s>(alloc: Global, tokens: &[Token<'s>], at: usize) -> Result<(LawTree<'s>, usize), Stop>
     ensures { Reads plain_law tokens.now result (worded_at (drop at (seen tokens.now))) }
 {
     if let Ok(next) = word(tokens, at, "caused") {
-        return caused_law(alloc, tokens, next);
+        return made(caused(alloc, tokens, next), caused_tree);
     }
     if let Ok(next) = word(tokens, at, "constraint") {
-        return constraint(alloc, tokens, next);
+        return made(formula(alloc, tokens, next), LawTree::Constraint);
     }
     if let Ok(next) = word(tokens, at, "always") {
-        return always(alloc, tokens, next);
+        return made(formula(alloc, tokens, next), LawTree::Always);
     }
     if let Ok(next) = word(tokens, at, "nonexecutable") {
-        return nonexecutable(alloc, tokens, next);
+        return made(effect(alloc, tokens, next), nonexecutable_tree);
     }
     if let Ok(next) = word(tokens, at, "default") {
-        return default_law(alloc, tokens, next);
+        return made(caused(alloc, tokens, next), default_tree);
     }
     if let Ok(next) = word(tokens, at, "exogenous") {
-        return exogenous(alloc, tokens, next);
+        return made(term(alloc, tokens, next), LawTree::Exogenous);
     }
-    let next = word(tokens, at, "inertial")?;
-    inertial(alloc, tokens, next)
+    made(inertial(alloc, tokens, at), LawTree::Inertial)
+}
+
+/// `F if G`, while something else is kept.
+fn effect_behind<'s, K: Drop>(
+    alloc: Global,
+    tokens: &[Token<'s>],
+    at: usize,
+    kept: K,
+) -> Result<((K, Effect<'s>), usize), Stop>
+    ensures kept { IfOk result (λ read. read.0.0 ≡ kept) }
+    ensures read { (make : PlainTree → Option PlainTree → PlainLaw) →
+        Reads (λ read. make (plain_tree read.1.0) (option_map plain_tree read.1.1)) tokens.now result (effect_at make (drop at (seen tokens.now))) }
+{
+    let (parts, next) = effect(alloc, tokens, at)?;
+    Ok(((kept, parts), next))
+}
+
+/// `causes`, between an action and its effect.
+fn causes_tree<'s>(read: (Tree<'s>, Effect<'s>)) -> LawTree<'s>
+    ensures { plain_law result ≡ trees.Causes (plain_tree read.entry.0) (plain_tree read.entry.1.0) (option_map plain_tree read.entry.1.1) }
+{
+    let (action, (formula, condition)) = read;
+    LawTree::Causes(action, formula, condition)
+}
+
+/// `may cause`, between an action and its effect.
+fn may_cause_tree<'s>(read: (Tree<'s>, Effect<'s>)) -> LawTree<'s>
+    ensures { plain_law result ≡ trees.MayCause (plain_tree read.entry.0) (plain_tree read.entry.1.0) (option_map plain_tree read.entry.1.1) }
+{
+    let (action, (formula, condition)) = read;
+    LawTree::MayCause(action, formula, condition)
+}
+
+/// `may cause`
+fn may_cause_words(tokens: &[Token], at: usize) -> Result<usize, Stop>
+    ensures { Passes tokens.now result (given (word_at (codes "may") (drop at (seen tokens.now))) None (word_at (codes "cause"))) }
+{
+    let next = word(tokens, at, "may")?;
+    word(tokens, next, "cause")
 }
 
 /// A law that begins with a formula.
@@ -234,21 +184,14 @@ fn worded<'s>(alloc: Global, tokens: &[Token<'s>], at: usize) -> Result<(LawTree
 fn acting<'s>(alloc: Global, tokens: &[Token<'s>], at: usize) -> Result<(LawTree<'s>, usize), Stop>
     ensures { Reads plain_law tokens.now result (acting_at (drop at (seen tokens.now))) }
 {
-    let (action, next) = read_formula(alloc, tokens, at)?;
+    let (action, next) = formula(alloc, tokens, at)?;
     if let Ok(next) = word(tokens, next, "causes") {
-        let (parts, next) = effect(alloc, tokens, next)?;
-        return Ok((
-            LawTree::Causes(action.formula, parts.formula, parts.condition),
-            next,
-        ));
+        return made(effect_behind(alloc, tokens, next, action), causes_tree);
     }
-    let next = word(tokens, next, "may")?;
-    let next = word(tokens, next, "cause")?;
-    let (parts, next) = effect(alloc, tokens, next)?;
-    Ok((
-        LawTree::MayCause(action.formula, parts.formula, parts.condition),
-        next,
-    ))
+    if let Ok(next) = may_cause_words(tokens, next) {
+        return made(effect_behind(alloc, tokens, next, action), may_cause_tree);
+    }
+    Err(Stop::NoTree)
 }
 
 /// Whether a formula may begin here: no law's own word is a name.
@@ -275,19 +218,19 @@ fn law<'s>(alloc: Global, tokens: &[Token<'s>], at: usize) -> Result<(LawTree<'s
     worded(alloc, tokens, at)
 }
 
-/// A formula behind the word, if the word is there, while something else is kept: of any type, so that its drop is one call.
-fn optional_behind<'s, K: Drop>(
-    alloc: Global,
-    tokens: &[Token<'s>],
-    at: usize,
-    text: &str,
-    kept: K,
-) -> Result<((K, Option<Tree<'s>>), usize), Stop>
-    ensures kept { IfOk result (λ read. read.0.0 ≡ kept) }
-    ensures read { Reads (λ read. option_map plain_tree read.1) tokens.now result (optional_at formula_at text.now (drop at (seen tokens.now))) }
+/// A law that may run beside no other.
+fn no_concurrency<'s>() -> Part<'s>
+    ensures { plain_part result ≡ trees.Law trees.NoConcurrency None }
 {
-    let (read, next) = optional(alloc, tokens, at, text)?;
-    Ok(((kept, read), next))
+    Part::Law(LawTree::NoConcurrency, None)
+}
+
+/// A law and its test.
+fn law_part<'s>(read: (LawTree<'s>, Option<Tree<'s>>)) -> Part<'s>
+    ensures { plain_part result ≡ trees.Law (plain_law read.entry.0) (option_map plain_tree read.entry.1) }
+{
+    let (law, test) = read;
+    Part::Law(law, test)
 }
 
 /// A law with its test.
@@ -300,9 +243,8 @@ pub(crate) fn tested_law<'s>(
     ensures { Reads plain_part tokens.now result (tested_law_at (drop at (seen tokens.now))) }
 {
     if let Ok(next) = word(tokens, at, "noconcurrency") {
-        return Ok((Part::Law(LawTree::NoConcurrency, None), next));
+        return placed(no_concurrency(), next);
     }
-    let (law, next) = law(alloc, tokens, at)?;
-    let ((law, test), next) = optional_behind(alloc, tokens, next, "where", law)?;
-    Ok((Part::Law(law, test), next))
+    let law = law(alloc, tokens, at);
+    made(optional_behind(alloc, tokens, law, "where"), law_part)
 }

@@ -1,17 +1,18 @@
 //! Readers of formulas. What is open is held in a list, so that no sign, bracket or operator costs a nested call.
-ghost use Rattle.std.specs.Prelude.{◌≡◌, drop};
+ghost use Rattle.std.specs.Prelude.{◌≡◌, suc, List, ◌∷◌, length, drop};
+ghost use Rattle.cc_syntax.specs.declared.frames.Frame.{Frame};
 ghost use Rattle.cc_defs.specs.Trees.{plain_tree};
 ghost use Rattle.cc_defs.specs.declared.token.Mark.TheVariants as marks;
-ghost use Rattle.cc_syntax.specs.Formulas.{plain_frame, stack, closed, frame_at, atom_at, begun, shut, gone_on, formula_at};
+ghost use Rattle.cc_syntax.specs.Formulas.{plain_frame, stack, closed, frame_at, atom_at, begun, shut, gone_on, run_from, Wants, formula_at};
 ghost use Rattle.cc_syntax.specs.Readers.{name_at, sign_at, ◌◁◌};
-ghost use Rattle.cc_syntax.specs.Turns.{Turns};
+ghost use Rattle.cc_syntax.specs.Turns.{Turns, plain_turn, turn_of};
 ghost use Rattle.cc_syntax.specs.Views.{seen, Reads};
 
 use crate::frames::{Frame, Frames, close};
 use crate::operators::next_operator;
 use crate::stop::Stop;
 use crate::terms::term;
-use crate::tokens::{name, sign};
+use crate::tokens::{name, sign, sign_behind};
 use cc_defs::{Mark, Token, Tree};
 use smallvec::SmallVec;
 use std::alloc::Global;
@@ -99,6 +100,21 @@ fn begin<'s>(
     }
 }
 
+/// The bracket that closes a frame, and the frame with its operand.
+fn shut_frame<'s>(
+    alloc: Global,
+    tokens: &[Token<'s>],
+    frame: Frame<'s>,
+    tree: Tree<'s>,
+    at: usize,
+) -> Result<Turn<'s>, Stop>
+    ensures { (frames : List Frame) → Turns tokens.now frames result (shut (plain_frame frame.entry ∷ stack frames, plain_tree tree.entry) (drop at (seen tokens.now))) }
+{
+    let mark = frame.closing();
+    let ((frame, tree), next) = sign_behind(tokens, at, mark, (frame, tree))?;
+    Ok(Turn::Has(frame.filled(alloc, tree)?, next))
+}
+
 /// No operator follows an operand: it is the formula, or its bracket closes the innermost frame.
 fn shut_innermost<'s>(
     alloc: Global,
@@ -111,10 +127,7 @@ fn shut_innermost<'s>(
 {
     match frames.pop() {
         None => Ok(Turn::Ends(tree, at)),
-        Some(frame) => {
-            let next = sign(tokens, at, frame.closing())?;
-            Ok(Turn::Has(frame.filled(alloc, tree)?, next))
-        }
+        Some(frame) => shut_frame(alloc, tokens, frame, tree, at),
     }
 }
 
@@ -142,8 +155,48 @@ fn go_on<'s>(
     }
 }
 
+/// The next turn; there is none where the formula ended.
+fn turned<'s>(
+    alloc: Global,
+    tokens: &[Token<'s>],
+    frames: &mut Frames<'s>,
+    turn: Turn<'s>,
+) -> Result<Turn<'s>, Stop>
+    ensures { Turns tokens.now frames.new.items result (turn_of (stack frames.old.items, plain_turn tokens.now turn.entry)) }
+{
+    match turn {
+        Turn::Wants(next) => begin(alloc, tokens, frames, next),
+        Turn::Has(tree, next) => go_on(alloc, tokens, frames, tree, next),
+        Turn::Ends(tree, next) => Ok(Turn::Ends(tree, next)),
+    }
+}
+
+/// The formula that the turns come to.
+#[tactic(auto, using(crate::proofs::Turning::turned_out, crate::proofs::Turning::ended))]
+fn run<'s>(
+    alloc: Global,
+    tokens: &[Token<'s>],
+    frames: &mut Frames<'s>,
+    at: usize,
+) -> Result<(Tree<'s>, usize), Stop>
+    ensures { Reads plain_tree tokens.now result (run_from (suc (length (drop at (seen tokens.now)))) (stack frames.old.items, Wants (drop at (seen tokens.now)))) }
+{
+    let mut turn = Turn::Wants(at);
+    // A turn takes a token, but for the last, which finds that the formula ends.
+    let turns = tokens.len().saturating_sub(at) + 1;
+    for _ in 0..turns {
+        turn = match turn {
+            Turn::Ends(tree, next) => return Ok((tree, next)),
+            open => turned(alloc, tokens, frames, open)?,
+        };
+    }
+    match turn {
+        Turn::Ends(tree, next) => Ok((tree, next)),
+        _ => Err(Stop::NoTree),
+    }
+}
+
 /// A formula.
-#[tactic(auto, unfolding(crate::specs::Formulas::run_from))]
 pub(crate) fn formula<'s>(
     alloc: Global,
     tokens: &[Token<'s>],
@@ -152,18 +205,5 @@ pub(crate) fn formula<'s>(
     ensures { Reads plain_tree tokens.now result (formula_at (drop at (seen tokens.now))) }
 {
     let mut frames = SmallVec::new(alloc);
-    let mut turn = Turn::Wants(at);
-    // A turn takes a token, but for the last, which finds that the formula ends.
-    let turns = tokens.len().saturating_sub(at) + 1;
-    for _ in 0..turns {
-        turn = match turn {
-            Turn::Wants(next) => begin(alloc, tokens, &mut frames, next)?,
-            Turn::Has(tree, next) => go_on(alloc, tokens, &mut frames, tree, next)?,
-            Turn::Ends(tree, next) => return Ok((tree, next)),
-        };
-    }
-    match turn {
-        Turn::Ends(tree, next) => Ok((tree, next)),
-        _ => Err(Stop::NoTree),
-    }
+    run(alloc, tokens, &mut frames, at)
 }

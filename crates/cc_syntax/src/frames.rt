@@ -4,7 +4,7 @@ ghost use Rattle.cc_defs.specs.Trees.{plain_tree};
 ghost use Rattle.cc_syntax.specs.Formulas.{plain_frame, stack, filled, ends_before, closed, closing};
 ghost use Rattle.cc_syntax.specs.Turns.{Popped};
 
-use crate::operators::Operator;
+use crate::operators::{Operator, boxed};
 use cc_defs::{Mark, Tree};
 use smallvec::SmallVec;
 use std::alloc::{AllocError, Global};
@@ -33,11 +33,12 @@ impl<'s> Frame<'s> {
     pub(crate) fn filled(self, alloc: Global, tree: Tree<'s>) -> Result<Tree<'s>, AllocError>
         ensures { IfOk result (λ whole. plain_tree whole ≡ filled (plain_frame self.entry) (plain_tree tree.entry)) }
     {
-        match self {
-            Frame::Not => Ok(Tree::Not(Box::new(alloc, tree)?)),
-            Frame::Paren => Ok(Tree::Paren(Box::new(alloc, tree)?)),
-            Frame::ForAll(variable) => Ok(Tree::ForAll(variable, Box::new(alloc, tree)?)),
-            Frame::Exists(variable) => Ok(Tree::Exists(variable, Box::new(alloc, tree)?)),
+        let (tree, frame) = boxed(alloc, tree, self)?;
+        match frame {
+            Frame::Not => Ok(Tree::Not(tree)),
+            Frame::Paren => Ok(Tree::Paren(tree)),
+            Frame::ForAll(variable) => Ok(Tree::ForAll(variable, tree)),
+            Frame::Exists(variable) => Ok(Tree::Exists(variable, tree)),
             Frame::Left(operator, left) => operator.joined(alloc, left, tree),
         }
     }

@@ -10,6 +10,7 @@ mod frames;
 pub mod laws;
 mod operators;
 mod queries;
+mod reading;
 mod statement;
 mod stop;
 mod terms;

@@ -9,7 +9,7 @@ use cc_defs::{Mark, Token, TokenKind, Tree};
 use std::alloc::{AllocError, Global};
 
 /// An operator between two formulas. The strength of one that binds less is greater: `&` groups first, `<->` last.
-#[derive(Clone, Copy, Debug, PartialEq, Eq)]
+#[derive(Clone, Copy)]
 pub(crate) enum Operator {
     /// `&`
     Both,
@@ -50,12 +50,11 @@ impl Operator {
         self,
         alloc: Global,
         left: Tree<'s>,
-        right: Tree<'s>,
+        right: Box<Tree<'s>>,
     ) -> Result<Tree<'s>, AllocError>
-        ensures { IfOk result (λ whole. plain_tree whole ≡ joined self (plain_tree left.entry) (plain_tree right.entry)) }
+        ensures { IfOk result (λ whole. plain_tree whole ≡ joined self (plain_tree left.entry) (plain_tree right.entry.value)) }
     {
-        let left = Box::new(alloc, left)?;
-        let right = Box::new(alloc, right)?;
+        let (left, right) = boxed(alloc, left, right)?;
         Ok(match self {
             Operator::Both => Tree::Both(left, right),
             Operator::Either => Tree::Either(left, right),
@@ -63,6 +62,18 @@ impl Operator {
             Operator::Same => Tree::Same(left, right),
         })
     }
+}
+
+/// A formula in a box, while something else is kept: of any type, so that its drop is one call.
+pub(crate) fn boxed<'s, K: Drop>(
+    alloc: Global,
+    tree: Tree<'s>,
+    kept: K,
+) -> Result<(Box<Tree<'s>>, K), AllocError>
+    ensures { IfOk result (λ made. (made.0.value ≡ tree.entry) × (made.1 ≡ kept)) }
+{
+    let tree = Box::new(alloc, tree)?;
+    Ok((tree, kept))
 }
 
 /// The operator at the place, and the place behind it.

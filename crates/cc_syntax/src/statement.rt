@@ -1,5 +1,5 @@
 //! A statement's tree.
-ghost use Rattle.std.specs.Prelude.{◌≡◌, ◌<◌, ℕ, List as Items, Some, None, Err, drop, false, length, IfOk, IfErr};
+ghost use Rattle.std.specs.Prelude.{◌≡◌, ◌<◌, ℕ, List as Items, Some, None, Err, codes, drop, false, length, map, IfOk, IfErr};
 ghost use Rattle.std.specs.Bool.{then_some};
 ghost use Rattle.std.specs.List.{list_any};
 ghost use Rattle.cc_defs.specs.declared.refusal.Fault.TheVariants as faults;
@@ -7,12 +7,10 @@ ghost use Rattle.cc_defs.specs.declared.token.Mark.TheVariants as marks;
 ghost use Rattle.cc_defs.specs.Grammar.{same_text, terminal, Spells};
 ghost use Rattle.cc_defs.specs.Statements.{IsParsed, begins_directive, is_query as IsQuery, token_limit as limit_of, is_not_yet_in_query as IsNotYetInQuery, is_not_yet as IsNotYet, has_not_yet as HasNotYet, refusal_at};
 ghost use Rattle.cc_defs.specs.Tokens.{AreTokens};
-ghost use Rattle.cc_defs.specs.Trees.{PlainPart, PlainStatement, plain_part, plain_statement};
+ghost use Rattle.cc_defs.specs.Trees.{PlainPart, PlainStatement, plain_part, plain_statement, plain_sort_item, plain_list_item, plain_const_item, plain_query_item};
 ghost use Rattle.cc_defs.specs.Trees as trees;
-ghost use Rattle.cc_syntax.specs.Declarations.{sort_item_at, list_item_at, const_item_at};
-ghost use Rattle.cc_syntax.specs.Parsing.{HasRefused, items_at, include_at, directive_at, part_at, nothing_left, statement_at};
-ghost use Rattle.cc_syntax.specs.Queries.{query_item_at};
-ghost use Rattle.cc_syntax.specs.Readers.{given, sign_at};
+ghost use Rattle.cc_syntax.specs.Parsing.{HasRefused, directive_at, part_at, nothing_left, statement_at};
+ghost use Rattle.cc_syntax.specs.Readers.{given, sign_at, word_at, quoted_at};
 ghost use Rattle.cc_syntax.specs.Views.{seen, Reads};
 ghost use Rattle.cc_syntax.specs.declared.stop.Stop.TheVariants as stops;
 ghost use Rattle.cc_text.specs.Views.{token_view, token_views};
@@ -20,59 +18,57 @@ ghost use Rattle.cc_text.specs.Views.{token_view, token_views};
 use crate::causal_laws::tested_law;
 use crate::declarations::{const_items, list_items, sort_items};
 use crate::queries::query_items;
+use crate::reading::made;
 use crate::stop::Stop;
 use crate::tokens::{quoted, sign, token_at, word};
-use cc_defs::{Fault, LimitAt, List, Mark, Part, Refusal, Statement, Token, TokenKind};
+use cc_defs::{
+    ConstItem, Fault, LimitAt, List, ListItem, Mark, Part, QueryItem, Refusal, SortItem, Statement,
+    Token, TokenKind,
+};
 use std::alloc::Global;
 
-/// The items behind `sorts`.
-fn sorts<'s>(alloc: Global, tokens: &[Token<'s>], at: usize) -> Result<(Part<'s>, usize), Stop>
-    ensures { Reads plain_part tokens.now result (items_at trees.Sorts sort_item_at (drop at (seen tokens.now))) }
+/// Sorts that are declared.
+fn sorts_part<'s>(items: Vec<SortItem<'s>>) -> Part<'s>
+    ensures { plain_part result ≡ trees.Sorts (map plain_sort_item items.entry.items) }
 {
-    let (items, next) = sort_items(alloc, tokens, at)?;
-    Ok((Part::Sorts(List::of(items)), next))
+    Part::Sorts(List::of(items))
 }
 
-/// The items behind `objects`.
-fn objects<'s>(alloc: Global, tokens: &[Token<'s>], at: usize) -> Result<(Part<'s>, usize), Stop>
-    ensures { Reads plain_part tokens.now result (items_at trees.Objects list_item_at (drop at (seen tokens.now))) }
+/// Objects that are declared.
+fn objects_part<'s>(items: Vec<ListItem<'s>>) -> Part<'s>
+    ensures { plain_part result ≡ trees.Objects (map plain_list_item items.entry.items) }
 {
-    let (items, next) = list_items(alloc, tokens, at)?;
-    Ok((Part::Objects(List::of(items)), next))
+    Part::Objects(List::of(items))
 }
 
-/// The items behind `variables`.
-fn variables<'s>(alloc: Global, tokens: &[Token<'s>], at: usize) -> Result<(Part<'s>, usize), Stop>
-    ensures { Reads plain_part tokens.now result (items_at trees.Variables list_item_at (drop at (seen tokens.now))) }
+/// Variables that are declared.
+fn variables_part<'s>(items: Vec<ListItem<'s>>) -> Part<'s>
+    ensures { plain_part result ≡ trees.Variables (map plain_list_item items.entry.items) }
 {
-    let (items, next) = list_items(alloc, tokens, at)?;
-    Ok((Part::Variables(List::of(items)), next))
+    Part::Variables(List::of(items))
 }
 
-/// The items behind `constants`.
-fn constants<'s>(alloc: Global, tokens: &[Token<'s>], at: usize) -> Result<(Part<'s>, usize), Stop>
-    ensures { Reads plain_part tokens.now result (items_at trees.Constants const_item_at (drop at (seen tokens.now))) }
+/// Constants that are declared.
+fn constants_part<'s>(items: Vec<ConstItem<'s>>) -> Part<'s>
+    ensures { plain_part result ≡ trees.Constants (map plain_const_item items.entry.items) }
 {
-    let (items, next) = const_items(alloc, tokens, at)?;
-    Ok((Part::Constants(List::of(items)), next))
+    Part::Constants(List::of(items))
 }
 
-/// The items behind `query`.
-fn query<'s>(alloc: Global, tokens: &[Token<'s>], at: usize) -> Result<(Part<'s>, usize), Stop>
+/// A query.
+fn query_part<'s>(items: Vec<QueryItem<'s>>) -> Part<'s>
+    ensures { plain_part result ≡ trees.Query (map plain_query_item items.entry.items) }
+{
+    Part::Query(List::of(items))
+}
+
+/// `include`, and the name of the file behind it.
+fn include<'s>(tokens: &[Token<'s>], at: usize) -> Result<(&'s str, usize), Stop>
     requires { AreTokens (token_views tokens.now) }
-    ensures { Reads plain_part tokens.now result (items_at trees.Query query_item_at (drop at (seen tokens.now))) }
+    ensures { Reads (λ text. text.now) tokens.now result (given (word_at (codes "include") (drop at (seen tokens.now))) None quoted_at) }
 {
-    let (items, next) = query_items(alloc, tokens, at)?;
-    Ok((Part::Query(List::of(items)), next))
-}
-
-/// The name of the file behind `include`.
-fn include<'s>(tokens: &[Token<'s>], at: usize) -> Result<(Part<'s>, usize), Stop>
-    requires { AreTokens (token_views tokens.now) }
-    ensures { Reads plain_part tokens.now result (include_at (drop at (seen tokens.now))) }
-{
-    let (file, next) = quoted(tokens, at)?;
-    Ok((Part::Include(file), next))
+    let next = word(tokens, at, "include")?;
+    quoted(tokens, next)
 }
 
 /// What a directive says, behind its `:-`.
@@ -82,22 +78,21 @@ fn directive<'s>(alloc: Global, tokens: &[Token<'s>], at: usize) -> Result<(Part
     ensures { Reads plain_part tokens.now result (directive_at (drop at (seen tokens.now))) }
 {
     if let Ok(next) = word(tokens, at, "sorts") {
-        return sorts(alloc, tokens, next);
+        return made(sort_items(alloc, tokens, next), sorts_part);
     }
     if let Ok(next) = word(tokens, at, "objects") {
-        return objects(alloc, tokens, next);
+        return made(list_items(alloc, tokens, next), objects_part);
     }
     if let Ok(next) = word(tokens, at, "variables") {
-        return variables(alloc, tokens, next);
+        return made(list_items(alloc, tokens, next), variables_part);
     }
     if let Ok(next) = word(tokens, at, "constants") {
-        return constants(alloc, tokens, next);
+        return made(const_items(alloc, tokens, next), constants_part);
     }
     if let Ok(next) = word(tokens, at, "query") {
-        return query(alloc, tokens, next);
+        return made(query_items(alloc, tokens, next), query_part);
     }
-    let next = word(tokens, at, "include")?;
-    include(tokens, next)
+    made(include(tokens, at), Part::Include)
 }
 
 /// What a statement says, before its dot.

@@ -1,12 +1,12 @@
 //! Readers of single tokens. A reader is passed the tokens and the place where it begins, and answers the place behind
 //! what it read.
-ghost use Rattle.std.specs.Prelude.{◌≡◌, ◌≤◌, IsTrue, drop, length};
+ghost use Rattle.std.specs.Prelude.{◌≡◌, ◌≤◌, IsTrue, drop, length, IfOk};
 ghost use Rattle.cc_defs.specs.Grammar.{number_of};
 ghost use Rattle.cc_defs.specs.Tokens.{AreTokens, is_number, is_quoted};
 ghost use Rattle.cc_text.specs.Views.{token_views};
 ghost use Rattle.cc_syntax.specs.Marks.{same_mark};
 ghost use Rattle.cc_syntax.specs.Readers.{sign_at, word_at, name_at, numeral_at, label_at, quoted_at, unquoted};
-ghost use Rattle.cc_syntax.specs.Views.{seen, Stands, Reads, Passes};
+ghost use Rattle.cc_syntax.specs.Views.{seen, Stands, Reads, Passes, PassesBehind};
 
 use crate::stop::Stop;
 use crate::words::is_reserved_word;
@@ -41,6 +41,20 @@ pub(crate) fn sign(tokens: &[Token], at: usize, mark: Mark) -> Result<usize, Sto
         TokenKind::Mark(other) if is_mark(mark, other) => Ok(at + 1),
         _ => Err(Stop::NoTree),
     }
+}
+
+/// The mark, while something else is kept: of any type, so that its drop is one call.
+pub(crate) fn sign_behind<K: Drop>(
+    tokens: &[Token],
+    at: usize,
+    mark: Mark,
+    kept: K,
+) -> Result<(K, usize), Stop>
+    ensures kept { IfOk result (λ passed. passed.0 ≡ kept) }
+    ensures read { PassesBehind tokens.now result (sign_at mark (drop at (seen tokens.now))) }
+{
+    let next = sign(tokens, at, mark)?;
+    Ok((kept, next))
 }
 
 /// The word.

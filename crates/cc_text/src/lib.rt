@@ -8,8 +8,6 @@ mod fronts;
 pub mod laws;
 mod marks;
 mod scanner;
-#[cfg(test)]
-mod tests;
 mod tokens;
 
 pub use tokens::Tokens;

@@ -5,8 +5,6 @@ mod entries;
 pub mod laws;
 mod links;
 mod propagation;
-#[cfg(test)]
-mod tests;
 mod trail;
 mod visits;
 mod watches;

@@ -20,8 +20,6 @@ mod given;
 pub mod laws;
 mod numbers;
 mod parse;
-#[cfg(test)]
-mod tests;
 mod words;
 
 pub use asked::{Asked, CheckAsked, ListAsked};

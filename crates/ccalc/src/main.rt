@@ -4,9 +4,6 @@
 ghost use Rattle.std.specs.Prelude.{◌≢◌};
 ghost use Rattle.cc_run.specs.Codes as codes;
 
-#[cfg(test)]
-mod tests;
-
 pub use cc_describe::{DescribeStop, Described, describe};
 use cc_ports::RealDesk;
 pub use cc_run::{Status, run, run_still};

@@ -1,9 +1,8 @@
-use Rattle.std.proofs.Common.{◌∙◌, ap, map, List}
+use Rattle.std.proofs.Common.{◌∙◌, ap, map}
 use Rattle.std.proofs.lemmas.Iterator.Adapters.{YieldsList-from_vec}
 use Rattle.std.proofs.lemmas.Iterator.Consumers.{YieldsList-end}
 use Rattle.cc_defs.specs.Resolved.{plain_base_law, plain_head}
-use Rattle.cc_laws.specs.Expansion.{Frame, law_for, head_parts}
-use Rattle.cc_laws.specs.Resolving.{Binding}
+use Rattle.cc_laws.specs.Expansion.{law_for}
 use Rattle.cc_laws.specs.Views.{frame_from, plain_caused}
 use Rattle.cc_laws.specs.Vocabulary.{vocabulary_of}
 use Rattle.cc_laws.proofs.Gathered.{yielded_more, yielded_all}
@@ -12,18 +11,14 @@ use Rattle.cc_laws.proofs.expansion.split.Goals as goal
 pub loop-head-preserved : goal.loop-head-preserved
 loop-head-preserved c =
     let v = vocabulary_of c.args.table.now in
-    let law = plain_caused c.args.law in
-    yielded_more plain_base_law (law_for v (frame_from v c.args.source) law) plain_head c.loop-head.yielded c.in-Some.head c.loop-head.made.items c.push.new.self.items
-    c.in_ok-law_for.field-0 c.in_ok-push.ensures.items
-    (c.in_ok-law_for.ensures ∙ ap (λ (f : Frame). law_for v f law (plain_head c.in-Some.head)) c.in_ok-frame.ensures)
-    c.loop-head.invariant
+    yielded_more plain_base_law (law_for v (frame_from v c.args.source) (plain_caused c.args.law)) plain_head c.loop-head.yielded c.in-Some.head c.loop-head.made.items c.push.new.self.items
+    c.in_ok-law_for.field-0 c.in_ok-push.ensures.items c.in_ok-law_for.ensures c.loop-head.invariant
 
 pub returns : goal.returns
 returns c =
     let v = vocabulary_of c.args.table.now in
-    let law = plain_caused c.args.law in
-    let f = law_for v (frame_from v c.args.source) law in
+    let f = law_for v (frame_from v c.args.source) (plain_caused c.args.law) in
     let begun = c.into_iter-head-iterator.ensures.into_iter_gives in
     let taken = YieldsList-end (YieldsList-from_vec {s = c.into_iter-head-iterator.result} c.in_ok-heads.heads.items begun.0 (begun.1 ∙ c.in_ok-heads.heads.ok.0)) c.loop-head.yielded c.loop-head.head-iterator c.loop-head.yielded_by c.next.result c.next.new.self c.in-None.is c.next.ensures.steps in
     yielded_all plain_base_law f plain_head c.loop-head.yielded c.in_ok-heads.heads.items c.loop-head.made.items taken.0 c.loop-head.invariant
-    ∙ ap (map f) (c.in_ok-heads.ensures ∙ ap (λ (scope : List Binding). head_parts v scope law.head) c.in_ok-names.ensures.scope)
+    ∙ ap (map f) c.in_ok-heads.ensures

@@ -1,12 +1,8 @@
-use Rattle.std.proofs.Common.{◌∙◌, rules, tests}
-use Rattle.std.proofs.lemmas.Iterator.{YieldsList-from_slice, YieldsList-from_zip}
-use Rattle.std.proofs.lemmas.Iterator.Search.{any_from_yields_List}
+use Rattle.std.proofs.Common.{arith, sym, ◌∙◌}
 use Rattle.cc_laws.specs.Vocabulary.{vocabulary_of}
-use Rattle.cc_laws.proofs.Fitted.{pair_misfits, some_pair_misfits}
+use Rattle.cc_laws.proofs.Fitted.{no_argument}
 use Rattle.cc_laws.proofs.misfits.some_argument_misfits.Goals as goal
 
-pub returns : goal.returns
-returns c =
-    let v = vocabulary_of c.args.table.now in
-    any_from_yields_List (pair_misfits v) c.any.new.self _ c.any.result c.any.ensures.ran (YieldsList-from_zip (YieldsList-from_slice c.args.sorts.now (search rules)) (YieldsList-from_slice c.args.args.now (search rules))) (λ x b q k. search (rules, tests))
-    ∙ some_pair_misfits v c.args.sorts.now c.args.args.now
+pub returns-in_default : goal.returns-in_default
+returns-in_default c =
+    sym (no_argument (vocabulary_of c.args.table.now) c.args.sorts.now c.args.args.now c.loop-place.place (omega (arith, c.in_default.ensures.lookup))) ∙ c.loop-place.invariant

@@ -4,4 +4,4 @@ use Rattle.cc_sorts.proofs.left.add_numbered.Goals as goal
 
 pub loop-number-preserved : goal.loop-number-preserved
 loop-number-preserved c =
-    grows_more (name_at c.args.sorts.now) c.args.found.now.keys c.loop-number.found.keys c.insert.new.self.keys c.args.numbers.now c.loop-number.number-index _ _ c.loop-number-test.true c.in_ok-insert.ensures.keys c.name.ensures c.loop-number.invariant
+    grows_more (name_at c.args.sorts.now) c.args.found.now.keys c.loop-number.found.keys c.put_key.new.set.keys c.args.numbers.now c.loop-number.number-index _ _ c.loop-number-test.true c.in_ok-put_key.ensures.keys c.name.ensures c.loop-number.invariant

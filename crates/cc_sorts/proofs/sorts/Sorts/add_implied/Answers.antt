@@ -7,6 +7,7 @@ use Rattle.cc_sorts.specs.SortParts.{same_numbers}
 use Rattle.cc_sorts.specs.SortViews.{SortsView, with_implied, name_at}
 use Rattle.cc_sorts.proofs.Reading.{within}
 use Rattle.cc_sorts.proofs.Uppers.{apart_numbers}
+use Rattle.cc_sorts.proofs.Walks.{on_ok}
 use Rattle.cc_sorts.proofs.Widening.{kept_implied, seen_implied, pushed}
 use Rattle.cc_sorts.proofs.sorts.Sorts.add_implied.Goals as goal
 
@@ -16,14 +17,14 @@ invariant_of-self-2 c =
     (lists_of c.self.inside.members.items) c.args.upper c.args.lower c.self.invariant (within c.self.inside c.args.self.now c.self.view_is c.self.invariant c.args.upper c.requires.upper) (within c.self.inside c.args.self.now c.self.view_is c.self.invariant c.args.lower c.requires.lower)
     (apart_numbers c.args.self.now c.args.upper c.args.lower c.requires.apart)
     (ap (λ (view : SortsView). is_below view.pairs (name_at view c.args.lower) (name_at view c.args.upper)) c.self.view_is ∙ c.requires.implied)
-    c.push.new.self.items c.insert.new.self.keys
-    (pushed c.self.inside.pairs.items c.reserve.new.self.items c.push.new.self.items (record { upper = c.args.upper; lower = c.args.lower }) c.in_ok-push.ensures.items c.reserve.ensures.items)
-    (c.in_ok-insert.ensures.keys ∙ ap (λ keys. insert_key same_numbers keys (record { upper = c.args.upper; lower = c.args.lower })) c.reserve-2.ensures.keys)
+    c.record_pair.new.pairs.items c.record_pair.new.known.keys
+    (pushed c.self.inside.pairs.items c.make_room_for_pair.new.pairs.items c.record_pair.new.pairs.items (record { upper = c.args.upper; lower = c.args.lower }) c.record_pair.ensures.pairs c.make_room_for_pair.ensures.pairs)
+    (c.record_pair.ensures.known ∙ ap (λ keys. insert_key same_numbers keys (record { upper = c.args.upper; lower = c.args.lower })) c.make_room_for_pair.ensures.known)
 
 pub returns-clause-added : goal.returns-clause-added
-returns-clause-added c =
+returns-clause-added c = on_ok c.record_pair.result _ (
     seen_implied (names_of c.self.inside.names) c.self.inside.pairs.items c.self.inside.known.keys (lists_of c.self.inside.above.items) (lists_of c.self.inside.below.items)
     (lists_of c.self.inside.members.items) c.args.upper c.args.lower c.self.invariant (within c.self.inside c.args.self.now c.self.view_is c.self.invariant c.args.upper c.requires.upper) (within c.self.inside c.args.self.now c.self.view_is c.self.invariant c.args.lower c.requires.lower)
-    c.push.new.self.items
-    (pushed c.self.inside.pairs.items c.reserve.new.self.items c.push.new.self.items (record { upper = c.args.upper; lower = c.args.lower }) c.in_ok-push.ensures.items c.reserve.ensures.items)
-    ∙ ap (λ (view : SortsView). with_implied view c.args.upper c.args.lower) c.self.view_is
+    c.record_pair.new.pairs.items
+    (pushed c.self.inside.pairs.items c.make_room_for_pair.new.pairs.items c.record_pair.new.pairs.items (record { upper = c.args.upper; lower = c.args.lower }) c.record_pair.ensures.pairs c.make_room_for_pair.ensures.pairs)
+    ∙ ap (λ (view : SortsView). with_implied view c.args.upper c.args.lower) c.self.view_is)

@@ -1,5 +1,0 @@
-use Rattle.cc_defs.specs.Terms.{IsTerm}
-use Rattle.cc_arena.proofs.tests.nested.Given as goal
-
-abbrev pub invariant-loop-level : goal.invariant-loop-level
-invariant-loop-level l = IsTerm 0 l.nodes.items

@@ -1,5 +1,0 @@
-use Rattle.cc_kernel.specs.Kernels.{AreAxioms}
-use Rattle.cc_cdcl.proofs.tests.add_pairs_of.Given as goal
-
-abbrev pub invariant-loop-high : goal.invariant-loop-high
-invariant-loop-high l = AreAxioms l.kernel.entries

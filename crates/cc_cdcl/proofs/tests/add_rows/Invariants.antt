@@ -1,5 +1,0 @@
-use Rattle.cc_kernel.specs.Kernels.{AreAxioms}
-use Rattle.cc_cdcl.proofs.tests.add_rows.Given as goal
-
-abbrev pub invariant-loop-index : goal.invariant-loop-index
-invariant-loop-index l = AreAxioms l.kernel.entries

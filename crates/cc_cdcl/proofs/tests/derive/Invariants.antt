@@ -1,5 +1,0 @@
-use Rattle.std.specs.Prelude.{IsSome}
-use Rattle.cc_cdcl.proofs.tests.derive.Given as goal
-
-abbrev pub invariant-loop-index : goal.invariant-loop-index
-invariant-loop-index l = IsSome l.kernel.staged

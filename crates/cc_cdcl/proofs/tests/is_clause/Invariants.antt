@@ -1,6 +1,0 @@
-use Rattle.std.proofs.Common.{drop}
-use Rattle.cc_cdcl.proofs.Having.{Ascend}
-use Rattle.cc_cdcl.proofs.tests.is_clause.Given as goal
-
-abbrev pub invariant-loop-literal : goal.invariant-loop-literal
-invariant-loop-literal l = Ascend l.variables l.variable (drop l.literal-index l.literals) → Ascend l.variables 0 l.literals

@@ -1,6 +1,0 @@
-use Rattle.std.proofs.Common.{◌≡◌, ◌-◌}
-use Rattle.cc_defs.specs.ClauseLists.{position_variables}
-use Rattle.cc_cdcl.proofs.tests.write_values.Given as goal
-
-abbrev pub invariant-loop-variable : goal.invariant-loop-variable
-invariant-loop-variable l = l.values.items ≡ position_variables l.first (l.variable - l.first)

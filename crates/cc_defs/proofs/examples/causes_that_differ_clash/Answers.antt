@@ -1,7 +1,0 @@
--- No row satisfies both heads.
-use Rattle.std.proofs.Common.{refl}
-use Rattle.cc_defs.proofs.Finite.{none}
-use Rattle.cc_defs.proofs.examples.causes_that_differ_clash.Goals as goal
-
-pub returns : goal.returns
-returns c = none _ _ refl

@@ -1,5 +1,0 @@
-use Rattle.std.proofs.Common.{refl}
-use Rattle.cc_defs.proofs.examples.constants_are_ground.Goals as goal
-
-pub returns : goal.returns
-returns c = (refl, refl)

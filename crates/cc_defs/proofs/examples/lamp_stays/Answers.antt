@@ -1,8 +1,0 @@
--- The one step is a transition.
-use Rattle.std.proofs.Common.{refl}
-use Rattle.cc_defs.specs.Examples.{lamp}
-use Rattle.cc_defs.proofs.Finite.{path}
-use Rattle.cc_defs.proofs.examples.lamp_stays.Goals as goal
-
-pub returns : goal.returns
-returns c = (path lamp 0 _ refl, path lamp 0 _ refl)

@@ -1,5 +1,0 @@
-use Rattle.std.proofs.Common.{refl}
-use Rattle.cc_defs.proofs.examples.sorts_have_objects.Goals as goal
-
-pub returns : goal.returns
-returns c = (refl, refl, refl, refl)

@@ -1,5 +1,0 @@
-use Rattle.std.proofs.Common.{refl}
-use Rattle.cc_defs.proofs.examples.tests_drop_environments.Goals as goal
-
-pub returns : goal.returns
-returns c = refl

@@ -1,0 +1,24 @@
+-- The law that a law is short for, and the base laws of those that are short for none.
+use Rattle.std.specs.Prelude.{List, [], ◌∷◌, Option, Some, None}
+use Rattle.cc_defs.specs.Resolved as resolved
+use Rattle.cc_defs.specs.Trees.{PlainLaw}
+use Rattle.cc_defs.specs.Trees as trees
+use Rattle.cc_laws.specs.Expansion.{Caused, caused, both, effect, Exogenous, Inertial, Frame, subject_laws}
+use Rattle.cc_laws.specs.FormulaFaults.{is_fluent_formula}
+use Rattle.cc_laws.specs.Vocabulary.{Vocabulary}
+
+abbrev pub law_short_for : Vocabulary → PlainLaw → Option Caused
+law_short_for v (trees.Caused f g h) = Some (caused (Some f) g h)
+law_short_for v (trees.Constraint f) = Some (caused None (Some (trees.Not f)) None)
+law_short_for v (trees.Always f) = Some (caused None None (Some (trees.Not f)))
+law_short_for v (trees.Nonexecutable f g) = Some (caused None None (Some (both f g)))
+law_short_for v (trees.Default f g h) = Some (caused (Some f) (Some (both f g)) h)
+law_short_for v (trees.Causes a f g) = Some (effect (is_fluent_formula v f) a f g)
+law_short_for v (trees.MayCause a f g) = Some (caused (Some f) (Some f) (Some (both a g)))
+law_short_for v law = None
+
+abbrev pub other_laws : Vocabulary → Frame → PlainLaw → List resolved.BaseLaw
+other_laws v frame (trees.Exogenous c) = subject_laws v frame Exogenous c
+other_laws v frame (trees.Inertial c) = subject_laws v frame Inertial c
+other_laws v frame trees.NoConcurrency = resolved.NoConcurrency frame.file frame.line ∷ []
+other_laws v frame law = []

@@ -1,9 +1,0 @@
-use Rattle.std.proofs.Common.{ℕ, List}
-use Rattle.cc_defs.specs.DeclarationFaults.{has_wrong_sort}
-use Rattle.cc_defs.specs.Declarations.{Declaration}
-use Rattle.cc_sorts.specs.Tables.{IsTable}
-use Rattle.cc_sorts.proofs.Passes.{HasPassed}
-use Rattle.cc_sorts.proofs.fault.any_wrong_sort.Given as goal
-
-abbrev pub invariant-loop-declaration : goal.invariant-loop-declaration
-invariant-loop-declaration l = (file line : ℕ) (left : List Declaration) → IsTable l.table left → HasPassed has_wrong_sort l.new l.declaration-index l.left file line left

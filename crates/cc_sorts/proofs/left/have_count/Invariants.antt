@@ -1,0 +1,8 @@
+use Rattle.std.proofs.Common.{◌≡◌, ◌==◌, drop, length, map}
+use Rattle.std.specs.List.{list_all}
+use Rattle.cc_defs.specs.Trees.{plain_shape}
+use Rattle.cc_sorts.proofs.left.have_count.Given as goal
+
+abbrev pub invariant-loop-shape : goal.invariant-loop-shape
+invariant-loop-shape l =
+    list_all (λ shape. length shape.sorts == l.count) (map plain_shape (drop l.shape-index l.items)) ≡ list_all (λ shape. length shape.sorts == l.count) (map plain_shape l.shapes)

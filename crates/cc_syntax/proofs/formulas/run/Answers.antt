@@ -1,0 +1,9 @@
+use Rattle.std.proofs.Common.{◌∙◌, arith}
+use Rattle.cc_syntax.proofs.Turning.{turned-on, turns-spent}
+use Rattle.cc_syntax.proofs.formulas.run.Goals as goal
+
+pub loop-preserved : goal.loop-preserved
+loop-preserved c = c.loop.invariant ∙ turned-on _ _ _ _ (omega arith) (omega arith) c.in_ok-turn-in_default.ensures
+
+pub returns : goal.returns
+returns c = c.loop.invariant ∙ turns-spent c.args.tokens.now _ c.loop.turn _ (omega arith) c.in_default-turn.not-Ends

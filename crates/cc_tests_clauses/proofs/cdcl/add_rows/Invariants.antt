@@ -1,0 +1,5 @@
+use Rattle.cc_kernel.specs.Kernels.{AreAxioms}
+use Rattle.cc_tests_clauses.proofs.cdcl.add_rows.Given as goal
+
+abbrev pub invariant-loop-index : goal.invariant-loop-index
+invariant-loop-index l = AreAxioms l.kernel.entries

@@ -1,0 +1,16 @@
+//! Tests alone: the calls of terms, clauses, the kernel, the trail, the search and logs, each with memory enough. They stand apart from
+//! the crates that they call, since a crate with tests is proved twice.
+#![tactic(auto)]
+
+#[cfg(test)]
+mod arena;
+#[cfg(test)]
+mod cdcl;
+#[cfg(test)]
+mod check;
+#[cfg(test)]
+mod clauses;
+#[cfg(test)]
+mod kernel;
+#[cfg(test)]
+mod trail;

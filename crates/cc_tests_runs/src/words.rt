@@ -1,0 +1,71 @@
+//! A table of words.
+use cc_defs::OutOfMemory;
+use cc_words::{Asked, CheckAsked, ListAsked, read};
+use std::alloc::Global;
+use std::test::Fail;
+
+const LIST: ListAsked<'static> = ListAsked {
+    file: "f.cc",
+    query: None,
+    count: None,
+    budget: 200_000,
+    after: None,
+    log: None,
+};
+
+fn are_read_as(alloc: Global, words: &[&str], wanted: Option<Asked>) -> Result<bool, OutOfMemory> {
+    let mut owned = Vec::new(alloc);
+    for word in words {
+        owned.push(String::from_str(alloc, word)?)?;
+    }
+    Ok(read(alloc, owned.as_slice())? == wanted)
+}
+
+#[test]
+fn words_are_read(rt: HostRuntime) -> Result<(), Fail> {
+    let alloc = rt.alloc();
+    let three = ListAsked {
+        count: Some(3),
+        ..LIST
+    };
+    let log = CheckAsked {
+        file: "f.cc",
+        query: Some("a"),
+        after: None,
+        log: "l",
+    };
+    for (words, wanted) in [
+        (["f.cc"].as_slice(), Some(Asked::List(LIST))),
+        (["--", "f.cc"].as_slice(), Some(Asked::List(LIST))),
+        (
+            ["--count", "0000003", "f.cc"].as_slice(),
+            Some(Asked::List(three)),
+        ),
+        (["f.cc", "--count=3"].as_slice(), Some(Asked::List(three))),
+        (
+            ["--mode", "check", "--query", "a", "--log", "l", "f.cc"].as_slice(),
+            Some(Asked::Check(log)),
+        ),
+        (
+            ["--mode", "make", "--size", "100"].as_slice(),
+            Some(Asked::Make {
+                size: 100,
+                budget: 200_000,
+            }),
+        ),
+        (
+            ["--mode", "list", "--mode", "list", "f.cc"].as_slice(),
+            None,
+        ),
+        (["--mode", "check", "f.cc"].as_slice(), None),
+        (["--mode", "make", "--size", "101"].as_slice(), None),
+        (["--count", "0", "f.cc"].as_slice(), None),
+        (["--count", "-3", "f.cc"].as_slice(), None),
+        (["--size", "3", "f.cc"].as_slice(), None),
+        (["--help"].as_slice(), None),
+        ([].as_slice(), None),
+    ] {
+        assert!(rt; are_read_as(alloc, words, wanted)?);
+    }
+    Ok(())
+}

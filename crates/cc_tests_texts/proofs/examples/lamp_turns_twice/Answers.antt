@@ -1,0 +1,8 @@
+-- Both steps are transitions.
+use Rattle.std.proofs.Common.{refl}
+use Rattle.cc_tests_texts.specs.Examples.{lamp}
+use Rattle.cc_tests_texts.proofs.Finite.{path}
+use Rattle.cc_tests_texts.proofs.examples.lamp_turns_twice.Goals as goal
+
+pub returns : goal.returns
+returns c = path lamp 1 _ refl

@@ -1,0 +1,7 @@
+-- Each of the four rows is tried.
+use Rattle.std.proofs.Common.{refl}
+use Rattle.cc_tests_texts.proofs.Finite.{model, no_model}
+use Rattle.cc_tests_texts.proofs.examples.laws_stand_for_all_objects.Goals as goal
+
+pub returns : goal.returns
+returns c = (model _ _ _ refl, model _ _ _ refl, no_model _ _ _ refl, no_model _ _ _ refl)

@@ -1,0 +1,5 @@
+use Rattle.std.proofs.Common.{refl}
+use Rattle.cc_tests_texts.proofs.examples.sorts_have_objects.Goals as goal
+
+pub returns : goal.returns
+returns c = (refl, refl, refl, refl)
