@@ -4,12 +4,11 @@ use Rattle.std.specs.Prelude.{◌⊎◌, Contains, slice_get, IfSome, OnErr, Res
 use Rattle.std.specs.Bool.{MatchBool}
 use Rattle.std.proofs.lemmas.List.{length-map}
 use Rattle.cc_defs.specs.Assignments.{IsFailed}
-use Rattle.cc_defs.specs.Clauses.{Literal, Clash, IsClause, IsNumbered, IsOver, IsResolvent, Reaches, opposite}
+use Rattle.cc_defs.specs.Clauses.{Literal, Clash, IsClause, IsIn, IsLiteralOver, IsNumbered, IsOver, IsResolvent, Reaches, opposite}
 use Rattle.cc_kernel.specs.declared.kernel.Origin.TheVariants as origins
 use Rattle.cc_kernel.specs.Kernels.{Entry, KernelView, ClashesWith, IsFinished, IsStarted, IsStepped, IsThere, clauses_of}
 use Rattle.cc_trail.specs.declared.entries.Step.{Step}
 use Rattle.cc_trail.specs.EntryParts.{literal_of_step}
-use Rattle.cc_trail.specs.Links.{IsIn, IsLiteralOver}
 use Rattle.cc_trail.specs.Steps.{AreApart, AreSteps, step_of, steps_to, values_of}
 use Rattle.cc_trail.specs.Trails.{TrailView, Fits, FitsClauses, IsAttached, IsFailedClause, IsMild, IsSettled, back_at, reason_of_step}
 use Rattle.cc_trail.specs.Watches.{AreReasoned, IsFalseBy}

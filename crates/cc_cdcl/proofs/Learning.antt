@@ -3,9 +3,8 @@ use Rattle.std.proofs.Common.{◌≡◌, ◌≢◌, ◌∙◌, ℕ, ◌<◌, ◌
 use Rattle.std.specs.Prelude.{◌⊎◌, Contains}
 use Rattle.std.proofs.lemmas.Bool.Decides.{leb_tells}
 use Rattle.cc_defs.specs.Assignments.{IsFailed, IsFalseIn}
-use Rattle.cc_defs.specs.Clauses.{Literal}
+use Rattle.cc_defs.specs.Clauses.{Literal, IsIn}
 use Rattle.cc_trail.specs.declared.entries.Step.{Step}
-use Rattle.cc_trail.specs.Links.{IsIn}
 use Rattle.cc_trail.specs.Steps.{AreApart, AreSteps, step_of, steps_to, values_of, values_to}
 use Rattle.cc_trail.specs.Trails.{IsSettledOver, IsMild, level_of_step}
 use Rattle.cc_cdcl.specs.Analysis.{HasTwoOf, IsLearned, level_of}

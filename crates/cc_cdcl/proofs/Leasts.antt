@@ -5,10 +5,9 @@ use Rattle.std.proofs.lemmas.Bool.Decides.{eqb_tells}
 use Rattle.std.specs.Cmp.{nat_cmp_is}
 use Rattle.std.specs.declared.cmp.Ordering.TheVariants.{Less, Equal}
 use Rattle.cc_defs.specs.Assignments.{Values, HasNoValue}
-use Rattle.cc_defs.specs.Clauses.{Literal, is_made_true, meets}
+use Rattle.cc_defs.specs.Clauses.{Literal, IsIn, is_made_true, meets}
 use Rattle.cc_defs.specs.Rows.{IsRow, IsBelow}
 use Rattle.cc_trail.specs.declared.entries.Step.{Step}
-use Rattle.cc_trail.specs.Links.{IsIn}
 use Rattle.cc_trail.specs.Steps.{values_of}
 use Rattle.cc_trail.specs.Watches.{AreReasonedAfter, HasReason}
 use Rattle.cc_cdcl.specs.Choices.{AreChosenAfter, IsNext, IsNextFrom}

@@ -3,9 +3,8 @@ use Rattle.std.proofs.Common.{◌≡◌, ◌≢◌, ◌∙◌, ℕ, ◌<◌, ◌
 use Rattle.std.specs.Prelude.{◌⊎◌}
 use Rattle.std.proofs.lemmas.Bool.Decides.{eqb_tells, leb_tells}
 use Rattle.cc_defs.specs.Assignments.{IsFailed}
-use Rattle.cc_defs.specs.Clauses.{Literal, opposite}
+use Rattle.cc_defs.specs.Clauses.{Literal, IsIn, opposite}
 use Rattle.cc_trail.specs.declared.entries.Step.{Step}
-use Rattle.cc_trail.specs.Links.{IsIn}
 use Rattle.cc_trail.specs.Steps.{AreApart, IsRising, level_after, step_of, steps_to, sign_of, sign_to, values_of, values_to}
 use Rattle.cc_trail.specs.Trails.{level_of_step}
 use Rattle.cc_cdcl.specs.Analysis.{AreFalseBy, level_of}

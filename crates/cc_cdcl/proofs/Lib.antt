@@ -19,3 +19,5 @@ mod Levelling
 mod Deriving
 mod Listing
 mod Standing
+mod News
+mod OpenExist

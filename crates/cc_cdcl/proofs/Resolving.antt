@@ -2,9 +2,8 @@
 use Rattle.std.proofs.Common.{◌≡◌, ◌≢◌, ◌∙◌, ℕ, ◌+◌, ◌<◌, ◌≤◌, inl, inr, Bool, true, false, not, List, [], ◌∷◌, ◌++◌, Option, Some, None, refl, sym, subst, ap, arith, append_assoc, append-nil}
 use Rattle.std.proofs.lemmas.Bool.Decides.{eqb_tells}
 use Rattle.cc_defs.specs.Assignments.{IsFailed}
-use Rattle.cc_defs.specs.Clauses.{Literal, opposite, IsResolvent}
+use Rattle.cc_defs.specs.Clauses.{Literal, IsIn, IsResolvent, opposite}
 use Rattle.cc_trail.specs.declared.entries.Step.{Step}
-use Rattle.cc_trail.specs.Links.{IsIn}
 use Rattle.cc_trail.specs.Steps.{AreSteps, IsRising, level_after, step_of, values_of}
 use Rattle.cc_trail.specs.Trails.{TrailView, decided}
 use Rattle.cc_trail.specs.Watches.{IsFalseBy}

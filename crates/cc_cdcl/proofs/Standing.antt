@@ -14,7 +14,7 @@ use Rattle.cc_clauses.specs.RowsOf.{HasRow, IsLeastRowOf, MeetsAll}
 use Rattle.cc_kernel.specs.declared.kernel.Origin.TheVariants as origins
 use Rattle.cc_kernel.specs.Kernels.{KernelView, clauses_of}
 use Rattle.cc_trail.specs.Steps.{AreSteps, steps_to, values_of, values_to}
-use Rattle.cc_trail.specs.Trails.{TrailView, Fits, IsNew, IsSettled}
+use Rattle.cc_trail.specs.Trails.{TrailView, Fits, IsFailedClause, IsNew, IsSettled}
 use Rattle.cc_cdcl.specs.declared.choice.Cursor.{Cursor}
 use Rattle.cc_cdcl.specs.declared.solver.Solver.TheInside.{Inside}
 use Rattle.cc_cdcl.specs.declared.solver.State.{State}
@@ -28,10 +28,10 @@ use Rattle.cc_cdcl.specs.LeastRows.{row_from, row_of}
 use Rattle.cc_cdcl.specs.Searches.{IsSearching, IsSection}
 use Rattle.cc_cdcl.specs.Sets.{IsFull, assignment_of}
 use Rattle.cc_cdcl.specs.SolverParts.{IsOfTrail, IsRunning, IsSolver, Stands, standing_of, view_of}
-use Rattle.cc_cdcl.specs.Solvers.{AddsDerived, Failed, Found, Ready, Refuted, SolverView}
+use Rattle.cc_cdcl.specs.Solvers.{AddsDerived, Failed, Found, IsStuck, Ready, Refuted, SolverView}
 use Rattle.cc_cdcl.proofs.Closed.{full_met}
 use Rattle.cc_cdcl.proofs.Denials.{denial_failed, denial_is_clause, denial_over}
-use Rattle.cc_cdcl.proofs.Deriving.{clauses_added}
+use Rattle.cc_cdcl.proofs.Deriving.{clauses_added, contains_numbered}
 use Rattle.cc_cdcl.proofs.Exactly.{has_row}
 use Rattle.cc_cdcl.proofs.Leasts.{chosen_front}
 use Rattle.cc_cdcl.proofs.Listing.{all_over, section_added, sum_within}
@@ -249,3 +249,20 @@ sum_at (size ∷ sizes) (suc index) low = sum_at sizes index (omega arith)
 pub empty_added : (old new : KernelView) → AddsDerived old new [] → Contains (clauses_of new) []
 empty_added old new adds = subst (λ (cs : List (List Literal)). Contains cs [])
     (sym (clauses_added old new.entries (record { clause = []; origin = origins.Derived }) adds.entries)) (Contains-push (clauses_of old) [])
+
+-- a false clause behind a decision
+pub stuck : (sizes : List ℕ) (kernel old : KernelView) (trail : TrailView) (cursors : List Cursor) (id : ℕ) → kernel ≡ old → IsSearching sizes kernel trail cursors →
+    AreSteps trail.variables trail.steps trail.level_count → 0 < trail.level_count → IsFailedClause (clauses_of kernel) trail.steps id →
+    IsStuck old.variables (clauses_of old)
+stuck sizes kernel old trail cursors id same searching are decided (clause, numbered, failed) =
+    subst (λ (k : KernelView). IsStuck k.variables (clauses_of k)) same (record {
+      steps = trail.steps;
+      levels = trail.level_count;
+      are_steps = subst (λ (n : ℕ). AreSteps n trail.steps trail.level_count) searching.fits.variables are;
+      decided = decided;
+      reasoned = searching.fits.clauses.reasons;
+      settled = searching.settled;
+      clause = clause;
+      there = contains_numbered (clauses_of kernel) id clause numbered;
+      failed = failed;
+    })

@@ -5,8 +5,8 @@ use Rattle.std.proofs.lemmas.Bool.Decides.{eqb_tells, leb_tells}
 use Rattle.std.proofs.lemmas.List.{length-map}
 use Rattle.std.proofs.lemmas.Map.Steps.{length-le_from_distinct_below}
 use Rattle.cc_defs.specs.Assignments.{Values}
+use Rattle.cc_defs.specs.Clauses.{IsIn}
 use Rattle.cc_trail.specs.declared.entries.Step.{Step}
-use Rattle.cc_trail.specs.Links.{IsIn}
 use Rattle.cc_trail.specs.Steps.{AreApart, AreSteps, IsRising, level_after, sign_of, sign_to, step_of, steps_to, values_of, values_to}
 use Rattle.cc_cdcl.proofs.Learning.{level_is, within}
 use Rattle.cc_cdcl.proofs.Levels.{has_step, to_lower}

@@ -2,10 +2,9 @@
 use Rattle.std.proofs.Common.{◌≡◌, ◌≢◌, ◌∙◌, ℕ, ◌<◌, zero, suc, inl, inr, List, [], ◌∷◌, ◌++◌, length, map, take, drop, get_or, Option, Some, None, refl, sym, subst, ap, arith}
 use Rattle.std.specs.Prelude.{◌⊎◌, Contains}
 use Rattle.cc_defs.specs.Assignments.{IsFailed}
-use Rattle.cc_defs.specs.Clauses.{Literal, opposite, Clash, IsResolvent}
+use Rattle.cc_defs.specs.Clauses.{Literal, opposite, Clash, IsIn, IsResolvent}
 use Rattle.cc_trail.specs.declared.entries.Step.{Step}
 use Rattle.cc_trail.specs.EntryParts.{literal_of_step}
-use Rattle.cc_trail.specs.Links.{IsIn}
 use Rattle.cc_trail.specs.Steps.{AreApart, AreSteps, values_of}
 use Rattle.cc_trail.specs.Trails.{IsSettledOver}
 use Rattle.cc_trail.specs.Watches.{AreReasoned, HasReason, IsFalseBy}

@@ -1,9 +1,8 @@
 -- Where the next choice of a search is looked for.
 use Rattle.std.specs.Prelude.{◌≡◌, ◌≢◌, ℕ, ◌+◌, ◌<◌, ◌≤◌, zero, suc, List, [], ◌∷◌, length, get_or, None}
 use Rattle.cc_defs.specs.Assignments.{Values}
-use Rattle.cc_defs.specs.Clauses.{Literal}
+use Rattle.cc_defs.specs.Clauses.{Literal, IsLiteralOver}
 use Rattle.cc_trail.specs.declared.entries.Step.{Step}
-use Rattle.cc_trail.specs.Links.{IsLiteralOver}
 use Rattle.cc_trail.specs.Steps.{step_of, values_of, values_to}
 use Rattle.cc_cdcl.specs.declared.choice.Cursor.{Cursor}
 use Rattle.cc_cdcl.specs.Choices.{HasTrueValue, IsNext}

@@ -4,11 +4,10 @@ use Rattle.std.specs.List.{AllByRecursion}
 use Rattle.cc_clauses.specs.RowsOf.{HasRow, IsLeastRowOf}
 use Rattle.cc_defs.specs.Assignments.{Values, IsClosed, IsFailed, IsEarned, HasOpen}
 use Rattle.cc_defs.specs.ClauseLists.{positions_from}
-use Rattle.cc_defs.specs.Clauses.{Literal, IsOver, Clash, IsResolvent, meets, opposite}
+use Rattle.cc_defs.specs.Clauses.{Literal, IsIn, IsOver, Clash, IsResolvent, meets, opposite}
 use Rattle.cc_defs.specs.Rows.{IsRow}
 use Rattle.cc_defs.specs.Sections.{row_denial}
 use Rattle.cc_trail.specs.declared.entries.Step.{Step}
-use Rattle.cc_trail.specs.Links.{IsIn}
 use Rattle.cc_trail.specs.Steps.{AreSteps, steps_to, values_of}
 use Rattle.cc_trail.specs.Trails.{TrailView, IsMild, IsSettledOver, decided}
 use Rattle.cc_trail.specs.Watches.{AreReasoned, IsFalseBy}
@@ -31,6 +30,15 @@ FullClosedMeets = (variables : ℕ) (clauses : List (List Literal)) (values : Va
 abbrev pub EarnedLinesAreFew : Type 0
 EarnedLinesAreFew = (variables : ℕ) (axioms : List (List Literal)) (lines : List Line) (opens : ℕ) → AllByRecursion (IsOver variables) axioms →
     AreEarnedBehind variables axioms lines → HasOpen variables axioms opens → earned_count lines < 3 ^ opens
+
+-- An earned clause is none of the clauses, and contains none of them.
+abbrev pub EarnedClausesAreNew : Type 0
+EarnedClausesAreNew = (clauses : List (List Literal)) (clause earlier : List Literal) → IsEarned clauses clause → Contains clauses earlier →
+    ((literal : Literal) → Contains earlier literal → Contains clause literal) → ⊥
+
+-- Whatever the axioms are, so and so many variables are open.
+abbrev pub OpenVariablesExist : Type 0
+OpenVariablesExist = (variables : ℕ) (axioms : List (List Literal)) → (opens : ℕ) × HasOpen variables axioms opens
 
 -- Of clauses by which each position has exactly one value, the least row is that of steps that were chosen so, if what they
 -- make true is closed and gives every variable a value.

@@ -1,6 +1,6 @@
 -- What the holder of a solver sees of it, and what its answers say.
-use Rattle.std.specs.Prelude.{◌≡◌, ◌≢◌, ℕ, ◌+◌, ◌*◌, ◌≤◌, ◌⊎◌, Bool, true, false, List, [], ◌∷◌, ◌++◌, length, map, filter, Contains}
-use Rattle.cc_defs.specs.Assignments.{IsEarned}
+use Rattle.std.specs.Prelude.{◌≡◌, ◌≢◌, ℕ, ◌+◌, ◌*◌, ◌<◌, ◌≤◌, ◌⊎◌, Bool, true, false, List, [], ◌∷◌, ◌++◌, length, map, filter, Contains}
+use Rattle.cc_defs.specs.Assignments.{IsEarned, IsFailed}
 use Rattle.cc_defs.specs.ClauseLists.{positions_from}
 use Rattle.cc_defs.specs.Clauses.{Literal, Reaches}
 use Rattle.cc_defs.specs.Sections.{HasNoEmpty, row_denial}
@@ -8,6 +8,10 @@ use Rattle.cc_clauses.specs.RowsOf.{IsLeastRowOf}
 use Rattle.cc_kernel.specs.declared.kernel.Origin.{Origin}
 use Rattle.cc_kernel.specs.declared.kernel.Origin.TheVariants as origins
 use Rattle.cc_kernel.specs.Kernels.{Entry, KernelView, clauses_of, derived_count}
+use Rattle.cc_trail.specs.declared.entries.Step.{Step as TrailStep}
+use Rattle.cc_trail.specs.Steps.{AreSteps, values_of}
+use Rattle.cc_trail.specs.Trails.{IsSettledOver}
+use Rattle.cc_trail.specs.Watches.{AreReasoned}
 use Rattle.cc_cdcl.specs.declared.solver.Step.{Step}
 use Rattle.cc_cdcl.specs.declared.solver.Step.TheVariants as steps
 
@@ -62,6 +66,19 @@ pub record AddsBlock (old new : KernelView) (clause : List Literal) : Type 0 whe
   pub variables : new.variables ≡ old.variables
   pub entries : new.entries ≡ old.entries ++ (record { clause = clause; origin = origins.Block }) ∷ []
 
+-- What was decided, and what propagation gives then, makes one of the clauses false, while each level below is closed: the search
+-- goes on only behind a further derived line.
+pub record IsStuck (variables : ℕ) (clauses : List (List Literal)) : Type 0 where
+  pub steps : List TrailStep
+  pub levels : ℕ
+  pub are_steps : AreSteps variables steps levels
+  pub decided : 0 < levels
+  pub reasoned : AreReasoned clauses steps
+  pub settled : IsSettledOver steps levels clauses
+  pub clause : List Literal
+  pub there : Contains clauses clause
+  pub failed : IsFailed (values_of steps) clause
+
 -- what an answer of the search says
 abbrev pub IsStep : ℕ → SolverView → SolverView → Step → Type 0
 IsStep budget old new steps.Line =
@@ -72,7 +89,9 @@ IsStep budget old new steps.Found =
 IsStep budget old new steps.Refuted =
     (new.sizes ≡ old.sizes) × (new.standing ≡ Refuted) × Contains (clauses_of new.kernel) []
     × ((new.kernel ≡ old.kernel) ⊎ AddsDerived old.kernel new.kernel [])
-IsStep budget old new steps.Spent = (new ≡ old) × (derived_count old.kernel.entries ≡ budget) × HasNoEmpty (clauses_of old.kernel)
+IsStep budget old new steps.Spent =
+    (new ≡ old) × (derived_count old.kernel.entries ≡ budget) × HasNoEmpty (clauses_of old.kernel)
+    × IsStuck old.kernel.variables (clauses_of old.kernel)
 
 -- memory was wanting
 pub record IsStopped (old new : SolverView) : Type 0 where

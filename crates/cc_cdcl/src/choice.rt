@@ -1,6 +1,7 @@
 //! The choice of the next literal: the least value that is not false of the first position that has no true value.
 ghost use Rattle.std.specs.Prelude.{◌≡◌, ◌≢◌, ℕ, ◌+◌, ◌<◌, ◌≤◌, ◌↔◌, IsTrue, Some, None, IfSome, IfNone, false, sum, length, slice_index};
 ghost use Rattle.cc_defs.specs.Assignments.{IsClosed};
+ghost use Rattle.cc_defs.specs.Limits.{most_variables};
 ghost use Rattle.cc_kernel.specs.Kernels.{clauses_of};
 ghost use Rattle.cc_trail.specs.Steps.{values_of};
 ghost use Rattle.cc_cdcl.specs.Choices.{HasTrueValue};
@@ -28,7 +29,7 @@ pub struct Cursor {
 fn is_given(trail: &Trail, variable: u32, sign: bool) -> bool
     requires some { 1 ≤ variable }
     requires within { variable ≤ trail.now.variables }
-    requires few { trail.now.variables ≤ 4000000 }
+    requires few { trail.now.variables ≤ most_variables }
     ensures { IsTrue result ↔ (values_of trail.now.steps variable ≡ Some sign) }
 {
     match trail.value(Lit::positive(variable)) {
@@ -41,7 +42,7 @@ fn is_given(trail: &Trail, variable: u32, sign: bool) -> bool
 fn has_value(trail: &Trail, variable: u32) -> bool
     requires some { 1 ≤ variable }
     requires within { variable ≤ trail.now.variables }
-    requires few { trail.now.variables ≤ 4000000 }
+    requires few { trail.now.variables ≤ most_variables }
     ensures { IsTrue result ↔ (values_of trail.now.steps variable ≢ None) }
 {
     match trail.value(Lit::positive(variable)) {
@@ -54,7 +55,7 @@ fn has_value(trail: &Trail, variable: u32) -> bool
 pub fn true_value(trail: &Trail, first: u32, size: u32) -> u32
     requires some { 1 ≤ first }
     requires within { first + size ≤ trail.now.variables + 1 }
-    requires few { trail.now.variables ≤ 4000000 }
+    requires few { trail.now.variables ≤ most_variables }
     ensures { result ≡ true_index (assignment_of (values_of trail.now.steps)) first size }
 {
     for value in 0..size {
@@ -69,7 +70,7 @@ pub fn true_value(trail: &Trail, first: u32, size: u32) -> u32
 fn least_open(trail: &Trail, first: u32, size: u32) -> u32
     requires some { 1 ≤ first }
     requires within { first + size ≤ trail.now.variables + 1 }
-    requires few { trail.now.variables ≤ 4000000 }
+    requires few { trail.now.variables ≤ most_variables }
     requires open { ((value : ℕ) → value < size → values_of trail.now.steps (first + value) ≡ Some false) → ⊥ }
     ensures within { result < size }
     ensures open { values_of trail.now.steps (first + result) ≢ Some false }
@@ -84,7 +85,7 @@ fn least_open(trail: &Trail, first: u32, size: u32) -> u32
 
 // Moves a cursor behind the positions that have a true value.
 fn pass_positions(trail: &Trail, sizes: &[u32], start: Cursor) -> Cursor
-    requires few { trail.now.variables ≤ 4000000 }
+    requires few { trail.now.variables ≤ most_variables }
     requires sizes { sum sizes.now ≤ trail.now.variables }
     requires cursor { IsCursor sizes.now trail.now.variables (values_of trail.now.steps) start }
     ensures cursor { IsCursor sizes.now trail.now.variables (values_of trail.now.steps) result }
@@ -108,7 +109,7 @@ fn pass_positions(trail: &Trail, sizes: &[u32], start: Cursor) -> Cursor
 // The first variable from this one on that has no value, or the one behind the last.
 fn first_open(trail: &Trail, variables: u32, start: u32) -> u32
     requires variables { variables ≡ trail.now.variables }
-    requires few { trail.now.variables ≤ 4000000 }
+    requires few { trail.now.variables ≤ most_variables }
     requires some { 1 ≤ start }
     requires most { start ≤ variables + 1 }
     requires before { (variable : ℕ) → 0 < variable → variable < start → values_of trail.now.steps variable ≢ None }

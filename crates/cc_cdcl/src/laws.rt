@@ -1,5 +1,5 @@
 //! Laws of conflict-driven search, each the contract of a function with no body.
-ghost use Rattle.cc_cdcl.specs.Laws.{ChoicesAreKept, ClosedMeet, DenialDenies, DenialLeavesOthers, EarnedLinesAreFew, FalseClauseHasTwo, FullClosedMeets, LearnedIsEarned, LeastRowIsFound, OtherIsFalse, ResolventIsFalse};
+ghost use Rattle.cc_cdcl.specs.Laws.{ChoicesAreKept, ClosedMeet, DenialDenies, DenialLeavesOthers, EarnedClausesAreNew, EarnedLinesAreFew, FalseClauseHasTwo, FullClosedMeets, LearnedIsEarned, LeastRowIsFound, OpenVariablesExist, OtherIsFalse, ResolventIsFalse};
 
 /// What two closed assignments give alike is closed.
 pub fn closed_meet()
@@ -14,6 +14,16 @@ pub fn full_closed_meets()
 /// Derived lines that are earned, where k variables are open, are fewer than 3 ^ k.
 pub fn earned_lines_are_few()
     ensures { EarnedLinesAreFew }
+{}
+
+/// An earned clause is none of the clauses before it, and contains none of them.
+pub fn earned_clauses_are_new()
+    ensures { EarnedClausesAreNew }
+{}
+
+/// Of any clauses, so and so many variables are open.
+pub fn open_variables_exist()
+    ensures { OpenVariablesExist }
 {}
 
 /// The row of a closed trail that gives every variable a value is the least one, if each decision was the least value that

@@ -1,6 +1,7 @@
 //! The search for the rows of clauses: derived clauses, and the least row that no block denies yet.
 ghost use Rattle.std.specs.Prelude.{◌≡◌, ◌≢◌, ℕ, ◌+◌, ◌<◌, ◌≤◌, ◌^◌, List, IfOk, OnOk, OnErr, length, sum};
 ghost use Rattle.cc_defs.specs.Assignments.{HasOpen};
+ghost use Rattle.cc_defs.specs.Limits.{most_variables};
 ghost use Rattle.cc_defs.specs.Rows.{IsRow};
 ghost use Rattle.cc_defs.specs.Sections.{row_denial};
 ghost use Rattle.cc_kernel.specs.Kernels.{AreAxioms, AreClauses, added, derived_count};
@@ -96,7 +97,7 @@ fn write_row(trail: &Trail, sizes: &[u32], row: &mut [u32])
 // Writes the clause that denies a row.
 fn write_denial(sizes: &[u32], row: &[u32], clause: &mut Vec<Lit>) -> Result<(), OutOfMemory>
     requires row { IsRow sizes.now row.now }
-    requires sizes { sum sizes.now ≤ 4000000 }
+    requires sizes { sum sizes.now ≤ most_variables }
     ensures { OnOk result (clause.new.items ≡ row_denial sizes.now row.now) }
 {
     clause.clear();

@@ -16,8 +16,8 @@ use Rattle.cc_check.proofs.FirstLines.{line_length, first_line_cut}
 header_lines : (rest : List ℕ) → lines_in (header ++ rest) ≡ header ∷ lines_in rest
 header_lines rest = refl
 
-refusal_as : (bytes : List ℕ) (fault : CheckFault) (line : ℕ) (cause : Cause) → fault ≡ faults.Refused line cause → IsSplit bytes (Misread line cause) → IsRefusal bytes fault
-refusal_as bytes fault line cause is split = subst (IsRefusal bytes) (sym is) split
+refusal_as : (bytes : List ℕ) (fault : CheckFault) (line : ℕ) (reason : Cause) → fault ≡ faults.Refused line reason → IsSplit bytes (Misread line reason) → IsRefusal bytes fault
+refusal_as bytes fault line reason is split = subst (IsRefusal bytes) (sym is) split
 
 no_header_split : (bytes : List ℕ) → ((rest : List ℕ) → bytes ≢ header ++ rest) → IsSplit bytes (Misread 1 causes.Header)
 no_header_split [] none = refl

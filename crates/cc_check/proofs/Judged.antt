@@ -18,10 +18,10 @@ use Rattle.cc_defs.specs.LogTexts.{IsLine, lines_in}
 use Rattle.cc_defs.specs.Rows.{IsRow}
 use Rattle.cc_defs.specs.Sections.{Axioms, Finding, Wrong, HasNoEmpty, AreNamed, EndsRightly, IsFound, IsEnded, row_denial}
 use Rattle.cc_defs.specs.declared.refusal.OutOfMemory.{OutOfMemory}
-use Rattle.cc_check.specs.declared.judge.Verdict.{Verdict}
+use Rattle.cc_check.specs.declared.judge.Finding.{Finding as Found}
 use Rattle.cc_check.specs.declared.judge.Pass.{Pass}
 use Rattle.cc_check.specs.declared.judge.Pass.TheVariants as passes
-use Rattle.cc_check.specs.Clauses.{IsClauseOver, AreClausesOver, AreSound, IsPassed, IsRightDerived, IsWrongDerived, ReachesNothing, finding_of}
+use Rattle.cc_check.specs.Clauses.{IsClauseOver, AreClausesOver, AreSound, IsPassed, IsRightDerived, IsWrongDerived, ReachesNothing, plain_finding}
 use Rattle.cc_check.specs.Texts.{IsFirstLine}
 
 module _ (axioms : Axioms) (own : List (List Literal)) (blocks : ℕ) (text : List ℕ) where
@@ -210,9 +210,9 @@ module _ (axioms : Axioms) (first : ℕ) (bytes : List ℕ) (own : List (List Li
       h.so_far (Wrong line cause) (subst (λ (ts : List (List ℕ)). IsFound axioms (axioms.clauses ++ own) blocks line ts (Wrong line cause)) (sym cut.lines)
       ((subst (λ (p : Pass). IsPassed axioms own blocks text p after count) is passed) line (lines_in behind)))
 
-  pub found_ends_ok : (pass : Pass) (word : EndWord) (after : List (List Literal)) (count : ℕ) (r : Result Verdict OutOfMemory) → pass ≡ passes.Ends word → IsPassed axioms own blocks text pass after count →
-      IfOk r (λ verdict. IsEnded word count line (lines_in behind) (finding_of verdict)) → IfOk r (λ verdict. IsFound axioms axioms.clauses 0 first (lines_in bytes) (finding_of verdict))
-  found_ends_ok pass word after count (Ok verdict) is passed ended = found_ends pass word after count (finding_of verdict) is passed ended
+  pub found_ends_ok : (pass : Pass) (word : EndWord) (after : List (List Literal)) (count : ℕ) (r : Result Found OutOfMemory) → pass ≡ passes.Ends word → IsPassed axioms own blocks text pass after count →
+      IfOk r (λ found. IsEnded word count line (lines_in behind) (plain_finding found)) → IfOk r (λ found. IsFound axioms axioms.clauses 0 first (lines_in bytes) (plain_finding found))
+  found_ends_ok pass word after count (Ok found) is passed ended = found_ends pass word after count (plain_finding found) is passed ended
   found_ends_ok pass word after count (Err e) is passed ended = tt
 
 pub found_nothing : (axioms : Axioms) (first : ℕ) (bytes : List ℕ) (own : List (List Literal)) (blocks line : ℕ) (rest : List ℕ) → FoundSoFar axioms first bytes own blocks line rest →

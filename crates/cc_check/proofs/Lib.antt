@@ -3,6 +3,7 @@ pub mod Spelled
 pub mod Signed
 pub mod Rows
 pub mod Lines
+pub mod Telling
 pub mod Verdicts
 pub mod Literals
 pub mod Chains

@@ -68,7 +68,7 @@ no_block body none (lines.Block row) h =
 
 -- ---- derived lines
 
-short_push : (numbers : List ℕ) (number : ℕ) → AllByRecursion IsShort numbers → IsShort number → AllByRecursion IsShort (numbers ++ number ∷ [])
+pub short_push : (numbers : List ℕ) (number : ℕ) → AllByRecursion IsShort numbers → IsShort number → AllByRecursion IsShort (numbers ++ number ∷ [])
 short_push [] number all one = (one, tt)
 short_push (n ∷ numbers) number all one = (all.0, short_push numbers number all.1 one)
 

@@ -4,7 +4,8 @@ use Rattle.std.proofs.lemmas.Bool.{cases_Bool}
 use Rattle.std.proofs.lemmas.Bool.Decides.{nat_tests}
 use Rattle.std.proofs.lemmas.Fmt.{decimal_digit, decimal_step, decimal_by_steps}
 use Rattle.std.proofs.lemmas.Option.{same_Some, none-some}
-use Rattle.cc_check.specs.Reading.{is_digit, EndsNumber, IsNumberAt, HasNoNumber}
+use Rattle.cc_defs.specs.Tokens.{is_digit}
+use Rattle.cc_check.specs.Reading.{EndsNumber, IsNumberAt, HasNoNumber}
 
 abbrev pub read : ℕ → List ℕ → Option (ℕ × List ℕ)
 read number rest = Some (number, rest)

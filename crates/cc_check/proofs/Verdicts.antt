@@ -8,16 +8,16 @@ use Rattle.cc_defs.specs.Logs.{SectionText, Subject, AreJudged, IsVerdictOf, IsV
 use Rattle.cc_check.specs.Laws.{MisreadsAreVerdicts, SectionsGiveVerdicts}
 use Rattle.cc_check.specs.Splits.{Parts, Misread, IsSplitOf, IsSplitBehind}
 
-misread_behind : (subject : Subject) (texts : List (List ℕ)) (line : ℕ) (cause : Cause) → IsSplitBehind texts (Misread line cause) → IsVerdictBehind subject texts (verdicts.Refused line cause)
-misread_behind subject [] line cause is = cc
-misread_behind subject (text ∷ texts) line cause (inl (none, is)) = inl (none, cc)
-misread_behind subject (text ∷ texts) line cause (inr (inl (none, read, is))) = inr (inl (none, read, cc))
-misread_behind subject (text ∷ texts) line cause (inr (inr (sections, are, is))) = absurd cc
+misread_behind : (subject : Subject) (texts : List (List ℕ)) (line : ℕ) (reason : Cause) → IsSplitBehind texts (Misread line reason) → IsVerdictBehind subject texts (verdicts.Refused line reason)
+misread_behind subject [] line reason is = cc
+misread_behind subject (text ∷ texts) line reason (inl (none, is)) = inl (none, cc)
+misread_behind subject (text ∷ texts) line reason (inr (inl (none, read, is))) = inr (inl (none, read, cc))
+misread_behind subject (text ∷ texts) line reason (inr (inr (sections, are, is))) = absurd cc
 
-misread_of : (subject : Subject) (texts : List (List ℕ)) (line : ℕ) (cause : Cause) → IsSplitOf texts (Misread line cause) → IsVerdictOf subject texts (verdicts.Refused line cause)
-misread_of subject [] line cause is = cc
-misread_of subject (text ∷ texts) line cause (inl (other, is)) = inl (other, cc)
-misread_of subject (text ∷ texts) line cause (inr (same, h)) = inr (same, misread_behind subject texts line cause h)
+misread_of : (subject : Subject) (texts : List (List ℕ)) (line : ℕ) (reason : Cause) → IsSplitOf texts (Misread line reason) → IsVerdictOf subject texts (verdicts.Refused line reason)
+misread_of subject [] line reason is = cc
+misread_of subject (text ∷ texts) line reason (inl (other, is)) = inl (other, cc)
+misread_of subject (text ∷ texts) line reason (inr (same, h)) = inr (same, misread_behind subject texts line reason h)
 
 parts_behind : (subject : Subject) (texts : List (List ℕ)) (sections : List SectionText) (verdict : LogVerdict) → IsSplitBehind texts (Parts sections) →
     AreJudged subject (at_first subject) sections verdict → IsVerdictBehind subject texts verdict

@@ -1,11 +1,13 @@
 -- The clauses of a section: those of its form, and behind them its own.
-use Rattle.std.specs.Prelude.{◌≡◌, ℕ, ◌+◌, ◌⊎◌, Bool, List, [], ◌++◌, ◌∷◌, Contains}
+use Rattle.std.specs.Prelude.{◌≡◌, ℕ, ◌+◌, ◌≤◌, ◌⊎◌, Bool, List, [], ◌++◌, ◌∷◌, Contains}
 use Rattle.std.specs.Bool.{MatchBool}
 use Rattle.std.specs.List.{AllByRecursion}
 use Rattle.cc_defs.specs.declared.log.Cause.{Cause}
 use Rattle.cc_defs.specs.declared.log.Cause.TheVariants as causes
 use Rattle.cc_defs.specs.Clauses.{Literal, IsClause, IsOver, IsNumbered, IsResolvent, Reaches}
-use Rattle.cc_defs.specs.Sections.{Axioms, Finding, Right, Wrong, HasNoEmpty, IsWrongly, IsFound, IsEnded}
+use Rattle.cc_defs.specs.Sections.{Axioms, Finding, Right, Trailed, Wrong, HasNoEmpty, IsWrongly, IsFound, IsEnded}
+use Rattle.cc_check.specs.declared.judge.Finding.{Finding as Found}
+use Rattle.cc_check.specs.declared.judge.Finding.TheVariants as findings
 use Rattle.cc_check.specs.declared.judge.Pass.{Pass}
 use Rattle.cc_check.specs.declared.judge.Pass.TheVariants as passes
 use Rattle.cc_check.specs.declared.judge.Verdict.{Verdict}
@@ -61,7 +63,20 @@ IsPassed axioms own blocks text (passes.Ends word) after count =
 IsPassed axioms own blocks text (passes.Wrong cause) after count =
     (line : ℕ) (texts : List (List ℕ)) → IsFound axioms (axioms.clauses ++ own) blocks line (text ∷ texts) (Wrong line cause)
 
--- the finding of a verdict
-abbrev pub finding_of : Verdict → Finding
-finding_of (verdicts.Right ending blocks line) = Right ending blocks line
-finding_of (verdicts.Refused line cause) = Wrong line cause
+-- what a finding says
+abbrev pub plain_finding : Found → Finding
+plain_finding (findings.Right ending blocks line) = Right ending blocks line
+plain_finding (findings.Trailed ending line cause) = Trailed ending line cause
+plain_finding (findings.Wrong line cause) = Wrong line cause
+
+-- there is a number for the line behind an end
+abbrev pub HasLineBehind : Found → Type 0
+HasLineBehind (findings.Right ending blocks line) = Unit {0}
+HasLineBehind (findings.Trailed ending line _) = line ≤ 4000000000
+HasLineBehind (findings.Wrong line _) = Unit {0}
+
+-- What a section is judged to be by itself, whatever its end word allows: behind its end, the line there is the first wrong one.
+abbrev pub IsVerdictOf : Finding → Verdict → Type 0
+IsVerdictOf (Right ending blocks line) verdict = verdict ≡ verdicts.Right ending blocks line
+IsVerdictOf (Trailed ending line cause) verdict = verdict ≡ verdicts.Refused (line + 1) cause
+IsVerdictOf (Wrong line cause) verdict = verdict ≡ verdicts.Refused line cause

@@ -1,16 +1,21 @@
 -- What makes the reading of logs trustworthy.
 use Rattle.std.specs.Prelude.{◌≡◌, ℕ, List}
+use Rattle.std.specs.List.{AllByRecursion}
 use Rattle.cc_defs.specs.declared.log.Cause.{Cause}
 use Rattle.cc_defs.specs.declared.log.LogLine.{LogLine}
 use Rattle.cc_defs.specs.declared.log.LogVerdict.{LogVerdict}
 use Rattle.cc_defs.specs.declared.log.LogVerdict.TheVariants as verdicts
-use Rattle.cc_defs.specs.LogTexts.{IsLine}
+use Rattle.cc_defs.specs.LogTexts.{IsFormed, IsLine, log_text}
 use Rattle.cc_defs.specs.Logs.{SectionText, Subject, AreJudged, IsVerdict, at_first}
 use Rattle.cc_check.specs.Splits.{Parts, Misread, IsSplit}
 
 -- no text is that of two lines
 abbrev pub LinesAreUnique : Type 0
 LinesAreUnique = (text : List ℕ) (one other : LogLine) → IsLine text one → IsLine text other → one ≡ other
+
+-- a log's text tells its lines
+abbrev pub LogsTellTheirLines : Type 0
+LogsTellTheirLines = (one other : List LogLine) → AllByRecursion IsFormed one → AllByRecursion IsFormed other → log_text one ≡ log_text other → one ≡ other
 
 -- a log that is misread is refused for that
 abbrev pub MisreadsAreVerdicts : Type 0

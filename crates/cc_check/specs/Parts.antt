@@ -6,6 +6,7 @@ use Rattle.cc_defs.specs.declared.log.Cause.{Cause}
 use Rattle.cc_defs.specs.declared.log.Cause.TheVariants as causes
 use Rattle.cc_defs.specs.declared.log.LogLine.{LogLine}
 use Rattle.cc_defs.specs.declared.log.LogLine.TheVariants as lines
+use Rattle.cc_defs.specs.Limits.{most_log_bytes}
 use Rattle.cc_defs.specs.LogTexts.{IsLine, lines_in}
 use Rattle.cc_defs.specs.Logs.{SectionText, IsNoHeading}
 use Rattle.cc_defs.specs.Sections.{HasNoForm}
@@ -21,13 +22,13 @@ abbrev pub section_view : Inside → SectionText
 section_view section = record { conditions = section.conditions; horizon = section.horizon; line = section.line; texts = lines_in section.bytes.now }
 
 abbrev pub IsSection : Inside → Type 0
-IsSection section = (length section.bytes.now ≤ 268435456) × (section.line ≤ 268435457)
+IsSection section = (length section.bytes.now ≤ most_log_bytes) × (section.line ≤ most_log_bytes + 1)
 
 abbrev pub part_view : Part → SectionText
 part_view part = record { conditions = part.conditions; horizon = part.horizon; line = part.line; texts = lines_in part.bytes.now }
 
 abbrev pub IsPart : Part → Type 0
-IsPart part = (length part.bytes.now ≤ 268435456) × (part.line ≤ 268435457)
+IsPart part = (length part.bytes.now ≤ most_log_bytes) × (part.line ≤ most_log_bytes + 1)
 
 abbrev pub parts_view : List Part → List SectionText
 parts_view parts = map part_view parts

@@ -1,15 +1,13 @@
 -- What stands at the front of a text.
-use Rattle.std.specs.Prelude.{◌≡◌, ℕ, ◌<◌, Bool, false, ◌&&◌, nat_le, List, [], ◌∷◌, ◌++◌, length, flat_map, decimal}
+use Rattle.std.specs.Prelude.{◌≡◌, ℕ, ◌<◌, Bool, false, List, [], ◌∷◌, ◌++◌, length, flat_map, decimal}
 use Rattle.std.specs.List.{AllByRecursion}
 use Rattle.cc_defs.specs.declared.log.EndWord.{EndWord}
 use Rattle.cc_defs.specs.declared.log.LogLine.TheVariants as lines
 use Rattle.cc_defs.specs.Clauses.{Literal}
 use Rattle.cc_defs.specs.LogTexts.{IsShort, IsShortLiteral, IsOdd, IsLine, literal_text}
+use Rattle.cc_defs.specs.Tokens.{is_digit}
 use Rattle.cc_check.specs.declared.line.Kind.{Kind}
 use Rattle.cc_check.specs.declared.line.Kind.TheVariants as kinds
-
-abbrev pub is_digit : ℕ → Bool
-is_digit byte = nat_le 48 byte && nat_le byte 57
 
 -- a text that does not go on with a digit
 abbrev pub EndsNumber : List ℕ → Type 0

@@ -4,9 +4,10 @@ ghost use Rattle.std.specs.Bool.{MatchBool};
 ghost use Rattle.cc_defs.specs.declared.log.EndWord.TheVariants as words;
 ghost use Rattle.cc_defs.specs.declared.log.LogLine.TheVariants as lines;
 ghost use Rattle.cc_defs.specs.Clauses.{IsClause, IsOver};
+ghost use Rattle.cc_defs.specs.Limits.{most_log_bytes};
 ghost use Rattle.cc_defs.specs.LogTexts.{IsLine, lines_in};
-ghost use Rattle.cc_defs.specs.Sections.{EndsRightly, Finding, IsEnded, IsFound, IsJudged, row_denial};
-ghost use Rattle.cc_check.specs.Clauses.{AreSound, IsClauseOver, IsPassed, IsWrongDerived, IsRightDerived, finding_of};
+ghost use Rattle.cc_defs.specs.Sections.{EndsRightly, Finding as PlainFinding, IsEnded, IsFound, IsJudged, row_denial};
+ghost use Rattle.cc_check.specs.Clauses.{AreSound, HasLineBehind, IsClauseOver, IsPassed, IsVerdictOf, IsWrongDerived, IsRightDerived, plain_finding};
 
 use crate::clauses::{
     Stage, are_named, has_empty, is_clause_over, is_same_clause, reach, write_denial,
@@ -20,7 +21,29 @@ use cc_defs::{Cause, EndWord, Lit, OutOfMemory};
 use cc_form::Form;
 use std::alloc::Global;
 
-/// What a section is found to be.
+/// What the lines of a section are found to be.
+#[derive(Clone, Copy, Debug, PartialEq, Eq)]
+pub enum Finding {
+    /// Each line is right: how the section ends, how many blocks it has, and the line of its end.
+    Right {
+        ending: EndWord,
+        blocks: u32,
+        line: u32,
+    },
+    /// Each line is right up to this one, which ends the section; the line behind it is wrong, and its first cause.
+    Trailed {
+        ending: EndWord,
+        line: u32,
+        cause: Cause,
+    },
+    /// The first line that is not right, before any end, and the first cause that it has.
+    Wrong {
+        line: u32,
+        cause: Cause,
+    },
+}
+
+/// What a section is judged to be by itself.
 #[derive(Clone, Copy, Debug, PartialEq, Eq)]
 pub enum Verdict {
     /// Each line is right: how the section ends, how many blocks it has, and the line of its end.
@@ -158,7 +181,7 @@ impl Checker {
     // The block that was read into the room.
     fn block(&mut self, form: &Form) -> Result<Pass, OutOfMemory>
         requires sound { AreSound form.now self.old.own self.old.refuted }
-        requires few { self.old.blocks ≤ 268435456 }
+        requires few { self.old.blocks ≤ most_log_bytes }
         ensures passed { IfOk result (λ pass. (text : List ℕ) → IsLine text (lines.Block self.old.room.numbers.items) → IsPassed form.now self.old.own self.old.blocks text pass self.new.own self.new.blocks) }
         ensures sound { OnOk result (AreSound form.now self.new.own self.new.refuted) }
         ensures counted { OnOk result (self.new.blocks ≤ self.old.blocks + 1) }
@@ -191,7 +214,7 @@ impl Checker {
     // A line.
     fn pass(&mut self, form: &Form, text: &[u8]) -> Result<Pass, OutOfMemory>
         requires sound { AreSound form.now self.old.own self.old.refuted }
-        requires few { self.old.blocks ≤ 268435456 }
+        requires few { self.old.blocks ≤ most_log_bytes }
         ensures passed { IfOk result (λ pass. IsPassed form.now self.old.own self.old.blocks text.now pass self.new.own self.new.blocks) }
         ensures sound { OnOk result (AreSound form.now self.new.own self.new.refuted) }
         ensures counted { OnOk result (self.new.blocks ≤ self.old.blocks + 1) }
@@ -206,25 +229,27 @@ impl Checker {
     }
 
     // What stands behind the end of a section, whose line is given.
-    fn behind_end(&mut self, word: EndWord, line: u32, rest: &[u8]) -> Result<Verdict, OutOfMemory>
+    fn behind_end(&mut self, word: EndWord, line: u32, rest: &[u8]) -> Result<Finding, OutOfMemory>
         requires { line ≤ 4000000000 }
-        ensures { IfOk result (λ verdict. IsEnded word self.old.blocks line (lines_in rest.now) (finding_of verdict)) }
+        ensures ended { IfOk result (λ finding. IsEnded word self.old.blocks line (lines_in rest.now) (plain_finding finding)) }
+        ensures few { IfOk result (λ finding. HasLineBehind finding) }
     {
         if rest.is_empty() {
-            return Ok(Verdict::Right {
+            return Ok(Finding::Right {
                 ending: word,
                 blocks: self.blocks,
                 line,
             });
         }
         let (text, _) = first_line(rest);
-        let line = line + 1;
         match read_line(text, &mut self.room)? {
-            None => Ok(Verdict::Refused {
+            None => Ok(Finding::Trailed {
+                ending: word,
                 line,
                 cause: Cause::Form,
             }),
-            Some(_) => Ok(Verdict::Refused {
+            Some(_) => Ok(Finding::Trailed {
+                ending: word,
                 line,
                 cause: Cause::Section,
             }),
@@ -232,11 +257,12 @@ impl Checker {
     }
 }
 
-// Checks the lines of a section, of which the first has this number.
-fn check_lines(alloc: Global, form: &Form, first: u32, bytes: &[u8]) -> Result<Verdict, OutOfMemory>
-    requires few { length bytes.now ≤ 268435456 }
-    requires line { first ≤ 268435458 }
-    ensures { IfOk result (λ verdict. IsFound form.now form.now.clauses 0 first (lines_in bytes.now) (finding_of verdict)) }
+// Goes through the lines of a section, of which the first has this number.
+fn find_lines(alloc: Global, form: &Form, first: u32, bytes: &[u8]) -> Result<Finding, OutOfMemory>
+    requires few { length bytes.now ≤ most_log_bytes }
+    requires line { first ≤ most_log_bytes + 2 }
+    ensures found { IfOk result (λ finding. IsFound form.now form.now.clauses 0 first (lines_in bytes.now) (plain_finding finding)) }
+    ensures few { IfOk result (λ finding. HasLineBehind finding) }
 {
     let mut checker = Checker::new(alloc, form);
     let mut rest = bytes;
@@ -246,22 +272,61 @@ fn check_lines(alloc: Global, form: &Form, first: u32, bytes: &[u8]) -> Result<V
         match checker.pass(form, text)? {
             Pass::Goes => {}
             Pass::Ends(word) => return checker.behind_end(word, line, behind),
-            Pass::Wrong(cause) => return Ok(Verdict::Refused { line, cause }),
+            Pass::Wrong(cause) => return Ok(Finding::Wrong { line, cause }),
         }
         rest = behind;
         line += 1;
     }
-    Ok(Verdict::Refused {
+    Ok(Finding::Wrong {
         line,
         cause: Cause::Section,
     })
 }
 
-/// Checks the lines of a section over the clauses of a form, those of its horizon and its search: each is right, and the
-/// last one ends the section; or the first that is not.
-pub fn check(alloc: Global, form: &Form, section: &Section<'_>) -> Result<Verdict, OutOfMemory>
-    ensures { IfOk result (λ verdict. IsFound form.now form.now.clauses 0 (section.now.line + 1) section.now.texts (finding_of verdict)) }
+// What is found of the lines of a section.
+fn found_in(alloc: Global, form: &Form, section: &Section<'_>) -> Result<Finding, OutOfMemory>
+    ensures found { IfOk result (λ finding. IsFound form.now form.now.clauses 0 (section.now.line + 1) section.now.texts (plain_finding finding)) }
+    ensures few { IfOk result (λ finding. HasLineBehind finding) }
 {
     let (line, bytes) = section.lines();
-    check_lines(alloc, form, line, bytes)
+    find_lines(alloc, form, line, bytes)
+}
+
+/// Goes through the lines of a section over the clauses of a form, those of its horizon and its search: each is right up to the one
+/// that ends the section, or it finds the first that is not.
+pub fn find(alloc: Global, form: &Form, section: &Section<'_>) -> Result<Finding, OutOfMemory>
+    ensures { IfOk result (λ finding. IsFound form.now form.now.clauses 0 (section.now.line + 1) section.now.texts (plain_finding finding)) }
+{
+    found_in(alloc, form, section)
+}
+
+// A section is right by itself, or its first line that is not: behind an end that is the line there.
+fn verdict_of(finding: Finding) -> Verdict
+    requires { HasLineBehind finding }
+    ensures { IsVerdictOf (plain_finding finding) result }
+{
+    match finding {
+        Finding::Right {
+            ending,
+            blocks,
+            line,
+        } => Verdict::Right {
+            ending,
+            blocks,
+            line,
+        },
+        Finding::Trailed { line, cause, .. } => Verdict::Refused {
+            line: line + 1,
+            cause,
+        },
+        Finding::Wrong { line, cause } => Verdict::Refused { line, cause },
+    }
+}
+
+/// Checks a section over the clauses of a form, those of its horizon and its search: each line is right, and the last one ends the
+/// section; or the first that is not. Whether the log may go on behind such an end is not looked at.
+pub fn check(alloc: Global, form: &Form, section: &Section<'_>) -> Result<Verdict, OutOfMemory>
+    ensures { IfOk result (λ verdict. (finding : PlainFinding) × IsFound form.now form.now.clauses 0 (section.now.line + 1) section.now.texts finding × IsVerdictOf finding verdict) }
+{
+    Ok(verdict_of(found_in(alloc, form, section)?))
 }

@@ -1,7 +1,8 @@
 //! Numbers and literals at the front of a text.
 ghost use Rattle.std.specs.Prelude.{◌≡◌, ℕ, ◌<◌, List, false, MatchOption};
-ghost use Rattle.cc_check.specs.Reading.{is_digit, IsNumberAt, HasNoNumber, IsSignedAt, HasNoSigned};
+ghost use Rattle.cc_check.specs.Reading.{IsNumberAt, HasNoNumber, IsSignedAt, HasNoSigned};
 
+use cc_defs::is_digit_byte;
 use std::marker::Model;
 
 /// A literal as a line names it: its variable has at most nine digits, and may be past the last.
@@ -33,12 +34,6 @@ impl Named {
     {
         self.positive
     }
-}
-
-fn is_digit_byte(byte: u8) -> bool
-    ensures { result ≡ is_digit byte }
-{
-    48 <= byte && byte <= 57
 }
 
 /// The number of at most nine digits, with no zero before another digit, that a text begins with, and what stands

@@ -2,6 +2,7 @@
 ghost use Rattle.std.specs.Prelude.{◌≡◌, ◌+◌, ◌-◌, ℕ, ◌≤◌, ◌<◌, ◌∷◌, List, Some, length, take, slice_get, IfOk, IfErr};
 ghost use Rattle.std.specs.List.{AllByRecursion};
 ghost use Rattle.cc_defs.specs.declared.log.LogLine.TheVariants as lines;
+ghost use Rattle.cc_defs.specs.Limits.{most_log_bytes};
 ghost use Rattle.cc_defs.specs.LogTexts.{IsLine, header, lines_in};
 ghost use Rattle.cc_defs.specs.Logs.{AreSections, IsNoHeading};
 ghost use Rattle.cc_check.specs.declared.fault.CheckFault.TheVariants as faults;
@@ -57,6 +58,29 @@ impl<'b> Model for Section<'b> {
 }
 
 impl<'b> Section<'b> {
+    /// A section under a heading: whether it is the search for a path of the conditions, its horizon, the line of the heading in the
+    /// log, from 1, and the bytes of its lines, up to the next heading.
+    pub fn of(conditions: bool, horizon: u32, line: u32, bytes: &'b [u8]) -> Section<'b>
+        requires few { length bytes.now ≤ most_log_bytes }
+        requires line { line ≤ most_log_bytes + 1 }
+        ensures { result ≡ record { conditions = conditions; horizon = horizon; line = line; texts = lines_in bytes.entry.now } }
+    {
+        Section {
+            conditions,
+            horizon,
+            line,
+            bytes,
+        }
+    }
+
+    /// The bytes of its lines.
+    pub fn bytes(&self) -> &'b [u8]
+        ensures texts { lines_in result.now ≡ self.now.texts }
+        ensures few { length result.now ≤ most_log_bytes }
+    {
+        self.bytes
+    }
+
     /// Whether it is the search for a path that meets the conditions of a query with a claim.
     pub fn conditions(&self) -> bool
         ensures { result ≡ self.now.conditions }
@@ -74,7 +98,7 @@ impl<'b> Section<'b> {
     /// The line of its heading in the log, from 1.
     pub fn line(&self) -> u32
         ensures line { result ≡ self.now.line }
-        ensures most { result ≤ 268435457 }
+        ensures most { result ≤ most_log_bytes + 1 }
     {
         self.line
     }
@@ -83,8 +107,8 @@ impl<'b> Section<'b> {
     pub(crate) fn lines(&self) -> (u32, &'b [u8])
         ensures line { result.0 ≡ self.now.line + 1 }
         ensures texts { lines_in result.1.now ≡ self.now.texts }
-        ensures few { length result.1.now ≤ 268435456 }
-        ensures most { result.0 ≤ 268435458 }
+        ensures few { length result.1.now ≤ most_log_bytes }
+        ensures most { result.0 ≤ most_log_bytes + 2 }
     {
         (self.line + 1, self.bytes)
     }
@@ -100,7 +124,7 @@ fn ahead(text: &[u8], left: usize) -> &[u8]
 
 // The lines up to the next heading.
 fn inside_of(all: &[u8]) -> Inside<'_>
-    requires { length all.now ≤ 268435456 }
+    requires { length all.now ≤ most_log_bytes }
     ensures { IsInside all.now result.bytes.now result.count result.next }
 {
     let mut rest = all;
@@ -189,7 +213,7 @@ impl<'b> Sections<'b> {
     /// Reads the header of a log and splits it at its headings; a section is a part of the bytes. Refuses a log without
     /// its header, or without a heading on its second line.
     pub fn read(alloc: Global, bytes: &'b [u8]) -> Result<Sections<'b>, CheckFault>
-        requires { length bytes.now ≤ 268435456 }
+        requires { length bytes.now ≤ most_log_bytes }
         ensures read { IfOk result (λ sections. IsSplit bytes.now (Parts sections)) }
         ensures refused { IfErr result (IsRefusal bytes.now) }
     {

@@ -3,20 +3,16 @@ use Rattle.std.proofs.Common.{◌≡◌, ◌∙◌, ℕ, ◌<◌, ◌≤◌, ◌
 use Rattle.std.specs.Prelude.{if◌then◌else◌}
 use Rattle.std.specs.List.{Contains}
 use Rattle.std.proofs.lemmas.Bool.{cases_lt}
-use Rattle.cc_defs.specs.Clauses.{Literal, IsBefore, IsClause}
+use Rattle.cc_defs.specs.Clauses.{Literal, IsBefore, IsClause, IsIn}
+use Rattle.cc_clauses.specs.Laws.{SameLiteralsAreOneClause}
 use Rattle.cc_clauses.specs.Merging.{code}
 
--- `Contains`, by recursion
-abbrev pub Among : List Literal → Literal → Type 0
-Among [] literal = ⊥
-Among (first ∷ rest) literal = (first ≡ literal) ⊎ Among rest literal
-
-pub among : (xs : List Literal) (literal : Literal) → Contains xs literal → Among xs literal
+pub among : (xs : List Literal) (literal : Literal) → Contains xs literal → IsIn xs literal
 among [] literal (k, below, is) = absurd (omega arith)
 among (x ∷ xs) literal (zero, below, is) = inl is
 among (x ∷ xs) literal (suc k, below, is) = inr (among xs literal (k, (omega arith), is))
 
-pub contained : (xs : List Literal) (literal : Literal) → Among xs literal → Contains xs literal
+pub contained : (xs : List Literal) (literal : Literal) → IsIn xs literal → Contains xs literal
 contained [] literal h = absurd h
 contained (x ∷ xs) literal (inl is) = (zero, (omega arith), is)
 contained (x ∷ xs) literal (inr later) =
@@ -75,7 +71,7 @@ same_from_code a b h =
 
 -- it comes before each of these
 abbrev pub IsLow : Literal → List Literal → Type 0
-IsLow x ys = (literal : Literal) → Among ys literal → code x < code literal
+IsLow x ys = (literal : Literal) → IsIn ys literal → code x < code literal
 
 pub clause_low : (x : Literal) (xs : List Literal) → IsClause (x ∷ xs) → IsLow x xs
 clause_low x [] h literal later = absurd later
@@ -94,7 +90,7 @@ clause_cons x [] low h = tt
 clause_cons x (y ∷ ys) low h = (before_from_code x y (low y (inl refl)), h)
 
 same_heads : (x : Literal) (xs : List Literal) (y : Literal) (ys : List Literal) → IsClause (x ∷ xs) → IsClause (y ∷ ys) →
-    Among (y ∷ ys) x → Among (x ∷ xs) y → x ≡ y
+    IsIn (y ∷ ys) x → IsIn (x ∷ xs) y → x ≡ y
 same_heads x xs y ys hx hy (inl is) right = sym is
 same_heads x xs y ys hx hy (inr left) (inl is) = is
 same_heads x xs y ys hx hy (inr left) (inr right) =
@@ -103,8 +99,8 @@ same_heads x xs y ys hx hy (inr left) (inr right) =
     absurd (omega arith)
 
 tail_within : (x : Literal) (xs : List Literal) (y : Literal) (ys : List Literal) → IsClause (x ∷ xs) → x ≡ y →
-    ((literal : Literal) → Among (x ∷ xs) literal → Among (y ∷ ys) literal) →
-    (literal : Literal) → Among xs literal → Among ys literal
+    ((literal : Literal) → IsIn (x ∷ xs) literal → IsIn (y ∷ ys) literal) →
+    (literal : Literal) → IsIn xs literal → IsIn ys literal
 tail_within x xs y ys hx same each literal h = elim (each literal (inr h)) [
   | inl is ↦
       let low : code x < code literal = clause_low x xs hx literal h in
@@ -115,8 +111,8 @@ tail_within x xs y ys hx same each literal h = elim (each literal (inr h)) [
 
 -- two clauses with the same members are one
 pub same_members : (xs ys : List Literal) → IsClause xs → IsClause ys →
-    ((literal : Literal) → Among xs literal → Among ys literal) →
-    ((literal : Literal) → Among ys literal → Among xs literal) → xs ≡ ys
+    ((literal : Literal) → IsIn xs literal → IsIn ys literal) →
+    ((literal : Literal) → IsIn ys literal → IsIn xs literal) → xs ≡ ys
 same_members [] [] hx hy left right = refl
 same_members [] (y ∷ ys) hx hy left right = absurd (right y (inl refl))
 same_members (x ∷ xs) [] hx hy left right = absurd (left x (inl refl))
@@ -125,3 +121,6 @@ same_members (x ∷ xs) (y ∷ ys) hx hy left right =
     let rest : xs ≡ ys = same_members xs ys (clause_rest x xs hx) (clause_rest y ys hy)
     (tail_within x xs y ys hx same left) (tail_within y ys x xs hy (sym same) right) in
     cc
+
+pub one_clause : SameLiteralsAreOneClause
+one_clause one other is_one is_other same = same_members one other is_one is_other (λ literal h. (same literal).0 h) (λ literal h. (same literal).1 h)

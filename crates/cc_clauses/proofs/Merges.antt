@@ -3,15 +3,15 @@ use Rattle.std.proofs.Common.{◌≡◌, ◌∙◌, ℕ, ◌<◌, ◌⊎◌, inl
 use Rattle.std.specs.List.{filter}
 use Rattle.std.specs.Ordering.{nat_cmp}
 use Rattle.std.proofs.lemmas.Bool.{cases_order, cond_both, lt-ltb, le-ltb, eq-eqb, ne_eqb}
-use Rattle.cc_defs.specs.Clauses.{Literal, IsClause}
+use Rattle.cc_defs.specs.Clauses.{Literal, IsClause, IsIn}
 use Rattle.cc_clauses.specs.Merging.{code, by_order, weave, merge}
-use Rattle.cc_clauses.proofs.Literals.{Among, IsLow, clause_low, clause_rest, clause_cons, same_from_code, same_members}
+use Rattle.cc_clauses.proofs.Literals.{IsLow, clause_low, clause_rest, clause_cons, same_from_code, same_members}
 
 pub record IsUnion (xs ys zs : List Literal) : Type 0 where
   pub clause : IsClause zs
-  pub among : (literal : Literal) → Among zs literal → Among xs literal ⊎ Among ys literal
-  pub left : (literal : Literal) → Among xs literal → Among zs literal
-  pub right : (literal : Literal) → Among ys literal → Among zs literal
+  pub among : (literal : Literal) → IsIn zs literal → IsIn xs literal ⊎ IsIn ys literal
+  pub left : (literal : Literal) → IsIn xs literal → IsIn zs literal
+  pub right : (literal : Literal) → IsIn ys literal → IsIn zs literal
 
 swapped : {A B : Type 0} → A ⊎ B → B ⊎ A
 swapped (inl a) = inr a
@@ -74,28 +74,28 @@ merge_union [] ys hx hy = record { clause = hy; among = λ literal c. inr c; lef
 merge_union (x ∷ xs) ys hx hy =
     weave_union x (merge xs) xs hx (λ zs hz. merge_union xs zs (clause_rest x xs hx) hz) ys hy
 
-kept_cases : (kept : Bool) (x : Literal) (ys : List Literal) (literal : Literal) → Among (cond kept (x ∷ ys) ys) literal →
-    ((x ≡ literal) × (kept ≡ true)) ⊎ Among ys literal
+kept_cases : (kept : Bool) (x : Literal) (ys : List Literal) (literal : Literal) → IsIn (cond kept (x ∷ ys) ys) literal →
+    ((x ≡ literal) × (kept ≡ true)) ⊎ IsIn ys literal
 kept_cases true x ys literal (inl is) = inl (is, refl)
 kept_cases true x ys literal (inr later) = inr later
 kept_cases false x ys literal later = inr later
 
 module _ (p : Literal → Bool) where
-  pub filter_among : (xs : List Literal) (literal : Literal) → Among (filter p xs) literal → Among xs literal × (p literal ≡ true)
+  pub filter_among : (xs : List Literal) (literal : Literal) → IsIn (filter p xs) literal → IsIn xs literal × (p literal ≡ true)
   filter_among [] literal h = absurd h
   filter_among (x ∷ xs) literal h = elim (kept_cases (p x) x (filter p xs) literal h) [
     | inl (is, passes) ↦ (inl is, subst (λ (z : Literal). p z ≡ true) is passes)
     | inr later ↦ let more = filter_among xs literal later in (inr (more.0), more.1)
   ]
 
-  pub among_filter : (xs : List Literal) (literal : Literal) → Among xs literal → p literal ≡ true → Among (filter p xs) literal
+  pub among_filter : (xs : List Literal) (literal : Literal) → IsIn xs literal → p literal ≡ true → IsIn (filter p xs) literal
   among_filter [] literal h passes = absurd h
   among_filter (x ∷ xs) literal (inl is) passes =
       let passed : p x ≡ true = ap p is ∙ passes in
       rw passed (inl is)
   among_filter (x ∷ xs) literal (inr later) passes =
       let more = among_filter xs literal later passes in
-      cond_both (p x) (x ∷ filter p xs) (filter p xs) (λ ys. Among ys literal) (λ _. inr more) (λ _. more)
+      cond_both (p x) (x ∷ filter p xs) (filter p xs) (λ ys. IsIn ys literal) (λ _. inr more) (λ _. more)
 
   pub filter_clause : (xs : List Literal) → IsClause xs → IsClause (filter p xs)
   filter_clause [] h = tt

@@ -4,22 +4,22 @@ use Rattle.std.specs.Prelude.{◌≢◌, OnOk}
 use Rattle.std.specs.List.{Contains}
 use Rattle.std.proofs.lemmas.Bool.{cases_order, lt-ltb}
 use borrow.Author.Tests.{ltb-true}
-use Rattle.cc_defs.specs.Clauses.{Literal, IsClause, Clash, IsResolvent}
+use Rattle.cc_defs.specs.Clauses.{Literal, IsClause, Clash, IsResolvent, IsIn}
 use Rattle.cc_clauses.specs.Merging.{code, merge, lower, higher, is_lower, is_higher, resolvent}
-use Rattle.cc_clauses.proofs.Literals.{Among, among, contained, IsLow, clause_low, clause_rest, clause_cons, less_code}
+use Rattle.cc_clauses.proofs.Literals.{among, contained, IsLow, clause_low, clause_rest, clause_cons, less_code}
 use Rattle.cc_clauses.proofs.Merges.{IsUnion, merge_union, filter_among, among_filter, filter_clause}
 
-pub among_append : (xs ys : List Literal) (literal : Literal) → Among (xs ++ ys) literal → Among xs literal ⊎ Among ys literal
+pub among_append : (xs ys : List Literal) (literal : Literal) → IsIn (xs ++ ys) literal → IsIn xs literal ⊎ IsIn ys literal
 among_append [] ys literal h = inr h
 among_append (x ∷ xs) ys literal (inl is) = inl (inl is)
 among_append (x ∷ xs) ys literal (inr later) = elim (among_append xs ys literal later) [ inl of_xs ↦ inl (inr of_xs) | inr of_ys ↦ inr of_ys ]
 
-pub among_front : (xs ys : List Literal) (literal : Literal) → Among xs literal → Among (xs ++ ys) literal
+pub among_front : (xs ys : List Literal) (literal : Literal) → IsIn xs literal → IsIn (xs ++ ys) literal
 among_front [] ys literal h = absurd h
 among_front (x ∷ xs) ys literal (inl is) = inl is
 among_front (x ∷ xs) ys literal (inr later) = inr (among_front xs ys literal later)
 
-pub among_back : (xs ys : List Literal) (literal : Literal) → Among ys literal → Among (xs ++ ys) literal
+pub among_back : (xs ys : List Literal) (literal : Literal) → IsIn ys literal → IsIn (xs ++ ys) literal
 among_back [] ys literal h = h
 among_back (x ∷ xs) ys literal h = inr (among_back xs ys literal h)
 
@@ -27,7 +27,7 @@ below_above : (low high : Literal) (pivot : ℕ) → low.variable < pivot → pi
 below_above low high pivot below above = less_code low high (inl (omega arith))
 
 -- two clauses of which one lies below the other are one
-clause_append : (xs ys : List Literal) → IsClause xs → IsClause ys → ((literal : Literal) → Among xs literal → IsLow literal ys) → IsClause (xs ++ ys)
+clause_append : (xs ys : List Literal) → IsClause xs → IsClause ys → ((literal : Literal) → IsIn xs literal → IsLow literal ys) → IsClause (xs ++ ys)
 clause_append [] ys hx hy low = hy
 clause_append (x ∷ xs) ys hx hy low =
     clause_cons x (xs ++ ys)
@@ -44,34 +44,34 @@ module _ (a b : List Literal) (pivot : ℕ) (ha : IsClause a) (hb : IsClause b) 
   high_union : IsUnion (higher pivot a) (higher pivot b) (merge (higher pivot a) (higher pivot b))
   high_union = merge_union (higher pivot a) (higher pivot b) (filter_clause (is_higher pivot) a ha) (filter_clause (is_higher pivot) b hb)
 
-  from_low : (literal : Literal) → Among (merge (lower pivot a) (lower pivot b)) literal → (Among a literal ⊎ Among b literal) × (literal.variable < pivot)
+  from_low : (literal : Literal) → IsIn (merge (lower pivot a) (lower pivot b)) literal → (IsIn a literal ⊎ IsIn b literal) × (literal.variable < pivot)
   from_low literal c = elim (low_union.among literal c) [
     | inl of_a ↦ let kept = filter_among (is_lower pivot) a literal of_a in (inl (kept.0), ltb-true literal.variable pivot kept.1)
     | inr of_b ↦ let kept = filter_among (is_lower pivot) b literal of_b in (inr (kept.0), ltb-true literal.variable pivot kept.1)
   ]
 
-  from_high : (literal : Literal) → Among (merge (higher pivot a) (higher pivot b)) literal → (Among a literal ⊎ Among b literal) × (pivot < literal.variable)
+  from_high : (literal : Literal) → IsIn (merge (higher pivot a) (higher pivot b)) literal → (IsIn a literal ⊎ IsIn b literal) × (pivot < literal.variable)
   from_high literal c = elim (high_union.among literal c) [
     | inl of_a ↦ let kept = filter_among (is_higher pivot) a literal of_a in (inl (kept.0), ltb-true pivot literal.variable kept.1)
     | inr of_b ↦ let kept = filter_among (is_higher pivot) b literal of_b in (inr (kept.0), ltb-true pivot literal.variable kept.1)
   ]
 
-  to_low : (literal : Literal) → Among a literal ⊎ Among b literal → literal.variable < pivot → Among (merge (lower pivot a) (lower pivot b)) literal
+  to_low : (literal : Literal) → IsIn a literal ⊎ IsIn b literal → literal.variable < pivot → IsIn (merge (lower pivot a) (lower pivot b)) literal
   to_low literal (inl of_a) less = low_union.left literal (among_filter (is_lower pivot) a literal of_a (lt-ltb literal.variable pivot less))
   to_low literal (inr of_b) less = low_union.right literal (among_filter (is_lower pivot) b literal of_b (lt-ltb literal.variable pivot less))
 
-  to_high : (literal : Literal) → Among a literal ⊎ Among b literal → pivot < literal.variable → Among (merge (higher pivot a) (higher pivot b)) literal
+  to_high : (literal : Literal) → IsIn a literal ⊎ IsIn b literal → pivot < literal.variable → IsIn (merge (higher pivot a) (higher pivot b)) literal
   to_high literal (inl of_a) less = high_union.left literal (among_filter (is_higher pivot) a literal of_a (lt-ltb pivot literal.variable less))
   to_high literal (inr of_b) less = high_union.right literal (among_filter (is_higher pivot) b literal of_b (lt-ltb pivot literal.variable less))
 
-  among_resolvent : (literal : Literal) → Among a literal ⊎ Among b literal → literal.variable ≢ pivot → Among (resolvent a b pivot) literal
+  among_resolvent : (literal : Literal) → IsIn a literal ⊎ IsIn b literal → literal.variable ≢ pivot → IsIn (resolvent a b pivot) literal
   among_resolvent literal either differs = elim (cases_order literal.variable pivot) [
     | inl same ↦ absurd (differs same)
     | inr (inl below) ↦ among_front (merge (lower pivot a) (lower pivot b)) (merge (higher pivot a) (higher pivot b)) literal (to_low literal either below)
     | inr (inr above) ↦ among_back (merge (lower pivot a) (lower pivot b)) (merge (higher pivot a) (higher pivot b)) literal (to_high literal either above)
   ]
 
-  among_parents : (literal : Literal) → Among (resolvent a b pivot) literal → (Among a literal ⊎ Among b literal) × (literal.variable ≢ pivot)
+  among_parents : (literal : Literal) → IsIn (resolvent a b pivot) literal → (IsIn a literal ⊎ IsIn b literal) × (literal.variable ≢ pivot)
   among_parents literal c = elim (among_append (merge (lower pivot a) (lower pivot b)) (merge (higher pivot a) (higher pivot b)) literal c) [
     | inl low ↦ let found = from_low literal low in (found.0, (λ same. let less = found.1 in absurd (omega arith)))
     | inr high ↦ let found = from_high literal high in (found.0, (λ same. let less = found.1 in absurd (omega arith)))
@@ -81,11 +81,11 @@ module _ (a b : List Literal) (pivot : ℕ) (ha : IsClause a) (hb : IsClause b) 
   ascends = clause_append (merge (lower pivot a) (lower pivot b)) (merge (higher pivot a) (higher pivot b)) low_union.clause high_union.clause
       (λ low c high d. below_above low high pivot ((from_low low c).1) ((from_high high d).1))
 
-  where_contained : (literal : Literal) → Among a literal ⊎ Among b literal → Contains a literal ⊎ Contains b literal
+  where_contained : (literal : Literal) → IsIn a literal ⊎ IsIn b literal → Contains a literal ⊎ Contains b literal
   where_contained literal (inl of_a) = inl (contained a literal of_a)
   where_contained literal (inr of_b) = inr (contained b literal of_b)
 
-  where_among : (literal : Literal) → Contains a literal ⊎ Contains b literal → Among a literal ⊎ Among b literal
+  where_among : (literal : Literal) → Contains a literal ⊎ Contains b literal → IsIn a literal ⊎ IsIn b literal
   where_among literal (inl of_a) = inl (among a literal of_a)
   where_among literal (inr of_b) = inr (among b literal of_b)
 

@@ -3,14 +3,14 @@ use Rattle.std.proofs.Common.{◌≡◌, ◌∙◌, ℕ, ◌<◌, ◌≤◌, inl
 use Rattle.std.specs.Ordering.{nat_cmp}
 use Rattle.std.specs.declared.cmp.Ordering.TheVariants.{Greater}
 use Rattle.std.proofs.lemmas.List.{take-append-drop}
-use Rattle.cc_defs.specs.Clauses.{Literal, IsClause}
+use Rattle.cc_defs.specs.Clauses.{Literal, IsClause, IsIn}
 use Rattle.cc_clauses.specs.Merging.{code, merge}
-use Rattle.cc_clauses.proofs.Literals.{Among, among, IsLow, clause_low, clause_rest}
+use Rattle.cc_clauses.proofs.Literals.{among, IsLow, clause_low, clause_rest}
 use Rattle.cc_clauses.proofs.Orders.{less, equal, greater}
 
 -- each of the run comes before the literal
 abbrev pub IsRun : List Literal → Literal → Type 0
-IsRun run x = (y : Literal) → Among run y → code y < code x
+IsRun run x = (y : Literal) → IsIn run y → code y < code x
 
 pub merge_run : (x : Literal) (xs run rest : List Literal) → IsRun run x → merge (x ∷ xs) (run ++ rest) ≡ run ++ merge (x ∷ xs) rest
 merge_run x xs [] rest low = refl

@@ -2,18 +2,18 @@
 use Rattle.std.proofs.Common.{◌≡◌, ◌∙◌, ℕ, inl, inr, Bool, true, false, not, List, [], ◌∷◌, refl, subst, ap}
 use Rattle.std.specs.List.{Contains, list_any}
 use Rattle.std.proofs.lemmas.Bool.{or_cases, or_left, or_right, cases_eq}
-use Rattle.cc_defs.specs.Clauses.{Literal, HasAlone, is_made_true}
+use Rattle.cc_defs.specs.Clauses.{Literal, HasAlone, is_made_true, IsIn}
 use Rattle.cc_clauses.specs.Laws.{ResolventsAreSound, ResolventsAreUnique}
-use Rattle.cc_clauses.proofs.Literals.{Among, among, contained, same_literal, same_members}
+use Rattle.cc_clauses.proofs.Literals.{among, contained, same_literal, same_members}
 
-any_gives : (p : Literal → Bool) (xs : List Literal) → list_any p xs ≡ true → (literal : Literal) × Among xs literal × (p literal ≡ true)
+any_gives : (p : Literal → Bool) (xs : List Literal) → list_any p xs ≡ true → (literal : Literal) × IsIn xs literal × (p literal ≡ true)
 any_gives p [] h = cc
 any_gives p (x ∷ xs) h = elim (or_cases (p x) (list_any p xs) h) [
   | inl here ↦ (x, inl refl, here)
   | inr later ↦ let more = any_gives p xs later in (more.0, inr (more.1), more.2)
 ]
 
-any_from : (p : Literal → Bool) (xs : List Literal) (literal : Literal) → Among xs literal → p literal ≡ true → list_any p xs ≡ true
+any_from : (p : Literal → Bool) (xs : List Literal) (literal : Literal) → IsIn xs literal → p literal ≡ true → list_any p xs ≡ true
 any_from p [] literal h passes = absurd h
 any_from p (x ∷ xs) literal (inl is) passes = or_left (p x) (list_any p xs) (ap p is ∙ passes)
 any_from p (x ∷ xs) literal (inr later) passes = or_right (p x) (list_any p xs) (any_from p xs literal later passes)
@@ -35,11 +35,11 @@ not_both false false one other = cc
 
 -- what makes a clause true on its lone variable
 lone_true : (assignment : ℕ → Bool) (clause : List Literal) (pivot : ℕ) (sign : Bool) (literal : Literal) →
-    HasAlone clause (record { variable = pivot; positive = sign }) → Among clause literal → is_made_true assignment literal ≡ true →
+    HasAlone clause (record { variable = pivot; positive = sign }) → IsIn clause literal → is_made_true assignment literal ≡ true →
     literal.variable ≡ pivot → is_made_true assignment (record { variable = pivot; positive = sign }) ≡ true
 lone_true assignment clause pivot sign literal alone c made same =
     let is : literal ≡ record { variable = pivot; positive = literal.positive } = same_literal literal (record { variable = pivot; positive = literal.positive }) same refl in
-    let sign_is = lone_sign clause pivot sign literal.positive alone (contained clause _ (subst (Among clause) is c)) in
+    let sign_is = lone_sign clause pivot sign literal.positive alone (contained clause _ (subst (IsIn clause) is c)) in
     let is_pivot : literal ≡ record { variable = pivot; positive = sign } = same_literal literal (record { variable = pivot; positive = sign }) same sign_is in
     subst (λ (z : Literal). is_made_true assignment z ≡ true) is_pivot made
 

@@ -1,6 +1,6 @@
--- What makes resolution trustworthy.
-use Rattle.std.specs.Prelude.{◌≡◌, ℕ, Bool, IsTrue, List}
-use Rattle.cc_defs.specs.Clauses.{Literal, IsResolvent, meets}
+-- What makes clauses and resolution trustworthy.
+use Rattle.std.specs.Prelude.{◌≡◌, ℕ, ◌↔◌, Bool, IsTrue, List}
+use Rattle.cc_defs.specs.Clauses.{Literal, IsClause, IsIn, IsResolvent, meets}
 
 -- each assignment that meets both parents meets the resolvent
 abbrev pub ResolventsAreSound : Type 0
@@ -11,3 +11,8 @@ ResolventsAreSound = (a b : List Literal) (pivot : ℕ) (r : List Literal) → I
 abbrev pub ResolventsAreUnique : Type 0
 ResolventsAreUnique = (a b : List Literal) (pivot : ℕ) (one other : List Literal) → IsResolvent a b pivot one →
     IsResolvent a b pivot other → one ≡ other
+
+-- two clauses with the same literals are one
+abbrev pub SameLiteralsAreOneClause : Type 0
+SameLiteralsAreOneClause = (one other : List Literal) → IsClause one → IsClause other →
+    ((literal : Literal) → IsIn one literal ↔ IsIn other literal) → one ≡ other

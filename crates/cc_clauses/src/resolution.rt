@@ -2,6 +2,7 @@
 ghost use Rattle.std.specs.Prelude.{◌≡◌, ◌≤◌, ◌↔◌, ◌∷◌, ◌++◌, List, IsTrue, OnOk, IfOk, Contains};
 ghost use Rattle.cc_defs.specs.Clauses.{Literal, IsClause, IsResolvent, HasAlone, Clash, opposite};
 ghost use Rattle.cc_clauses.specs.Merging.{merge, lower, higher};
+ghost use Rattle.cc_defs.specs.Limits.{most_variables};
 
 use cc_defs::{Lit, OutOfMemory};
 
@@ -35,7 +36,7 @@ pub fn clash_on(a: &[Lit], b: &[Lit], pivot: u32) -> bool
     requires a_is_clause { IsClause a.now }
     requires b_is_clause { IsClause b.now }
     requires some { 1 ≤ pivot }
-    requires most { pivot ≤ 4000000 }
+    requires most { pivot ≤ most_variables }
     ensures { IsTrue result ↔ Clash a.now b.now pivot }
 {
     if clash_at(a, b, Lit::positive(pivot)) {

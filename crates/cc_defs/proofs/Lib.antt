@@ -1,3 +1,4 @@
 pub mod Ascending
+pub mod Numbers
 pub mod Places
 pub mod Positions

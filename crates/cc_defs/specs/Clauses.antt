@@ -20,6 +20,15 @@ IsClause [] = Unit {0}
 IsClause (a ∷ []) = Unit {0}
 IsClause (a ∷ b ∷ literals) = IsBefore a b × IsClause (b ∷ literals)
 
+-- it is one of these
+abbrev pub IsIn : {X : Type 0} → List X → X → Type 0
+IsIn [] x = ⊥
+IsIn (y ∷ ys) x = (y ≡ x) ⊎ IsIn ys x
+
+-- its variable is among 1, .., variables
+abbrev pub IsLiteralOver : ℕ → Literal → Type 0
+IsLiteralOver variables literal = (0 < literal.variable) × (literal.variable ≤ variables)
+
 -- its variables are among 1, .., variables
 abbrev pub IsOver : ℕ → List Literal → Type 0
 IsOver variables [] = Unit {0}

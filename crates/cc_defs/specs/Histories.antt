@@ -30,13 +30,23 @@ pub record IsHistory (d : Description) (q : Query) (horizon : ℕ) (key : Option
   pub meets : Meets d q horizon row
   pub after : IfSome key (λ low. IsBelow low row)
 
--- all histories, in ascending order, each once
-pub record IsListing (d : Description) (q : Query) (horizon : ℕ) (key : Option (List ℕ)) (rows : List (List ℕ)) : Type 0 where
+-- ---- lists of rows, of whatever kind
+
+-- all rows that are so, in ascending order, each once
+pub record AreAllOf (Is : List ℕ → Type 0) (rows : List (List ℕ)) : Type 0 where
   pub ascending : IsStrictlySortedBy row_cmp rows
-  pub members : (row : List ℕ) → Contains rows row ↔ IsHistory d q horizon key row
+  pub members : (row : List ℕ) → Contains rows row ↔ Is row
+
+-- the first rows that are so: each other one comes after all of them
+pub record AreFirstOf (Is : List ℕ → Type 0) (rows : List (List ℕ)) : Type 0 where
+  pub ascending : IsStrictlySortedBy row_cmp rows
+  pub each : (row : List ℕ) → Contains rows row → Is row
+  pub others : (row : List ℕ) → Is row → Contains rows row ⊎ ((told : List ℕ) → Contains rows told → IsBelow told row)
+
+-- all histories, in ascending order, each once
+abbrev pub IsListing : Description → Query → ℕ → Option (List ℕ) → List (List ℕ) → Type 0
+IsListing d q horizon key rows = AreAllOf (IsHistory d q horizon key) rows
 
 -- the first histories: each history is among them, or comes after all of them
-pub record AreFirst (d : Description) (q : Query) (horizon : ℕ) (key : Option (List ℕ)) (rows : List (List ℕ)) : Type 0 where
-  pub ascending : IsStrictlySortedBy row_cmp rows
-  pub each : (row : List ℕ) → Contains rows row → IsHistory d q horizon key row
-  pub others : (row : List ℕ) → IsHistory d q horizon key row → Contains rows row ⊎ ((told : List ℕ) → Contains rows told → IsBelow told row)
+abbrev pub AreFirst : Description → Query → ℕ → Option (List ℕ) → List (List ℕ) → Type 0
+AreFirst d q horizon key rows = AreFirstOf (IsHistory d q horizon key) rows

@@ -46,3 +46,26 @@ limit_number AxiomClauses = 8000000
 limit_number AxiomLiterals = 40000000
 limit_number Histories = 100000000
 limit_number LogBytes = 268435456
+
+-- the numbers that conditions speak of most
+
+abbrev pub most_steps : ℕ
+most_steps = limit_number Horizon
+
+abbrev pub most_rules : ℕ
+most_rules = limit_number Rules
+
+abbrev pub most_variables : ℕ
+most_variables = limit_number Variables
+
+abbrev pub most_clauses : ℕ
+most_clauses = limit_number AxiomClauses
+
+abbrev pub most_literals : ℕ
+most_literals = limit_number AxiomLiterals
+
+abbrev pub most_histories : ℕ
+most_histories = limit_number Histories
+
+abbrev pub most_log_bytes : ℕ
+most_log_bytes = limit_number LogBytes

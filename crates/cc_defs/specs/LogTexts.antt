@@ -1,6 +1,8 @@
 -- The text of a log, and the lines that a text is read as: one relation, read in both directions.
 use Rattle.std.specs.Prelude.{◌≡◌, ℕ, ◌+◌, ◌*◌, ◌≤◌, ◌<◌, ◌==◌, if◌then◌else◌, List, [], ◌∷◌, ◌++◌, map, flat_map, length, codes, decimal}
 use Rattle.std.specs.List.{AllByRecursion, join_with_byte}
+use Rattle.cc_defs.specs.declared.log.Cause.{Cause}
+use Rattle.cc_defs.specs.declared.log.Cause.TheVariants as causes
 use Rattle.cc_defs.specs.declared.log.EndWord.{EndWord}
 use Rattle.cc_defs.specs.declared.log.EndWord.TheVariants as words
 use Rattle.cc_defs.specs.declared.log.LogLine.{LogLine}
@@ -65,3 +67,16 @@ before_lines byte (line ∷ lines) = (byte ∷ line) ∷ lines
 abbrev pub lines_in : List ℕ → List (List ℕ)
 lines_in [] = []
 lines_in (byte ∷ bytes) = if byte == 10 then (10 ∷ []) ∷ lines_in bytes else before_lines byte (lines_in bytes)
+
+-- ---- what is wrong with a line, in words
+
+abbrev pub cause_words : Cause → List ℕ
+cause_words causes.Header = codes "header"
+cause_words causes.Form = codes "form"
+cause_words causes.Section = codes "section"
+cause_words causes.Literal = codes "literal"
+cause_words causes.Number = codes "number"
+cause_words causes.Pivot = codes "pivot"
+cause_words causes.Clause = codes "clause"
+cause_words causes.Row = codes "row"
+cause_words causes.NotRefuted = codes "not refuted"

@@ -1,6 +1,7 @@
 -- Logs: which are accepted, and which line of another is the first that is wrong.
 use Rattle.std.specs.Prelude.{◌≡◌, ◌≢◌, ℕ, ◌+◌, ◌-◌, ◌≤◌, ◌⊎◌, Bool, true, false, not, ◌&&◌, List, [], ◌∷◌, ◌++◌, length}
 use Rattle.std.specs.List.{AllByRecursion}
+use Rattle.cc_defs.specs.declared.log.Cause.{Cause}
 use Rattle.cc_defs.specs.declared.log.Cause.TheVariants as causes
 use Rattle.cc_defs.specs.declared.log.EndWord.{EndWord}
 use Rattle.cc_defs.specs.declared.log.EndWord.TheVariants as words
@@ -9,7 +10,7 @@ use Rattle.cc_defs.specs.declared.log.LogLine.TheVariants as lines
 use Rattle.cc_defs.specs.declared.log.LogVerdict.{LogVerdict}
 use Rattle.cc_defs.specs.declared.log.LogVerdict.TheVariants as verdicts
 use Rattle.cc_defs.specs.LogTexts.{IsLine, header, lines_in}
-use Rattle.cc_defs.specs.Sections.{Axioms, Finding, Right, Wrong, HasNoForm, IsFound}
+use Rattle.cc_defs.specs.Sections.{Axioms, Finding, Right, Trailed, Wrong, HasNoForm, IsFound}
 
 -- ---- a log's sections: each a heading, with the number of its line, and the lines up to the next heading
 
@@ -66,8 +67,16 @@ IsContinued Goes standing true words.Found blocks line verdict = Goes (into_midd
 IsContinued Goes standing false words.Found blocks line verdict = verdict ≡ verdicts.Refused line causes.NotRefuted
 IsContinued Goes standing conditions words.Spent blocks line verdict = verdict ≡ verdicts.Refused line causes.NotRefuted
 
+-- An end word behind which no section may follow is itself the first wrong line, whatever stands behind it.
+abbrev pub IsTrailed : (conditions : Bool) → EndWord → ℕ → Cause → LogVerdict → Type 0
+IsTrailed conditions words.Empty line cause verdict = verdict ≡ verdicts.Refused (line + 1) cause
+IsTrailed true words.Found line cause verdict = verdict ≡ verdicts.Refused (line + 1) cause
+IsTrailed false words.Found line _ verdict = verdict ≡ verdicts.Refused line causes.NotRefuted
+IsTrailed conditions words.Spent line _ verdict = verdict ≡ verdicts.Refused line causes.NotRefuted
+
 abbrev pub IsFollowed : (Standing → Type 0) → Standing → Bool → Finding → LogVerdict → Type 0
 IsFollowed Goes standing conditions (Wrong line cause) verdict = verdict ≡ verdicts.Refused line cause
+IsFollowed Goes standing conditions (Trailed word line cause) verdict = IsTrailed conditions word line cause verdict
 IsFollowed Goes standing conditions (Right word blocks line) verdict = IsContinued Goes standing conditions word blocks line verdict
 
 -- a log may end behind a horizon, and not before the first or within one

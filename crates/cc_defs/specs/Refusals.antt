@@ -1,5 +1,5 @@
--- How refusals are made, which of several numbers counts, and what it is to be refused by exactly one.
-use Rattle.std.specs.Prelude.{◌≡◌, ℕ, Bool, if◌then◌else◌, List, [], ◌∷◌, Option, Some, None}
+-- How refusals are made and named, which of several numbers counts, and what it is to be refused by exactly one.
+use Rattle.std.specs.Prelude.{◌≡◌, ℕ, Bool, if◌then◌else◌, List, [], ◌∷◌, Option, Some, None, codes, unwrap_or, slice_get}
 use Rattle.cc_defs.specs.declared.refusal.Fault.{Fault}
 use Rattle.cc_defs.specs.declared.refusal.Fault.TheVariants as faults
 use Rattle.cc_defs.specs.declared.refusal.LimitAt.{LimitAt}
@@ -30,3 +30,15 @@ least (test ∷ tests) = if test.1 then Some test.0 else least tests
 abbrev pub IsRefusedBy : Option Refusal → Fault → Type 0
 IsRefusedBy refusal (faults.Refused given) = refusal ≡ Some given
 IsRefusedBy refusal faults.OutOfMemory = Unit {0}
+
+-- ---- names
+
+-- the names of the refusals, from number 1 on
+abbrev pub refusal_names : List (List ℕ)
+refusal_names =
+    codes "Words" ∷ codes "Byte" ∷ codes "Syntax" ∷ codes "TwiceDeclared" ∷ codes "UnknownName" ∷ codes "Arity" ∷ codes "Sort"
+    ∷ codes "Unbound" ∷ codes "LawForm" ∷ codes "SdInDynamicHead" ∷ codes "NotDefinite" ∷ codes "EmptyDomain" ∷ codes "NotYet"
+    ∷ codes "Limit" ∷ codes "NoQuery" ∷ codes "Step" ∷ codes "Include" ∷ codes "Key" ∷ []
+
+abbrev pub refusal_name : ℕ → List ℕ
+refusal_name number = unwrap_or (slice_get ([] ∷ refusal_names) number) []

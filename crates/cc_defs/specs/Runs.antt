@@ -16,7 +16,7 @@ use Rattle.cc_defs.specs.Assignments.{IsEarned}
 use Rattle.cc_defs.specs.ClauseLists.{clause_list}
 use Rattle.cc_defs.specs.Clauses.{Literal, Reaches}
 use Rattle.cc_defs.specs.Description.{Description, sizes_at}
-use Rattle.cc_defs.specs.Histories.{IsListing, AreFirst}
+use Rattle.cc_defs.specs.Histories.{IsHistory, IsListing, AreAllOf, AreFirst, AreFirstOf}
 use Rattle.cc_defs.specs.Resolved.{Query}
 use Rattle.cc_defs.specs.Sections.{Axioms, HasNoEmpty, EndsRightly, row_denial}
 
@@ -179,17 +179,21 @@ HasSome d q horizon = HasNone d q horizon → ⊥
 abbrev pub key_row : Ask → Option (List ℕ)
 key_row ask = option_map (λ key. key.row) ask.after
 
--- The section of the histories of a query without a claim. It tells the first ones, at most so many as are asked for. It ends
--- with `empty` only where they are all, and with `found` only where the last one that was asked for has been told; that one is
--- not denied.
-pub record TellsHistories (d : Description) (q : Query) (ask : Ask) (horizon : ℕ) (section : Section) : Type 0 where
-  pub fair : IsFairSection (axioms_of d q ask.after false horizon) ask.budget section
-  pub first : AreFirst d q horizon (key_row ask) (rows_of section)
-  pub asked : IfSome ask.count (λ most. length (rows_of section) ≤ most)
-  pub denied : IfSome ask.count (λ most. length (denied_rows section) < most)
-  pub all_told : EndsWith words.Empty section → IsListing d q horizon (key_row ask) (rows_of section)
-  pub enough : EndsWith words.Found section → ask.count ≡ Some (length (rows_of section))
+-- A section that tells rows of a kind: the first ones, at most so many as are asked for. It ends with `empty` only where they are
+-- all, and with `found` only where the last one that was asked for has been told; that one is not denied.
+pub record TellsRows (Is : List ℕ → Type 0) (axioms : Axioms) (count : Option ℕ) (budget : ℕ) (section : Section) : Type 0 where
+  pub fair : IsFairSection axioms budget section
+  pub first : AreFirstOf Is (rows_of section)
+  pub asked : IfSome count (λ most. length (rows_of section) ≤ most)
+  pub denied : IfSome count (λ most. length (denied_rows section) < most)
+  pub all_told : EndsWith words.Empty section → AreAllOf Is (rows_of section)
+  pub enough : EndsWith words.Found section → count ≡ Some (length (rows_of section))
   pub undenied : IsSome section.last → IsSome section.word → EndsWith words.Found section
+
+-- the section of the histories of a query without a claim
+abbrev pub TellsHistories : Description → Query → Ask → ℕ → Section → Type 0
+TellsHistories d q ask horizon section =
+    TellsRows (IsHistory d q horizon (key_row ask)) (axioms_of d q ask.after false horizon) ask.count ask.budget section
 
 -- A section that looks for a history of a query, and tells none: it ends with `empty` only where there is none, and with
 -- `found` only where there is one.

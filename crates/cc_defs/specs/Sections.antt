@@ -79,10 +79,12 @@ IsWrongly axioms before clause chain causes.Section = ⊥
 IsWrongly axioms before clause chain causes.Row = ⊥
 IsWrongly axioms before clause chain causes.NotRefuted = ⊥
 
--- what a section's lines are found to be: right, with its end word, the number of its blocks and the line of its end; or a
--- line that is not right
+-- what a section's lines are found to be: right, with its end word, the number of its blocks and the line of its end; right up to
+-- this line, which ends it with this word, and behind it stands a line that is wrong for this cause; or a line before its end is
+-- not right
 pub data Finding : Type 0 where
   Right : (word : EndWord) → (blocks line : ℕ) → Finding
+  Trailed : (word : EndWord) → (line : ℕ) → Cause → Finding
   Wrong : (line : ℕ) → Cause → Finding
 
 -- a text is that of no line
@@ -93,7 +95,7 @@ HasNoForm text = (line : LogLine) → IsLine text line → ⊥
 abbrev pub IsEnded : EndWord → ℕ → ℕ → List (List ℕ) → Finding → Type 0
 IsEnded word blocks line [] finding = finding ≡ Right word blocks line
 IsEnded word blocks line (text ∷ texts) finding =
-    (HasNoForm text × (finding ≡ Wrong (line + 1) causes.Form)) ⊎ (((other : LogLine) × IsLine text other) × (finding ≡ Wrong (line + 1) causes.Section))
+    (HasNoForm text × (finding ≡ Trailed word line causes.Form)) ⊎ (((other : LogLine) × IsLine text other) × (finding ≡ Trailed word line causes.Section))
 
 -- A line that is read so at this number; `Goes` says what is found behind it, of the clauses that are there then and of how
 -- many blocks.

@@ -3,6 +3,7 @@
 //! It has no algorithm. The definitions stand in `specs/`, and docs/definitions.md lists them.
 #![tactic(auto)]
 
+mod digits;
 mod event;
 mod formula;
 mod law;
@@ -19,6 +20,7 @@ mod signature;
 mod token;
 mod tree;
 
+pub use digits::{is_digit_byte, is_numeral, number_of_digits};
 pub use event::{Ending, Event, Outcome, Told};
 pub use formula::{Formula, Term};
 pub use law::{BaseLaw, BaseLaws, Condition, Head, Law, Queries, Query, Range};

@@ -1,4 +1,7 @@
 //! The lines of a log: what a search tells of its derivations, so that another program can check them.
+ghost use Rattle.std.specs.Prelude.{◌≡◌};
+ghost use Rattle.cc_defs.specs.LogTexts.{cause_words};
+
 use crate::{Lits, Nums, Row};
 
 /// The word that ends a section of a log.
@@ -48,6 +51,25 @@ pub enum Cause {
     Row,
     /// The section does not show that there is nothing to be found.
     NotRefuted,
+}
+
+impl Cause {
+    /// What is wrong, in the words that are printed.
+    pub fn words(self) -> &'static str
+        ensures { result.now ≡ cause_words self }
+    {
+        match self {
+            Cause::Header => "header",
+            Cause::Form => "form",
+            Cause::Section => "section",
+            Cause::Literal => "literal",
+            Cause::Number => "number",
+            Cause::Pivot => "pivot",
+            Cause::Clause => "clause",
+            Cause::Row => "row",
+            Cause::NotRefuted => "not refuted",
+        }
+    }
 }
 
 /// What a checker says of a log.

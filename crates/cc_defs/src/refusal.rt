@@ -1,6 +1,7 @@
 //! Refusals, and want of memory.
 ghost use Rattle.std.specs.Prelude.{◌≡◌};
 ghost use Rattle.cc_defs.specs.Limits.{limit_name, limit_number};
+ghost use Rattle.cc_defs.specs.Refusals as refusals;
 
 use std::alloc::{AllocError, AllocFailed};
 use thiserror::Error;
@@ -96,6 +97,66 @@ pub struct Refusal {
     pub line: u32,
     /// The limit that was passed; there exactly for number 14.
     pub limit: Option<LimitAt>,
+}
+
+impl Refusal {
+    /// That of a number that is not 14, at a line of a file.
+    pub fn at(number: u8, file: u32, line: u32) -> Refusal
+        ensures { result ≡ refusals.refused number file line }
+    {
+        Refusal {
+            number,
+            file,
+            line,
+            limit: None,
+        }
+    }
+
+    /// A count is past its limit, at a line of a file (14).
+    pub fn past_at(limit: LimitAt, file: u32, line: u32) -> Refusal
+        ensures { result ≡ refusals.past_at limit file line }
+    {
+        Refusal {
+            number: 14,
+            file,
+            line,
+            limit: Some(limit),
+        }
+    }
+
+    /// A count is past its limit, without a place (14).
+    pub fn past(limit: LimitAt) -> Refusal
+        ensures { result ≡ refusals.past limit }
+    {
+        Refusal::past_at(limit, 0, 0)
+    }
+
+    /// Its name, which is printed behind its number; empty for a number that no refusal has.
+    pub fn name(&self) -> &'static str
+        ensures { result.now ≡ refusals.refusal_name self.now.number }
+    {
+        match self.number {
+            1 => "Words",
+            2 => "Byte",
+            3 => "Syntax",
+            4 => "TwiceDeclared",
+            5 => "UnknownName",
+            6 => "Arity",
+            7 => "Sort",
+            8 => "Unbound",
+            9 => "LawForm",
+            10 => "SdInDynamicHead",
+            11 => "NotDefinite",
+            12 => "EmptyDomain",
+            13 => "NotYet",
+            14 => "Limit",
+            15 => "NoQuery",
+            16 => "Step",
+            17 => "Include",
+            18 => "Key",
+            _ => "",
+        }
+    }
 }
 
 /// Memory was wanting.

@@ -1,11 +1,12 @@
 -- What a description answers, by what was gone through.
-use Rattle.std.proofs.Common.{◌≡◌, ◌≢◌, ◌∙◌, ℕ, List, [], length, Option, Some, None, IfSome, Result, Ok, Err, IfOk, IfErr, IsErrOf, refl, sym, ap, subst}
+use Rattle.std.proofs.Common.{◌≡◌, ◌≢◌, ◌∙◌, ℕ, List, [], ◌++◌, length, Option, Some, None, IfSome, Result, Ok, Err, IfOk, IfErr, IsErrOf, refl, sym, ap, subst, append-nil}
 use Rattle.std.specs.Option.{option_or}
 use Rattle.cc_defs.specs.DeclarationFaults.{signature_refusal}
 use Rattle.cc_defs.specs.Limits.{limit_number}
 use Rattle.cc_defs.specs.declared.refusal.Fault.{Fault}
 use Rattle.cc_defs.specs.declared.refusal.Fault.TheVariants as faults
 use Rattle.cc_defs.specs.declared.refusal.LimitAt.TheVariants.{IncludeDepth}
+use Rattle.cc_ports.specs.Calls.{Call, names_begun, names_opened, with_calls}
 use Rattle.cc_ports.specs.Contents.{Contents}
 use Rattle.cc_laws.specs.Laws.{ConstantsHaveForms, LawsHaveForms, QueriesHaveFormulas}
 use Rattle.cc_sorts.specs.Tables.{IsRefusedSignature}
@@ -15,10 +16,10 @@ use Rattle.cc_describe.specs.declared.description.DescribeStop.TheVariants as st
 use Rattle.cc_describe.specs.declared.files.Halt.{Halt}
 use Rattle.cc_describe.specs.declared.files.Halt.TheVariants as halts
 use Rattle.cc_describe.specs.declared.progress.Progress.{Progress}
-use Rattle.cc_describe.specs.Describing.{AsksFormulas, Describes, HasForms, HasStopped, IsDescribed, IsOfSome, IsRefusedWhole, SaysAll}
+use Rattle.cc_describe.specs.Describing.{AreToOpen, AsksFormulas, Describes, HasForms, HasStopped, IsDescribed, IsOfSome, IsRefusedWhole, OpensFor, SaysAll}
 use Rattle.cc_describe.specs.FirstRefusal.{declared_in, file_named, opened_until}
-use Rattle.cc_describe.specs.Places.{Files, Place, opened_in, ArePlaces, AreAllPlaces, AreThere}
-use Rattle.cc_describe.specs.ProgressViews.{IsProgress, FindsFiles, GoesSomewhere, GoesThrough, StopsAs, halt_of}
+use Rattle.cc_describe.specs.Places.{Files, Place, opened_in, ArePlaces, AreAllPlaces, AreThere, HasPlaces}
+use Rattle.cc_describe.specs.ProgressViews.{IsProgress, FindsFiles, GoesSomewhere, GoesThrough, OpensAsKept, StopsAs, halt_of}
 use Rattle.cc_describe.proofs.PlacesAppended.{opened_where_none}
 use Rattle.cc_describe.proofs.PlacesForms.{asks_formulas, has_forms}
 
@@ -47,6 +48,12 @@ fault_was names halts.OutOfMemory stop is fault = absurd cc
 
 pub fault_told : (names : List (List ℕ)) (halt : Halt) (stop : DescribeStop) → StopsAs names halt stop → IsErrOf {T = Described} (Err stop) stops.ReadFault → halt ≡ halts.ReadFault
 fault_told names halt stop is told = fault_was names halt stop is cc
+
+-- a fault of the desk is told as one
+pub fault_comes : (names : List (List ℕ)) (halt : Halt) (stop : DescribeStop) → StopsAs names halt stop → IsErrOf {T = Unit {0}} (Err halt) halts.ReadFault → IsErrOf {T = Described} (Err stop) stops.ReadFault
+fault_comes names (halts.Refused refusal) stop is told = absurd cc
+fault_comes names halts.ReadFault stop is told = ap Err is
+fault_comes names halts.OutOfMemory stop is told = absurd cc
 
 pub tells_no_fault : (names : List (List ℕ)) (fault : Fault) (halt : Halt) (stop : DescribeStop) → halt ≡ halt_of fault → StopsAs names halt stop → stop ≢ stops.ReadFault
 tells_no_fault names (faults.Refused refusal) halt stop halt_is is told = let was = fault_was names halt stop is told in absurd cc
@@ -129,6 +136,60 @@ is_refused deep (Some contents) name names progress new (halts.Refused refusal) 
       is.1 ∙ ap (λ l. file_named l refusal) (names_are ∙ gone.3) ∙ ap (file_named (opened_until [] places)) (sym is.0),
       subst (AreThere contents.files) gone.3 (found contents refl (none_opened contents.files progress begun)),
     )
+
+-- ---- the names that are opened
+
+-- all that are to be
+opens_all : (files : Files) (name : List ℕ) (names : List (List ℕ)) (result : Result Described DescribeStop) → AreToOpen files name names → OpensFor files name result names
+opens_all files name names (Ok described) all = all
+opens_all files name names (Err (stops.Refused refusal file)) all = all
+opens_all files name names (Err stops.ReadFault) all = (names, all, ([], sym (append-nil names)))
+opens_all files name names (Err stops.OutOfMemory) all = (names, all, ([], sym (append-nil names)))
+
+-- the calls of the desk, where the names kept are these
+pub as_called : (told : Option Contents) (name : List ℕ) (result : Result Described DescribeStop) {old new : List (List ℕ)} {before after : Option (List Call)} → old ≡ []
+    → OpensAsKept old new before after → IfSome told (λ contents. OpensFor contents.files name result new)
+    → (more : List Call) × (after ≡ with_calls more before) × (names_begun more ≡ []) × IfSome told (λ contents. OpensFor contents.files name result (names_opened more))
+as_called told name result none kept opens = (
+  kept.more,
+  kept.calls,
+  kept.begun,
+  subst (λ l. IfSome told (λ contents. OpensFor contents.files name result l)) (kept.names ∙ ap (λ l. l ++ names_opened kept.more) none) opens,
+)
+
+-- nothing was opened
+pub opens_none : HasPlaces → (told : Option Contents) (name : List ℕ) → IfSome told (λ contents. OpensFor contents.files name {T = Described} (Err stops.OutOfMemory) [])
+opens_none has None name = tt
+opens_none has (Some contents) name =
+    let places = has contents.files name in (opened_until [] places.0, (places.0, places.1, refl), (opened_until [] places.0, refl))
+
+-- all places were gone through
+pub opens_whole : (deep : ℕ) (told : Option Contents) (name : List ℕ) (progress new : Progress) (done : Unit {0}) (result : Result Described DescribeStop)
+    → deep ≡ limit_number IncludeDepth → IsProgress progress [] → progress.around.items ≡ [] → Goes deep told name progress (Ok done) new
+    → IfSome told (λ contents. OpensFor contents.files name result new.names.items)
+opens_whole deep None name progress new done result deep_is begun outside goes = tt
+opens_whole deep (Some contents) name progress new done result deep_is begun outside goes =
+    let gone = goes contents [] refl begun in
+    opens_all contents.files name new.names.items result
+    (gone.0, all_places deep contents.files progress.around.items name gone.0 deep_is outside gone.1, gone.3.names ∙ sym (opened_where_none [] gone.0 gone.2))
+
+-- a place is refused, or there is another reason
+pub opens_stopped : (deep : ℕ) (told : Option Contents) (name : List ℕ) (names : List (List ℕ)) (progress new : Progress) (halt : Halt) (stop : DescribeStop)
+    → deep ≡ limit_number IncludeDepth → IsProgress progress [] → progress.around.items ≡ [] → Goes deep told name progress (Err halt) new
+    → StopsAs names halt stop → IfSome told (λ contents. OpensFor contents.files name {T = Described} (Err stop) new.names.items)
+opens_stopped deep None name names progress new halt stop deep_is begun outside goes is = tt
+opens_stopped deep (Some contents) name names progress new (halts.Refused refusal) stop deep_is begun outside goes is =
+    let gone = goes contents [] refl begun in
+    opens_all contents.files name new.names.items (Err stop)
+    (gone.0, all_places deep contents.files progress.around.items name gone.0 deep_is outside gone.1, gone.3)
+opens_stopped deep (Some contents) name names progress new halts.ReadFault stop deep_is begun outside goes is =
+    let gone = goes contents [] refl begun in
+    subst (λ s. OpensFor contents.files name {T = Described} (Err s) new.names.items) (sym is)
+    (opened_until [] gone.0, (gone.0, all_places deep contents.files progress.around.items name gone.0 deep_is outside gone.1, refl), gone.2)
+opens_stopped deep (Some contents) name names progress new halts.OutOfMemory stop deep_is begun outside goes is =
+    let gone = goes contents [] refl begun in
+    subst (λ s. OpensFor contents.files name {T = Described} (Err s) new.names.items) (sym is)
+    (opened_until [] gone.0, (gone.0, all_places deep contents.files progress.around.items name gone.0 deep_is outside gone.1, refl), gone.2)
 
 -- ---- whatever the desk tells
 

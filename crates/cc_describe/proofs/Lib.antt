@@ -1,4 +1,5 @@
 pub mod AsDescribed
+pub mod CallsKept
 pub mod CheckedHeads
 pub mod CheckedLaws
 pub mod CheckedTerms

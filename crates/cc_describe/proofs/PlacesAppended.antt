@@ -4,9 +4,9 @@ use Rattle.std.specs.Option.{option_or}
 use Rattle.std.proofs.lemmas.Grind.{flat_map-append}
 use Rattle.std.proofs.lemmas.List.Concat.{flat_map-cons}
 use Rattle.cc_defs.specs.declared.refusal.Refusal.{Refusal}
-use Rattle.cc_describe.specs.Describing.{laws_at, laws_behind, queries_at, queries_behind}
+use Rattle.cc_describe.specs.Describing.{laws_at, laws_behind, queries_at, queries_behind, AreFirstNames}
 use Rattle.cc_describe.specs.FirstRefusal.{declared_at, declared_in, labels_at, labelled_in, bytes_at, bytes_in, refusal_at, first_behind, opened_behind, opened_until}
-use Rattle.cc_describe.specs.Places.{Place, opened_at, opened_in}
+use Rattle.cc_describe.specs.Places.{Place, Opened, opened_at, opened_in}
 
 -- ---- lists behind others
 
@@ -102,3 +102,48 @@ laws_behind_one before place = laws_behind_all [] before (place ∷ []) ∙ ap (
 
 pub queries_behind_one : (before : List Place) (place : Place) → queries_behind [] (before ++ place ∷ []) ≡ queries_behind [] before ++ queries_at before place
 queries_behind_one before place = queries_behind_all [] before (place ∷ []) ∙ ap (λ more. queries_behind [] before ++ more) (append-nil (queries_at before place))
+
+-- ---- the names opened, where places follow that were gone through
+
+pub names_behind : (before places behind : List Place) → first_behind before places ≡ None →
+    opened_in (before ++ places) ++ opened_until (before ++ places) behind ≡ opened_in before ++ opened_until before (places ++ behind)
+names_behind before places behind none =
+    let until : opened_until before (places ++ behind) ≡ opened_in places ++ opened_until (before ++ places) behind =
+    opened_until_all before places behind
+    ∙ ap (λ one. opened_until before places ++ opened_behind one (opened_until (before ++ places) behind)) none
+    ∙ ap (λ l. l ++ opened_until (before ++ places) behind) (opened_where_none before places none) in
+    ap (λ l. l ++ opened_until (before ++ places) behind) (opened_in_all before places)
+    ∙ append_assoc (opened_in before) (opened_in places) (opened_until (before ++ places) behind)
+    ∙ ap (λ l. opened_in before ++ l) (sym until)
+
+-- the first names of a list are those of a longer one
+pub first_longer : (names all more longer : List (List ℕ)) → longer ≡ all ++ more → AreFirstNames names all → AreFirstNames names longer
+first_longer names all more longer is (rest, e) = (rest ++ more, is ∙ ap (λ l. l ++ more) e ∙ append_assoc names rest more)
+
+pub first_of : (names : List (List ℕ)) {all other : List (List ℕ)} → all ≡ other → AreFirstNames names all → AreFirstNames names other
+first_of names is (rest, e) = (rest, sym is ∙ e)
+
+-- those of what was opened before
+pub all_first : {names all : List (List ℕ)} (more : List (List ℕ)) → names ≡ all → AreFirstNames names (all ++ more)
+all_first more is = (more, ap (λ l. l ++ more) (sym is))
+
+-- those up to a file that was opened, or would be next
+pub first_opened : (names : List (List ℕ)) (before : List Place) (name bytes : List ℕ) (behind : List Place) → AreFirstNames names (opened_in before ++ name ∷ [])
+    → AreFirstNames names (opened_in before ++ opened_until before (Opened name bytes ∷ behind))
+first_opened names before name bytes behind first =
+    let more = opened_behind (refusal_at before (Opened name bytes)) (opened_until (before ++ Opened name bytes ∷ []) behind) in
+    first_longer names (opened_in before ++ name ∷ []) more _ (sym (append_assoc (opened_in before) (name ∷ []) more)) first
+
+-- behind a refusal nothing is opened
+pub opened_until_some : (before places behind : List Place) (refusal : Refusal) → first_behind before places ≡ Some refusal
+    → opened_until before (places ++ behind) ≡ opened_until before places
+opened_until_some before places behind refusal some =
+    opened_until_all before places behind
+    ∙ ap (λ one. opened_until before places ++ opened_behind one (opened_until (before ++ places) behind)) some
+    ∙ append-nil (opened_until before places)
+
+pub first_until : (names : List (List ℕ)) (before places behind : List Place) → AreFirstNames names (opened_in before ++ opened_until before places)
+    → AreFirstNames names (opened_in before ++ opened_until before (places ++ behind))
+first_until names before places behind first =
+    let more = opened_behind (first_behind before places) (opened_until (before ++ places) behind) in
+    first_longer names (opened_in before ++ opened_until before places) more _ (ap (λ l. opened_in before ++ l) (opened_until_all before places behind) ∙ sym (append_assoc (opened_in before) (opened_until before places) more)) first

@@ -7,28 +7,18 @@ use Rattle.cc_defs.specs.Refusals.{past_at}
 use Rattle.cc_defs.specs.declared.refusal.LimitAt.TheVariants as limits
 use Rattle.cc_defs.specs.declared.refusal.Fault.{Fault}
 use Rattle.cc_defs.specs.declared.refusal.Fault.TheVariants as faults
+use Rattle.cc_defs.specs.declared.refusal.Refusal.{Refusal}
 use Rattle.cc_defs.specs.Tokens.{TokenView}
 use Rattle.cc_defs.specs.Trees.{PlainStatement}
 use Rattle.cc_describe.specs.declared.files.Halt.{Halt}
 use Rattle.cc_describe.specs.declared.files.Halt.TheVariants as halts
 use Rattle.cc_describe.specs.declared.progress.Progress.{Progress}
-use Rattle.cc_describe.specs.FirstRefusal.{first_behind, opened_behind, opened_until, opening_refusal}
+use Rattle.cc_describe.specs.FirstRefusal.{first_behind, opened_behind, opening_refusal}
 use Rattle.cc_describe.specs.Places.{Place, Opened, Barred, Said, opened_in}
 use Rattle.cc_describe.specs.ProgressViews.{IsProgress, IsOpened, IsRefusedOpening, IsRefusedStatement, Says, GoesSomewhere, halt_of}
-use Rattle.cc_describe.proofs.PlacesAppended.{opened_in_all, first_behind_all, opened_until_all, opened_where_none}
+use Rattle.cc_describe.proofs.PlacesAppended.{all_first, first_behind_all, first_of, first_opened, names_behind}
 
 -- ---- one after another
-
-names_behind : (before places behind : List Place) → first_behind before places ≡ None →
-    opened_in (before ++ places) ++ opened_until (before ++ places) behind ≡ opened_in before ++ opened_until before (places ++ behind)
-names_behind before places behind none =
-    let until : opened_until before (places ++ behind) ≡ opened_in places ++ opened_until (before ++ places) behind =
-    opened_until_all before places behind
-    ∙ ap (λ one. opened_until before places ++ opened_behind one (opened_until (before ++ places) behind)) none
-    ∙ ap (λ l. l ++ opened_until (before ++ places) behind) (opened_where_none before places none) in
-    ap (λ l. l ++ opened_until (before ++ places) behind) (opened_in_all before places)
-    ∙ append_assoc (opened_in before) (opened_in places) (opened_until (before ++ places) behind)
-    ∙ ap (λ l. opened_in before ++ l) (sym until)
 
 -- places were gone through, and none is refused
 abbrev pub Gone : List Place → Progress → Type 0
@@ -51,8 +41,8 @@ then_goes before now new result (places, any, none, kept) goes = step result (go
       first_behind_all before places behind ∙ ap (λ one. option_or one (first_behind (before ++ places) behind)) none ∙ some,
       names ∙ names_behind before places behind none,
     )
-    step (Err halts.ReadFault) goes = tt
-    step (Err halts.OutOfMemory) goes = tt
+    step (Err halts.ReadFault) (behind, any, first) = (places ++ behind, tt, first_of new.names.items (names_behind before places behind none) first)
+    step (Err halts.OutOfMemory) (behind, any, first) = (places ++ behind, tt, first_of new.names.items (names_behind before places behind none) first)
 
 -- ---- the steps
 
@@ -60,8 +50,8 @@ pub opened_goes : (before : List Place) (name bytes : List ℕ) (new : Progress)
 opened_goes before name bytes new opened = (Opened name bytes ∷ [], tt, ap (λ one. option_or one None) opened.unrefused, opened.opened)
 
 pub opening_goes : (before : List Place) (name bytes : List ℕ) (halt : Halt) (new : Progress) → IsRefusedOpening before name bytes halt new → GoesSomewhere before {T = Unit {0}} (Err halt) new
-opening_goes before name bytes halts.ReadFault new refused = tt
-opening_goes before name bytes halts.OutOfMemory new refused = tt
+opening_goes before name bytes halts.ReadFault new first = (Opened name bytes ∷ [], tt, first_opened new.names.items before name bytes [] first)
+opening_goes before name bytes halts.OutOfMemory new first = (Opened name bytes ∷ [], tt, first_opened new.names.items before name bytes [] first)
 opening_goes before name bytes (halts.Refused refusal) new (refused, names) = (
   Opened name bytes ∷ [],
   tt,
@@ -74,7 +64,7 @@ pub barred_goes : (before : List Place) (fault : Fault) (halt : Halt) (new : Pro
 barred_goes before fault halt new is kept = subst (λ h. GoesSomewhere before {T = Unit {0}} (Err h) new) (sym is) (step fault)
   where
     step : (fault : Fault) → GoesSomewhere before {T = Unit {0}} (Err (halt_of fault)) new
-    step faults.OutOfMemory = tt
+    step faults.OutOfMemory = ([], tt, all_first [] kept.names)
     step (faults.Refused refusal) = (Barred refusal ∷ [], tt, refl, kept.names ∙ sym (append-nil (opened_in before)))
 
 pub said_goes : (before : List Place) (file : ℕ) (around : List (List ℕ)) (statement : PlainStatement) (new : Progress) → Says before file around statement new → Gone before new
@@ -82,7 +72,7 @@ said_goes before file around statement new says = (Said file around statement �
 
 pub refused_goes : (before : List Place) (file : ℕ) (around : List (List ℕ)) (tokens : List TokenView) (fault : Fault) (old new : Progress) → IsProgress old before → new.names ≡ old.names →
     IsRefusedStatement before file around tokens fault → GoesSomewhere before {T = Unit {0}} (Err (halt_of fault)) new
-refused_goes before file around tokens faults.OutOfMemory old new was names refused = tt
+refused_goes before file around tokens faults.OutOfMemory old new was names refused = ([], tt, all_first [] (ap (λ l. l.items) names ∙ was.names))
 refused_goes before file around tokens (faults.Refused refusal) old new was names (inl refused) =
     (Barred refusal ∷ [], tt, refl, ap (λ l. l.items) names ∙ was.names ∙ sym (append-nil (opened_in before)))
 refused_goes before file around tokens (faults.Refused refusal) old new was names (inr (statement, parsed, refused)) = (
@@ -104,12 +94,12 @@ long_refused : (before : List Place) (bytes : List ℕ) (file : ℕ) → limit_n
 long_refused before bytes file long is = rw (lt-ltb (limit_number limits.FileBytes) (length bytes) long) (ap (λ n. Some (past_at limits.FileBytes n 1)) (sym is))
 
 -- some bytes are too long
-pub too_long : (before : List Place) (name : List ℕ) (file : ℕ) (fault : Fault) (halt : Halt) (old new : Progress) → IsProgress old before → file ≡ length old.names.items →
-    new.names.items ≡ old.names.items ++ name ∷ [] → fault ≡ faults.Refused (past_at limits.FileBytes file 1) → halt ≡ halt_of fault →
-    (bytes : List ℕ) × IsRefusedOpening before name bytes halt new
-too_long before name file fault halt old new was number names fault_is halt_is =
+pub too_long : (before : List Place) (name : List ℕ) (file : ℕ) (refusal : Refusal) (old new : Progress) → IsProgress old before → file ≡ length old.names.items →
+    new.names.items ≡ old.names.items ++ name ∷ [] → refusal ≡ past_at limits.FileBytes file 1 →
+    (bytes : List ℕ) × IsRefusedOpening before name bytes (halts.Refused refusal) new
+too_long before name file refusal old new was number names is =
     let bytes = longer_than (limit_number limits.FileBytes) in
-    let told : halt ≡ halts.Refused (past_at limits.FileBytes file 1) = halt_is ∙ ap halt_of fault_is in (
+    let told = ap halts.Refused is in (
       bytes.0,
       subst (λ h. IsRefusedOpening before name bytes.0 h new) (sym told)
           (long_refused before bytes.0 file bytes.1 (number ∙ ap length was.names), names ∙ ap (λ l. l ++ name ∷ []) was.names),

@@ -1,5 +1,5 @@
 -- A file is opened, and gone through statement by statement.
-use Rattle.std.proofs.Common.{◌≡◌, ◌∙◌, ℕ, zero, suc, ◌+◌, ◌-◌, ◌<◌, ◌≤◌, List, [], ◌∷◌, ◌++◌, length, take, drop, map, slice_index_or, unwrap_or, Option, Some, None, option_map, IfSome, IsSome, Result, Ok, Err, IsErrAnd, refl, sym, ap, subst, inl, inr, append_assoc, append-nil, length-append, arith}
+use Rattle.std.proofs.Common.{◌≡◌, ◌∙◌, ℕ, zero, suc, ◌+◌, ◌-◌, ◌<◌, ◌≤◌, List, [], ◌∷◌, ◌++◌, length, take, drop, map, slice_index_or, unwrap_or, Option, Some, None, option_map, IfSome, IsSome, Result, Ok, Err, IsErrAnd, IsErrOf, refl, sym, ap, subst, inl, inr, append_assoc, append-nil, length-append, arith}
 use Rattle.std.specs.Option.{option_or}
 use Rattle.std.specs.List.{AllByRecursion}
 use Rattle.std.proofs.lemmas.List.{take_all, take_more, take-append-drop}
@@ -9,7 +9,6 @@ use Rattle.cc_defs.specs.Limits.{limit_number}
 use Rattle.cc_defs.specs.declared.refusal.LimitAt.TheVariants as limits
 use Rattle.cc_defs.specs.declared.refusal.Fault.{Fault}
 use Rattle.cc_defs.specs.declared.refusal.Fault.TheVariants as faults
-use Rattle.cc_defs.specs.declared.refusal.Refusal.{Refusal}
 use Rattle.cc_defs.specs.Resolved.{plain_base_law, plain_query}
 use Rattle.cc_defs.specs.Tokens.{TokenView, AreTokens, statements as statements_of}
 use Rattle.cc_ports.specs.Contents.{Contents, with_rest}
@@ -19,13 +18,14 @@ use Rattle.cc_syntax.specs.Parsing.{TreeOrRefusal}
 use Rattle.cc_describe.specs.declared.files.Halt.{Halt}
 use Rattle.cc_describe.specs.declared.files.Halt.TheVariants as halts
 use Rattle.cc_describe.specs.declared.progress.Progress.{Progress}
+use Rattle.cc_describe.specs.Describing.{AreFirstNames}
 use Rattle.cc_describe.specs.FirstRefusal.{declared_in, bytes_in, opening_refusal, first_behind, opened_behind, opened_until}
 use Rattle.cc_describe.specs.Places.{Files, Place, Opened, Barred, Said, AreThere, content, included, opened_in, AreBehind, AreOfStatement, AreOfStatements, AreOfText, NoPlaces, ArePlaces}
-use Rattle.cc_describe.specs.ProgressViews.{IsProgress, IsOpened, IsRefusedOpening, IsRefusedStatement, IsTaken, FindsFiles, GoesThrough, halt_of}
-use Rattle.cc_describe.proofs.HasPlaces.{Has, behind_exists, statements_exist, text_places_exist, places_exist}
+use Rattle.cc_describe.specs.ProgressViews.{IsProgress, IsOpened, IsRefusedOpening, IsRefusedStatement, IsTaken, FindsFiles, GoesThrough, OpensFirst, halt_of}
+use Rattle.cc_describe.proofs.HasPlaces.{Has, behind_exists, statement_places_exist, statements_exist, text_places_exist, places_exist}
 use Rattle.cc_describe.proofs.ProgressLemmas.{step, nothing_more}
 use Rattle.cc_sorts.specs.Tables.{IsTable}
-use Rattle.cc_describe.proofs.PlacesAppended.{opened_in_behind, opened_in_all, first_behind_all, opened_until_all, opened_where_none}
+use Rattle.cc_describe.proofs.PlacesAppended.{all_first, first_behind_all, first_of, first_opened, first_until, names_behind, opened_in_all, opened_in_behind, opened_until_some}
 
 -- ---- what the desk tells
 
@@ -102,13 +102,15 @@ of_file (suc deep) files around file name behind are = (behind, are, refl)
 
 -- where a statement is refused
 pub statement_refused : CutOrStop → StatementsAreTokens → TreeOrRefusal → (deep : ℕ) (files : Files) (around : List (List ℕ)) (file : ℕ)
-    (before : List Place) (tokens : List TokenView) (fault : Fault) (old new : Progress) → IsProgress old before → new.names ≡ old.names
+    (before : List Place) (tokens : List TokenView) (fault : Fault) (old new : Progress) → AreTokens tokens → IsProgress old before → new.names ≡ old.names
     → IsRefusedStatement before file around tokens fault
     → GoesThrough (AreOfStatement (AreInside deep files around) file around (length (opened_in before)) tokens) before {T = Unit {0}} (Err (halt_of fault)) new
-statement_refused cut are read deep files around file before tokens faults.OutOfMemory old new was names refused = tt
-statement_refused cut are read deep files around file before tokens (faults.Refused refusal) old new was names (inl refused) =
+statement_refused cut are read deep files around file before tokens faults.OutOfMemory old new of_kinds was names refused =
+    let places = statement_places_exist read (AreInside deep files around) (inside_exist cut are read deep files around) file around (length (opened_in before)) tokens of_kinds in
+    (places.0, places.1, all_first _ (ap (λ l. l.items) names ∙ was.names))
+statement_refused cut are read deep files around file before tokens (faults.Refused refusal) old new of_kinds was names (inl refused) =
     (Barred refusal ∷ [], inl (refusal, refused, refl), refl, ap (λ l. l.items) names ∙ was.names ∙ sym (append-nil (opened_in before)))
-statement_refused cut are read deep files around file before tokens (faults.Refused refusal) old new was names (inr (statement, parsed, refused)) =
+statement_refused cut are read deep files around file before tokens (faults.Refused refusal) old new of_kinds was names (inr (statement, parsed, refused)) =
     let behind = behind_exists (AreInside deep files around) (inside_exist cut are read deep files around) (length (opened_in before)) (included statement.part) in (
       Said file around statement ∷ behind.0,
       inr (statement, behind.0, parsed, behind.1, refl),
@@ -167,8 +169,10 @@ statement_includes Inside around file before tokens name result now new (stateme
       names ∙ ap (λ l. l ++ opened_until (before ++ place ∷ []) behind) (opened_in_behind before place ∙ append-nil (opened_in before))
           ∙ ap (λ one. opened_in before ++ opened_behind one (opened_until (before ++ place ∷ []) behind)) (sym says.unrefused),
     )
-    step (Err halts.ReadFault) are goes = tt
-    step (Err halts.OutOfMemory) are goes = tt
+    step (Err halts.ReadFault) are (behind, inside, first) =
+        (place ∷ behind, are behind inside, first_of new.names.items (names_behind before (place ∷ []) behind (ap (λ one. option_or one None) says.unrefused)) first)
+    step (Err halts.OutOfMemory) are (behind, inside, first) =
+        (place ∷ behind, are behind inside, first_of new.names.items (names_behind before (place ∷ []) behind (ap (λ one. option_or one None) says.unrefused)) first)
 
 -- ---- the statements of a file
 
@@ -277,28 +281,47 @@ midway_ends {deep} {files} {before} {name} {file} {statements} {i} {old} around 
       progress_left (before ++ Opened name bytes ∷ m.done) old new (subst (IsProgress old) (append_assoc before (Opened name bytes ∷ []) m.done) m.kept) left,
     )
 
--- the names opened up to a statement that is refused
-names_stopped : (before done places rest : List Place) (name bytes : List ℕ) (refusal : Refusal) → opening_refusal before bytes ≡ None
-    → first_behind (before ++ Opened name bytes ∷ []) done ≡ None
-    → first_behind ((before ++ Opened name bytes ∷ []) ++ done) places ≡ Some refusal
-    → opened_in ((before ++ Opened name bytes ∷ []) ++ done) ++ opened_until ((before ++ Opened name bytes ∷ []) ++ done) places
-    ≡ opened_in before ++ opened_until before (Opened name bytes ∷ (done ++ (places ++ rest)))
-names_stopped before done places rest name bytes refusal unrefused none some =
-    let start = before ++ Opened name bytes ∷ [] in
-    let until_one : opened_until (start ++ done) (places ++ rest) ≡ opened_until (start ++ done) places =
-    opened_until_all (start ++ done) places rest
-    ∙ ap (λ one. opened_until (start ++ done) places ++ opened_behind one (opened_until ((start ++ done) ++ places) rest)) some
-    ∙ append-nil (opened_until (start ++ done) places) in
-    let until_all : opened_until start (done ++ (places ++ rest)) ≡ opened_in done ++ opened_until (start ++ done) places =
-    opened_until_all start done (places ++ rest)
-    ∙ ap (λ one. opened_until start done ++ opened_behind one (opened_until (start ++ done) (places ++ rest))) none
-    ∙ ap (λ l. l ++ opened_until (start ++ done) (places ++ rest)) (opened_where_none start done none)
-    ∙ ap (λ l. opened_in done ++ l) until_one in
-    ap (λ l. l ++ opened_until (start ++ done) places) (opened_in_all start done ∙ ap (λ l. l ++ opened_in done) (opened_in_behind before (Opened name bytes)))
-    ∙ append_assoc (opened_in before ++ name ∷ []) (opened_in done) (opened_until (start ++ done) places)
-    ∙ append_assoc (opened_in before) (name ∷ []) (opened_in done ++ opened_until (start ++ done) places)
-    ∙ ap (λ l. opened_in before ++ name ∷ l) (sym until_all)
-    ∙ ap (λ one. opened_in before ++ name ∷ opened_behind one (opened_until start (done ++ (places ++ rest)))) (sym unrefused)
+-- the names opened, where a statement follows
+names_midway : {deep : ℕ} {files : Files} {before : List Place} {name : List ℕ} {file : ℕ} {around : List (List ℕ)} {statements : List (List TokenView)} {i : ℕ} {old : Progress}
+    (m : Midway deep files before name file around statements i old) (behind : List Place)
+    → opened_in (up_to m) ++ opened_until (up_to m) behind ≡ opened_in before ++ opened_until before (Opened name (content files name) ∷ (m.done ++ behind))
+names_midway {files = files} {before = before} {name = name} m behind =
+    let place = Opened name (content files name) in
+    names_behind (before ++ place ∷ []) m.done behind m.none ∙ names_behind before (place ∷ []) (m.done ++ behind) (ap (λ one. option_or one None) m.unrefused)
+
+-- a statement of a text that was read, and those behind it
+pub later_are_tokens : StatementsAreTokens → (text : List ℕ) (statements : List (List TokenView)) (i : ℕ) → i < length statements → HasRead text statements
+    → AllByRecursion AreTokens (slice_index_or statements i [] ∷ drop (suc i) statements)
+later_are_tokens are text statements i within (tokens, cut, short, is) =
+    all_later AreTokens (take i statements) (slice_index_or statements i [] ∷ drop (suc i) statements)
+    (subst (AllByRecursion AreTokens) (parted statements i within) (subst (AllByRecursion AreTokens) (sym is) (are 1 text tokens cut short)))
+
+-- whatever places a statement has, the file has some with these
+midway_whole : CutOrStop → StatementsAreTokens → TreeOrRefusal
+    → {deep : ℕ} {files : Files} {before : List Place} {name : List ℕ} {file : ℕ} {statements : List (List TokenView)} {i : ℕ} {old : Progress} (around : List (List ℕ))
+    → i < length statements → HasRead (content files name) statements
+    → (m : Midway deep files before name file (around ++ name ∷ []) statements i old) (places : List Place)
+    → AreOfStatement (AreInside deep files (around ++ name ∷ [])) file (around ++ name ∷ []) (length (opened_in (up_to m))) (slice_index_or statements i []) places
+    → (rest : List Place) × ArePlaces deep files around (length (opened_in before)) name (Opened name (content files name) ∷ (m.done ++ (places ++ rest)))
+midway_whole cut are read {deep} {files} {before} {name} {file} {statements} {i} {old} around within has m places first =
+    let bytes = content files name in
+    let within_file = around ++ name ∷ [] in
+    let Inside = AreInside deep files within_file in
+    let number = (file + 1) + length (opened_in m.done) in
+    let one = slice_index_or statements i [] in
+    let later = drop (suc i) statements in
+    let later_are = later_are_tokens are bytes statements i within has in
+    let rest = statements_exist read Inside (inside_exist cut are read deep files within_file) file within_file (number + length (opened_in places)) later later_are.1 in
+    let behind = m.done ++ (places ++ rest.0) in
+    let here : AreOfStatements Inside file within_file number (one ∷ later) (places ++ rest.0) =
+    (places, rest.0, subst (λ n. AreOfStatement Inside file within_file n one places) (next_number before m.done name bytes file m.number) first, rest.1, refl) in
+    let whole : AreOfStatements Inside file within_file (file + 1) (statements_of has.0) behind =
+    subst (λ all. AreOfStatements Inside file within_file (file + 1) all behind) (sym (parted statements i within) ∙ has.3)
+    (statements_all Inside file within_file (file + 1) (take i statements) (one ∷ later) m.done (places ++ rest.0) m.are here) in (
+      rest.0,
+      subst (λ n. ArePlaces deep files around n name (Opened name bytes ∷ behind)) m.number
+          (of_file deep files around file name behind (inr (has.0, has.1, has.2, whole))),
+    )
 
 -- at a statement that is refused
 pub midway_stops : CutOrStop → StatementsAreTokens → TreeOrRefusal
@@ -308,44 +331,59 @@ pub midway_stops : CutOrStop → StatementsAreTokens → TreeOrRefusal
     → GoesThrough (AreOfStatement (AreInside deep files (around ++ name ∷ [])) file (around ++ name ∷ []) (length (opened_in (up_to m))) (slice_index_or statements i []))
     (up_to m) {T = Unit {0}} (Err halt) new
     → GoesThrough (ArePlaces deep files around (length (opened_in before)) name) before {T = Unit {0}} (Err halt) new
-midway_stops cut are read {deep} {files} {before} {name} {file} {statements} {i} {old} around new halts.ReadFault within has m goes = tt
-midway_stops cut are read {deep} {files} {before} {name} {file} {statements} {i} {old} around new halts.OutOfMemory within has m goes = tt
-midway_stops cut are read {deep} {files} {before} {name} {file} {statements} {i} {old} around new (halts.Refused refusal) within (tokens, is_cut, short, is) m (places, first, some, names) =
-    let bytes = content files name in
-    let start = before ++ Opened name bytes ∷ [] in
-    let mid = start ++ m.done in
-    let within_file = around ++ name ∷ [] in
-    let Inside = AreInside deep files within_file in
-    let number = (file + 1) + length (opened_in m.done) in
-    let one = slice_index_or statements i [] in
-    let later = drop (suc i) statements in
-    let all_are : AllByRecursion AreTokens statements = subst (AllByRecursion AreTokens) (sym is) (are 1 bytes tokens is_cut short) in
-    let later_are : AllByRecursion AreTokens (one ∷ later) = all_later AreTokens (take i statements) (one ∷ later) (subst (AllByRecursion AreTokens) (parted statements i within) all_are) in
-    let rest = statements_exist read Inside (inside_exist cut are read deep files within_file) file within_file (number + length (opened_in places)) later later_are.1 in
-    let behind = m.done ++ (places ++ rest.0) in
-    let here : AreOfStatements Inside file within_file number (one ∷ later) (places ++ rest.0) =
-    (places, rest.0, subst (λ n. AreOfStatement Inside file within_file n one places) (next_number before m.done name bytes file m.number) first, rest.1, refl) in
-    let whole : AreOfStatements Inside file within_file (file + 1) (statements_of tokens) behind =
-    subst (λ all. AreOfStatements Inside file within_file (file + 1) all behind) (sym (parted statements i within) ∙ is)
-    (statements_all Inside file within_file (file + 1) (take i statements) (one ∷ later) m.done (places ++ rest.0) m.are here) in (
-      Opened name bytes ∷ behind,
-      subst (λ n. ArePlaces deep files around n name (Opened name bytes ∷ behind)) m.number
-          (of_file deep files around file name behind (inr (tokens, is_cut, short, whole))),
-      ap (λ refused. option_or refused (first_behind start behind)) m.unrefused ∙ first_behind_all start m.done (places ++ rest.0)
-          ∙ ap (λ refused. option_or refused (first_behind mid (places ++ rest.0))) m.none ∙ first_behind_all mid places rest.0
-          ∙ ap (λ refused. option_or refused (first_behind (mid ++ places) rest.0)) some,
-      names ∙ names_stopped before m.done places rest.0 name bytes refusal m.unrefused m.none some,
-    )
+midway_stops cut are read {deep} {files} {before} {name} {file} {statements} {i} {old} around new halt within has m goes = stopped halt goes
+  where
+    start : List Place
+    start = before ++ Opened name (content files name) ∷ []
+
+    mid : List Place
+    mid = start ++ m.done
+
+    Are : List Place → Type 0
+    Are = AreOfStatement (AreInside deep files (around ++ name ∷ [])) file (around ++ name ∷ []) (length (opened_in mid)) (slice_index_or statements i [])
+
+    first_ones : OpensFirst Are mid new → OpensFirst (ArePlaces deep files around (length (opened_in before)) name) before new
+    first_ones (places, first, names) =
+        let whole = midway_whole cut are read around within has m places first in (
+          Opened name (content files name) ∷ (m.done ++ (places ++ whole.0)),
+          whole.1,
+          first_of new.names.items (names_midway m (places ++ whole.0)) (first_until new.names.items mid places whole.0 names),
+        )
+
+    stopped : (halt : Halt) → GoesThrough Are mid {T = Unit {0}} (Err halt) new → GoesThrough (ArePlaces deep files around (length (opened_in before)) name) before {T = Unit {0}} (Err halt) new
+    stopped halts.ReadFault goes = first_ones goes
+    stopped halts.OutOfMemory goes = first_ones goes
+    stopped (halts.Refused refusal) (places, first, some, names) =
+        let whole = midway_whole cut are read around within has m places first in (
+          Opened name (content files name) ∷ (m.done ++ (places ++ whole.0)),
+          whole.1,
+          ap (λ refused. option_or refused (first_behind start (m.done ++ (places ++ whole.0)))) m.unrefused ∙ first_behind_all start m.done (places ++ whole.0)
+              ∙ ap (λ refused. option_or refused (first_behind mid (places ++ whole.0))) m.none ∙ first_behind_all mid places whole.0
+              ∙ ap (λ refused. option_or refused (first_behind (mid ++ places) whole.0)) some,
+          names ∙ ap (λ l. opened_in mid ++ l) (sym (opened_until_some mid places whole.0 refusal some)) ∙ names_midway m (places ++ whole.0),
+        )
 
 -- ---- a file that is not gone through
+
+-- it has places, and was opened, or would be next
+file_opens : CutOrStop → StatementsAreTokens → TreeOrRefusal
+    → (deep : ℕ) (files : Files) (before : List Place) (name : List ℕ) (around : List (List ℕ)) (new : Progress)
+    → AreFirstNames new.names.items (opened_in before ++ name ∷ [])
+    → OpensFirst (ArePlaces deep files around (length (opened_in before)) name) before new
+file_opens cut are read deep files before name around new first =
+    let bytes = content files name in
+    let within_file = around ++ name ∷ [] in
+    let file = length (opened_in before) in
+    let behind = text_places_exist cut are read (AreInside deep files within_file) (inside_exist cut are read deep files within_file) file within_file bytes in
+    (Opened name bytes ∷ behind.0, of_file deep files around file name behind.0 behind.1, first_opened new.names.items before name bytes behind.0 first)
 
 -- its opening is refused
 pub opening_stops : CutOrStop → StatementsAreTokens → TreeOrRefusal
     → (deep : ℕ) (files : Files) (before : List Place) (name : List ℕ) (around : List (List ℕ)) (halt : Halt) (new : Progress)
     → IsRefusedOpening before name (content files name) halt new
     → GoesThrough (ArePlaces deep files around (length (opened_in before)) name) before {T = Unit {0}} (Err halt) new
-opening_stops cut are read deep files before name around halts.ReadFault new refused = tt
-opening_stops cut are read deep files before name around halts.OutOfMemory new refused = tt
+opening_stops cut are read deep files before name around halts.ReadFault new first = file_opens cut are read deep files before name around new first
+opening_stops cut are read deep files before name around halts.OutOfMemory new first = file_opens cut are read deep files before name around new first
 opening_stops cut are read deep files before name around (halts.Refused refusal) new (refused, names) =
     let bytes = content files name in
     let within_file = around ++ name ∷ [] in
@@ -358,11 +396,12 @@ opening_stops cut are read deep files before name around (halts.Refused refusal)
     )
 
 -- its text is no tokens
-text_refused : (deep : ℕ) (files : Files) (before : List Place) (name : List ℕ) (file : ℕ) (around : List (List ℕ)) (fault : Fault) (new : Progress)
+text_refused : CutOrStop → StatementsAreTokens → TreeOrRefusal → (deep : ℕ) (files : Files) (before : List Place) (name : List ℕ) (file : ℕ) (around : List (List ℕ)) (fault : Fault) (new : Progress)
     → IsOpened before name (content files name) new → file ≡ length (opened_in before) → HasStopped file (content files name) fault
     → GoesThrough (ArePlaces deep files around (length (opened_in before)) name) before {T = Unit {0}} (Err (halt_of fault)) new
-text_refused deep files before name file around faults.OutOfMemory new opened number stopped = tt
-text_refused deep files before name file around (faults.Refused refusal) new opened number stopped =
+text_refused cut are read deep files before name file around faults.OutOfMemory new opened number stopped =
+    file_opens cut are read deep files before name around new ([], sym (append-nil new.names.items ∙ opened.opened.names ∙ opened_in_behind before (Opened name (content files name))))
+text_refused cut are read deep files before name file around (faults.Refused refusal) new opened number stopped =
     let there = content files name in (
       Opened name there ∷ Barred refusal ∷ [],
       subst (λ n. ArePlaces deep files around n name (Opened name there ∷ Barred refusal ∷ [])) number
@@ -371,12 +410,12 @@ text_refused deep files before name file around (faults.Refused refusal) new ope
       opened.opened.names ∙ opened_in_behind before (Opened name there) ∙ ap (λ one. opened_in before ++ name ∷ opened_behind one []) (sym opened.unrefused),
     )
 
-pub text_stops : (deep : ℕ) (files : Files) (before : List Place) (name bytes text : List ℕ) (file : ℕ) (around : List (List ℕ)) (fault : Fault) (halt : Halt) (new : Progress)
+pub text_stops : CutOrStop → StatementsAreTokens → TreeOrRefusal → (deep : ℕ) (files : Files) (before : List Place) (name bytes text : List ℕ) (file : ℕ) (around : List (List ℕ)) (fault : Fault) (halt : Halt) (new : Progress)
     → bytes ≡ content files name → text ≡ bytes → halt ≡ halt_of fault → IsOpened before name bytes new → file ≡ length (opened_in before) → HasStopped file text fault
     → GoesThrough (ArePlaces deep files around (length (opened_in before)) name) before {T = Unit {0}} (Err halt) new
-text_stops deep files before name bytes text file around fault halt new is text_is halt_is opened number stopped =
+text_stops cut are read deep files before name bytes text file around fault halt new is text_is halt_is opened number stopped =
     subst (λ h. GoesThrough (ArePlaces deep files around (length (opened_in before)) name) before {T = Unit {0}} (Err h) new) (sym halt_is)
-    (text_refused deep files before name file around fault new (subst (λ b. IsOpened before name b new) is opened) number
+    (text_refused cut are read deep files before name file around fault new (subst (λ b. IsOpened before name b new) is opened) number
     (subst (λ b. HasStopped file b fault) (text_is ∙ is) stopped))
 
 pub has_read : (text bytes there : List ℕ) (read statements : List (List TokenView)) → text ≡ bytes → bytes ≡ there → statements ≡ read → HasRead text read → HasRead there statements
@@ -429,6 +468,10 @@ pub no_fault : (result : Result (Unit {0}) Halt) (fault : Fault) → IsErrAnd re
 no_fault (Ok done) fault is same = elim is [ ]
 no_fault (Err told) (faults.Refused refusal) is same = absurd cc
 no_fault (Err told) faults.OutOfMemory is same = absurd cc
+
+-- nor is what was done
+pub done_no_fault : {T : Type 0} (done : T) → IsErrOf {T = T} (Ok done) halts.ReadFault → ⊥
+done_no_fault done same = absurd cc
 
 -- ---- the files that are opened are there
 

@@ -1,5 +1,5 @@
 -- What a description that is not refused says, and what `describe` answers.
-use Rattle.std.specs.Prelude.{◌≡◌, ℕ, List, [], ◌∷◌, ◌++◌, map, Some, None}
+use Rattle.std.specs.Prelude.{◌≡◌, ℕ, List, [], ◌∷◌, ◌++◌, map, Some, None, Result, Ok, Err}
 use Rattle.std.specs.List.{AllByRecursion}
 use Rattle.cc_defs.specs.DeclarationFaults.{signature_refusal}
 use Rattle.cc_defs.specs.Declarations.{Declaration, declarations_of, symbols}
@@ -89,3 +89,20 @@ IsRefusedWhole places (stops.Refused refusal file) =
     (signature_refusal (declared_in places) ≡ Some refusal) × (file ≡ file_named (opened_in places) refusal)
 IsRefusedWhole places stops.ReadFault = ⊥
 IsRefusedWhole places stops.OutOfMemory = Unit {0}
+
+-- ---- the names that are opened
+
+-- these names, or the first of them
+abbrev pub AreFirstNames : List (List ℕ) → List (List ℕ) → Type 0
+AreFirstNames names all = (rest : List (List ℕ)) × (all ≡ names ++ rest)
+
+-- those of the places up to the first refusal, in their order
+abbrev pub AreToOpen : Files → List ℕ → List (List ℕ) → Type 0
+AreToOpen files name all = (places : List Place) × AreAllPlaces files name places × (all ≡ opened_until [] places)
+
+-- For a description these are opened and no others; only where a fault of the desk or want of memory stops it, not all of them.
+abbrev pub OpensFor : Files → List ℕ → {T : Type 0} → Result T DescribeStop → List (List ℕ) → Type 0
+OpensFor files name (Ok described) names = AreToOpen files name names
+OpensFor files name (Err (stops.Refused refusal file)) names = AreToOpen files name names
+OpensFor files name (Err stops.ReadFault) names = (all : List (List ℕ)) × AreToOpen files name all × AreFirstNames names all
+OpensFor files name (Err stops.OutOfMemory) names = (all : List (List ℕ)) × AreToOpen files name all × AreFirstNames names all

@@ -7,13 +7,14 @@ use Rattle.cc_defs.specs.Statements.{IsRefused, IsParsed}
 use Rattle.cc_defs.specs.Tokens.{TokenView}
 use Rattle.cc_defs.specs.Trees.{PlainPart, PlainStatement}
 use Rattle.cc_defs.specs.Trees as trees
+use Rattle.cc_ports.specs.Calls.{Call, names_begun, names_opened, with_calls}
 use Rattle.cc_sorts.specs.Tables.{IsTable}
 use Rattle.cc_describe.specs.declared.description.DescribeStop.{DescribeStop}
 use Rattle.cc_describe.specs.declared.description.DescribeStop.TheVariants as stops
 use Rattle.cc_describe.specs.declared.files.Halt.{Halt}
 use Rattle.cc_describe.specs.declared.files.Halt.TheVariants as halts
 use Rattle.cc_describe.specs.declared.progress.Progress.{Progress}
-use Rattle.cc_describe.specs.Describing.{laws_behind, queries_behind}
+use Rattle.cc_describe.specs.Describing.{laws_behind, queries_behind, AreFirstNames}
 use Rattle.cc_describe.specs.FirstRefusal.{declared_in, file_named, labelled_in, bytes_in, first_behind, opened_until, opening_refusal, statement_refusal}
 use Rattle.cc_describe.specs.Places.{Files, Place, Opened, Said, included, opened_in, AreThere}
 
@@ -59,23 +60,29 @@ pub record IsOpened (before : List Place) (name bytes : List ℕ) (new : Progres
   pub unrefused : opening_refusal before bytes ≡ None
   pub opened : IsProgress new (before ++ Opened name bytes ∷ [])
 
--- It is refused, and its name is the last of those kept.
+-- It is refused, and its name is the last of those kept; or there is another reason, and it may be.
 abbrev pub IsRefusedOpening : List Place → List ℕ → List ℕ → Halt → Progress → Type 0
 IsRefusedOpening before name bytes (halts.Refused refusal) new =
     (opening_refusal before bytes ≡ Some refusal) × (new.names.items ≡ opened_in before ++ name ∷ [])
-IsRefusedOpening before name bytes halts.ReadFault new = Unit {0}
-IsRefusedOpening before name bytes halts.OutOfMemory new = Unit {0}
+IsRefusedOpening before name bytes halts.ReadFault new = AreFirstNames new.names.items (opened_in before ++ name ∷ [])
+IsRefusedOpening before name bytes halts.OutOfMemory new = AreFirstNames new.names.items (opened_in before ++ name ∷ [])
+
+-- The names kept are those of the files to be opened up to the first refusal, or the first of them.
+abbrev pub OpensFirst : (List Place → Type 0) → List Place → Progress → Type 0
+OpensFirst Are before new =
+    (places : List Place) × Are places × AreFirstNames new.names.items (opened_in before ++ opened_until before places)
 
 -- Places behind others were gone through: none is refused, and what is kept is that of all of them; or the first refusal is
--- told, and the names kept are those of the files opened up to it. `Are` says which places.
+-- told, and the names kept are those of the files opened up to it; or there is another reason, and these are the first of them.
+-- `Are` says which places.
 abbrev pub GoesThrough : (List Place → Type 0) → List Place → {T : Type 0} → Result T Halt → Progress → Type 0
 GoesThrough Are before (Ok done) new =
     (places : List Place) × Are places × (first_behind before places ≡ None) × IsProgress new (before ++ places)
 GoesThrough Are before (Err (halts.Refused refusal)) new =
     (places : List Place) × Are places × (first_behind before places ≡ Some refusal)
     × (new.names.items ≡ opened_in before ++ opened_until before places)
-GoesThrough Are before (Err halts.ReadFault) new = Unit {0}
-GoesThrough Are before (Err halts.OutOfMemory) new = Unit {0}
+GoesThrough Are before (Err halts.ReadFault) new = OpensFirst Are before new
+GoesThrough Are before (Err halts.OutOfMemory) new = OpensFirst Are before new
 
 -- whichever places they are
 abbrev pub GoesSomewhere : List Place → {T : Type 0} → Result T Halt → Progress → Type 0
@@ -87,6 +94,13 @@ FindsFiles files (Ok done) names = AreThere files names
 FindsFiles files (Err (halts.Refused refusal)) names = AreThere files names
 FindsFiles files (Err halts.ReadFault) names = Unit {0}
 FindsFiles files (Err halts.OutOfMemory) names = Unit {0}
+
+-- The calls of the desk open each file whose name is kept behind the earlier ones, in order, and no other; they begin no log.
+pub record OpensAsKept (old new : List (List ℕ)) (before after : Option (List Call)) : Type 0 where
+  pub more : List Call
+  pub names : new ≡ old ++ names_opened more
+  pub begun : names_begun more ≡ []
+  pub calls : after ≡ with_calls more before
 
 -- why a description stops, with the name of the file that a refusal speaks of
 abbrev pub StopsAs : List (List ℕ) → Halt → DescribeStop → Type 0

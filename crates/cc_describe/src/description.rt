@@ -1,13 +1,15 @@
 //! Descriptions: a file with the files that it includes, as a table of names, a signature, base laws and queries.
-ghost use Rattle.std.specs.Prelude.{◌≡◌, ◌≢◌, ◌≤◌, ℕ, List as Items, None, option_map, IfOk, IfErr, IfSome, IsErrOf};
+ghost use Rattle.std.specs.Prelude.{◌≡◌, ◌≢◌, ◌≤◌, ℕ, List as Items, None, option_map, IfOk, IfErr, IfSome, IsErrOf, []};
 ghost use Rattle.cc_defs.specs.DeclarationFaults.{signature_refusal};
+ghost use Rattle.cc_ports.specs.Calls.{Call, names_begun, names_opened, with_calls};
 ghost use Rattle.cc_ports.specs.Contents.{with_rest, Rose};
-ghost use Rattle.cc_describe.specs.Describing.{AsksFormulas, Describes, HasForms, HasStopped, IsDescribed, IsOfSome, IsRefusedWhole, SaysAll};
+ghost use Rattle.cc_describe.specs.Describing.{AsksFormulas, Describes, HasForms, HasStopped, IsDescribed, IsOfSome, IsRefusedWhole, OpensFor, SaysAll};
 ghost use Rattle.cc_describe.specs.FirstRefusal.{declared_in, file_named};
 ghost use Rattle.cc_describe.specs.Places.{Place};
 ghost use Rattle.cc_describe.specs.ProgressViews.{IsProgress, StopsAs};
 
 use crate::files::{Halt, read_file};
+use crate::laws::has_places;
 use crate::progress::Progress;
 use cc_defs::{BaseLaws, LimitAt, List, Name, Names, OutOfMemory, Queries, Refusal, Sig};
 use cc_laws::laws::{constants_have_forms, laws_have_forms, queries_have_formulas};
@@ -56,9 +58,15 @@ pub fn describe<D: Desk>(alloc: Global, desk: &mut D, name: &str) -> Result<Desc
     ensures failed { IsErrOf result DescribeStop.ReadFault → Rose (D.read_faults desk.old) (D.read_faults desk.new) }
     ensures after { (rest : Items ℕ) × (D.told desk.new ≡ option_map (with_rest rest) (D.told desk.old)) }
     ensures begun { D.begun desk.new ≡ D.begun desk.old }
+    // The names that are opened are those of its files, in their order, and no others; no log is begun.
+    ensures calls { (more : Items Call) × (D.calls desk.new ≡ with_calls more (D.calls desk.old)) × (names_begun more ≡ []) ×
+        IfSome (D.told desk.old) (λ contents. OpensFor contents.files name.now result (names_opened more)) }
+    // Where no fault is answered, the desk counted none.
+    ensures calm { (IsErrOf result DescribeStop.ReadFault → ⊥) → (D.read_faults desk.new ≡ D.read_faults desk.old) × (D.write_faults desk.new ≡ D.write_faults desk.old) }
     ensures reads_count { D.read_faults desk.old ≤ D.read_faults desk.new }
     ensures writes_count { D.write_faults desk.old ≤ D.write_faults desk.new }
 {
+    has_places();
     laws_have_forms();
     constants_have_forms();
     queries_have_formulas();

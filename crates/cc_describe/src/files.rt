@@ -5,9 +5,9 @@ ghost use Rattle.cc_defs.specs.declared.refusal.LimitAt.TheVariants as limits;
 ghost use Rattle.cc_ports.specs.Contents.{Contents, with_rest, Rose};
 ghost use Rattle.cc_describe.specs.FirstRefusal.{opening_refusal};
 ghost use Rattle.cc_describe.specs.Places.{Place, ArePlaces, AreThere, content, opened_in};
-ghost use Rattle.cc_describe.specs.ProgressViews.{FindsFiles, GoesSomewhere, GoesThrough, IsOpened, IsProgress, IsRefusedOpening};
+ghost use Rattle.cc_describe.specs.ProgressViews.{FindsFiles, GoesSomewhere, GoesThrough, IsOpened, IsProgress, IsRefusedOpening, OpensAsKept};
 
-use crate::progress::{Progress, past};
+use crate::progress::Progress;
 use cc_defs::{Bytes, Fault, LimitAt, OutOfMemory, Refusal};
 use cc_ports::{Desk, ReadStop, read_all};
 use cc_syntax::laws::tree_or_refusal;
@@ -70,13 +70,20 @@ fn open<D: Desk>(
     ensures failed { IsErrOf result Halt.ReadFault → Rose (D.read_faults desk.old) (D.read_faults desk.new) }
     ensures after { (rest : Items ℕ) × (D.told desk.new ≡ option_map (with_rest rest) (D.told desk.old)) }
     ensures begun { D.begun desk.new ≡ D.begun desk.old }
+    // Each file whose name is kept was opened, and no other; no log was begun.
+    ensures calls { OpensAsKept progress.old.names.items progress.new.names.items (D.calls desk.old) (D.calls desk.new) }
+    ensures calm { (IsErrOf result Halt.ReadFault → ⊥) → (D.read_faults desk.new ≡ D.read_faults desk.old) × (D.write_faults desk.new ≡ D.write_faults desk.old) }
     ensures reads_count { D.read_faults desk.old ≤ D.read_faults desk.new }
     ensures writes_count { D.write_faults desk.old ≤ D.write_faults desk.new }
 {
     let file = progress.enter(alloc, name)?;
     let bytes = match read_all(alloc, desk, name, LimitAt::FileBytes.number() as usize) {
         Ok(bytes) => bytes,
-        Err(ReadStop::Limit) => return Err(Halt::from(past(LimitAt::FileBytes, file, 1))),
+        Err(ReadStop::Limit) => return Err(Halt::Refused(Refusal::past_at(
+            LimitAt::FileBytes,
+            file,
+            1,
+        ))),
         Err(ReadStop::Failed) => return Err(Halt::ReadFault),
         Err(ReadStop::OutOfMemory) => return Err(Halt::OutOfMemory),
     };
@@ -103,6 +110,9 @@ pub(crate) fn read_file<D: Desk>(
     ensures failed { IsErrOf result Halt.ReadFault → Rose (D.read_faults desk.old) (D.read_faults desk.new) }
     ensures after { (rest : Items ℕ) × (D.told desk.new ≡ option_map (with_rest rest) (D.told desk.old)) }
     ensures begun { D.begun desk.new ≡ D.begun desk.old }
+    // Each file whose name is kept was opened, and no other; no log was begun.
+    ensures calls { OpensAsKept progress.old.names.items progress.new.names.items (D.calls desk.old) (D.calls desk.new) }
+    ensures calm { (IsErrOf result Halt.ReadFault → ⊥) → (D.read_faults desk.new ≡ D.read_faults desk.old) × (D.write_faults desk.new ≡ D.write_faults desk.old) }
     ensures reads_count { D.read_faults desk.old ≤ D.read_faults desk.new }
     ensures writes_count { D.write_faults desk.old ≤ D.write_faults desk.new }
 {

@@ -1,5 +1,5 @@
 //! What was read of a description, statement by statement.
-ghost use Rattle.std.specs.Prelude.{◌≡◌, ◌++◌, ◌∷◌, ◌<◌, ◌≤◌, ◌+◌, ◌-◌, [], List as Items, None, false, length, map, flat_map, take, option_copied, IfOk, IfErr, IfSome, OnOk, IsTrue};
+ghost use Rattle.std.specs.Prelude.{◌≡◌, ◌++◌, ◌∷◌, ◌<◌, ◌≤◌, ◌+◌, ◌-◌, [], List as Items, None, false, length, map, flat_map, take, option_copied, IfOk, IfErr, IfSome, OnOk, OnErr, IsTrue};
 ghost use Rattle.std.specs.List.{list_any};
 ghost use Rattle.cc_defs.specs.Declarations.{Declaration};
 ghost use Rattle.cc_defs.specs.DeclarationFaults.{declaration_refusal};
@@ -43,28 +43,6 @@ pub(crate) struct Progress {
     pub(crate) bytes: usize,
     /// The names of the files that are being read, each included by the one before it.
     pub(crate) around: Vec<Name>,
-}
-
-fn refused(number: u8, file: u32, line: u32) -> Fault
-    ensures { result ≡ Fault.Refused (words.refused number file line) }
-{
-    Fault::Refused(Refusal {
-        number,
-        file,
-        line,
-        limit: None,
-    })
-}
-
-pub(crate) fn past(limit: LimitAt, file: u32, line: u32) -> Fault
-    ensures { result ≡ Fault.Refused (words.past_at limit file line) }
-{
-    Fault::Refused(Refusal {
-        number: 14,
-        file,
-        line,
-        limit: Some(limit),
-    })
 }
 
 /// Whether one of the names is this one.
@@ -167,7 +145,7 @@ impl Progress {
         ensures names { self.new.names ≡ self.old.names }
     {
         if gives_taken_label(&self.labels, items) {
-            return Err(refused(4, file, statement.line));
+            return Err(Fault::Refused(Refusal::at(4, file, statement.line)));
         }
         let query = question(alloc, file, &self.table, statement)?;
         self.keep(alloc, query)?;
@@ -181,10 +159,10 @@ impl Progress {
     {
         let around: &[Name] = &self.around;
         if has_name(around, name) {
-            return Err(refused(17, file, line));
+            return Err(Fault::Refused(Refusal::at(17, file, line)));
         }
         if around.len() > LimitAt::IncludeDepth.number() as usize {
-            return Err(past(LimitAt::IncludeDepth, file, line));
+            return Err(Fault::Refused(Refusal::past_at(LimitAt::IncludeDepth, file, line)));
         }
         Ok(())
     }
@@ -257,6 +235,7 @@ impl Progress {
     pub(crate) fn enter(&mut self, alloc: Global, name: &str) -> Result<u32, OutOfMemory>
         ensures number { IfOk result (λ file. file ≡ length self.old.names.items) }
         ensures names { OnOk result (self.new.names.items ≡ self.old.names.items ++ name.now ∷ []) }
+        ensures unnamed { OnErr result (self.new.names.items ≡ self.old.names.items) }
         ensures around { OnOk result (self.new.around.items ≡ self.old.around.items ++ name.now ∷ []) }
         ensures rest { self.new ≡ record self.old { names = self.new.names; around = self.new.around } }
     {
@@ -265,8 +244,8 @@ impl Progress {
             return Err(OutOfMemory);
         }
         let again = Name::of(String::from_str(alloc, name)?);
-        self.names.push(Name::of(String::from_str(alloc, name)?))?;
         self.around.push(again)?;
+        self.names.push(Name::of(String::from_str(alloc, name)?))?;
         Ok(number as u32)
     }
 
@@ -287,7 +266,7 @@ impl Progress {
     {
         let all = self.bytes.saturating_add(bytes);
         if all > LimitAt::TotalBytes.number() as usize {
-            return Err(past(LimitAt::TotalBytes, file, 1));
+            return Err(Fault::Refused(Refusal::past_at(LimitAt::TotalBytes, file, 1)));
         }
         self.bytes = all;
         Ok(())

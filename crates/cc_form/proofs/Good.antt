@@ -4,12 +4,12 @@ use Rattle.std.specs.Prelude.{if◌then◌else◌}
 use Rattle.std.specs.List.{AllByRecursion}
 use Rattle.cc_defs.specs.ClauseForms.{Made, MadeAll, all_clauses, all_written, any_clauses, in_order, is_tautology, made_all, made_any, made_of, made_operands, positive, same_clauses, true_variable, written}
 use Rattle.cc_defs.specs.ClauseLists.{exactly_one, pairs_denied, position_variables, positions_from}
-use Rattle.cc_defs.specs.Clauses.{Literal, IsClause, IsOver, opposite}
+use Rattle.cc_defs.specs.Clauses.{Literal, IsClause, IsOver, opposite, IsIn}
 use Rattle.cc_defs.specs.Terms.{Ground, Operands, Fits, nothing, and_then}
 use Rattle.cc_defs.specs.Terms as terms
 use Rattle.cc_form.proofs.Choices.{variables_front}
 use Rattle.cc_form.proofs.Meaning.{AtomsFit, AtomsFitIn}
-use Rattle.cc_form.proofs.Ordered.{Among, ordered_clause, ordered_from}
+use Rattle.cc_form.proofs.Ordered.{ordered_clause, ordered_from}
 use Rattle.cc_form.proofs.Positions.{atom_below, atom_some, sum_cons}
 
 -- ---- literals and clauses over so many variables
@@ -26,12 +26,12 @@ IsGood n clause = IsClause clause × IsOver n clause
 abbrev pub AreGood : ℕ → List (List Literal) → Type 0
 AreGood n clauses = AllByRecursion (IsGood n) clauses
 
-within_at : (n : ℕ) (xs : List Literal) → AreWithin n xs → (l : Literal) → Among xs l → IsWithin n l
+within_at : (n : ℕ) (xs : List Literal) → AreWithin n xs → (l : Literal) → IsIn xs l → IsWithin n l
 within_at n [] all l h = absurd h
 within_at n (x ∷ xs) all l (inl e) = subst (IsWithin n) e all.0
 within_at n (x ∷ xs) all l (inr h) = within_at n xs all.1 l h
 
-over_from : (n : ℕ) (xs : List Literal) → ((l : Literal) → Among xs l → IsWithin n l) → IsOver n xs
+over_from : (n : ℕ) (xs : List Literal) → ((l : Literal) → IsIn xs l → IsWithin n l) → IsOver n xs
 over_from n [] h = tt
 over_from n (x ∷ xs) h = let here = h x (inl refl) in (here.0, here.1, over_from n xs (λ l k. h l (inr k)))
 

@@ -7,7 +7,7 @@ use Rattle.cc_defs.specs.declared.lists.Key.{Key}
 use Rattle.cc_defs.specs.declared.node.GroundHead.{GroundHead}
 use Rattle.cc_defs.specs.ClauseForms.{all_written, atom_variable, made_of, positive, true_variable}
 use Rattle.cc_defs.specs.ClauseLists.{Asserted, Bodied, MadeRules, assert_all, bodies_of, clauses_over, completion_from, completion_of, denials_of, deny, is_certain, is_falsity, is_of_atom, key_terms, made_rules, position_completion, positions_from, rules_that_count}
-use Rattle.cc_defs.specs.Clauses.{Literal, IsClause, IsOver, opposite}
+use Rattle.cc_defs.specs.Clauses.{Literal, IsClause, IsOver, opposite, IsIn}
 use Rattle.cc_defs.specs.Rules.{upto}
 use Rattle.cc_defs.specs.Terms.{Ground}
 use Rattle.cc_defs.specs.TimedRules.{TimedRule}
@@ -15,7 +15,7 @@ use Rattle.cc_form.specs.Laws.{AllFit, RuleFits, TermFits}
 use Rattle.cc_form.proofs.Causes.{all_atoms_fit, all_filter, atoms_fit}
 use Rattle.cc_form.proofs.Good.{AreGood, AreWithin, IsGood, IsWithin, all_written_good, any_good, both_all, more_good, positions_good, term_well}
 use Rattle.cc_form.proofs.Meaning.{AtomsFit}
-use Rattle.cc_form.proofs.Ordered.{Among, among, contained}
+use Rattle.cc_form.proofs.Ordered.{among, contained}
 use Rattle.cc_form.proofs.Positions.{atom_below, atom_some}
 use Rattle.cc_form.proofs.Telling.{key_atoms}
 
@@ -189,7 +189,7 @@ module _ (sizes : List ℕ) where
       (front (first ++ bodies.clauses) completion
       (front first bodies.clauses (inr (among (positions_from 1 sizes) clause has))))))))
     where
-      front : (xs ys : List (List Literal)) → Among xs clause → Among (xs ++ ys) clause
+      front : (xs ys : List (List Literal)) → IsIn xs clause → IsIn (xs ++ ys) clause
       front [] ys h = absurd h
       front (x ∷ xs) ys (inl e) = inl e
       front (x ∷ xs) ys (inr h) = inr (front xs ys h)

@@ -11,7 +11,8 @@ use Rattle.cc_defs.specs.Rules.{upto}
 use Rattle.cc_defs.specs.Terms.{Ground, Operands, nothing, and_then, operands_behind, truth, any_true}
 use Rattle.cc_defs.specs.Terms as terms
 use Rattle.cc_form.proofs.Meaning.{AtomsFit, AtomsFitIn, and_is, or_gives, or_is}
-use Rattle.cc_form.proofs.Ordered.{Among, both_true}
+use Rattle.cc_defs.specs.Clauses.{IsIn}
+use Rattle.cc_form.proofs.Ordered.{both_true}
 use Rattle.cc_form.proofs.RowValues.{mapped_last}
 use Rattle.cc_form.proofs.Written.{any_gives, any_made}
 
@@ -24,31 +25,31 @@ equal m n same = rw (le-ltb m n (omega arith), eq-eqb m n same) refl
 greater : (m n : ℕ) → n < m → nat_cmp m n ≡ Greater
 greater m n above = rw (le-ltb m n (omega arith), ne_eqb m n (λ same. omega arith)) refl
 
-among_append : {X : Type 0} (xs ys : List X) (x : X) → Among (xs ++ ys) x → Among xs x ⊎ Among ys x
+among_append : {X : Type 0} (xs ys : List X) (x : X) → IsIn (xs ++ ys) x → IsIn xs x ⊎ IsIn ys x
 among_append [] ys x h = inr h
 among_append (y ∷ xs) ys x (inl e) = inl (inl e)
 among_append (y ∷ xs) ys x (inr h) = elim (among_append xs ys x h) [ inl k ↦ inl (inr k) | inr k ↦ inr k ]
 
-in_left : {X : Type 0} (xs ys : List X) (x : X) → Among xs x → Among (xs ++ ys) x
+in_left : {X : Type 0} (xs ys : List X) (x : X) → IsIn xs x → IsIn (xs ++ ys) x
 in_left [] ys x h = absurd h
 in_left (y ∷ xs) ys x (inl e) = inl e
 in_left (y ∷ xs) ys x (inr h) = inr (in_left xs ys x h)
 
-in_right : {X : Type 0} (xs ys : List X) (x : X) → Among ys x → Among (xs ++ ys) x
+in_right : {X : Type 0} (xs ys : List X) (x : X) → IsIn ys x → IsIn (xs ++ ys) x
 in_right [] ys x h = h
 in_right (y ∷ xs) ys x h = inr (in_right xs ys x h)
 
 module _ {X : Type 0} (f : ℕ → X) where
-  at_upto : (n : ℕ) (x : X) → Among (map f (upto n)) x → (k : ℕ) × (k < n) × (f k ≡ x)
+  at_upto : (n : ℕ) (x : X) → IsIn (map f (upto n)) x → (k : ℕ) × (k < n) × (f k ≡ x)
   at_upto zero x h = absurd h
-  at_upto (suc n) x h = elim (among_append (map f (upto n)) (f n ∷ []) x (subst (λ (l : List X). Among l x) (mapped_last f (upto n) n) h)) [
+  at_upto (suc n) x h = elim (among_append (map f (upto n)) (f n ∷ []) x (subst (λ (l : List X). IsIn l x) (mapped_last f (upto n) n) h)) [
     | inl k ↦ let found = at_upto n x k in (found.0, (let below = found.1 in omega arith), found.2)
     | inr k ↦ elim k [ inl e ↦ (n, (omega arith), e) | inr e ↦ absurd e ]
   ]
 
-  upto_at : (n k : ℕ) → k < n → Among (map f (upto n)) (f k)
+  upto_at : (n k : ℕ) → k < n → IsIn (map f (upto n)) (f k)
   upto_at zero k below = absurd (omega arith)
-  upto_at (suc n) k below = subst (λ (l : List X). Among l (f k)) (sym (mapped_last f (upto n) n)) (elim (cases_lt k n) [
+  upto_at (suc n) k below = subst (λ (l : List X). IsIn l (f k)) (sym (mapped_last f (upto n) n)) (elim (cases_lt k n) [
     | inl lower ↦ in_left (map f (upto n)) (f n ∷ []) (f k) (upto_at n k lower)
     | inr upper ↦ in_right (map f (upto n)) (f n ∷ []) (f k) (inl (ap f (let e : n ≡ k = omega arith in e)))
   ])
@@ -56,7 +57,7 @@ module _ {X : Type 0} (f : ℕ → X) where
   all_upto : (P : X → Type 0) (n : ℕ) → ((k : ℕ) → k < n → P (f k)) → AllByRecursion P (map f (upto n))
   all_upto P n each = from (map f (upto n)) (λ x h. let found = at_upto n x h in subst P found.2 (each found.0 found.1))
     where
-      from : (xs : List X) → ((x : X) → Among xs x → P x) → AllByRecursion P xs
+      from : (xs : List X) → ((x : X) → IsIn xs x → P x) → AllByRecursion P xs
       from [] h = tt
       from (x ∷ xs) h = (h x (inl refl), from xs (λ y k. h y (inr k)))
 

@@ -5,10 +5,10 @@ use Rattle.std.specs.Bool.{beq}
 use Rattle.std.specs.List.{list_all, list_any}
 use Rattle.cc_defs.specs.declared.node.Node.TheVariants as nodes
 use Rattle.cc_defs.specs.ClauseForms.{Made, MadeAll, all_clauses, all_written, any_clauses, atom_variable, in_order, is_tautology, made_all, made_any, made_of, made_operands, positive, same_clauses, true_variable, written}
-use Rattle.cc_defs.specs.Clauses.{Literal, is_made_true, meets, opposite}
+use Rattle.cc_defs.specs.Clauses.{Literal, is_made_true, meets, opposite, IsIn}
 use Rattle.cc_defs.specs.Terms.{Ground, Operands, Fits, nothing, and_then, operand_count, postfix, postfixes, truth, all_true, any_true}
 use Rattle.cc_defs.specs.Terms as terms
-use Rattle.cc_form.proofs.Ordered.{Among, cases_test, ordered_from, ordered_has}
+use Rattle.cc_form.proofs.Ordered.{cases_test, ordered_from, ordered_has}
 use Rattle.cc_form.proofs.Written.{any_gives, any_made, equal_tests, tautology_gives}
 
 -- ---- the values of the variables behind a number
@@ -117,7 +117,7 @@ module _ (a : ℕ → Bool) where
 
   -- ---- a written clause is met where the list is
 
-  among_any : (xs ys : List Literal) → ((l : Literal) → Among xs l → Among ys l) → list_any lit xs ≡ true → list_any lit ys ≡ true
+  among_any : (xs ys : List Literal) → ((l : Literal) → IsIn xs l → IsIn ys l) → list_any lit xs ≡ true → list_any lit ys ≡ true
   among_any xs ys inside e = let found = any_gives lit xs e in any_made lit ys found.0 (inside found.0 found.1) found.2
 
   tautology_met : (xs : List Literal) → is_tautology xs ≡ true → meets a xs ≡ true

@@ -5,19 +5,14 @@ use Rattle.std.specs.Bool.{beq}
 use Rattle.std.specs.List.{Contains}
 use Rattle.std.proofs.lemmas.Bool.{cases_lt, lt-ltb, ltb-true, eqb-true, eq-eqb}
 use Rattle.cc_defs.specs.ClauseForms.{in_order, is_before, put, same_literal}
-use Rattle.cc_defs.specs.Clauses.{Literal, IsBefore, IsClause}
+use Rattle.cc_defs.specs.Clauses.{Literal, IsBefore, IsClause, IsIn}
 
--- `Contains`, by recursion
-abbrev pub Among : {X : Type 0} → List X → X → Type 0
-Among [] literal = ⊥
-Among (first ∷ rest) literal = (first ≡ literal) ⊎ Among rest literal
-
-pub among : {X : Type 0} (xs : List X) (x : X) → Contains xs x → Among xs x
+pub among : {X : Type 0} (xs : List X) (x : X) → Contains xs x → IsIn xs x
 among [] x (k, below, is) = absurd (omega arith)
 among (y ∷ xs) x (zero, below, is) = inl is
 among (y ∷ xs) x (suc k, below, is) = inr (among xs x (k, (omega arith), is))
 
-pub contained : {X : Type 0} (xs : List X) (x : X) → Among xs x → Contains xs x
+pub contained : {X : Type 0} (xs : List X) (x : X) → IsIn xs x → Contains xs x
 contained [] x h = absurd h
 contained (y ∷ xs) x (inl is) = (zero, (omega arith), is)
 contained (y ∷ xs) x (inr later) =
@@ -83,7 +78,7 @@ same_from_code a b h =
 
 -- it comes before each of these
 abbrev pub IsLow : Literal → List Literal → Type 0
-IsLow x ys = (literal : Literal) → Among ys literal → code x < code literal
+IsLow x ys = (literal : Literal) → IsIn ys literal → code x < code literal
 
 pub clause_low : (x : Literal) (xs : List Literal) → IsClause (x ∷ xs) → IsLow x xs
 clause_low x [] h literal later = absurd later
@@ -100,39 +95,6 @@ clause_rest x (y ∷ ys) h = h.1
 pub clause_cons : (x : Literal) (xs : List Literal) → IsLow x xs → IsClause xs → IsClause (x ∷ xs)
 clause_cons x [] low h = tt
 clause_cons x (y ∷ ys) low h = (before_from_code x y (low y (inl refl)), h)
-
-same_heads : (x : Literal) (xs : List Literal) (y : Literal) (ys : List Literal) → IsClause (x ∷ xs) → IsClause (y ∷ ys) →
-    Among (y ∷ ys) x → Among (x ∷ xs) y → x ≡ y
-same_heads x xs y ys hx hy (inl is) right = sym is
-same_heads x xs y ys hx hy (inr left) (inl is) = is
-same_heads x xs y ys hx hy (inr left) (inr right) =
-    let one : code y < code x = clause_low y ys hy x left in
-    let other : code x < code y = clause_low x xs hx y right in
-    absurd (omega arith)
-
-tail_within : (x : Literal) (xs : List Literal) (y : Literal) (ys : List Literal) → IsClause (x ∷ xs) → x ≡ y →
-    ((literal : Literal) → Among (x ∷ xs) literal → Among (y ∷ ys) literal) →
-    (literal : Literal) → Among xs literal → Among ys literal
-tail_within x xs y ys hx same each literal h = elim (each literal (inr h)) [
-  | inl is ↦
-      let low : code x < code literal = clause_low x xs hx literal h in
-      let tie : code x ≡ code literal = ap code (same ∙ is) in
-      absurd (omega arith)
-  | inr later ↦ later
-]
-
--- two clauses with the same members are one
-pub same_members : (xs ys : List Literal) → IsClause xs → IsClause ys →
-    ((literal : Literal) → Among xs literal → Among ys literal) →
-    ((literal : Literal) → Among ys literal → Among xs literal) → xs ≡ ys
-same_members [] [] hx hy left right = refl
-same_members [] (y ∷ ys) hx hy left right = absurd (right y (inl refl))
-same_members (x ∷ xs) [] hx hy left right = absurd (left x (inl refl))
-same_members (x ∷ xs) (y ∷ ys) hx hy left right =
-    let same : x ≡ y = same_heads x xs y ys hx hy (left x (inl refl)) (right y (inl refl)) in
-    let rest : xs ≡ ys = same_members xs ys (clause_rest x xs hx) (clause_rest y ys hy)
-    (tail_within x xs y ys hx same left) (tail_within y ys x xs hy (sym same) right) in
-    cc
 
 -- ---- the tests of literals
 
@@ -218,39 +180,39 @@ put_cases literal first others = elim (cases_test (same_literal literal first)) 
   ]
 ]
 
-pub put_has : (literal : Literal) (xs : List Literal) → Among (put literal xs) literal
+pub put_has : (literal : Literal) (xs : List Literal) → IsIn (put literal xs) literal
 unfolding put_case
 put_has literal [] = inl refl
 put_has literal (x ∷ xs) = elim (put_cases literal x xs) [
-  | inl (same, is) ↦ subst (λ (l : List Literal). Among l literal) (sym is) (inl (sym same))
-  | inr (inl (less, is)) ↦ subst (λ (l : List Literal). Among l literal) (sym is) (inl refl)
-  | inr (inr (more, is)) ↦ subst (λ (l : List Literal). Among l literal) (sym is) (inr (put_has literal xs))
+  | inl (same, is) ↦ subst (λ (l : List Literal). IsIn l literal) (sym is) (inl (sym same))
+  | inr (inl (less, is)) ↦ subst (λ (l : List Literal). IsIn l literal) (sym is) (inl refl)
+  | inr (inr (more, is)) ↦ subst (λ (l : List Literal). IsIn l literal) (sym is) (inr (put_has literal xs))
 ]
 
-pub put_keeps : (literal : Literal) (xs : List Literal) (other : Literal) → Among xs other → Among (put literal xs) other
+pub put_keeps : (literal : Literal) (xs : List Literal) (other : Literal) → IsIn xs other → IsIn (put literal xs) other
 unfolding put_case
 put_keeps literal [] other h = absurd h
 put_keeps literal (x ∷ xs) other h = elim (put_cases literal x xs) [
-  | inl (same, is) ↦ subst (λ (l : List Literal). Among l other) (sym is) h
-  | inr (inl (less, is)) ↦ subst (λ (l : List Literal). Among l other) (sym is) (inr h)
-  | inr (inr (more, is)) ↦ subst (λ (l : List Literal). Among l other) (sym is) (later (put_keeps literal xs other) h)
+  | inl (same, is) ↦ subst (λ (l : List Literal). IsIn l other) (sym is) h
+  | inr (inl (less, is)) ↦ subst (λ (l : List Literal). IsIn l other) (sym is) (inr h)
+  | inr (inr (more, is)) ↦ subst (λ (l : List Literal). IsIn l other) (sym is) (later (put_keeps literal xs other) h)
 ]
   where
-    later : (Among xs other → Among (put literal xs) other) → Among (x ∷ xs) other → Among (x ∷ put literal xs) other
+    later : (IsIn xs other → IsIn (put literal xs) other) → IsIn (x ∷ xs) other → IsIn (x ∷ put literal xs) other
     later keeps (inl e) = inl e
     later keeps (inr more) = inr (keeps more)
 
-pub put_from : (literal : Literal) (xs : List Literal) (other : Literal) → Among (put literal xs) other → (literal ≡ other) ⊎ Among xs other
+pub put_from : (literal : Literal) (xs : List Literal) (other : Literal) → IsIn (put literal xs) other → (literal ≡ other) ⊎ IsIn xs other
 unfolding put_case
 put_from literal [] other (inl e) = inl e
 put_from literal [] other (inr h) = absurd h
 put_from literal (x ∷ xs) other h = elim (put_cases literal x xs) [
-  | inl (same, is) ↦ inr (subst (λ (l : List Literal). Among l other) is h)
-  | inr (inl (less, is)) ↦ subst (λ (l : List Literal). Among l other) is h
-  | inr (inr (more, is)) ↦ later (put_from literal xs other) (subst (λ (l : List Literal). Among l other) is h)
+  | inl (same, is) ↦ inr (subst (λ (l : List Literal). IsIn l other) is h)
+  | inr (inl (less, is)) ↦ subst (λ (l : List Literal). IsIn l other) is h
+  | inr (inr (more, is)) ↦ later (put_from literal xs other) (subst (λ (l : List Literal). IsIn l other) is h)
 ]
   where
-    later : (Among (put literal xs) other → (literal ≡ other) ⊎ Among xs other) → Among (x ∷ put literal xs) other → (literal ≡ other) ⊎ Among (x ∷ xs) other
+    later : (IsIn (put literal xs) other → (literal ≡ other) ⊎ IsIn xs other) → IsIn (x ∷ put literal xs) other → (literal ≡ other) ⊎ IsIn (x ∷ xs) other
     later back (inl e) = inr (inl e)
     later back (inr more) = elim (back more) [
       | inl e ↦ inl e
@@ -276,12 +238,12 @@ pub ordered_clause : (xs : List Literal) → IsClause (in_order xs)
 ordered_clause [] = tt
 ordered_clause (x ∷ xs) = put_clause x (in_order xs) (ordered_clause xs)
 
-pub ordered_has : (xs : List Literal) (literal : Literal) → Among xs literal → Among (in_order xs) literal
+pub ordered_has : (xs : List Literal) (literal : Literal) → IsIn xs literal → IsIn (in_order xs) literal
 ordered_has [] literal h = absurd h
-ordered_has (x ∷ xs) literal (inl e) = subst (Among (in_order (x ∷ xs))) e (put_has x (in_order xs))
+ordered_has (x ∷ xs) literal (inl e) = subst (IsIn (in_order (x ∷ xs))) e (put_has x (in_order xs))
 ordered_has (x ∷ xs) literal (inr h) = put_keeps x (in_order xs) literal (ordered_has xs literal h)
 
-pub ordered_from : (xs : List Literal) (literal : Literal) → Among (in_order xs) literal → Among xs literal
+pub ordered_from : (xs : List Literal) (literal : Literal) → IsIn (in_order xs) literal → IsIn xs literal
 ordered_from [] literal h = absurd h
 ordered_from (x ∷ xs) literal h = elim (put_from x (in_order xs) literal h) [
   | inl e ↦ inl e

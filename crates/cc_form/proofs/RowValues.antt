@@ -6,14 +6,14 @@ use Rattle.std.proofs.lemmas.Bool.{eqb-true, eq-eqb, ne_eqb, cases_order, cases_
 use Rattle.cc_defs.specs.declared.node.Node.TheVariants as nodes
 use Rattle.cc_defs.specs.ClauseForms.{atom_variable, first_variable, positive}
 use Rattle.cc_defs.specs.ClauseLists.{exactly_one, pairs_denied, position_variables, positions_from}
-use Rattle.cc_defs.specs.Clauses.{Literal, is_made_true, meets, opposite}
+use Rattle.cc_defs.specs.Clauses.{Literal, is_made_true, meets, opposite, IsIn}
 use Rattle.cc_defs.specs.Rows.{IsRow}
 use Rattle.cc_defs.specs.Rules.{upto}
 use Rattle.cc_defs.specs.Terms.{Fits}
 use Rattle.cc_clauses.specs.RowsOf.{HasRow, HasRowFrom, MeetsAll}
 use Rattle.cc_form.proofs.Choices.{variables_front}
 use Rattle.cc_form.proofs.Meaning.{Agrees, AllMet, agrees_both, agrees_left, agrees_right, met_both, met_left, met_right, or_gives, pair_gives, pair_is}
-use Rattle.cc_form.proofs.Ordered.{Among, among, contained, cases_test}
+use Rattle.cc_form.proofs.Ordered.{among, contained, cases_test}
 use Rattle.cc_form.proofs.Positions.{sum_cons}
 use Rattle.cc_form.proofs.Written.{any_made}
 
@@ -22,14 +22,14 @@ use Rattle.cc_form.proofs.Written.{any_made}
 pub met_from : (a : ℕ → Bool) (clauses : List (List Literal)) → MeetsAll a clauses → AllMet a clauses
 met_from a clauses all = each clauses (λ c h. all c (contained clauses c h))
   where
-    each : (cs : List (List Literal)) → ((c : List Literal) → Among cs c → meets a c ≡ true) → AllMet a cs
+    each : (cs : List (List Literal)) → ((c : List Literal) → IsIn cs c → meets a c ≡ true) → AllMet a cs
     each [] h = tt
     each (c ∷ cs) h = (h c (inl refl), each cs (λ d k. h d (inr k)))
 
 pub meets_from : (a : ℕ → Bool) (clauses : List (List Literal)) → AllMet a clauses → MeetsAll a clauses
 meets_from a clauses all clause has = each clauses all (among clauses clause has)
   where
-    each : (cs : List (List Literal)) → AllMet a cs → Among cs clause → meets a clause ≡ true
+    each : (cs : List (List Literal)) → AllMet a cs → IsIn cs clause → meets a clause ≡ true
     each [] h k = absurd k
     each (c ∷ cs) h (inl e) = subst (λ (d : List Literal). meets a d ≡ true) e h.0
     each (c ∷ cs) h (inr k) = each cs h.1 k
@@ -184,19 +184,19 @@ module _ (a : ℕ → Bool) where
   some_variable (suc n) first index less is =
       any_made (is_made_true a) (position_variables first (suc n)) (positive (first + index)) (there (suc n) less) is
     where
-      there : (k : ℕ) → index < k → Among (position_variables first k) (positive (first + index))
+      there : (k : ℕ) → index < k → IsIn (position_variables first k) (positive (first + index))
       there zero below = absurd (omega arith)
-      there (suc k) below = subst (λ (l : List Literal). Among l (positive (first + index))) (sym (mapped_last (λ value. positive (first + value)) (upto k) k)) (elim (cases_lt index k) [
+      there (suc k) below = subst (λ (l : List Literal). IsIn l (positive (first + index))) (sym (mapped_last (λ value. positive (first + value)) (upto k) k)) (elim (cases_lt index k) [
         | inl lower ↦ among_left (position_variables first k) (positive (first + k) ∷ []) (positive (first + index)) (there k lower)
         | inr upper ↦ among_right (position_variables first k) (positive (first + k) ∷ []) (positive (first + index)) (inl (ap (λ (v : ℕ). positive (first + v)) (let e : k ≡ index = omega arith in e)))
       ])
         where
-          among_left : (xs ys : List Literal) (l : Literal) → Among xs l → Among (xs ++ ys) l
+          among_left : (xs ys : List Literal) (l : Literal) → IsIn xs l → IsIn (xs ++ ys) l
           among_left [] ys l h = absurd h
           among_left (x ∷ xs) ys l (inl e) = inl e
           among_left (x ∷ xs) ys l (inr h) = inr (among_left xs ys l h)
 
-          among_right : (xs ys : List Literal) (l : Literal) → Among ys l → Among (xs ++ ys) l
+          among_right : (xs ys : List Literal) (l : Literal) → IsIn ys l → IsIn (xs ++ ys) l
           among_right [] ys l h = h
           among_right (x ∷ xs) ys l h = inr (among_right xs ys l h)
 

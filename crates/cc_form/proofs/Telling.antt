@@ -8,7 +8,7 @@ use Rattle.cc_defs.specs.declared.node.GroundHead.{GroundHead}
 use Rattle.cc_defs.specs.declared.node.GroundHead.TheVariants as heads
 use Rattle.cc_defs.specs.ClauseForms.{all_written, atom_variable, positive, true_variable}
 use Rattle.cc_defs.specs.ClauseLists.{Asserted, MadeRules, assert_all, bodies_of, clauses_over, completion_from, denials_of, deny, is_certain, is_falsity, is_of_atom, key_terms, made_rules, positions_from, rules_that_count}
-use Rattle.cc_defs.specs.Clauses.{Literal}
+use Rattle.cc_defs.specs.Clauses.{Literal, IsIn}
 use Rattle.cc_defs.specs.Rows.{IsBelow, IsRow}
 use Rattle.cc_defs.specs.Terms.{Ground}
 use Rattle.cc_defs.specs.TimedRules.{TimedRule}
@@ -18,7 +18,7 @@ use Rattle.cc_form.specs.Laws.{AllFit, ClausesTellRows, HeadFits, IsTold, RuleFi
 use Rattle.cc_form.proofs.Causes.{AllTrue, AreAsserted, AreRulesTold, IsDenied, all_atoms_fit, all_filter, atoms_counting, behind, claim_denied, claim_values_of, completion_met, denials_met, ends_together, falsity_counting, joined, met_completion, met_denials, rules_told, rules_values_of, terms_asserted, terms_values_of}
 use Rattle.cc_form.proofs.Keys.{after_true, key_fits, true_after}
 use Rattle.cc_form.proofs.Meaning.{Agrees, AllMet, AtomsFit, agrees_both, agrees_left, agrees_right, all_written_met, and_is, lit, met_all_written, met_both, met_left, met_right, or_gives, or_is}
-use Rattle.cc_form.proofs.Ordered.{Among, among, both_true, cases_test, contained}
+use Rattle.cc_form.proofs.Ordered.{among, both_true, cases_test, contained}
 use Rattle.cc_form.proofs.RowValues.{agrees_row, atom_is, meets_from, met_from, positions_met, row_agrees, row_of, row_values, row_values_long}
 use Rattle.cc_form.proofs.Written.{any_gives, any_made, equal_tests}
 
@@ -54,7 +54,7 @@ module _ (sizes row : List ℕ) (rules : List TimedRule) where
   abbrev pub AreEqual : Type 0
   AreEqual = (position size value : ℕ) → slice_get sizes position ≡ Some size → 1 < size → value < size → (slice_index row position == value) ≡ list_any (has (is_of_atom position value)) rules
 
-  member_fits : (list : List TimedRule) → AllByRecursion (RuleFits sizes) list → (rule : TimedRule) → Among list rule → RuleFits sizes rule
+  member_fits : (list : List TimedRule) → AllByRecursion (RuleFits sizes) list → (rule : TimedRule) → IsIn list rule → RuleFits sizes rule
   member_fits [] fit rule h = absurd h
   member_fits (x ∷ list) fit rule (inl e) = subst (RuleFits sizes) e fit.0
   member_fits (x ∷ list) fit rule (inr h) = member_fits list fit.1 rule h

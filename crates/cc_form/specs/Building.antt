@@ -1,5 +1,6 @@
 -- A builder that is done, and the limits of what it built.
 use Rattle.std.specs.Prelude.{◌≡◌, ℕ, ◌≤◌, List, length, nat_lt, if◌then◌else◌, Option, Some, None}
+use Rattle.cc_defs.specs.Limits.{most_variables, most_clauses, most_literals}
 use Rattle.cc_defs.specs.declared.refusal.LimitAt.TheVariants as limits
 use Rattle.cc_defs.specs.declared.refusal.Refusal.{Refusal}
 use Rattle.cc_defs.specs.ClauseLists.{ClauseList}
@@ -13,17 +14,17 @@ use Rattle.cc_form.specs.Store.{Holds, literal_count_of}
 pub record IsBuiltForm (builder : Builder) : Type 0 where
   pub clauses : List (List Literal)
   pub holds : Holds builder.store.kept clauses
-  pub within : builder.last ≤ 4000000
+  pub within : builder.last ≤ most_variables
   pub axioms : IsAxioms (record { sizes = builder.places; variables = builder.last; clauses = clauses })
 
 abbrev pub count_refusal : List (List Literal) → Option Refusal
 count_refusal clauses =
-    if nat_lt 8000000 (length clauses) then Some (past limits.AxiomClauses)
-    else (if nat_lt 40000000 (literal_count_of clauses) then Some (past limits.AxiomLiterals) else None)
+    if nat_lt most_clauses (length clauses) then Some (past limits.AxiomClauses)
+    else (if nat_lt most_literals (literal_count_of clauses) then Some (past limits.AxiomLiterals) else None)
 
 -- it has built a clause list over positions of these sizes
 pub record IsSection (sizes : List ℕ) (list : ClauseList) (builder : Builder) : Type 0 where
   pub places : builder.places ≡ sizes
   pub ends : builder.last ≡ list.variables
-  pub within : list.variables ≤ 4000000
+  pub within : list.variables ≤ most_variables
   pub holds : Holds builder.store.kept list.clauses

@@ -1,5 +1,6 @@
 -- What the clause list of a section tells: its rows are the histories.
 use Rattle.std.specs.Prelude.{◌≡◌, ℕ, ◌<◌, ◌≤◌, ◌+◌, ◌↔◌, All, Contains, sum, Bool, true, false, List, length, Option, Some, None, nat_lt, if◌then◌else◌}
+use Rattle.cc_defs.specs.Limits.{most_variables, most_clauses, most_literals}
 use Rattle.cc_defs.specs.declared.lists.Key.{Key}
 use Rattle.cc_defs.specs.declared.refusal.LimitAt.TheVariants as limits
 use Rattle.cc_defs.specs.declared.refusal.Refusal.{Refusal}
@@ -18,9 +19,9 @@ use Rattle.cc_form.specs.Store.{literal_count_of}
 -- the first limit that a clause list passes
 abbrev pub form_refusal : ClauseList → Option Refusal
 form_refusal list =
-    if nat_lt 4000000 list.variables then Some (past limits.Variables)
-    else (if nat_lt 8000000 (length list.clauses) then Some (past limits.AxiomClauses)
-    else (if nat_lt 40000000 (literal_count_of list.clauses) then Some (past limits.AxiomLiterals) else None))
+    if nat_lt most_variables list.variables then Some (past limits.Variables)
+    else (if nat_lt most_clauses (length list.clauses) then Some (past limits.AxiomClauses)
+    else (if nat_lt most_literals (literal_count_of list.clauses) then Some (past limits.AxiomLiterals) else None))
 
 -- the axioms of a section: those of a query at a horizon, with its claim denied or left out, after a key where there is one
 abbrev pub form_of : Description → Query → ℕ → (with_claim : Bool) → Option Key → Axioms
@@ -51,5 +52,5 @@ pub record IsAxioms (form : Axioms) : Type 0 where
 -- what is always true of axioms that were made within their limits
 pub record IsForm (form : Axioms) : Type 0 where
   pub axioms : IsAxioms form
-  pub count : length form.clauses ≤ 8000000
-  pub most : form.variables ≤ 4000000
+  pub count : length form.clauses ≤ most_clauses
+  pub most : form.variables ≤ most_variables

@@ -1,6 +1,7 @@
 -- The literals of terms, made node by node: a node takes the literals of its operands from a stack, and puts its own there.
 use Rattle.std.specs.Prelude.{◌≡◌, ℕ, ◌+◌, ◌-◌, ◌<◌, ◌≤◌, List, [], ◌∷◌, ◌++◌, length, map, take, drop, Result, Ok, Err}
 use Rattle.cc_arena.specs.Walks.{arity}
+use Rattle.cc_defs.specs.Limits.{most_variables}
 use Rattle.cc_defs.specs.declared.node.Node.{Node}
 use Rattle.cc_defs.specs.declared.node.Node.TheVariants as nodes
 use Rattle.cc_defs.specs.declared.refusal.Fault.{Fault}
@@ -86,14 +87,14 @@ made_nodes sizes last term =
 
 -- a last variable is past its limit
 abbrev pub IsPast : ℕ → Fault → Type 0
-IsPast last (faults.Refused refusal) = (refusal ≡ past limits.Variables) × (4000000 < last)
+IsPast last (faults.Refused refusal) = (refusal ≡ past limits.Variables) × (most_variables < last)
 IsPast last faults.OutOfMemory = Unit {0}
 
 -- it has this last variable, and these clauses behind those that it had
 pub record IsBuilt (old new : Builder) (last : ℕ) (clauses : List (List Literal)) : Type 0 where
   pub places : new.places ≡ old.places
   pub ends : new.last ≡ last
-  pub within : last ≤ 4000000
+  pub within : last ≤ most_variables
   pub gives : Gives old.store.kept new.store.kept clauses
 
 pub record IsRan (old new : Builder) (ran : Ran) : Type 0 where

@@ -1,5 +1,6 @@
 -- The clause list as it is made from rules in time, conditions and a claim whose terms are nodes.
 use Rattle.std.specs.Prelude.{ℕ, zero, suc, ◌+◌, ◌-◌, ◌*◌, ◌≤◌, Bool, true, false, if◌then◌else◌, List, [], ◌∷◌, ◌++◌, map, Option, Some, None, IfSome, slice_index, slice_index_or}
+use Rattle.cc_defs.specs.Limits.{most_steps}
 use Rattle.cc_defs.specs.declared.node.Node.{Node}
 use Rattle.cc_defs.specs.declared.node.Node.TheVariants as nodes
 use Rattle.cc_defs.specs.ClauseForms.{Made, positive, true_variable, all_written}
@@ -52,8 +53,8 @@ body_nodes stride rule = body_of stride rule.head rule.now rule.before
 -- its parts are terms over the positions, at steps of a horizon
 pub record IsBodyOver (sizes : List ℕ) (stride : ℕ) (rule : TimedRule) : Type 0 where
   pub head : IsTermOver sizes (head_nodes rule.head)
-  pub now : IfSome rule.now (λ timed. (timed.step ≤ 1000) × IsTermOver sizes (part_nodes stride timed))
-  pub before : IfSome rule.before (λ timed. (timed.step ≤ 1000) × IsTermOver sizes (part_nodes stride timed))
+  pub now : IfSome rule.now (λ timed. (timed.step ≤ most_steps) × IsTermOver sizes (part_nodes stride timed))
+  pub before : IfSome rule.before (λ timed. (timed.step ≤ most_steps) × IsTermOver sizes (part_nodes stride timed))
 
 -- that of a rule that does not count is T
 abbrev pub made_rule : List ℕ → ℕ → ℕ → TimedRule → Made

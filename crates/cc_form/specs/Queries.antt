@@ -2,6 +2,7 @@
 use Rattle.std.specs.Prelude.{◌≡◌, ◌≤◌, ℕ, ◌*◌, Bool, List, map, Option, IfSome}
 use Rattle.std.specs.List.{AllByRecursion}
 use Rattle.std.specs.Option.{option_map}
+use Rattle.cc_defs.specs.Limits.{most_steps}
 use Rattle.cc_defs.specs.declared.lists.Key.{Key}
 use Rattle.cc_defs.specs.declared.node.Node.{Node}
 use Rattle.cc_defs.specs.GroundLaws.{PlainGroundCondition, PlainGroundQuery}
@@ -35,7 +36,7 @@ condition_nodes stride horizon condition = moved_nodes (step_of condition.at hor
 
 -- a condition is a term over the positions of its step, which is one of a horizon
 abbrev pub IsOverPlaces : List ℕ → (stride horizon : ℕ) → PlainGroundCondition → Type 0
-IsOverPlaces sizes stride horizon condition = (step_of condition.at horizon ≤ 1000) × IsTermOver sizes (condition_nodes stride horizon condition)
+IsOverPlaces sizes stride horizon condition = (step_of condition.at horizon ≤ most_steps) × IsTermOver sizes (condition_nodes stride horizon condition)
 
 -- the clause list of a section of a theory
 abbrev pub section_list : PlainTheory → PlainGroundQuery → (with_claim : Bool) → Option Key → ClauseList

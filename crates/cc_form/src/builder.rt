@@ -2,6 +2,7 @@
 ghost use Rattle.std.specs.Prelude.{◌≡◌, ◌+◌, ◌≤◌, ◌<◌, ◌++◌, [], ◌∷◌, length, IfOk, IfErr, OnOk};
 ghost use Rattle.std.specs.List.{AllByRecursion};
 ghost use Rattle.cc_arena.specs.Walks.{arity as arity_of};
+ghost use Rattle.cc_defs.specs.Limits.{most_variables};
 ghost use Rattle.cc_defs.specs.declared.node.Node.TheVariants as nodes;
 ghost use Rattle.cc_defs.specs.ClauseForms.{made_all as made_all_of, made_any as made_any_of, made_same as made_same_of, positive, true_variable};
 ghost use Rattle.cc_defs.specs.Terms.{Fits, IsTermOver};
@@ -9,10 +10,10 @@ ghost use Rattle.cc_form.specs.Machine.{first_of, made_node, made_nodes, moved_n
 ghost use Rattle.cc_form.specs.Store.{Gives, Holds};
 
 use crate::defining::{define_all, define_any, define_same};
-use crate::places::{Places, past};
+use crate::places::Places;
 use crate::store::Store;
 use cc_clauses::ClauseArena;
-use cc_defs::{Fault, LimitAt, Lit, Node};
+use cc_defs::{Fault, LimitAt, Lit, Node, Refusal};
 use std::alloc::Global;
 
 /// Makes clauses over the positions of a horizon. Each conjunction, disjunction and equivalence gets a variable of its own
@@ -41,14 +42,14 @@ fn arity(node: Node) -> usize
 
 /// A new variable.
 fn fresh(last: &mut u32) -> Result<Lit, Fault>
-    requires { last.old ≤ 4000000 }
+    requires { last.old ≤ most_variables }
     ensures literal { IfOk result (λ literal. literal ≡ positive (last.old + 1)) }
     ensures last { OnOk result (last.new ≡ last.old + 1) }
-    ensures within { OnOk result (last.old + 1 ≤ 4000000) }
+    ensures within { OnOk result (last.old + 1 ≤ most_variables) }
     ensures refused { IfErr result (IsPast (last.old + 1)) }
 {
     if *last == LimitAt::Variables.number() {
-        return Err(past(LimitAt::Variables));
+        return Err(Fault::Refused(Refusal::past(LimitAt::Variables)));
     }
     *last += 1;
     Ok(Lit::positive(*last))
@@ -56,10 +57,10 @@ fn fresh(last: &mut u32) -> Result<Lit, Fault>
 
 /// The literal of all of these.
 fn made_all(truth: Lit, operands: &[Lit], last: &mut u32, store: &mut Store) -> Result<Lit, Fault>
-    requires { last.old ≤ 4000000 }
+    requires { last.old ≤ most_variables }
     ensures literal { IfOk result (λ literal. literal ≡ (made_all_of truth (record { literals = operands.now; last = last.old; clauses = [] }) operands.now).literal) }
     ensures last { OnOk result (last.new ≡ (made_all_of truth (record { literals = operands.now; last = last.old; clauses = [] }) operands.now).last) }
-    ensures within { OnOk result (last.new ≤ 4000000) }
+    ensures within { OnOk result (last.new ≤ most_variables) }
     ensures clauses { OnOk result (Gives store.old.kept store.new.kept (made_all_of truth (record { literals = operands.now; last = last.old; clauses = [] }) operands.now).clauses) }
     ensures refused { IfErr result (IsPast (made_all_of truth (record { literals = operands.now; last = last.old; clauses = [] }) operands.now).last) }
 {
@@ -76,10 +77,10 @@ fn made_all(truth: Lit, operands: &[Lit], last: &mut u32, store: &mut Store) -> 
 
 /// The literal of one of these.
 fn made_any(truth: Lit, operands: &[Lit], last: &mut u32, store: &mut Store) -> Result<Lit, Fault>
-    requires { last.old ≤ 4000000 }
+    requires { last.old ≤ most_variables }
     ensures literal { IfOk result (λ literal. literal ≡ (made_any_of truth (record { literals = operands.now; last = last.old; clauses = [] }) operands.now).literal) }
     ensures last { OnOk result (last.new ≡ (made_any_of truth (record { literals = operands.now; last = last.old; clauses = [] }) operands.now).last) }
-    ensures within { OnOk result (last.new ≤ 4000000) }
+    ensures within { OnOk result (last.new ≤ most_variables) }
     ensures clauses { OnOk result (Gives store.old.kept store.new.kept (made_any_of truth (record { literals = operands.now; last = last.old; clauses = [] }) operands.now).clauses) }
     ensures refused { IfErr result (IsPast (made_any_of truth (record { literals = operands.now; last = last.old; clauses = [] }) operands.now).last) }
 {
@@ -96,10 +97,10 @@ fn made_any(truth: Lit, operands: &[Lit], last: &mut u32, store: &mut Store) -> 
 
 /// The literal of both of these, or neither.
 fn made_same(f: Lit, g: Lit, last: &mut u32, store: &mut Store) -> Result<Lit, Fault>
-    requires { last.old ≤ 4000000 }
+    requires { last.old ≤ most_variables }
     ensures literal { IfOk result (λ literal. literal ≡ (made_same_of (plain_made f last.old) (plain_made g last.old)).literal) }
     ensures last { OnOk result (last.new ≡ (made_same_of (plain_made f last.old) (plain_made g last.old)).last) }
-    ensures within { OnOk result (last.new ≤ 4000000) }
+    ensures within { OnOk result (last.new ≤ most_variables) }
     ensures clauses { OnOk result (Gives store.old.kept store.new.kept (made_same_of (plain_made f last.old) (plain_made g last.old)).clauses) }
     ensures refused { IfErr result (IsPast (made_same_of (plain_made f last.old) (plain_made g last.old)).last) }
 {
@@ -117,13 +118,13 @@ fn made(
     last: &mut u32,
     store: &mut Store,
 ) -> Result<Lit, Fault>
-    requires last { last.old ≤ 4000000 }
+    requires last { last.old ≤ most_variables }
     requires offset { offset ≤ 9000000000000 }
     requires fits { Fits places.now (moved_node offset node) }
     requires operands { length operands.now ≡ arity_of node }
     ensures literal { IfOk result (λ literal. literal ≡ (made_node places.now (moved_node offset node) operands.now last.old).literal) }
     ensures last { OnOk result (last.new ≡ (made_node places.now (moved_node offset node) operands.now last.old).last) }
-    ensures within { OnOk result (last.new ≤ 4000000) }
+    ensures within { OnOk result (last.new ≤ most_variables) }
     ensures clauses { OnOk result (Gives store.old.kept store.new.kept (made_node places.now (moved_node offset node) operands.now last.old).clauses) }
     ensures refused { IfErr result (IsPast (made_node places.now (moved_node offset node) operands.now last.old).last) }
 {
@@ -143,7 +144,7 @@ impl Builder {
     pub(crate) fn new(alloc: Global, sizes: Vec<u32>) -> Result<Builder, Fault>
         ensures places { IfOk result (λ builder. builder.places ≡ sizes.items) }
         ensures last { IfOk result (λ builder. builder.last ≡ true_variable sizes.items) }
-        ensures within { OnOk result (true_variable sizes.items ≤ 4000000) }
+        ensures within { OnOk result (true_variable sizes.items ≤ most_variables) }
         ensures clauses { IfOk result (λ builder. Holds builder.store.kept []) }
         ensures refused { IfErr result (IsPast (true_variable sizes.items)) }
     {
@@ -159,7 +160,7 @@ impl Builder {
 
     /// A node takes the literals of its operands from the stack, and puts its own there.
     pub(crate) fn step(&mut self, node: Node, offset: u64) -> Result<(), Fault>
-        requires last { self.old.last ≤ 4000000 }
+        requires last { self.old.last ≤ most_variables }
         requires offset { offset ≤ 9000000000000 }
         requires fits { Fits self.old.places (moved_node offset node) }
         requires operands { arity_of node ≤ length self.old.stack.items }
@@ -183,7 +184,7 @@ impl Builder {
 
     /// Puts the literal of an atom of a position on the stack.
     pub(crate) fn step_atom(&mut self, position: u64, value: u32) -> Result<(), Fault>
-        requires last { self.old.last ≤ 4000000 }
+        requires last { self.old.last ≤ most_variables }
         requires fits { Fits self.old.places (nodes.Atom position value) }
         ensures ran { OnOk result (IsRan self.old self.new (stepped self.old.places (nodes.Atom position value) self.old.stack.items self.old.last)) }
         ensures refused { IfErr result (IsPast (stepped self.old.places (nodes.Atom position value) self.old.stack.items self.old.last).last) }
@@ -194,7 +195,7 @@ impl Builder {
 
     /// Puts the literal of a term on the stack, whose constants stand so many positions behind their numbers.
     pub(crate) fn run(&mut self, term: &[Node], offset: u64) -> Result<(), Fault>
-        requires last { self.old.last ≤ 4000000 }
+        requires last { self.old.last ≤ most_variables }
         requires offset { offset ≤ 9000000000000 }
         requires fits { AllByRecursion (Fits self.old.places) (moved_nodes offset term.now) }
         requires ready { IsReady (length self.old.stack.items) (moved_nodes offset term.now) }
@@ -227,7 +228,7 @@ impl Builder {
 
     /// The literal of a term, whose constants stand so many positions behind their numbers.
     pub(crate) fn literal(&mut self, term: &[Node], offset: u64) -> Result<Lit, Fault>
-        requires last { self.old.last ≤ 4000000 }
+        requires last { self.old.last ≤ most_variables }
         requires offset { offset ≤ 9000000000000 }
         requires term { IsTermOver self.old.places (moved_nodes offset term.now) }
         ensures literal { IfOk result (λ literal. literal ≡ (made_nodes self.old.places self.old.last (moved_nodes offset term.now)).literal) }

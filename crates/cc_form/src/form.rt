@@ -7,6 +7,7 @@ ghost use Rattle.cc_defs.specs.ClauseLists.{clause_list, key_terms, positions_fr
 ghost use Rattle.cc_defs.specs.Clauses.{Literal, IsClause, IsNumbered, IsOver};
 ghost use Rattle.cc_defs.specs.Description.{Description};
 ghost use Rattle.cc_defs.specs.GroundLaws.{StandsForQuery};
+ghost use Rattle.cc_defs.specs.Limits.{most_clauses, most_variables, most_steps};
 ghost use Rattle.cc_defs.specs.Refusals.{IsRefusedBy};
 ghost use Rattle.cc_defs.specs.Resolved.{Query};
 ghost use Rattle.cc_defs.specs.Rows.{IsRow};
@@ -25,13 +26,13 @@ ghost use Rattle.std.specs.List.{AllByRecursion};
 use crate::builder::Builder;
 use crate::groups::{complete, deny_falsity, positions};
 use crate::laws::clauses_tell_rows;
-use crate::places::{Places, past, sizes_of};
+use crate::places::{Places, sizes_of};
 use crate::rules::bodies_within;
 use crate::section::{assert_all, deny, follow};
 use cc_arena::laws::terms_mean_formulas;
 use cc_arena::{GroundCondition, GroundQuery, one_formula};
 use cc_clauses::ClauseArena;
-use cc_defs::{Fault, Key, LimitAt, Lit};
+use cc_defs::{Fault, Key, LimitAt, Lit, Refusal};
 use cc_theory::Theory;
 use cc_theory::laws::{models_are_paths, models_meet_completion};
 use std::alloc::Global;
@@ -62,7 +63,7 @@ impl Form {
     /// How many clauses there are.
     pub fn count(&self) -> u32
         ensures value { result ≡ length self.now.clauses }
-        ensures most { result ≤ 8000000 }
+        ensures most { result ≤ most_clauses }
     {
         self.clauses.count() as u32
     }
@@ -70,7 +71,7 @@ impl Form {
     /// How many variables there are: those of the atoms, the one that is true, and those of the terms behind it.
     pub fn variables(&self) -> u32
         ensures value { result ≡ self.now.variables }
-        ensures most { result ≤ 4000000 }
+        ensures most { result ≤ most_variables }
         ensures least { sum self.now.sizes + 1 ≤ result }
     {
         self.variables
@@ -113,7 +114,7 @@ impl Form {
     /// The clauses, in order.
     pub fn into_clauses(self) -> ClauseArena
         ensures clauses { result ≡ self.clauses }
-        ensures count { length result ≤ 8000000 }
+        ensures count { length result ≤ most_clauses }
         ensures each { All IsClause result }
         ensures over { All (IsOver self.variables) result }
     {
@@ -129,7 +130,7 @@ fn add_rules(
     theory: &Theory<'_>,
 ) -> Result<(), Fault>
     requires last { builder.old.last ≡ true_variable builder.old.places }
-    requires within { builder.old.last ≤ 4000000 }
+    requires within { builder.old.last ≤ most_variables }
     requires bound { stride ≤ 8589934592 }
     requires stride { stride ≡ stride_of theory.now.signature }
     requires places { builder.old.places ≡ position_sizes theory.now.signature theory.now.horizon }
@@ -160,7 +161,7 @@ fn deny_if(
     claim: Option<GroundCondition<'_>>,
     with_claim: bool,
 ) -> Result<(), Fault>
-    requires last { builder.old.last ≤ 4000000 }
+    requires last { builder.old.last ≤ most_variables }
     requires bound { stride ≤ 8589934592 }
     requires claim { IfSome claim (λ claim. IsOverPlaces builder.old.places stride horizon (plain_ground_condition claim)) }
     ensures { Adds builder.old builder.new result (denied_nodes builder.old.places builder.old.last (nodes_if with_claim (option_map (λ claim. condition_nodes stride horizon (plain_ground_condition claim)) claim.entry))) }
@@ -176,7 +177,7 @@ fn deny_if(
 
 /// The row lies after a key, where there is one.
 fn follow_if(builder: &mut Builder, after: Option<&Key>) -> Result<(), Fault>
-    requires last { builder.old.last ≤ 4000000 }
+    requires last { builder.old.last ≤ most_variables }
     requires key { IfSome after (λ key. IsRow builder.old.places key.now.row) }
     ensures { Adds builder.old builder.new result (asserted_nodes builder.old.places builder.old.last (map postfix (key_terms builder.old.places (option_map (λ key. key.now) after.entry)))) }
 {
@@ -195,7 +196,7 @@ fn add_query(
     with_claim: bool,
     after: Option<&Key>,
 ) -> Result<(), Fault>
-    requires last { builder.old.last ≤ 4000000 }
+    requires last { builder.old.last ≤ most_variables }
     requires bound { stride ≤ 8589934592 }
     requires conditions { AllByRecursion (λ condition. IsOverPlaces builder.old.places stride horizon (plain_ground_condition condition)) query.now.conditions }
     requires claim { IfSome query.now.claim (λ claim. IsOverPlaces builder.old.places stride horizon (plain_ground_condition claim)) }
@@ -215,10 +216,10 @@ fn close(builder: Builder) -> Result<Form, Fault>
     ensures refused { (kept : List (List Literal)) → Holds builder.store.kept kept → IfErr result (IsRefusedBy (count_refusal kept)) }
 {
     if builder.store.is_full() {
-        return Err(past(LimitAt::AxiomClauses));
+        return Err(Fault::Refused(Refusal::past(LimitAt::AxiomClauses)));
     }
     if builder.store.kept.is_long {
-        return Err(past(LimitAt::AxiomLiterals));
+        return Err(Fault::Refused(Refusal::past(LimitAt::AxiomLiterals)));
     }
     let (places, variables, clauses) = builder.close();
     Ok(Form {
@@ -241,7 +242,7 @@ fn build(
     ensures built { IfOk result (IsSection (position_sizes theory.now.signature theory.now.horizon) (section_list theory.now (plain_ground_query query.now) with_claim (option_map (λ key. key.now) after.entry))) }
     ensures refused { IfErr result (IsPast (section_list theory.now (plain_ground_query query.now) with_claim (option_map (λ key. key.now) after.entry)).variables) }
     ensures ready { IfOk result IsBuiltForm }
-    ensures horizon { theory.now.horizon ≤ 1000 }
+    ensures horizon { theory.now.horizon ≤ most_steps }
     ensures rules { AreRulesAt theory.now.signature theory.now.horizon theory.now.rules }
 {
     let horizon = theory.horizon();

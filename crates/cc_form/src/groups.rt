@@ -4,6 +4,7 @@ ghost use Rattle.std.specs.List.{AllByRecursion};
 ghost use Rattle.cc_defs.specs.ClauseForms.{all_written, atom_variable, positive};
 ghost use Rattle.cc_defs.specs.ClauseLists.{completion_from, completion_of, denials_of, bodies_of, exactly_one as exactly_one_of, pairs_denied, position_completion, position_variables, positions_from};
 ghost use Rattle.cc_defs.specs.Clauses.{opposite};
+ghost use Rattle.cc_defs.specs.Limits.{most_variables};
 ghost use Rattle.cc_form.specs.Making.{bodied, picked};
 ghost use Rattle.cc_form.specs.Places.{position_sizes};
 ghost use Rattle.cc_form.specs.Store.{Gives};
@@ -69,7 +70,7 @@ fn exactly_one(store: &mut Store, first: u32, size: u32) -> Result<(), OutOfMemo
 
 /// The clauses that each position has exactly one value.
 pub(crate) fn positions(store: &mut Store, sizes: &[u32]) -> Result<(), OutOfMemory>
-    requires { sum sizes.now ≤ 4000000 }
+    requires { sum sizes.now ≤ most_variables }
     ensures { OnOk result (Gives store.old.kept store.new.kept (positions_from 1 sizes.now)) }
 {
     let mut first = 1;

@@ -1,10 +1,9 @@
 //! The positions of a horizon, and the variables of their atoms.
 ghost use Rattle.std.specs.Prelude.{◌≡◌, ◌+◌, ◌≤◌, ◌<◌, ◌++◌, ◌↔◌, length, take, min, sum, IfOk, IfErr, OnOk, IsTrue, Some, slice_get};
+ghost use Rattle.cc_defs.specs.Limits.{most_variables};
 ghost use Rattle.cc_defs.specs.declared.node.Node.TheVariants as nodes;
-ghost use Rattle.cc_defs.specs.declared.refusal.Fault.TheVariants as faults;
 ghost use Rattle.cc_defs.specs.ClauseForms.{atom_variable, positive, true_variable};
 ghost use Rattle.cc_defs.specs.Description.{domain_sizes};
-ghost use Rattle.cc_defs.specs.Refusals.{past as past_limit};
 ghost use Rattle.cc_defs.specs.Rows.{IsRow};
 ghost use Rattle.cc_defs.specs.Signatures.{ground_constants};
 ghost use Rattle.cc_defs.specs.Terms.{Fits};
@@ -14,18 +13,6 @@ ghost use Rattle.cc_form.specs.Places.{firsts as firsts_from, position_sizes};
 use cc_defs::{Fault, LimitAt, Lit, OutOfMemory, Refusal, Sig};
 use std::alloc::Global;
 use std::marker::Model;
-
-/// A count is past its limit.
-pub(crate) fn past(limit: LimitAt) -> Fault
-    ensures { result ≡ faults.Refused (past_limit limit) }
-{
-    Fault::Refused(Refusal {
-        number: 14,
-        file: 0,
-        line: 0,
-        limit: Some(limit),
-    })
-}
 
 /// The positions of a horizon by the numbers of their values, with the variables of their atoms: from 1 on, for each position
 /// in order, one for each value in order. The variable behind them is true.
@@ -61,7 +48,7 @@ fn value_count(sizes: &[u32]) -> u32
 
 /// The first variable of each position.
 fn firsts_of(alloc: Global, sizes: &[u32]) -> Result<Vec<u32>, OutOfMemory>
-    requires { sum sizes.now ≤ 4000000 }
+    requires { sum sizes.now ≤ most_variables }
     ensures { IfOk result (λ firsts. firsts.items ≡ firsts_from 1 sizes.now) }
 {
     let mut firsts = Vec::new(alloc);
@@ -111,12 +98,12 @@ fn add_fluents(sig: &Sig, each: &[u32], sizes: &mut Vec<u32>) -> Result<(), OutO
 impl Places {
     pub(crate) fn new(alloc: Global, sizes: Vec<u32>) -> Result<Places, Fault>
         ensures sizes { IfOk result (λ places. places ≡ sizes.items) }
-        ensures within { OnOk result (true_variable sizes.items ≤ 4000000) }
+        ensures within { OnOk result (true_variable sizes.items ≤ most_variables) }
         ensures refused { IfErr result (IsPast (true_variable sizes.items)) }
     {
         let count = value_count(&sizes);
         if count >= LimitAt::Variables.number() {
-            return Err(past(LimitAt::Variables));
+            return Err(Fault::Refused(Refusal::past(LimitAt::Variables)));
         }
         let firsts = firsts_of(alloc, &sizes)?;
         Ok(Places {
@@ -135,7 +122,7 @@ impl Places {
     /// The number of the variable that is true.
     pub(crate) fn last(&self) -> u32
         ensures value { result ≡ true_variable self.now }
-        ensures most { result ≤ 4000000 }
+        ensures most { result ≤ most_variables }
     {
         self.truth.variable()
     }

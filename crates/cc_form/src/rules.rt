@@ -1,6 +1,7 @@
 //! The bodies of rules in time.
 ghost use Rattle.std.specs.Prelude.{◌≡◌, ◌*◌, ◌+◌, ◌≤◌, ◌<◌, ◌++◌, [], ◌∷◌, length, map, IfOk, IfErr, OnOk, Some, None};
 ghost use Rattle.std.specs.List.{AllByRecursion};
+ghost use Rattle.cc_defs.specs.Limits.{most_steps, most_variables};
 ghost use Rattle.cc_defs.specs.declared.node.Node.TheVariants as nodes;
 ghost use Rattle.cc_defs.specs.ClauseForms.{positive};
 ghost use Rattle.cc_defs.specs.ClauseLists.{is_certain as is_certain_head};
@@ -21,7 +22,7 @@ use std::alloc::Global;
 /// How many positions a step stands behind the first one.
 pub(crate) fn offset_of(stride: u64, step: u32) -> u64
     requires stride { stride ≤ 8589934592 }
-    requires step { step ≤ 1000 }
+    requires step { step ≤ most_steps }
     ensures value { result ≡ step * stride }
     ensures most { result ≤ 9000000000000 }
 {
@@ -37,10 +38,10 @@ fn is_truth(term: &[Node]) -> bool
 
 /// The literal of the conjunction of both parts.
 fn both(builder: &mut Builder, stride: u64, now: Timed<'_>, before: Timed<'_>) -> Result<Lit, Fault>
-    requires last { builder.old.last ≤ 4000000 }
+    requires last { builder.old.last ≤ most_variables }
     requires stride { stride ≤ 8589934592 }
-    requires now_step { now.step ≤ 1000 }
-    requires before_step { before.step ≤ 1000 }
+    requires now_step { now.step ≤ most_steps }
+    requires before_step { before.step ≤ most_steps }
     requires now { IsTermOver builder.old.places (part_nodes stride now) }
     requires before { IsTermOver builder.old.places (part_nodes stride before) }
     ensures { Makes builder.old builder.new result (made_nodes builder.old.places builder.old.last (part_nodes stride now.entry ++ part_nodes stride before.entry ++ nodes.All 2 ∷ [])) }
@@ -59,10 +60,10 @@ fn joined(
     now: Timed<'_>,
     before: Timed<'_>,
 ) -> Result<Lit, Fault>
-    requires last { builder.old.last ≤ 4000000 }
+    requires last { builder.old.last ≤ most_variables }
     requires stride { stride ≤ 8589934592 }
-    requires now_step { now.step ≤ 1000 }
-    requires before_step { before.step ≤ 1000 }
+    requires now_step { now.step ≤ most_steps }
+    requires before_step { before.step ≤ most_steps }
     requires now { IsTermOver builder.old.places (part_nodes stride now) }
     requires before { IsTermOver builder.old.places (part_nodes stride before) }
     ensures { Makes builder.old builder.new result (made_nodes builder.old.places builder.old.last (joined_nodes (part_nodes stride now.entry) (part_nodes stride before.entry))) }
@@ -79,7 +80,7 @@ fn joined(
 /// The literal of a head's atom; for falsity, that of `true`.
 fn head_literal(builder: &mut Builder, head: TimedHead) -> Lit
     requires head { IsTermOver builder.old.places (head_nodes head) }
-    requires last { builder.old.last ≤ 4000000 }
+    requires last { builder.old.last ≤ most_variables }
     ensures literal { result ≡ (made_nodes builder.old.places builder.old.last (head_nodes head)).literal }
     ensures built { IsBuilt builder.old builder.new (made_nodes builder.old.places builder.old.last (head_nodes head)).last (made_nodes builder.old.places builder.old.last (head_nodes head)).clauses }
 {
@@ -91,7 +92,7 @@ fn head_literal(builder: &mut Builder, head: TimedHead) -> Lit
 
 /// The literal of the body of a rule.
 fn body(builder: &mut Builder, stride: u64, rule: TimedRule<'_>) -> Result<Lit, Fault>
-    requires last { builder.old.last ≤ 4000000 }
+    requires last { builder.old.last ≤ most_variables }
     requires stride { stride ≤ 8589934592 }
     requires fits { IsBodyOver builder.old.places stride rule }
     ensures { Makes builder.old builder.new result (made_nodes builder.old.places builder.old.last (body_nodes stride rule.entry)) }
@@ -118,7 +119,7 @@ fn is_certain(places: &Places, head: TimedHead) -> bool
 
 /// The literal of the body of a rule that counts; of another one, that of `true`.
 fn made_rule(builder: &mut Builder, stride: u64, rule: TimedRule<'_>) -> Result<Lit, Fault>
-    requires last { builder.old.last ≤ 4000000 }
+    requires last { builder.old.last ≤ most_variables }
     requires stride { stride ≤ 8589934592 }
     requires fits { IsBodyOver builder.old.places stride rule }
     ensures { Makes builder.old builder.new result (made_rule_of builder.old.places stride builder.old.last rule.entry) }
@@ -136,7 +137,7 @@ pub(crate) fn bodies(
     stride: u64,
     rules: &[TimedRule<'_>],
 ) -> Result<Vec<Lit>, Fault>
-    requires last { builder.old.last ≤ 4000000 }
+    requires last { builder.old.last ≤ most_variables }
     requires stride { stride ≤ 8589934592 }
     requires fits { AllByRecursion (IsBodyOver builder.old.places stride) rules.now }
     ensures literals { IfOk result (λ bodies. bodies.items ≡ map (λ rule. rule.body) (made_bodies builder.old.places stride builder.old.last rules.now).rules) }
@@ -159,9 +160,9 @@ pub(crate) fn bodies_within(
     horizon: u32,
     rules: &[TimedRule<'_>],
 ) -> Result<Vec<Lit>, Fault>
-    requires last { builder.old.last ≤ 4000000 }
+    requires last { builder.old.last ≤ most_variables }
     requires bound { stride ≤ 8589934592 }
-    requires horizon { horizon ≤ 1000 }
+    requires horizon { horizon ≤ most_steps }
     requires fits { (signature : Signature) × (stride ≡ stride_of signature) × (builder.old.places ≡ position_sizes signature horizon) × AreRulesAt signature horizon rules.now }
     ensures literals { IfOk result (λ bodies. bodies.items ≡ map (λ rule. rule.body) (made_bodies builder.old.places stride builder.old.last rules.now).rules) }
     ensures built { OnOk result (IsBuilt builder.old builder.new (made_bodies builder.old.places stride builder.old.last rules.now).last (made_bodies builder.old.places stride builder.old.last rules.now).clauses) }

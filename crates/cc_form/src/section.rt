@@ -2,6 +2,7 @@
 ghost use Rattle.std.specs.Prelude.{◌≡◌, slice_get, ◌*◌, ◌+◌, ◌-◌, ◌≤◌, ◌<◌, ◌++◌, [], ◌∷◌, length, map, IfOk, IfErr, OnOk, Some, None};
 ghost use Rattle.std.specs.List.{AllByRecursion};
 ghost use Rattle.cc_arena.specs.GroundViews.{plain_ground_condition};
+ghost use Rattle.cc_defs.specs.Limits.{most_variables, most_steps};
 ghost use Rattle.cc_defs.specs.declared.node.Node.TheVariants as nodes;
 ghost use Rattle.cc_defs.specs.ClauseLists.{after_key};
 ghost use Rattle.cc_defs.specs.Clauses.{opposite};
@@ -34,9 +35,9 @@ fn literal_at(
     horizon: u32,
     condition: GroundCondition<'_>,
 ) -> Result<Lit, Fault>
-    requires last { builder.old.last ≤ 4000000 }
+    requires last { builder.old.last ≤ most_variables }
     requires stride { stride ≤ 8589934592 }
-    requires step { step_of_at condition.at horizon ≤ 1000 }
+    requires step { step_of_at condition.at horizon ≤ most_steps }
     requires term { IsTermOver builder.old.places (condition_nodes stride horizon (plain_ground_condition condition)) }
     ensures { Makes builder.old builder.new result (made_nodes builder.old.places builder.old.last (condition_nodes stride horizon (plain_ground_condition condition.entry))) }
 {
@@ -51,9 +52,9 @@ pub(crate) fn assert_all(
     horizon: u32,
     conditions: &[GroundCondition<'_>],
 ) -> Result<(), Fault>
-    requires last { builder.old.last ≤ 4000000 }
+    requires last { builder.old.last ≤ most_variables }
     requires stride { stride ≤ 8589934592 }
-    requires fit { AllByRecursion (λ condition. (step_of_at condition.at horizon ≤ 1000) × IsTermOver builder.old.places (condition_nodes stride horizon (plain_ground_condition condition))) conditions.now }
+    requires fit { AllByRecursion (λ condition. (step_of_at condition.at horizon ≤ most_steps) × IsTermOver builder.old.places (condition_nodes stride horizon (plain_ground_condition condition))) conditions.now }
     ensures { Adds builder.old builder.new result (asserted_nodes builder.old.places builder.old.last (map (λ condition. condition_nodes stride horizon (plain_ground_condition condition)) conditions.now)) }
 {
     for condition in conditions {
@@ -70,9 +71,9 @@ pub(crate) fn deny(
     horizon: u32,
     claim: GroundCondition<'_>,
 ) -> Result<(), Fault>
-    requires last { builder.old.last ≤ 4000000 }
+    requires last { builder.old.last ≤ most_variables }
     requires stride { stride ≤ 8589934592 }
-    requires step { step_of_at claim.at horizon ≤ 1000 }
+    requires step { step_of_at claim.at horizon ≤ most_steps }
     requires term { IsTermOver builder.old.places (condition_nodes stride horizon (plain_ground_condition claim)) }
     ensures { Adds builder.old builder.new result (denied_nodes builder.old.places builder.old.last (Some (condition_nodes stride horizon (plain_ground_condition claim.entry)))) }
 {
@@ -83,7 +84,7 @@ pub(crate) fn deny(
 
 /// Puts the literal on the stack that a position has one of the values above this one.
 fn step_above(builder: &mut Builder, position: u64, value: u32, size: u32) -> Result<(), Fault>
-    requires last { builder.old.last ≤ 4000000 }
+    requires last { builder.old.last ≤ most_variables }
     requires size { slice_get builder.old.places position ≡ Some size }
     requires value { value < size }
     ensures runs { RunsTo builder.old builder.new result (run_of builder.old.places (nodes_above position value (size - (value + 1)) ++ nodes.Any (size - (value + 1)) ∷ []) builder.old.stack.items builder.old.last) }
@@ -97,7 +98,7 @@ fn step_above(builder: &mut Builder, position: u64, value: u32, size: u32) -> Re
 
 /// The literals on the stack that a position has a value above that of the key, and that it has that of the key.
 fn step_part(builder: &mut Builder, position: u64, value: u32, size: u32) -> Result<(), Fault>
-    requires last { builder.old.last ≤ 4000000 }
+    requires last { builder.old.last ≤ most_variables }
     requires size { slice_get builder.old.places position ≡ Some size }
     requires value { value < size }
     ensures runs { RunsTo builder.old builder.new result (run_of builder.old.places (key_part position size value) builder.old.stack.items builder.old.last) }
@@ -109,7 +110,7 @@ fn step_part(builder: &mut Builder, position: u64, value: u32, size: u32) -> Res
 
 /// The parts of all positions.
 fn step_down(builder: &mut Builder, row: &[u32]) -> Result<(), Fault>
-    requires last { builder.old.last ≤ 4000000 }
+    requires last { builder.old.last ≤ most_variables }
     requires row { IsRow builder.old.places row.now }
     ensures runs { RunsTo builder.old builder.new result (run_of builder.old.places (key_down builder.old.places row.now (length row.now)) builder.old.stack.items builder.old.last) }
     ensures long { OnOk result (length builder.new.stack.items ≡ length builder.old.stack.items + 2 * length row.now) }
@@ -124,7 +125,7 @@ fn step_down(builder: &mut Builder, row: &[u32]) -> Result<(), Fault>
 /// From the last position to the first: a value above that of the key, or that of the key and a row after it from the next
 /// position on.
 fn step_up(builder: &mut Builder, count: usize) -> Result<(), Fault>
-    requires last { builder.old.last ≤ 4000000 }
+    requires last { builder.old.last ≤ most_variables }
     requires long { 2 * count < length builder.old.stack.items }
     ensures { RunsTo builder.old builder.new result (run_of builder.old.places (key_up count) builder.old.stack.items builder.old.last) }
 {
@@ -135,7 +136,7 @@ fn step_up(builder: &mut Builder, count: usize) -> Result<(), Fault>
 }
 
 fn step_pair(builder: &mut Builder) -> Result<(), Fault>
-    requires last { builder.old.last ≤ 4000000 }
+    requires last { builder.old.last ≤ most_variables }
     requires long { 3 ≤ length builder.old.stack.items }
     ensures runs { RunsTo builder.old builder.new result (run_of builder.old.places (nodes.All 2 ∷ nodes.Any 2 ∷ []) builder.old.stack.items builder.old.last) }
     ensures long { OnOk result (length builder.new.stack.items + 2 ≡ length builder.old.stack.items) }
@@ -146,7 +147,7 @@ fn step_pair(builder: &mut Builder) -> Result<(), Fault>
 
 /// The row lies after that of the key.
 pub(crate) fn follow(builder: &mut Builder, row: &[u32]) -> Result<(), Fault>
-    requires last { builder.old.last ≤ 4000000 }
+    requires last { builder.old.last ≤ most_variables }
     requires row { IsRow builder.old.places row.now }
     ensures { Adds builder.old builder.new result (asserted_nodes builder.old.places builder.old.last (postfix (after_key 0 builder.old.places row.now) ∷ [])) }
 {
@@ -156,7 +157,7 @@ pub(crate) fn follow(builder: &mut Builder, row: &[u32]) -> Result<(), Fault>
 }
 
 fn follow_literal(builder: &mut Builder, row: &[u32]) -> Result<Lit, Fault>
-    requires last { builder.old.last ≤ 4000000 }
+    requires last { builder.old.last ≤ most_variables }
     requires row { IsRow builder.old.places row.now }
     ensures { Makes builder.old builder.new result (made_nodes builder.old.places builder.old.last (key_down builder.old.places row.now (length row.now) ++ nodes.False ∷ [] ++ key_up (length row.now))) }
 {

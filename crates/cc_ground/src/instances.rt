@@ -5,11 +5,10 @@ ghost use Rattle.cc_arena.specs.GroundViews.{plain_ground_laws};
 ghost use Rattle.cc_arena.specs.Meanings.{MeanLaws};
 ghost use Rattle.cc_defs.specs.Conditions.{AreGroundLaws};
 ghost use Rattle.cc_defs.specs.Declarations.{Declaration, symbols};
-ghost use Rattle.cc_defs.specs.declared.refusal.Fault.TheVariants as faults;
 ghost use Rattle.cc_defs.specs.Forms.{HaveForms};
 ghost use Rattle.cc_defs.specs.GroundLaws as words;
 ghost use Rattle.cc_defs.specs.Nodes.{nodes_of};
-ghost use Rattle.cc_defs.specs.Refusals.{IsRefusedBy, past as refusal_past};
+ghost use Rattle.cc_defs.specs.Refusals.{IsRefusedBy};
 ghost use Rattle.cc_defs.specs.Resolved.{plain_base_law, plain_formula, plain_head, plain_law};
 ghost use Rattle.cc_defs.specs.Universe.{boolean_actions, universe};
 ghost use Rattle.cc_sorts.specs.Tables.{IsTable, IsSignatureOf};
@@ -35,17 +34,6 @@ use cc_defs::{
 };
 use cc_sorts::Table;
 use std::alloc::Global;
-
-pub(crate) fn past(limit: LimitAt) -> Fault
-    ensures { result ≡ faults.Refused (refusal_past limit) }
-{
-    Fault::Refused(Refusal {
-        number: 14,
-        file: 0,
-        line: 0,
-        limit: Some(limit),
-    })
-}
 
 /// The head that a constant has a value.
 fn head_of_sides(left: Side<'_>, right: Side<'_>) -> Result<Option<GroundHead>, OutOfMemory>
@@ -259,13 +247,13 @@ fn ground_laws<'a>(
 {
     let actions = boolean_actions_of(alloc, table, sig)?;
     if count_all(table, sig, &actions, laws.items()) > LimitAt::LawInstances.number() as usize {
-        return Err(past(LimitAt::LawInstances));
+        return Err(Fault::Refused(Refusal::past(LimitAt::LawInstances)));
     }
     let mut made = Vec::new(alloc);
     let mut maker = Maker::new(alloc, table, sig, LimitAt::GroundNodes.number() as usize);
     match maker.add_all(alloc, *terms, &mut made, &actions, laws.items()) {
         Ok(()) => Ok(Laws::of(made)),
-        Err(Halt::Full) => Err(past(LimitAt::GroundNodes)),
+        Err(Halt::Full) => Err(Fault::Refused(Refusal::past(LimitAt::GroundNodes))),
         Err(Halt::OutOfMemory) => Err(Fault::OutOfMemory),
     }
 }

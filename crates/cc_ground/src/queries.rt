@@ -15,12 +15,11 @@ ghost use Rattle.cc_arena.specs.GroundViews.{plain_ground_condition, plain_groun
 ghost use Rattle.cc_ground.specs.Views.{AreSearchable, IsLike, LacksRoom, universe_in, universe_of};
 ghost use Rattle.cc_sorts.specs.Tables.{IsSignatureFor};
 
-use crate::instances::past;
 use crate::laws::declared_have_own_values;
 use crate::maker::{Halt, Maker};
 use cc_arena::laws::{ground_queries_fit, ground_queries_mean_queries};
 use cc_arena::{GroundCondition, GroundQuery, Terms};
-use cc_defs::{Condition, Fault, LimitAt, List, Query, Sig};
+use cc_defs::{Condition, Fault, LimitAt, List, Query, Refusal, Sig};
 use cc_sorts::Table;
 use std::alloc::Global;
 
@@ -140,7 +139,7 @@ pub fn ground_query<'a>(
     let mut maker = Maker::new(alloc, table, sig, LimitAt::GroundNodes.number() as usize);
     match maker.query(alloc, *terms, range, query) {
         Ok(made) => Ok(made),
-        Err(Halt::Full) => Err(past(LimitAt::GroundNodes)),
+        Err(Halt::Full) => Err(Fault::Refused(Refusal::past(LimitAt::GroundNodes))),
         Err(Halt::OutOfMemory) => Err(Fault::OutOfMemory),
     }
 }

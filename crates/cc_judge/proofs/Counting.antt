@@ -1,22 +1,24 @@
 -- How many lines and blocks there are: no more than bytes.
-use Rattle.std.proofs.Common.{◌≡◌, ◌∙◌, ℕ, ◌+◌, ◌<◌, ◌≤◌, ◌⊎◌, Bool, true, false, inl, inr, zero, suc, List, [], ◌∷◌, ◌++◌, length, drop, slice_get, Some, refl, subst, ap, arith, length-append}
+use Rattle.std.proofs.Common.{◌≡◌, ◌∙◌, ℕ, ◌+◌, ◌<◌, ◌≤◌, ◌⊎◌, Bool, true, false, inl, inr, zero, suc, List, [], ◌∷◌, ◌++◌, length, drop, slice_get, Some, refl, sym, subst, ap, arith, length-append}
 use Rattle.std.specs.Prelude.{◌==◌, if◌then◌else◌, Contains}
-use Rattle.cc_check.specs.declared.judge.Verdict.{Verdict}
-use Rattle.cc_check.specs.declared.judge.Verdict.TheVariants as findings
-use Rattle.cc_check.specs.Clauses.{finding_of}
+use Rattle.cc_check.specs.declared.judge.Finding.{Finding as Found}
+use Rattle.cc_check.specs.declared.judge.Finding.TheVariants as findings
+use Rattle.cc_check.specs.Clauses.{plain_finding}
 use Rattle.cc_check.specs.Splits.{Parts, IsSplit, IsSplitBehind, IsSplitOf}
+use Rattle.cc_defs.specs.declared.log.Cause.{Cause}
+use Rattle.cc_defs.specs.declared.log.Cause.TheVariants as causes
 use Rattle.cc_defs.specs.declared.log.EndWord.{EndWord}
 use Rattle.cc_defs.specs.declared.log.EndWord.TheVariants as words
 use Rattle.cc_defs.specs.declared.log.LogLine.TheVariants as lines
 use Rattle.cc_defs.specs.Clauses.{Literal}
 use Rattle.cc_defs.specs.LogTexts.{before_lines, header, lines_in}
 use Rattle.cc_defs.specs.Logs.{SectionText, Standing, AreSections}
-use Rattle.cc_defs.specs.Sections.{Axioms, Finding, Right, Wrong, IsEnded, IsFound, row_denial}
+use Rattle.cc_defs.specs.Sections.{Axioms, Finding, Right, Trailed, Wrong, IsEnded, IsFound, row_denial}
 use Rattle.cc_judge.specs.declared.standing.Next.{Next}
 use Rattle.cc_judge.specs.declared.standing.Next.TheVariants as nexts
 use Rattle.cc_judge.specs.declared.standing.Standing.{Standing as Held}
 use Rattle.cc_judge.specs.Judging.{HasSections}
-use Rattle.cc_judge.specs.Standings.{AreFew, HasRoom, IsBehind, IsBehindFinding, IsEarly, IsForward}
+use Rattle.cc_judge.specs.Standings.{AreFew, HasRoom, IsBehind, IsBehindFinding, IsBehindTrail, IsEarly, IsForward}
 
 -- ---- within a section
 
@@ -26,33 +28,61 @@ ended other blocks line [] word count end_line is = (cc, cc, cc)
 ended other blocks line (text ∷ texts) word count end_line (inl (none, is)) = absurd cc
 ended other blocks line (text ∷ texts) word count end_line (inr (read, is)) = absurd cc
 
-module _ (axioms : Axioms) (word : EndWord) (count end_line : ℕ) where
-  pub found_few : (before : List (List Literal)) (blocks line : ℕ) (texts : List (List ℕ)) → IsFound axioms before blocks line texts (Right word count end_line) →
-      (count ≤ blocks + length texts) × (end_line < line + length texts)
-  found_few before blocks line [] is = absurd cc
-  found_few before blocks line (text ∷ texts) (inl (none, is)) = absurd cc
-  found_few before blocks line (text ∷ texts) (inr (lines.Section conditions horizon, read, is)) = absurd cc
-  found_few before blocks line (text ∷ texts) (inr (lines.End other, read, inl (right, is))) =
-      let same = ended other blocks line texts word count end_line is in
-      let counts = same.1 in let ends = same.2 in (omega arith, omega arith)
-  found_few before blocks line (text ∷ texts) (inr (lines.End other, read, inr (wrong, is))) = absurd cc
-  found_few before blocks line (text ∷ texts) (inr (lines.Derived clause chain, read, inl (there, is))) = absurd cc
-  found_few before blocks line (text ∷ texts) (inr (lines.Derived clause chain, read, inr (inl (none, (reason, wrongly, is))))) = absurd cc
-  found_few before blocks line (text ∷ texts) (inr (lines.Derived clause chain, read, inr (inr (none, is_clause, over, reached, goes)))) =
-      let rest = found_few (before ++ clause ∷ []) blocks (line + 1) texts goes in
-      let counts = rest.0 in let ends = rest.1 in (omega arith, omega arith)
-  found_few before blocks line (text ∷ texts) (inr (lines.Block row, read, inl (there, is))) = absurd cc
-  found_few before blocks line (text ∷ texts) (inr (lines.Block row, read, inr (inl (none, wrong, is)))) = absurd cc
-  found_few before blocks line (text ∷ texts) (inr (lines.Block row, read, inr (inr (none, is_row, goes)))) =
-      let rest = found_few (before ++ row_denial axioms.sizes row ∷ []) (blocks + 1) (line + 1) texts goes in
-      let counts = rest.0 in let ends = rest.1 in (omega arith, omega arith)
+-- no more blocks than lines, and the end is one of the lines
+abbrev IsCounted : (blocks line : ℕ) → List (List ℕ) → Finding → Type 0
+IsCounted blocks line texts (Right word count end_line) = (count ≤ blocks + length texts) × (end_line < line + length texts)
+IsCounted blocks line texts (Trailed word end_line reason) = end_line < line + length texts
+IsCounted blocks line texts (Wrong at reason) = Unit {0}
 
-pub room_for : (axioms : Axioms) (blocked : ℕ) (section : SectionText) (verdict : Verdict) → IsEarly blocked section →
-    IsFound axioms axioms.clauses 0 (section.line + 1) section.texts (finding_of verdict) → HasRoom blocked verdict
-room_for axioms blocked section (findings.Right word count end_line) early found =
-    let few = found_few axioms word count end_line axioms.clauses 0 (section.line + 1) section.texts found in
+counted_one_more : (blocks line : ℕ) (text : List ℕ) (texts : List (List ℕ)) (finding : Finding) → IsCounted blocks (line + 1) texts finding → IsCounted blocks line (text ∷ texts) finding
+counted_one_more blocks line text texts (Right word count end_line) is = let counts = is.0 in let ends = is.1 in (omega arith, omega arith)
+counted_one_more blocks line text texts (Trailed word end_line reason) is = omega arith
+counted_one_more blocks line text texts (Wrong at reason) is = tt
+
+counted_block_more : (blocks line : ℕ) (text : List ℕ) (texts : List (List ℕ)) (finding : Finding) → IsCounted (blocks + 1) (line + 1) texts finding →
+    IsCounted blocks line (text ∷ texts) finding
+counted_block_more blocks line text texts (Right word count end_line) is = let counts = is.0 in let ends = is.1 in (omega arith, omega arith)
+counted_block_more blocks line text texts (Trailed word end_line reason) is = omega arith
+counted_block_more blocks line text texts (Wrong at reason) is = tt
+
+module _ (axioms : Axioms) (finding : Finding) where
+  wrong_counted : (blocks line at : ℕ) (reason : Cause) (texts : List (List ℕ)) → finding ≡ Wrong at reason → IsCounted blocks line texts finding
+  wrong_counted blocks line at reason texts is = subst (IsCounted blocks line texts) (sym is) tt
+
+  trail_counted : (blocks line : ℕ) (word : EndWord) (reason : Cause) (text : List ℕ) (texts : List (List ℕ)) → finding ≡ Trailed word line reason →
+      IsCounted blocks line (text ∷ texts) finding
+  trail_counted blocks line word reason text texts is = subst (IsCounted blocks line (text ∷ texts)) (sym is) (omega arith)
+
+  end_counted : (other : EndWord) (blocks line : ℕ) (text : List ℕ) (texts : List (List ℕ)) → IsEnded other blocks line texts finding → IsCounted blocks line (text ∷ texts) finding
+  end_counted other blocks line text [] is = subst (IsCounted blocks line (text ∷ [])) (sym is) (omega arith, omega arith)
+  end_counted other blocks line text (next ∷ texts) (inl (none, is)) = trail_counted blocks line other causes.Form text (next ∷ texts) is
+  end_counted other blocks line text (next ∷ texts) (inr (read, is)) = trail_counted blocks line other causes.Section text (next ∷ texts) is
+
+  pub found_counted : (before : List (List Literal)) (blocks line : ℕ) (texts : List (List ℕ)) → IsFound axioms before blocks line texts finding → IsCounted blocks line texts finding
+  found_counted before blocks line [] is = wrong_counted blocks line line causes.Section [] is
+  found_counted before blocks line (text ∷ texts) (inl (none, is)) = wrong_counted blocks line line causes.Form (text ∷ texts) is
+  found_counted before blocks line (text ∷ texts) (inr (lines.Section conditions horizon, read, is)) = wrong_counted blocks line line causes.Section (text ∷ texts) is
+  found_counted before blocks line (text ∷ texts) (inr (lines.End other, read, inl (right, is))) = end_counted other blocks line text texts is
+  found_counted before blocks line (text ∷ texts) (inr (lines.End other, read, inr (wrong, is))) = wrong_counted blocks line line causes.Section (text ∷ texts) is
+  found_counted before blocks line (text ∷ texts) (inr (lines.Derived clause chain, read, inl (there, is))) = wrong_counted blocks line line causes.Section (text ∷ texts) is
+  found_counted before blocks line (text ∷ texts) (inr (lines.Derived clause chain, read, inr (inl (none, (reason, wrongly, is))))) =
+      wrong_counted blocks line line reason (text ∷ texts) is
+  found_counted before blocks line (text ∷ texts) (inr (lines.Derived clause chain, read, inr (inr (none, is_clause, over, reached, goes)))) =
+      counted_one_more blocks line text texts finding (found_counted (before ++ clause ∷ []) blocks (line + 1) texts goes)
+  found_counted before blocks line (text ∷ texts) (inr (lines.Block row, read, inl (there, is))) = wrong_counted blocks line line causes.Section (text ∷ texts) is
+  found_counted before blocks line (text ∷ texts) (inr (lines.Block row, read, inr (inl (none, wrong, is)))) = wrong_counted blocks line line causes.Row (text ∷ texts) is
+  found_counted before blocks line (text ∷ texts) (inr (lines.Block row, read, inr (inr (none, is_row, goes)))) =
+      counted_block_more blocks line text texts finding (found_counted (before ++ row_denial axioms.sizes row ∷ []) (blocks + 1) (line + 1) texts goes)
+
+pub room_for : (axioms : Axioms) (blocked : ℕ) (section : SectionText) (found : Found) → IsEarly blocked section →
+    IsFound axioms axioms.clauses 0 (section.line + 1) section.texts (plain_finding found) → HasRoom blocked found
+room_for axioms blocked section (findings.Right word count end_line) early is =
+    let few = found_counted axioms (Right word count end_line) axioms.clauses 0 (section.line + 1) section.texts is in
     let counts = few.0 in let ends = few.1 in let first = early.0 in let last = early.1 in (omega arith, omega arith)
-room_for axioms blocked section (findings.Refused line reason) early found = tt
+room_for axioms blocked section (findings.Trailed word end_line reason) early is =
+    let ends = found_counted axioms (Trailed word end_line reason) axioms.clauses 0 (section.line + 1) section.texts is in
+    let last = early.1 in omega arith
+room_for axioms blocked section (findings.Wrong line reason) early is = tt
 
 -- ---- behind it
 
@@ -66,12 +96,22 @@ moved standing false words.Found blocks line held is = absurd cc
 moved standing true words.Spent blocks line held is = absurd cc
 moved standing false words.Spent blocks line held is = absurd cc
 
+-- where a wrong line stands behind its end, nothing goes on
+pub trail_stays : (conditions : Bool) (word : EndWord) (line : ℕ) (reason : Cause) (held : Held) → IsBehindTrail conditions word line reason (nexts.Goes held) → ⊥
+trail_stays true words.Empty line reason held is = absurd cc
+trail_stays false words.Empty line reason held is = absurd cc
+trail_stays true words.Found line reason held is = absurd cc
+trail_stays false words.Found line reason held is = absurd cc
+trail_stays true words.Spent line reason held is = absurd cc
+trail_stays false words.Spent line reason held is = absurd cc
+
 pub forward : (axioms : Axioms) (standing : Standing) (section : SectionText) (conditions : Bool) (finding : Finding) (next : Next) → IsEarly standing.blocked section →
     IsFound axioms axioms.clauses 0 (section.line + 1) section.texts finding → IsBehindFinding standing conditions finding next → IsForward standing section next
 forward axioms standing section conditions finding (nexts.Wrong line reason) early found is = tt
 forward axioms standing section conditions (Wrong line reason) (nexts.Goes held) early found is = absurd cc
+forward axioms standing section conditions (Trailed word line reason) (nexts.Goes held) early found is = absurd (trail_stays conditions word line reason held is)
 forward axioms standing section conditions (Right word count end_line) (nexts.Goes held) early found is =
-    let few = found_few axioms word count end_line axioms.clauses 0 (section.line + 1) section.texts found in
+    let few = found_counted axioms (Right word count end_line) axioms.clauses 0 (section.line + 1) section.texts found in
     let first = early.0 in let counts = few.0 in
     let both = moved standing conditions word count end_line held is in
     let more = both.0 in

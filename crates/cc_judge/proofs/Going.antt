@@ -13,7 +13,7 @@ use Rattle.cc_defs.specs.declared.refusal.Refusal.{Refusal}
 use Rattle.cc_defs.specs.Description.{Description}
 use Rattle.cc_defs.specs.GroundLaws.{PlainGroundQuery, StandsForQuery}
 use Rattle.cc_defs.specs.Histories.{IsHistory}
-use Rattle.cc_defs.specs.Logs.{SectionText, Standing, AreJudged, IsVerdict, at_first}
+use Rattle.cc_defs.specs.Logs.{SectionText, Standing, IsVerdict, at_first}
 use Rattle.cc_defs.specs.Resolved.{Query}
 use Rattle.cc_defs.specs.Runs.{first_horizon}
 use Rattle.cc_defs.specs.Signatures.{Signature}
@@ -24,14 +24,16 @@ use Rattle.cc_query.specs.Sessions.{first_at}
 use Rattle.cc_theory.specs.Theories.{AreLawsOf}
 use Rattle.cc_judge.specs.declared.standing.Next.TheVariants as nexts
 use Rattle.cc_judge.specs.declared.standing.Standing.{Standing as Held}
-use Rattle.cc_judge.specs.Judging.{BlocksHistories, IsJudgeFault, ReachesLimit, limit_of}
+use Rattle.cc_judge.specs.Judging.{AreJudgedWithin, BlocksHistories, IsJudgeFault, IsVerdictWithin, ReachesLimit, limit_of}
 use Rattle.cc_judge.specs.Standings.{AreAllDenied, AreFew, IsClosedAt, IsDeniedIn, IsEarly, IsFaultOn, IsForward, IsJudgedTo, IsPassed, IsSectionFault, IsVerdictOn, row_of, seen}
 use Rattle.cc_judge.proofs.Counting.{AreLeft, early, from_index, has_sections, is_there, left_at_first, left_behind}
 use Rattle.cc_judge.proofs.Placing.{first_is}
+use Rattle.cc_judge.proofs.Within.{judged_of_within}
 
 -- What is found of the sections that are left is found of all, and each history of a horizon that is done with is blocked.
 pub record ArePassed (d : Description) (q : Query) (key : Option Key) (sections : List SectionText) (standing : Standing) (left : List SectionText) : Type 0 where
-  pub judged : (verdict : LogVerdict) → AreJudged (subject_of d q key) standing left verdict → AreJudged (subject_of d q key) (at_first (subject_of d q key)) sections verdict
+  pub within : (verdict : LogVerdict) → AreJudgedWithin (subject_of d q key) (limit_of d q key) standing left verdict →
+      AreJudgedWithin (subject_of d q key) (limit_of d q key) (at_first (subject_of d q key)) sections verdict
   pub limited : (refusal : Refusal) → ReachesLimit (subject_of d q key) (limit_of d q key) standing left refusal →
       ReachesLimit (subject_of d q key) (limit_of d q key) (at_first (subject_of d q key)) sections refusal
   pub denied : (horizon : ℕ) (row : List ℕ) → first_horizon q key ≤ horizon → horizon < standing.horizon → IsHistory d q horizon (row_of key) row →
@@ -42,7 +44,7 @@ pub record ArePassed (d : Description) (q : Query) (key : Option Key) (sections 
 module _ (d : Description) (q : Query) (key : Option Key) (sections : List SectionText) where
   pub passed_first : (standing : Standing) → standing ≡ at_first (subject_of d q key) → ArePassed d q key sections standing sections
   passed_first standing is = record {
-    judged = λ verdict h. subst (λ (s : Standing). AreJudged (subject_of d q key) s sections verdict) is h;
+    within = λ verdict h. subst (λ (s : Standing). AreJudgedWithin (subject_of d q key) (limit_of d q key) s sections verdict) is h;
     limited = λ refusal h. subst (λ (s : Standing). ReachesLimit (subject_of d q key) (limit_of d q key) s sections refusal) is h;
     denied = λ horizon row low high history. (let same : standing.horizon ≡ first_horizon q key = ap (λ (s : Standing). s.horizon) is in absurd (omega arith));
   }
@@ -50,7 +52,7 @@ module _ (d : Description) (q : Query) (key : Option Key) (sections : List Secti
   pub passed_more : (standing next : Standing) (section : SectionText) (left : List SectionText) → Contains sections section → ArePassed d q key sections standing (section ∷ left) →
       IsPassed d q key standing section next → ArePassed d q key sections next left
   passed_more standing next section left there so_far passes = record {
-    judged = λ verdict h. so_far.judged verdict (passes.judged left verdict h);
+    within = λ verdict h. so_far.within verdict (passes.within left verdict h);
     limited = λ refusal h. so_far.limited refusal (passes.limited left refusal h);
     denied = λ horizon row low high history. elim (passes.denied horizon row high history) [
       | inl before ↦ so_far.denied horizon row low before history
@@ -60,7 +62,7 @@ module _ (d : Description) (q : Query) (key : Option Key) (sections : List Secti
 
   pub passed_wrong : (standing : Standing) (section : SectionText) (left : List SectionText) (line : ℕ) (reason : Cause) → ArePassed d q key sections standing (section ∷ left) →
       IsJudgedTo d q key standing section (nexts.Wrong line reason) → IsVerdictOn d q key sections (verdicts.Refused line reason)
-  passed_wrong standing section left line reason so_far wrong = (so_far.judged (verdicts.Refused line reason) (wrong left), tt)
+  passed_wrong standing section left line reason so_far wrong = (so_far.within (verdicts.Refused line reason) (wrong left), tt)
 
   pub passed_fault : (standing : Standing) (section : SectionText) (left : List SectionText) (fault : Fault) → ArePassed d q key sections standing (section ∷ left) →
       IsSectionFault d q key standing section fault → IsFaultOn d q key sections fault
@@ -82,7 +84,7 @@ module _ (d : Description) (q : Query) (key : Option Key) (sections : List Secti
   pub passed_all : (standing : Standing) (first : ℕ) (verdict : LogVerdict) → first ≡ first_horizon q key → first ≤ standing.horizon → ArePassed d q key sections standing [] →
       IsClosedAt first standing verdict → IsVerdictOn d q key sections verdict
   passed_all standing first verdict first_same most so_far closed = (
-    so_far.judged verdict (subst (λ (n : ℕ). IsClosedAt n standing verdict) first_same closed),
+    so_far.within verdict (subst (λ (n : ℕ). IsClosedAt n standing verdict) first_same closed),
     closed_denied standing first verdict first_same most so_far closed,
   )
 
@@ -142,7 +144,11 @@ module _ (signature : Signature) (laws : List GroundLaw) (query : PlainGroundQue
 
 module _ (d : Description) (q : Query) (key : Option Key) (bytes : List ℕ) (sections : List SectionText) (split : IsSplit bytes (Parts sections)) where
   pub whole_verdict : SectionsGiveVerdicts → (verdict : LogVerdict) → IsVerdictOn d q key sections verdict → IsVerdict (subject_of d q key) bytes verdict
-  whole_verdict law verdict is = law (subject_of d q key) bytes sections verdict split is.0
+  whole_verdict law verdict is =
+      law (subject_of d q key) bytes sections verdict split (judged_of_within (subject_of d q key) (limit_of d q key) (at_first (subject_of d q key)) sections verdict is.0)
+
+  whole_within : (verdict : LogVerdict) → IsVerdictOn d q key sections verdict → IsVerdictWithin d q key bytes verdict
+  whole_within verdict is = inr (sections, has_sections bytes sections split, is.0)
 
   pub whole_blocks : (verdict : LogVerdict) → IsVerdictOn d q key sections verdict → BlocksHistories d q key bytes verdict
   whole_blocks (verdicts.Accepted first last blocked) is = λ horizon row low high history.
@@ -153,6 +159,10 @@ module _ (d : Description) (q : Query) (key : Option Key) (bytes : List ℕ) (se
   pub ok_verdict : SectionsGiveVerdicts → (result : Result LogVerdict Fault) → IfOk result (IsVerdictOn d q key sections) → IfOk result (IsVerdict (subject_of d q key) bytes)
   ok_verdict law (Ok verdict) is = whole_verdict law verdict is
   ok_verdict law (Err fault) is = tt
+
+  pub ok_within : (result : Result LogVerdict Fault) → IfOk result (IsVerdictOn d q key sections) → IfOk result (IsVerdictWithin d q key bytes)
+  ok_within (Ok verdict) is = whole_within verdict is
+  ok_within (Err fault) is = tt
 
   pub ok_blocks : (result : Result LogVerdict Fault) → IfOk result (IsVerdictOn d q key sections) → IfOk result (BlocksHistories d q key bytes)
   ok_blocks (Ok verdict) is = whole_blocks verdict is

@@ -3,3 +3,4 @@ mod Counting
 mod Going
 mod Passing
 mod Placing
+mod Within

@@ -1,5 +1,5 @@
 -- What a section in its place does to the verdict of a log.
-use Rattle.std.proofs.Common.{◌≡◌, ◌∙◌, ℕ, ◌+◌, ◌<◌, ◌⊎◌, inl, inr, Bool, true, false, not, List, Option, Result, Ok, Err, Bor, refl, sym, subst, ap, arith, option_map}
+use Rattle.std.proofs.Common.{◌≡◌, ◌∙◌, ℕ, ◌+◌, ◌<◌, ◌⊎◌, inl, inr, Bool, true, false, not, List, Option, None, Result, Ok, Err, Bor, refl, sym, subst, ap, arith, option_map}
 use Rattle.std.specs.Prelude.{IfErr}
 use Rattle.std.specs.Result.{IsErrAnd}
 use Rattle.std.proofs.lemmas.Bool.{cases_lt}
@@ -17,20 +17,20 @@ use Rattle.cc_defs.specs.declared.refusal.Fault.TheVariants as faults
 use Rattle.cc_defs.specs.Description.{Description}
 use Rattle.cc_defs.specs.GroundLaws.{PlainGroundQuery, StandsForQuery}
 use Rattle.cc_defs.specs.Histories.{IsHistory}
-use Rattle.cc_defs.specs.Logs.{SectionText, Standing, AreJudged, IsContinued, IsNext}
+use Rattle.cc_defs.specs.Logs.{SectionText, Standing, IsContinued, IsFollowed, IsNext, IsTrailed}
 use Rattle.cc_defs.specs.Refusals.{IsRefusedBy}
 use Rattle.cc_defs.specs.Resolved.{Query}
-use Rattle.cc_defs.specs.Sections.{Axioms, Finding, Right, Wrong, IsFound}
+use Rattle.cc_defs.specs.Sections.{Axioms, Finding, Right, Trailed, Wrong, IsFound}
 use Rattle.cc_form.specs.Forms.{TellsHistories, asked, form_of}
 use Rattle.cc_query.specs.Accepted.{subject_of}
 use Rattle.cc_query.specs.Sessions.{refusal_at}
 use Rattle.cc_judge.specs.declared.standing.Next.{Next}
 use Rattle.cc_judge.specs.declared.standing.Next.TheVariants as nexts
 use Rattle.cc_judge.specs.declared.standing.Standing.{Standing as Held}
-use Rattle.cc_judge.specs.Judging.{GoesOnBehind, ReachesLimit, limit_of}
-use Rattle.cc_judge.specs.Standings.{IsBehind, IsBehindFinding, IsJudgedTo, IsPlaced, IsRowDenied, IsSectionFault, row_of, seen}
+use Rattle.cc_judge.specs.Judging.{AreJudgedWithin, GoesOnBehind, ReachesLimit, limit_of}
+use Rattle.cc_judge.specs.Standings.{IsBehind, IsBehindFinding, IsBehindTrail, IsJudgedTo, IsPlaced, IsRowDenied, IsSectionFault, row_of, seen}
 use Rattle.cc_judge.proofs.Blocking.{history_blocked}
-use Rattle.cc_judge.proofs.Counting.{moved}
+use Rattle.cc_judge.proofs.Counting.{moved, trail_stays}
 use Rattle.cc_judge.proofs.Placing.{next_of, tells_rows}
 
 -- ---- what follows the end of a section
@@ -61,6 +61,21 @@ stopped Goes standing true words.Found blocks line at reason is = absurd is
 stopped Goes standing false words.Found blocks line at reason is = cc
 stopped Goes standing true words.Spent blocks line at reason is = cc
 stopped Goes standing false words.Spent blocks line at reason is = cc
+
+trailed : (conditions : Bool) (word : EndWord) (line : ℕ) (because : Cause) (at : ℕ) (reason : Cause) → IsBehindTrail conditions word line because (nexts.Wrong at reason) →
+    IsTrailed conditions word line because (verdicts.Refused at reason)
+trailed true words.Empty line because at reason is = cc
+trailed false words.Empty line because at reason is = cc
+trailed true words.Found line because at reason is = cc
+trailed false words.Found line because at reason is = cc
+trailed true words.Spent line because at reason is = cc
+trailed false words.Spent line because at reason is = cc
+
+followed : (Goes : Standing → Type 0) (standing : Standing) (conditions : Bool) (finding : Finding) (at : ℕ) (reason : Cause) →
+    IsBehindFinding standing conditions finding (nexts.Wrong at reason) → IsFollowed Goes standing conditions finding (verdicts.Refused at reason)
+followed Goes standing conditions (Right word blocks line) at reason is = stopped Goes standing conditions word blocks line at reason is
+followed Goes standing conditions (Trailed word line because) at reason is = trailed conditions word line because at reason is
+followed Goes standing conditions (Wrong line because) at reason is = cc
 
 module _ (d : Description) (q : Query) (key : Option Key) (standing : Standing) (section : SectionText) where
   -- ---- a section out of its place, and one that passes a limit
@@ -98,36 +113,42 @@ module _ (sound : ResolventsAreSound) (leaves : DenialLeavesOthers) (d : Descrip
         ])
       ]
 
-  pub in_place : IsNext (subject_of d q key) standing section → TellsHistories d (asked (not section.conditions) q) section.horizon (row_of key) axioms →
+  pub in_place : IsNext (subject_of d q key) standing section → limit_of d q key section.conditions section.horizon ≡ None →
+      TellsHistories d (asked (not section.conditions) q) section.horizon (row_of key) axioms →
       (finding : Finding) (next : Next) → IsFound axioms axioms.clauses 0 (section.line + 1) section.texts finding →
       IsBehindFinding standing section.conditions finding next → IsJudgedTo d q key standing section next
-  in_place at tells (Wrong line reason) (nexts.Goes held) found is = absurd cc
-  in_place at tells (Wrong line reason) (nexts.Wrong other because) found is = λ sections. inr (at, (Wrong line reason, found, cc))
-  in_place at tells (Right word blocks line) (nexts.Wrong other because) found is = λ sections.
+  in_place at none tells finding (nexts.Wrong other because) found is = λ sections.
       inr (
         at,
+        none,
         (
-          Right word blocks line,
+          finding,
           found,
-          stopped (λ after. AreJudged (subject_of d q key) after sections (verdicts.Refused other because)) standing section.conditions word blocks line other because is,
+          followed (λ after. AreJudgedWithin (subject_of d q key) (limit_of d q key) after sections (verdicts.Refused other because)) standing section.conditions finding other because is,
         ),
       )
-  in_place at tells (Right word blocks line) (nexts.Goes held) found is = record {
-    judged = λ sections verdict behind.
+  in_place at none tells (Wrong line reason) (nexts.Goes held) found is = absurd cc
+  in_place at none tells (Trailed word line reason) (nexts.Goes held) found is = absurd (trail_stays section.conditions word line reason held is)
+  in_place at none tells (Right word blocks line) (nexts.Goes held) found is = record {
+    within = λ sections verdict behind.
         inr (
           at,
+          none,
           (
             Right word blocks line,
             found,
-            continued (λ after. AreJudged (subject_of d q key) after sections verdict) standing section.conditions word blocks line verdict held is behind,
+            continued (λ after. AreJudgedWithin (subject_of d q key) (limit_of d q key) after sections verdict) standing section.conditions word blocks line verdict held is behind,
           ),
         );
     limited = λ sections refusal behind. (
       at,
       inr (
-        Right word blocks line,
-        found,
-        goes_on (λ after. ReachesLimit (subject_of d q key) (limit_of d q key) after sections refusal) standing section.conditions word blocks line held is behind,
+        none,
+        (
+          Right word blocks line,
+          found,
+          goes_on (λ after. ReachesLimit (subject_of d q key) (limit_of d q key) after sections refusal) standing section.conditions word blocks line held is behind,
+        ),
       ),
     );
     denied = denied at tells word blocks line held found is;
@@ -153,15 +174,18 @@ section_at_limit query d q stands after standing section horizon conditions faul
 pub section_judged : (sound : ResolventsAreSound) (leaves : DenialLeavesOthers) (query : PlainGroundQuery) (d : Description) (q : Query) (stands : StandsForQuery query d q)
     (after : Option (Bor Key)) (standing : Standing) (section : SectionText) (horizon : ℕ) (conditions again : Bool) (form : Axioms) (finding : Finding) (next : Next) →
     horizon ≡ section.horizon → conditions ≡ section.conditions → again ≡ section.conditions → IsPlaced query (key_of after) standing section →
-    form ≡ form_of d q horizon (not conditions) (key_of after) →
+    form ≡ form_of d q horizon (not conditions) (key_of after) → refusal_at d q horizon (not conditions) (key_of after) ≡ None →
     TellsHistories d (asked (not conditions) q) horizon (option_map (λ (key : Bor Key). key.now.row) after) (form_of d q horizon (not conditions) (key_of after)) →
     IsFound form form.clauses 0 (section.line + 1) section.texts finding → IsBehindFinding standing again finding next → IsJudgedTo d q (key_of after) standing section next
-section_judged sound leaves query d q stands after standing section horizon conditions again form finding next horizon_is conditions_is again_is placed made tells found behind =
+section_judged sound leaves query d q stands after standing section horizon conditions again form finding next horizon_is conditions_is again_is placed made none tells found behind =
     let form_is : form ≡ form_of d q section.horizon (not section.conditions) (key_of after) =
     made ∙ ap (λ (n : ℕ). form_of d q n (not conditions) (key_of after)) horizon_is ∙ ap (λ (b : Bool). form_of d q section.horizon (not b) (key_of after)) conditions_is in
     let found_here = subst (λ (f : Axioms). IsFound f f.clauses 0 (section.line + 1) section.texts finding) form_is found in
     let tells_there = subst (λ (n : ℕ). TellsHistories d (asked (not conditions) q) n (option_map (λ (key : Bor Key). key.now.row) after) (form_of d q n (not conditions) (key_of after))) horizon_is tells in
     let tells_here = subst (λ (b : Bool). TellsHistories d (asked (not b) q) section.horizon (option_map (λ (key : Bor Key). key.now.row) after) (form_of d q section.horizon (not b) (key_of after))) conditions_is tells_there in
-    in_place sound leaves d q (key_of after) standing section (next_of query d q stands (key_of after) standing section placed)
+    let none_here : limit_of d q (key_of after) section.conditions section.horizon ≡ None =
+    subst (λ (b : Bool). refusal_at d q section.horizon (not b) (key_of after) ≡ None) conditions_is
+    (subst (λ (n : ℕ). refusal_at d q n (not conditions) (key_of after) ≡ None) horizon_is none) in
+    in_place sound leaves d q (key_of after) standing section (next_of query d q stands (key_of after) standing section placed) none_here
     (tells_rows d q section.horizon (not section.conditions) after tells_here) finding next found_here
     (subst (λ (b : Bool). IsBehindFinding standing b finding next) again_is behind)

@@ -1,8 +1,9 @@
 -- How far a log is judged, and what follows a section.
 use Rattle.std.specs.Prelude.{◌≡◌, ◌≢◌, ℕ, ◌+◌, ◌-◌, ◌<◌, ◌≤◌, ◌⊎◌, Bool, true, false, not, ◌&&◌, List, ◌∷◌, length, Option, option_map, is_some, Contains}
-use Rattle.cc_check.specs.declared.judge.Verdict.{Verdict}
-use Rattle.cc_check.specs.declared.judge.Verdict.TheVariants as findings
+use Rattle.cc_check.specs.declared.judge.Finding.{Finding as Found}
+use Rattle.cc_check.specs.declared.judge.Finding.TheVariants as findings
 use Rattle.cc_defs.specs.declared.lists.Key.{Key}
+use Rattle.cc_defs.specs.declared.log.Cause.{Cause}
 use Rattle.cc_defs.specs.declared.log.Cause.TheVariants as causes
 use Rattle.cc_defs.specs.declared.log.EndWord.{EndWord}
 use Rattle.cc_defs.specs.declared.log.EndWord.TheVariants as words
@@ -15,16 +16,17 @@ use Rattle.cc_defs.specs.declared.refusal.Refusal.{Refusal}
 use Rattle.cc_defs.specs.Description.{Description}
 use Rattle.cc_defs.specs.GroundLaws.{PlainGroundQuery}
 use Rattle.cc_defs.specs.Histories.{IsHistory}
+use Rattle.cc_defs.specs.Limits.{most_log_bytes}
 use Rattle.cc_defs.specs.LogTexts.{line_text}
-use Rattle.cc_defs.specs.Logs.{SectionText, Standing, AreJudged, AreSections, at_first, into_middle, next_horizon}
+use Rattle.cc_defs.specs.Logs.{SectionText, Standing, AreSections, at_first, into_middle, next_horizon}
 use Rattle.cc_defs.specs.Resolved.{Query}
-use Rattle.cc_defs.specs.Sections.{Finding, Right, Wrong}
+use Rattle.cc_defs.specs.Sections.{Finding, Right, Trailed, Wrong}
 use Rattle.cc_query.specs.Accepted.{subject_of}
 use Rattle.cc_query.specs.Sessions.{last_at}
 use Rattle.cc_judge.specs.declared.standing.Next.{Next}
 use Rattle.cc_judge.specs.declared.standing.Next.TheVariants as nexts
 use Rattle.cc_judge.specs.declared.standing.Standing.{Standing as Held}
-use Rattle.cc_judge.specs.Judging.{ReachesLimit, limit_of}
+use Rattle.cc_judge.specs.Judging.{AreJudgedWithin, ReachesLimit, limit_of}
 
 abbrev pub seen : Held → Standing
 seen held = record { middle = held.middle; horizon = held.horizon; blocked = held.blocked; line = held.line }
@@ -46,14 +48,23 @@ IsBehind standing true words.Found blocks line next = GoesTo (into_middle standi
 IsBehind standing false words.Found blocks line next = next ≡ nexts.Wrong line causes.NotRefuted
 IsBehind standing conditions words.Spent blocks line next = next ≡ nexts.Wrong line causes.NotRefuted
 
+-- what is wrong where a section ends with this word on this line, and a line that is wrong for this cause stands behind it
+abbrev pub IsBehindTrail : (conditions : Bool) → EndWord → ℕ → Cause → Next → Type 0
+IsBehindTrail conditions words.Empty line reason next = next ≡ nexts.Wrong (line + 1) reason
+IsBehindTrail true words.Found line reason next = next ≡ nexts.Wrong (line + 1) reason
+IsBehindTrail false words.Found line reason next = next ≡ nexts.Wrong line causes.NotRefuted
+IsBehindTrail conditions words.Spent line reason next = next ≡ nexts.Wrong line causes.NotRefuted
+
 abbrev pub IsBehindFinding : Standing → (conditions : Bool) → Finding → Next → Type 0
 IsBehindFinding standing conditions (Right word blocks line) next = IsBehind standing conditions word blocks line next
+IsBehindFinding standing conditions (Trailed word line reason) next = IsBehindTrail conditions word line reason next
 IsBehindFinding standing conditions (Wrong line reason) next = next ≡ nexts.Wrong line reason
 
 -- so many blocks were counted, and there is room for those of a section, and a line behind it
-abbrev pub HasRoom : ℕ → Verdict → Type 0
+abbrev pub HasRoom : ℕ → Found → Type 0
 HasRoom blocked (findings.Right ending blocks line) = (blocked + blocks ≤ 4294967295) × (line < 4294967295)
-HasRoom blocked (findings.Refused line reason) = Unit {0}
+HasRoom blocked (findings.Trailed ending line reason) = line < 4294967295
+HasRoom blocked (findings.Wrong line reason) = Unit {0}
 
 -- what closes a log, by its first horizon
 abbrev pub IsClosedAt : ℕ → Standing → LogVerdict → Type 0
@@ -70,10 +81,11 @@ IsRowDenied section horizon row = (section.horizon ≡ horizon) × Contains sect
 abbrev pub row_of : Option Key → Option (List ℕ)
 row_of key = option_map (λ low. low.row) key
 
--- What is found behind a right section is found before it, and it blocks each history of the horizon that it ends.
+-- What is found behind a right section is found before it, since it passes no limit; and it blocks each history of the horizon that
+-- it ends.
 pub record IsPassed (d : Description) (q : Query) (key : Option Key) (standing : Standing) (section : SectionText) (next : Standing) : Type 0 where
-  pub judged : (sections : List SectionText) (verdict : LogVerdict) → AreJudged (subject_of d q key) next sections verdict →
-      AreJudged (subject_of d q key) standing (section ∷ sections) verdict
+  pub within : (sections : List SectionText) (verdict : LogVerdict) → AreJudgedWithin (subject_of d q key) (limit_of d q key) next sections verdict →
+      AreJudgedWithin (subject_of d q key) (limit_of d q key) standing (section ∷ sections) verdict
   pub limited : (sections : List SectionText) (refusal : Refusal) → ReachesLimit (subject_of d q key) (limit_of d q key) next sections refusal →
       ReachesLimit (subject_of d q key) (limit_of d q key) standing (section ∷ sections) refusal
   pub denied : (horizon : ℕ) (row : List ℕ) → horizon < next.horizon → IsHistory d q horizon (row_of key) row →
@@ -82,7 +94,7 @@ pub record IsPassed (d : Description) (q : Query) (key : Option Key) (standing :
 abbrev pub IsJudgedTo : Description → Query → Option Key → Standing → SectionText → Next → Type 0
 IsJudgedTo d q key standing section (nexts.Goes held) = IsPassed d q key standing section (seen held)
 IsJudgedTo d q key standing section (nexts.Wrong line reason) =
-    (sections : List SectionText) → AreJudged (subject_of d q key) standing (section ∷ sections) (verdicts.Refused line reason)
+    (sections : List SectionText) → AreJudgedWithin (subject_of d q key) (limit_of d q key) standing (section ∷ sections) (verdicts.Refused line reason)
 
 -- the limit that it passes, or memory was wanting
 abbrev pub IsSectionFault : Description → Query → Option Key → Standing → SectionText → Fault → Type 0
@@ -94,7 +106,7 @@ IsSectionFault d q key standing section faults.OutOfMemory = Unit {0}
 
 -- so many blocks stand before the heading of a section, and its lines are not many
 abbrev pub IsEarly : ℕ → SectionText → Type 0
-IsEarly blocked section = (blocked ≤ section.line) × (section.line + length section.texts ≤ 268435458)
+IsEarly blocked section = (blocked ≤ section.line) × (section.line + length section.texts ≤ most_log_bytes + 2)
 
 -- the horizon does not go down, and no more blocks stand before the next heading than lines
 abbrev pub IsForward : Standing → SectionText → Next → Type 0
@@ -104,7 +116,7 @@ IsForward standing section (nexts.Wrong line reason) = Unit {0}
 -- ---- the sections of a log
 
 abbrev pub AreFew : List SectionText → Type 0
-AreFew sections = (texts : List (List ℕ)) × AreSections 2 texts sections × (length texts ≤ 268435456)
+AreFew sections = (texts : List (List ℕ)) × AreSections 2 texts sections × (length texts ≤ most_log_bytes)
 
 -- one of them blocks a row of a horizon
 abbrev pub IsDeniedIn : List SectionText → ℕ → List ℕ → Type 0
@@ -118,7 +130,7 @@ AreAllDenied d q key sections (verdicts.Refused line reason) = Unit {0}
 
 abbrev pub IsVerdictOn : Description → Query → Option Key → List SectionText → LogVerdict → Type 0
 IsVerdictOn d q key sections verdict =
-    AreJudged (subject_of d q key) (at_first (subject_of d q key)) sections verdict × AreAllDenied d q key sections verdict
+    AreJudgedWithin (subject_of d q key) (limit_of d q key) (at_first (subject_of d q key)) sections verdict × AreAllDenied d q key sections verdict
 
 abbrev pub IsFaultOn : Description → Query → Option Key → List SectionText → Fault → Type 0
 IsFaultOn d q key sections (faults.Refused refusal) =

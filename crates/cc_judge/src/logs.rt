@@ -3,10 +3,11 @@ ghost use Rattle.std.specs.Prelude.{◌≡◌, ℕ, ◌≤◌, IfErr, IfOk, IfSo
 ghost use Rattle.cc_arena.specs.GroundViews.{plain_ground_query};
 ghost use Rattle.cc_defs.specs.Description.{Description};
 ghost use Rattle.cc_defs.specs.GroundLaws.{StandsForQuery};
+ghost use Rattle.cc_defs.specs.Limits.{most_log_bytes, most_steps};
 ghost use Rattle.cc_defs.specs.Logs.{IsVerdict};
 ghost use Rattle.cc_defs.specs.Resolved.{Query};
 ghost use Rattle.cc_form.specs.Queries.{IsQueryAt};
-ghost use Rattle.cc_judge.specs.Judging.{BlocksHistories, IsJudgeFault};
+ghost use Rattle.cc_judge.specs.Judging.{BlocksHistories, IsJudgeFault, IsVerdictWithin};
 ghost use Rattle.cc_judge.specs.Standings.{AreFew, IsEarly, IsFaultOn, IsForward, IsJudgedTo, IsSectionFault, IsVerdictOn, seen};
 ghost use Rattle.cc_query.specs.Accepted.{subject_of};
 ghost use Rattle.cc_query.specs.Sessions.{Fits, first_at};
@@ -16,7 +17,7 @@ use crate::standing::{Next, Standing, closing, first_of, follow, is_next};
 use cc_arena::{GroundQuery, Laws};
 use cc_cdcl::laws::denial_leaves_others;
 use cc_check::laws::{misreads_are_verdicts, sections_give_verdicts};
-use cc_check::{CheckFault, Section, Sections, check};
+use cc_check::{CheckFault, Section, Sections, find};
 use cc_clauses::laws::resolvents_are_sound;
 use cc_defs::{Cause, Fault, Key, LogVerdict, Sig};
 use cc_query::form_at;
@@ -33,7 +34,7 @@ fn judge_section(
     section: &Section<'_>,
 ) -> Result<Next, Fault>
     requires laws { AreLawsFor sig.now laws.now }
-    requires most { query.now.hi ≤ 1000 }
+    requires most { query.now.hi ≤ most_steps }
     requires steps { (horizon : ℕ) → query.now.lo ≤ horizon → horizon ≤ query.now.hi → IsQueryAt sig.now horizon (plain_ground_query query.now) }
     requires key { IfSome after (λ key. Fits sig.now (plain_ground_query query.now) key.now) }
     requires first { first_at (plain_ground_query query.now) (option_map (λ key. key.now) after) ≤ standing.now.horizon }
@@ -61,8 +62,8 @@ fn judge_section(
         section.horizon(),
         !section.conditions(),
     )?;
-    let verdict = check(alloc, &form, section)?;
-    Ok(follow(standing, section.conditions(), verdict))
+    let finding = find(alloc, &form, section)?;
+    Ok(follow(standing, section.conditions(), finding))
 }
 
 // The verdict of a log that is split into its sections.
@@ -75,7 +76,7 @@ fn judge_sections(
     sections: &Sections<'_>,
 ) -> Result<LogVerdict, Fault>
     requires laws { AreLawsFor sig.now laws.now }
-    requires most { query.now.hi ≤ 1000 }
+    requires most { query.now.hi ≤ most_steps }
     requires steps { (horizon : ℕ) → query.now.lo ≤ horizon → horizon ≤ query.now.hi → IsQueryAt sig.now horizon (plain_ground_query query.now) }
     requires key { IfSome after (λ key. Fits sig.now (plain_ground_query query.now) key.now) }
     requires few { AreFew sections.now }
@@ -114,15 +115,18 @@ pub fn judge(
 ) -> Result<LogVerdict, Fault>
     requires laws { AreLawsFor sig.now laws.now }
     requires ordered { query.now.lo ≤ query.now.hi }
-    requires most { query.now.hi ≤ 1000 }
+    requires most { query.now.hi ≤ most_steps }
     requires steps { (horizon : ℕ) → query.now.lo ≤ horizon → horizon ≤ query.now.hi → IsQueryAt sig.now horizon (plain_ground_query query.now) }
     requires key { IfSome after (λ key. Fits sig.now (plain_ground_query query.now) key.now) }
-    requires few { length bytes.now ≤ 268435456 }
+    requires few { length bytes.now ≤ most_log_bytes }
     // It is the verdict of the log, and where that is accepted, each history of the log's horizons is blocked in it.
     ensures verdict { (d : Description) (q : Query) → AreLawsOf sig.now laws.now d → StandsForQuery (plain_ground_query query.now) d q →
         IfOk result (IsVerdict (subject_of d q (option_map (λ key. key.now) after.entry)) bytes.now) }
     ensures whole { (d : Description) (q : Query) → AreLawsOf sig.now laws.now d → StandsForQuery (plain_ground_query query.now) d q →
         IfOk result (BlocksHistories d q (option_map (λ key. key.now) after.entry) bytes.now) }
+    // No section that is judged for it passes a limit.
+    ensures within { (d : Description) (q : Query) → AreLawsOf sig.now laws.now d → StandsForQuery (plain_ground_query query.now) d q →
+        IfOk result (IsVerdictWithin d q (option_map (λ key. key.now) after.entry) bytes.now) }
     ensures refused { (d : Description) (q : Query) → AreLawsOf sig.now laws.now d → StandsForQuery (plain_ground_query query.now) d q →
         IfErr result (IsJudgeFault d q (option_map (λ key. key.now) after.entry) bytes.now) }
 {

@@ -2,12 +2,13 @@
 ghost use Rattle.std.specs.Prelude.{◌≡◌, ◌↔◌, ◌&&◌, ◌+◌, ◌<◌, ◌≤◌, not, is_some, IsTrue};
 ghost use Rattle.std.specs.Option.{option_map};
 ghost use Rattle.cc_arena.specs.GroundViews.{plain_ground_query};
-ghost use Rattle.cc_check.specs.Clauses.{finding_of};
+ghost use Rattle.cc_check.specs.Clauses.{plain_finding};
+ghost use Rattle.cc_defs.specs.Limits.{most_steps};
 ghost use Rattle.cc_query.specs.Sessions.{first_at, last_at};
-ghost use Rattle.cc_judge.specs.Standings.{HasRoom, IsBehind, IsBehindFinding, IsClosedAt, IsPlaced, seen};
+ghost use Rattle.cc_judge.specs.Standings.{HasRoom, IsBehind, IsBehindFinding, IsBehindTrail, IsClosedAt, IsPlaced, seen};
 
 use cc_arena::GroundQuery;
-use cc_check::{Section, Verdict};
+use cc_check::{Finding, Section};
 use cc_defs::{Cause, EndWord, Key, LogVerdict};
 
 /// How far a log is right: the horizon of the next section, whether its conditions are met and its claim is asked next, and
@@ -80,7 +81,7 @@ pub(crate) fn is_next(
 
 // What is behind a right section.
 fn behind(standing: &Standing, conditions: bool, ending: EndWord, blocks: u32, line: u32) -> Next
-    requires horizon { standing.now.horizon ≤ 1000 }
+    requires horizon { standing.now.horizon ≤ most_steps }
     requires blocked { standing.now.blocked + blocks ≤ 4294967295 }
     requires line { line < 4294967295 }
     ensures { IsBehind (seen standing.now) conditions ending blocks line result }
@@ -113,19 +114,53 @@ fn behind(standing: &Standing, conditions: bool, ending: EndWord, blocks: u32, l
     }
 }
 
-/// What is behind a section in its place, by what its lines are found to be.
-pub(crate) fn follow(standing: &Standing, conditions: bool, verdict: Verdict) -> Next
-    requires horizon { standing.now.horizon ≤ 1000 }
-    requires room { HasRoom standing.now.blocked verdict }
-    ensures { IsBehindFinding (seen standing.now) conditions (finding_of verdict) result }
+// What is wrong where a wrong line stands behind the end of a section. An end word behind which nothing may follow is wrong before it.
+fn behind_trail(conditions: bool, ending: EndWord, line: u32, cause: Cause) -> Next
+    requires { line < 4294967295 }
+    ensures { IsBehindTrail conditions ending line cause result }
 {
-    match verdict {
-        Verdict::Right {
+    match ending {
+        EndWord::Empty => Next::Wrong {
+            line: line + 1,
+            cause,
+        },
+        EndWord::Found => {
+            if conditions {
+                return Next::Wrong {
+                    line: line + 1,
+                    cause,
+                };
+            }
+            Next::Wrong {
+                line,
+                cause: Cause::NotRefuted,
+            }
+        }
+        EndWord::Spent => Next::Wrong {
+            line,
+            cause: Cause::NotRefuted,
+        },
+    }
+}
+
+/// What is behind a section in its place, by what its lines are found to be.
+pub(crate) fn follow(standing: &Standing, conditions: bool, finding: Finding) -> Next
+    requires horizon { standing.now.horizon ≤ most_steps }
+    requires room { HasRoom standing.now.blocked finding }
+    ensures { IsBehindFinding (seen standing.now) conditions (plain_finding finding) result }
+{
+    match finding {
+        Finding::Right {
             ending,
             blocks,
             line,
         } => behind(standing, conditions, ending, blocks, line),
-        Verdict::Refused { line, cause } => Next::Wrong { line, cause },
+        Finding::Trailed {
+            ending,
+            line,
+            cause,
+        } => behind_trail(conditions, ending, line, cause),
+        Finding::Wrong { line, cause } => Next::Wrong { line, cause },
     }
 }
 

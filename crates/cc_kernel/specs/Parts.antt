@@ -1,6 +1,7 @@
 -- How the parts of a kernel make what its holder sees, and what is always true of them.
 use Rattle.std.specs.Prelude.{◌≡◌, ℕ, ◌≤◌, ◌-◌, zero, suc, List, [], ◌∷◌, length, Option, Some, None, if◌then◌else◌}
 use Rattle.cc_defs.specs.Clauses.{Literal}
+use Rattle.cc_defs.specs.Limits.{most_variables}
 use Rattle.cc_kernel.specs.Kernels.{KernelView, Entry, axiom_of, AreClauses, DerivedFollow, StageIsReached, first_empty}
 use Rattle.cc_kernel.specs.declared.kernel.Origin.{Origin}
 use Rattle.cc_kernel.specs.declared.kernel.Origin.TheVariants as origins
@@ -33,7 +34,7 @@ view_of kernel = record {
 
 -- what is true of each kernel as its holder sees it, and of the number that it keeps for its first empty clause
 pub record IsSound (kernel : KernelView) (empty : Option ℕ) : Type 0 where
-  pub variables_few : kernel.variables ≤ 4000000
+  pub variables_few : kernel.variables ≤ most_variables
   pub entries_few : length kernel.entries ≤ 4000000000
   pub clauses : AreClauses kernel.variables kernel.entries
   pub derived : DerivedFollow kernel.entries

@@ -1,6 +1,7 @@
 //! A kernel of clauses: axioms and blocks are given, and a derived clause is only ever the resolvent of a chain.
 ghost use Rattle.std.specs.Prelude.{◌≡◌, ℕ, ◌+◌, ◌<◌, ◌≤◌, ◌++◌, ◌∷◌, [], length, All, Some, None, IfOk, IfSome, OnOk, OnErr, IsTrue, IsSome, ◌↔◌, Ok};
 ghost use Rattle.cc_defs.specs.Clauses.{IsClause, IsOver, IsNumbered, Reaches};
+ghost use Rattle.cc_defs.specs.Limits.{most_variables};
 ghost use Rattle.cc_kernel.specs.Kernels.{KernelView, Entry, clauses_of, added, axioms_of, IsThere, AreAxioms, IsStarted, ClashesWith, IsStepped, IsFinished, first_empty, DerivedFollow, empty_after};
 ghost use Rattle.cc_kernel.specs.Parts.{entries_of};
 
@@ -135,7 +136,7 @@ impl Model for Kernel {
 impl Kernel {
     /// A kernel of no clauses over the variables 1, .., `variables`.
     pub fn new(alloc: Global, variables: u32) -> Result<Kernel, OutOfMemory>
-        requires { variables ≤ 4000000 }
+        requires { variables ≤ most_variables }
         ensures { result ≡ Ok (record { variables = variables; entries = []; staged = None; chain = [] }) }
     {
         Ok(Kernel::of(alloc, variables, ClauseArena::new(alloc)))
@@ -143,7 +144,7 @@ impl Kernel {
 
     /// A kernel over the variables 1, .., `variables` whose axioms are these clauses. It takes no memory.
     pub fn of(alloc: Global, variables: u32, axioms: ClauseArena) -> Kernel
-        requires variables { variables ≤ 4000000 }
+        requires variables { variables ≤ most_variables }
         requires few { length axioms ≤ 4000000000 }
         requires clauses { All IsClause axioms }
         requires over { All (IsOver variables) axioms }
@@ -166,7 +167,7 @@ impl Kernel {
     /// How many variables there are.
     pub fn variables(&self) -> u32
         ensures variables { result ≡ self.now.variables }
-        ensures most { result ≤ 4000000 }
+        ensures most { result ≤ most_variables }
     {
         self.variables
     }

@@ -246,12 +246,7 @@ fn part_fault(alloc: Global, table: &Table, part: &Part<'_>) -> Result<Option<u8
 pub(crate) fn refused(number: u8, file: u32, line: u32) -> Fault
     ensures { result ≡ faulty.Refused (refusals.refused number file line) }
 {
-    Fault::Refused(Refusal {
-        number,
-        file,
-        line,
-        limit: None,
-    })
+    Fault::Refused(Refusal::at(number, file, line))
 }
 
 /// Checks a law, at the table as it stands. Refuses, at the statement's line, the least number of a fault: an unknown name

@@ -96,12 +96,7 @@ fn claim_fails(table: &Table, lo: u32, claim: &Option<Condition>) -> bool
 fn step_refusal(query: &Query) -> Refusal
     ensures { result ≡ words.step_refusal (plain_query query.now) }
 {
-    Refusal {
-        number: 16,
-        file: query.file,
-        line: query.line,
-        limit: None,
-    }
+    Refusal::at(16, query.file, query.line)
 }
 
 fn range_refusal(table: &Table, query: &Query, lo: u32, hi: u32) -> Option<Refusal>
@@ -114,12 +109,7 @@ fn range_refusal(table: &Table, query: &Query, lo: u32, hi: u32) -> Option<Refus
         return Some(step_refusal(query));
     }
     if hi > LimitAt::Horizon.number() {
-        return Some(Refusal {
-            number: 14,
-            file: 0,
-            line: 0,
-            limit: Some(LimitAt::Horizon),
-        });
+        return Some(Refusal::past(LimitAt::Horizon));
     }
     None
 }

@@ -1,5 +1,5 @@
 //! A desk with one text.
-ghost use Rattle.std.specs.Prelude.{◌≡◌, ◌≤◌, Some, false};
+ghost use Rattle.std.specs.Prelude.{◌≡◌, ◌≤◌, None, Some, false};
 ghost use Rattle.cc_make.specs.Single.{contents_of};
 ghost use Rattle.cc_ports.specs.Contents.{Rose};
 
@@ -57,6 +57,8 @@ impl<'a> Desk for TextDesk<'a> {
     ghost read_faults = { λ _. 0 };
 
     ghost write_faults = { λ desk. desk.write_faults };
+
+    ghost calls = { λ _. None };
 
     fn open_file(&mut self, _name: &str) -> Result<(), Failed> {
         self.at = 0;

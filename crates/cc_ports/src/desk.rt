@@ -1,5 +1,6 @@
 //! What a program sees of the outside.
 ghost use Rattle.std.specs.Prelude.{◌≡◌, ℕ, ◌<◌, ◌≤◌, Bool, true, List, length, Option, option_map, IfOk, OnOk, OnErr, OnSome, IfSome, IsSome, is_ok, if◌then◌else◌};
+ghost use Rattle.cc_ports.specs.Calls.{Call, Opens, Reads, Begins, Gives, with_call};
 ghost use Rattle.cc_ports.specs.Contents.{Contents, with_rest, content_of, after_read, ReadsFrom, after_create, after_give, Rose};
 
 /// An output.
@@ -14,7 +15,7 @@ pub enum To {
 #[derive(Clone, Copy, Debug, PartialEq, Eq)]
 pub struct Failed;
 
-/// Files to read, two streams, and a log to write.
+/// Files to read, two streams, and a log to write. A call that succeeds raises no count of faults.
 pub trait Desk {
     /// What the desk tells of its files and outputs, where it tells anything.
     ghost told: { Self → Option Contents };
@@ -27,6 +28,9 @@ pub trait Desk {
 
     ghost write_faults: { Self → ℕ };
 
+    /// Which calls were made of it, in order, those that failed among them, where it keeps a record of them.
+    ghost calls: { Self → Option (List Call) };
+
     /// Begins the reading of a file, and ends that of the one before. A name that is not there is a fault of reading.
     /// After a fault nothing is known of the file being read.
     fn open_file(&mut self, name: &str) -> Result<(), Failed>
@@ -35,6 +39,8 @@ pub trait Desk {
         ensures failed { OnErr result ((rest : List ℕ) × (told self.new ≡ option_map (with_rest rest) (told self.old))) }
         ensures cause { OnErr result (Rose (read_faults self.old) (read_faults self.new)) }
         ensures begun { begun self.new ≡ begun self.old }
+        ensures calls { calls self.new ≡ with_call (Opens name.now) (calls self.old) }
+        ensures calm { OnOk result ((read_faults self.new ≡ read_faults self.old) × (write_faults self.new ≡ write_faults self.old)) }
         ensures reads_count { read_faults self.old ≤ read_faults self.new }
         ensures writes_count { write_faults self.old ≤ write_faults self.new };
 
@@ -47,6 +53,8 @@ pub trait Desk {
         ensures bytes { IfOk result (λ n. IfSome (told self.old) (λ c. ReadsFrom c.rest n buffer.new)) }
         ensures cause { OnErr result (Rose (read_faults self.old) (read_faults self.new)) }
         ensures begun { begun self.new ≡ begun self.old }
+        ensures calls { calls self.new ≡ with_call (Reads (length buffer.old)) (calls self.old) }
+        ensures calm { OnOk result ((read_faults self.new ≡ read_faults self.old) × (write_faults self.new ≡ write_faults self.old)) }
         ensures reads_count { read_faults self.old ≤ read_faults self.new }
         ensures writes_count { write_faults self.old ≤ write_faults self.new };
 
@@ -55,6 +63,8 @@ pub trait Desk {
         ensures after { told self.new ≡ option_map (after_create (is_ok result)) (told self.old) }
         ensures begun { begun self.new ≡ (if is_ok result then true else begun self.old) }
         ensures cause { OnErr result (Rose (write_faults self.old) (write_faults self.new)) }
+        ensures calls { calls self.new ≡ with_call (Begins name.now) (calls self.old) }
+        ensures calm { OnOk result ((read_faults self.new ≡ read_faults self.old) × (write_faults self.new ≡ write_faults self.old)) }
         ensures reads_count { read_faults self.old ≤ read_faults self.new }
         ensures writes_count { write_faults self.old ≤ write_faults self.new };
 
@@ -67,6 +77,8 @@ pub trait Desk {
         ensures after { told self.new ≡ option_map (after_give to result bytes.now) (told self.old) }
         ensures begun { begun self.new ≡ begun self.old }
         ensures cause { OnErr result (Rose (write_faults self.old) (write_faults self.new)) }
+        ensures calls { calls self.new ≡ with_call (Gives to bytes.now) (calls self.old) }
+        ensures calm { OnOk result ((read_faults self.new ≡ read_faults self.old) × (write_faults self.new ≡ write_faults self.old)) }
         ensures reads_count { read_faults self.old ≤ read_faults self.new }
         ensures writes_count { write_faults self.old ≤ write_faults self.new };
 }

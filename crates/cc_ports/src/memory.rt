@@ -131,6 +131,8 @@ impl Desk for MemoryDesk {
 
     ghost write_faults = { λ m. m.write_faults };
 
+    ghost calls = { λ _. None };
+
     fn open_file(&mut self, name: &str) -> Result<(), Failed>
         ensures opened { OnOk result (Some (contents_of self.new) ≡ option_map (λ c. with_rest (content_of c name.now) c) (Some (contents_of self.old))) }
         ensures there { OnOk result (IsSome (file_in self.old.files name.now)) }

@@ -52,6 +52,8 @@ impl Desk for StillDesk {
 
     ghost write_faults = { λ _. 0 };
 
+    ghost calls = { λ _. None };
+
     fn open_file(&mut self, name: &str) -> Result<(), Failed>
         ensures ok { IsOk result }
         ensures begun { self.new.begun ≡ self.old.begun }

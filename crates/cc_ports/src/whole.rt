@@ -1,5 +1,6 @@
 //! Reading a file whole, and giving bytes whole.
 ghost use Rattle.std.specs.Prelude.{◌≡◌, ℕ, ◌<◌, ◌≤◌, List, [], length, Some, option_map, IfOk, OnOk, OnErr, IfSome, IsErrOf};
+ghost use Rattle.cc_ports.specs.Calls.{Call, AreReadings, AreGivings, with_calls};
 ghost use Rattle.cc_ports.specs.Contents.{Contents, with_rest, appended, IsPrefix, Rose};
 
 use crate::{Desk, Failed, To};
@@ -45,8 +46,8 @@ impl From<AllocError> for ReadStop {
     }
 }
 
-/// Opens a file and reads it to its end. It takes at most one turn more than `most`, since each turn but the last takes
-/// at least one byte.
+/// Opens a file and reads it to its end, in pieces of at most 4,096 bytes. It takes at most one turn more than `most`, since
+/// each turn but the last takes at least one byte.
 pub fn read_all<D: Desk>(
     alloc: Global,
     desk: &mut D,
@@ -60,6 +61,8 @@ pub fn read_all<D: Desk>(
     ensures failed { IsErrOf result ReadStop.Failed → Rose (D.read_faults desk.old) (D.read_faults desk.new) }
     ensures after { (rest : List ℕ) × (D.told desk.new ≡ option_map (with_rest rest) (D.told desk.old)) }
     ensures begun { D.begun desk.new ≡ D.begun desk.old }
+    ensures calls { (more : List Call) × AreReadings name.now most more × (D.calls desk.new ≡ with_calls more (D.calls desk.old)) }
+    ensures calm { (IsErrOf result ReadStop.Failed → ⊥) → (D.read_faults desk.new ≡ D.read_faults desk.old) × (D.write_faults desk.new ≡ D.write_faults desk.old) }
     ensures reads_count { D.read_faults desk.old ≤ D.read_faults desk.new }
     ensures writes_count { D.write_faults desk.old ≤ D.write_faults desk.new }
 {
@@ -85,6 +88,8 @@ pub fn give_all<D: Desk>(desk: &mut D, to: To, bytes: &[u8]) -> Result<(), Faile
         × (D.told desk.new ≡ option_map (appended to front) (D.told desk.old))) }
     ensures failed { OnErr result (Rose (D.write_faults desk.old) (D.write_faults desk.new)) }
     ensures begun { D.begun desk.new ≡ D.begun desk.old }
+    ensures calls { (more : List Call) × AreGivings to more × (D.calls desk.new ≡ with_calls more (D.calls desk.old)) }
+    ensures calm { OnOk result ((D.read_faults desk.new ≡ D.read_faults desk.old) × (D.write_faults desk.new ≡ D.write_faults desk.old)) }
     ensures reads_count { D.read_faults desk.old ≤ D.read_faults desk.new }
     ensures writes_count { D.write_faults desk.old ≤ D.write_faults desk.new }
 {

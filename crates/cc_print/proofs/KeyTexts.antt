@@ -1,14 +1,13 @@
 -- What is read as a key is the key of the text, and the laws of keys.
-use Rattle.std.proofs.Common.{◌≡◌, ℕ, ◌+◌, ◌-◌, ◌*◌, ◌^◌, ◌<◌, ◌≤◌, ◌≢◌, ◌&&◌, nat_le, if◌then◌else◌, Bool, true, false, IsTrue, List, [], ◌∷◌, ◌++◌, length, map, fold, get_or, drop, Option, Some, None, Result, Ok, All, MatchOption, codes, decimal, eqb, refl, sym, ap, ◌∙◌, subst, arith, rules, append_assoc, append-nil, lit<}
+use Rattle.std.proofs.Common.{◌≡◌, ℕ, ◌+◌, ◌-◌, ◌*◌, ◌^◌, ◌<◌, ◌≤◌, ◌≢◌, ◌&&◌, nat_le, if◌then◌else◌, Bool, true, false, IsTrue, List, [], ◌∷◌, ◌++◌, length, map, fold, get_or, drop, Option, Some, None, All, MatchOption, codes, decimal, eqb, refl, sym, ap, ◌∙◌, subst, arith, rules, append_assoc, append-nil, lit<}
 use Rattle.std.proofs.lemmas.Bool.{and_parts, and_from, le-leb, leb-true, ne_eqb, eqb-false}
-use Rattle.std.proofs.lemmas.Fmt.{digits_decimal, digits_value-decimal, length-decimal-le, decimal_nonempty}
+use Rattle.std.proofs.lemmas.Fmt.{digits_decimal, digits_value-decimal, decimal_injective, length-decimal-le, decimal_nonempty}
 use Rattle.std.proofs.lemmas.List.{at_drop_more, at_drop_all, append_cancel_left}
 use Rattle.std.proofs.lemmas.List.Elements.{All-nil, All-cons}
 use Rattle.std.proofs.lemmas.List.Splits.{slice_split_none, slice_split_at, join_with_byte-slice_split}
-use Rattle.std.proofs.lemmas.Str.Parse.{IsNumeralModel, numerals_by_fold, parse_gives, digits_value_short}
+use Rattle.std.proofs.lemmas.Str.Parse.{IsNumeralModel, numerals_by_fold}
 use Rattle.std.proofs.lemmas.Str.Pattern.{IsSplitOnceResult, split_after, split_parts}
 use Rattle.std.specs.List.{AllByRecursion, AllZip, join_with_byte, list_all, slice_split}
-use Rattle.std.specs.Str.Parse.{ParsesUnsigned}
 use denote.Ref.{Bor}
 use Rattle.cc_defs.specs.declared.lists.Key.{Key}
 use Rattle.cc_defs.specs.Grammar.{number_of}
@@ -16,7 +15,7 @@ use Rattle.cc_defs.specs.LogTexts.{IsShort}
 use Rattle.cc_defs.specs.Texts.{key_text}
 use Rattle.cc_defs.specs.Tokens.{is_digit, is_number}
 use Rattle.cc_print.specs.Keys.{IsNumberText, IsRowText, IsKeyText, IsReadAsKey, number_read, with_first, numbers_read, row_read}
-use Rattle.cc_print.specs.Laws.{OneKey, WrittenIsRead, WrittenApart}
+use Rattle.cc_print.specs.Laws.{OneKey, WrittenIsRead, IsWhole, WrittenApart}
 
 -- ---- numbers
 
@@ -36,12 +35,6 @@ are_digits (b ∷ bs) is = (is, omega arith)
 is_number-from_digits : (digits : List ℕ) → AreDigits digits → 0 < length digits → IsTrue (is_number digits)
 is_number-from_digits [] are some = absurd (omega arith)
 is_number-from_digits (b ∷ bs) are some = are
-
-pub digits-parse : {E : Type 0} (digits : List ℕ) (read : Result ℕ E) → ParsesUnsigned 32 10 digits read → IsTrue (is_number digits) → length digits ≤ 9
-    → read ≡ Ok (number_of digits)
-digits-parse digits read parses is few =
-    let p = are_digits digits is in
-    parse_gives numerals 32 digits read parses p.0 p.1 (omega (arith, digits_value_short numerals digits 9 p.0 few))
 
 number_gives : (text : List ℕ) (number : ℕ) → IsNumberText text number → number_read text ≡ Some number
 number_gives text number is = rw (and_from (is_number text) (nat_le (length text) 9) is.digits (le-leb (length text) 9 is.few)) (ap Some (sym is.value))
@@ -96,13 +89,17 @@ numbers_told (part ∷ parts) row read =
     let p = first_told (number_read part) (numbers_read parts) row read in
     subst (AllZip IsNumberText (part ∷ parts)) (sym p.4) (number_told part p.0 p.2, numbers_told parts p.1 p.3)
 
-split_join : (first : List ℕ) (others : List (List ℕ)) (row : List ℕ) → AllZip IsNumberText (first ∷ others) row →
+parts_are_digits : (parts : List (List ℕ)) (row : List ℕ) → AllZip IsNumberText parts row → AllByRecursion AreDigits parts
+parts_are_digits [] row are = tt
+parts_are_digits (part ∷ parts) [] are = absurd are
+parts_are_digits (part ∷ parts) (index ∷ row) are = ((are_digits part are.0.digits).0, parts_are_digits parts row are.1)
+
+split_join : (first : List ℕ) (others : List (List ℕ)) → AllByRecursion AreDigits (first ∷ others) →
     slice_split (λ b. eqb b 44) (join_with_byte 44 (first ∷ others)) ≡ first ∷ others
-split_join first others [] are = absurd are
-split_join first [] (index ∷ row) are = slice_split_none (λ b. eqb b 44) first (number_lacks 44 refl first index are.0)
-split_join first (second ∷ others) (index ∷ row) are =
-    slice_split_at (λ b. eqb b 44) first 44 (join_with_byte 44 (second ∷ others)) (number_lacks 44 refl first index are.0) refl
-    ∙ ap (λ rest. first ∷ rest) (split_join second others row are.1)
+split_join first [] are = slice_split_none (λ b. eqb b 44) first (lacks 44 refl first are.0)
+split_join first (second ∷ others) are =
+    slice_split_at (λ b. eqb b 44) first 44 (join_with_byte 44 (second ∷ others)) (lacks 44 refl first are.0) refl
+    ∙ ap (λ rest. first ∷ rest) (split_join second others are.1)
 
 pub row_read-some : (text : List ℕ) → 0 < length text → row_read text ≡ numbers_read (slice_split (λ b. eqb b 44) text)
 row_read-some [] some = absurd (omega arith)
@@ -119,7 +116,7 @@ parts_give [] (index ∷ row) are = absurd are
 parts_give (part ∷ parts) [] are = absurd are
 parts_give (part ∷ parts) (index ∷ row) are =
     row_read-some (join_with_byte 44 (part ∷ parts)) (joined_some part parts (are_digits part are.0.digits).1)
-    ∙ ap numbers_read (split_join part parts (index ∷ row) are) ∙ numbers_give (part ∷ parts) (index ∷ row) are
+    ∙ ap numbers_read (split_join part parts (parts_are_digits (part ∷ parts) (index ∷ row) are)) ∙ numbers_give (part ∷ parts) (index ∷ row) are
 
 row_gives : (text row : List ℕ) → IsRowText text row → row_read text ≡ Some row
 row_gives text row is = ap row_read is.1 ∙ parts_give is.0 row is.2
@@ -206,16 +203,20 @@ same_key : (one other : Key) → one.horizon ≡ other.horizon → one.row ≡ o
 same_key one other horizon row =
     subst (λ h. one ≡ record { horizon = h; row = other.row }) horizon (ap (λ r. record { horizon = one.horizon; row = r }) row)
 
+-- two parts with a colon between them, the first without one, are told from their text
+parted : (a b c d : List ℕ) → All (λ x. eqb x 58 ≡ false) a → All (λ x. eqb x 58 ≡ false) c → a ++ 58 ∷ b ≡ c ++ 58 ∷ d → (a ≡ c) × (b ≡ d)
+parted a b c d one other same =
+    let p : ℕ → Bool = λ x. eqb x 58 in
+    let heads = sym (slice_split_at p a 58 b one refl) ∙ ap (slice_split p) same ∙ slice_split_at p c 58 d other refl in
+    let firsts : a ≡ c = cc in
+    let rests = append_cancel_left a (58 ∷ b) (58 ∷ d) (same ∙ ap (λ h. h ++ 58 ∷ d) (sym firsts)) in
+    let seconds : b ≡ d = cc in (firsts, seconds)
+
 pub one_key : OneKey
 one_key text one other a b =
-    let p : ℕ → Bool = λ b. eqb b 58 in
-    let heads = sym (slice_split_at p a.0 58 a.1 (number_lacks 58 refl a.0 one.horizon a.3) refl) ∙ ap (slice_split p) (sym a.2 ∙ b.2)
-    ∙ slice_split_at p b.0 58 b.1 (number_lacks 58 refl b.0 other.horizon b.3) refl in
-    let horizons : a.0 ≡ b.0 = cc in
-    let rests = append_cancel_left a.0 (58 ∷ a.1) (58 ∷ b.1) (sym a.2 ∙ b.2 ∙ ap (λ h. h ++ 58 ∷ b.1) (sym horizons)) in
-    let rows : a.1 ≡ b.1 = cc in
-    let reads = sym (row_gives a.1 one.row a.4) ∙ ap row_read rows ∙ row_gives b.1 other.row b.4 in
-    same_key one other (a.3.value ∙ ap number_of horizons ∙ sym b.3.value) cc
+    let p = parted a.0 a.1 b.0 b.1 (number_lacks 58 refl a.0 one.horizon a.3) (number_lacks 58 refl b.0 other.horizon b.3) (sym a.2 ∙ b.2) in
+    let reads = sym (row_gives a.1 one.row a.4) ∙ ap row_read p.1 ∙ row_gives b.1 other.row b.4 in
+    same_key one other (a.3.value ∙ ap number_of p.0 ∙ sym b.3.value) cc
 
 written_row : (row : List ℕ) → AllByRecursion IsShort row → AllZip IsNumberText (map decimal row) row
 written_row [] short = tt
@@ -225,7 +226,40 @@ pub written_is_read : WrittenIsRead
 written_is_read key short =
     (decimal key.horizon, join_with_byte 44 (map decimal key.row), append_assoc (decimal key.horizon) (codes ":") (join_with_byte 44 (map decimal key.row)), written key.horizon short.horizon, (map decimal key.row, refl, written_row key.row short.row))
 
+-- ---- keys of any numbers that are written whole
+
+row_digits : (row : List ℕ) → AllByRecursion IsWhole row → AllByRecursion AreDigits (map decimal row)
+row_digits [] whole = tt
+row_digits (index ∷ row) whole = (digits_decimal numerals index whole.0, row_digits row whole.1)
+
+same_indexes : (one other : List ℕ) → AllByRecursion IsWhole one → AllByRecursion IsWhole other → map decimal one ≡ map decimal other → one ≡ other
+same_indexes [] [] a b same = refl
+same_indexes [] (y ∷ ys) a b same = absurd cc
+same_indexes (x ∷ xs) [] a b same = absurd cc
+same_indexes (x ∷ xs) (y ∷ ys) a b same =
+    let first : x ≡ y = decimal_injective x y a.0 b.0 (ap (λ texts. get_or texts 0 []) same) in
+    let others : xs ≡ ys = same_indexes xs ys a.1 b.1 (ap (λ texts. drop 1 texts) same) in
+    ap (λ n. n ∷ xs) first ∙ ap (λ ns. y ∷ ns) others
+
+same_rows : (one other : List ℕ) → AllByRecursion IsWhole one → AllByRecursion IsWhole other →
+    join_with_byte 44 (map decimal one) ≡ join_with_byte 44 (map decimal other) → one ≡ other
+same_rows [] [] a b same = refl
+same_rows [] (y ∷ ys) a b same =
+    let some = joined_some (decimal y) (map decimal ys) (decimal_nonempty y b.0) in
+    let none : length (join_with_byte 44 (map decimal (y ∷ ys))) ≡ 0 = ap length (sym same) in absurd (omega arith)
+same_rows (x ∷ xs) [] a b same =
+    let some = joined_some (decimal x) (map decimal xs) (decimal_nonempty x a.0) in
+    let none : length (join_with_byte 44 (map decimal (x ∷ xs))) ≡ 0 = ap length same in absurd (omega arith)
+same_rows (x ∷ xs) (y ∷ ys) a b same =
+    same_indexes (x ∷ xs) (y ∷ ys) a b
+    (sym (split_join (decimal x) (map decimal xs) (row_digits (x ∷ xs) a)) ∙ ap (slice_split (λ b. eqb b 44)) same
+    ∙ split_join (decimal y) (map decimal ys) (row_digits (y ∷ ys) b))
+
 pub written_apart : WrittenApart
 written_apart one other a b same =
-    one_key (key_text one.horizon one.row) one other (written_is_read one a)
-    (subst (λ text. IsKeyText text other) (sym same) (written_is_read other b))
+    let parts = parted (decimal one.horizon) (join_with_byte 44 (map decimal one.row)) (decimal other.horizon) (join_with_byte 44 (map decimal other.row))
+    (lacks 58 refl (decimal one.horizon) (digits_decimal numerals one.horizon a.horizon))
+    (lacks 58 refl (decimal other.horizon) (digits_decimal numerals other.horizon b.horizon))
+    (sym (append_assoc (decimal one.horizon) (codes ":") (join_with_byte 44 (map decimal one.row))) ∙ same
+    ∙ append_assoc (decimal other.horizon) (codes ":") (join_with_byte 44 (map decimal other.row))) in
+    same_key one other (decimal_injective one.horizon other.horizon a.horizon b.horizon parts.0) (same_rows one.row other.row a.row b.row parts.1)

@@ -1,5 +1,5 @@
 -- The laws of keys.
-use Rattle.std.specs.Prelude.{◌≡◌, ℕ, List}
+use Rattle.std.specs.Prelude.{◌≡◌, ℕ, ◌<◌, ◌^◌, List}
 use Rattle.std.specs.List.{AllByRecursion}
 use Rattle.cc_defs.specs.declared.lists.Key.{Key}
 use Rattle.cc_defs.specs.LogTexts.{IsShort}
@@ -19,7 +19,15 @@ pub record IsShortKey (key : Key) : Type 0 where
 abbrev pub WrittenIsRead : Type 0
 WrittenIsRead = (key : Key) → IsShortKey key → IsKeyText (key_text key.horizon key.row) key
 
+-- a number that is written with all its digits, as each number of the program is
+abbrev pub IsWhole : ℕ → Type 0
+IsWhole number = number < 2 ^ 64
+
+pub record IsWholeKey (key : Key) : Type 0 where
+  pub horizon : IsWhole key.horizon
+  pub row : AllByRecursion IsWhole key.row
+
 -- two such keys with one written text are equal
 abbrev pub WrittenApart : Type 0
-WrittenApart = (one other : Key) → IsShortKey one → IsShortKey other →
+WrittenApart = (one other : Key) → IsWholeKey one → IsWholeKey other →
     key_text one.horizon one.row ≡ key_text other.horizon other.row → one ≡ other

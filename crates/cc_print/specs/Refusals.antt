@@ -1,18 +1,9 @@
 -- The line of a refusal.
-use Rattle.std.specs.Prelude.{ℕ, ◌==◌, if◌then◌else◌, List, [], ◌∷◌, ◌++◌, Option, Some, None, codes, decimal, unwrap_or, slice_get}
+use Rattle.std.specs.Prelude.{ℕ, ◌==◌, if◌then◌else◌, List, [], ◌∷◌, ◌++◌, Option, Some, None, codes, decimal}
 use Rattle.cc_defs.specs.declared.refusal.Refusal.{Refusal}
 use Rattle.cc_defs.specs.declared.refusal.LimitAt.{LimitAt}
 use Rattle.cc_defs.specs.Limits.{limit_name, limit_number}
-
--- the names of the refusals, from number 1 on
-abbrev pub refusal_names : List (List ℕ)
-refusal_names =
-    codes "Words" ∷ codes "Byte" ∷ codes "Syntax" ∷ codes "TwiceDeclared" ∷ codes "UnknownName" ∷ codes "Arity" ∷ codes "Sort"
-    ∷ codes "Unbound" ∷ codes "LawForm" ∷ codes "SdInDynamicHead" ∷ codes "NotDefinite" ∷ codes "EmptyDomain" ∷ codes "NotYet"
-    ∷ codes "Limit" ∷ codes "NoQuery" ∷ codes "Step" ∷ codes "Include" ∷ codes "Key" ∷ []
-
-abbrev pub refusal_name : ℕ → List ℕ
-refusal_name number = unwrap_or (slice_get ([] ∷ refusal_names) number) []
+use Rattle.cc_defs.specs.Refusals.{refusal_name}
 
 -- the file and the line; a refusal without a place has line 0
 abbrev pub place_text : Refusal → List ℕ → List ℕ

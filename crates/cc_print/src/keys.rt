@@ -1,11 +1,9 @@
 //! Keys, as they are read.
-ghost use Rattle.std.specs.Prelude.{◌≡◌, ◌≤◌, ◌==◌, length, IfOk, IsTrue};
-ghost use Rattle.std.specs.List.{list_all, slice_split};
-ghost use Rattle.cc_defs.specs.Grammar.{number_of};
-ghost use Rattle.cc_defs.specs.Tokens.{is_digit, is_number};
+ghost use Rattle.std.specs.Prelude.{◌≡◌, ◌==◌, IfOk};
+ghost use Rattle.std.specs.List.{slice_split};
 ghost use Rattle.cc_print.specs.Keys.{IsReadAsKey, number_read, numbers_read, row_read};
 
-use cc_defs::{Key, OutOfMemory, Row};
+use cc_defs::{Key, OutOfMemory, Row, is_numeral, number_of_digits};
 use std::alloc::Global;
 
 /// A key as `--after` takes it: the horizon, `:`, and the indexes of the row with `,` between them, each number of one to
@@ -54,43 +52,9 @@ fn read_indexes(alloc: Global, text: &str) -> Result<Option<Row>, OutOfMemory>
 fn read_number(text: &str) -> Option<u32>
     ensures { result ≡ number_read text.now }
 {
-    if is_number(text.as_bytes()) && text.len() <= 9 {
-        Some(number(text))
+    if is_numeral(text.as_bytes()) && text.len() <= 9 {
+        Some(number_of_digits(text))
     } else {
         None
-    }
-}
-
-/// Whether a text is one or more digits.
-fn is_number(text: &[u8]) -> bool
-    ensures { result ≡ is_number text.now }
-{
-    match text {
-        [] => false,
-        [first, others @ ..] => is_digit(*first) && are_digits(others),
-    }
-}
-
-fn are_digits(text: &[u8]) -> bool
-    ensures { result ≡ list_all is_digit text.now }
-{
-    text.iter().all(|byte| is_digit(*byte))
-}
-
-fn is_digit(byte: u8) -> bool
-    ensures { result ≡ is_digit byte }
-{
-    48 <= byte && byte <= 57
-}
-
-/// The number that digits spell. With so few of them it is less than a billion.
-fn number(digits: &str) -> u32
-    requires digits { IsTrue (is_number digits.now) }
-    requires few { length digits.now ≤ 9 }
-    ensures { result ≡ number_of digits.now }
-{
-    match digits.parse::<u32>() {
-        Ok(number) => number,
-        Err(_) => unreachable!(),
     }
 }

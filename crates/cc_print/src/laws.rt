@@ -11,7 +11,7 @@ pub fn written_is_read()
     ensures { WrittenIsRead }
 {}
 
-/// Two keys whose numbers have at most nine digits are equal where their written texts are.
+/// Two keys, of any numbers that the program has, are equal where their written texts are.
 pub fn written_apart()
     ensures { WrittenApart }
 {}

@@ -3,7 +3,7 @@ ghost use Rattle.std.specs.Prelude.{◌≡◌, ◌++◌, ◌∷◌, [], IfOk, On
 ghost use Rattle.std.specs.List.{join_with_byte};
 ghost use Rattle.cc_defs.specs.Events as events;
 ghost use Rattle.cc_defs.specs.Texts as texts;
-ghost use Rattle.cc_print.specs.Refusals.{refusal_line, refusal_name, place_text, limit_text};
+ghost use Rattle.cc_print.specs.Refusals.{refusal_line, place_text, limit_text};
 
 use cc_defs::{Ending, Event, LimitAt, OutOfMemory, Refusal, Text};
 use std::alloc::Global;
@@ -96,7 +96,7 @@ pub fn refusal_text(alloc: Global, refusal: &Refusal, file: &str) -> Result<Text
     push_place(&mut text, refusal, file)?;
     push_number(&mut text, u32::from(refusal.number))?;
     text.push_str(" ")?;
-    text.push_str(name_of(refusal.number))?;
+    text.push_str(refusal.name())?;
     push_limit(&mut text, refusal.limit)?;
     text.push_str("\n")?;
     Ok(Text::of(text))
@@ -168,31 +168,4 @@ pub(crate) fn push_count(text: &mut String, count: u64) -> Result<(), OutOfMemor
 {
     write!(text, "{count}")?;
     Ok(())
-}
-
-/// The name of a refusal; empty for a number that none has.
-fn name_of(number: u8) -> &'static str
-    ensures { result.now ≡ refusal_name number }
-{
-    match number {
-        1 => "Words",
-        2 => "Byte",
-        3 => "Syntax",
-        4 => "TwiceDeclared",
-        5 => "UnknownName",
-        6 => "Arity",
-        7 => "Sort",
-        8 => "Unbound",
-        9 => "LawForm",
-        10 => "SdInDynamicHead",
-        11 => "NotDefinite",
-        12 => "EmptyDomain",
-        13 => "NotYet",
-        14 => "Limit",
-        15 => "NoQuery",
-        16 => "Step",
-        17 => "Include",
-        18 => "Key",
-        _ => "",
-    }
 }

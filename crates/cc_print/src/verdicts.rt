@@ -1,6 +1,6 @@
 //! The line of a checker's verdict.
 ghost use Rattle.std.specs.Prelude.{◌≡◌, IfOk};
-ghost use Rattle.cc_print.specs.Verdicts.{cause_words, verdict_line};
+ghost use Rattle.cc_print.specs.Verdicts.{verdict_line};
 ghost use Rattle.cc_defs.specs.declared.log.LogVerdict.TheVariants.{Accepted, Refused};
 
 use crate::texts::{push_count, push_number};
@@ -37,24 +37,7 @@ fn refused(alloc: Global, line: u32, cause: Cause) -> Result<Text, OutOfMemory>
     let mut text = String::from_str(alloc, "log refused: line ")?;
     push_number(&mut text, line)?;
     text.push_str(", ")?;
-    text.push_str(words_of(cause))?;
+    text.push_str(cause.words())?;
     text.push_str("\n")?;
     Ok(Text::of(text))
-}
-
-/// The words of a cause.
-fn words_of(cause: Cause) -> &'static str
-    ensures { result.now ≡ cause_words cause }
-{
-    match cause {
-        Cause::Header => "header",
-        Cause::Form => "form",
-        Cause::Section => "section",
-        Cause::Literal => "literal",
-        Cause::Number => "number",
-        Cause::Pivot => "pivot",
-        Cause::Clause => "clause",
-        Cause::Row => "row",
-        Cause::NotRefuted => "not refuted",
-    }
 }

@@ -18,6 +18,7 @@ use Rattle.cc_defs.specs.Assignments.{IsEarned}
 use Rattle.cc_defs.specs.Clauses.{Literal}
 use Rattle.cc_defs.specs.Description.{Description}
 use Rattle.cc_defs.specs.GroundLaws.{PlainGroundQuery, StandsForQuery, ground_condition}
+use Rattle.cc_defs.specs.Limits.{most_histories}
 use Rattle.cc_defs.specs.Resolved.{Condition, Query}
 use Rattle.cc_defs.specs.Runs.{axioms_of, last_horizon, first_horizon, range_of}
 use Rattle.cc_defs.specs.Sections.{HasNoEmpty, row_denial}
@@ -32,7 +33,7 @@ use Rattle.cc_query.specs.Parts.{axioms_at, is_conditions}
 use Rattle.cc_query.specs.Accepted.{AreGoodAxioms}
 use Rattle.cc_query.specs.Events.{Gives}
 use Rattle.cc_query.specs.Lefts.{left_at, left_behind, left_of}
-use Rattle.cc_query.specs.Sessions.{SessionView, After, Awaits, Fits, HasFound, Holds, IsAskable, IsSame, IsSessionOf, IsShortEvent, IsWithin, RowsAreHistories, Tells, ending_behind, first_at, last_at, opening_refusal, opens_at, with_row}
+use Rattle.cc_query.specs.Sessions.{SessionView, After, Awaits, Fits, HasFound, Holds, IsAskable, IsFewEvent, IsSame, IsSessionOf, IsShortEvent, IsWithin, RowsAreHistories, Tells, ending_behind, first_at, last_at, opening_refusal, opens_at, with_row}
 use Rattle.cc_query.proofs.Lessening.{less_at, less_block, less_heading, less_history, less_line, less_next}
 use Rattle.cc_query.proofs.Shortness.{last_low, line_short, row_short}
 use Rattle.cc_query.proofs.Going.{IsAskFor, after_asked, after_block, after_all_asked, after_budget, after_claim_heading, after_complete, after_counterexample, after_empty, after_empty_line, after_failing, after_found, after_heading, after_history, after_holds, after_last, after_last_claim, after_line, after_no_conditions, after_no_history, after_refuted, after_spent, telling}
@@ -80,13 +81,14 @@ IsNoHeading event = (conditions : Bool) (horizon : ℕ) → event ≢ events.Log
 
 module _ (laws : SearchLaws) (s : SessionView) (askable : IsAskable s.signature s.laws s.query s.ask) where
   -- a step that opens no section, and not the ending
-  step : (new : SessionView) (event : Event) → IsSame s new → Tells s new event → IsNoHeading event → IsShortEvent event → left_of new < left_of s →
+  step : (new : SessionView) (event : Event) → IsSame s new → Tells s new event → IsNoHeading event → IsFewEvent event → IsShortEvent event → left_of new < left_of s →
       new.phase ≢ phases.Ended → Gives s new event
-  step new event same tells other short less more = record {
+  step new event same tells other few short less more = record {
     same = same;
     tells = tells;
     within = λ d q of conditions horizon is. absurd (other conditions horizon is);
     good = λ d q of conditions horizon is. absurd (other conditions horizon is);
+    few = few;
     short = short;
     less = less;
     more = λ _. more;
@@ -103,6 +105,7 @@ module _ (laws : SearchLaws) (s : SessionView) (askable : IsAskable s.signature 
     tells = tells;
     within = λ d q of conditions horizon is. absurd cc;
     good = λ d q of conditions horizon is. absurd cc;
+    few = λ horizon number is. absurd cc;
     short = tt;
     less = less_at s s.row s.met phase phases.Ended phase_is some;
     more = λ none. absurd (none ending refl);
@@ -116,7 +119,7 @@ module _ (laws : SearchLaws) (s : SessionView) (askable : IsAskable s.signature 
       step (record s { phase = phases.Searching part new listed }) (events.Log (lines.Derived clause new.kernel.chain))
       (same_of s.row s.horizon s.met (phases.Searching part new listed))
       (λ d q given of after. after_line laws d q s (asks_for s d q askable of) given part solver new listed phase_is after clause adds earned most sizes)
-      (λ conditions horizon is. absurd cc) (line_short s.ask solver new listed clause budget within adds)
+      (λ conditions horizon is. absurd cc) (λ horizon number is. absurd cc) (line_short s.ask solver new listed clause budget within adds)
       (less_at s s.row s.met (phases.Searching part solver listed) (phases.Searching part new listed) phase_is
       (less_line part solver new listed clause adds (omega arith))) (λ is. absurd cc)
 
@@ -127,7 +130,7 @@ module _ (laws : SearchLaws) (s : SessionView) (askable : IsAskable s.signature 
       step (record s { phase = phases.Refuted part listed }) (events.Log (lines.Derived [] new.kernel.chain))
       (same_of s.row s.horizon s.met (phases.Refuted part listed))
       (λ d q given of after. after_empty_line laws d q s (asks_for s d q askable of) given part solver new listed phase_is after adds none)
-      (λ conditions horizon is. absurd cc) (line_short s.ask solver new listed [] askable.budget within adds)
+      (λ conditions horizon is. absurd cc) (λ horizon number is. absurd cc) (line_short s.ask solver new listed [] askable.budget within adds)
       (less_at s s.row s.met (phases.Searching part solver listed) (phases.Refuted part listed) phase_is (omega arith)) (λ is. absurd cc)
 
   -- an end line
@@ -136,7 +139,7 @@ module _ (laws : SearchLaws) (s : SessionView) (askable : IsAskable s.signature 
       Gives s (record s { row = row; phase = phases.Closed part word listed }) (events.Log (lines.End word))
   end_line part word listed row phase phase_is less tells =
       step (record s { row = row; phase = phases.Closed part word listed }) (events.Log (lines.End word))
-      (same_of row s.horizon s.met (phases.Closed part word listed)) tells (λ conditions horizon is. absurd cc) tt
+      (same_of row s.horizon s.met (phases.Closed part word listed)) tells (λ conditions horizon is. absurd cc) (λ horizon number is. absurd cc) tt
       (less_at s row s.met phase (phases.Closed part word listed) phase_is less) (λ is. absurd cc)
 
   pub gives_spent : (part : Part) (solver : SolverView) (listed : ℕ) → s.phase ≡ phases.Searching part solver listed →
@@ -173,7 +176,7 @@ module _ (laws : SearchLaws) (s : SessionView) (askable : IsAskable s.signature 
       step (record s { row = row; phase = phases.Denying new (listed + 1) }) (events.History s.horizon (listed + 1))
       (same_of row s.horizon s.met (phases.Denying new (listed + 1)))
       (λ d q given of after. after_history laws d q s (asks_for s d q askable of) given solver new listed phase_is after row least new_is)
-      (λ conditions horizon is. absurd cc) tt
+      (λ conditions horizon is. absurd cc) (λ horizon number is. let same : listed + 1 ≡ number = cc in subst (λ (n : ℕ). n ≤ most_histories) same few) tt
       (less_at s row s.met (phases.Searching parts.Histories solver listed) (phases.Denying new (listed + 1)) phase_is
       (less_history solver new listed (ap (λ (v : SolverView). v.kernel) new_is) few)) (λ is. absurd cc)
 
@@ -189,7 +192,7 @@ module _ (laws : SearchLaws) (s : SessionView) (askable : IsAskable s.signature 
       let same : s.row ≡ row = cc in
       subst (λ (r : List ℕ). After d q (record s { phase = phases.Searching parts.Histories new listed }) (given ++ with_row (events.Log (lines.Block r)) s.row ∷ [])) same
       (after_block laws d q s (asks_for s d q askable of) given solver new listed phase_is after other sizes (blocked s.row told)))
-      (λ conditions horizon is. absurd cc) (row_short solver.kernel.variables solver.sizes row within.variables within.positions is_row)
+      (λ conditions horizon is. absurd cc) (λ horizon number is. absurd cc) (row_short solver.kernel.variables solver.sizes row within.variables within.positions is_row)
       (less_at s s.row s.met (phases.Denying solver listed) (phases.Searching parts.Histories new listed) phase_is
       (less_block solver new listed (row_denial solver.sizes row) (blocked row standing))) (λ is. absurd cc)
 
@@ -237,6 +240,7 @@ module _ (laws : SearchLaws) (s : SessionView) (askable : IsAskable s.signature 
         let here : s.horizon ≡ horizon = cc in
         subst (λ (n : ℕ). AreGoodAxioms (axioms_of d q s.ask.after conditions n)) here
         (subst (λ (b : Bool). AreGoodAxioms (axioms_of d q s.ask.after b s.horizon)) same (made d q of).3);
+    few = λ other number is. absurd cc;
     short = let last = last_low s.signature s.query s.ask.after askable.most askable.key in omega arith;
     less = less_at s s.row s.met s.phase (phases.Searching part solver 0) refl (less_heading s.phase part solver opens);
     more = λ _ is. absurd cc;
@@ -249,35 +253,35 @@ module _ (laws : SearchLaws) (s : SessionView) (askable : IsAskable s.signature 
   gives_counterexample listed phase_is =
       step (record s { phase = phases.Failing }) (events.Counterexample s.horizon) (same_of s.row s.horizon s.met phases.Failing)
       (λ d q given of after. after_counterexample laws d q s (asks_for s d q askable of) given listed phase_is after)
-      (λ conditions horizon is. absurd cc) tt
+      (λ conditions horizon is. absurd cc) (λ horizon number is. absurd cc) tt
       (less_at s s.row s.met (phases.Closed parts.Claim words.Found listed) phases.Failing phase_is (omega arith)) (λ is. absurd cc)
 
   -- a horizon is done with
   passing : (met : Bool) (part : Part) (event : Event) (phase : Phase) → s.phase ≡ phase → 0 < left_at phase → s.horizon ≤ last_at s.query s.ask.after →
-      IsNoHeading event → IsShortEvent event →
+      IsNoHeading event → IsFewEvent event → IsShortEvent event →
       Tells s (record s { horizon = s.horizon + 1; met = met; phase = phases.Opening part }) event →
       Gives s (record s { horizon = s.horizon + 1; met = met; phase = phases.Opening part }) event
-  passing met part event phase phase_is some low other short tells =
+  passing met part event phase phase_is some low other few short tells =
       step (record s { horizon = s.horizon + 1; met = met; phase = phases.Opening part }) event
-      (same_of s.row (s.horizon + 1) met (phases.Opening part)) tells other short
+      (same_of s.row (s.horizon + 1) met (phases.Opening part)) tells other few short
       (less_next s met part low (subst (λ (p : Phase). 0 < left_at p) (sym phase_is) some)) (λ is. absurd cc)
 
   pub gives_no_history : s.phase ≡ phases.Closed parts.Histories words.Empty 0 → s.ask.after ≡ None → s.horizon ≤ last_at s.query s.ask.after →
       Gives s (record s { horizon = s.horizon + 1; phase = phases.Opening parts.Histories }) (events.NoHistory s.horizon)
   gives_no_history phase_is none low = passing s.met parts.Histories (events.NoHistory s.horizon) (phases.Closed parts.Histories words.Empty 0) phase_is (omega arith) low
-      (λ conditions horizon is. absurd cc) tt
+      (λ conditions horizon is. absurd cc) (λ horizon number is. absurd cc) tt
       (λ d q given of after. after_no_history laws d q s (asks_for s d q askable of) given phase_is after none)
 
   pub gives_no_conditions : (listed : ℕ) → s.phase ≡ phases.Closed parts.Conditions words.Empty listed → s.horizon ≤ last_at s.query s.ask.after →
       Gives s (record s { horizon = s.horizon + 1; phase = phases.Opening parts.Conditions }) (events.NoConditions s.horizon)
   gives_no_conditions listed phase_is low = passing s.met parts.Conditions (events.NoConditions s.horizon) (phases.Closed parts.Conditions words.Empty listed) phase_is (omega arith) low
-      (λ conditions horizon is. absurd cc) tt
+      (λ conditions horizon is. absurd cc) (λ horizon number is. absurd cc) tt
       (λ d q given of after. after_no_conditions laws d q s (asks_for s d q askable of) given listed phase_is after)
 
   pub gives_holds : (listed : ℕ) → s.phase ≡ phases.Closed parts.Claim words.Empty listed → s.horizon ≤ last_at s.query s.ask.after →
       Gives s (record s { horizon = s.horizon + 1; met = true; phase = phases.Opening parts.Conditions }) (events.Holds s.horizon)
   gives_holds listed phase_is low = passing true parts.Conditions (events.Holds s.horizon) (phases.Closed parts.Claim words.Empty listed) phase_is (omega arith) low
-      (λ conditions horizon is. absurd cc) tt
+      (λ conditions horizon is. absurd cc) (λ horizon number is. absurd cc) tt
       (λ d q given of after. after_holds laws d q s (asks_for s d q askable of) given listed phase_is after)
 
   -- ---- endings

@@ -21,7 +21,7 @@ use Rattle.cc_defs.specs.Clauses.{Literal}
 use Rattle.cc_defs.specs.Description.{Description}
 use Rattle.cc_defs.specs.Histories.{AreFirst}
 use Rattle.cc_defs.specs.Resolved.{Query}
-use Rattle.cc_defs.specs.Runs.{Ask, Step, Derive, Tell, Section, Horizon, Histories, Conditions, Claim, Failure, AreDone, EndsWith, MayEndBehind, MayEndWithin, IsFairRun, IsWithoutConditions, counted, counted_in, events_of, first_horizon, horizon_events, last_horizon, logged, rows_of, section_events, told, told_row}
+use Rattle.cc_defs.specs.Runs.{Ask, Step, Derive, Tell, Section, Horizon, Histories, Conditions, Claim, Failure, AreDone, EndsWith, MayEndBehind, MayEndWithin, IsFairRun, IsWithoutConditions, counted, counted_in, events_of, first_horizon, horizon_events, key_row, last_horizon, logged, rows_of, section_events, told, told_row}
 use Rattle.cc_defs.specs.Sections.{Axioms, HasNoEmpty, row_denial}
 use Rattle.cc_kernel.specs.declared.kernel.Origin.TheVariants as origins
 use Rattle.cc_kernel.specs.Kernels.{added, clauses_of, derived_count}
@@ -619,11 +619,15 @@ module _ (laws : Laws) (d : Description) (q : Query) (s : SessionView) (fits : I
         run = run_at here.done (Some (Histories (open_section here.steps))) None;
         fair = here.is.fair;
         given_is = here.is.given_is;
-        told = rows_in here.steps;
-        section = open_section here.steps;
-        next = refl;
-        told_is = append-nil (rows_in here.steps);
-        many = sym here.listed_is ∙ many;
-        further = row;
-        first = next_first laws d q s.ask s.horizon here.steps (clauses_of solver.kernel) here.on here.rows row least_of;
+        many = record {
+          section = open_section here.steps;
+          next = refl;
+          open_yet = refl;
+          told = rows_in here.steps;
+          told_is = append-nil (rows_in here.steps);
+          many = sym here.listed_is ∙ many;
+          further = row;
+          first = subst (λ (n : ℕ). AreFirst d q n (key_row s.ask) (rows_in here.steps ++ row ∷ [])) here.is.horizon_is
+              (next_first laws d q s.ask s.horizon here.steps (clauses_of solver.kernel) here.on here.rows row least_of);
+        };
       }

@@ -354,7 +354,7 @@ pub search_spent : (laws : SearchLaws) (now new : SessionView) (event : Event) (
     IsAskable now.signature now.laws now.query now.ask → IsStep now.ask.budget old solver answers.Spent →
     new ≡ record now { phase = phases.Closed part words.Spent listed } → event ≡ events.Log (lines.End words.Spent) →
     Gives (record now { phase = phases.Searching part old listed }) new event
-search_spent laws now new event old solver part listed askable (kept, all, none) new_is event_is =
+search_spent laws now new event old solver part listed askable (kept, all, none, stuck) new_is event_is =
     gives_at (record now { phase = phases.Searching part old listed }) new (record now { phase = phases.Closed part words.Spent listed }) event
     (events.Log (lines.End words.Spent)) new_is event_is
     (gives_spent laws (record now { phase = phases.Searching part old listed }) askable part old listed refl all none)

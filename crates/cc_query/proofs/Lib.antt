@@ -19,3 +19,10 @@ pub mod AcceptedLines
 pub mod AcceptedSections
 pub mod SpentBudgets
 pub mod AcceptedRuns
+pub mod JoinedRuns
+pub mod LinesRead
+pub mod TextSizes
+pub mod SameRows
+pub mod HorizonsAlike
+pub mod HorizonsSame
+pub mod SameRuns

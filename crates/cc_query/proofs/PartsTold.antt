@@ -89,7 +89,7 @@ module _ (laws : Laws) (d : Description) (q : Query) (ask : Ask) (horizon : ℕ)
   pub open_true : (part : Part) (steps : List Step) (clauses : List (List Literal)) → IsGoingOn d q ask horizon part steps clauses →
       TellsTrue d q ask horizon part (open_section steps)
   open_true parts.Histories steps clauses is =
-      listing_so_far d q ask horizon steps None
+      listing_so_far (IsHistory d q horizon (key_row ask)) (form_at parts.Histories) ask.count ask.budget steps None
       (open_fair laws d q (key_row ask) (form_at parts.Histories) ask.budget horizon steps clauses is.told None) is.told.first is.may (λ e. absurd cc) (λ e. absurd cc)
   open_true parts.Conditions steps clauses is =
       looks d (without_claim q) (form_at parts.Conditions) ask.budget horizon steps None
@@ -102,7 +102,7 @@ module _ (laws : Laws) (d : Description) (q : Query) (ask : Ask) (horizon : ℕ)
   pub spent_true : (part : Part) (steps : List Step) (clauses : List (List Literal)) → IsGoingOn d q ask horizon part steps clauses →
       HasNoEmpty clauses → counted_in steps ≡ ask.budget → TellsTrue d q ask horizon part (section_of steps None (Some words.Spent))
   spent_true parts.Histories steps clauses is none all =
-      listing_so_far d q ask horizon steps (Some words.Spent)
+      listing_so_far (IsHistory d q horizon (key_row ask)) (form_at parts.Histories) ask.count ask.budget steps (Some words.Spent)
       (spent_fair laws d q (key_row ask) (form_at parts.Histories) ask.budget horizon steps clauses is.told None none all)
       is.told.first is.may (λ e. absurd cc) (λ e. absurd cc)
   spent_true parts.Conditions steps clauses is none all =
@@ -117,7 +117,7 @@ module _ (laws : Laws) (d : Description) (q : Query) (ask : Ask) (horizon : ℕ)
   pub empty_true : (part : Part) (steps : List Step) (clauses : List (List Literal)) → IsGoingOn d q ask horizon part steps clauses →
       RowsAreHistories d q ask horizon part → Contains clauses [] → TellsTrue d q ask horizon part (section_of steps None (Some words.Empty))
   empty_true parts.Histories steps clauses is rows there =
-      listing_so_far d q ask horizon steps (Some words.Empty)
+      listing_so_far (IsHistory d q horizon (key_row ask)) (form_at parts.Histories) ask.count ask.budget steps (Some words.Empty)
       (empty_fair laws d q (key_row ask) (form_at parts.Histories) ask.budget horizon steps clauses is.told None there)
       is.told.first is.may (λ e. absurd cc)
       (λ _. all_told laws d q (key_row ask) (form_at parts.Histories) ask.budget horizon steps clauses is.told rows there)
@@ -173,7 +173,7 @@ module _ (laws : Laws) (d : Description) (q : Query) (ask : Ask) (horizon : ℕ)
       RowsAreHistories d q ask horizon parts.Histories → (row : List ℕ) → IsLeastRowOf (form_at parts.Histories).sizes clauses row →
       TellsHistories d q ask horizon (section_of steps (Some row) None)
   telling_true steps clauses is rows row least =
-      listing_to d q ask horizon steps None row
+      listing_to (IsHistory d q horizon (key_row ask)) (form_at parts.Histories) ask.count ask.budget steps None row
       (open_fair laws d q (key_row ask) (form_at parts.Histories) ask.budget horizon steps clauses is.told (Some row))
       (next_told laws d q (key_row ask) (form_at parts.Histories) ask.budget horizon steps clauses is.told rows row least)
       is.may (λ e. absurd cc) (λ e. absurd cc) (λ some. absurd cc)
@@ -188,7 +188,7 @@ module _ (laws : Laws) (d : Description) (q : Query) (ask : Ask) (horizon : ℕ)
       RowsAreHistories d q ask horizon parts.Histories → (row : List ℕ) → IsLeastRowOf (form_at parts.Histories).sizes clauses row →
       ask.count ≡ Some (length (rows_in steps) + 1) → TellsHistories d q ask horizon (section_of steps (Some row) (Some words.Found))
   asked_true steps clauses is rows row least all =
-      listing_to d q ask horizon steps (Some words.Found) row
+      listing_to (IsHistory d q horizon (key_row ask)) (form_at parts.Histories) ask.count ask.budget steps (Some words.Found) row
       (found_fair laws d q (key_row ask) (form_at parts.Histories) ask.budget horizon steps clauses is.told (Some row)
       (none_empty (form_at parts.Histories).sizes clauses row least.one))
       (next_told laws d q (key_row ask) (form_at parts.Histories) ask.budget horizon steps clauses is.told rows row least)
@@ -209,7 +209,7 @@ module _ (laws : Laws) (d : Description) (q : Query) (ask : Ask) (horizon : ℕ)
   going_on_told steps row tells = (
     tells.fair.clauses,
     record {
-      told = record { fair = tells.fair.steps; within = tells.fair.within; first = first_front d q horizon (key_row ask) (rows_in steps) row tells.first };
+      told = record { fair = tells.fair.steps; within = tells.fair.within; first = first_front (IsHistory d q horizon (key_row ask)) (rows_in steps) row tells.first };
       may = tells.denied;
     },
   )

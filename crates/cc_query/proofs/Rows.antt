@@ -1,4 +1,4 @@
--- The first histories, one by one, and the listing that goes on after a key.
+-- The first rows of a kind, one by one, and the listing of histories that goes on after a key.
 use Rattle.std.proofs.Common.{◌≡◌, ℕ, ◌⊎◌, inl, inr, List, [], ◌∷◌, ◌++◌, Option, Some, None, sym, subst}
 use Rattle.std.specs.Prelude.{Contains}
 use Rattle.std.specs.List.{AllByRecursion}
@@ -6,7 +6,7 @@ use Rattle.std.specs.List.Sorted.{IsStrictlySortedBy}
 use Rattle.std.proofs.lemmas.Cmp.{nat_list_cmp_total, tied_itself}
 use Rattle.std.proofs.lemmas.List.Elements.{Contains-append_left, Contains-append_right, Contains-append_cases}
 use Rattle.cc_defs.specs.Description.{Description}
-use Rattle.cc_defs.specs.Histories.{IsHistory, IsListing, AreFirst}
+use Rattle.cc_defs.specs.Histories.{IsHistory, IsListing, AreAllOf, AreFirst, AreFirstOf}
 use Rattle.cc_defs.specs.Resolved.{Query}
 use Rattle.cc_defs.specs.Rows.{row_cmp, IsBelow}
 use Rattle.cc_query.proofs.Steps.{in_none, in_first, in_rest, in_cases}
@@ -53,54 +53,6 @@ last_above (first ∷ rows) last ascend row there = elim (in_cases first row row
   | inr rest ↦ last_above rows last ascend.1 row rest
 ]
 
--- ---- one history more
-
-pub first_none : (d : Description) (q : Query) (horizon : ℕ) (key : Option (List ℕ)) → AreFirst d q horizon key []
-unfolding IsStrictlySortedBy
-first_none d q horizon key = record {
-  ascending = tt;
-  each = λ row there. absurd (in_none row there);
-  others = λ row history. inr (λ told there. absurd (in_none told there));
-}
-
--- the least history that was not told yet is the next one
-pub first_more : (d : Description) (q : Query) (horizon : ℕ) (key : Option (List ℕ)) (rows : List (List ℕ)) (next : List ℕ) →
-    AreFirst d q horizon key rows → IsHistory d q horizon key next → (Contains rows next → ⊥) →
-    ((row : List ℕ) → IsHistory d q horizon key row → (Contains rows row → ⊥) → (row ≡ next) ⊎ IsBelow next row) →
-    AreFirst d q horizon key (rows ++ next ∷ [])
-unfolding IsStrictlySortedBy
-first_more d q horizon key rows next first history apart least =
-    let above : (row : List ℕ) → Contains rows row → IsBelow row next = λ row there. elim (first.others next history) [
-      | inl told ↦ absurd (apart told)
-      | inr after ↦ after row there
-    ] in
-    record {
-      ascending = ascend_behind rows (next ∷ []) first.ascending (tt, tt) (λ row other there last. elim (in_cases next other [] last) [
-        | inl same ↦ subst (λ (w : List ℕ). IsBelow row w) same (above row there)
-        | inr none ↦ absurd (in_none other none)
-      ]);
-      each = λ row there. elim (Contains-append_cases rows (next ∷ []) row there) [
-        | inl told ↦ first.each row told
-        | inr last ↦ elim (in_cases next row [] last) [
-          | inl same ↦ subst (λ (w : List ℕ). IsHistory d q horizon key w) same history
-          | inr none ↦ absurd (in_none row none)
-        ]
-      ];
-      others = λ row is. elim (first.others row is) [
-        | inl told ↦ inl (Contains-append_left rows (next ∷ []) row told)
-        | inr after ↦ elim (least row is (λ told. not_below_itself row (after row told))) [
-          | inl same ↦ inl (subst (λ (w : List ℕ). Contains (rows ++ next ∷ []) w) (sym same) (Contains-append_right rows (next ∷ []) next (in_first next [])))
-          | inr below ↦ inr (λ told there. elim (Contains-append_cases rows (next ∷ []) told there) [
-            | inl early ↦ after told early
-            | inr last ↦ elim (in_cases next told [] last) [
-              | inl same ↦ subst (λ (w : List ℕ). IsBelow w row) same below
-              | inr none ↦ absurd (in_none told none)
-            ]
-          ])
-        ]
-      ];
-    }
-
 ascend_front : (rows : List (List ℕ)) (last : List ℕ) → IsAscending (rows ++ last ∷ []) → IsAscending rows
 unfolding IsStrictlySortedBy
 ascend_front [] last ascend = tt
@@ -109,37 +61,84 @@ ascend_front (row ∷ rows) last ascend = (
   ascend_front rows last ascend.1,
 )
 
--- and those before the last one
-pub first_front : (d : Description) (q : Query) (horizon : ℕ) (key : Option (List ℕ)) (rows : List (List ℕ)) (last : List ℕ) →
-    AreFirst d q horizon key (rows ++ last ∷ []) → AreFirst d q horizon key rows
-first_front d q horizon key rows last first = record {
-  ascending = ascend_front rows last first.ascending;
-  each = λ row there. first.each row (Contains-append_left rows (last ∷ []) row there);
-  others = λ row history. elim (first.others row history) [
-    | inr after ↦ inr (λ told there. after told (Contains-append_left rows (last ∷ []) told there))
-    | inl there ↦ elim (Contains-append_cases rows (last ∷ []) row there) [
-      | inl early ↦ inl early
-      | inr end ↦ elim (in_cases last row [] end) [
-        | inl same ↦ inr (λ told early. subst (λ (w : List ℕ). IsBelow told w) same (last_above rows last first.ascending told early))
-        | inr none ↦ absurd (in_none row none)
-      ]
-    ]
-  ];
-}
+-- ---- one row of a kind more
 
--- the first histories are all, where no other one is there
-pub first_are_all : (d : Description) (q : Query) (horizon : ℕ) (key : Option (List ℕ)) (rows : List (List ℕ)) → AreFirst d q horizon key rows →
-    ((row : List ℕ) → IsHistory d q horizon key row → (Contains rows row → ⊥) → ⊥) → IsListing d q horizon key rows
-first_are_all d q horizon key rows first none = record {
-  ascending = first.ascending;
-  members = λ row. (
-    first.each row,
-    λ history. elim (first.others row history) [
-      | inl told ↦ told
-      | inr after ↦ absurd (none row history (λ told. not_below_itself row (after row told)))
-    ],
-  );
-}
+module _ (Is : List ℕ → Type 0) where
+  pub first_none : AreFirstOf Is []
+  unfolding IsStrictlySortedBy
+  first_none = record {
+    ascending = tt;
+    each = λ row there. absurd (in_none row there);
+    others = λ row is. inr (λ told there. absurd (in_none told there));
+  }
+
+  -- the least one that was not told yet is the next
+  pub first_more : (rows : List (List ℕ)) (next : List ℕ) → AreFirstOf Is rows → Is next → (Contains rows next → ⊥) →
+      ((row : List ℕ) → Is row → (Contains rows row → ⊥) → (row ≡ next) ⊎ IsBelow next row) →
+      AreFirstOf Is (rows ++ next ∷ [])
+  unfolding IsStrictlySortedBy
+  first_more rows next first is_so apart least =
+      let above : (row : List ℕ) → Contains rows row → IsBelow row next = λ row there. elim (first.others next is_so) [
+        | inl told ↦ absurd (apart told)
+        | inr after ↦ after row there
+      ] in
+      record {
+        ascending = ascend_behind rows (next ∷ []) first.ascending (tt, tt) (λ row other there last. elim (in_cases next other [] last) [
+          | inl same ↦ subst (λ (w : List ℕ). IsBelow row w) same (above row there)
+          | inr none ↦ absurd (in_none other none)
+        ]);
+        each = λ row there. elim (Contains-append_cases rows (next ∷ []) row there) [
+          | inl told ↦ first.each row told
+          | inr last ↦ elim (in_cases next row [] last) [
+            | inl same ↦ subst Is same is_so
+            | inr none ↦ absurd (in_none row none)
+          ]
+        ];
+        others = λ row is. elim (first.others row is) [
+          | inl told ↦ inl (Contains-append_left rows (next ∷ []) row told)
+          | inr after ↦ elim (least row is (λ told. not_below_itself row (after row told))) [
+            | inl same ↦ inl (subst (λ (w : List ℕ). Contains (rows ++ next ∷ []) w) (sym same) (Contains-append_right rows (next ∷ []) next (in_first next [])))
+            | inr below ↦ inr (λ told there. elim (Contains-append_cases rows (next ∷ []) told there) [
+              | inl early ↦ after told early
+              | inr last ↦ elim (in_cases next told [] last) [
+                | inl same ↦ subst (λ (w : List ℕ). IsBelow w row) same below
+                | inr none ↦ absurd (in_none told none)
+              ]
+            ])
+          ]
+        ];
+      }
+
+  -- and those before the last one
+  pub first_front : (rows : List (List ℕ)) (last : List ℕ) → AreFirstOf Is (rows ++ last ∷ []) → AreFirstOf Is rows
+  first_front rows last first = record {
+    ascending = ascend_front rows last first.ascending;
+    each = λ row there. first.each row (Contains-append_left rows (last ∷ []) row there);
+    others = λ row is. elim (first.others row is) [
+      | inr after ↦ inr (λ told there. after told (Contains-append_left rows (last ∷ []) told there))
+      | inl there ↦ elim (Contains-append_cases rows (last ∷ []) row there) [
+        | inl early ↦ inl early
+        | inr end ↦ elim (in_cases last row [] end) [
+          | inl same ↦ inr (λ told early. subst (λ (w : List ℕ). IsBelow told w) same (last_above rows last first.ascending told early))
+          | inr none ↦ absurd (in_none row none)
+        ]
+      ]
+    ];
+  }
+
+  -- the first ones are all, where no other one is there
+  pub first_are_all : (rows : List (List ℕ)) → AreFirstOf Is rows →
+      ((row : List ℕ) → Is row → (Contains rows row → ⊥) → ⊥) → AreAllOf Is rows
+  first_are_all rows first none = record {
+    ascending = first.ascending;
+    members = λ row. (
+      first.each row,
+      λ is. elim (first.others row is) [
+        | inl told ↦ told
+        | inr after ↦ absurd (none row is (λ told. not_below_itself row (after row told)))
+      ],
+    );
+  }
 
 -- ---- after a key
 

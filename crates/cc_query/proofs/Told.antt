@@ -7,10 +7,10 @@ use Rattle.cc_defs.specs.declared.log.EndWord.{EndWord}
 use Rattle.cc_defs.specs.declared.log.EndWord.TheVariants as words
 use Rattle.cc_defs.specs.Clauses.{Literal}
 use Rattle.cc_defs.specs.Description.{Description}
-use Rattle.cc_defs.specs.Histories.{IsHistory, IsListing, AreFirst}
+use Rattle.cc_defs.specs.Histories.{IsHistory, IsListing, AreAllOf, AreFirst, AreFirstOf}
 use Rattle.cc_defs.specs.Resolved.{Query}
 use Rattle.cc_defs.specs.Rows.{IsRow}
-use Rattle.cc_defs.specs.Runs.{Ask, Step, Derive, Tell, AreFairSteps, IsFairLine, IsFairSection, LooksForOne, TellsHistories, counted, counted_in, axioms_of, key_row}
+use Rattle.cc_defs.specs.Runs.{Ask, Step, Derive, Tell, AreFairSteps, IsFairLine, IsFairSection, LooksForOne, TellsHistories, TellsRows, counted, counted_in, axioms_of, key_row}
 use Rattle.cc_defs.specs.Sections.{Axioms, HasNoEmpty, row_denial}
 use Rattle.cc_form.specs.Forms.{TellsHistories as FormTells}
 use Rattle.cc_query.specs.Laws.{SearchLaws as Laws}
@@ -26,7 +26,7 @@ pub record HasTold (d : Description) (q : Query) (key : Option (List ℕ)) (form
 
 module _ (laws : Laws) (d : Description) (q : Query) (key : Option (List ℕ)) (form : Axioms) (budget horizon : ℕ) where
   pub nothing_told : HasTold d q key form budget horizon [] form.clauses
-  nothing_told = record { fair = refl; within = omega arith; first = first_none d q horizon key }
+  nothing_told = record { fair = refl; within = omega arith; first = first_none (IsHistory d q horizon key) }
 
   module _ (steps : List Step) (clauses : List (List Literal)) (told : HasTold d q key form budget horizon steps clauses) where
     pub line_told : (clause : List Literal) (chain : List ℕ) → HasNoEmpty clauses → IsFairLine clauses clause chain →
@@ -49,7 +49,7 @@ module _ (laws : Laws) (d : Description) (q : Query) (key : Option (List ℕ)) (
       row_is_history row is = (tells.histories row).0 (row_before form.sizes form.clauses steps clauses row told.fair is)
 
       pub next_told : (row : List ℕ) → IsLeastRowOf form.sizes clauses row → AreFirst d q horizon key (rows_in steps ++ row ∷ [])
-      next_told row is = first_more d q horizon key (rows_in steps) row told.first (row_is_history row is.one)
+      next_told row is = first_more (IsHistory d q horizon key) (rows_in steps) row told.first (row_is_history row is.one)
           (row_not_told laws.denies form.sizes form.clauses steps clauses row told.fair is.one)
           (λ other history apart. is.least other (left_of other history apart))
 
@@ -62,7 +62,7 @@ module _ (laws : Laws) (d : Description) (q : Query) (key : Option (List ℕ)) (
       }
 
       pub all_told : Contains clauses [] → IsListing d q horizon key (rows_in steps)
-      all_told there = first_are_all d q horizon key (rows_in steps) told.first
+      all_told there = first_are_all (IsHistory d q horizon key) (rows_in steps) told.first
           (λ row history apart. none_empty form.sizes clauses row (left_of row history apart) there)
 
     -- ---- the section, with each end
@@ -97,7 +97,7 @@ module _ (laws : Laws) (d : Description) (q : Query) (key : Option (List ℕ)) (
       spent = λ _. all;
     }
 
--- ---- sections of histories
+-- ---- sections that tell rows of a kind
 
 fewer : (count : Option ℕ) (a b : ℕ) → a ≤ b → IfSome count (λ most. b < most) → IfSome count (λ most. a < most)
 fewer None a b low if = tt
@@ -107,31 +107,31 @@ at_most : (count : Option ℕ) (a b : ℕ) → a ≤ suc b → IfSome count (λ 
 at_most None a b low if = tt
 at_most (Some most) a b low if = omega arith
 
-module _ (d : Description) (q : Query) (ask : Ask) (horizon : ℕ) (steps : List Step) where
+module _ (Is : List ℕ → Type 0) (axioms : Axioms) (count : Option ℕ) (budget : ℕ) (steps : List Step) where
   -- with no last history
-  module _ (word : Option EndWord) (fair : IsFairSection (axioms_of d q ask.after false horizon) ask.budget (section_of steps None word))
-      (first : AreFirst d q horizon (key_row ask) (rows_in steps)) (few : IfSome ask.count (λ most. length (rows_in steps) < most)) where
-    pub listing_so_far : (word ≡ Some words.Found → ⊥) → (word ≡ Some words.Empty → IsListing d q horizon (key_row ask) (rows_in steps)) →
-        TellsHistories d q ask horizon (section_of steps None word)
+  module _ (word : Option EndWord) (fair : IsFairSection axioms budget (section_of steps None word))
+      (first : AreFirstOf Is (rows_in steps)) (few : IfSome count (λ most. length (rows_in steps) < most)) where
+    pub listing_so_far : (word ≡ Some words.Found → ⊥) → (word ≡ Some words.Empty → AreAllOf Is (rows_in steps)) →
+        TellsRows Is axioms count budget (section_of steps None word)
     listing_so_far other all = record {
       fair = fair;
-      first = subst (λ (rows : List (List ℕ)). AreFirst d q horizon (key_row ask) rows) (sym (append-nil (rows_in steps))) first;
-      asked = at_most ask.count (length (rows_in steps ++ [])) (length (rows_in steps)) (let same = ap (λ (l : List (List ℕ)). length l) (append-nil (rows_in steps)) in omega arith) few;
+      first = subst (λ (rows : List (List ℕ)). AreFirstOf Is rows) (sym (append-nil (rows_in steps))) first;
+      asked = at_most count (length (rows_in steps ++ [])) (length (rows_in steps)) (let same = ap (λ (l : List (List ℕ)). length l) (append-nil (rows_in steps)) in omega arith) few;
       denied = few;
-      all_told = λ is. subst (λ (rows : List (List ℕ)). IsListing d q horizon (key_row ask) rows) (sym (append-nil (rows_in steps))) (all is);
+      all_told = λ is. subst (λ (rows : List (List ℕ)). AreAllOf Is rows) (sym (append-nil (rows_in steps))) (all is);
       enough = λ is. absurd (other is);
       undenied = λ some. absurd cc;
     }
 
   -- with one
-  module _ (word : Option EndWord) (row : List ℕ) (fair : IsFairSection (axioms_of d q ask.after false horizon) ask.budget (section_of steps (Some row) word))
-      (first : AreFirst d q horizon (key_row ask) (rows_in steps ++ row ∷ [])) (few : IfSome ask.count (λ most. length (rows_in steps) < most)) where
-    pub listing_to : (word ≡ Some words.Empty → ⊥) → (word ≡ Some words.Found → ask.count ≡ Some (length (rows_in steps ++ row ∷ []))) →
-        (IsSome word → word ≡ Some words.Found) → TellsHistories d q ask horizon (section_of steps (Some row) word)
+  module _ (word : Option EndWord) (row : List ℕ) (fair : IsFairSection axioms budget (section_of steps (Some row) word))
+      (first : AreFirstOf Is (rows_in steps ++ row ∷ [])) (few : IfSome count (λ most. length (rows_in steps) < most)) where
+    pub listing_to : (word ≡ Some words.Empty → ⊥) → (word ≡ Some words.Found → count ≡ Some (length (rows_in steps ++ row ∷ []))) →
+        (IsSome word → word ≡ Some words.Found) → TellsRows Is axioms count budget (section_of steps (Some row) word)
     listing_to other enough found = record {
       fair = fair;
       first = first;
-      asked = at_most ask.count (length (rows_in steps ++ row ∷ [])) (length (rows_in steps)) (let same = length_push (rows_in steps) row in omega arith) few;
+      asked = at_most count (length (rows_in steps ++ row ∷ [])) (length (rows_in steps)) (let same = length_push (rows_in steps) row in omega arith) few;
       denied = few;
       all_told = λ is. absurd (other is);
       enough = enough;
@@ -173,7 +173,7 @@ told_of_look d q axioms key budget horizon steps looks =
       record {
         fair = looks.fair.steps;
         within = looks.fair.within;
-        first = subst (λ (rows : List (List ℕ)). AreFirst d q horizon key rows) (sym silent) (first_none d q horizon key);
+        first = subst (λ (rows : List (List ℕ)). AreFirst d q horizon key rows) (sym silent) (first_none (IsHistory d q horizon key));
       },
       silent,
     )

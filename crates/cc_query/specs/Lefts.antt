@@ -1,5 +1,6 @@
 -- How much may still come of a session: a number that each event lowers.
 use Rattle.std.specs.Prelude.{ℕ, ◌+◌, ◌-◌, ◌*◌}
+use Rattle.cc_defs.specs.Limits.{most_histories}
 use Rattle.cc_kernel.specs.Kernels.{derived_count}
 use Rattle.cc_query.specs.declared.phase.Part.{Part}
 use Rattle.cc_query.specs.declared.phase.Part.TheVariants as parts
@@ -9,7 +10,7 @@ use Rattle.cc_query.specs.Sessions.{SessionView, last_at}
 
 -- Of a section: each derived clause takes one, each history and its denial two.
 abbrev pub left_in_section : (derived listed : ℕ) → ℕ
-left_in_section derived listed = (2000000 - derived) + 2 * (100000000 - listed)
+left_in_section derived listed = (2000000 - derived) + 2 * (most_histories - listed)
 
 -- behind a section: that on the claim comes behind that on the conditions
 abbrev pub left_behind : Part → ℕ

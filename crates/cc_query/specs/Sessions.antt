@@ -24,6 +24,7 @@ use Rattle.cc_defs.specs.Clauses.{IsOver}
 use Rattle.cc_defs.specs.Description.{Description, sizes_at}
 use Rattle.cc_defs.specs.GroundLaws.{PlainGroundQuery, StandsForQuery}
 use Rattle.cc_defs.specs.Histories.{AreFirst}
+use Rattle.cc_defs.specs.Limits.{most_clauses, most_histories, most_steps, most_variables}
 use Rattle.cc_defs.specs.LogTexts.{IsFormed}
 use Rattle.cc_defs.specs.Refusals.{past}
 use Rattle.cc_defs.specs.Resolved.{Query}
@@ -84,7 +85,7 @@ entry_of sizes (Tell row) = record { clause = row_denial sizes row; origin = ori
 pub record Holds (axioms : Axioms) (steps : List Step) (solver : SolverView) : Type 0 where
   pub sizes : solver.sizes ≡ axioms.sizes
   pub variables : solver.kernel.variables ≡ axioms.variables
-  pub few : axioms.variables ≤ 4000000
+  pub few : axioms.variables ≤ most_variables
   pub entries : solver.kernel.entries ≡ map axiom_of axioms.clauses ++ map (entry_of axioms.sizes) steps
 
 -- ---- what a run leaves
@@ -197,18 +198,22 @@ refusal_at d q horizon with_claim key = option_or (rules_refusal d horizon) (for
 abbrev pub opening_refusal : Description → Query → Ask → ℕ → (conditions : Bool) → Option Refusal
 opening_refusal d q ask horizon conditions = refusal_at d q horizon (not conditions) ask.after
 
--- so many histories were told at a horizon as its limit says, and there is one more
+-- So many histories were told at the horizon of a run as its limit says, their section has not ended, and there is one more.
+pub record TellsTooMany (d : Description) (q : Query) (ask : Ask) (run : Run) : Type 0 where
+  pub section : Section
+  pub next : run.next ≡ Some (Histories section)
+  pub open_yet : IsNone section.word
+  pub told : List (List ℕ)
+  pub told_is : rows_of section ≡ told
+  pub many : length told ≡ most_histories
+  pub further : List ℕ
+  pub first : AreFirst d q (horizon_at (first_horizon q ask.after) run) (key_row ask) (told ++ further ∷ [])
+
 pub record HasTooMany (d : Description) (q : Query) (session : SessionView) (given : List Told) : Type 0 where
   pub run : Run
   pub fair : IsFairRun d q session.ask run
   pub given_is : given ≡ events_of (first_horizon q session.ask.after) run
-  pub section : Section
-  pub next : run.next ≡ Some (Histories section)
-  pub told : List (List ℕ)
-  pub told_is : rows_of section ≡ told
-  pub many : length told ≡ 100000000
-  pub further : List ℕ
-  pub first : AreFirst d q session.horizon (key_row session.ask) (told ++ further ∷ [])
+  pub many : TellsTooMany d q session.ask run
 
 -- the part of a horizon whose section opens next
 abbrev pub opens_at : Phase → Option Part
@@ -243,6 +248,10 @@ OpensWithin session event = (d : Description) (q : Query) → IsSessionOf sessio
 abbrev pub OpensGood : SessionView → Event → Type 0
 OpensGood session event = (d : Description) (q : Query) → IsSessionOf session d q → (conditions : Bool) (horizon : ℕ) →
     event ≡ events.Log (lines.Section conditions horizon) → AreGoodAxioms (axioms_of d q session.ask.after conditions horizon)
+
+-- a history that is told is not past the number that may be told at a horizon
+abbrev pub IsFewEvent : Event → Type 0
+IsFewEvent event = (horizon number : ℕ) → event ≡ events.History horizon number → number ≤ most_histories
 
 -- the numbers of a line of the log that is told have at most nine digits, and its chain has a pivot between each two clauses
 abbrev pub IsShortEvent : Event → Type 0
@@ -285,7 +294,7 @@ pub record FitsIn (d : Description) (query : PlainGroundQuery) (key : Key) : Typ
 pub record IsAskable (signature : Signature) (laws : List GroundLaw) (query : PlainGroundQuery) (ask : Ask) : Type 0 where
   pub laws_fit : AreLawsFor signature laws
   pub ordered : query.lo ≤ query.hi
-  pub most : query.hi ≤ 1000
+  pub most : query.hi ≤ most_steps
   pub steps : (horizon : ℕ) → query.lo ≤ horizon → horizon ≤ query.hi → IsQueryAt signature horizon query
   pub key : IfSome ask.after (Fits signature query)
   pub count : IfSome ask.count (λ most. 1 ≤ most)
@@ -295,10 +304,10 @@ pub record IsAskable (signature : Signature) (laws : List GroundLaw) (query : Pl
 -- are over its variables, the first of which are those of the positions
 pub record IsWithin (ask : Ask) (solver : SolverView) (denied : ℕ) : Type 0 where
   pub derived : derived_count solver.kernel.entries ≤ ask.budget
-  pub few : length solver.kernel.entries ≤ 8000000 + derived_count solver.kernel.entries + denied
-  pub denied_few : denied ≤ 100000000
+  pub few : length solver.kernel.entries ≤ most_clauses + derived_count solver.kernel.entries + denied
+  pub denied_few : denied ≤ most_histories
   pub over : AllByRecursion (IsOver solver.kernel.variables) (clauses_of solver.kernel)
-  pub variables : solver.kernel.variables ≤ 4000000
+  pub variables : solver.kernel.variables ≤ most_variables
   pub positions : sum solver.sizes ≤ solver.kernel.variables
 
 -- a row of its positions was found
@@ -310,7 +319,7 @@ abbrev pub IsReady : Ask → (horizon last : ℕ) → Phase → Type 0
 IsReady ask horizon last (phases.Opening part) = horizon ≤ last + 1
 IsReady ask horizon last (phases.Searching part solver listed) = (horizon ≤ last) × (solver.standing ≡ Ready) × IsWithin ask solver listed
 IsReady ask horizon last (phases.Denying solver listed) =
-    (horizon ≤ last) × HasFound solver × ((denied : ℕ) × (listed ≡ denied + 1) × (denied + 1 ≤ 100000000) × IsWithin ask solver denied)
+    (horizon ≤ last) × HasFound solver × ((denied : ℕ) × (listed ≡ denied + 1) × (denied + 1 ≤ most_histories) × IsWithin ask solver denied)
 IsReady ask horizon last (phases.Refuted part listed) = horizon ≤ last
 IsReady ask horizon last (phases.Closed part word listed) = horizon ≤ last
 IsReady ask horizon last phases.Failing = horizon ≤ last

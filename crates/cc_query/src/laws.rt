@@ -1,6 +1,6 @@
 //! Laws of listings, each the contract of a function that does nothing, or calls the laws that it rests on.
 ghost use Rattle.cc_query.specs.Accepted.{WrittenLogsAreAccepted};
-ghost use Rattle.cc_query.specs.Laws.{ListingsResume, SearchLaws, SpentBudgetsAreSmall};
+ghost use Rattle.cc_query.specs.Laws.{ListingsJoin, ListingsResume, SearchLaws, SpentBudgetsAreSmall, TextsTellRuns};
 
 use cc_cdcl::laws::{denial_denies, denial_leaves_others, earned_lines_are_few};
 use cc_clauses::laws::resolvents_are_sound;
@@ -8,6 +8,18 @@ use cc_clauses::laws::resolvents_are_sound;
 /// A listing that stopped at its asked number, and the one that goes on after its last key, make up the whole.
 pub fn listings_resume()
     ensures { ListingsResume }
+{}
+
+/// Two runs, one of which goes on behind the last history of the other, have told all histories of their horizon.
+pub fn listings_join()
+    ensures { ListingsJoin }
+{
+    listings_resume();
+}
+
+/// What is printed and the lines of the log tell one run.
+pub fn texts_tell_runs()
+    ensures { TextsTellRuns }
 {}
 
 /// What searches rest on: resolvents follow, and a denied row is denied, and no other.

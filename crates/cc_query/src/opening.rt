@@ -6,6 +6,7 @@ ghost use Rattle.cc_cdcl.specs.Solvers.{Ready};
 ghost use Rattle.cc_defs.specs.ClauseLists.{clause_list};
 ghost use Rattle.cc_defs.specs.Description.{Description};
 ghost use Rattle.cc_defs.specs.GroundLaws.{StandsForQuery};
+ghost use Rattle.cc_defs.specs.Limits.{most_steps, most_variables};
 ghost use Rattle.cc_defs.specs.Refusals.{IsRefusedBy};
 ghost use Rattle.cc_defs.specs.Resolved.{Query};
 ghost use Rattle.cc_form.specs.Forms.{TellsHistories, asked, form_of, form_refusal};
@@ -46,7 +47,7 @@ pub fn form_at(
     with_claim: bool,
 ) -> Result<Form, Fault>
     requires laws { AreLawsFor sig.now laws.now }
-    requires horizon { horizon ≤ 1000 }
+    requires horizon { horizon ≤ most_steps }
     requires query { IsQueryAt sig.now horizon (plain_ground_query query.now) }
     requires key { IfSome after (λ key. IsKeyAt sig.now horizon key.now) }
     ensures made { (d : Description) (q : Query) → AreLawsOf sig.now laws.now d → StandsForQuery (plain_ground_query query.now) d q → IfOk result (λ form. form ≡ form_of d q horizon with_claim (option_map (λ key. key.now) after.entry)) }
@@ -62,7 +63,7 @@ pub fn form_at(
 pub(crate) fn solver_of(alloc: Global, form: Form) -> Result<Solver, OutOfMemory>
     ensures sizes { IfOk result (λ solver. solver.sizes ≡ form.sizes) }
     ensures variables { IfOk result (λ solver. solver.kernel.variables ≡ form.variables) }
-    ensures few { OnOk result (form.variables ≤ 4000000) }
+    ensures few { OnOk result (form.variables ≤ most_variables) }
     ensures entries { IfOk result (λ solver. solver.kernel.entries ≡ axioms_of form.clauses) }
     ensures count { OnOk result (length form.clauses ≤ 8000000) }
     ensures good { OnOk result (AreGoodAxioms form) }

@@ -6,6 +6,7 @@ ghost use Rattle.cc_cdcl.specs.Solvers.{SolverView, Found as IsFound, IsStep, Re
 ghost use Rattle.cc_cdcl.specs.declared.solver.Step.TheVariants as answers;
 ghost use Rattle.cc_defs.specs.Clauses.{Literal, IsNumbered};
 ghost use Rattle.cc_defs.specs.Description.{Description};
+ghost use Rattle.cc_defs.specs.Limits.{most_histories, most_steps};
 ghost use Rattle.cc_defs.specs.Refusals.{IsRefusedBy, past};
 ghost use Rattle.cc_defs.specs.declared.refusal.Fault.TheVariants as faults;
 ghost use Rattle.cc_defs.specs.declared.refusal.LimitAt.TheVariants as limits;
@@ -23,7 +24,7 @@ ghost use Rattle.cc_query.specs.declared.phase.Phase.{Phase as PhaseSeen};
 ghost use Rattle.cc_query.specs.Accepted.{AreGoodAxioms};
 ghost use Rattle.cc_query.specs.Events.{Gives};
 ghost use Rattle.cc_query.specs.Lefts.{left_of};
-ghost use Rattle.cc_query.specs.Sessions.{After, Fits, HasFound, HasMore, Holds, IsBlocked, IsReady, IsRightFault, IsSame, IsSessionOf, IsShortEvent, IsWithin, OpensGood, OpensWithin, RowsAreHistories, SessionView, Tells, ending_behind, first_at, last_at, opening_refusal, opens_at, with_row};
+ghost use Rattle.cc_query.specs.Sessions.{After, Fits, HasFound, HasMore, Holds, IsBlocked, IsReady, IsFewEvent, IsRightFault, IsSame, IsSessionOf, IsShortEvent, IsWithin, OpensGood, OpensWithin, RowsAreHistories, SessionView, Tells, ending_behind, first_at, last_at, opening_refusal, opens_at, with_row};
 ghost use Rattle.cc_query.specs.declared.phase.Part.TheVariants as parts;
 ghost use Rattle.cc_query.specs.declared.phase.Phase.TheVariants as phases;
 ghost use Rattle.cc_theory.specs.Theories.{AreLawsFor};
@@ -71,18 +72,6 @@ impl<'a> Model for Session<'a> {
     ghost view = { λ s. record { signature = s.sig.now; laws = s.laws.now; query = plain_ground_query s.query; ask = s.ask; horizon = s.horizon; met = s.met; row = s.row.items; phase = s.phase } };
 
     ghost invariant = { λ s. IsSession (record { signature = s.sig.now; laws = s.laws.now; query = plain_ground_query s.query; ask = s.ask; horizon = s.horizon; met = s.met; row = s.row.items; phase = s.phase }) };
-}
-
-/// One history more than there may be at a horizon.
-fn too_many() -> Fault
-    ensures { result ≡ faults.Refused (past limits.Histories) }
-{
-    Fault::Refused(Refusal {
-        number: 14,
-        file: 0,
-        line: 0,
-        limit: Some(LimitAt::Histories),
-    })
 }
 
 /// The line of the clause that was derived last.
@@ -226,7 +215,7 @@ impl<'a> Session<'a> {
     ) -> Result<Session<'a>, OutOfMemory>
         requires laws { AreLawsFor sig.now laws.now }
         requires ordered { query.lo ≤ query.hi }
-        requires most { query.hi ≤ 1000 }
+        requires most { query.hi ≤ most_steps }
         requires steps { (horizon : ℕ) → query.lo ≤ horizon → horizon ≤ query.hi → IsQueryAt sig.now horizon (plain_ground_query query) }
         requires key { IfSome ask.after (Fits sig.now (plain_ground_query query)) }
         requires count { IfSome ask.count (λ most. 1 ≤ most) }
@@ -372,11 +361,11 @@ impl<'a> Session<'a> {
         ensures event { IfOk result (λ event. event ≡ events.History self.old.horizon (listed + 1)) }
         ensures stands { OnOk result (self.new ≡ record self.old { row = row.items; phase = phases.Denying solver (listed + 1) }) }
         ensures fault { IfErr result (λ fault. fault ≡ faults.Refused (past limits.Histories)) }
-        ensures many { OnErr result (listed ≡ 100000000) }
-        ensures few { OnOk result (listed + 1 ≤ 100000000) }
+        ensures many { OnErr result (listed ≡ most_histories) }
+        ensures few { OnOk result (listed + 1 ≤ most_histories) }
     {
         if listed == LimitAt::Histories.number() {
-            return Err(too_many());
+            return Err(Fault::Refused(Refusal::past(LimitAt::Histories)));
         }
         self.row = row;
         self.stand(Phase::Denying {
@@ -608,6 +597,7 @@ impl<'a> Session<'a> {
         ensures less { OnOk result (left_of self.new < left_of self.old) }
         ensures short { IfOk result IsShortEvent }
         ensures good { IfOk result (OpensGood self.old) }
+        ensures few { IfOk result IsFewEvent }
     {
         self.step()
     }

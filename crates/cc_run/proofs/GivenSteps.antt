@@ -8,8 +8,9 @@ use Rattle.cc_run.specs.declared.status.Stop.{Stop}
 use Rattle.cc_run.specs.declared.status.Stop.TheVariants as stops
 use Rattle.cc_run.specs.Answers.{Given, AreFronts, nothing}
 use Rattle.cc_run.specs.declared.status.Status.{Status}
-use Rattle.cc_run.specs.Stops.{Moment, Moves, Step, TellsStop, adding, cut_status, given_to, stop_line, stop_status}
+use Rattle.cc_run.specs.Stops.{Called, IsCalm, Moment, Moves, Step, TellsStop, adding, cut_status, given_to, stop_line, stop_status}
 use Rattle.cc_run.specs.Telling.{joined}
+use Rattle.cc_run.proofs.Callings.{called_both, called_none}
 
 pub joined-nothing : (a : Given) → joined a nothing ≡ a
 joined-nothing a = λ i. record { out = append-nil a.out i; err = append-nil a.err i; log = append-nil a.log i }
@@ -90,6 +91,8 @@ moves_none m v = record {
   begun = refl;
   reads = omega arith;
   writes = omega arith;
+  called = called_none m;
+  calm = λ ok. (refl, refl);
   no_read_fault = λ is. cc;
   write_fault = λ is. cc;
 }
@@ -102,6 +105,8 @@ moves_nothing {X = X} m (Err e) h = record {
   begun = refl;
   reads = omega arith;
   writes = omega arith;
+  called = called_none m;
+  calm = λ ok. (refl, refl);
   no_read_fault = λ is. let same : e ≡ stops.ReadFault = error_of {X = X} e stops.ReadFault (Err e) refl is in cc;
   write_fault = λ is. let same : e ≡ stops.WriteFault = error_of {X = X} e stops.WriteFault (Err e) refl is in cc;
 }
@@ -113,6 +118,8 @@ moves_done a x y v w moves = record {
   begun = moves.begun;
   reads = moves.reads;
   writes = moves.writes;
+  called = moves.called;
+  calm = λ ok. moves.calm refl;
   no_read_fault = λ is. cc;
   write_fault = λ is. cc;
 }
@@ -124,9 +131,14 @@ moves_again {X = X} {Y = Y} a x y e d same moves = record {
   begun = moves.begun;
   reads = moves.reads;
   writes = moves.writes;
+  called = moves.called;
+  calm = λ ok. absurd cc;
   no_read_fault = λ again. moves.no_read_fault (ap Err (sym same ∙ error_of {X = Y} d stops.ReadFault (Err d) refl again));
   write_fault = λ again. moves.write_fault (ap Err (sym same ∙ error_of {X = Y} d stops.WriteFault (Err d) refl again));
 }
+
+pub calm_both : (x y z : Moment) → IsCalm x y → IsCalm y z → IsCalm x z
+calm_both x y z first second = (second.0 ∙ first.0, second.1 ∙ first.1)
 
 -- a move that was done, and another
 pub moves_both : {X Y : Type 0} (a b : Given) (x y z : Moment) (v : X) (s : Result Y Stop) → Moves a x y (Ok v) → Moves b y z s → Moves (joined a b) x z s
@@ -140,6 +152,8 @@ moves_both a b x y z v s first second =
       begun = second.begun ∙ first.begun;
       reads = omega arith;
       writes = omega arith;
+      called = called_both [] [] [] [] x y z first.called second.called;
+      calm = λ ok. calm_both x y z (first.calm refl) (second.calm ok);
       no_read_fault = second.no_read_fault;
       write_fault = λ is. rose_later x.writes y.writes z.writes writes (second.write_fault is);
     }
@@ -205,14 +219,16 @@ step_as a b x y r same step = subst (λ (given : Given). Step given x y r) same 
 -- ---- bytes for one output
 
 pub step_given : {X : Type 0} (to : To) (bytes : List ℕ) (x y : Moment) (v : X) → y.told ≡ option_map (appended to bytes) x.told → y.begun ≡ x.begun →
-    x.reads ≤ y.reads → x.writes ≤ y.writes → Step (given_to to bytes) x y (Ok v)
-step_given to bytes x y v told begun reads writes = record {
+    x.reads ≤ y.reads → x.writes ≤ y.writes → Called [] [] x y → IsCalm x y → Step (given_to to bytes) x y (Ok v)
+step_given to bytes x y v told begun reads writes called calm = record {
   given = given_to to bytes;
   moves = record {
     told = told_one to bytes x.told y.told told;
     begun = begun;
     reads = reads;
     writes = writes;
+    called = called;
+    calm = λ ok. calm;
     no_read_fault = λ is. cc;
     write_fault = λ is. cc;
   };
@@ -220,14 +236,16 @@ step_given to bytes x y v told begun reads writes = record {
 }
 
 pub step_failed : {X : Type 0} (to : To) (front bytes : List ℕ) (x y : Moment) → IsPrefix front bytes → y.told ≡ option_map (appended to front) x.told →
-    y.begun ≡ x.begun → x.reads ≤ y.reads → x.writes ≤ y.writes → Rose x.writes y.writes → Step {X = X} (given_to to bytes) x y (Err stops.WriteFault)
-step_failed {X = X} to front bytes x y is told begun reads writes rose = record {
+    y.begun ≡ x.begun → x.reads ≤ y.reads → x.writes ≤ y.writes → Rose x.writes y.writes → Called [] [] x y → Step {X = X} (given_to to bytes) x y (Err stops.WriteFault)
+step_failed {X = X} to front bytes x y is told begun reads writes rose called = record {
   given = given_to to front;
   moves = record {
     told = told_one to front x.told y.told told;
     begun = begun;
     reads = reads;
     writes = writes;
+    called = called;
+    calm = λ ok. absurd cc;
     no_read_fault = λ is. let same : stops.WriteFault ≡ stops.ReadFault = error_of {X = X} stops.WriteFault stops.ReadFault (Err stops.WriteFault) refl is in cc;
     write_fault = λ is. rose;
   };
@@ -250,24 +268,26 @@ then_one to a b x y z r v s first is second = step_as _ _ x z s (given_to_both t
 -- ---- stops
 
 pub stop_is_whole : (stop : Stop) (bytes : List ℕ) (x y : Moment) (status : Status) → bytes ≡ stop_line stop → y.told ≡ option_map (appended outputs.Err bytes) x.told →
-    status ≡ stop_status stop → y.begun ≡ x.begun → x.reads ≤ y.reads → x.writes ≤ y.writes → TellsStop stop x y status
-stop_is_whole stop bytes x y status is told status_is begun reads writes = record {
+    status ≡ stop_status stop → y.begun ≡ x.begun → x.reads ≤ y.reads → x.writes ≤ y.writes → Called [] [] x y → TellsStop stop x y status
+stop_is_whole stop bytes x y status is told status_is begun reads writes called = record {
   line = bytes;
   told = told_one outputs.Err bytes x.told y.told told;
   how = inl (is, status_is);
   begun = begun;
+  called = called;
   reads = reads;
   writes = writes;
 }
 
 pub stop_is_cut : (stop : Stop) (front bytes : List ℕ) (x y : Moment) (status : Status) → bytes ≡ stop_line stop → IsPrefix front bytes →
     y.told ≡ option_map (appended outputs.Err front) x.told → status ≡ cut_status stop → Rose x.writes y.writes → y.begun ≡ x.begun → x.reads ≤ y.reads → x.writes ≤ y.writes →
-    TellsStop stop x y status
-stop_is_cut stop front bytes x y status is cut told status_is rose begun reads writes = record {
+    Called [] [] x y → TellsStop stop x y status
+stop_is_cut stop front bytes x y status is cut told status_is rose begun reads writes called = record {
   line = front;
   told = told_one outputs.Err front x.told y.told told;
   how = inr (subst (λ (whole : List ℕ). IsPrefix front whole) is cut, status_is, rose);
   begun = begun;
+  called = called;
   reads = reads;
   writes = writes;
 }

@@ -12,7 +12,7 @@ use Rattle.cc_defs.specs.Logs.{IsVerdict}
 use Rattle.cc_defs.specs.Refusals.{past}
 use Rattle.cc_defs.specs.Resolved.{Query}
 use Rattle.cc_describe.specs.Places.{Files}
-use Rattle.cc_judge.specs.Judging.{BlocksHistories, IsJudgeFault}
+use Rattle.cc_judge.specs.Judging.{BlocksHistories, IsJudgeFault, IsVerdictWithin}
 use Rattle.cc_ports.specs.Contents.{Contents}
 use Rattle.cc_query.specs.Accepted.{subject_of}
 use Rattle.cc_run.specs.Answers.{NamesLog, RefusesLog, RefusesRequest}
@@ -43,10 +43,11 @@ is_log_of (Some c) checking task name read bytes same same_bytes is there = reco
 -- ---- what is said
 
 pub is_said : (d : Description) (q : Query) (key found : Option Key) (bytes : List ℕ) (verdict : LogVerdict) → found ≡ key → length bytes ≤ limit_number limits.LogBytes →
-    IsVerdict (subject_of d q found) bytes verdict → BlocksHistories d q found bytes verdict → IsSaid (task_to_check d q key) bytes verdict
-is_said d q key found bytes verdict same few judged whole = record {
+    IsVerdict (subject_of d q found) bytes verdict → IsVerdictWithin d q found bytes verdict → BlocksHistories d q found bytes verdict → IsSaid (task_to_check d q key) bytes verdict
+is_said d q key found bytes verdict same few judged within whole = record {
   few = few;
   judged = subst (λ (k : Option Key). IsVerdict (subject_of d q k) bytes verdict) same judged;
+  within = subst (λ (k : Option Key). IsVerdictWithin d q k bytes verdict) same within;
   whole = subst (λ (k : Option Key). BlocksHistories d q k bytes verdict) same whole;
 }
 

@@ -1,3 +1,4 @@
+pub mod Callings
 pub mod EventTexts
 pub mod GivenSteps
 pub mod LineSteps

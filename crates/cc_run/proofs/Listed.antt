@@ -21,7 +21,7 @@ use Rattle.cc_ports.specs.Contents.{IsPrefix}
 use Rattle.cc_ports.specs.declared.desk.To.TheVariants as outputs
 use Rattle.cc_query.specs.Accepted.{WrittenLogsAreAccepted}
 use Rattle.cc_query.specs.Laws.{SpentBudgetsAreSmall}
-use Rattle.cc_query.specs.Sessions.{After, HasMore, IsSame, IsSessionOf, IsShortEvent, SessionView, with_row}
+use Rattle.cc_query.specs.Sessions.{After, HasMore, IsSame, IsSessionOf, SessionView, with_row}
 use Rattle.cc_run.specs.declared.status.Status.{Status}
 use Rattle.cc_run.specs.declared.status.Status.TheVariants as statuses
 use Rattle.cc_run.specs.declared.status.Stop.{Stop}
@@ -38,7 +38,7 @@ use Rattle.cc_run.proofs.GivenSteps.{given_all, fronts-nothing, moves_again, mov
 use Rattle.cc_run.proofs.Passing.{StopsAt, no_run}
 use Rattle.cc_run.proofs.RunEvents.{ends_so, last_row}
 use Rattle.cc_run.proofs.Spending.{budget_small}
-use Rattle.cc_run.proofs.Worth.{HeadsGood, logs_accepted, next_good, no_lines}
+use Rattle.cc_run.proofs.Worth.{IsGoodEvent, keeps_limits, logs_accepted, next_good, no_lines}
 
 -- what is behind the header of a log
 abbrev so_far : Manner → Description → List Told → Given
@@ -101,6 +101,7 @@ module _ (manner : Manner) (d : Description) (q : Query) (ask : Ask) (given : Li
             fair = fair;
             out = all.out;
             log = all.log;
+            limits = keeps_limits d q ask (events_of (first_horizon q ask.after) run) lines;
             accepted = logs_accepted d q ask run law fair lines;
             spent = budget_small d q ask small run fair lines;
             ends = how;
@@ -109,11 +110,12 @@ module _ (manner : Manner) (d : Description) (q : Query) (ask : Ask) (given : Li
       }
 
   -- it stopped with a front of what was to be given
-  stops_within : (run : Run) (more : Given) (stop : Stop) → IsFairRun d q ask run → IsAll manner d (events_of (first_horizon q ask.after) run) (so_far manner d given) more →
+  stops_within : (run : Run) (told : List Told) (more : Given) (stop : Stop) → IsFairRun d q ask run → HasGoodLines d q ask.after told →
+      told ≡ events_of (first_horizon q ask.after) run → IsAll manner d (events_of (first_horizon q ask.after) run) (so_far manner d given) more →
       (step : Step {X = Option Status} more x y (Err stop)) →
       (step.given.err ≡ []) ⊎ ((refusal : Refusal) × PassesLimit (task_of d q ask) run refusal × IsPrefix step.given.err (refusal_text refusal [])) →
       Finishes manner (task_of d q ask) (so_far manner d given) x y (Err stop)
-  stops_within run more stop fair all step err =
+  stops_within run told more stop fair good is all step err =
       let before = so_far manner d given in
       record {
         given = step.given;
@@ -122,6 +124,7 @@ module _ (manner : Manner) (d : Description) (q : Query) (ask : Ask) (given : Li
           run,
           record {
             fair = fair;
+            limits = keeps_limits d q ask (events_of (first_horizon q ask.after) run) (subst (λ (l : List Told). HasGoodLines d q ask.after l) is good);
             out = subst (λ (text : List ℕ). IsPrefix (before.out ++ step.given.out) text) all.out (prefix_behind before.out step.given.out more.out step.how.out);
             log = subst (λ (text : List ℕ). IsPrefix (before.log ++ step.given.log) text) all.log (prefix_behind before.log step.given.log more.log step.how.log);
             err = err;
@@ -134,7 +137,7 @@ module _ (d : Description) (q : Query) (given : List Told) (old new : Teller) (s
   Going x y r = GoesOn (manner_of old) d q given new session next x y r
 
   module _ (law : WrittenLogsAreAccepted) (small : SpentBudgetsAreSmall) (lines : HasGoodLines d q session.ask.after given) where
-    module _ (keeps : KeepsUp old given) (event : Event) (short : IsShortEvent event) (heads : HeadsGood d q session.ask.after event) (same : IsSame session next)
+    module _ (keeps : KeepsUp old given) (event : Event) (is : IsGoodEvent d q session.ask.after event) (same : IsSame session next)
         (after : After d q next (given ++ with_row event next.row ∷ []) × IsSessionOf next d q) (x y : Moment) where
       abbrev one : Told
       one = with_row event next.row
@@ -146,7 +149,7 @@ module _ (d : Description) (q : Query) (given : List Told) (old new : Teller) (s
       joins = texts_more d given one old (manner_of old) refl keeps
 
       good : HasGoodLines d q session.ask.after (given ++ one ∷ [])
-      good = next_good d q session.ask.after given event next.row lines short heads
+      good = next_good d q session.ask.after given event next.row lines is
 
       fair : AreFair d q session.ask (given ++ one ∷ [])
       fair = fair_of d q next session.ask (given ++ one ∷ []) same.ask after.0
@@ -173,7 +176,7 @@ module _ (d : Description) (q : Query) (given : List Told) (old new : Teller) (s
           (inl (ending.0, ends_so (first_horizon q session.ask.after) fair.0 given ending.0 last, ap (λ (g : Given). g.err) joins, ending.2))
           (moves_done _ x y (Some status) status (given_all _ x y (Some status) step))
       told_here (Err stop) step status kept =
-          stops_within (manner_of old) d q session.ask given x y fair.0 more stop fair.1 all step
+          stops_within (manner_of old) d q session.ask given x y fair.0 (given ++ one ∷ []) more stop fair.1 good fair.2 all step
           (inl (front_of_none step.given.err (subst (λ (text : List ℕ). IsPrefix step.given.err text) (ap (λ (g : Given). g.err) joins) step.how.err)))
 
       -- the next event was told, or a front of it
@@ -195,15 +198,15 @@ module _ (d : Description) (q : Query) (given : List Told) (old new : Teller) (s
         ends (manner_of old) d q session.ask given x y law small at.run given (only_err (refusal_text refusal [])) status at.fair lines at.given_is (limit_all refusal at)
         (inr (refusal, at.still, at.passes, refl, cc)) (moves_done (only_err (refusal_text refusal [])) x y (Some status) status (given_all _ x y (Some status) step))
     limit_told refusal x y (Err stop) at step status =
-        stops_within (manner_of old) d q session.ask given x y at.run (only_err (refusal_text refusal [])) stop at.fair (limit_all refusal at) step
+        stops_within (manner_of old) d q session.ask given x y at.run given (only_err (refusal_text refusal [])) stop at.fair lines at.given_is (limit_all refusal at) step
         (inr (refusal, at.passes, step.how.err))
 
   -- memory was wanting
-  pub memory_told : (m : Moment) → After d q session given → Going m m (Err stops.OutOfMemory)
-  memory_told m after =
+  pub memory_told : (m : Moment) → HasGoodLines d q session.ask.after given → After d q session given → Going m m (Err stops.OutOfMemory)
+  memory_told m lines after =
       let lacking : Result (Option Status) Stop = Err stops.OutOfMemory in
       let none : Step {X = Option Status} nothing m m lacking = record { given = nothing; moves = moves_nothing m lacking refl; how = fronts-nothing nothing } in
-      stops_within (manner_of old) d q session.ask given m m after.0 nothing stops.OutOfMemory after.1
+      stops_within (manner_of old) d q session.ask given m m after.0 given nothing stops.OutOfMemory after.1 lines after.2
       (all_err (manner_of old) d given (events_of (first_horizon q session.ask.after) after.0) [] after.2) none (inl refl)
 
 -- ---- the loop
@@ -316,6 +319,7 @@ module _ (manner : Manner) (task : Task) (x y : Moment) (fair : IsFairRun task.d
   front_telling : (given : Given) → AreFronts given (given_to outputs.Log header) → IsTelling manner task no_run (behind [] given)
   front_telling given fronts = record {
     fair = fair;
+    limits = keeps_limits task.description task.query task.ask [] (no_lines task.description task.query task.ask.after);
     out = subst (λ (text : List ℕ). IsPrefix given.out text) (ap (λ (g : Given). g.out) (none_given manner task.description)) fronts.out;
     log = subst (λ (text : List ℕ). IsPrefix given.log text) (sym (append-nil header)) fronts.log;
     err = inl (front_of_none given.err fronts.err);

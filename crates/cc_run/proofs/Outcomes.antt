@@ -1,6 +1,7 @@
 -- What a run leaves behind, from its steps.
-use Rattle.std.proofs.Common.{◌≡◌, ◌∙◌, refl, sym, ap, subst, ℕ, ◌≤◌, Bool, true, false, List, [], ◌++◌, Option, Some, None, Result, Ok, Err, IfSome, IfOk, MatchResult, inl, inr, option_map, append-nil, length, arith}
-use Rattle.std.specs.Prelude.{◌⊎◌, IsSomeAnd, ◌||◌}
+use Rattle.std.proofs.Common.{◌≡◌, ◌∙◌, refl, sym, ap, subst, ℕ, ◌≤◌, Bool, true, false, List, [], ◌∷◌, ◌++◌, Option, Some, None, Result, Ok, Err, IfSome, IfOk, MatchResult, inl, inr, option_map, append-nil, length, arith}
+use Rattle.std.specs.Prelude.{◌⊎◌, is_some, IsErrAnd, IsErrOf, IsSomeAnd, ◌||◌}
+use Rattle.std.specs.Borrow.{Bor}
 use Rattle.cc_defs.specs.declared.event.Ending.{Ending}
 use Rattle.cc_defs.specs.declared.event.Ending.TheVariants as endings
 use Rattle.cc_defs.specs.declared.log.LogVerdict.{LogVerdict}
@@ -9,22 +10,28 @@ use Rattle.cc_defs.specs.declared.refusal.LimitAt.TheVariants as limits
 use Rattle.cc_defs.specs.declared.refusal.Refusal.{Refusal}
 use Rattle.cc_defs.specs.Limits.{limit_number}
 use Rattle.cc_defs.specs.Logs.{IsVerdict}
-use Rattle.cc_describe.specs.Places.{Files}
-use Rattle.cc_ports.specs.Contents.{Contents, Rose, IsPrefix, with_rest}
+use Rattle.cc_describe.specs.Describing.{AreFirstNames, AreToOpen}
+use Rattle.cc_describe.specs.Places.{Files, HasPlaces}
+use Rattle.cc_ports.specs.Calls.{Begins as BeginsLog, Call, names_begun, names_opened, with_call, with_calls}
+use Rattle.cc_ports.specs.Contents.{Contents, Rose, IsPrefix, after_create, with_rest}
 use Rattle.cc_ports.specs.declared.desk.To.TheVariants as outputs
-use Rattle.cc_judge.specs.Judging.{BlocksHistories}
+use Rattle.cc_judge.specs.Judging.{BlocksHistories, IsVerdictWithin}
 use Rattle.cc_print.specs.Verdicts.{verdict_line}
 use Rattle.cc_query.specs.Accepted.{subject_of}
 use Rattle.cc_run.specs.declared.status.Status.{Status}
 use Rattle.cc_run.specs.declared.status.Status.TheVariants as statuses
 use Rattle.cc_run.specs.declared.status.Stop.{Stop}
 use Rattle.cc_run.specs.declared.status.Stop.TheVariants as stops
-use Rattle.cc_run.specs.Answers.{Answered, Answers, AreFronts, CheckedPlan, Counts, Ended, GaveSoFar, Given, IsFresh, IsTold, Left, Lists, Manner, NamesLog, Plan, RefusesRequest, RoseTwice, counts, left_in, only_err, only_out, refusal_text, status_of, verdict_status}
-use Rattle.cc_run.specs.Stops.{Begins, IsEndStatus, IsTelling, Leaves, Moment, Prints, Searches, Step, TellsStop, adding, cut_status, given_to, stop_line, stop_status}
+use Rattle.cc_run.specs.Answers.{Answered, Answers, AreFronts, CheckedPlan, Counts, Ended, GaveSoFar, Given, IsFresh, IsTold, Left, Lists, Manner, NamesLog, Plan, RefusesRequest, RoseTwice, counts, left_in, nothing, only_err, only_out, refusal_text, status_of, verdict_status}
+use Rattle.cc_run.specs.Names.{AreAsked, BeginsAsked, IsAnswer, IsEndStatus, MayEndWith, OpensAsked, log_asked}
+use Rattle.cc_run.specs.Stops.{Begins, Called, IsCalm, IsTelling, Leaves, Moment, Prints, PrintsAsked, Searches, Step, TellsStop, adding, cut_status, given_to, outcome, stop_line, stop_status}
 use Rattle.cc_run.specs.Tasks.{Task, request_of}
-use Rattle.cc_defs.specs.Runs.{Run}
-use Rattle.cc_words.specs.Requests.{Checking, Request, ToCheck}
+use Rattle.cc_defs.specs.Runs.{Run, optional}
+use Rattle.cc_words.specs.Requests.{Checking, Listing, Request, ToCheck, ToList, ToMake}
+use Rattle.cc_words.specs.Views.{plain_text}
 use Rattle.cc_words.specs.Words.{Text}
+use Rattle.cc_run.proofs.Callings.{asks_behind, asks_nothing, called_begins, called_none, called_on, first_none, may_be_refused, some_asked_of, stop_answers_nothing, told_answers_nothing}
+use Rattle.cc_run.proofs.GivenSteps.{calm_both}
 
 -- ---- counts
 
@@ -82,9 +89,13 @@ known (Some c) P Q f h = f c h
 
 -- ---- a refusal
 
-ends_refused : (r : Result Status Stop) → IfOk r (λ status. status ≡ statuses.Refused) → IfOk r IsEndStatus
-ends_refused (Ok status) is = subst IsEndStatus (sym is) tt
-ends_refused (Err stop) is = tt
+ends_refused : (request : Option Request) (r : Result Status Stop) → IfOk r (λ status. status ≡ statuses.Refused) → IfOk r (MayEndWith request)
+ends_refused request (Ok status) is = subst (λ (s : Status). MayEndWith request s) (sym is) (may_be_refused request)
+ends_refused request (Err stop) is = tt
+
+refused_answers_nothing : (r : Result Status Stop) → IfOk r (λ status. status ≡ statuses.Refused) → IsAnswer (outcome r) → ⊥
+refused_answers_nothing (Ok status) is answer = subst IsAnswer is answer
+refused_answers_nothing (Err stop) is answer = stop_answers_nothing stop answer
 
 refusal_comes : (files : Files) (words : List Text) (refusal : Refusal) (file : Text) (given : Given) (begun : Bool) (r : Result Status Stop) →
     RefusesRequest files (request_of words) refusal file → begun ≡ false →
@@ -104,14 +115,16 @@ refusal_comes files words refusal file given begun (Err stop) refused none how i
   begun = none;
 }))
 
-pub prints_refusal : (words : List Text) (begins : Bool) (refusal : Refusal) (file : Text) (x z : Moment) (r : Result Status Stop) →
+pub prints_refusal : (words : List Text) (begins : Bool) (opens : List Text) (refusal : Refusal) (file : Text) (x z : Moment) (r : Result Status Stop) →
     IfSome x.told (λ c. RefusesRequest c.files (request_of words) refusal file) → Step (only_err (refusal_text refusal file)) x z r →
-    IfOk r (λ status. status ≡ statuses.Refused) → Prints words begins x z r
-prints_refusal words begins refusal file x z r refused step is = record {
+    IfOk r (λ status. status ≡ statuses.Refused) → Prints words begins opens x z r
+prints_refusal words begins opens refusal file x z r refused step is = record {
   told = told_given words step.given x.told z.told x.begun z.begun r step.moves.told
       (known x.told (λ c. RefusesRequest c.files (request_of words) refusal file) (λ c. x.begun ≡ false → Comes c.files words (left step.given z.begun) r)
       (λ c refused none. refusal_comes c.files words refusal file step.given z.begun r refused (step.moves.begun ∙ none) step.how is) refused);
-  ends = ends_refused r is;
+  ends = ends_refused (request_of words) r is;
+  asks = asks_nothing opens (log_asked (request_of words)) x z r step.moves.called (refused_answers_nothing r is);
+  calm = step.moves.calm;
   begun = λ _. step.moves.begun;
   reads = step.moves.reads;
   writes = step.moves.writes;
@@ -121,18 +134,22 @@ prints_refusal words begins refusal file x z r refused step is = record {
 
 -- ---- a verdict
 
-verdict_ends : (verdict : LogVerdict) → IsEndStatus (verdict_status verdict)
-verdict_ends (verdicts.Accepted first last blocked) = tt
-verdict_ends (verdicts.Refused line reason) = tt
+verdict_ends : (checking : Checking) (verdict : LogVerdict) → MayEndWith (Some (ToCheck checking)) (verdict_status verdict)
+verdict_ends checking (verdicts.Accepted first last blocked) = tt
+verdict_ends checking (verdicts.Refused line reason) = tt
 
-ends_verdict : (verdict : LogVerdict) (r : Result Status Stop) → IfOk r (λ status. status ≡ verdict_status verdict) → IfOk r IsEndStatus
-ends_verdict verdict (Ok status) is = subst IsEndStatus (sym is) (verdict_ends verdict)
-ends_verdict verdict (Err stop) is = tt
+ends_verdict : (request : Option Request) (checking : Checking) (verdict : LogVerdict) (r : Result Status Stop) → request ≡ Some (ToCheck checking) →
+    IfOk r (λ status. status ≡ verdict_status verdict) → IfOk r (MayEndWith request)
+ends_verdict request checking verdict (Ok status) asked is =
+    subst (λ (o : Option Request). MayEndWith o status) (sym asked)
+    (subst (λ (s : Status). MayEndWith (Some (ToCheck checking)) s) (sym is) (verdict_ends checking verdict))
+ends_verdict request checking verdict (Err stop) asked is = tt
 
 -- what is said of a log
 pub record IsSaid (task : Task) (bytes : List ℕ) (verdict : LogVerdict) : Type 0 where
   pub few : length bytes ≤ limit_number limits.LogBytes
   pub judged : IsVerdict (subject_of task.description task.query task.ask.after) bytes verdict
+  pub within : IsVerdictWithin task.description task.query task.ask.after bytes verdict
   pub whole : BlocksHistories task.description task.query task.ask.after bytes verdict
 
 abbrev verdict_plan : LogVerdict → Plan
@@ -149,6 +166,7 @@ verdict_planned files words checking task bytes verdict asked named said = recor
   few = said.few;
   verdict = verdict;
   judged = said.judged;
+  within = said.within;
   whole = said.whole;
   given = refl;
   begun = refl;
@@ -175,13 +193,22 @@ verdict_comes files words verdict given begun (Err stop) planned none how is = i
 
 pub prints_verdict : (words : List Text) (begins : Bool) (checking : Checking) (task : Task) (bytes : List ℕ) (verdict : LogVerdict) (x z : Moment) (r : Result Status Stop) →
     request_of words ≡ Some (ToCheck checking) → IfSome x.told (λ c. NamesLog c.files checking task bytes) → IsSaid task bytes verdict →
-    Step (only_out (verdict_line verdict)) x z r → IfOk r (λ status. status ≡ verdict_status verdict) → Prints words begins x z r
+    Step (only_out (verdict_line verdict)) x z r → IfOk r (λ status. status ≡ verdict_status verdict) → Prints words begins [] x z r
 prints_verdict words begins checking task bytes verdict x z r asked named said step is = record {
   told = told_given words step.given x.told z.told x.begun z.begun r step.moves.told
       (known x.told (λ c. NamesLog c.files checking task bytes) (λ c. x.begun ≡ false → Comes c.files words (left step.given z.begun) r)
       (λ c log none. verdict_comes c.files words verdict step.given z.begun r (verdict_planned c.files words checking task bytes verdict asked log said)
       (step.moves.begun ∙ none) step.how is) named);
-  ends = ends_verdict verdict r is;
+  ends = ends_verdict (request_of words) checking verdict r asked is;
+  asks = record {
+    opened = [];
+    begun = [];
+    called = step.moves.called;
+    opened_first = first_none [];
+    begun_first = first_none (log_asked (request_of words));
+    whole = λ _. (refl, sym (ap log_asked asked));
+  };
+  calm = step.moves.calm;
   begun = λ _. step.moves.begun;
   reads = step.moves.reads;
   writes = step.moves.writes;
@@ -192,8 +219,43 @@ prints_verdict words begins checking task bytes verdict x z r asked named said s
 -- ---- other words
 
 -- the same run, where whether it begins a log is spelled otherwise
-pub prints_as : (words : List Text) (a b : Bool) (x z : Moment) (r : Result Status Stop) → a ≡ b → Prints words a x z r → Prints words b x z r
-prints_as words a b x z r same prints = subst (λ begins. Prints words begins x z r) same prints
+pub prints_as : (words : List Text) (a b : Bool) (x z : Moment) (r : Result Status Stop) → a ≡ b → PrintsAsked words a x z r → PrintsAsked words b x z r
+prints_as words a b x z r same prints = subst (λ begins. PrintsAsked words begins x z r) same prints
+
+-- a run that has no file to open
+pub prints_unopened : (words : List Text) (begins : Bool) (x z : Moment) (r : Result Status Stop) → ((files : Files) → AreAsked files (request_of words) []) →
+    Prints words begins [] x z r → PrintsAsked words begins x z r
+prints_unopened words begins x z r asked prints = record { opens = []; asked = of x.told; prints = prints }
+  where
+    of : (o : Option Contents) → IfSome o (λ before. AreAsked before.files (request_of words) [])
+    of None = tt
+    of (Some c) = asked c.files
+
+-- a run that has the files of a description to open
+pub prints_listing : (words : List Text) (begins : Bool) (listing : Listing) (opens : List Text) (x z : Moment) (r : Result Status Stop) →
+    request_of words ≡ Some (ToList listing) → IfSome x.told (λ before. AreToOpen before.files listing.file opens) → Prints words begins opens x z r →
+    PrintsAsked words begins x z r
+prints_listing words begins listing opens x z r asked are prints = record {
+  opens = opens;
+  asked = known x.told (λ before. AreToOpen before.files listing.file opens) (λ before. AreAsked before.files (request_of words) opens)
+      (λ before is. subst (λ (o : Option Request). AreAsked before.files o opens) (sym asked) is) are;
+  prints = prints;
+}
+
+-- and a log behind them
+pub prints_checking : (words : List Text) (begins : Bool) (checking : Checking) (opens : List Text) (x z : Moment) (r : Result Status Stop) →
+    request_of words ≡ Some (ToCheck checking) → IfSome x.told (λ before. AreToOpen before.files checking.file opens) →
+    Prints words begins (opens ++ checking.log ∷ []) x z r → PrintsAsked words begins x z r
+prints_checking words begins checking opens x z r asked are prints = record {
+  opens = opens ++ checking.log ∷ [];
+  asked = known x.told (λ before. AreToOpen before.files checking.file opens)
+      (λ before. AreAsked before.files (request_of words) (opens ++ checking.log ∷ []))
+      (λ before is. subst (λ (o : Option Request). AreAsked before.files o (opens ++ checking.log ∷ [])) (sym asked) (opens, is, refl)) are;
+  prints = prints;
+}
+
+pub prints_opening : (words : List Text) (begins : Bool) (a b : List Text) (x z : Moment) (r : Result Status Stop) → a ≡ b → Prints words begins a x z r → Prints words begins b x z r
+prints_opening words begins a b x z r same prints = subst (λ opens. Prints words begins opens x z r) same prints
 
 -- what was refused of what was asked
 pub refused_known : (o : Option Contents) (request : Option Request) (refusal : Refusal) (file : Text) → ((files : Files) → RefusesRequest files request refusal file) →
@@ -219,11 +281,14 @@ told_read words rest (Some c) mid new was at begun r told same prints = λ fresh
     some_over None h = h
     some_over (Some after) h = leaves_read words rest c after begun r h
 
-pub prints_after_read : (words : List Text) (begins : Bool) (rest : List ℕ) (x y z : Moment) (r : Result Status Stop) → y.told ≡ option_map (with_rest rest) x.told →
-    y.begun ≡ x.begun → x.reads ≤ y.reads → x.writes ≤ y.writes → Prints words begins y z r → Prints words begins x z r
-prints_after_read words begins rest x y z r told begun reads writes prints = record {
+pub prints_after_read : (words : List Text) (begins : Bool) (opened opens : List Text) (rest : List ℕ) (x y z : Moment) (r : Result Status Stop) → y.told ≡ option_map (with_rest rest) x.told →
+    y.begun ≡ x.begun → x.reads ≤ y.reads → x.writes ≤ y.writes → Called opened [] x y → IsCalm x y → Prints words begins opens y z r →
+    Prints words begins (opened ++ opens) x z r
+prints_after_read words begins opened opens rest x y z r told begun reads writes called calm prints = record {
   told = told_read words rest x.told y.told z.told x.begun y.begun z.begun r told begun prints.told;
   ends = prints.ends;
+  asks = asks_behind opened opens (log_asked (request_of words)) x y z r called prints.asks;
+  calm = λ ok. calm_both x y z calm (prints.calm ok);
   begun = λ none. prints.begun none ∙ begun;
   reads = omega (arith, prints.reads);
   writes = omega (arith, prints.writes);
@@ -236,6 +301,66 @@ pub files_stay : (rest : List ℕ) (P : Files → Type 0) (old mid : Option Cont
     IfSome old (λ c. P c.files) → IfSome mid (λ c. P c.files)
 files_stay rest P None mid told h = subst (λ (m : Option Contents). IfSome m (λ c. P c.files)) (sym told) tt
 files_stay rest P (Some c) mid told h = subst (λ (m : Option Contents). IfSome m (λ c. P c.files)) (sym told) h
+
+-- ---- a run that stopped before it gave anything
+
+fresh_nothing : (c : Contents) → IsFresh c → (left_in c false).given ≡ nothing
+fresh_nothing c fresh = λ i. record { out = fresh.out i; err = fresh.err i; log = fresh.log i }
+
+leaves_nothing : (words : List Text) (before c : Contents) (begun : Bool) (stop : Stop) → c.files ≡ before.files → IsFresh c → begun ≡ false → Leaves words before c begun (Err stop)
+leaves_nothing words before c begun stop files fresh none = record { files = files; how = inl (fresh_nothing c fresh, none) }
+
+told_stopped : (words : List Text) (rest : List ℕ) (old new : Option Contents) (was begun : Bool) (stop : Stop) → new ≡ option_map (with_rest rest) old → begun ≡ was →
+    IfSome old (λ before. IsFresh before → was ≡ false → IsSomeAnd new (λ after. Leaves words before after begun (Err stop)))
+told_stopped words rest None new was begun stop told same = tt
+told_stopped words rest (Some c) new was begun stop told same = λ fresh none.
+    subst (λ (n : Option Contents). IsSomeAnd n (λ after. Leaves words c after begun (Err stop))) (sym told)
+    (leaves_nothing words c (with_rest rest c) begun stop refl (record { out = fresh.out; err = fresh.err; log = fresh.log }) (same ∙ none))
+
+-- it has read, and opened the first of the files that it has to open
+pub prints_stopped : (words : List Text) (begins : Bool) (opened opens : List Text) (rest : List ℕ) (stop : Stop) (x y : Moment) → y.told ≡ option_map (with_rest rest) x.told →
+    y.begun ≡ x.begun → x.reads ≤ y.reads → x.writes ≤ y.writes → Called opened [] x y → AreFirstNames opened opens → (stop ≡ stops.ReadFault → Rose x.reads y.reads) →
+    (stop ≡ stops.WriteFault → ⊥) → Prints words begins opens x y (Err stop)
+prints_stopped words begins opened opens rest stop x y told begun reads writes called first read_fault write_fault = record {
+  told = told_stopped words rest x.told y.told x.begun y.begun stop told begun;
+  ends = tt;
+  asks = record {
+    opened = opened;
+    begun = [];
+    called = called;
+    opened_first = first;
+    begun_first = first_none (log_asked (request_of words));
+    whole = λ is. absurd (stop_answers_nothing stop is);
+  };
+  calm = λ ok. absurd cc;
+  begun = λ _. begun;
+  reads = reads;
+  writes = writes;
+  read_fault = λ is. read_fault (error_is stop stops.ReadFault is);
+  write_fault = λ is. absurd (write_fault (error_is stop stops.WriteFault is));
+}
+  where
+    error_is : (d e : Stop) → IsErrOf {T = Status} (Err d) e → d ≡ e
+    error_is d e is = cc
+
+-- nothing happened but that memory was wanting
+pub prints_lacking : (words : List Text) (begins : Bool) (opens : List Text) (x : Moment) (r : Result Status Stop) → IsErrAnd r (λ e. e ≡ stops.OutOfMemory) →
+    Prints words begins opens x x r
+prints_lacking words begins opens x (Ok status) lacks = absurd lacks
+prints_lacking words begins opens x (Err stop) lacks =
+    let same = same_told x.told in
+    prints_stopped words begins [] opens same.0 stop x x same.1 refl (omega arith) (omega arith) (called_none x) (first_none opens)
+    (λ is. absurd cc) (λ is. absurd cc)
+  where
+    same_told : (o : Option Contents) → (rest : List ℕ) × (o ≡ option_map (with_rest rest) o)
+    same_told None = ([], refl)
+    same_told (Some c) = (c.rest, refl)
+
+-- before it was known what the words ask for
+pub asked_lacking : (words : List Text) (begins : Bool) (x : Moment) (r : Result Status Stop) → HasPlaces → IsErrAnd r (λ e. e ≡ stops.OutOfMemory) → PrintsAsked words begins x x r
+asked_lacking words begins x r has lacks =
+    let some = some_asked_of has x.told (request_of words) in
+    record { opens = some.0; asked = some.1; prints = prints_lacking words begins some.0 x r lacks }
 
 -- ---- a log that is begun, and a search behind it
 
@@ -254,10 +379,27 @@ told_ends manner task run given status told = elim told.ends [
   | inr refused ↦ subst IsEndStatus (sym refused.4) tt
 ]
 
-search_ends : (manner : Manner) (task : Task) (given : Given) (r : Result Status Stop) →
-    MatchResult r (λ status. (run : Run) × IsTold manner task run given status) (λ _. (run : Run) × IsTelling manner task run given) → IfOk r IsEndStatus
-search_ends manner task given (Ok status) how = told_ends manner task how.0 given status how.1
-search_ends manner task given (Err stop) how = tt
+search_ends : (request : Option Request) (manner : Manner) (task : Task) (given : Given) (r : Result Status Stop) → ((status : Status) → IsEndStatus status → MayEndWith request status) →
+    MatchResult r (λ status. (run : Run) × IsTold manner task run given status) (λ _. (run : Run) × IsTelling manner task run given) → IfOk r (MayEndWith request)
+search_ends request manner task given (Ok status) may how = may status (told_ends manner task how.0 given status how.1)
+search_ends request manner task given (Err stop) may how = tt
+
+-- what a search is for: these are the logs that it begins, and it may end as it does
+pub record IsForSearch (request : Option Request) (names : List Text) : Type 0 where
+  pub names_are : names ≡ log_asked request
+  pub may : (status : Status) → IsEndStatus status → MayEndWith request status
+
+pub lists_for : (request : Option Request) (listing : Listing) (names : List Text) → request ≡ Some (ToList listing) → names ≡ optional listing.log → IsForSearch request names
+lists_for request listing names asked named = record {
+  names_are = named ∙ sym (ap log_asked asked);
+  may = λ status is. subst (λ (o : Option Request). MayEndWith o status) (sym asked) is;
+}
+
+pub makes_for : (request : Option Request) (size budget : ℕ) → request ≡ Some (ToMake size budget) → IsForSearch request []
+makes_for request size budget asked = record {
+  names_are = sym (ap log_asked asked);
+  may = λ status is. subst (λ (o : Option Request). MayEndWith o status) (sym asked) is;
+}
 
 search_comes : (files : Files) (words : List Text) (manner : Manner) (task : Task) (given : Given) (begun : Bool) (r : Result Status Stop) → Lists files words begun manner task →
     MatchResult r (λ status. (run : Run) × IsTold manner task run given status) (λ _. (run : Run) × IsTelling manner task run given) → Comes files words (left given begun) r
@@ -274,6 +416,7 @@ search_comes files words manner task given begun (Err stop) lists how = inr (inr
   lists = lists;
   run = how.0;
   fair = how.1.fair;
+  limits = how.1.limits;
   out = how.1.out;
   log = how.1.log;
   err = how.1.err;
@@ -289,11 +432,12 @@ told_search words given (Some c) mid new was begun r told moves how = λ fresh n
     (comes_over words c c given begun r fresh refl (how none))
 
 -- a log was begun where one is named, and a search behind it
-pub prints_search : {X : Type 0} (words : List Text) (begins : Bool) (manner : Manner) (task : Task) (x y z : Moment) (b : Result X Stop) (v : X) (r : Result Status Stop) →
-    Begins begins x y b → b ≡ Ok v → Searches manner task [] y z r → IfSome x.told (λ before. Lists before.files words begins manner task) → Prints words begins x z r
-prints_search {X = X} words begins manner task x y z b v r at is searched lists =
+pub prints_search : {X : Type 0} (words : List Text) (begins : Bool) (names : List Text) (manner : Manner) (task : Task) (x y z : Moment) (b : Result X Stop) (v : X) (r : Result Status Stop) →
+    IsForSearch (request_of words) names → Begins begins names x y b → b ≡ Ok v → Searches manner task [] y z r →
+    IfSome x.told (λ before. Lists before.files words begins manner task) → Prints words begins [] x z r
+prints_search {X = X} words begins names manner task x y z b v r for at is searched lists =
     let made : Result X Stop = Ok v in
-    let done : Begins begins x y made = subst (λ b. Begins begins x y b) is at in
+    let done : Begins begins names x y made = subst (λ b. Begins begins names x y b) is at in
     let given = searched.given in
     let moves = searched.moves in
     record {
@@ -301,7 +445,16 @@ prints_search {X = X} words begins manner task x y z b v r at is searched lists 
           (known x.told (λ before. Lists before.files words begins manner task) (λ before. x.begun ≡ false → Comes before.files words (left given z.begun) r)
           (λ before lists none. search_comes before.files words manner task given z.begun r
           (subst (λ (w : Bool). Lists before.files words w manner task) (begun_as begins x.begun y.begun z.begun done.begun moves.begun none) lists) searched.how) lists);
-      ends = search_ends manner task given r searched.how;
+      ends = search_ends (request_of words) manner task given r for.may searched.how;
+      asks = record {
+        opened = [];
+        begun = names;
+        called = called_on [] names x y z done.called moves.called;
+        opened_first = first_none [];
+        begun_first = ([], sym for.names_are ∙ sym (append-nil names));
+        whole = λ _. (refl, for.names_are);
+      };
+      calm = λ ok. calm_both x y z (done.calm refl) (moves.calm ok);
       begun = λ none. moves.begun ∙ (done.begun ∙ ap (λ w. w || x.begun) none);
       reads = omega (arith, done.reads, moves.reads);
       writes = omega (arith, done.writes, moves.writes);
@@ -313,20 +466,105 @@ prints_search {X = X} words begins manner task x y z b v r at is searched lists 
     begun_as true was at begun one two none = sym (two ∙ one)
     begun_as false was at begun one two none = sym (two ∙ (one ∙ none))
 
+-- a log that was to be begun
+begun_fresh : (c : Contents) → IsFresh c → after_create true c ≡ c
+begun_fresh c fresh = λ i. record c { log = sym fresh.log i }
+
+after_begun : (old new : Option Contents) → new ≡ option_map (after_create true) old → IfSome old (λ before. IsFresh before → new ≡ Some before)
+after_begun None new is = tt
+after_begun (Some c) new is = λ fresh. is ∙ ap Some (begun_fresh c fresh)
+
+after_failed : (old new : Option Contents) → new ≡ option_map (after_create false) old → IfSome old (λ before. IsFresh before → new ≡ Some before)
+after_failed None new is = tt
+after_failed (Some c) new is = λ fresh. is
+
+pub begins_done : {X : Type 0} (o : Option (Bor Text)) (name : Bor Text) (x y : Moment) (v : X) → o ≡ Some name → y.told ≡ option_map (after_create true) x.told → y.begun ≡ true →
+    y.calls ≡ with_call (BeginsLog name.now) x.calls → IsCalm x y → x.reads ≤ y.reads → x.writes ≤ y.writes → Begins (is_some o) (optional (plain_text o)) x y (Ok v)
+begins_done o name x y v is told begun calls calm reads writes =
+    subst (λ (n : Option (Bor Text)). Begins (is_some n) (optional (plain_text n)) x y (Ok v)) (sym is) (record {
+      told = after_begun x.told y.told told;
+      begun = begun;
+      failed = tt;
+      called = called_begins name.now x y calls;
+      calm = λ _. calm;
+      reads = reads;
+      writes = writes;
+    })
+
+pub begins_failed : {X : Type 0} (o : Option (Bor Text)) (name : Bor Text) (x y : Moment) → o ≡ Some name → y.told ≡ option_map (after_create false) x.told → y.begun ≡ x.begun →
+    y.calls ≡ with_call (BeginsLog name.now) x.calls → Rose x.writes y.writes → x.reads ≤ y.reads → x.writes ≤ y.writes →
+    Begins {X = X} (is_some o) (optional (plain_text o)) x y (Err stops.WriteFault)
+begins_failed {X = X} o name x y is told begun calls rose reads writes =
+    let failed : Result X Stop = Err stops.WriteFault in
+    subst (λ (n : Option (Bor Text)). Begins (is_some n) (optional (plain_text n)) x y failed) (sym is) (record {
+      told = after_failed x.told y.told told;
+      begun = begun;
+      failed = (refl, rose, refl);
+      called = called_begins name.now x y calls;
+      calm = λ ok. absurd cc;
+      reads = reads;
+      writes = writes;
+    })
+
+-- a log that was not begun
+pub prints_unbegun : {X : Type 0} (words : List Text) (named : Bool) (names : List Text) (x y : Moment) (b : Result X Stop) (e : Stop) (r : Result Status Stop) →
+    IsForSearch (request_of words) names → Begins named names x y b → b ≡ Err e → IsErrAnd r (λ d. d ≡ e) → Prints words named [] x y r
+prints_unbegun words named names x y b e (Ok status) for at is same = absurd same
+prints_unbegun {X = X} words named names x y b e (Err d) for at is same =
+    let failed : Result X Stop = Err e in
+    let left : Begins named names x y failed = subst (λ b. Begins named names x y b) is at in
+    record {
+      told = known x.told (λ before. IsFresh before → y.told ≡ Some before)
+          (λ before. IsFresh before → x.begun ≡ false → IsSomeAnd y.told (λ after. Leaves words before after y.begun (Err d)))
+          (λ before there fresh none. subst (λ (n : Option Contents). IsSomeAnd n (λ after. Leaves words before after y.begun (Err d))) (sym (there fresh))
+          (leaves_nothing words before before y.begun d refl fresh (left.begun ∙ none))) left.told;
+      ends = tt;
+      asks = record {
+        opened = [];
+        begun = names;
+        called = left.called;
+        opened_first = first_none [];
+        begun_first = ([], sym for.names_are ∙ sym (append-nil names));
+        whole = λ is. absurd (stop_answers_nothing d is);
+      };
+      calm = λ ok. absurd cc;
+      begun = λ _. left.begun;
+      reads = left.reads;
+      writes = left.writes;
+      read_fault = λ is. absurd (not_read d e same left.failed.0 is);
+      write_fault = λ is. left.failed.1;
+    }
+  where
+    not_read : (d e : Stop) → d ≡ e → e ≡ stops.WriteFault → IsErrOf {T = Status} (Err d) stops.ReadFault → ⊥
+    not_read d e same is read = absurd cc
+
 -- where no log is named, nothing is begun
-begins_none : (x : Moment) → Begins {X = Unit {0}} false x x (Ok tt)
-begins_none x = record { told = same x.told; begun = refl; failed = tt; reads = omega arith; writes = omega arith }
+pub begins_none : (x : Moment) → Begins {X = Unit {0}} false [] x x (Ok tt)
+begins_none x = record { told = same x.told; begun = refl; failed = tt; called = called_none x; calm = λ _. (refl, refl); reads = omega arith; writes = omega arith }
   where
     same : (o : Option Contents) → IfSome o (λ before. IsFresh before → o ≡ Some before)
     same None = tt
     same (Some c) = λ fresh. refl
 
 -- a search whose log was not begun
-pub prints_made : (words : List Text) (manner : Manner) (task : Task) (x z : Moment) (r : Result Status Stop) → Searches manner task [] x z r →
-    IfSome x.told (λ before. Lists before.files words false manner task) → Prints words false x z r
-prints_made words manner task x z r searched lists = prints_search words false manner task x x z (Ok tt) tt r (begins_none x) refl searched lists
+pub prints_made : (words : List Text) (manner : Manner) (task : Task) (x z : Moment) (r : Result Status Stop) → IsForSearch (request_of words) [] → Searches manner task [] x z r →
+    IfSome x.told (λ before. Lists before.files words false manner task) → Prints words false [] x z r
+prints_made words manner task x z r for searched lists = prints_search words false [] manner task x x z (Ok tt) tt r for (begins_none x) refl searched lists
 
 -- ---- the end of a run
+
+pub ends_as_it_may : (request : Option Request) (status : Status) → MayEndWith request status → IsEndStatus status
+ends_as_it_may None status is = subst IsEndStatus (sym is) tt
+ends_as_it_may (Some (ToList listing)) status is = is
+ends_as_it_may (Some (ToMake size budget)) status is = is
+ends_as_it_may (Some (ToCheck checking)) statuses.Right is = is
+ends_as_it_may (Some (ToCheck checking)) statuses.Not is = is
+ends_as_it_may (Some (ToCheck checking)) statuses.Refused is = is
+ends_as_it_may (Some (ToCheck checking)) statuses.Spent is = absurd is
+ends_as_it_may (Some (ToCheck checking)) statuses.Asked is = absurd is
+ends_as_it_may (Some (ToCheck checking)) statuses.ReadFault is = is
+ends_as_it_may (Some (ToCheck checking)) statuses.WriteFault is = is
+ends_as_it_may (Some (ToCheck checking)) statuses.OutOfMemory is = is
 
 answers_ended : (files : Files) (words : List Text) (status : Status) (c : Counts) (l : Left) → IsEndStatus status → Ended files words status l → Answers files words status c l
 answers_ended files words statuses.Right c l ends ended = ended
@@ -347,12 +585,17 @@ over_ended words status c before (Some after) begun ends over = record {
 }
 
 -- a run that came to its end
-pub run_ended : (words : List Text) (begins : Bool) (status : Status) (c : Counts) (x z : Moment) → Prints words begins x z (Ok status) →
+pub run_ended : (words : List Text) (begins : Bool) (opens : List Text) (status : Status) (c : Counts) (x z : Moment) → Prints words begins opens x z (Ok status) →
     IfSome x.told (λ before. IsFresh before → x.begun ≡ false → IsSomeAnd z.told (λ after. Answered before after z.begun words status c))
-run_ended words begins status c x z prints =
+run_ended words begins opens status c x z prints =
     known x.told (λ before. IsFresh before → x.begun ≡ false → IsSomeAnd z.told (λ after. Leaves words before after z.begun (Ok status)))
     (λ before. IsFresh before → x.begun ≡ false → IsSomeAnd z.told (λ after. Answered before after z.begun words status c))
-    (λ before over fresh none. over_ended words status c before z.told z.begun prints.ends (over fresh none)) prints.told
+    (λ before over fresh none. over_ended words status c before z.told z.begun
+    (ends_as_it_may (request_of words) status prints.ends) (over fresh none)) prints.told
+
+-- a run that came to its end answers no fault
+pub ended_is : (words : List Text) (begins : Bool) (x z : Moment) (status : Status) → PrintsAsked words begins x z (Ok status) → IsEndStatus status
+ended_is words begins x z status asked = ends_as_it_may (request_of words) status asked.prints.ends
 
 -- ---- a run that was cut short
 
@@ -390,11 +633,11 @@ cut_short stops.OutOfMemory status x y z line reads writes later_reads later_wri
     subst (λ s. Answers files words s (counts x.reads z.reads x.writes z.writes) l) (sym cut.1)
     (line, inr (cut.0, rose_later x.writes y.writes z.writes writes cut.2), record { before = before; gave = gave; given = given; begun = begun })
 
-over_stopped : (words : List Text) (begins : Bool) (stop : Stop) (status : Status) (x y z : Moment) (before : Contents) (mid : Option Contents) → y.told ≡ mid →
-    Prints words begins x y (Err stop) → TellsStop stop y z status → IsSomeAnd mid (λ after. Leaves words before after y.begun (Err stop)) →
+over_stopped : (words : List Text) (begins : Bool) (opens : List Text) (stop : Stop) (status : Status) (x y z : Moment) (before : Contents) (mid : Option Contents) → y.told ≡ mid →
+    Prints words begins opens x y (Err stop) → TellsStop stop y z status → IsSomeAnd mid (λ after. Leaves words before after y.begun (Err stop)) →
     IsSomeAnd z.told (λ after. Answered before after z.begun words status (counts x.reads z.reads x.writes z.writes))
-over_stopped words begins stop status x y z before None is prints tells over = absurd over
-over_stopped words begins stop status x y z before (Some m) is prints tells over =
+over_stopped words begins opens stop status x y z before None is prints tells over = absurd over
+over_stopped words begins opens stop status x y z before (Some m) is prints tells over =
     let Done : Option Contents → Type 0 = λ n. IsSomeAnd n (λ after. Answered before after z.begun words status (counts x.reads z.reads x.writes z.writes)) in
     subst Done (sym (tells.told ∙ ap (option_map (adding (given_to outputs.Err tells.line))) is)) (record {
       files = over.files;
@@ -405,10 +648,48 @@ over_stopped words begins stop status x y z before (Some m) is prints tells over
     })
 
 -- a run that stopped, and told why
-pub run_stopped : (words : List Text) (begins : Bool) (stop : Stop) (status : Status) (x y z : Moment) → Prints words begins x y (Err stop) → TellsStop stop y z status →
+pub run_stopped : (words : List Text) (begins : Bool) (opens : List Text) (stop : Stop) (status : Status) (x y z : Moment) → Prints words begins opens x y (Err stop) → TellsStop stop y z status →
     IfSome x.told (λ before. IsFresh before → x.begun ≡ false →
     IsSomeAnd z.told (λ after. Answered before after z.begun words status (counts x.reads z.reads x.writes z.writes)))
-run_stopped words begins stop status x y z prints tells =
+run_stopped words begins opens stop status x y z prints tells =
     known x.told (λ before. IsFresh before → x.begun ≡ false → IsSomeAnd y.told (λ after. Leaves words before after y.begun (Err stop)))
     (λ before. IsFresh before → x.begun ≡ false → IsSomeAnd z.told (λ after. Answered before after z.begun words status (counts x.reads z.reads x.writes z.writes)))
-    (λ before over fresh none. over_stopped words begins stop status x y z before y.told refl prints tells (over fresh none)) prints.told
+    (λ before over fresh none. over_stopped words begins opens stop status x y z before y.told refl prints tells (over fresh none)) prints.told
+
+-- ---- the names of a run
+
+-- the names that a run opened and begun, as it says them
+abbrev pub NamesAsked : List Text → Moment → Moment → Status → Type 0
+NamesAsked words x z status =
+    (more : List Call) × (z.calls ≡ with_calls more x.calls) × BeginsAsked (request_of words) status (names_begun more)
+    × IfSome x.told (λ before. OpensAsked before.files (request_of words) status (names_opened more))
+
+run_names : (words : List Text) (begins : Bool) (x y z : Moment) (r : Result Status Stop) (status : Status) → (asked : PrintsAsked words begins x y r) →
+    Called asked.prints.asks.opened asked.prints.asks.begun x z → (IsAnswer status → IsAnswer (outcome r)) → NamesAsked words x z status
+run_names words begins x y z r status asked called answers =
+    let asks = asked.prints.asks in (
+      called.more,
+      called.calls,
+      record {
+        first = subst (λ (names : List Text). AreFirstNames names (log_asked (request_of words))) (sym called.begun_are) asks.begun_first;
+        whole = λ is. called.begun_are ∙ (asks.whole (answers is)).1;
+      },
+      known x.told (λ before. AreAsked before.files (request_of words) asked.opens)
+          (λ before. OpensAsked before.files (request_of words) status (names_opened called.more))
+          (λ before are. record {
+            all = asked.opens;
+            asked = are;
+            first = subst (λ (names : List Text). AreFirstNames names asked.opens) (sym called.opened_are) asks.opened_first;
+            whole = λ is. called.opened_are ∙ (asks.whole (answers is)).0;
+          }) asked.asked,
+    )
+
+pub names_ended : (words : List Text) (begins : Bool) (x z : Moment) (status : Status) → PrintsAsked words begins x z (Ok status) → NamesAsked words x z status
+names_ended words begins x z status asked = run_names words begins x z z (Ok status) status asked asked.prints.asks.called (λ is. is)
+
+pub names_stopped : (words : List Text) (begins : Bool) (stop : Stop) (x y z : Moment) (status : Status) → PrintsAsked words begins x y (Err stop) → TellsStop stop y z status →
+    NamesAsked words x z status
+names_stopped words begins stop x y z status asked tells =
+    let asks = asked.prints.asks in
+    run_names words begins x y z (Err stop) status asked (called_on asks.opened asks.begun x y z asks.called tells.called)
+    (λ is. absurd (told_answers_nothing stop y z status tells is))

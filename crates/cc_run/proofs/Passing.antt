@@ -1,5 +1,5 @@
 -- A refusal that a session answers is that of a limit which its run passes; and a run that has not begun.
-use Rattle.std.proofs.Common.{◌≡◌, ℕ, ◌+◌, ◌≤◌, true, false, List, [], ◌∷◌, ◌++◌, Option, Some, None, refl, sym, ap, subst, ◌∙◌, arith, inl, inr}
+use Rattle.std.proofs.Common.{◌≡◌, ℕ, ◌+◌, ◌≤◌, true, false, List, [], Option, Some, None, refl, sym, ap, subst, ◌∙◌, arith, inl, inr}
 use Rattle.std.specs.Prelude.{IsNone, is_some, unwrap_or}
 use Rattle.cc_defs.specs.declared.event.Told.{Told}
 use Rattle.cc_defs.specs.declared.lists.Key.{Key}
@@ -8,10 +8,9 @@ use Rattle.cc_defs.specs.declared.refusal.LimitAt.TheVariants as limits
 use Rattle.cc_defs.specs.declared.refusal.Refusal.{Refusal}
 use Rattle.cc_defs.specs.Description.{Description}
 use Rattle.cc_defs.specs.GroundLaws.{PlainGroundQuery, StandsForQuery}
-use Rattle.cc_defs.specs.Histories.{AreFirst}
 use Rattle.cc_defs.specs.Refusals.{past}
 use Rattle.cc_defs.specs.Resolved.{Query}
-use Rattle.cc_defs.specs.Runs.{Ask, Horizon, Run, IsFairRun, events_of, first_horizon, horizon_at, key_row, last_horizon, range_of}
+use Rattle.cc_defs.specs.Runs.{Ask, Horizon, Run, IsFairRun, events_of, first_horizon, horizon_at, last_horizon, range_of}
 use Rattle.cc_query.specs.declared.phase.Part.{Part}
 use Rattle.cc_query.specs.declared.phase.Part.TheVariants as parts
 use Rattle.cc_query.specs.declared.phase.Phase.{Phase}
@@ -20,7 +19,7 @@ use Rattle.cc_query.specs.Parts.{is_conditions}
 use Rattle.cc_query.specs.Sessions.{After, Awaits, HasMore, HasTooMany, IsSessionOf, MayRefuse, Opens, SessionView, StandsBehind, last_at, opening_refusal, opens_at}
 use Rattle.cc_run.specs.Answers.{OpensNext, PassesLimit, horizon_of}
 use Rattle.cc_run.specs.Tasks.{Task}
-use Rattle.cc_run.proofs.RunEvents.{both_open, same_horizon}
+use Rattle.cc_run.proofs.RunEvents.{both_open}
 
 -- ---- horizons
 
@@ -121,27 +120,17 @@ opening_passed d q session given refusal part run is more fair given_is stands o
     }
 
 histories_passed : (d : Description) (q : Query) (session : SessionView) (given : List Told) (refusal : Refusal) (run : Run) → HasMore session →
-    IsFairRun d q session.ask run → given ≡ events_of (first_horizon q session.ask.after) run → StandsBehind d q session run →
+    given ≡ events_of (first_horizon q session.ask.after) run → StandsBehind d q session run →
     refusal ≡ past limits.Histories → HasTooMany d q session given → StopsAt d q session.ask given refusal
-histories_passed d q session given refusal run more fair given_is stands refused many =
+histories_passed d q session given refusal run more given_is stands refused many =
     let first = first_horizon q session.ask.after in
     let same : events_of first run ≡ events_of first many.run = sym given_is ∙ many.given_is in
-    let here : session.horizon ≡ horizon_at first many.run = stands.horizon ∙ same_horizon d q session.ask run many.run fair many.fair same in
     record {
       run = many.run;
       fair = many.fair;
       given_is = many.given_is;
       still = none_of many.run.ending (both_open first run many.run same (still_open d q session run session.phase refl more stands.awaits));
-      passes = inr (record {
-        section = many.section;
-        next = many.next;
-        told = many.told;
-        told_is = many.told_is;
-        many = many.many;
-        further = many.further;
-        first = subst (λ (n : ℕ). AreFirst d q n (key_row session.ask) (many.told ++ many.further ∷ [])) here many.first;
-        refused = refused;
-      });
+      passes = inr (many.many, refused);
     }
 
 pub stops_at : (d : Description) (q : Query) (session : SessionView) (given : List Told) (refusal : Refusal) → IsSessionOf session d q → HasMore session →
@@ -149,4 +138,4 @@ pub stops_at : (d : Description) (q : Query) (session : SessionView) (given : Li
 stops_at d q session given refusal is more after (inl opens) =
     opening_passed d q session given refusal opens.0 after.0 is more after.1 after.2 after.3 opens.1 opens.2 opens.3
 stops_at d q session given refusal is more after (inr many) =
-    histories_passed d q session given refusal after.0 more after.1 after.2 after.3 many.0 many.1
+    histories_passed d q session given refusal after.0 more after.2 after.3 many.0 many.1

@@ -15,7 +15,7 @@ use Rattle.cc_defs.specs.Histories.{AreFirst}
 use Rattle.cc_defs.specs.Paths.{IsPath}
 use Rattle.cc_defs.specs.Resolved.{Query}
 use Rattle.cc_defs.specs.Rows.{IsRow}
-use Rattle.cc_defs.specs.Runs.{Ask, Step, Derive, Tell, Section, Horizon, Histories, Conditions, Claim, Failure, Run, AreDone, IsExhausted, IsFairRun, IsTrueOf, denied_rows, done_events, events_of, first_horizon, horizon_at, horizon_events, key_row, last_horizon, logged, optional, row_told, rows_of, said_of, section_events, step_events, told, told_row}
+use Rattle.cc_defs.specs.Runs.{Ask, Step, Derive, Tell, Section, Horizon, Histories, Conditions, Claim, Failure, Run, AreDone, IsFairRun, IsTrueOf, denied_rows, done_events, events_of, first_horizon, horizon_at, horizon_events, key_row, last_horizon, logged, optional, row_told, rows_of, said_of, section_events, step_events, told, told_row}
 use Rattle.cc_defs.specs.Signatures.{Signature}
 use Rattle.cc_query.specs.Sessions.{with_row}
 use Rattle.cc_run.specs.Stops.{IsRowOfEvent}
@@ -174,58 +174,6 @@ both_open first run other same still =
     let none = open_no_ending first run still in
     let equal = ap (λ (l : List Told). tally is_ending l) same in
     not_ended (tally is_ending (events_of first other)) other.ending (omega arith) (omega arith)
-
--- ---- horizons that are done with
-
-abbrev is_said : Event → ℕ
-is_said (events.Log line) = 0
-is_said (events.NoHistory horizon) = 1
-is_said (events.History horizon number) = 0
-is_said (events.NoConditions horizon) = 1
-is_said (events.Holds horizon) = 1
-is_said (events.Counterexample horizon) = 0
-is_said (events.Ended ending) = 0
-
-said_quiet : IsQuiet is_said
-said_quiet = record { log = λ line. refl; history = λ horizon number. refl; counterexample = λ horizon. refl }
-
-module _ (d : Description) (q : Query) (ask : Ask) where
-  said_once : (horizon : ℕ) (there : Horizon) → IsExhausted ask there → tally is_said (said_of horizon there) ≡ 1
-  said_once horizon (Histories section) done = refl
-  said_once horizon (Conditions section) done = refl
-  said_once horizon (Claim conditions claim) done = refl
-  said_once horizon (Failure conditions claim row) done = absurd done
-
-  done_count : (horizon : ℕ) (done : List Horizon) → AreDone d q ask horizon done → tally is_said (done_events horizon done) ≡ length done
-  done_count horizon [] are = refl
-  done_count horizon (first ∷ others) are =
-      let outer = tally_both is_said (horizon_events horizon first ++ said_of horizon first) (done_events (horizon + 1) others) in
-      let inner = tally_both is_said (horizon_events horizon first) (said_of horizon first) in
-      let none = horizon_quiet is_said said_quiet horizon first in
-      let one = said_once horizon first are.1 in
-      let rest = done_count (horizon + 1) others are.2 in
-      omega arith
-
-  end_unsaid : (ending : Option Ending) → tally is_said (end_events ending) ≡ 0
-  end_unsaid None = refl
-  end_unsaid (Some ending) = refl
-
-  run_count : (first : ℕ) (run : Run) → AreDone d q ask first run.done → tally is_said (events_of first run) ≡ length run.done
-  run_count first run are =
-      let all = tally_run is_said said_quiet first run in
-      let done = done_count first run.done are in
-      let none = end_unsaid run.ending in omega arith
-
-  -- two runs with the same events are at the same horizon
-  pub same_horizon : (run other : Run) → IsFairRun d q ask run → IsFairRun d q ask other →
-      events_of (first_horizon q ask.after) run ≡ events_of (first_horizon q ask.after) other →
-      horizon_at (first_horizon q ask.after) run ≡ horizon_at (first_horizon q ask.after) other
-  same_horizon run other fair fair_other same =
-      let first = first_horizon q ask.after in
-      let one = run_count first run fair.done in
-      let two = run_count first other fair_other.done in
-      let equal = ap (λ (l : List Told). tally is_said l) same in
-      omega arith
 
 -- ---- rows
 

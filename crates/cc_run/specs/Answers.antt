@@ -1,9 +1,12 @@
 -- What a run may leave behind.
-use Rattle.std.specs.Prelude.{◌≡◌, ℕ, ◌+◌, ◌<◌, ◌^◌, ◌≤◌, ◌⊎◌, Bool, true, false, List, [], ◌∷◌, ◌++◌, length, Option, Some, None, is_some, IsNone, codes, if◌then◌else◌, ◌==◌}
+use Rattle.std.specs.Prelude.{◌≡◌, ℕ, ◌+◌, ◌<◌, ◌^◌, ◌≤◌, ◌⊎◌, Bool, true, false, List, [], ◌∷◌, ◌++◌, length, map, Contains, Option, Some, None, is_some, IsNone, codes, if◌then◌else◌, ◌==◌}
+use Rattle.std.specs.List.{AllByRecursion}
 use Rattle.cc_defs.specs.declared.event.Ending.{Ending}
 use Rattle.cc_defs.specs.declared.event.Ending.TheVariants as endings
 use Rattle.cc_defs.specs.declared.event.Told.{Told}
+use Rattle.cc_defs.specs.declared.event.Event.TheVariants as events
 use Rattle.cc_defs.specs.declared.log.EndWord.TheVariants as words
+use Rattle.cc_defs.specs.declared.log.LogLine.TheVariants as lines
 use Rattle.cc_defs.specs.declared.log.LogVerdict.{LogVerdict}
 use Rattle.cc_defs.specs.declared.log.LogVerdict.TheVariants as verdicts
 use Rattle.cc_defs.specs.declared.refusal.Fault.TheVariants as faults
@@ -12,20 +15,20 @@ use Rattle.cc_defs.specs.declared.refusal.Refusal.{Refusal}
 use Rattle.cc_defs.specs.Assignments.{HasOpen}
 use Rattle.cc_defs.specs.Events.{out_text, log_of}
 use Rattle.cc_defs.specs.Description.{Description}
-use Rattle.cc_defs.specs.Histories.{AreFirst}
-use Rattle.cc_defs.specs.Limits.{limit_number}
+use Rattle.cc_defs.specs.Limits.{limit_number, most_histories}
+use Rattle.cc_defs.specs.LogTexts.{IsFormed}
 use Rattle.cc_defs.specs.Logs.{IsAccepted, IsVerdict}
 use Rattle.cc_defs.specs.Refusals.{past}
-use Rattle.cc_defs.specs.Runs.{Horizon, Histories, Conditions, Claim, Failure, Run, EndsWith, IsFairRun, Section, axioms_of, events_of, first_horizon, horizon_at, key_row, last_horizon, rows_of}
+use Rattle.cc_defs.specs.Runs.{Horizon, Histories, Conditions, Claim, Failure, Run, EndsWith, IsFairRun, axioms_of, events_of, first_horizon, horizon_at, last_horizon}
 use Rattle.cc_defs.specs.Sections.{Axioms}
 use Rattle.cc_describe.specs.Places.{Files}
-use Rattle.cc_judge.specs.Judging.{BlocksHistories, IsJudgeFault}
+use Rattle.cc_judge.specs.Judging.{BlocksHistories, IsJudgeFault, IsVerdictWithin}
 use Rattle.cc_ports.specs.Contents.{Contents, IsPrefix, Rose}
 use Rattle.cc_print.specs.Refusals.{refusal_line}
 use Rattle.cc_print.specs.Summaries.{endings_told, summary}
 use Rattle.cc_print.specs.Verdicts.{verdict_line}
-use Rattle.cc_query.specs.Accepted.{subject_of}
-use Rattle.cc_query.specs.Sessions.{opening_refusal}
+use Rattle.cc_query.specs.Accepted.{lines_of, subject_of}
+use Rattle.cc_query.specs.Sessions.{TellsTooMany, opening_refusal}
 use Rattle.cc_run.specs.declared.status.Status.{Status}
 use Rattle.cc_run.specs.declared.status.Status.TheVariants as statuses
 use Rattle.cc_run.specs.Tasks.{RefusesNamed, Task, IsTask, made_files, made_named, named_by, named_in, refusal_without_place, request_of}
@@ -146,19 +149,20 @@ pub record PassesOpening (task : Task) (run : Run) (refusal : Refusal) : Type 0 
   pub opens : OpensNext task run conditions run.next
   pub passed : opening_refusal task.description task.query task.ask (horizon_of task run) conditions ≡ Some refusal
 
--- so many histories were told at a horizon as its limit says, and there is one more
-pub record PassesHistories (task : Task) (run : Run) (refusal : Refusal) : Type 0 where
-  pub section : Section
-  pub next : run.next ≡ Some (Histories section)
-  pub told : List (List ℕ)
-  pub told_is : rows_of section ≡ told
-  pub many : length told ≡ 100000000
-  pub further : List ℕ
-  pub first : AreFirst task.description task.query (horizon_of task run) (key_row task.ask) (told ++ further ∷ [])
-  pub refused : refusal ≡ past limits.Histories
+-- so many histories were told at a horizon as its limit says, its section has not ended, and there is one more
+abbrev pub PassesHistories : Task → Run → Refusal → Type 0
+PassesHistories task run refusal = TellsTooMany task.description task.query task.ask run × (refusal ≡ past limits.Histories)
 
 abbrev pub PassesLimit : Task → Run → Refusal → Type 0
 PassesLimit task run refusal = PassesOpening task run refusal ⊎ PassesHistories task run refusal
+
+-- What a search keeps to: each section that it tells was opened within the limits of rules, variables and clauses, and no horizon has
+-- more histories told than their limit; the lines of its log have numbers of at most nine digits.
+pub record KeepsLimits (task : Task) (told : List Told) : Type 0 where
+  pub opened : (conditions : Bool) (horizon : ℕ) → Contains (lines_of told) (lines.Section conditions horizon) →
+      opening_refusal task.description task.query task.ask horizon conditions ≡ None
+  pub few : (horizon number : ℕ) → Contains (map (λ one. one.event) told) (events.History horizon number) → number ≤ most_histories
+  pub formed : AllByRecursion IsFormed (lines_of told)
 
 -- ---- what the log is worth
 
@@ -208,6 +212,7 @@ pub record IsTold (manner : Manner) (task : Task) (run : Run) (given : Given) (s
   pub fair : IsFairRun task.description task.query task.ask run
   pub out : given.out ≡ out_told manner task.description (told_by task run)
   pub log : given.log ≡ log_of (told_by task run)
+  pub limits : KeepsLimits task (told_by task run)
   pub accepted : AreLogsAccepted task run
   pub spent : IsSpentEarly task run
   pub ends : ((ending : Ending) × (run.ending ≡ Some ending) × (given.err ≡ []) × (status ≡ status_of ending))
@@ -261,6 +266,7 @@ pub record CheckedPlan (files : Files) (words : List Text) (plan : Plan) : Type 
   pub few : length bytes ≤ limit_number limits.LogBytes
   pub verdict : LogVerdict
   pub judged : IsVerdict (subject_of task.description task.query task.ask.after) bytes verdict
+  pub within : IsVerdictWithin task.description task.query task.ask.after bytes verdict
   pub whole : BlocksHistories task.description task.query task.ask.after bytes verdict
   pub given : plan.given ≡ only_out (verdict_line verdict)
   pub begun : plan.begun ≡ false
@@ -306,6 +312,7 @@ pub record BeganListing (files : Files) (words : List Text) (left : Left) : Type
   pub lists : Lists files words left.begun manner task
   pub run : Run
   pub fair : IsFairRun task.description task.query task.ask run
+  pub limits : KeepsLimits task (told_by task run)
   pub out : IsPrefix left.given.out (out_told manner task.description (told_by task run))
   pub log : IsPrefix left.given.log (log_of (told_by task run))
   pub err : (left.given.err ≡ []) ⊎ ((refusal : Refusal) × PassesLimit task run refusal × IsPrefix left.given.err (refusal_text refusal []))

@@ -1,5 +1,5 @@
 -- Why a run stops before its end, and what each step of a run gives.
-use Rattle.std.specs.Prelude.{◌≡◌, ℕ, ◌⊎◌, ◌≤◌, Bool, true, false, List, [], ◌∷◌, ◌++◌, flat_map, Option, Some, None, option_map, is_some, Result, MatchResult, IfSome, IfOk, IfErr, IsSomeAnd, IsErrOf, ◌||◌}
+use Rattle.std.specs.Prelude.{◌≡◌, ℕ, ◌⊎◌, ◌≤◌, Bool, true, false, List, [], ◌∷◌, ◌++◌, flat_map, Option, Some, None, option_map, is_some, Result, MatchResult, IfSome, IfOk, IfErr, IsSomeAnd, IsErrOf, is_ok, Ok, Err, ◌||◌}
 use Rattle.cc_defs.specs.declared.event.Event.{Event}
 use Rattle.cc_defs.specs.declared.event.Event.TheVariants as events
 use Rattle.cc_defs.specs.declared.event.Told.{Told}
@@ -10,6 +10,8 @@ use Rattle.cc_defs.specs.LogTexts.{line_text}
 use Rattle.cc_defs.specs.Rows.{IsRow}
 use Rattle.cc_defs.specs.Runs.{IsFairRun, Run}
 use Rattle.cc_defs.specs.Signatures.{Signature}
+use Rattle.cc_describe.specs.Describing.{AreFirstNames}
+use Rattle.cc_ports.specs.Calls.{Call, names_begun, names_opened, with_calls}
 use Rattle.cc_ports.specs.Contents.{Contents, IsPrefix, Rose}
 use Rattle.cc_ports.specs.declared.desk.To.{To}
 use Rattle.cc_ports.specs.declared.desk.To.TheVariants as outputs
@@ -17,10 +19,12 @@ use Rattle.cc_run.specs.declared.status.Status.{Status}
 use Rattle.cc_run.specs.declared.status.Status.TheVariants as statuses
 use Rattle.cc_run.specs.declared.status.Stop.{Stop}
 use Rattle.cc_run.specs.declared.status.Stop.TheVariants as stops
-use Rattle.cc_run.specs.Answers.{Manner, Whole, Summed, Given, AreFronts, IsFresh, IsTold, PassesLimit, Ended, GaveSoFar, left_in, memory_line, nothing, out_told, read_fault_line, refusal_text, told_by, write_fault_line}
-use Rattle.cc_run.specs.Tasks.{Task}
+use Rattle.cc_run.specs.Answers.{Manner, Whole, Summed, Given, AreFronts, KeepsLimits, IsFresh, IsTold, PassesLimit, Ended, GaveSoFar, left_in, memory_line, nothing, out_told, read_fault_line, refusal_text, told_by, write_fault_line}
+use Rattle.cc_run.specs.Names.{AreAsked, IsAnswer, MayEndWith, log_asked}
+use Rattle.cc_run.specs.Tasks.{Task, request_of}
 use Rattle.cc_defs.specs.declared.refusal.Refusal.{Refusal}
 use Rattle.cc_words.specs.Requests.{Request, ToList, ToCheck, ToMake}
+use Rattle.cc_words.specs.Words.{Text}
 
 -- what is known of a desk at a moment
 pub record Moment : Type 0 where
@@ -28,9 +32,22 @@ pub record Moment : Type 0 where
   pub begun : Bool
   pub reads : ℕ
   pub writes : ℕ
+  pub calls : Option (List Call)
 
-abbrev pub moment : {D : Type 0} → (D → Option Contents) → (D → Bool) → (D → ℕ) → (D → ℕ) → D → Moment
-moment told begun reads writes desk = record { told = told desk; begun = begun desk; reads = reads desk; writes = writes desk }
+abbrev pub moment : {D : Type 0} → (D → Option Contents) → (D → Bool) → (D → ℕ) → (D → ℕ) → (D → Option (List Call)) → D → Moment
+moment told begun reads writes calls desk =
+    record { told = told desk; begun = begun desk; reads = reads desk; writes = writes desk; calls = calls desk }
+
+-- between two moments these files were to be opened and these logs to be begun, in their order, and no others
+pub record Called (opened begun : List Text) (old new : Moment) : Type 0 where
+  pub more : List Call
+  pub calls : new.calls ≡ with_calls more old.calls
+  pub opened_are : names_opened more ≡ opened
+  pub begun_are : names_begun more ≡ begun
+
+-- neither count rose
+abbrev pub IsCalm : Moment → Moment → Type 0
+IsCalm old new = (new.reads ≡ old.reads) × (new.writes ≡ old.writes)
 
 -- ---- steps that give something
 
@@ -43,12 +60,15 @@ given_to outputs.Out bytes = record nothing { out = bytes }
 given_to outputs.Err bytes = record nothing { err = bytes }
 given_to outputs.Log bytes = record nothing { log = bytes }
 
--- what moves on: nothing but outputs changes, the counts do not fall, and a stop has its cause
+-- what moves on: nothing but outputs changes, no file is opened and no log begun, the counts do not fall, nor rise where nothing
+-- stops, and a stop has its cause
 pub record Moves {X : Type 0} (given : Given) (old new : Moment) (result : Result X Stop) : Type 0 where
   pub told : new.told ≡ option_map (adding given) old.told
   pub begun : new.begun ≡ old.begun
   pub reads : old.reads ≤ new.reads
   pub writes : old.writes ≤ new.writes
+  pub called : Called [] [] old new
+  pub calm : is_ok result ≡ true → IsCalm old new
   pub no_read_fault : IsErrOf result stops.ReadFault → ⊥
   pub write_fault : IsErrOf result stops.WriteFault → Rose old.writes new.writes
 
@@ -86,6 +106,7 @@ IsRowOfEvent signature (events.Ended ending) row = Unit {0}
 -- what a search gives is a front of what it tells
 pub record IsTelling (manner : Manner) (task : Task) (run : Run) (given : Given) : Type 0 where
   pub fair : IsFairRun task.description task.query task.ask run
+  pub limits : KeepsLimits task (told_by task run)
   pub out : IsPrefix given.out (out_told manner task.description (told_by task run))
   pub log : IsPrefix given.log (log_of (told_by task run))
   pub err : (given.err ≡ []) ⊎ ((refusal : Refusal) × PassesLimit task run refusal × IsPrefix given.err (refusal_text refusal []))
@@ -123,21 +144,11 @@ pub record TellsStop (stop : Stop) (old new : Moment) (status : Status) : Type 0
   pub told : new.told ≡ option_map (adding (given_to outputs.Err line)) old.told
   pub how : ((line ≡ stop_line stop) × (status ≡ stop_status stop)) ⊎ (IsPrefix line (stop_line stop) × (status ≡ cut_status stop) × Rose old.writes new.writes)
   pub begun : new.begun ≡ old.begun
+  pub called : Called [] [] old new
   pub reads : old.reads ≤ new.reads
   pub writes : old.writes ≤ new.writes
 
 -- ---- a run up to its end, or to its stop
-
--- a status with which a run comes to its end
-abbrev pub IsEndStatus : Status → Type 0
-IsEndStatus statuses.Right = Unit {0}
-IsEndStatus statuses.Not = Unit {0}
-IsEndStatus statuses.Refused = Unit {0}
-IsEndStatus statuses.Spent = Unit {0}
-IsEndStatus statuses.Asked = Unit {0}
-IsEndStatus statuses.ReadFault = ⊥
-IsEndStatus statuses.WriteFault = ⊥
-IsEndStatus statuses.OutOfMemory = ⊥
 
 -- what is on the desk where a run ended or stopped
 pub record Leaves (words : List (List ℕ)) (before after : Contents) (begun : Bool) (result : Result Status Stop) : Type 0 where
@@ -151,20 +162,44 @@ names_log (Some (ToCheck checking)) = false
 names_log (Some (ToMake size budget)) = false
 names_log None = false
 
--- a run up to its end, or to its stop with its cause
-pub record Prints (words : List (List ℕ)) (begins : Bool) (old new : Moment) (result : Result Status Stop) : Type 0 where
+-- the status of a run that ended or stopped
+abbrev pub outcome : Result Status Stop → Status
+outcome (Ok status) = status
+outcome (Err stop) = stop_status stop
+
+-- Of the names that are to be opened and begun none is left out before another; and where there is an answer, none at all.
+pub record Asks (opens begins : List Text) (old new : Moment) (result : Result Status Stop) : Type 0 where
+  pub opened : List Text
+  pub begun : List Text
+  pub called : Called opened begun old new
+  pub opened_first : AreFirstNames opened opens
+  pub begun_first : AreFirstNames begun begins
+  pub whole : IsAnswer (outcome result) → (opened ≡ opens) × (begun ≡ begins)
+
+-- a run up to its end, or to its stop with its cause, which has these files to open
+pub record Prints (words : List Text) (begins : Bool) (opens : List Text) (old new : Moment) (result : Result Status Stop) : Type 0 where
   pub told : IfSome old.told (λ before. IsFresh before → old.begun ≡ false → IsSomeAnd new.told (λ after. Leaves words before after new.begun result))
-  pub ends : IfOk result IsEndStatus
+  pub ends : IfOk result (MayEndWith (request_of words))
+  pub asks : Asks opens (log_asked (request_of words)) old new result
+  pub calm : is_ok result ≡ true → IsCalm old new
   pub begun : begins ≡ false → new.begun ≡ old.begun
   pub reads : old.reads ≤ new.reads
   pub writes : old.writes ≤ new.writes
   pub read_fault : IsErrOf result stops.ReadFault → Rose old.reads new.reads
   pub write_fault : IsErrOf result stops.WriteFault → Rose old.writes new.writes
 
+-- a whole run: the files that it has to open are those that its words name
+pub record PrintsAsked (words : List Text) (begins : Bool) (old new : Moment) (result : Result Status Stop) : Type 0 where
+  pub opens : List Text
+  pub asked : IfSome old.told (λ before. AreAsked before.files (request_of words) opens)
+  pub prints : Prints words begins opens old new result
+
 -- A log is begun, where one is named; on a desk on which nothing was written nothing is there afterwards.
-pub record Begins {X : Type 0} (named : Bool) (old new : Moment) (result : Result X Stop) : Type 0 where
+pub record Begins {X : Type 0} (named : Bool) (names : List Text) (old new : Moment) (result : Result X Stop) : Type 0 where
   pub told : IfSome old.told (λ before. IsFresh before → new.told ≡ Some before)
   pub begun : MatchResult result (λ _. new.begun ≡ (named || old.begun)) (λ _. new.begun ≡ old.begun)
   pub failed : IfErr result (λ stop. (stop ≡ stops.WriteFault) × Rose old.writes new.writes × (named ≡ true))
+  pub called : Called [] names old new
+  pub calm : is_ok result ≡ true → IsCalm old new
   pub reads : old.reads ≤ new.reads
   pub writes : old.writes ≤ new.writes

@@ -1,19 +1,21 @@
 -- What is told of one event of a search, and how a search goes on behind what it told before.
-use Rattle.std.specs.Prelude.{◌≡◌, List, [], ◌∷◌, ◌++◌, Option, Some, None, Result, Ok, Err, MatchResult}
+use Rattle.std.specs.Prelude.{◌≡◌, ℕ, ◌≤◌, Bool, not, List, [], ◌∷◌, ◌++◌, map, Contains, Option, Some, None, Result, Ok, Err, MatchResult}
 use Rattle.std.specs.List.{AllByRecursion}
 use Rattle.cc_asked.specs.Descriptions.{IsDescriptionOf}
 use Rattle.cc_defs.specs.declared.event.Event.{Event}
 use Rattle.cc_defs.specs.declared.event.Event.TheVariants as events
 use Rattle.cc_defs.specs.declared.event.Told.{Told}
 use Rattle.cc_defs.specs.declared.lists.Key.{Key}
+use Rattle.cc_defs.specs.declared.log.LogLine.TheVariants as lines
 use Rattle.cc_defs.specs.Description.{Description}
+use Rattle.cc_defs.specs.Limits.{most_histories}
 use Rattle.cc_defs.specs.LogTexts.{IsFormed, header}
 use Rattle.cc_defs.specs.Resolved.{Query}
 use Rattle.cc_defs.specs.Runs.{Ask, Run}
 use Rattle.cc_describe.specs.declared.description.Described.{Described}
 use Rattle.cc_print.specs.Summaries.{empty_horizons, endings_told}
 use Rattle.cc_query.specs.Accepted.{HaveGoodAxioms, lines_of}
-use Rattle.cc_query.specs.Sessions.{After, HasMore, IsSame, IsSessionOf, SessionView}
+use Rattle.cc_query.specs.Sessions.{After, HasMore, IsSame, IsSessionOf, SessionView, refusal_at}
 use Rattle.cc_run.specs.declared.status.Status.{Status}
 use Rattle.cc_run.specs.declared.status.Stop.{Stop}
 use Rattle.cc_run.specs.declared.telling.Teller.{Teller}
@@ -43,10 +45,14 @@ task_of d q ask = record { description = d; query = q; ask = ask }
 abbrev pub task_to_check : Description → Query → Option Key → Task
 task_to_check d q key = task_of d q (record { count = None; budget = 0; after = key })
 
--- The lines of the log that events make are formed, and the axioms of each section whose heading is among them are good.
+-- The lines of the log that events make are formed, and each section whose heading is among them was opened within the limits and has
+-- good axioms; no horizon has more histories told than their limit.
 pub record HasGoodLines (d : Description) (q : Query) (key : Option Key) (told : List Told) : Type 0 where
   pub formed : AllByRecursion IsFormed (lines_of told)
   pub good : HaveGoodAxioms d q key (lines_of told)
+  pub opened : (conditions : Bool) (horizon : ℕ) → Contains (lines_of told) (lines.Section conditions horizon) →
+      refusal_at d q horizon (not conditions) key ≡ None
+  pub few : (horizon number : ℕ) → Contains (map (λ one. one.event) told) (events.History horizon number) → number ≤ most_histories
 
 -- A search that gave this before: it tells a run up to its ending or to a limit, or it stops within.
 pub record Finishes (manner : Manner) (task : Task) (before : Given) (old new : Moment) (result : Result Status Stop) : Type 0 where

@@ -38,18 +38,6 @@ pub(crate) struct Prepared<'a> {
     pub(crate) key: Option<Key>,
 }
 
-/// A refusal that has no place.
-pub(crate) fn refusal_without_place(number: u8) -> Refusal
-    ensures { result ≡ tasks.refusal_without_place number }
-{
-    Refusal {
-        number,
-        file: 0,
-        line: 0,
-        limit: None,
-    }
-}
-
 fn has_label(query: &Query, label: &str) -> bool
     ensures { result ≡ tasks.has_label label.now (plain_query query.now) }
 {
@@ -88,7 +76,7 @@ fn query_found<'q>(described: &'q Described, label: Option<&str>) -> Result<&'q 
     ensures refused { IfErr result (IsRefusedBy (found_refusal (vocabulary_of described.now.table).symbols (tasks.query_named (plain_text label.entry) (map plain_query described.now.queries)))) }
 {
     let Some(query) = query_named(described.queries.items(), label) else {
-        return Err(Fault::Refused(refusal_without_place(15)));
+        return Err(Fault::Refused(Refusal::at(15, 0, 0)));
     };
     match query_steps(&described.table, query) {
         Some(refusal) => Err(Fault::Refused(refusal)),
@@ -126,7 +114,7 @@ fn fitting(sig: &Sig, query: &GroundQuery<'_>, key: Key) -> Result<Key, Fault>
     if fits(sig, query, &key) {
         return Ok(key);
     }
-    Err(Fault::Refused(refusal_without_place(18)))
+    Err(Fault::Refused(Refusal::at(18, 0, 0)))
 }
 
 /// The key of a query that a text is; refuses another text (18).
@@ -137,7 +125,7 @@ fn key_of(alloc: Global, sig: &Sig, query: &GroundQuery<'_>, text: &str) -> Resu
 {
     match read_key(alloc, text)? {
         Some(key) => fitting(sig, query, key),
-        None => Err(Fault::Refused(refusal_without_place(18))),
+        None => Err(Fault::Refused(Refusal::at(18, 0, 0))),
     }
 }
 

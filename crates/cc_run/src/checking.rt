@@ -1,10 +1,9 @@
 //! Judges a log that words name.
-ghost use Rattle.std.specs.Prelude.{◌≡◌, ◌≤◌, List, false, IfOk, IfSome, Some, length};
+ghost use Rattle.std.specs.Prelude.{◌≡◌, ◌≤◌, List, [], ◌∷◌, false, IfOk, IfSome, Some, length};
 ghost use Rattle.cc_arena.specs.GroundViews.{plain_ground_query};
 ghost use Rattle.cc_defs.specs.Description.{Description};
 ghost use Rattle.cc_defs.specs.Limits.{limit_number};
 ghost use Rattle.cc_defs.specs.declared.refusal.LimitAt.TheVariants as limits;
-ghost use Rattle.cc_defs.specs.Refusals as refusals;
 ghost use Rattle.cc_defs.specs.Resolved.{Query};
 ghost use Rattle.cc_describe.specs.Describing.{AsksFormulas, Describes, HasForms, SaysAll};
 ghost use Rattle.cc_print.specs.Verdicts.{verdict_line};
@@ -44,24 +43,12 @@ fn verdict_status(verdict: &LogVerdict) -> Status
 
 /// Tells a verdict by its line.
 fn tell_verdict<D: Desk>(alloc: Global, desk: &mut D, verdict: &LogVerdict) -> Result<Status, Stop>
-    ensures told { Step (answers.only_out (verdict_line verdict.now)) (moment D.told D.begun D.read_faults D.write_faults desk.old) (moment D.told D.begun D.read_faults D.write_faults desk.new) result }
+    ensures told { Step (answers.only_out (verdict_line verdict.now)) (moment D.told D.begun D.read_faults D.write_faults D.calls desk.old) (moment D.told D.begun D.read_faults D.write_faults D.calls desk.new) result }
     ensures status { IfOk result (λ status. status ≡ answers.verdict_status verdict.now) }
 {
     let text = verdict_text(alloc, verdict)?;
     give(desk, To::Out, text.text().as_bytes())?;
     Ok(verdict_status(verdict))
-}
-
-/// The log has more bytes than may be read.
-fn too_long() -> Refusal
-    ensures { result ≡ refusals.past limits.LogBytes }
-{
-    Refusal {
-        number: 14,
-        file: 0,
-        line: 0,
-        limit: Some(LimitAt::LogBytes),
-    }
 }
 
 /// Judges the bytes of a log.
@@ -77,7 +64,7 @@ fn check_log<D: Desk>(
     ensures { (words : List Text) (checking : Checking) (d : Description) (q : Query) → request_of words ≡ Some (ToCheck checking) →
         AreOf described.now.sig prepared.now.laws (plain_ground_query prepared.now.query) d q →
         IfSome (D.told desk.old) (λ before. NamesLog before.files checking (task_to_check d q prepared.now.key) bytes.now) →
-        Prints words false (moment D.told D.begun D.read_faults D.write_faults desk.old) (moment D.told D.begun D.read_faults D.write_faults desk.new) result }
+        Prints words false [] (moment D.told D.begun D.read_faults D.write_faults D.calls desk.old) (moment D.told D.begun D.read_faults D.write_faults D.calls desk.new) result }
 {
     match judge(
         alloc,
@@ -106,11 +93,11 @@ fn check_prepared<D: Desk>(
         plain_request (requests.Check asked.now) ≡ ToCheck checking →
         AreOf described.now.sig prepared.now.laws (plain_ground_query prepared.now.query) d q →
         IfSome (D.told desk.old) (λ before. IsTask before.files (named_in checking) (task_to_check d q prepared.now.key)) →
-        Prints words false (moment D.told D.begun D.read_faults D.write_faults desk.old) (moment D.told D.begun D.read_faults D.write_faults desk.new) result }
+        Prints words false (asked.now.log.now ∷ []) (moment D.told D.begun D.read_faults D.write_faults D.calls desk.old) (moment D.told D.begun D.read_faults D.write_faults D.calls desk.new) result }
 {
     match read_all(alloc, desk, asked.log, LimitAt::LogBytes.number() as usize) {
         Ok(bytes) => check_log(alloc, desk, described, prepared, bytes.items()),
-        Err(ReadStop::Limit) => refuse(alloc, desk, &too_long(), ""),
+        Err(ReadStop::Limit) => refuse(alloc, desk, &Refusal::past(LimitAt::LogBytes), ""),
         Err(ReadStop::Failed) => Err(Stop::ReadFault),
         Err(ReadStop::OutOfMemory) => Err(Stop::OutOfMemory),
     }
@@ -128,7 +115,7 @@ pub(crate) fn check_described<D: Desk>(
     requires formulas { AsksFormulas described.now }
     ensures { (words : List Text) → request_of words ≡ Some (plain_request (requests.Check asked.now)) →
         IfSome (D.told desk.old) (λ before. Describes before.files asked.now.file.now described.now) →
-        Prints words false (moment D.told D.begun D.read_faults D.write_faults desk.old) (moment D.told D.begun D.read_faults D.write_faults desk.new) result }
+        Prints words false (asked.now.log.now ∷ []) (moment D.told D.begun D.read_faults D.write_faults D.calls desk.old) (moment D.told D.begun D.read_faults D.write_faults D.calls desk.new) result }
 {
     let arena = Bump::new(alloc);
     let terms = Terms::new(&arena);

@@ -3,6 +3,7 @@
 
 mod asking;
 mod checking;
+pub mod laws;
 mod listing;
 mod making;
 mod printing;

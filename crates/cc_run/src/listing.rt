@@ -69,7 +69,7 @@ fn tell_next<D: Desk>(
     requires row { IsRowOfEvent described.now.sig event.now row.now }
     requires short { IsShortEvent event.now }
     ensures told { (d : Description) (before : List Told) → IsDescriptionOf described.now d → KeepsUp teller.old before →
-        Step (texts_behind (manner_of teller.old) d before (with_row event.now row.now)) (moment D.told D.begun D.read_faults D.write_faults desk.old) (moment D.told D.begun D.read_faults D.write_faults desk.new) result }
+        Step (texts_behind (manner_of teller.old) d before (with_row event.now row.now)) (moment D.told D.begun D.read_faults D.write_faults D.calls desk.old) (moment D.told D.begun D.read_faults D.write_faults D.calls desk.new) result }
     ensures keeps { IfOk result (λ _. (before : List Told) → KeepsUp teller.old before → IsNone (status_told event.now) → KeepsUp teller.new (before ++ with_row event.now row.now ∷ [])) }
     ensures manner { manner_of teller.new ≡ manner_of teller.old }
     ensures status { IfOk result (λ status. status ≡ status_told event.now) }
@@ -84,7 +84,7 @@ fn tell_limit<D: Desk>(
     desk: &mut D,
     refusal: &Refusal,
 ) -> Result<Option<Status>, Stop>
-    ensures told { Step (only_err (answers.refusal_text refusal.now [])) (moment D.told D.begun D.read_faults D.write_faults desk.old) (moment D.told D.begun D.read_faults D.write_faults desk.new) result }
+    ensures told { Step (only_err (answers.refusal_text refusal.now [])) (moment D.told D.begun D.read_faults D.write_faults D.calls desk.old) (moment D.told D.begun D.read_faults D.write_faults D.calls desk.new) result }
     ensures status { IfOk result (λ status. status ≡ Some Status.Refused) }
 {
     let status = refuse(alloc, desk, refusal, "")?;
@@ -104,7 +104,7 @@ fn list_event<D: Desk>(
     requires more { HasMore session.old }
     requires of { IsOfSome described.now teller.old session.old }
     ensures goes { (d : Description) (q : QueryAsked) (given : List Told) → IsDescriptionOf described.now d → IsSessionOf session.old d q → After d q session.old given → HasGoodLines d q session.old.ask.after given → KeepsUp teller.old given →
-        GoesOn (manner_of teller.old) d q given teller.new session.old session.new (moment D.told D.begun D.read_faults D.write_faults desk.old) (moment D.told D.begun D.read_faults D.write_faults desk.new) result }
+        GoesOn (manner_of teller.old) d q given teller.new session.old session.new (moment D.told D.begun D.read_faults D.write_faults D.calls desk.old) (moment D.told D.begun D.read_faults D.write_faults D.calls desk.new) result }
     ensures next { IfOk result (λ status. IsNone status → IsSame session.old session.new × HasMore session.new × (left_of session.new < left_of session.old)) }
     ensures manner { manner_of teller.new ≡ manner_of teller.old }
 {
@@ -131,7 +131,7 @@ fn list_events<D: Desk>(
     requires of { (d : Description) × (q : QueryAsked) × IsDescriptionOf described.now d × IsSessionOf session d q × After d q session [] }
     requires keeps { KeepsUp teller [] }
     ensures { (d : Description) (q : QueryAsked) → IsDescriptionOf described.now d → IsSessionOf session.entry d q → After d q session.entry [] →
-        Searches (manner_of teller) (record { description = d; query = q; ask = session.entry.ask }) header (moment D.told D.begun D.read_faults D.write_faults desk.old) (moment D.told D.begun D.read_faults D.write_faults desk.new) result }
+        Searches (manner_of teller) (record { description = d; query = q; ask = session.entry.ask }) header (moment D.told D.begun D.read_faults D.write_faults D.calls desk.old) (moment D.told D.begun D.read_faults D.write_faults D.calls desk.new) result }
 {
     loop {
         match list_event(alloc, desk, described, &mut teller, &mut session)? {
@@ -159,7 +159,7 @@ pub(crate) fn list<D: Desk>(
     requires of { (d : Description) × (q : QueryAsked) × IsDescriptionOf described.now d × AreOf described.now.sig laws.now (plain_ground_query query) d q }
     requires keeps { KeepsUp teller [] }
     ensures { (d : Description) (q : QueryAsked) → IsDescriptionOf described.now d → AreOf described.now.sig laws.now (plain_ground_query query.entry) d q →
-        Searches (manner_of teller) (record { description = d; query = q; ask = ask }) [] (moment D.told D.begun D.read_faults D.write_faults desk.old) (moment D.told D.begun D.read_faults D.write_faults desk.new) result }
+        Searches (manner_of teller) (record { description = d; query = q; ask = ask }) [] (moment D.told D.begun D.read_faults D.write_faults D.calls desk.old) (moment D.told D.begun D.read_faults D.write_faults D.calls desk.new) result }
 {
     give(desk, To::Log, HEADER.as_bytes())?;
     let session = Session::new(alloc, &described.sig, laws, query, ask)?;

@@ -1,5 +1,5 @@
 //! The answer to words that ask for a made description.
-ghost use Rattle.std.specs.Prelude.{◌≡◌, ◌≤◌, List, Some, false};
+ghost use Rattle.std.specs.Prelude.{◌≡◌, ◌≤◌, List, [], Some, false};
 ghost use Rattle.cc_describe.specs.Describing.{AsksFormulas, Describes, HasForms, SaysAll};
 ghost use Rattle.cc_run.specs.Stops.{Prints, moment};
 ghost use Rattle.cc_run.specs.Tasks.{made_files, made_named, request_of};
@@ -33,7 +33,7 @@ pub(crate) fn answer_make<D: Desk>(
     requires size { 1 ≤ size }
     requires budget { budget ≤ 2000000 }
     ensures { (words : List Text) → request_of words ≡ Some (ToMake size budget) →
-        Prints words false (moment D.told D.begun D.read_faults D.write_faults desk.old) (moment D.told D.begun D.read_faults D.write_faults desk.new) result }
+        Prints words false [] (moment D.told D.begun D.read_faults D.write_faults D.calls desk.old) (moment D.told D.begun D.read_faults D.write_faults D.calls desk.new) result }
 {
     let text = make_text(alloc, size)?;
     let mut source = TextDesk::of(text.text().as_bytes());
@@ -63,7 +63,7 @@ fn list_made<D: Desk>(
     requires formulas { AsksFormulas described.now }
     ensures { (words : List Text) → request_of words ≡ Some (ToMake size budget) →
         Describes (made_files size) made_named.file described.now →
-        Prints words false (moment D.told D.begun D.read_faults D.write_faults desk.old) (moment D.told D.begun D.read_faults D.write_faults desk.new) result }
+        Prints words false [] (moment D.told D.begun D.read_faults D.write_faults D.calls desk.old) (moment D.told D.begun D.read_faults D.write_faults D.calls desk.new) result }
 {
     let arena = Bump::new(alloc);
     let terms = Terms::new(&arena);

@@ -8,13 +8,13 @@ use std::alloc::{AllocError, AllocFailed};
 /// How a run ends.
 #[derive(Clone, Copy, Debug, PartialEq, Eq)]
 pub enum Status {
-    /// The listing is complete.
+    /// The listing is complete, the claim holds, or a checker accepts the log.
     Right,
-    /// No horizon of the range has a history.
+    /// No horizon of the range has a history, the claim fails, or a checker refuses the log.
     Not,
-    /// The words, the text or the query were refused.
+    /// The words, the description, the query or the key were refused, the log is too long, or a limit was passed.
     Refused,
-    /// The budget of conflicts is spent.
+    /// The budget of derived clauses is spent.
     Spent,
     /// A file is not there, or could not be read.
     ReadFault,
@@ -22,7 +22,7 @@ pub enum Status {
     WriteFault,
     /// Memory was wanting.
     OutOfMemory,
-    /// As many histories as were asked for were printed.
+    /// As many histories as were asked for were told.
     Asked,
 }
 

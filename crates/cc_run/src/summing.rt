@@ -27,7 +27,7 @@ pub(crate) fn sum<D: Desk>(
 ) -> Result<(), Stop>
     requires short { IsShortEvent event.now }
     ensures told { (d : Description) (before : List ToldEvent) (row : List ℕ) → SumUp outcome.old.items before → endings_told before ≡ [] →
-        Step (texts_behind (Summed size) d before (with_row event.now row)) (moment D.told D.begun D.read_faults D.write_faults desk.old) (moment D.told D.begun D.read_faults D.write_faults desk.new) result }
+        Step (texts_behind (Summed size) d before (with_row event.now row)) (moment D.told D.begun D.read_faults D.write_faults D.calls desk.old) (moment D.told D.begun D.read_faults D.write_faults D.calls desk.new) result }
     ensures keeps { IfOk result (λ _. (before : List ToldEvent) (row : List ℕ) → SumUp outcome.old.items before → IsNone (status_told event.now) → SumUp outcome.new.items (before ++ with_row event.now row ∷ [])) }
 {
     match event {
@@ -62,7 +62,7 @@ fn tell_summary<D: Desk>(
     size: u32,
     outcome: &mut Vec<Told>,
 ) -> Result<(), Stop>
-    ensures { Step (given_to outputs.Out (summary size outcome.old.items)) (moment D.told D.begun D.read_faults D.write_faults desk.old) (moment D.told D.begun D.read_faults D.write_faults desk.new) result }
+    ensures { Step (given_to outputs.Out (summary size outcome.old.items)) (moment D.told D.begun D.read_faults D.write_faults D.calls desk.old) (moment D.told D.begun D.read_faults D.write_faults D.calls desk.new) result }
 {
     let told = Items::of(replace(outcome, Vec::new(alloc)));
     let text = summary_text(alloc, size, &told)?;

@@ -36,7 +36,7 @@ pub(crate) enum Teller {
 
 /// Gives the lines of a text to Out, one after another.
 pub(crate) fn give_lines<D: Desk>(desk: &mut D, text: &str) -> Result<(), Stop>
-    ensures { Step (given_to outputs.Out text.now) (moment D.told D.begun D.read_faults D.write_faults desk.old) (moment D.told D.begun D.read_faults D.write_faults desk.new) result }
+    ensures { Step (given_to outputs.Out text.now) (moment D.told D.begun D.read_faults D.write_faults D.calls desk.old) (moment D.told D.begun D.read_faults D.write_faults D.calls desk.new) result }
 {
     for line in text.split_inclusive('\n') {
         give(desk, To::Out, line.as_bytes())?;
@@ -66,7 +66,7 @@ fn tell_row<D: Desk>(
     requires signature { IsSignatureFor described.now.table described.now.sig }
     requires row { (d : Description) → IsSignatureOfDescription d described.now.sig → IsRow (sizes_at d horizon) row.now }
     ensures { (d : Description) → IsDescriptionOf described.now d →
-        Step (given_to outputs.Out (texts.history_text d horizon row.now ++ texts.key_line horizon row.now)) (moment D.told D.begun D.read_faults D.write_faults desk.old) (moment D.told D.begun D.read_faults D.write_faults desk.new) result }
+        Step (given_to outputs.Out (texts.history_text d horizon row.now ++ texts.key_line horizon row.now)) (moment D.told D.begun D.read_faults D.write_faults D.calls desk.old) (moment D.told D.begun D.read_faults D.write_faults D.calls desk.new) result }
 {
     let history = history_text(alloc, &described.table, &described.sig, horizon, row)?;
     give_lines(desk, history.text())?;
@@ -75,7 +75,7 @@ fn tell_row<D: Desk>(
 
 /// Gives the line of a key to Out.
 fn tell_key<D: Desk>(alloc: Global, desk: &mut D, horizon: u32, row: &[u32]) -> Result<(), Stop>
-    ensures { Step (given_to outputs.Out (texts.key_line horizon row.now)) (moment D.told D.begun D.read_faults D.write_faults desk.old) (moment D.told D.begun D.read_faults D.write_faults desk.new) result }
+    ensures { Step (given_to outputs.Out (texts.key_line horizon row.now)) (moment D.told D.begun D.read_faults D.write_faults D.calls desk.old) (moment D.told D.begun D.read_faults D.write_faults D.calls desk.new) result }
 {
     let line = key_line(alloc, horizon, row)?;
     give(desk, To::Out, line.as_bytes())
@@ -83,7 +83,7 @@ fn tell_key<D: Desk>(alloc: Global, desk: &mut D, horizon: u32, row: &[u32]) -> 
 
 /// Gives the line of an event to Out.
 fn tell_event<D: Desk>(alloc: Global, desk: &mut D, event: &Event) -> Result<(), Stop>
-    ensures { Step (given_to outputs.Out (event_line event.now)) (moment D.told D.begun D.read_faults D.write_faults desk.old) (moment D.told D.begun D.read_faults D.write_faults desk.new) result }
+    ensures { Step (given_to outputs.Out (event_line event.now)) (moment D.told D.begun D.read_faults D.write_faults D.calls desk.old) (moment D.told D.begun D.read_faults D.write_faults D.calls desk.new) result }
 {
     let text = event_text(alloc, event)?;
     give(desk, To::Out, text.text().as_bytes())
@@ -92,7 +92,7 @@ fn tell_event<D: Desk>(alloc: Global, desk: &mut D, event: &Event) -> Result<(),
 /// Gives a line of the log to Log.
 pub(crate) fn tell_line<D: Desk>(alloc: Global, desk: &mut D, line: &LogLine) -> Result<(), Stop>
     requires { IsFormed line.now }
-    ensures { Step (given_to outputs.Log (line_text line.now)) (moment D.told D.begun D.read_faults D.write_faults desk.old) (moment D.told D.begun D.read_faults D.write_faults desk.new) result }
+    ensures { Step (given_to outputs.Log (line_text line.now)) (moment D.told D.begun D.read_faults D.write_faults D.calls desk.old) (moment D.told D.begun D.read_faults D.write_faults D.calls desk.new) result }
 {
     let text = put_line(alloc, line)?;
     give(desk, To::Log, text.text().as_bytes())
@@ -110,7 +110,7 @@ fn tell_history<D: Desk>(
     requires signature { IsSignatureFor described.now.table described.now.sig }
     requires row { (d : Description) → IsSignatureOfDescription d described.now.sig → IsRow (sizes_at d horizon) row.now }
     ensures { (d : Description) → IsDescriptionOf described.now d →
-        Step (given_to outputs.Out (event_line event.now ++ (texts.history_text d horizon row.now ++ texts.key_line horizon row.now))) (moment D.told D.begun D.read_faults D.write_faults desk.old) (moment D.told D.begun D.read_faults D.write_faults desk.new) result }
+        Step (given_to outputs.Out (event_line event.now ++ (texts.history_text d horizon row.now ++ texts.key_line horizon row.now))) (moment D.told D.begun D.read_faults D.write_faults D.calls desk.old) (moment D.told D.begun D.read_faults D.write_faults D.calls desk.new) result }
 {
     tell_event(alloc, desk, event)?;
     tell_row(alloc, desk, described, horizon, row)
@@ -129,7 +129,7 @@ fn tell<D: Desk>(
     requires row { IsRowOfEvent described.now.sig event.now row.now }
     requires short { IsShortEvent event.now }
     ensures { (d : Description) → IsDescriptionOf described.now d →
-        Step (texts_of Whole d (with_row event.now row.now ∷ [])) (moment D.told D.begun D.read_faults D.write_faults desk.old) (moment D.told D.begun D.read_faults D.write_faults desk.new) result }
+        Step (texts_of Whole d (with_row event.now row.now ∷ [])) (moment D.told D.begun D.read_faults D.write_faults D.calls desk.old) (moment D.told D.begun D.read_faults D.write_faults D.calls desk.new) result }
 {
     match event {
         Event::Log(line) => tell_line(alloc, desk, line),
@@ -159,7 +159,7 @@ pub(crate) fn tell_by<D: Desk>(
     requires row { IsRowOfEvent described.now.sig event.now row.now }
     requires short { IsShortEvent event.now }
     ensures told { (d : Description) (before : List ToldEvent) → IsDescriptionOf described.now d → KeepsUp teller.old before →
-        Step (texts_behind (manner_of teller.old) d before (with_row event.now row.now)) (moment D.told D.begun D.read_faults D.write_faults desk.old) (moment D.told D.begun D.read_faults D.write_faults desk.new) result }
+        Step (texts_behind (manner_of teller.old) d before (with_row event.now row.now)) (moment D.told D.begun D.read_faults D.write_faults D.calls desk.old) (moment D.told D.begun D.read_faults D.write_faults D.calls desk.new) result }
     ensures keeps { IfOk result (λ _. (before : List ToldEvent) → KeepsUp teller.old before → IsNone (status_told event.now) → KeepsUp teller.new (before ++ with_row event.now row.now ∷ [])) }
     ensures manner { manner_of teller.new ≡ manner_of teller.old }
 {

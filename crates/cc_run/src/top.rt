@@ -1,22 +1,25 @@
 //! The top call.
-ghost use Rattle.std.specs.Prelude.{◌≡◌, ◌≢◌, ◌≤◌, List, false, map, Some, IfSome, IsSomeAnd, is_some, string_bytes};
+ghost use Rattle.std.specs.Prelude.{◌≡◌, ◌≢◌, ◌≤◌, List, [], false, map, Some, IfSome, IsSomeAnd, is_some, string_bytes};
 ghost use Rattle.cc_arena.specs.GroundViews.{plain_ground_query};
 ghost use Rattle.cc_asked.specs.Descriptions.{IsDescriptionOf};
 ghost use Rattle.cc_defs.specs.Description.{Description};
 ghost use Rattle.cc_defs.specs.Resolved.{Query};
+ghost use Rattle.cc_defs.specs.Runs.{optional};
 ghost use Rattle.cc_describe.specs.Describing.{Describes, SaysAll, AsksFormulas, HasForms};
+ghost use Rattle.cc_ports.specs.Calls.{Call, names_begun, names_opened, with_calls};
 ghost use Rattle.cc_ports.specs.Contents.{Rose};
 ghost use Rattle.cc_run.specs.Answers.{IsFresh, Answered, counts};
 ghost use Rattle.cc_run.specs.Asking.{AreOf, AreSearchable};
-ghost use Rattle.cc_run.specs.Stops.{Begins, Prints, moment, names_log};
+ghost use Rattle.cc_run.specs.Names.{BeginsAsked, IsEndStatus, MayEndWith, OpensAsked};
+ghost use Rattle.cc_run.specs.Stops.{Begins, Prints, PrintsAsked, moment, names_log};
 ghost use Rattle.cc_run.specs.Tasks.{IsTask, named_by, request_of};
 ghost use Rattle.cc_sorts.specs.Tables.{IsSignatureFor};
 ghost use Rattle.cc_words.specs.Requests.{Listing, ToList};
-ghost use Rattle.cc_words.specs.Views.{plain_request};
+ghost use Rattle.cc_words.specs.Views.{plain_request, plain_text};
 ghost use Rattle.cc_words.specs.declared.asked.Asked.TheVariants as requests;
 ghost use Rattle.cc_words.specs.Words.{Text};
 
-use crate::asking::{Prepared, prepare, refusal_without_place};
+use crate::asking::{Prepared, prepare};
 use crate::checking::check_described;
 use crate::listing::list;
 use crate::making::answer_make;
@@ -25,15 +28,17 @@ use crate::status::{Status, Stop};
 use crate::telling::Teller;
 use bumpalo::Bump;
 use cc_arena::Terms;
-use cc_defs::Fault;
+use cc_defs::{Fault, Refusal};
+use cc_describe::laws::has_places;
 use cc_describe::{DescribeStop, Described, describe};
 use cc_ports::{Desk, Files, StillDesk};
 use cc_query::Ask;
 use cc_words::{Asked, CheckAsked, ListAsked, read};
 use std::alloc::Global;
 
-/// Reads the words, which name a file and a query of the description in it; and lists the histories of that query, or judges
-/// its claim, at the first of its horizons that has any; or judges a log of that query, which the words name too.
+/// Reads the words, and does the one thing that they ask for: with a file that they name and a query of its description, it lists the
+/// histories of the query at the first of its horizons that has any, or judges the claim of the query, or judges a log of it, which
+/// the words name too; or it makes a description of a size, searches for all its histories, and sums up the search.
 ///
 /// `words` are the program's words without its name. Each line of an output is given by one `give_all`. The lines of the log
 /// are given to Log whether or not the words name a file for it. After a fault of the desk or want of memory one fixed line is
@@ -47,6 +52,14 @@ pub fn run<D: Desk>(alloc: Global, words: &[String], desk: &mut D) -> Status
     ensures answer { IfSome (D.told desk.old) (λ before. IsFresh before → D.begun desk.old ≡ false →
         IsSomeAnd (D.told desk.new) (λ after. Answered before after (D.begun desk.new) (map string_bytes words.now) result
         (counts (D.read_faults desk.old) (D.read_faults desk.new) (D.write_faults desk.old) (D.write_faults desk.new)))) }
+    // The names that are opened are those of the words and of the description, in their order, and no others; the log that is begun
+    // has the name that the words give it.
+    ensures names { (more : List Call) × (D.calls desk.new ≡ with_calls more (D.calls desk.old))
+        × BeginsAsked (request_of (map string_bytes words.now)) result (names_begun more)
+        × IfSome (D.told desk.old) (λ before. OpensAsked before.files (request_of (map string_bytes words.now)) result (names_opened more)) }
+    // Where it comes to its end, it is with a status that its request may have, and the desk counted no fault.
+    ensures ends { IsEndStatus result → MayEndWith (request_of (map string_bytes words.now)) result }
+    ensures calm { IsEndStatus result → (D.read_faults desk.new ≡ D.read_faults desk.old) × (D.write_faults desk.new ≡ D.write_faults desk.old) }
     // A log is begun only where the words name one.
     ensures no_log { names_log (request_of (map string_bytes words.now)) ≡ false → D.begun desk.new ≡ D.begun desk.old }
     // A fault is answered only where the desk counted one.
@@ -61,13 +74,14 @@ pub fn run<D: Desk>(alloc: Global, words: &[String], desk: &mut D) -> Status
 
 /// The answer up to its end, or to where it stops.
 fn answer<D: Desk>(alloc: Global, words: &[String], desk: &mut D) -> Result<Status, Stop>
-    ensures { Prints (map string_bytes words.now) (names_log (request_of (map string_bytes words.now))) (moment D.told D.begun D.read_faults D.write_faults desk.old) (moment D.told D.begun D.read_faults D.write_faults desk.new) result }
+    ensures { PrintsAsked (map string_bytes words.now) (names_log (request_of (map string_bytes words.now))) (moment D.told D.begun D.read_faults D.write_faults D.calls desk.old) (moment D.told D.begun D.read_faults D.write_faults D.calls desk.new) result }
 {
+    has_places();
     match read(alloc, words)? {
         Some(Asked::List(asked)) => answer_list(alloc, desk, &asked),
         Some(Asked::Check(asked)) => answer_check(alloc, desk, &asked),
         Some(Asked::Make { size, budget }) => answer_make(alloc, desk, size, budget),
-        None => refuse(alloc, desk, &refusal_without_place(1), ""),
+        None => refuse(alloc, desk, &Refusal::at(1, 0, 0), ""),
     }
 }
 
@@ -76,7 +90,7 @@ fn answer_list<D: Desk>(alloc: Global, desk: &mut D, asked: &ListAsked<'_>) -> R
     requires count { IfSome asked.now.count (λ count. 1 ≤ count) }
     requires budget { asked.now.budget ≤ 2000000 }
     ensures { (words : List Text) → request_of words ≡ Some (plain_request (requests.List asked.now)) →
-        Prints words (is_some asked.now.log) (moment D.told D.begun D.read_faults D.write_faults desk.old) (moment D.told D.begun D.read_faults D.write_faults desk.new) result }
+        PrintsAsked words (is_some asked.now.log) (moment D.told D.begun D.read_faults D.write_faults D.calls desk.old) (moment D.told D.begun D.read_faults D.write_faults D.calls desk.new) result }
 {
     match describe(alloc, desk, asked.file) {
         Ok(described) => {
@@ -97,7 +111,7 @@ fn answer_check<D: Desk>(
     asked: &CheckAsked<'_>,
 ) -> Result<Status, Stop>
     ensures { (words : List Text) → request_of words ≡ Some (plain_request (requests.Check asked.now)) →
-        Prints words false (moment D.told D.begun D.read_faults D.write_faults desk.old) (moment D.told D.begun D.read_faults D.write_faults desk.new) result }
+        PrintsAsked words false (moment D.told D.begun D.read_faults D.write_faults D.calls desk.old) (moment D.told D.begun D.read_faults D.write_faults D.calls desk.new) result }
 {
     match describe(alloc, desk, asked.file) {
         Ok(described) => {
@@ -125,7 +139,7 @@ fn list_described<D: Desk>(
     requires formulas { AsksFormulas described.now }
     ensures { (words : List Text) → request_of words ≡ Some (plain_request (requests.List asked.now)) →
         IfSome (D.told desk.old) (λ before. Describes before.files asked.now.file.now described.now) →
-        Prints words (is_some asked.now.log) (moment D.told D.begun D.read_faults D.write_faults desk.old) (moment D.told D.begun D.read_faults D.write_faults desk.new) result }
+        Prints words (is_some asked.now.log) [] (moment D.told D.begun D.read_faults D.write_faults D.calls desk.old) (moment D.told D.begun D.read_faults D.write_faults D.calls desk.new) result }
 {
     let arena = Bump::new(alloc);
     let terms = Terms::new(&arena);
@@ -141,7 +155,7 @@ fn list_described<D: Desk>(
 
 /// Begins a log where one is named.
 fn begin_log<D: Desk>(desk: &mut D, name: Option<&str>) -> Result<(), Stop>
-    ensures { Begins (is_some name.entry) (moment D.told D.begun D.read_faults D.write_faults desk.old) (moment D.told D.begun D.read_faults D.write_faults desk.new) result }
+    ensures { Begins (is_some name.entry) (optional (plain_text name.entry)) (moment D.told D.begun D.read_faults D.write_faults D.calls desk.old) (moment D.told D.begun D.read_faults D.write_faults D.calls desk.new) result }
 {
     match name {
         Some(name) => match desk.create_file(name) {
@@ -169,7 +183,7 @@ fn list_prepared<D: Desk>(
         plain_request (requests.List asked.now) ≡ ToList listing → IsDescriptionOf described.now d →
         AreOf described.now.sig prepared.entry.laws (plain_ground_query prepared.entry.query) d q →
         IfSome (D.told desk.old) (λ before. IsTask before.files (named_by listing) (record { description = d; query = q; ask = record { count = asked.now.count; budget = asked.now.budget; after = prepared.entry.key } })) →
-        Prints words (is_some asked.now.log) (moment D.told D.begun D.read_faults D.write_faults desk.old) (moment D.told D.begun D.read_faults D.write_faults desk.new) result }
+        Prints words (is_some asked.now.log) [] (moment D.told D.begun D.read_faults D.write_faults D.calls desk.old) (moment D.told D.begun D.read_faults D.write_faults D.calls desk.new) result }
 {
     begin_log(desk, asked.log)?;
     let Prepared { laws, query, key } = prepared;
@@ -181,8 +195,10 @@ fn list_prepared<D: Desk>(
     list(alloc, desk, described, &laws, query, ask, Teller::Whole)
 }
 
-/// Runs over a desk that never fails: neither fault is answered, since its counts of faults stay 0.
+/// Runs over a desk that never fails: neither fault is answered, since its counts of faults stay 0; and words that ask for nothing
+/// are refused.
 pub fn run_still(alloc: Global, words: &[String], files: Files) -> Status
+    ensures ends { IsEndStatus result → MayEndWith (request_of (map string_bytes words.now)) result }
     ensures no_read_fault { result ≢ Status.ReadFault }
     ensures no_write_fault { result ≢ Status.WriteFault }
 {

@@ -11,20 +11,6 @@ use cc_defs::{Cause, EndWord, LimitAt, OutOfMemory, Sig};
 use std::alloc::Global;
 use std::fmt::Write;
 
-fn cause_name(cause: Cause) -> &'static str {
-    match cause {
-        Cause::Header => "header",
-        Cause::Form => "form",
-        Cause::Section => "section",
-        Cause::Literal => "literal",
-        Cause::Number => "number",
-        Cause::Pivot => "pivot",
-        Cause::Clause => "clause",
-        Cause::Row => "row",
-        Cause::NotRefuted => "not refuted",
-    }
-}
-
 fn end_name(word: EndWord) -> &'static str {
     match word {
         EndWord::Empty => "empty",
@@ -35,7 +21,7 @@ fn end_name(word: EndWord) -> &'static str {
 
 fn show_wrong(out: &mut String, line: u32, cause: Cause) -> Result<(), OutOfMemory> {
     write!(out, "wrong {line} ")?;
-    out.push_str(cause_name(cause))?;
+    out.push_str(cause.words())?;
     out.push_str("\n")?;
     Ok(())
 }

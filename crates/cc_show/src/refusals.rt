@@ -3,27 +3,6 @@ use cc_defs::{Fault, LimitAt, OutOfMemory, Refusal};
 use cc_describe::DescribeStop;
 use std::fmt::Write;
 
-fn refusal_name(number: u8) -> &'static str {
-    match number {
-        2 => "Byte",
-        3 => "Syntax",
-        4 => "TwiceDeclared",
-        5 => "UnknownName",
-        6 => "Arity",
-        7 => "Sort",
-        8 => "Unbound",
-        9 => "LawForm",
-        10 => "SdInDynamicHead",
-        11 => "NotDefinite",
-        12 => "EmptyDomain",
-        13 => "NotYet",
-        14 => "Limit",
-        16 => "Step",
-        17 => "Include",
-        _ => "?",
-    }
-}
-
 fn show_limit(out: &mut String, limit: Option<LimitAt>) -> Result<(), OutOfMemory> {
     if let Some(limit) = limit {
         let number = limit.number();
@@ -45,7 +24,7 @@ pub(crate) fn show_refusal(
     let line = refusal.line;
     out.push_str(part)?;
     write!(out, "refused {number} ")?;
-    out.push_str(refusal_name(number))?;
+    out.push_str(refusal.name())?;
     show_limit(out, refusal.limit)?;
     if line > 0 {
         out.push_str(" ")?;

@@ -294,21 +294,11 @@ impl Register {
         ensures { (left : Items Declared) → IsTable self.now left → IfOk result (λ refusal. refusal ≡ judged_refusal file line left (plain_declarations file line new.now)) }
     {
         if let Some(number) = least_fault(alloc, self, new)? {
-            return Ok(Some(Refusal {
-                number,
-                file,
-                line,
-                limit: None,
-            }));
+            return Ok(Some(Refusal::at(number, file, line)));
         }
         let objects = self.objects.len() + count_objects(new);
         if objects.saturating_sub(2) > LimitAt::Objects.number() as usize {
-            return Ok(Some(Refusal {
-                number: 14,
-                file,
-                line,
-                limit: Some(LimitAt::Objects),
-            }));
+            return Ok(Some(Refusal::past_at(LimitAt::Objects, file, line)));
         }
         Ok(None)
     }

@@ -3,7 +3,7 @@ ghost use Rattle.std.specs.Prelude.{◌≡◌, ◌*◌, ◌<◌, ◌≤◌, ◌+
 ghost use Rattle.std.specs.List.{find, list_any};
 ghost use Rattle.cc_defs.specs.DeclarationFaults.{is_empty, passes_domain_values, signature_refusal};
 ghost use Rattle.cc_defs.specs.Declarations.{Declaration as Declared};
-ghost use Rattle.cc_defs.specs.Refusals.{past, IsRefusedBy};
+ghost use Rattle.cc_defs.specs.Refusals.{IsRefusedBy};
 ghost use Rattle.cc_defs.specs.Signatures.{AreOrdered, none_value};
 ghost use Rattle.cc_sorts.specs.Instances.{values_by, rows_by, constant_by, passes as is_passed, instances_by, instances_from, all_instances, refusal_at, refusal_by};
 ghost use Rattle.cc_sorts.specs.SortViews.{members_at, AllAscend};
@@ -69,18 +69,6 @@ fn with_objects(alloc: Global, rows: &[Nums], objects: &[u32]) -> Result<Vec<Num
         longer_rows(alloc, &mut longer, row.items(), objects)?;
     }
     Ok(longer)
-}
-
-/// The refusal of all declarations for a limit. It has no place.
-fn limit_refusal(limit: LimitAt) -> Refusal
-    ensures { result ≡ past limit }
-{
-    Refusal {
-        number: 14,
-        file: 0,
-        line: 0,
-        limit: Some(limit),
-    }
 }
 
 impl Register {
@@ -205,12 +193,7 @@ impl Register {
             Some(placed) => (placed.file, placed.line),
             None => (0, 0),
         };
-        Refusal {
-            number: 12,
-            file,
-            line,
-            limit: None,
-        }
+        Refusal::at(12, file, line)
     }
 
     /// The first symbol, fluents before actions, with an instance that has no value.
@@ -246,10 +229,10 @@ impl Register {
             return Some(self.empty_refusal(number));
         }
         if self.is_wide() {
-            return Some(limit_refusal(LimitAt::DomainValues));
+            return Some(Refusal::past(LimitAt::DomainValues));
         }
         if self.is_many() {
-            return Some(limit_refusal(LimitAt::GroundConstants));
+            return Some(Refusal::past(LimitAt::GroundConstants));
         }
         None
     }

@@ -8,7 +8,6 @@ pub mod IsReader
 pub mod LawReaders
 pub mod Lists
 pub mod Marks
-pub mod Numbers
 pub mod Parsing
 pub mod Places
 pub mod QueryReaders

@@ -207,17 +207,20 @@ fn has_not_yet(tokens: &[Token]) -> bool
     }
 }
 
-/// A refusal at the line of the first token.
-fn refusal(number: u8, file: u32, limit: Option<LimitAt>, tokens: &[Token]) -> Fault
+/// A refusal without a limit, at the line of the first token.
+fn refusal(number: u8, file: u32, tokens: &[Token]) -> Fault
     requires { 0 < length tokens.now }
-    ensures { result ≡ faults.Refused (refusal_at number file limit (token_views tokens.now)) }
+    ensures { result ≡ faults.Refused (refusal_at number file None (token_views tokens.now)) }
 {
-    Fault::Refused(Refusal {
-        number,
-        file,
-        line: tokens[0].line,
-        limit,
-    })
+    Fault::Refused(Refusal::at(number, file, tokens[0].line))
+}
+
+/// More tokens than their limit, at the line of the first.
+fn too_long(limit: LimitAt, file: u32, tokens: &[Token]) -> Fault
+    requires { 0 < length tokens.now }
+    ensures { result ≡ faults.Refused (refusal_at 14 file (Some limit) (token_views tokens.now)) }
+{
+    Fault::Refused(Refusal::past_at(limit, file, tokens[0].line))
 }
 
 /// The one tree that spells the tokens of a statement, its dot among them; its names are slices of the source. Refuses, at
@@ -233,15 +236,15 @@ pub fn parse<'s>(alloc: Global, file: u32, tokens: &[Token<'s>]) -> Result<State
 {
     let limit = token_limit(tokens);
     if tokens.len() > limit.number() as usize {
-        return Err(refusal(14, file, Some(limit), tokens));
+        return Err(too_long(limit, file, tokens));
     }
     if has_not_yet(tokens) {
-        return Err(refusal(13, file, None, tokens));
+        return Err(refusal(13, file, tokens));
     }
     let line = tokens[0].line;
     match whole(alloc, tokens) {
         Ok(part) => Ok(Statement { part, line }),
-        Err(Stop::NoTree) => Err(refusal(3, file, None, tokens)),
+        Err(Stop::NoTree) => Err(refusal(3, file, tokens)),
         Err(Stop::OutOfMemory) => Err(Fault::OutOfMemory),
     }
 }

@@ -1,8 +1,7 @@
 //! Readers of single tokens. A reader is passed the tokens and the place where it begins, and answers the place behind
 //! what it read.
-ghost use Rattle.std.specs.Prelude.{◌≡◌, ◌≤◌, IsTrue, drop, length, IfOk};
-ghost use Rattle.cc_defs.specs.Grammar.{number_of};
-ghost use Rattle.cc_defs.specs.Tokens.{AreTokens, is_number, is_quoted};
+ghost use Rattle.std.specs.Prelude.{◌≡◌, IsTrue, drop, IfOk};
+ghost use Rattle.cc_defs.specs.Tokens.{AreTokens, is_quoted};
 ghost use Rattle.cc_text.specs.Views.{token_views};
 ghost use Rattle.cc_syntax.specs.Marks.{same_mark};
 ghost use Rattle.cc_syntax.specs.Readers.{sign_at, word_at, name_at, numeral_at, label_at, quoted_at, unquoted};
@@ -10,7 +9,7 @@ ghost use Rattle.cc_syntax.specs.Views.{seen, Stands, Reads, Passes, PassesBehin
 
 use crate::stop::Stop;
 use crate::words::is_reserved_word;
-use cc_defs::{Mark, Token, TokenKind};
+use cc_defs::{Mark, Token, TokenKind, number_of_digits};
 
 fn is_mark(mark: Mark, other: Mark) -> bool
     ensures { result ≡ same_mark mark other }
@@ -83,18 +82,6 @@ pub(crate) fn name<'s>(tokens: &[Token<'s>], at: usize) -> Result<(&'s str, usiz
     }
 }
 
-/// The number that a number's digits spell. With so few of them it is less than a billion.
-fn number(digits: &str) -> u32
-    requires digits { IsTrue (is_number digits.now) }
-    requires few { length digits.now ≤ 9 }
-    ensures { result ≡ number_of digits.now }
-{
-    match digits.parse::<u32>() {
-        Ok(number) => number,
-        Err(_) => unreachable!(),
-    }
-}
-
 /// A number.
 pub(crate) fn numeral(tokens: &[Token], at: usize) -> Result<(u32, usize), Stop>
     requires { AreTokens (token_views tokens.now) }
@@ -104,7 +91,7 @@ pub(crate) fn numeral(tokens: &[Token], at: usize) -> Result<(u32, usize), Stop>
         return Err(Stop::NoTree);
     };
     match token.kind {
-        TokenKind::Number => Ok((number(token.text), at + 1)),
+        TokenKind::Number => Ok((number_of_digits(token.text), at + 1)),
         _ => Err(Stop::NoTree),
     }
 }

@@ -1,9 +1,15 @@
 //! What no clause says: that calls succeed while there is memory, and what lines look like.
-ghost use Rattle.std.specs.Prelude.{IfOk};
+ghost use Rattle.std.specs.Prelude.{◌≡◌, ◌≤◌, IfOk, None, [], length};
+ghost use Rattle.cc_arena.specs.GroundViews.{plain_ground_query};
 ghost use Rattle.cc_defs.specs.LogTexts.{IsFormed};
+ghost use Rattle.cc_form.specs.Queries.{IsQueryAt};
+ghost use Rattle.cc_theory.specs.Theories.{AreLawsFor};
 
-use cc_check::{CheckFault, Section, Sections, laws, put_line};
-use cc_defs::{Cause, EndWord, Lit, Lits, LogLine, Nums, OutOfMemory, Row};
+use cc_arena::{GroundQuery, Laws};
+use cc_check::{CheckFault, Finding, Section, Sections, Verdict, check, find, laws, put_line};
+use cc_defs::{Cause, EndWord, Fault, List, Lit, Lits, LogLine, Nums, OutOfMemory, Row, Sig};
+use cc_form::{Form, clauses};
+use cc_theory::Theory;
 use std::alloc::Global;
 use std::test::Fail;
 
@@ -93,9 +99,109 @@ fn logs_are_misread(rt: HostRuntime) {
     }
 }
 
+// That of a description without constants.
+fn no_signature(alloc: Global) -> Sig
+    ensures { result ≡ record { fluents = []; actions = [] } }
+{
+    Sig::of(Vec::new(alloc), Vec::new(alloc))
+}
+
+fn no_laws<'a>(alloc: Global) -> Laws<'a>
+    ensures { result ≡ [] }
+{
+    Laws::of(Vec::new(alloc))
+}
+
+// It asks nothing.
+fn no_query<'a>(alloc: Global) -> GroundQuery<'a>
+    ensures conditions { (plain_ground_query result).conditions ≡ [] }
+    ensures claim { (plain_ground_query result).claim ≡ None }
+{
+    GroundQuery {
+        lo: 0,
+        hi: 0,
+        conditions: List::of(Vec::new(alloc)),
+        claim: None,
+    }
+}
+
+// The clauses of a query at horizon 0.
+fn clauses_at_start(
+    alloc: Global,
+    sig: &Sig,
+    laws: &Laws<'_>,
+    query: &GroundQuery<'_>,
+) -> Result<Form, Fault>
+    requires laws { AreLawsFor sig.now laws.now }
+    requires query { IsQueryAt sig.now 0 (plain_ground_query query.now) }
+{
+    let theory = Theory::at(alloc, sig, laws, 0)?;
+    clauses(alloc, &theory, query, false, None)
+}
+
+// There is no clause, and the only row is empty.
+fn no_clauses(alloc: Global) -> Result<Form, Fault> {
+    let sig = no_signature(alloc);
+    let laws = no_laws(alloc);
+    let query = no_query(alloc);
+    clauses_at_start(alloc, &sig, &laws, &query)
+}
+
+// A section behind the heading on line 2.
+fn section_of(text: &str) -> Section<'_>
+    requires { length text.now ≤ 100 }
+{
+    Section::of(false, 0, 2, text.as_bytes())
+}
+
+fn checked(alloc: Global, text: &str) -> Result<Verdict, Fault>
+    requires { length text.now ≤ 100 }
+{
+    let form = no_clauses(alloc)?;
+    Ok(check(alloc, &form, &section_of(text))?)
+}
+
+fn found(alloc: Global, text: &str) -> Result<Finding, Fault>
+    requires { length text.now ≤ 100 }
+{
+    let form = no_clauses(alloc)?;
+    Ok(find(alloc, &form, &section_of(text))?)
+}
+
+const BLOCKED: &str = "b\ne empty\n";
+
+#[test]
+fn sections_are_checked(rt: HostRuntime) {
+    let right = Verdict::Right {
+        ending: EndWord::Empty,
+        blocks: 1,
+        line: 4,
+    };
+    match checked(rt.alloc(), BLOCKED) {
+        Ok(verdict) => assert!(rt; verdict == right),
+        Err(_) => assert!(rt; false),
+    }
+}
+
+const TRAILED: &str = "e found\nh 1\n";
+
+#[test]
+fn lines_behind_an_end_are_found(rt: HostRuntime) {
+    let trailed = Finding::Trailed {
+        ending: EndWord::Found,
+        line: 3,
+        cause: Cause::Section,
+    };
+    match found(rt.alloc(), TRAILED) {
+        Ok(finding) => assert!(rt; finding == trailed),
+        Err(_) => assert!(rt; false),
+    }
+}
+
 #[test]
 fn laws_are_called(_rt: HostRuntime) {
     laws::lines_are_unique();
+    laws::logs_tell_their_lines();
     laws::misreads_are_verdicts();
     laws::sections_give_verdicts();
 }

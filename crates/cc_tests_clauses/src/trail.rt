@@ -1,9 +1,8 @@
 //! What no clause says: that calls succeed while there is memory, and what propagation gives for some lists of clauses.
 ghost use Rattle.std.specs.Prelude.{◌≡◌, IsTrue, length, IfNone, OnOk};
-ghost use Rattle.cc_defs.specs.Clauses.{IsBefore, IsClause, IsOver};
+ghost use Rattle.cc_defs.specs.Clauses.{IsBefore, IsClause, IsOver, IsLiteralOver};
 ghost use Rattle.cc_defs.specs.Assignments.{IsClosed};
 ghost use Rattle.cc_kernel.specs.Kernels.{clauses_of};
-ghost use Rattle.cc_trail.specs.Links.{IsLiteralOver};
 ghost use Rattle.cc_trail.specs.Steps.{values_of};
 ghost use Rattle.cc_trail.specs.Trails.{Fits, IsSettled};
 

@@ -12,7 +12,7 @@ use cc_defs::{
 use cc_describe::{DescribeStop, Described, describe};
 use cc_ground::ground;
 use cc_laws::{classify, definite};
-use cc_ports::{Files, MemoryDesk, RealDesk};
+use cc_ports::{Files, MemoryDesk, RealDesk, To};
 use cc_run::{Status, run, run_still};
 use std::alloc::Global;
 use std::test::Fail;
@@ -75,10 +75,16 @@ fn one_file(alloc: Global, text: &str) -> Result<Files, OutOfMemory> {
     Ok(Files::of(files))
 }
 
-fn words_of(alloc: Global, word: &str) -> Result<Vec<String>, OutOfMemory> {
+fn all_words(alloc: Global, texts: &[&str]) -> Result<Vec<String>, OutOfMemory> {
     let mut words = Vec::new(alloc);
-    words.push(String::from_str(alloc, word)?)?;
+    for text in texts {
+        words.push(String::from_str(alloc, text)?)?;
+    }
     Ok(words)
+}
+
+fn words_of(alloc: Global, word: &str) -> Result<Vec<String>, OutOfMemory> {
+    all_words(alloc, &[word])
 }
 
 #[test]
@@ -98,6 +104,39 @@ fn other_desks_run_too(rt: HostRuntime) -> Result<(), Fail> {
     let mut desk = RealDesk::new(rt.clone()?);
     assert_eq!(rt; run(alloc, &there, &mut desk), Status::Not);
     assert_eq!(rt; run(alloc, &absent, &mut desk), Status::ReadFault);
+    Ok(())
+}
+
+/// Whether a desk in memory has this log behind a run of the words.
+fn logs_in_memory(
+    alloc: Global,
+    words: &[String],
+    text: &str,
+    log: &[u8],
+) -> Result<bool, OutOfMemory> {
+    let fails = Nums::of(Vec::new(alloc));
+    let room = [65536, 65536, 65536];
+    let mut desk = MemoryDesk::new(alloc, one_file(alloc, text)?, fails, 4096, room)?;
+    let status = run(alloc, words, &mut desk);
+    let same = desk.written(To::Log) == log;
+    drop(desk);
+    Ok(status == Status::Right && same)
+}
+
+// The machine's log holds what a desk in memory is given, and the description stays as it was.
+#[test]
+fn real_logs_are_those_in_memory(rt: HostRuntime) -> Result<(), Fail> {
+    let alloc = rt.alloc();
+    let words = all_words(alloc, &["--log", "l", "f.cc"])?;
+    std::fs::write(&rt, "f.cc", TWO_FLUENTS)?;
+    let mut desk = RealDesk::new(rt.clone()?);
+    assert_eq!(rt; run(alloc, &words, &mut desk), Status::Right);
+    drop(desk);
+    let log = std::fs::read(&rt, "l")?;
+    assert!(rt; log.len() > 0);
+    assert!(rt; logs_in_memory(alloc, &words, TWO_FLUENTS, &log)?);
+    let text = std::fs::read_to_string(&rt, "f.cc")?;
+    assert!(rt; text.as_str() == TWO_FLUENTS);
     Ok(())
 }
 

@@ -3,6 +3,8 @@ ghost use Rattle.std.specs.Prelude.{◌≡◌};
 ghost use Rattle.cc_defs.specs.Tokens.{is_space, is_letter, is_digit, is_word_byte, is_quotable};
 ghost use Rattle.cc_text.specs.Fronts.{IsRun};
 
+use cc_defs::is_digit_byte;
+
 pub(crate) fn is_space_byte(byte: u8) -> bool
     ensures { result ≡ is_space byte }
 {
@@ -13,12 +15,6 @@ pub(crate) fn is_letter_byte(byte: u8) -> bool
     ensures { result ≡ is_letter byte }
 {
     97 <= byte && byte <= 122 || 65 <= byte && byte <= 90
-}
-
-pub(crate) fn is_digit_byte(byte: u8) -> bool
-    ensures { result ≡ is_digit byte }
-{
-    48 <= byte && byte <= 57
 }
 
 /// A letter, a digit or `_`.

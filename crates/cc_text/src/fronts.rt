@@ -4,9 +4,9 @@ ghost use Rattle.cc_defs.specs.Tokens.{is_letter, is_digit};
 ghost use Rattle.cc_defs.specs.declared.token.TokenKind.TheVariants as kinds;
 ghost use Rattle.cc_text.specs.Fronts.{IsFront, NoFront, IsMarkFront, NoMark, IsQuotedFront, NoQuoted};
 
-use crate::classes::{is_digit_byte, is_letter_byte, run_of_digits, run_of_quoted, run_of_word};
+use crate::classes::{is_letter_byte, run_of_digits, run_of_quoted, run_of_word};
 use crate::marks::{mark_of_one, mark_of_three, mark_of_two};
-use cc_defs::{Mark, TokenKind};
+use cc_defs::{Mark, TokenKind, is_digit_byte};
 
 /// The token at the front of a text: what it is, and how many bytes it has.
 #[derive(Clone, Copy)]

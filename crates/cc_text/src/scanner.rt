@@ -141,21 +141,11 @@ pub(crate) fn step_of<'s>(file: u32, line: u32, text: &'s [u8]) -> Step<'s>
     let line = line + gap.lines;
     let rest = behind(text, gap.length);
     let Some(Front { kind, length }) = front_of(rest) else {
-        return Step::Stops(Refusal {
-            number: 2,
-            file,
-            line,
-            limit: None,
-        });
+        return Step::Stops(Refusal::at(2, file, line));
     };
     let piece = ahead(rest, length);
     if let Some(limit) = passed_limit(kind, piece) {
-        return Step::Stops(Refusal {
-            number: 14,
-            file,
-            line,
-            limit: Some(limit),
-        });
+        return Step::Stops(Refusal::past_at(limit, file, line));
     }
     Step::Goes(
         Token {

@@ -3,6 +3,7 @@ use Rattle.std.specs.Prelude.{◌≡◌, ℕ, ◌*◌, ◌<◌, ◌≤◌, ◌%�
 use Rattle.std.specs.List.{AllByRecursion, AllZip}
 use Rattle.cc_arena.specs.declared.ground_laws.GroundLaw.{GroundLaw}
 use Rattle.cc_arena.specs.GroundViews.{plain_ground_laws}
+use Rattle.cc_defs.specs.Limits.{most_rules}
 use Rattle.cc_defs.specs.declared.node.GroundHead.{GroundHead}
 use Rattle.cc_defs.specs.declared.node.GroundHead.TheVariants as heads
 use Rattle.cc_defs.specs.declared.node.Node.{Node}
@@ -81,7 +82,7 @@ pub record PlainTheory : Type 0 where
 
 -- more rules than their limit
 abbrev pub rules_refusal : Description → ℕ → Option Refusal
-rules_refusal d horizon = if nat_lt 8000000 (length (timed_rules d horizon)) then Some (past limits.Rules) else None
+rules_refusal d horizon = if nat_lt most_rules (length (timed_rules d horizon)) then Some (past limits.Rules) else None
 
 -- the rows that are models of a horizon are those that meet the completion of its rules; they are the paths
 abbrev pub ModelsMeetCompletionOf : Description → ℕ → Type 0

@@ -1,5 +1,6 @@
 //! How many rules a horizon has, counted up to one more than their limit.
 ghost use Rattle.std.specs.Prelude.{◌≡◌, ◌≤◌, ℕ, length, min};
+ghost use Rattle.cc_defs.specs.Limits.{most_steps};
 ghost use Rattle.cc_theory.specs.Making.{initial_of, all_initial, rules_for, turns};
 
 use cc_arena::GroundLaw;
@@ -33,7 +34,7 @@ fn all_initial_count(sig: &Sig) -> usize
 
 /// At how many steps of a horizon a law of a kind has a rule.
 fn turns_of(kind: LawKind, horizon: u32) -> usize
-    requires { horizon ≤ 1000 }
+    requires { horizon ≤ most_steps }
     ensures { result ≡ turns kind horizon }
 {
     match kind {
@@ -44,7 +45,7 @@ fn turns_of(kind: LawKind, horizon: u32) -> usize
 
 /// How many rules there are.
 pub(crate) fn rule_count(sig: &Sig, laws: &[GroundLaw<'_>], horizon: u32) -> usize
-    requires { horizon ≤ 1000 }
+    requires { horizon ≤ most_steps }
     ensures { result ≡ min (length (rules_for sig.now laws.now horizon)) 8000001 }
 {
     let mut count = all_initial_count(sig);

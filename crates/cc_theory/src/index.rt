@@ -1,6 +1,7 @@
 //! Where the rules of each head stand.
 ghost use Rattle.std.specs.Prelude.{◌≡◌, ◌≤◌, ◌<◌, IfOk, length};
 ghost use Rattle.std.specs.List.{AllByRecursion};
+ghost use Rattle.cc_defs.specs.Limits.{most_rules};
 ghost use Rattle.cc_theory.specs.Groups.{starts as starts_of, sizes_of, place_of, place_keys, places, HasPlace, AreIndexed};
 
 use crate::groups::{grouped, starts};
@@ -88,7 +89,7 @@ pub(crate) fn index_of(
     horizon: u32,
     rules: &[TimedRule<'_>],
 ) -> Result<Index, OutOfMemory>
-    requires count { length rules.now ≤ 8000000 }
+    requires count { length rules.now ≤ most_rules }
     requires heads { AllByRecursion (λ rule. HasPlace (sizes_of sig.now) horizon rule.head) rules.now }
     ensures { IfOk result (λ index. AreIndexed sig.now horizon rules.now index.firsts.items index.begins.items index.numbers.items) }
 {

@@ -1,5 +1,6 @@
 //! The rules of a horizon, in order.
 ghost use Rattle.std.specs.Prelude.{◌≡◌, ◌≤◌, ◌+◌, ◌*◌, ◌++◌, IfOk, OnOk, map};
+ghost use Rattle.cc_defs.specs.Limits.{most_steps};
 ghost use Rattle.cc_defs.specs.Rules.{upto};
 ghost use Rattle.cc_theory.specs.Making as words;
 
@@ -99,7 +100,7 @@ fn rule_of<'a>(law: &GroundLaw<'a>, stride: u64, now: u32, before: u32) -> Timed
 /// The rule of a law at a step: a static law has one at each step, a dynamic one at each step but the last.
 fn rule_at<'a>(law: &GroundLaw<'a>, stride: u64, horizon: u32, step: u32) -> Option<TimedRule<'a>>
     requires step { step ≤ horizon }
-    requires horizon { horizon ≤ 1000 }
+    requires horizon { horizon ≤ most_steps }
     requires stride { stride ≤ 8589934592 }
     ensures { result ≡ words.rule_at stride horizon step law.now }
 {
@@ -120,7 +121,7 @@ fn add_step<'a>(
     rules: &mut Vec<TimedRule<'a>>,
 ) -> Result<(), OutOfMemory>
     requires step { step ≤ horizon }
-    requires horizon { horizon ≤ 1000 }
+    requires horizon { horizon ≤ most_steps }
     requires stride { stride ≤ 8589934592 }
     ensures { OnOk result (rules.new.items ≡ rules.old.items ++ words.rules_at_step stride laws.now horizon step) }
 {
@@ -139,7 +140,7 @@ pub(crate) fn all_rules<'a>(
     laws: &[GroundLaw<'a>],
     horizon: u32,
 ) -> Result<Vec<TimedRule<'a>>, OutOfMemory>
-    requires { horizon ≤ 1000 }
+    requires { horizon ≤ most_steps }
     ensures { IfOk result (λ rules. rules.items ≡ words.rules_for sig.now laws.now horizon) }
 {
     let mut rules = Vec::new(alloc);

@@ -1,7 +1,7 @@
 //! The causal theory of a horizon.
 ghost use Rattle.std.specs.Prelude.{◌≡◌, ◌≤◌, IfOk, IfErr, OnOk, length, nat_eq, nat_lt, if◌then◌else◌, Some, None};
 ghost use Rattle.std.specs.List.{AllByRecursion, AllZip};
-ghost use Rattle.cc_defs.specs.declared.refusal.Fault.TheVariants as faults;
+ghost use Rattle.cc_defs.specs.Limits.{most_steps, most_rules};
 ghost use Rattle.cc_defs.specs.declared.refusal.LimitAt.TheVariants as limits;
 ghost use Rattle.cc_defs.specs.Description.{Description, stride as stride_between};
 ghost use Rattle.cc_defs.specs.Refusals.{IsRefusedBy, past as refusal_past};
@@ -22,18 +22,6 @@ use cc_defs::{Fault, LimitAt, Refusal, Sig};
 use std::alloc::Global;
 use std::marker::Model;
 
-/// More rules than their limit.
-fn past_rules() -> Fault
-    ensures { result ≡ faults.Refused (refusal_past limits.Rules) }
-{
-    Fault::Refused(Refusal {
-        number: 14,
-        file: 0,
-        line: 0,
-        limit: Some(LimitAt::Rules),
-    })
-}
-
 /// The rules, where they are not more than their limit.
 fn rules_within<'a>(
     alloc: Global,
@@ -41,13 +29,13 @@ fn rules_within<'a>(
     laws: &[GroundLaw<'a>],
     horizon: u32,
 ) -> Result<Vec<TimedRule<'a>>, Fault>
-    requires { horizon ≤ 1000 }
+    requires { horizon ≤ most_steps }
     ensures made { IfOk result (λ rules. rules.items ≡ rules_for sig.now laws.now horizon) }
-    ensures few { OnOk result (length (rules_for sig.now laws.now horizon) ≤ 8000000) }
-    ensures refused { IfErr result (IsRefusedBy (if nat_lt 8000000 (length (rules_for sig.now laws.now horizon)) then Some (refusal_past limits.Rules) else None)) }
+    ensures few { OnOk result (length (rules_for sig.now laws.now horizon) ≤ most_rules) }
+    ensures refused { IfErr result (IsRefusedBy (if nat_lt most_rules (length (rules_for sig.now laws.now horizon)) then Some (refusal_past limits.Rules) else None)) }
 {
     if rule_count(sig, laws, horizon) > LimitAt::Rules.number() as usize {
-        return Err(past_rules());
+        return Err(Fault::Refused(Refusal::past(LimitAt::Rules)));
     }
     Ok(all_rules(alloc, sig, laws, horizon)?)
 }
@@ -59,13 +47,14 @@ fn rules_meant<'a>(
     laws: &[GroundLaw<'a>],
     horizon: u32,
 ) -> Result<Vec<TimedRule<'a>>, Fault>
-    requires horizon { horizon ≤ 1000 }
+    requires horizon { horizon ≤ most_steps }
     requires laws { AreLawsFor sig.now laws.now }
-    ensures short { IfOk result (λ rules. length rules.items ≤ 8000000) }
+    ensures short { IfOk result (λ rules. length rules.items ≤ most_rules) }
+    ensures pinned { IfOk result (λ rules. rules.items ≡ rules_for sig.now laws.now horizon) }
     ensures heads { IfOk result (λ rules. AllByRecursion (λ rule. HasPlace (sizes_of sig.now) horizon rule.head) rules.items) }
     ensures fit { IfOk result (λ rules. AreRulesAt sig.now horizon rules.items) }
     ensures rules { (d : Description) → AreLawsOf sig.now laws.now d → IfOk result (λ rules. AllZip (IsRuleOf (stride_between d)) rules.items (timed_rules d horizon)) }
-    ensures few { (d : Description) → AreLawsOf sig.now laws.now d → OnOk result (length (timed_rules d horizon) ≤ 8000000) }
+    ensures few { (d : Description) → AreLawsOf sig.now laws.now d → OnOk result (length (timed_rules d horizon) ≤ most_rules) }
     ensures refused { (d : Description) → AreLawsOf sig.now laws.now d → IfErr result (IsRefusedBy (rules_refusal d horizon)) }
 {
     rules_within(alloc, sig, laws, horizon)
@@ -83,6 +72,7 @@ pub struct Theory<'a> {
 
 impl<'a> Model for Theory<'a> {
     ghost use Rattle.std.specs.Prelude.{◌≤◌};
+    ghost use Rattle.cc_defs.specs.Limits.{most_steps};
     ghost use Rattle.cc_theory.specs.Groups.{AreIndexed};
     ghost use Rattle.cc_theory.specs.Theories.{AreRulesAt, PlainTheory};
 
@@ -90,7 +80,7 @@ impl<'a> Model for Theory<'a> {
 
     ghost view = { λ theory. record { signature = theory.sig.now; horizon = theory.horizon; rules = theory.rules.items } };
 
-    ghost invariant = { λ theory. AreIndexed theory.sig.now theory.horizon theory.rules.items theory.index.firsts.items theory.index.begins.items theory.index.numbers.items × AreRulesAt theory.sig.now theory.horizon theory.rules.items × (theory.horizon ≤ 1000) };
+    ghost invariant = { λ theory. AreIndexed theory.sig.now theory.horizon theory.rules.items theory.index.firsts.items theory.index.begins.items theory.index.numbers.items × AreRulesAt theory.sig.now theory.horizon theory.rules.items × (theory.horizon ≤ most_steps) };
 }
 
 impl<'a> Theory<'a> {
@@ -105,12 +95,13 @@ impl<'a> Theory<'a> {
         laws: &'a Laws<'a>,
         horizon: u32,
     ) -> Result<Theory<'a>, Fault>
-        requires horizon { horizon ≤ 1000 }
+        requires horizon { horizon ≤ most_steps }
         requires laws { AreLawsFor sig.now laws.now }
         ensures signature { IfOk result (λ theory. theory.signature ≡ sig.now) }
         ensures horizon { IfOk result (λ theory. theory.horizon ≡ horizon) }
+        ensures pinned { IfOk result (λ theory. theory.rules ≡ rules_for sig.now laws.now horizon) }
         ensures rules { (d : Description) → AreLawsOf sig.now laws.now d → IfOk result (λ theory. AllZip (IsRuleOf (stride_between d)) theory.rules (timed_rules d horizon)) }
-        ensures few { (d : Description) → AreLawsOf sig.now laws.now d → OnOk result (length (timed_rules d horizon) ≤ 8000000) }
+        ensures few { (d : Description) → AreLawsOf sig.now laws.now d → OnOk result (length (timed_rules d horizon) ≤ most_rules) }
         ensures refused { (d : Description) → AreLawsOf sig.now laws.now d → IfErr result (IsRefusedBy (rules_refusal d horizon)) }
         ensures of { (d : Description) → AreLawsOf sig.now laws.now d → IfOk result (λ theory. IsTheoryOf theory d) }
         ensures completed { (d : Description) → AreLawsOf sig.now laws.now d → ModelsMeetCompletionOf d horizon }
@@ -127,12 +118,13 @@ impl<'a> Theory<'a> {
         laws: &'a Laws<'a>,
         horizon: u32,
     ) -> Result<Theory<'a>, Fault>
-        requires horizon { horizon ≤ 1000 }
+        requires horizon { horizon ≤ most_steps }
         requires laws { AreLawsFor sig.now laws.now }
         ensures signature { IfOk result (λ theory. theory.signature ≡ sig.now) }
         ensures horizon { IfOk result (λ theory. theory.horizon ≡ horizon) }
+        ensures pinned { IfOk result (λ theory. theory.rules ≡ rules_for sig.now laws.now horizon) }
         ensures rules { (d : Description) → AreLawsOf sig.now laws.now d → IfOk result (λ theory. AllZip (IsRuleOf (stride_between d)) theory.rules (timed_rules d horizon)) }
-        ensures few { (d : Description) → AreLawsOf sig.now laws.now d → OnOk result (length (timed_rules d horizon) ≤ 8000000) }
+        ensures few { (d : Description) → AreLawsOf sig.now laws.now d → OnOk result (length (timed_rules d horizon) ≤ most_rules) }
         ensures refused { (d : Description) → AreLawsOf sig.now laws.now d → IfErr result (IsRefusedBy (rules_refusal d horizon)) }
     {
         let rules = rules_meant(alloc, sig, laws.laws(), horizon)?;
@@ -187,7 +179,7 @@ impl<'a> Theory<'a> {
     /// The horizon that it was made of.
     pub fn horizon(&self) -> u32
         ensures value { result ≡ self.now.horizon }
-        ensures most { result ≤ 1000 }
+        ensures most { result ≤ most_steps }
     {
         self.horizon
     }

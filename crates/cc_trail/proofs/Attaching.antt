@@ -4,10 +4,10 @@ use Rattle.std.specs.Prelude.{◌⊎◌, OnOk, All, Contains}
 use Rattle.std.proofs.lemmas.Bool.Decides.{eqb_tells, leb_tells, nat_tests}
 use Rattle.std.proofs.lemmas.List.{length-map, set-get_or, get_or_append_left, get_or-append-add}
 use Rattle.std.proofs.lemmas.List.Elements.{All-nil, All-cons}
-use Rattle.cc_defs.specs.Clauses.{Literal, opposite, IsClause, IsOver, IsBefore, IsNumbered}
+use Rattle.cc_defs.specs.Clauses.{Literal, opposite, IsClause, IsOver, IsBefore, IsNumbered, IsIn, IsLiteralOver}
 use Rattle.cc_kernel.specs.Kernels.{KernelView, Entry, clauses_of, IsThere}
 use Rattle.cc_trail.specs.declared.entries.Step.{Step}
-use Rattle.cc_trail.specs.Links.{IsIn, IsLiteralOver, no_literal, watched_at}
+use Rattle.cc_trail.specs.Links.{no_literal, watched_at}
 use Rattle.cc_trail.specs.Watches.{IsWatched, Watches, partner}
 use Rattle.cc_trail.specs.Trails.{TrailView, Fits, IsTrail, IsLong, number_of}
 use Rattle.cc_trail.proofs.StepLists.{in_left, in_right, in_push}

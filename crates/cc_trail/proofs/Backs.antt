@@ -1,7 +1,7 @@
 -- Going back: steps of high levels are taken away one by one.
 use Rattle.std.proofs.Common.{◌≡◌, ◌∙◌, ℕ, ◌<◌, ◌≤◌, inl, inr, List, [], ◌∷◌, ◌++◌, length, refl, sym, subst, ap, arith, append_assoc, append-nil, length-append}
 use Rattle.cc_trail.specs.declared.entries.Step.{Step}
-use Rattle.cc_trail.specs.Links.{IsIn}
+use Rattle.cc_defs.specs.Clauses.{IsIn}
 use Rattle.cc_trail.specs.Steps.{EntriesView, steps_to, AreSteps}
 use Rattle.cc_trail.specs.EntrySteps.{IsPopped, IsBack}
 use Rattle.cc_trail.proofs.StepLists.{front_kept, levels_most}

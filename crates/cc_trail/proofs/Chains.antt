@@ -4,7 +4,7 @@ use Rattle.std.specs.List.{IsDistinct, AllByRecursion, list_any}
 use Rattle.std.proofs.lemmas.List.{length-set, get_or-set_other, get_or_append_left}
 use Rattle.std.proofs.lemmas.Bool.Decides.{eqb_tells}
 use Rattle.std.proofs.lemmas.Map.Steps.{length-le_from_distinct_below}
-use Rattle.cc_trail.specs.Links.{IsIn}
+use Rattle.cc_defs.specs.Clauses.{IsIn}
 use Rattle.cc_trail.specs.LinkParts.{IsChain, chain_of}
 
 pub chain_same : (next : List ℕ) (head : ℕ) (xs ys : List ℕ) → IsChain next head xs → IsChain next head ys → xs ≡ ys

@@ -3,9 +3,9 @@ use Rattle.std.proofs.Common.{◌≡◌, ◌≢◌, ◌∙◌, ℕ, ◌+◌, ◌
 use Rattle.std.specs.Prelude.{All}
 use Rattle.std.proofs.lemmas.Bool.Decides.{eqb_tells, leb_tells}
 use Rattle.std.proofs.lemmas.List.Elements.{All-weaker, All-more}
-use Rattle.cc_defs.specs.Clauses.{Literal, opposite}
+use Rattle.cc_defs.specs.Clauses.{Literal, opposite, IsIn}
 use Rattle.cc_trail.specs.declared.entries.Step.{Step}
-use Rattle.cc_trail.specs.Links.{IsIn, code_of}
+use Rattle.cc_trail.specs.Links.{code_of}
 use Rattle.cc_trail.specs.Steps.{AreApart, AreSteps, step_of}
 use Rattle.cc_trail.specs.Watches.{IsTrueBy, IsFalseBy}
 use Rattle.cc_trail.specs.Visits.{IsFalseAt, IsFalseBut, IsBest, IsValue}

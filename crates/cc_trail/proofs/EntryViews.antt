@@ -1,10 +1,10 @@
 -- What the holder of entries sees after its parts have changed.
 use Rattle.std.proofs.Common.{◌≡◌, ◌≢◌, ◌∙◌, ℕ, ◌+◌, ◌-◌, ◌<◌, ◌≤◌, zero, suc, [], ◌∷◌, ◌++◌, length, get_or, set, take, Some, None, refl, sym, subst, ap, arith}
 use Rattle.std.specs.Prelude.{◌⊎◌}
-use Rattle.cc_defs.specs.Clauses.{Literal}
+use Rattle.cc_defs.specs.Clauses.{Literal, IsIn, IsLiteralOver}
 use Rattle.cc_trail.specs.declared.entries.Step.{Step}
 use Rattle.cc_trail.specs.declared.entries.Entries.TheInside.{Inside}
-use Rattle.cc_trail.specs.Links.{IsIn, IsLiteralOver, no_literal}
+use Rattle.cc_trail.specs.Links.{no_literal}
 use Rattle.cc_trail.specs.Steps.{EntriesView, step_of, level_after, AreSteps}
 use Rattle.cc_trail.specs.EntryParts.{view_of, AreEntries, IsKept}
 use Rattle.cc_trail.specs.EntrySteps.{IsPopped}

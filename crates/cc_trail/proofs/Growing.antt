@@ -5,10 +5,10 @@ use Rattle.std.specs.List.{AllByRecursion}
 use Rattle.std.proofs.lemmas.Bool.Decides.{eqb_tells}
 use Rattle.std.proofs.lemmas.List.Elements.{All-weaker}
 use Rattle.std.proofs.lemmas.Option.{slice_get_within}
-use Rattle.cc_defs.specs.Clauses.{Literal, opposite}
+use Rattle.cc_defs.specs.Clauses.{Literal, opposite, IsIn, IsLiteralOver}
 use Rattle.cc_kernel.specs.Kernels.{KernelView, clauses_of}
 use Rattle.cc_trail.specs.declared.entries.Step.{Step}
-use Rattle.cc_trail.specs.Links.{IsIn, IsLiteralOver, LinksView, watched_at}
+use Rattle.cc_trail.specs.Links.{LinksView, watched_at}
 use Rattle.cc_trail.specs.Steps.{EntriesView, step_of, values_to}
 use Rattle.cc_trail.specs.Watches.{IsTrueBy, IsWatched, HasReason, partner}
 use Rattle.cc_trail.specs.Trails.{IsPropagatedAt}

@@ -3,9 +3,8 @@ use Rattle.std.proofs.Common.{◌≡◌, ◌≢◌, ◌∙◌, ℕ, ◌+◌, ◌
 use Rattle.std.specs.Prelude.{◌⊎◌}
 use Rattle.std.proofs.lemmas.Bool.Decides.{eqb_tells}
 use Rattle.std.proofs.lemmas.List.{length-set, length-replicate, get_or-set_other, get_or-set_same, take_more_set, take_more, get_or-take, length-take-le}
-use Rattle.cc_defs.specs.Clauses.{Literal}
+use Rattle.cc_defs.specs.Clauses.{Literal, IsIn, IsLiteralOver}
 use Rattle.cc_trail.specs.declared.entries.Step.{Step}
-use Rattle.cc_trail.specs.Links.{IsIn, IsLiteralOver}
 use Rattle.cc_trail.specs.Steps.{step_of, level_after, AreSteps}
 use Rattle.cc_trail.specs.EntryParts.{place_from, literal_of_step, IsKept}
 use Rattle.cc_trail.proofs.StepLists.{none_of, place_push_other, place_push_same, place_none, place_found, place_nowhere, room, steps_push, steps_pop, level_push, rising_pop, apart_pop, in_right}

@@ -3,8 +3,8 @@ use Rattle.std.proofs.Common.{◌≡◌, ◌≢◌, ◌∙◌, ℕ, ◌+◌, ◌
 use Rattle.std.specs.Prelude.{◌⊎◌, ◌↔◌, if◌then◌else◌, Bool, replicate, drop}
 use Rattle.std.proofs.lemmas.Bool.Decides.{eqb_tells, leb_tells}
 use Rattle.std.proofs.lemmas.List.{length-set, length-replicate, get_or-set_other, get_or-set_same, get_or_append_left, get_or-append-add}
-use Rattle.cc_defs.specs.Clauses.{Literal}
-use Rattle.cc_trail.specs.Links.{IsIn, BeginsWith, no_literal, watched_at, code_of, IsLiteralOver}
+use Rattle.cc_defs.specs.Clauses.{Literal, IsIn, IsLiteralOver}
+use Rattle.cc_trail.specs.Links.{BeginsWith, no_literal, watched_at, code_of}
 use Rattle.cc_trail.specs.LinkParts.{IsChain, chain_of, IsLinked, AreLinks}
 use Rattle.cc_trail.proofs.Chains.{chain_within, first_once, chain_set, chain_append, chain_is}
 

@@ -3,12 +3,12 @@ use Rattle.std.proofs.Common.{◌≡◌, ◌∙◌, ℕ, ◌-◌, ◌*◌, ◌<�
 use Rattle.std.specs.Prelude.{◌⊎◌, Contains, slice_get, IfNone}
 use Rattle.std.proofs.lemmas.List.{length-map, take_all}
 use Rattle.std.proofs.lemmas.Option.{slice_get-get_or}
-use Rattle.cc_defs.specs.Clauses.{Literal, IsNumbered}
+use Rattle.cc_defs.specs.Clauses.{Literal, IsNumbered, IsIn}
 use Rattle.cc_defs.specs.Assignments.{IsClosed, IsTrueIn, HasNoValue}
 use Rattle.cc_kernel.specs.Kernels.{KernelView, Entry, clauses_of}
 use Rattle.cc_trail.specs.declared.entries.Step.{Step}
 use Rattle.cc_trail.specs.declared.trail.Trail.TheInside.{Inside}
-use Rattle.cc_trail.specs.Links.{IsIn, LinksView, watched_at}
+use Rattle.cc_trail.specs.Links.{LinksView, watched_at}
 use Rattle.cc_trail.specs.Steps.{EntriesView, AreApart, step_of, sign_of, values_of}
 use Rattle.cc_trail.specs.Watches.{IsFalseBy, IsWatched, IsShort, partner}
 use Rattle.cc_trail.specs.Trails.{TrailView, Fits, IsSettled, number_of}

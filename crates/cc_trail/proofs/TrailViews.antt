@@ -1,11 +1,10 @@
 -- What the holder of a trail sees after its parts have changed.
 use Rattle.std.proofs.Common.{◌≡◌, ◌∙◌, ℕ, ◌+◌, ◌≤◌, inr, List, [], ◌∷◌, ◌++◌, length, min, None, refl, sym, subst, ap, arith, length-append}
-use Rattle.cc_defs.specs.Clauses.{Literal}
+use Rattle.cc_defs.specs.Clauses.{Literal, IsIn, IsLiteralOver}
 use Rattle.cc_defs.specs.Assignments.{IsClosed}
 use Rattle.cc_kernel.specs.Kernels.{KernelView, clauses_of}
 use Rattle.cc_trail.specs.declared.entries.Step.{Step}
 use Rattle.cc_trail.specs.declared.trail.Trail.TheInside.{Inside}
-use Rattle.cc_trail.specs.Links.{IsIn, IsLiteralOver}
 use Rattle.cc_trail.specs.Steps.{EntriesView, AreSteps, step_of, steps_to, values_of}
 use Rattle.cc_trail.specs.EntrySteps.{IsBack}
 use Rattle.cc_trail.specs.Trails.{TrailView, IsTrail, Fits, IsSettled, decided, back_at}

@@ -2,10 +2,10 @@
 use Rattle.std.proofs.Common.{◌≡◌, ◌∙◌, ℕ, ◌+◌, ◌<◌, ◌≤◌, zero, suc, inl, inr, leb, true, false, List, [], ◌∷◌, ◌++◌, length, take, min, Some, None, refl, sym, subst, ap, arith, append_assoc, append-nil}
 use Rattle.std.specs.Prelude.{◌⊎◌, if◌then◌else◌}
 use Rattle.std.proofs.lemmas.Bool.Decides.{eqb_tells, leb_tells}
-use Rattle.cc_defs.specs.Clauses.{Literal}
+use Rattle.cc_defs.specs.Clauses.{Literal, IsIn}
 use Rattle.cc_defs.specs.Assignments.{Values, IsClosed}
 use Rattle.cc_trail.specs.declared.entries.Step.{Step}
-use Rattle.cc_trail.specs.Links.{IsIn, watched_at}
+use Rattle.cc_trail.specs.Links.{watched_at}
 use Rattle.cc_trail.specs.Steps.{values_of, values_to, steps_to, AreSteps}
 use Rattle.cc_trail.specs.Watches.{IsTrueBy, HasReason, AreReasonedAfter, partner}
 use Rattle.cc_trail.specs.Trails.{TrailView, FitsClauses, IsSettledOver, decided, back_at}

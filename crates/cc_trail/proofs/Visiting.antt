@@ -5,11 +5,11 @@ use Rattle.std.proofs.lemmas.Bool.Decides.{eqb_tells, leb_tells, nat_tests}
 use Rattle.std.proofs.lemmas.List.{length-set, length-map, get_or-set_other, get_or-set_same}
 use Rattle.std.proofs.lemmas.List.Elements.{All-contains}
 use Rattle.std.proofs.lemmas.Option.{slice_get_within}
-use Rattle.cc_defs.specs.Clauses.{Literal, opposite, IsNumbered}
+use Rattle.cc_defs.specs.Clauses.{Literal, opposite, IsNumbered, IsIn, IsLiteralOver}
 use Rattle.cc_defs.specs.Assignments.{IsClosed, IsFalseIn}
 use Rattle.cc_kernel.specs.Kernels.{KernelView, Entry, clauses_of, IsThere}
 use Rattle.cc_trail.specs.declared.entries.Step.{Step}
-use Rattle.cc_trail.specs.Links.{IsIn, IsLiteralOver, LinksView, BeginsWith, no_literal, watched_at}
+use Rattle.cc_trail.specs.Links.{LinksView, BeginsWith, no_literal, watched_at}
 use Rattle.cc_trail.specs.Steps.{EntriesView, AreApart, AreSteps, step_of, sign_of, sign_to, values_of, values_to}
 use Rattle.cc_trail.specs.Watches.{IsTrueBy, IsFalseBy, IsWatched, Watches, HasReason, partner}
 use Rattle.cc_trail.specs.Trails.{IsFailedClause, number_of}

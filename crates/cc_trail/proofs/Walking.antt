@@ -3,10 +3,10 @@ use Rattle.std.proofs.Common.{◌≡◌, ◌∙◌, ℕ, ◌+◌, ◌<◌, zero,
 use Rattle.std.specs.Prelude.{◌⊎◌, Contains, slice_get}
 use Rattle.std.proofs.lemmas.List.{set-get_or}
 use Rattle.std.proofs.lemmas.Option.{slice_get_within}
-use Rattle.cc_defs.specs.Clauses.{Literal, opposite, IsNumbered}
+use Rattle.cc_defs.specs.Clauses.{Literal, opposite, IsNumbered, IsIn, IsLiteralOver}
 use Rattle.cc_kernel.specs.Kernels.{KernelView, clauses_of}
 use Rattle.cc_trail.specs.declared.entries.Step.{Step}
-use Rattle.cc_trail.specs.Links.{IsIn, IsLiteralOver, LinksView, AreTaken, BeginsWith, no_literal, watched_at}
+use Rattle.cc_trail.specs.Links.{LinksView, AreTaken, BeginsWith, no_literal, watched_at}
 use Rattle.cc_trail.specs.Steps.{EntriesView}
 use Rattle.cc_trail.specs.Watches.{IsFalseBy, IsWatched, HasReason, IsShort}
 use Rattle.cc_trail.specs.Trails.{IsFailedClause}

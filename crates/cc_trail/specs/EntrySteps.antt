@@ -1,7 +1,7 @@
 -- What changes of entries do.
 use Rattle.std.specs.Prelude.{◌≡◌, ℕ, ◌+◌, ◌<◌, ◌≤◌, List, [], ◌∷◌, ◌++◌}
 use Rattle.cc_trail.specs.declared.entries.Step.{Step}
-use Rattle.cc_trail.specs.Links.{IsIn}
+use Rattle.cc_defs.specs.Clauses.{IsIn}
 use Rattle.cc_trail.specs.Steps.{EntriesView, steps_to}
 
 -- the last step was taken away

@@ -1,7 +1,8 @@
 -- How the parts of links make what their holder sees, and what is always true of them.
 use Rattle.std.specs.Prelude.{◌≡◌, ℕ, ◌+◌, ◌*◌, ◌<◌, ◌≤◌, ◌⊎◌, zero, suc, List, [], ◌∷◌, length, get_or}
-use Rattle.cc_defs.specs.Clauses.{Literal}
-use Rattle.cc_trail.specs.Links.{IsIn, LinksView, watched_at, code_of, IsLiteralOver}
+use Rattle.cc_defs.specs.Clauses.{Literal, IsIn, IsLiteralOver}
+use Rattle.cc_defs.specs.Limits.{most_variables}
+use Rattle.cc_trail.specs.Links.{LinksView, watched_at, code_of}
 use Rattle.cc_trail.specs.declared.links.Links.TheInside.{Inside}
 
 -- the nodes of a chain. A head, or what is next of a node, is 0 at the end and else one more than the node.
@@ -33,7 +34,7 @@ pub record IsLinked (heads next : List ℕ) (watched : List Literal) : Type 0 wh
   pub owners : (node : ℕ) → node < length next → (owner node ≡ 0) ⊎ (owner node ≡ code_of (watched_at watched node))
 
 pub record AreLinks (variables : ℕ) (heads next : List ℕ) (watched : List Literal) : Type 0 where
-  pub variables_few : variables ≤ 4000000
+  pub variables_few : variables ≤ most_variables
   pub heads_count : length heads ≡ 2 * variables + 2
   pub next_count : length next ≡ length watched
   pub next_few : length next ≤ 4294967000

@@ -1,11 +1,6 @@
 -- Watch links as their holder sees them. Each node of a link stands for one of the two watched literals of a clause.
 use Rattle.std.specs.Prelude.{◌≡◌, ℕ, ◌+◌, ◌*◌, ◌<◌, ◌≤◌, ◌↔◌, ◌⊎◌, false, if◌then◌else◌, List, [], ◌∷◌, length, get_or}
-use Rattle.cc_defs.specs.Clauses.{Literal}
-
--- a member of a list
-abbrev pub IsIn : {X : Type 0} → List X → X → Type 0
-IsIn [] x = ⊥
-IsIn (y ∷ ys) x = (y ≡ x) ⊎ IsIn ys x
+use Rattle.cc_defs.specs.Clauses.{IsIn, Literal}
 
 -- the number of variables, the literal that each node watches, and the nodes that were taken out of their links
 pub record LinksView : Type 0 where
@@ -24,10 +19,6 @@ watched_at watched node = get_or watched node no_literal
 -- a literal as a number: twice its variable, and one more where it is positive
 abbrev pub code_of : Literal → ℕ
 code_of literal = 2 * literal.variable + (if literal.positive then 1 else 0)
-
--- a literal of one of the variables 1, .., variables
-abbrev pub IsLiteralOver : ℕ → Literal → Type 0
-IsLiteralOver variables literal = (0 < literal.variable) × (literal.variable ≤ variables)
 
 -- a list that begins with this number
 abbrev pub BeginsWith : List ℕ → ℕ → Type 0

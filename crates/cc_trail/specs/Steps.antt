@@ -1,8 +1,9 @@
 -- The steps of a trail: the literals that became true, in order, each with its level and, where it was propagated, its reason.
 use Rattle.std.specs.Prelude.{◌≡◌, ◌≢◌, ℕ, ◌≤◌, ◌⊎◌, ◌==◌, nat_le, suc, Bool, if◌then◌else◌, List, [], ◌∷◌, filter, Option, Some, None, option_map, option_and_then}
 use Rattle.cc_defs.specs.Assignments.{Values}
+use Rattle.cc_defs.specs.Limits.{most_variables}
 use Rattle.cc_trail.specs.declared.entries.Step.{Step}
-use Rattle.cc_trail.specs.Links.{IsIn, IsLiteralOver}
+use Rattle.cc_defs.specs.Clauses.{IsIn, IsLiteralOver}
 
 -- the number of variables, the steps in order, and how many levels were opened
 pub record EntriesView : Type 0 where
@@ -50,7 +51,7 @@ AreApart (step ∷ steps) = ((other : Step) → IsIn steps other → other.lit.v
 
 -- what is true of the steps of each trail
 pub record AreSteps (variables : ℕ) (steps : List Step) (level_count : ℕ) : Type 0 where
-  pub variables_few : variables ≤ 4000000
+  pub variables_few : variables ≤ most_variables
   pub over : (step : Step) → IsIn steps step → IsLiteralOver variables step.lit
   pub apart : AreApart steps
   pub rising : IsRising 0 steps

@@ -1,11 +1,10 @@
 -- What the holder of a trail sees of it.
 use Rattle.std.specs.Prelude.{◌≡◌, ◌≢◌, ℕ, ◌+◌, ◌*◌, ◌/◌, ◌<◌, ◌≤◌, ◌⊎◌, List, [], ◌∷◌, ◌++◌, length, Contains, take, get_or, min, Option, Some, None, option_map, Bool, not, if◌then◌else◌}
 use Rattle.std.specs.List.{AllByRecursion}
-use Rattle.cc_defs.specs.Clauses.{Literal, IsNumbered}
+use Rattle.cc_defs.specs.Clauses.{Literal, IsNumbered, IsIn}
 use Rattle.cc_defs.specs.Assignments.{IsClosed, IsFailed, IsTrueIn, HasNoValue}
 use Rattle.cc_kernel.specs.Kernels.{KernelView, clauses_of}
 use Rattle.cc_trail.specs.declared.entries.Step.{Step}
-use Rattle.cc_trail.specs.Links.{IsIn}
 use Rattle.cc_trail.specs.Steps.{AreSteps, steps_to, values_of, values_to}
 use Rattle.cc_trail.specs.Watches.{IsWatched, Watches, AreReasoned, IsShort}
 

@@ -1,10 +1,10 @@
 -- What a visit of watches keeps, and what it looks for.
 use Rattle.std.specs.Prelude.{◌≡◌, ℕ, ◌*◌, ◌<◌, ◌≤◌, ◌⊎◌, suc, Bool, true, false, List, ◌++◌, length, take, slice_get, All, Contains, Some}
 use Rattle.std.specs.List.{AllByRecursion}
-use Rattle.cc_defs.specs.Clauses.{Literal, opposite, IsNumbered}
+use Rattle.cc_defs.specs.Clauses.{Literal, opposite, IsNumbered, IsIn}
 use Rattle.cc_kernel.specs.Kernels.{KernelView, clauses_of}
 use Rattle.cc_trail.specs.declared.entries.Step.{Step}
-use Rattle.cc_trail.specs.Links.{IsIn, LinksView, watched_at}
+use Rattle.cc_trail.specs.Links.{LinksView, watched_at}
 use Rattle.cc_trail.specs.Steps.{EntriesView, AreSteps}
 use Rattle.cc_trail.specs.Watches.{IsTrueBy, IsFalseBy, IsWatched, Watches, AreReasoned}
 use Rattle.cc_trail.specs.Trails.{IsPropagatedAt, IsSettledOver, number_of}

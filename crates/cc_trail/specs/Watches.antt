@@ -1,8 +1,8 @@
 -- Watched literals (two watched literals a clause; Moskewicz and others, Chaff, 2001).
 use Rattle.std.specs.Prelude.{◌≡◌, ◌≢◌, ℕ, ◌+◌, ◌-◌, ◌%◌, ◌<◌, ◌≤◌, ◌⊎◌, ◌==◌, if◌then◌else◌, List, [], ◌∷◌, ◌++◌, length, Contains, Some}
-use Rattle.cc_defs.specs.Clauses.{Literal, opposite, IsNumbered}
+use Rattle.cc_defs.specs.Clauses.{Literal, opposite, IsNumbered, IsIn}
 use Rattle.cc_trail.specs.declared.entries.Step.{Step}
-use Rattle.cc_trail.specs.Links.{IsIn, watched_at}
+use Rattle.cc_trail.specs.Links.{watched_at}
 
 -- a step makes the literal true, at a level not above this one
 abbrev pub IsTrueBy : List Step → Literal → ℕ → Type 0

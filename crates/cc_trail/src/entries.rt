@@ -1,6 +1,7 @@
 //! The entries of a trail: the literals that became true, in order, each with its level and its reason.
 ghost use Rattle.std.specs.Prelude.{◌≡◌, ◌≢◌, ℕ, ◌+◌, ◌<◌, ◌≤◌, ◌++◌, [], ◌∷◌, length, map, take, Some, None, IfOk, slice_get};
-ghost use Rattle.cc_trail.specs.Links.{IsIn, IsLiteralOver};
+ghost use Rattle.cc_defs.specs.Clauses.{IsIn, IsLiteralOver};
+ghost use Rattle.cc_defs.specs.Limits.{most_variables};
 ghost use Rattle.cc_trail.specs.Steps.{EntriesView, AreSteps, step_of, level_after};
 ghost use Rattle.cc_trail.specs.EntryParts.{literal_of_step};
 ghost use Rattle.cc_trail.specs.EntrySteps.{IsPopped, IsBack};
@@ -57,7 +58,7 @@ fn last_level(steps: &[Step], count: usize) -> u32
 impl Entries {
     /// No entries, with room for one of each variable.
     pub fn new(alloc: Global, variables: u32) -> Result<Entries, OutOfMemory>
-        requires { variables ≤ 4000000 }
+        requires { variables ≤ most_variables }
         ensures { IfOk result (λ entries. entries ≡ record { variables = variables; steps = []; level_count = 0 }) }
     {
         let lit = Lit::positive(1);

@@ -1,7 +1,8 @@
 //! Watch links: for each literal the chain of the nodes that watch it.
 ghost use Rattle.std.specs.Prelude.{◌≡◌, ℕ, ◌+◌, ◌*◌, ◌<◌, ◌≤◌, ◌++◌, [], ◌∷◌, length, set, drop, Contains, IfOk, IfSome, IfNone, OnOk, OnErr, Ok};
-ghost use Rattle.cc_defs.specs.Clauses.{Literal};
-ghost use Rattle.cc_trail.specs.Links.{IsIn, LinksView, AreTaken, BeginsWith, IsLiteralOver, code_of, watched_at};
+ghost use Rattle.cc_defs.specs.Clauses.{Literal, IsIn, IsLiteralOver};
+ghost use Rattle.cc_defs.specs.Limits.{most_variables};
+ghost use Rattle.cc_trail.specs.Links.{LinksView, AreTaken, BeginsWith, code_of, watched_at};
 
 use cc_defs::{Lit, OutOfMemory};
 use std::alloc::Global;
@@ -43,7 +44,7 @@ fn code(lit: Lit) -> usize
 impl Links {
     /// Links of no clause.
     pub fn new(alloc: Global, variables: u32) -> Result<Links, OutOfMemory>
-        requires { variables ≤ 4000000 }
+        requires { variables ≤ most_variables }
         ensures { IfOk result (λ links. links ≡ record { variables = variables; watched = []; taken = [] }) }
     {
         let heads = vec![in alloc; 0u32; 2 * variables as usize + 2]?;

@@ -1,7 +1,7 @@
 //! Propagation: clauses of fewer than two literals, and then the steps that have not been visited.
 ghost use Rattle.std.specs.Prelude.{◌≡◌, ℕ, ◌<◌, [], length, IfSome, IfNone};
 ghost use Rattle.cc_kernel.specs.Kernels.{clauses_of};
-ghost use Rattle.cc_trail.specs.Links.{IsIn};
+ghost use Rattle.cc_defs.specs.Clauses.{IsIn};
 ghost use Rattle.cc_trail.specs.Watches.{IsShort};
 ghost use Rattle.cc_trail.specs.Trails.{IsFailedClause};
 ghost use Rattle.cc_trail.specs.Visits.{AreSound, AreGrown, AreWatched, IsMet};

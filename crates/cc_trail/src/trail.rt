@@ -1,9 +1,10 @@
 //! A trail: what is true and false, by levels of decisions, and propagation over the clauses of a kernel.
 ghost use Rattle.std.specs.Prelude.{◌≡◌, ◌+◌, ◌<◌, ◌≤◌, [], ◌∷◌, ◌++◌, length, map, None, IfOk, IfSome, IfNone, OnOk, OnErr, option_map, option_and_then};
 ghost use Rattle.cc_defs.specs.Assignments.{IsClosed};
+ghost use Rattle.cc_defs.specs.Limits.{most_variables};
 ghost use Rattle.cc_kernel.specs.Kernels.{KernelView, clauses_of, IsThere};
 ghost use Rattle.cc_trail.specs.EntryParts.{literal_of_step};
-ghost use Rattle.cc_trail.specs.Links.{IsLiteralOver};
+ghost use Rattle.cc_defs.specs.Clauses.{IsLiteralOver};
 ghost use Rattle.cc_trail.specs.Steps.{AreSteps, step_of, values_of};
 ghost use Rattle.cc_trail.specs.Trails.{TrailView, Fits, IsSettled, IsNew, empty_over, IsAttached, IsLong, IsPropagated, IsFailedClause, value_of, level_of_step, reason_of_step, decided, back_at};
 
@@ -45,7 +46,7 @@ impl Model for Trail {
 impl Trail {
     // A trail to which no clause is attached.
     fn empty(alloc: Global, variables: u32) -> Result<Trail, OutOfMemory>
-        requires { variables ≤ 4000000 }
+        requires { variables ≤ most_variables }
         ensures { IfOk result (λ trail. trail ≡ empty_over variables) }
     {
         Ok(Trail {

@@ -1,7 +1,8 @@
 //! Visits of the nodes that watch a literal that became false.
 ghost use Rattle.std.specs.Prelude.{◌≡◌, ◌≢◌, ℕ, ◌+◌, ◌<◌, ◌≤◌, true, false, IsTrue, [], length, take, drop, All, Contains, IfSome, IfNone, Some, None};
 ghost use Rattle.cc_kernel.specs.Kernels.{KernelView, clauses_of};
-ghost use Rattle.cc_trail.specs.Links.{IsIn, BeginsWith, IsLiteralOver, watched_at};
+ghost use Rattle.cc_defs.specs.Clauses.{IsIn, IsLiteralOver};
+ghost use Rattle.cc_trail.specs.Links.{BeginsWith, watched_at};
 ghost use Rattle.cc_trail.specs.Watches.{IsTrueBy, HasReason, partner};
 ghost use Rattle.cc_trail.specs.Trails.{IsFailedClause};
 ghost use Rattle.cc_trail.specs.Visits.{IsFalseAt, IsBest, IsValue, AreSound, AreGrown, AreWatched, IsVisiting};

@@ -1,7 +1,6 @@
 //! Which literals of a clause are watched.
 ghost use Rattle.std.specs.Prelude.{◌≡◌, ◌≢◌, ℕ, ◌<◌, ◌≤◌, All, Contains, length};
-ghost use Rattle.cc_defs.specs.Clauses.{IsClause};
-ghost use Rattle.cc_trail.specs.Links.{IsLiteralOver};
+ghost use Rattle.cc_defs.specs.Clauses.{IsClause, IsLiteralOver};
 
 use crate::entries::Entries;
 use cc_defs::Lit;

@@ -1,4 +1,3 @@
-mod Digits
 mod Plain
 mod Reading
 mod Taken

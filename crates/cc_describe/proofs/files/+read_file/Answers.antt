@@ -4,8 +4,9 @@ use Rattle.cc_ports.specs.Contents.{with_rest}
 use Rattle.cc_text.specs.Views.{token_views, cut_at}
 use Rattle.cc_describe.specs.Places.{AreThere, Place}
 use Rattle.cc_describe.specs.ProgressViews.{IsProgress, halt_of}
+use Rattle.cc_describe.proofs.CallsKept.{keeps_as, keeps_more}
 use Rattle.cc_describe.proofs.SomePlaces.{Gone, barred_goes, opened_goes, opening_goes, refused_goes, said_goes, then_goes}
-use Rattle.cc_describe.proofs.Walk.{AreInside, Midway, up_to, progress_left, opening_stops, text_stops, told_as, no_fault, finds, finds_as, has_read, taken_as, refused_as, touched_again, tells_still, midway_begins, midway_goes, midway_ends, midway_stops, statement_refused, statement_alone, statement_reads, statement_ends}
+use Rattle.cc_describe.proofs.Walk.{AreInside, Midway, done_no_fault, later_are_tokens, up_to, progress_left, opening_stops, text_stops, told_as, no_fault, finds, finds_as, has_read, taken_as, refused_as, touched_again, tells_still, midway_begins, midway_goes, midway_ends, midway_stops, statement_refused, statement_alone, statement_reads, statement_ends}
 use Rattle.cc_describe.proofs.files.+read_file.Goals.{in-Some+then-deep-gt0+in_ok-read_file-in-Some, in-Some+else-deep-gt0, in-None}
 use Rattle.cc_describe.proofs.files.+read_file.Goals as goal
 
@@ -18,7 +19,7 @@ returns-in_err-bytes-clause-gone g t c contents before told was =
 pub returns-in-Err-clause-gone : goal.returns-in-Err-clause-gone
 returns-in-Err-clause-gone g t c contents before told was =
     let opened = c.in_ok-bytes.ensures.opened contents before told was in
-    text_stops c.args.deep contents.files before c.args.name.now c.in_ok-bytes.bytes c.items.result.now c.in_ok-bytes.file c.args.progress.now.around.items c.in-Err.fault c.from.result c.open.new.progress
+    text_stops c.cut_or_stop.ensures c.statements_are_tokens.ensures c.tree_or_refusal.ensures c.args.deep contents.files before c.args.name.now c.in_ok-bytes.bytes c.items.result.now c.in_ok-bytes.file c.args.progress.now.around.items c.in-Err.fault c.from.result c.open.new.progress
     opened.0 c.items.ensures c.from.ensures opened.1 opened.2 c.in-Err.ensures.refused
 
 pub loop-i-init : goal.loop-i-init
@@ -30,6 +31,8 @@ loop-i-init g t c = record {
   kept = λ before was. opened_goes before c.args.name.now c.in_ok-bytes.bytes _ (c.in_ok-bytes.ensures.kept before was);
   there = λ contents told are. c.in_ok-bytes.ensures.there contents told are;
   told = c.open.ensures.after;
+  calls = c.open.ensures.calls;
+  calm = c.in_ok-bytes.ensures.calm (done_no_fault _);
   begun = c.open.ensures.begun;
   reads_count = c.open.ensures.reads_count;
   writes_count = c.open.ensures.writes_count;
@@ -48,7 +51,9 @@ returns-in_err-included-clause-gone g t c contents before told was =
     told_as _ before c.from_residual-in_err-included.result _ _ c.from_residual-in_err-included.ensures.1
     (midway_stops c.cut_or_stop.ensures c.statements_are_tokens.ensures c.tree_or_refusal.ensures c.args.progress.now.around.items c.take.new.self _ within (has_read _ _ _ _ _ c.items.ensures opened.0 c.tokens.view_is c.in-Ok.ensures.read) m
     (statement_refused c.cut_or_stop.ensures c.statements_are_tokens.ensures c.tree_or_refusal.ensures c.args.deep contents.files around c.in_ok-bytes.file mid tokens _
-    c.loop-i.progress c.take.new.self m.kept c.in_err-included.ensures.names
+    c.loop-i.progress c.take.new.self
+    (later_are_tokens c.statements_are_tokens.ensures _ statements c.loop-i.i within (has_read _ _ _ _ _ c.items.ensures opened.0 c.tokens.view_is c.in-Ok.ensures.read)).0
+    m.kept c.in_err-included.ensures.names
     (refused_as mid c.in_ok-bytes.file _ around _ tokens _ c.loop-i.invariant.around
     (c.statement.ensures.tokens ∙ ap (λ s. slice_index_or s c.loop-i.i []) (sym c.tokens.view_is)) (c.in_err-included.ensures.refused mid m.kept))))
 
@@ -95,6 +100,7 @@ loop-i-preserved g t c =
     let tokens_are : token_views c.statement.result.now ≡ tokens = c.statement.ensures.tokens ∙ ap (λ s. slice_index_or s c.loop-i.i []) (sym c.tokens.view_is) in
     let after = c.loop-i.invariant.told in
     let taken_around : c.take.new.self.around.items ≡ around = ap (λ a. a.items) c.in_ok-included.ensures.around ∙ c.loop-i.invariant.around in
+    let taken_calls = keeps_as c.loop-i.invariant.calls (ap (λ l. l.items) c.in_ok-included.ensures.names) in
     let went : (before : List Place) → IsProgress c.args.progress.now before → Gone before c.take.new.self =
     λ before was. then_goes before c.loop-i.progress c.take.new.self (Ok (tt {0})) (c.loop-i.invariant.kept before was)
     (λ more kept. let taken = c.in_ok-included.ensures.taken more kept in said_goes more file c.loop-i.progress.around.items taken.0 c.take.new.self taken.3) in
@@ -120,6 +126,10 @@ loop-i-preserved g t c =
                 (read.there (with_rest after.0 contents) (tells_still after.0 _ _ contents after.1 told)
                 (subst (λ l. AreThere contents.files l.items) (sym c.in_ok-included.ensures.names) (c.loop-i.invariant.there contents told are)));
             told = touched_again after.0 _ _ _ after.1 read.after.0 (ap g.D.Desk.told w.desk-is ∙ read.after.1);
+            calls = rw (w.progress-is, w.desk-is) (keeps_more taken_calls read.calls);
+            calm =
+                let calm = read.calm (done_no_fault _) in
+                (ap g.D.Desk.read_faults w.desk-is ∙ calm.0 ∙ c.loop-i.invariant.calm.0, ap g.D.Desk.write_faults w.desk-is ∙ calm.1 ∙ c.loop-i.invariant.calm.1);
             begun = ap g.D.Desk.begun w.desk-is ∙ read.begun ∙ c.loop-i.invariant.begun;
             reads_count = rw w.desk-is (omega (arith, read.reads_count));
             writes_count = rw w.desk-is (omega (arith, read.writes_count));
@@ -141,6 +151,8 @@ loop-i-preserved g t c =
                 subst (λ p. AreThere contents.files p.names.items) (sym w.progress-is)
                 (subst (λ l. AreThere contents.files l.items) (sym c.in_ok-included.ensures.names) (c.loop-i.invariant.there contents told are));
             told = (after.0, ap g.D.Desk.told w.desk-is ∙ after.1);
+            calls = rw (w.progress-is, w.desk-is) taken_calls;
+            calm = (ap g.D.Desk.read_faults w.desk-is ∙ c.loop-i.invariant.calm.0, ap g.D.Desk.write_faults w.desk-is ∙ c.loop-i.invariant.calm.1);
             begun = ap g.D.Desk.begun w.desk-is ∙ c.loop-i.invariant.begun;
             reads_count = rw w.desk-is (omega arith);
             writes_count = rw w.desk-is (omega arith);
@@ -162,6 +174,8 @@ loop-i-preserved g t c =
                 subst (λ p. AreThere contents.files p.names.items) (sym w.progress-is)
                 (subst (λ l. AreThere contents.files l.items) (sym c.in_ok-included.ensures.names) (c.loop-i.invariant.there contents told are));
             told = (after.0, ap g.D.Desk.told w.desk-is ∙ after.1);
+            calls = rw (w.progress-is, w.desk-is) taken_calls;
+            calm = (ap g.D.Desk.read_faults w.desk-is ∙ c.loop-i.invariant.calm.0, ap g.D.Desk.write_faults w.desk-is ∙ c.loop-i.invariant.calm.1);
             begun = ap g.D.Desk.begun w.desk-is ∙ c.loop-i.invariant.begun;
             reads_count = rw w.desk-is (omega arith);
             writes_count = rw w.desk-is (omega arith);
@@ -218,3 +232,19 @@ returns-in_err-read_file-in-Some-clause-there g t c contents told are =
 pub returns-clause-there : goal.returns-clause-there
 returns-clause-there g t c contents told are =
     subst (λ p. AreThere contents.files p.names.items) (sym c.leave.ensures.rest) (c.loop-i.invariant.there contents told are)
+
+pub returns-in_err-bytes-clause-calls : goal.returns-in_err-bytes-clause-calls
+returns-in_err-bytes-clause-calls g t c = c.open.ensures.calls
+
+pub returns-in-Err-clause-calls : goal.returns-in-Err-clause-calls
+returns-in-Err-clause-calls g t c = c.open.ensures.calls
+
+pub returns-in_err-included-clause-calls : goal.returns-in_err-included-clause-calls
+returns-in_err-included-clause-calls g t c = keeps_as c.loop-i.invariant.calls (ap (λ l. l.items) c.in_err-included.ensures.names)
+
+pub returns-in_err-read_file-in-Some-clause-calls : goal.returns-in_err-read_file-in-Some-clause-calls
+returns-in_err-read_file-in-Some-clause-calls g t c =
+    keeps_more (keeps_as c.loop-i.invariant.calls (ap (λ l. l.items) c.in_ok-included.ensures.names)) c.in_err-read_file-in-Some.ensures.calls
+
+pub returns-clause-calls : goal.returns-clause-calls
+returns-clause-calls g t c = keeps_as c.loop-i.invariant.calls (ap (λ p. p.names.items) c.leave.ensures.rest)

@@ -2,7 +2,7 @@ use Rattle.std.proofs.Common.{◌≡◌, ◌++◌, ◌∷◌, [], ◌≤◌, ℕ
 use Rattle.cc_ports.specs.Contents.{Contents, with_rest}
 use Rattle.cc_text.specs.Views.{token_views, cut_at}
 use Rattle.cc_describe.specs.Places.{Place, AreThere}
-use Rattle.cc_describe.specs.ProgressViews.{IsProgress}
+use Rattle.cc_describe.specs.ProgressViews.{IsProgress, OpensAsKept}
 use Rattle.cc_describe.proofs.SomePlaces.{Gone}
 use Rattle.cc_describe.proofs.Walk.{Midway}
 use Rattle.cc_describe.proofs.files.+read_file.Given as goal
@@ -19,6 +19,8 @@ invariant-loop-i g l = record {
   there : (contents : Contents) → g.D.Desk.told l.fn.desk ≡ Some contents → AreThere contents.files l.fn.progress.names.items →
       AreThere contents.files l.progress.names.items;
   told : (rest : List ℕ) × (g.D.Desk.told l.desk ≡ option_map (with_rest rest) (g.D.Desk.told l.fn.desk));
+  calls : OpensAsKept l.fn.progress.names.items l.progress.names.items (g.D.Desk.calls l.fn.desk) (g.D.Desk.calls l.desk);
+  calm : (g.D.Desk.read_faults l.desk ≡ g.D.Desk.read_faults l.fn.desk) × (g.D.Desk.write_faults l.desk ≡ g.D.Desk.write_faults l.fn.desk);
   begun : g.D.Desk.begun l.desk ≡ g.D.Desk.begun l.fn.desk;
   reads_count : g.D.Desk.read_faults l.fn.desk ≤ g.D.Desk.read_faults l.desk;
   writes_count : g.D.Desk.write_faults l.fn.desk ≤ g.D.Desk.write_faults l.desk;

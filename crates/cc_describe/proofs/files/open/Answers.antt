@@ -1,5 +1,6 @@
 use Rattle.std.proofs.Common.{ℕ, List, arith, ap, ◌∙◌, length, Ok, subst, sym}
 use Rattle.cc_describe.specs.Places.{AreThere}
+use Rattle.cc_describe.proofs.CallsKept.{keeps_names, keeps_read}
 use Rattle.cc_describe.proofs.Walk.{untouched, content_is, is_opened, there_too, read_there, finds}
 use Rattle.cc_describe.proofs.SomePlaces.{too_long}
 use Rattle.cc_describe.proofs.files.open.Goals as goal
@@ -31,5 +32,25 @@ returns-clause-there g c contents told are =
 
 pub returns-in-Err-Limit-clause-stopped : goal.returns-in-Err-Limit-clause-stopped
 returns-in-Err-Limit-clause-stopped g c before was =
-    too_long before c.args.name.now c.in_ok-file.file c.past.result c.from.result c.args.progress.now c.enter.new.self was
-    c.in_ok-file.ensures.number c.in_ok-file.ensures.names c.past.ensures c.from.ensures
+    too_long before c.args.name.now c.in_ok-file.file c.past_at.result c.args.progress.now c.enter.new.self was
+    c.in_ok-file.ensures.number c.in_ok-file.ensures.names c.past_at.ensures
+
+pub returns-in_err-file-clause-calls : goal.returns-in_err-file-clause-calls
+returns-in_err-file-clause-calls g c = keeps_names _ c.in_err-file.ensures.unnamed
+
+pub returns-in-Err-Limit-clause-calls : goal.returns-in-Err-Limit-clause-calls
+returns-in-Err-Limit-clause-calls g c = keeps_read c.args.name.now _ c.in_ok-file.ensures.names c.read_all.ensures.calls
+
+pub returns-in-Err-Failed-clause-calls : goal.returns-in-Err-Failed-clause-calls
+returns-in-Err-Failed-clause-calls g c = keeps_read c.args.name.now _ c.in_ok-file.ensures.names c.read_all.ensures.calls
+
+pub returns-in-Err-OutOfMemory-clause-calls : goal.returns-in-Err-OutOfMemory-clause-calls
+returns-in-Err-OutOfMemory-clause-calls g c = keeps_read c.args.name.now _ c.in_ok-file.ensures.names c.read_all.ensures.calls
+
+pub returns-in_err-count-clause-calls : goal.returns-in_err-count-clause-calls
+returns-in_err-count-clause-calls g c =
+    keeps_read c.args.name.now _ (ap (λ p. p.names.items) c.in_err-count.ensures.rest ∙ c.in_ok-file.ensures.names) c.read_all.ensures.calls
+
+pub returns-clause-calls : goal.returns-clause-calls
+returns-clause-calls g c =
+    keeps_read c.args.name.now _ (ap (λ p. p.names.items) c.in_ok-count.ensures.rest ∙ c.in_ok-file.ensures.names) c.read_all.ensures.calls

@@ -1,4 +1,5 @@
-use Rattle.std.proofs.Common.{◌≡◌, ◌∙◌, subst, sym}
+use Rattle.std.proofs.Common.{◌≡◌, ◌∙◌, ap, subst, sym}
+use Rattle.cc_defs.specs.declared.refusal.Fault.TheVariants as faults
 use Rattle.cc_defs.specs.Resolved.{plain_query}
 use Rattle.cc_ground.specs.Counting.{node_refusal, nodes_in_query}
 use Rattle.cc_defs.specs.GroundLaws.{PlainGroundQuery}
@@ -30,10 +31,10 @@ returns-in-Ok-clause-unrefused c = λ declarations range is of e.
 
 pub returns-in-Err-Full-clause-refused : goal.returns-in-Err-Full-clause-refused
 returns-in-Err-Full-clause-refused c = λ declarations range is of e.
-    subst (λ (q : PlainGroundQuery). IsRefusedBy (node_refusal (nodes_in_query q)) c.past.result)
+    subst (λ (q : PlainGroundQuery). IsRefusedBy (node_refusal (nodes_in_query q)) (faults.Refused c.past.result))
     (asked_is c.new-maker.result c.args.table.now c.args.sig.now declarations c.args.query.now.range c.unwrap_or-range.result range (plain_query c.args.query.now)
     c.new-maker.ensures.table c.new-maker.ensures.sig is of c.unwrap_or-range.ensures e)
-    (many_nodes _ c.new-maker.result.room c.in-Err-Full.field-0 c.past.result c.in-Err-Full.ensures.full c.in-Err-Full.field-0-is (c.new-maker.ensures.room ∙ c.number.ensures) c.past.ensures)
+    (many_nodes _ c.new-maker.result.room c.in-Err-Full.field-0 (faults.Refused c.past.result) c.in-Err-Full.ensures.full c.in-Err-Full.field-0-is (c.new-maker.ensures.room ∙ c.number.ensures) (ap faults.Refused c.past.ensures))
 
 pub returns-in-Ok-clause-meant : goal.returns-in-Ok-clause-meant
 returns-in-Ok-clause-meant c = λ declarations range is of e.

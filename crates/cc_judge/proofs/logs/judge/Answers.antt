@@ -1,7 +1,7 @@
 use Rattle.std.proofs.Common.{Bor, option_map}
 use Rattle.cc_defs.specs.declared.lists.Key.{Key}
 use Rattle.cc_judge.proofs.Counting.{are_few}
-use Rattle.cc_judge.proofs.Going.{err_fault, ok_blocks, ok_verdict}
+use Rattle.cc_judge.proofs.Going.{err_fault, ok_blocks, ok_verdict, ok_within}
 use Rattle.cc_judge.proofs.logs.judge.Goals as goal
 
 pub judge_sections-requires-clause-few : goal.judge_sections-requires-clause-few
@@ -15,6 +15,11 @@ returns-clause-verdict c = λ d q of stands.
 pub returns-clause-whole : goal.returns-clause-whole
 returns-clause-whole c = λ d q of stands.
     ok_blocks d q (option_map (λ (key : Bor Key). key.now) c.args.after) c.args.bytes.now c.in-Ok.sections c.in-Ok.ensures.read
+    c.judge_sections.result (c.judge_sections.ensures.judged d q of stands)
+
+pub returns-clause-within : goal.returns-clause-within
+returns-clause-within c = λ d q of stands.
+    ok_within d q (option_map (λ (key : Bor Key). key.now) c.args.after) c.args.bytes.now c.in-Ok.sections c.in-Ok.ensures.read
     c.judge_sections.result (c.judge_sections.ensures.judged d q of stands)
 
 pub returns-clause-refused : goal.returns-clause-refused

@@ -10,5 +10,5 @@ pub returns-clause-refused : goal.returns-clause-refused
 returns-clause-refused c = λ text d q spelled signature stands. (
   no_key_fits c.one_key.ensures d q (plain_ground_query c.args.query.now) text c.args.key stands spelled
       (unfit c.fits.result (c.fits.ensures.described d signature) c.if-fits.false),
-  c.refusal_without_place.ensures,
+  c.at.ensures,
 )

@@ -11,4 +11,4 @@ returns-in-Some-clause-refused c = λ d q signature stands.
 
 pub returns-in-None-clause-refused : goal.returns-in-None-clause-refused
 returns-in-None-clause-refused c = λ d q signature stands.
-    (no_key_spelled d q c.args.text.now (rw c.in-None.is at c.in_ok-key.ensures), c.refusal_without_place.ensures)
+    (no_key_spelled d q c.args.text.now (rw c.in-None.is at c.in_ok-key.ensures), c.at.ensures)

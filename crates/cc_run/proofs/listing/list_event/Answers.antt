@@ -2,6 +2,7 @@ use Rattle.std.proofs.Common.{subst}
 use Rattle.cc_query.specs.Sessions.{IsRightFault}
 use Rattle.cc_run.proofs.Listed.{event_row, event_told, limit_told, memory_told}
 use Rattle.cc_run.proofs.Passing.{stops_at}
+use Rattle.cc_run.proofs.Worth.{IsGoodEvent}
 use Rattle.cc_run.proofs.listing.list_event.Goals as goal
 
 pub tell_next-requires-clause-row : goal.tell_next-requires-clause-row
@@ -12,8 +13,14 @@ tell_next-requires-clause-row g c =
 
 pub returns-in-Ok-clause-goes : goal.returns-in-Ok-clause-goes
 returns-in-Ok-clause-goes g c = λ d q given is is_of after lines keeps.
+    let good : IsGoodEvent d q c.args.session.now.ask.after c.in-Ok.event = record {
+      short = c.in-Ok.ensures.short;
+      good = c.in-Ok.ensures.good d q is_of;
+      opened = c.in-Ok.ensures.opened d q is_of;
+      few = c.in-Ok.ensures.few;
+    } in
     event_told d q given c.args.teller.now c.tell_next.new.teller c.args.session.now c.next.new.self c.written_logs_are_accepted.ensures c.spent_budgets_are_small.ensures lines keeps
-    c.in-Ok.event c.in-Ok.ensures.short (c.in-Ok.ensures.good d q is_of) c.in-Ok.ensures.same (c.in-Ok.ensures.event d q given is_of after) _ _
+    c.in-Ok.event good c.in-Ok.ensures.same (c.in-Ok.ensures.event d q given is_of after) _ _
     c.row.result.now c.tell_next.result c.row.ensures (c.tell_next.ensures.told d given is keeps) c.tell_next.ensures.status c.tell_next.ensures.keeps
 
 pub returns-in-Err-Refused-clause-goes : goal.returns-in-Err-Refused-clause-goes
@@ -24,4 +31,5 @@ returns-in-Err-Refused-clause-goes g c = λ d q given is is_of after lines keeps
     c.tell_limit.ensures.told c.tell_limit.ensures.status
 
 pub returns-in-Err-OutOfMemory-clause-goes : goal.returns-in-Err-OutOfMemory-clause-goes
-returns-in-Err-OutOfMemory-clause-goes g c = λ d q given is is_of after lines keeps. memory_told d q given c.args.teller.now c.args.teller.now c.args.session.now c.next.new.self _ after
+returns-in-Err-OutOfMemory-clause-goes g c = λ d q given is is_of after lines keeps.
+    memory_told d q given c.args.teller.now c.args.teller.now c.args.session.now c.next.new.self _ lines after

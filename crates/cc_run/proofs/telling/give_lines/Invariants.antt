@@ -11,5 +11,5 @@ invariant-loop-line g l =
       can : (goal.iterator-loop-line g).can_next l.line-iterator;
       finite : (goal.iterator-loop-line g).is_finite l.line-iterator;
       given : LinesSoFar l.text (split_inclusive_text l.line-iterator)
-          (moment desk.told desk.begun desk.read_faults desk.write_faults l.initial.desk) (moment desk.told desk.begun desk.read_faults desk.write_faults l.desk);
+          (moment desk.told desk.begun desk.read_faults desk.write_faults desk.calls l.initial.desk) (moment desk.told desk.begun desk.read_faults desk.write_faults desk.calls l.desk);
     }

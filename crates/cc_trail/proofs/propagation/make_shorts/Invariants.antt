@@ -1,6 +1,6 @@
 use Rattle.std.proofs.Common.{ℕ, take}
 use Rattle.cc_kernel.specs.Kernels.{clauses_of}
-use Rattle.cc_trail.specs.Links.{IsIn}
+use Rattle.cc_defs.specs.Clauses.{IsIn}
 use Rattle.cc_trail.specs.Visits.{AreSound, AreGrown, IsMet}
 use Rattle.cc_trail.proofs.propagation.make_shorts.Given as goal
 

@@ -1,7 +1,7 @@
 use Rattle.std.proofs.Common.{◌∙◌, ℕ, ◌<◌, length, sym, subst, ap}
 use Rattle.std.proofs.lemmas.List.Elements.{All-contains}
-use Rattle.cc_defs.specs.Clauses.{Literal}
-use Rattle.cc_trail.specs.Links.{IsLiteralOver, watched_at}
+use Rattle.cc_defs.specs.Clauses.{Literal, IsLiteralOver}
+use Rattle.cc_trail.specs.Links.{watched_at}
 use Rattle.cc_trail.specs.Visits.{IsFalseAt}
 use Rattle.cc_trail.proofs.Attaching.{all_over}
 use Rattle.cc_trail.proofs.Growing.{grown_at}

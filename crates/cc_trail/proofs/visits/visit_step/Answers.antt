@@ -1,6 +1,6 @@
 use Rattle.std.proofs.Common.{sym, subst}
-use Rattle.cc_defs.specs.Clauses.{Literal}
-use Rattle.cc_trail.specs.Links.{IsLiteralOver, AreTaken}
+use Rattle.cc_defs.specs.Clauses.{Literal, IsLiteralOver}
+use Rattle.cc_trail.specs.Links.{AreTaken}
 use Rattle.cc_trail.proofs.Growing.{grown_none}
 use Rattle.cc_trail.proofs.Walking.{fallen_over, visit_begins}
 use Rattle.cc_trail.proofs.visits.visit_step.Goals as goal

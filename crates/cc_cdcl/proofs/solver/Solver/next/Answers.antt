@@ -11,7 +11,7 @@ use Rattle.cc_cdcl.specs.Searches.{IsSearching}
 use Rattle.cc_cdcl.specs.Solvers.{AddsDerived, axiom_clauses}
 use Rattle.cc_cdcl.proofs.Deriving.{on_err}
 use Rattle.cc_cdcl.proofs.Listing.{count_derived, empty_not_there, empty_there, few_derived, section_kept}
-use Rattle.cc_cdcl.proofs.Standing.{empty_added, kernel_is, least_there, row_room, row_there, row_written, running, searching_back, section_learned, section_refuted, sizes_is, sizes_within, view_found, went_on}
+use Rattle.cc_cdcl.proofs.Standing.{empty_added, kernel_is, least_there, row_room, row_there, row_written, running, searching_back, section_learned, section_refuted, sizes_is, sizes_within, stuck, view_found, went_on}
 use Rattle.cc_cdcl.proofs.solver.Solver.next.Goals as goal
 
 pub returns-then-is_some-clause-step : goal.returns-then-is_some-clause-step
@@ -85,6 +85,11 @@ returns-then-self-budget-clause-step c = (
       sym (running c.self.inside c.args.self.now c.self.view_is c.self.invariant c.requires.ready).derived ∙ c.if-self-budget.true,
   subst (λ (k : KernelView). Contains (clauses_of k) [] → ⊥) (kernel_is c.self.inside c.args.self.now c.self.view_is c.self.invariant)
       (empty_not_there c.self.inside.kernel.entries 1 (ap (λ o. is_some {T = ℕ} o) (sym c.refuted.ensures) ∙ sym c.is_some.ensures ∙ c.if-is_some.false)),
+  (let levels = c.level_count.ensures.level_count in
+      let some = c.if-level_count-eq0.false in
+      stuck _ c.self.inside.kernel c.args.self.now.kernel c.descend-failed.new.trail _ c.in-Some.id
+      (kernel_is c.self.inside c.args.self.now c.self.view_is c.self.invariant) c.descend-failed.ensures.searching c.level_count.ensures.steps (omega arith)
+      c.in-Some.ensures.failed),
 )
 
 pub returns-then-self-budget-clause-enough : goal.returns-then-self-budget-clause-enough

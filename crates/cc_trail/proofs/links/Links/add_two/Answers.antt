@@ -1,8 +1,8 @@
 use Rattle.std.proofs.Common.{◌≡◌, ◌∙◌, ◌+◌, ◌<◌, ℕ, suc, List, [], ◌∷◌, ◌++◌, length, get_or, set, sym, subst, ap, arith}
-use Rattle.cc_trail.specs.Links.{LinksView, IsLiteralOver}
+use Rattle.cc_trail.specs.Links.{LinksView}
 use Rattle.cc_trail.specs.LinkParts.{chain_of, AreLinks, view_of}
 use Rattle.cc_trail.specs.declared.links.Links.TheInside.{Inside}
-use Rattle.cc_defs.specs.Clauses.{Literal}
+use Rattle.cc_defs.specs.Clauses.{Literal, IsLiteralOver}
 use Rattle.cc_trail.proofs.Linked.{links_added, chain_added}
 use Rattle.cc_trail.proofs.links.Links.add_two.Goals as goal
 

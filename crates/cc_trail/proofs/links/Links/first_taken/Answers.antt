@@ -1,6 +1,7 @@
 use Rattle.std.proofs.Common.{◌≡◌, ◌-◌, ◌<◌, ◌≤◌, ℕ, suc, Option, Some, None, length, get_or, drop, subst, arith}
 use Rattle.std.specs.Prelude.{IfSome, SomeIff}
-use Rattle.cc_trail.specs.Links.{IsIn, LinksView, BeginsWith}
+use Rattle.cc_defs.specs.Clauses.{IsIn}
+use Rattle.cc_trail.specs.Links.{LinksView, BeginsWith}
 use Rattle.cc_trail.specs.LinkParts.{AreLinks, view_of}
 use Rattle.cc_trail.specs.declared.links.Links.TheInside.{Inside}
 use Rattle.cc_trail.proofs.Linked.{first_of, taken_once, read_at}

@@ -1,8 +1,8 @@
 use Rattle.std.proofs.Common.{◌≡◌, ◌∙◌, ◌+◌, ◌<◌, ◌≤◌, ℕ, suc, ◌∷◌, length, get_or, set, drop, sym, subst, ap, arith}
-use Rattle.cc_trail.specs.Links.{LinksView, BeginsWith, IsLiteralOver, code_of}
+use Rattle.cc_trail.specs.Links.{LinksView, BeginsWith, code_of}
 use Rattle.cc_trail.specs.LinkParts.{chain_of, AreLinks, view_of}
 use Rattle.cc_trail.specs.declared.links.Links.TheInside.{Inside}
-use Rattle.cc_defs.specs.Clauses.{Literal}
+use Rattle.cc_defs.specs.Clauses.{Literal, IsLiteralOver}
 use Rattle.cc_trail.proofs.Linked.{links_put, chain_put, put_within, read_at, get_or_after}
 use Rattle.cc_trail.proofs.links.Links.put.Goals as goal
 

@@ -1,8 +1,8 @@
 use Rattle.std.proofs.Common.{◌≡◌, ◌∙◌, ◌<◌, ℕ, [], length, get_or, set, refl, sym, subst, ap, arith}
-use Rattle.cc_trail.specs.Links.{LinksView, AreTaken, IsLiteralOver, code_of}
+use Rattle.cc_trail.specs.Links.{LinksView, AreTaken, code_of}
 use Rattle.cc_trail.specs.LinkParts.{chain_of, AreLinks, view_of}
 use Rattle.cc_trail.specs.declared.links.Links.TheInside.{Inside}
-use Rattle.cc_defs.specs.Clauses.{Literal}
+use Rattle.cc_defs.specs.Clauses.{Literal, IsLiteralOver}
 use Rattle.cc_trail.proofs.Linked.{links_taken, nodes_taken, code_bounds, read_at}
 use Rattle.cc_trail.proofs.links.Links.take_all.Goals as goal
 

@@ -1,7 +1,6 @@
 use Rattle.std.proofs.Common.{◌∙◌, subst, ap}
 use Rattle.std.proofs.lemmas.List.Elements.{All-contains}
-use Rattle.cc_defs.specs.Clauses.{Literal}
-use Rattle.cc_trail.specs.Links.{IsLiteralOver}
+use Rattle.cc_defs.specs.Clauses.{Literal, IsLiteralOver}
 use Rattle.cc_trail.specs.Trails.{TrailView, IsTrail}
 use Rattle.cc_trail.proofs.Attaching.{on_ok, all_over, fits_short, fits_long}
 use Rattle.cc_trail.proofs.trail.Trail.attach.Goals as goal

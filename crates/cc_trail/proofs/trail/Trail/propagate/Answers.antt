@@ -1,6 +1,6 @@
 use Rattle.std.proofs.Common.{ℕ, List, sym, subst}
 use Rattle.cc_kernel.specs.Kernels.{clauses_of}
-use Rattle.cc_trail.specs.Links.{IsIn}
+use Rattle.cc_defs.specs.Clauses.{IsIn}
 use Rattle.cc_trail.specs.Visits.{AreWatched}
 use Rattle.cc_trail.proofs.Growing.{watched_grown}
 use Rattle.cc_trail.proofs.Walking.{met_grown}

@@ -1,5 +1,5 @@
-use Rattle.cc_print.proofs.KeyTexts.{digits-parse}
-use Rattle.cc_print.proofs.keys.number.Goals as goal
+use Rattle.cc_defs.proofs.Numbers.{digits-parse}
+use Rattle.cc_defs.proofs.digits.number_of_digits.Goals as goal
 
 pub unreachable-requires : goal.unreachable-requires
 unreachable-requires c =

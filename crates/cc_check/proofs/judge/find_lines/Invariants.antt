@@ -1,7 +1,7 @@
 use Rattle.std.proofs.Common.{length}
 use Rattle.cc_check.specs.Clauses.{AreSound}
 use Rattle.cc_check.proofs.Judged.{FoundSoFar}
-use Rattle.cc_check.proofs.judge.check_lines.Given as goal
+use Rattle.cc_check.proofs.judge.find_lines.Given as goal
 
 abbrev pub invariant-loop-rest : goal.invariant-loop-rest
 invariant-loop-rest l = record {

@@ -1,0 +1,223 @@
+-- Which calls steps make of a desk, one after another.
+use Rattle.std.proofs.Common.{◌≡◌, ◌∙◌, refl, sym, ap, subst, ℕ, List, [], ◌∷◌, ◌++◌, map, Option, Some, None, IfSome, Result, Err, append_assoc, append-nil, inl, inr}
+use Rattle.std.specs.Prelude.{◌⊎◌, IsErrOf}
+use Rattle.std.proofs.lemmas.Grind.{flat_map-append}
+use Rattle.cc_defs.specs.declared.refusal.Refusal.{Refusal}
+use Rattle.cc_describe.specs.declared.description.Described.{Described}
+use Rattle.cc_describe.specs.declared.description.DescribeStop.{DescribeStop}
+use Rattle.cc_describe.specs.declared.description.DescribeStop.TheVariants as describe_stops
+use Rattle.cc_describe.specs.Describing.{AreFirstNames, AreToOpen, OpensFor}
+use Rattle.cc_describe.specs.Places.{Files, HasPlaces}
+use Rattle.cc_ports.specs.Calls.{AreGivings, AreReadings, Begins, Call, Gives, Reads, name_begun, name_opened, names_begun, names_opened, with_call, with_calls}
+use Rattle.cc_ports.specs.Contents.{Contents}
+use Rattle.cc_ports.specs.declared.desk.To.{To}
+use Rattle.cc_ports.specs.declared.whole.ReadStop.{ReadStop}
+use Rattle.cc_ports.specs.declared.whole.ReadStop.TheVariants as read_stops
+use Rattle.cc_run.specs.declared.status.Status.{Status}
+use Rattle.cc_run.specs.declared.status.Status.TheVariants as statuses
+use Rattle.cc_run.specs.declared.status.Stop.{Stop}
+use Rattle.cc_run.specs.declared.status.Stop.TheVariants as stops
+use Rattle.cc_run.specs.Names.{AreAsked, IsAnswer, IsEndStatus, MayEndWith}
+use Rattle.cc_run.specs.Stops.{Asks, Called, Moment, TellsStop, cut_status, outcome, stop_status}
+use Rattle.cc_words.specs.Requests.{Request, ToCheck, ToList, ToMake}
+use Rattle.cc_words.specs.Words.{Text}
+
+-- ---- names, one after another
+
+names_both : (a b c d : List Text) → a ≡ c → b ≡ d → a ++ b ≡ c ++ d
+names_both a b c d first second = λ i. first i ++ second i
+
+pub first_none : (names : List Text) → AreFirstNames [] names
+first_none names = (names, refl)
+
+pub first_all : (names : List Text) → AreFirstNames names names
+first_all names = ([], sym (append-nil names))
+
+pub first_longer : (a b c : List Text) → AreFirstNames a b → AreFirstNames a (b ++ c)
+first_longer a b c first = (first.0 ++ c, ap (λ (l : List Text). l ++ c) first.1 ∙ append_assoc a first.0 c)
+
+first_behind : (a b c : List Text) → AreFirstNames b c → AreFirstNames (a ++ b) (a ++ c)
+first_behind a b c first = (first.0, ap (λ (l : List Text). a ++ l) first.1 ∙ sym (append_assoc a b first.0))
+
+-- ---- calls, one after another
+
+calls_both : (a b : List Call) (x y z : Option (List Call)) → y ≡ with_calls a x → z ≡ with_calls b y → z ≡ with_calls (a ++ b) x
+calls_both a b None y z first second = second ∙ ap (λ (o : Option (List Call)). with_calls b o) first
+calls_both a b (Some c) y z first second = (second ∙ ap (λ (o : Option (List Call)). with_calls b o) first) ∙ ap Some (append_assoc c a b)
+
+no_calls : (o : Option (List Call)) → o ≡ with_calls [] o
+no_calls None = refl
+no_calls (Some c) = ap Some (sym (append-nil c))
+
+pub called_none : (m : Moment) → Called [] [] m m
+called_none m = record { more = []; calls = no_calls m.calls; opened_are = refl; begun_are = refl }
+
+pub called_both : (opened begun opened_then begun_then : List Text) (x y z : Moment) → Called opened begun x y → Called opened_then begun_then y z →
+    Called (opened ++ opened_then) (begun ++ begun_then) x z
+called_both opened begun opened_then begun_then x y z first second = record {
+  more = first.more ++ second.more;
+  calls = calls_both first.more second.more x.calls y.calls z.calls first.calls second.calls;
+  opened_are = flat_map-append name_opened first.more second.more
+      ∙ names_both (names_opened first.more) (names_opened second.more) opened opened_then first.opened_are second.opened_are;
+  begun_are = flat_map-append name_begun first.more second.more
+      ∙ names_both (names_begun first.more) (names_begun second.more) begun begun_then first.begun_are second.begun_are;
+}
+
+-- behind other calls, these only give
+pub called_on : (opened begun : List Text) (x y z : Moment) → Called opened begun x y → Called [] [] y z → Called opened begun x z
+called_on opened begun x y z first second =
+    subst (λ (b : List Text). Called opened b x z) (append-nil begun)
+    (subst (λ (o : List Text). Called o (begun ++ []) x z) (append-nil opened) (called_both opened begun [] [] x y z first second))
+
+gives_opened : (to : To) (parts : List (List ℕ)) → names_opened (map (Gives to) parts) ≡ []
+gives_opened to [] = refl
+gives_opened to (part ∷ parts) = gives_opened to parts
+
+gives_begun : (to : To) (parts : List (List ℕ)) → names_begun (map (Gives to) parts) ≡ []
+gives_begun to [] = refl
+gives_begun to (part ∷ parts) = gives_begun to parts
+
+reads_opened : (rooms : List ℕ) → names_opened (map Reads rooms) ≡ []
+reads_opened [] = refl
+reads_opened (room ∷ rooms) = reads_opened rooms
+
+reads_begun : (rooms : List ℕ) → names_begun (map Reads rooms) ≡ []
+reads_begun [] = refl
+reads_begun (room ∷ rooms) = reads_begun rooms
+
+-- what `give_all` says of its calls
+pub called_gives : (to : To) (x y : Moment) → ((more : List Call) × AreGivings to more × (y.calls ≡ with_calls more x.calls)) → Called [] [] x y
+called_gives to x y made = record {
+  more = made.0;
+  calls = made.2;
+  opened_are = ap (λ (l : List Call). names_opened l) made.1.calls_are ∙ gives_opened to made.1.parts;
+  begun_are = ap (λ (l : List Call). names_begun l) made.1.calls_are ∙ gives_begun to made.1.parts;
+}
+
+-- what `read_all` says of its calls
+pub called_reads : (name : Text) (most : ℕ) (x y : Moment) → ((more : List Call) × AreReadings name most more × (y.calls ≡ with_calls more x.calls)) → Called (name ∷ []) [] x y
+called_reads name most x y made = record {
+  more = made.0;
+  calls = made.2;
+  opened_are = ap (λ (l : List Call). names_opened l) made.1.calls_are ∙ ap (λ (l : List Text). name ∷ l) (reads_opened made.1.rooms);
+  begun_are = ap (λ (l : List Call). names_begun l) made.1.calls_are ∙ reads_begun made.1.rooms;
+}
+
+-- what `create_file` says of its call
+pub called_begins : (name : Text) (x y : Moment) → y.calls ≡ with_call (Begins name) x.calls → Called [] (name ∷ []) x y
+called_begins name x y made = record { more = Begins name ∷ []; calls = made; opened_are = refl; begun_are = refl }
+
+-- ---- what is asked for
+
+-- nothing was opened or begun, where there is no answer
+pub asks_nothing : (opens begins : List Text) (x z : Moment) (r : Result Status Stop) → Called [] [] x z → (IsAnswer (outcome r) → ⊥) → Asks opens begins x z r
+asks_nothing opens begins x z r called none = record {
+  opened = [];
+  begun = [];
+  called = called;
+  opened_first = first_none opens;
+  begun_first = first_none begins;
+  whole = λ is. absurd (none is);
+}
+
+pub asks_behind : (opened opens begins : List Text) (x y z : Moment) (r : Result Status Stop) → Called opened [] x y → Asks opens begins y z r → Asks (opened ++ opens) begins x z r
+asks_behind opened opens begins x y z r called asks = record {
+  opened = opened ++ asks.opened;
+  begun = asks.begun;
+  called = called_both opened [] asks.opened asks.begun x y z called asks.called;
+  opened_first = first_behind opened asks.opened opens asks.opened_first;
+  begun_first = asks.begun_first;
+  whole = λ is. (ap (λ (l : List Text). opened ++ l) (asks.whole is).0, (asks.whole is).1);
+}
+
+pub stop_answers_nothing : (stop : Stop) → IsAnswer (stop_status stop) → ⊥
+stop_answers_nothing stops.ReadFault is = is
+stop_answers_nothing stops.WriteFault is = is
+stop_answers_nothing stops.OutOfMemory is = is
+
+cut_answers_nothing : (stop : Stop) → IsAnswer (cut_status stop) → ⊥
+cut_answers_nothing stops.ReadFault is = is
+cut_answers_nothing stops.WriteFault is = is
+cut_answers_nothing stops.OutOfMemory is = is
+
+stop_ends_nothing : (stop : Stop) → IsEndStatus (stop_status stop) → ⊥
+stop_ends_nothing stops.ReadFault is = is
+stop_ends_nothing stops.WriteFault is = is
+stop_ends_nothing stops.OutOfMemory is = is
+
+cut_ends_nothing : (stop : Stop) → IsEndStatus (cut_status stop) → ⊥
+cut_ends_nothing stops.ReadFault is = is
+cut_ends_nothing stops.WriteFault is = is
+cut_ends_nothing stops.OutOfMemory is = is
+
+-- where a stop was told, the run has no answer, and it did not come to its end
+pub told_answers_nothing : (stop : Stop) (x y : Moment) (status : Status) → TellsStop stop x y status → IsAnswer status → ⊥
+told_answers_nothing stop x y status tells = how tells.how
+  where
+    how : {A B C : Type 0} → (A × (status ≡ stop_status stop)) ⊎ (B × (status ≡ cut_status stop) × C) → IsAnswer status → ⊥
+    how (inl whole) is = stop_answers_nothing stop (subst IsAnswer whole.1 is)
+    how (inr cut) is = cut_answers_nothing stop (subst IsAnswer cut.1 is)
+
+pub told_ends_nothing : (stop : Stop) (x y : Moment) (status : Status) → TellsStop stop x y status → IsEndStatus status → ⊥
+told_ends_nothing stop x y status tells = how tells.how
+  where
+    how : {A B C : Type 0} → (A × (status ≡ stop_status stop)) ⊎ (B × (status ≡ cut_status stop) × C) → IsEndStatus status → ⊥
+    how (inl whole) is = stop_ends_nothing stop (subst IsEndStatus whole.1 is)
+    how (inr cut) is = cut_ends_nothing stop (subst IsEndStatus cut.1 is)
+
+pub may_be_refused : (request : Option Request) → MayEndWith request statuses.Refused
+may_be_refused None = refl
+may_be_refused (Some (ToList listing)) = tt
+may_be_refused (Some (ToCheck checking)) = tt
+may_be_refused (Some (ToMake size budget)) = tt
+
+-- some names are asked for, whatever is asked
+pub some_asked : HasPlaces → (files : Files) (request : Option Request) → (all : List Text) × AreAsked files request all
+some_asked has files None = ([], refl)
+some_asked has files (Some (ToList listing)) =
+    let there = has files listing.file in
+    (_, (there.0, there.1, refl))
+some_asked has files (Some (ToCheck checking)) =
+    let there = has files checking.file in
+    (_, (_, (there.0, there.1, refl), refl))
+some_asked has files (Some (ToMake size budget)) = ([], refl)
+
+pub some_asked_of : HasPlaces → (o : Option Contents) (request : Option Request) → (all : List Text) × IfSome o (λ c. AreAsked c.files request all)
+some_asked_of has None request = ([], tt)
+some_asked_of has (Some c) request = some_asked has c.files request
+
+-- ---- a description that was read
+
+-- what `describe` says of its calls
+pub called_reading : (x y : Moment) (more : List Call) → y.calls ≡ with_calls more x.calls → names_begun more ≡ [] → Called (names_opened more) [] x y
+called_reading x y more calls begun = record { more = more; calls = calls; opened_are = refl; begun_are = begun }
+
+abbrev stopped : DescribeStop → Result Described DescribeStop
+stopped stop = Err stop
+
+-- names of which these are the first, which are those of a description
+pub record AreFirstOf (o : Option Contents) (name : Text) (names : List Text) : Type 0 where
+  pub all : List Text
+  pub first : AreFirstNames names all
+  pub are : IfSome o (λ c. AreToOpen c.files name all)
+
+first_in : (files : Files) (name : Text) (stop : DescribeStop) (names : List Text) → OpensFor files name (stopped stop) names →
+    (all : List Text) × AreToOpen files name all × AreFirstNames names all
+first_in files name (describe_stops.Refused refusal file) names are = (names, are, first_all names)
+first_in files name describe_stops.ReadFault names are = are
+first_in files name describe_stops.OutOfMemory names are = are
+
+pub first_of : (o : Option Contents) (name : Text) (stop : DescribeStop) (names : List Text) → IfSome o (λ c. OpensFor c.files name (stopped stop) names) → AreFirstOf o name names
+first_of None name stop names opens = record { all = names; first = first_all names; are = tt }
+first_of (Some c) name stop names opens =
+    let there = first_in c.files name stop names opens in
+    record { all = there.0; first = there.2; are = there.1 }
+
+pub refused_is_no_fault : (stop : DescribeStop) (refusal : Refusal) (file : Text) → stop ≡ describe_stops.Refused refusal file → IsErrOf (stopped stop) describe_stops.ReadFault → ⊥
+refused_is_no_fault stop refusal file is fault = cc
+
+abbrev unread : ReadStop → Result (List ℕ) ReadStop
+unread stop = Err stop
+
+pub limit_is_no_fault : (stop : ReadStop) → stop ≡ read_stops.Limit → IsErrOf (unread stop) read_stops.Failed → ⊥
+limit_is_no_fault stop is fault = cc

@@ -1,0 +1,36 @@
+-- A description without constants and laws, and a query that asks nothing of it.
+use Rattle.std.proofs.Common.{◌≡◌, List, [], Option, None, refl, sym, subst, arith}
+use Rattle.std.specs.List.{AllByRecursion}
+use Rattle.std.specs.List.Sorted.{IsStrictlySortedBy}
+use Rattle.std.specs.Prelude.{IfSome}
+use Rattle.cc_arena.specs.declared.ground_laws.GroundLaw.{GroundLaw}
+use Rattle.cc_defs.specs.declared.signature.Const.{Const}
+use Rattle.cc_defs.specs.GroundLaws.{PlainGroundCondition, PlainGroundQuery}
+use Rattle.cc_defs.specs.Signatures.{Signature, IsSignature}
+use Rattle.cc_form.specs.Queries.{IsConditionAt, IsQueryAt}
+use Rattle.cc_theory.specs.Theories.{AreLawsFor}
+
+abbrev empty : Signature
+empty = record { fluents = []; actions = [] }
+
+empty_is : IsSignature empty
+unfolding IsStrictlySortedBy
+empty_is = record { fluents_ordered = tt; actions_ordered = tt; few = omega arith; fluents_short = tt; actions_short = tt }
+
+pub no_constants : (fluents actions : List Const) → fluents ≡ [] → actions ≡ [] → IsSignature (record { fluents = fluents; actions = actions })
+no_constants fluents actions none nothing =
+    subst (λ (f : List Const). IsSignature (record { fluents = f; actions = actions })) (sym none)
+    (subst (λ (a : List Const). IsSignature (record { fluents = []; actions = a })) (sym nothing) empty_is)
+
+empty_laws : AreLawsFor empty []
+empty_laws = record { u = record { sorts = []; symbols = []; fluents = []; actions = [] }; fluents = refl; actions = refl; values = tt; laws_fit = tt }
+
+pub laws_for : (signature : Signature) (laws : List GroundLaw) → signature ≡ empty → laws ≡ [] → AreLawsFor signature laws
+laws_for signature laws is none =
+    subst (λ (s : Signature). AreLawsFor s laws) (sym is) (subst (λ (l : List GroundLaw). AreLawsFor empty l) (sym none) empty_laws)
+
+pub query_at : (signature : Signature) (query : PlainGroundQuery) → query.conditions ≡ [] → query.claim ≡ None → IsQueryAt signature 0 query
+query_at signature query none nothing = record {
+  conditions = subst (λ (cs : List PlainGroundCondition). AllByRecursion (IsConditionAt signature 0) cs) (sym none) tt;
+  claim = subst (λ (c : Option PlainGroundCondition). IfSome c (IsConditionAt signature 0)) (sym nothing) tt;
+}
