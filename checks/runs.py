@@ -198,6 +198,11 @@ def verdict_of(description, query, key, log):
         found = judge(made, (letter, at, heading, texts)).split()
         if found[0] == "wrong":
             return "refused", int(found[1]), " ".join(found[2:])
+        if found[0] == "trailed":
+            # An end word that is not accepted is the first wrong line itself, whatever stands behind it.
+            if found[1] == "empty" or (found[1] == "found" and on_conditions):
+                return "refused", int(found[2]) + 1, found[3]
+            return "refused", int(found[2]), "not refuted"
         word, blocked, line = found[1], blocked + int(found[3]), int(found[5]) + 1
         if word == "empty":
             horizon, is_claim_next = horizon + 1, False
@@ -252,6 +257,18 @@ def stop_line(stop):
     if re.fullmatch(r".*:[0-9]+", words[-1]):
         return f"{words[-1]}: " + " ".join(words[:-1])
     return " ".join(words)
+
+
+def printed_cases(name):
+    """The cases that cc_rows printed: each a title and its lines."""
+    cases = []
+    with open(name, encoding="latin-1") as file:
+        for line in file.read().split("\n"):
+            if line.startswith("=== "):
+                cases.append((line[4:], []))
+            elif cases and line:
+                cases[-1][1].append(line)
+    return cases
 
 
 def run_lines(files):

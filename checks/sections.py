@@ -272,14 +272,20 @@ class Clauses:
             return self.atom(step, ground_name(right, environment), value_of(left, environment))
         return self.t if value_of(left, environment) == value_of(right, environment) else -self.t
 
+    def is_truth(self, part):
+        """Whether a part asks nothing once it is ground: it is `true`, or one value equals itself."""
+        _, formula, environment = part
+        if isinstance(formula, str) or formula[0] != "=":
+            return formula == "true"
+        sides = formula[1:]
+        return not any(isinstance(side, Constant) for side in sides) and value_of(sides[0], environment) == value_of(sides[1], environment)
+
     def body(self, parts):
-        asked = [part for part in parts if part[1] != "true"]
-        if len(parts) == 2 and len(asked) == 2:
-            return self.all_of([self.literal(parts[0]), self.literal(parts[1])])
-        if len(parts) == 2:
-            # one part asks nothing: the body is the other; where neither asks, it is `true`
-            return self.literal(parts[1] if parts[0][1] == "true" else parts[0])
-        return self.literal(parts[0])
+        asked = [part for part in parts if not self.is_truth(part)]
+        if len(asked) < 2:
+            # at most one part asks something, which is the body; where none does, it is `true`
+            return self.literal((asked or parts)[0])
+        return self.all_of([self.literal(part) for part in asked])
 
     def make(self, conditions, denied, key):
         theory = self.theory
@@ -376,7 +382,7 @@ def resolvent(a, b, pivot):
 
 
 def judge(made, section):
-    """What the lines of a section are found to be, over a clause list."""
+    """What the lines of a section are found to be, over a clause list: right; right up to the end, with a wrong line behind it; or wrong."""
     clauses = [frozenset(clause) for clause in made.clauses]
     number, blocks = section[2], 0
     lines = section[3]
@@ -390,7 +396,7 @@ def judge(made, section):
             if (word == "empty") != (frozenset() in clauses):
                 return f"wrong {number} section"
             if place + 1 < len(lines):
-                return f"wrong {number + 1} {'section' if LINE.match(lines[place + 1]) else 'form'}"
+                return f"trailed {word} {number} {'section' if LINE.match(lines[place + 1]) else 'form'}"
             return f"right {word} blocks {blocks} line {number}"
         if frozenset() in clauses:
             return f"wrong {number} section"
@@ -416,6 +422,12 @@ def judge(made, section):
             return f"wrong {number} clause"
         clauses.append(frozenset(literals))
     return f"wrong {number + 1} section"
+
+
+def by_itself(found):
+    """What a section is judged to be by itself: behind its end, the line there is the first wrong one."""
+    words = found.split(" ")
+    return f"wrong {int(words[2]) + 1} {words[3]}" if words[0] == "trailed" else found
 
 
 # ---------------------------------------------------------------------------------------------------------------
@@ -487,7 +499,7 @@ def log_lines(description, query, asked, log):
     lines = []
     for section in sections:
         made = clause_list(description, query, section[1], section[0] == "h" and query.claim is not None, asked["after"])
-        lines.append(f"section {section[0]} {section[1]} line {section[2]}: {judge(made, section)}")
+        lines.append(f"section {section[0]} {section[1]} line {section[2]}: {by_itself(judge(made, section))}")
     return lines
 
 
