@@ -1,4 +1,4 @@
-% The workflow of approval.cc with one law more: who asked cannot approve, and who approved cannot ask.
+% The workflow of approval.cc with two laws more: who asked cannot approve, and who approved cannot ask.
 :- sorts person.
 :- objects ann, bob :: person.
 :- variables P :: person.

@@ -1,4 +1,4 @@
-% A workflow and a policy: a payment is made by one person and approved by another. The claim is the policy.
+% A workflow and a policy: what is paid was asked for by one person and approved by another. The claim is the policy.
 :- sorts person.
 :- objects ann, bob :: person.
 :- variables P :: person.

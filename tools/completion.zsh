@@ -1,0 +1,21 @@
+# Completion of ccalc for zsh, behind compinit: source tools/completion.zsh
+
+_ccalc_labels() { # the labels of the queries in the files among the words
+    local -a labels
+    labels=(${(f)"$(grep -ho 'label *:: *[A-Za-z0-9_]*' ${(M)words:#*.cc} 2>/dev/null | sed 's/.*:: *//')"})
+    compadd -a labels
+}
+
+_ccalc() {
+    _arguments \
+        '--mode[the mode]:mode:(list check make)' \
+        '--query[the query with this label]:label:_ccalc_labels' \
+        '--count[at most so many histories]:number:' \
+        '--budget[at most so many derived clauses in a section]:number:' \
+        '--after[only the histories behind this key]:key:' \
+        '--log[the file of the log]:file:_files' \
+        '--size[how many locks a made description has]:number:' \
+        '*:description:_files -g "*.cc"'
+}
+
+compdef _ccalc ccalc ./ccalc
