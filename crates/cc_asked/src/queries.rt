@@ -1,6 +1,7 @@
 //! A query of a description, ground.
 ghost use Rattle.std.specs.Prelude.{◌≡◌, ℕ, ◌≤◌, List as Items, IfOk, IfErr, OnOk, None};
 ghost use Rattle.cc_arena.specs.GroundViews.{plain_ground_query};
+ghost use Rattle.cc_defs.specs.Limits.{most_steps};
 ghost use Rattle.cc_defs.specs.Declarations.{Declaration, symbols};
 ghost use Rattle.cc_defs.specs.Description.{Description};
 ghost use Rattle.cc_defs.specs.GroundLaws.{StandsForQuery};
@@ -33,7 +34,7 @@ pub fn query_of<'a>(
     requires signature { IsSignatureFor described.now.table described.now.sig }
     requires formulas { (declarations : Items Declaration) → IsTable described.now.table declarations → HasFormulas (symbols declarations) (plain_query query.now) }
     requires steps { steps_refusal (vocabulary_of described.now.table).symbols (plain_query query.now) ≡ None }
-    ensures range { IfOk result (λ made. (made.lo ≤ made.hi) × (made.hi ≤ 1000)) }
+    ensures range { IfOk result (λ made. (made.lo ≤ made.hi) × (made.hi ≤ most_steps)) }
     ensures asked { IfOk result (λ made. (horizon : ℕ) → made.lo ≤ horizon → horizon ≤ made.hi → IsQueryAt described.now.sig horizon (plain_ground_query made)) }
     ensures stands { (d : Description) → IsDescriptionOf described.now d → IfOk result (λ made. StandsForQuery (plain_ground_query made) d (plain_query query.now)) }
     ensures unrefused { (d : Description) → IsDescriptionOf described.now d → OnOk result (nodes_refusal d (plain_query query.now) ≡ None) }

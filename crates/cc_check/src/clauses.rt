@@ -3,6 +3,7 @@ ghost use Rattle.std.specs.Prelude.{◌≡◌, ℕ, ◌+◌, ◌<◌, ◌≤◌,
 ghost use Rattle.std.specs.Bool.{MatchBool};
 ghost use Rattle.cc_defs.specs.ClauseForms.{positive, atom_variable};
 ghost use Rattle.cc_defs.specs.Clauses.{IsBefore, IsNumbered, IsResolvent, Reaches, opposite};
+ghost use Rattle.cc_defs.specs.Limits.{most_variables};
 ghost use Rattle.cc_defs.specs.Rows.{IsRow};
 ghost use Rattle.cc_defs.specs.Sections.{AreNamed, HasNoEmpty, row_denial};
 ghost use Rattle.cc_check.specs.Clauses.{IsClauseOver, AreClausesOver, HaveNoResolvent, IsStep, ReachesNothing};
@@ -135,7 +136,7 @@ fn resolve_on(
     pivot: u32,
     spare: &mut Vec<Lit>,
 ) -> Result<bool, OutOfMemory>
-    requires variables { variables ≤ 4000000 }
+    requires variables { variables ≤ most_variables }
     requires clause { IsClauseOver variables clause.now }
     requires other { IsClauseOver variables other.now }
     ensures { IfOk result (λ done. MatchBool done (IsResolvent clause.now other.now pivot spare.new.items) (HaveNoResolvent clause.now other.now pivot)) }

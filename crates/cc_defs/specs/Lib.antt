@@ -15,6 +15,7 @@ pub mod Histories
 pub mod Laws
 pub mod Limits
 pub mod LitCodes
+pub mod LogBytes
 pub mod LogTexts
 pub mod Logs
 pub mod Nodes

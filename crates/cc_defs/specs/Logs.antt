@@ -9,7 +9,8 @@ use Rattle.cc_defs.specs.declared.log.LogLine.{LogLine}
 use Rattle.cc_defs.specs.declared.log.LogLine.TheVariants as lines
 use Rattle.cc_defs.specs.declared.log.LogVerdict.{LogVerdict}
 use Rattle.cc_defs.specs.declared.log.LogVerdict.TheVariants as verdicts
-use Rattle.cc_defs.specs.LogTexts.{IsLine, header, lines_in}
+use Rattle.cc_defs.specs.LogBytes.{Version, First, IsSpelled}
+use Rattle.cc_defs.specs.LogTexts.{header, lines_in}
 use Rattle.cc_defs.specs.Sections.{Axioms, Finding, Right, Trailed, Wrong, HasNoForm, IsFound}
 
 -- ---- a log's sections: each a heading, with the number of its line, and the lines up to the next heading
@@ -20,16 +21,16 @@ pub record SectionText : Type 0 where
   pub line : ℕ
   pub texts : List (List ℕ)
 
-abbrev pub IsNoHeading : List ℕ → Type 0
-IsNoHeading text = (conditions : Bool) (horizon : ℕ) → IsLine text (lines.Section conditions horizon) → ⊥
+abbrev pub IsNoHeading : Version → List ℕ → Type 0
+IsNoHeading version text = (conditions : Bool) (horizon : ℕ) → IsSpelled version text (lines.Section conditions horizon) → ⊥
 
 -- texts from this line on are those of these sections
-abbrev pub AreSections : ℕ → List (List ℕ) → List SectionText → Type 0
-AreSections line texts [] = texts ≡ []
-AreSections line texts (first ∷ sections) =
+abbrev pub AreSections : Version → ℕ → List (List ℕ) → List SectionText → Type 0
+AreSections version line texts [] = texts ≡ []
+AreSections version line texts (first ∷ sections) =
     (heading : List ℕ) × (rest : List (List ℕ)) × (texts ≡ heading ∷ first.texts ++ rest) × (first.line ≡ line)
-    × IsLine heading (lines.Section first.conditions first.horizon) × AllByRecursion IsNoHeading first.texts
-    × AreSections (line + 1 + length first.texts) rest sections
+    × IsSpelled version heading (lines.Section first.conditions first.horizon) × AllByRecursion (IsNoHeading version) first.texts
+    × AreSections version (line + 1 + length first.texts) rest sections
 
 -- ---- which sections a log is to have
 
@@ -85,13 +86,13 @@ IsClosedBy subject standing verdict =
     ((standing.middle ≡ false) × (standing.horizon ≢ subject.first) × (verdict ≡ verdicts.Accepted subject.first (standing.horizon - 1) standing.blocked))
     ⊎ (((standing.middle ≡ true) ⊎ (standing.horizon ≡ subject.first)) × (verdict ≡ verdicts.Refused standing.line causes.Section))
 
-abbrev pub AreJudged : Subject → Standing → List SectionText → LogVerdict → Type 0
-AreJudged subject standing [] verdict = IsClosedBy subject standing verdict
-AreJudged subject standing (section ∷ sections) verdict =
+abbrev pub AreJudged : Version → Subject → Standing → List SectionText → LogVerdict → Type 0
+AreJudged version subject standing [] verdict = IsClosedBy subject standing verdict
+AreJudged version subject standing (section ∷ sections) verdict =
     ((IsNext subject standing section → ⊥) × (verdict ≡ verdicts.Refused section.line causes.Section))
     ⊎ (IsNext subject standing section × ((finding : Finding)
-    × IsFound (subject.axioms section.conditions section.horizon) ((subject.axioms section.conditions section.horizon).clauses) 0 (section.line + 1) section.texts finding
-    × IsFollowed (λ next. AreJudged subject next sections verdict) standing section.conditions finding verdict))
+    × IsFound (record { version = version; blocks = true }) (subject.axioms section.conditions section.horizon) ((subject.axioms section.conditions section.horizon).clauses) 0 (section.line + 1) section.texts finding
+    × IsFollowed (λ next. AreJudged version subject next sections verdict) standing section.conditions finding verdict))
 
 abbrev pub at_first : Subject → Standing
 at_first subject = record { middle = false; horizon = subject.first; blocked = 0; line = 2 }
@@ -99,17 +100,17 @@ at_first subject = record { middle = false; horizon = subject.first; blocked = 0
 -- ---- the verdict of a log's bytes
 
 -- behind the header stands a heading, or the second line is wrong
-abbrev pub IsVerdictBehind : Subject → List (List ℕ) → LogVerdict → Type 0
-IsVerdictBehind subject [] verdict = verdict ≡ verdicts.Refused 2 causes.Section
-IsVerdictBehind subject (text ∷ texts) verdict =
-    (HasNoForm text × (verdict ≡ verdicts.Refused 2 causes.Form))
-    ⊎ (IsNoHeading text × ((line : LogLine) × IsLine text line) × (verdict ≡ verdicts.Refused 2 causes.Section))
-    ⊎ ((sections : List SectionText) × AreSections 2 (text ∷ texts) sections × AreJudged subject (at_first subject) sections verdict)
+abbrev pub IsVerdictBehind : Version → Subject → List (List ℕ) → LogVerdict → Type 0
+IsVerdictBehind version subject [] verdict = verdict ≡ verdicts.Refused 2 causes.Section
+IsVerdictBehind version subject (text ∷ texts) verdict =
+    (HasNoForm version text × (verdict ≡ verdicts.Refused 2 causes.Form))
+    ⊎ (IsNoHeading version text × ((line : LogLine) × IsSpelled version text line) × (verdict ≡ verdicts.Refused 2 causes.Section))
+    ⊎ ((sections : List SectionText) × AreSections version 2 (text ∷ texts) sections × AreJudged version subject (at_first subject) sections verdict)
 
 abbrev pub IsVerdictOf : Subject → List (List ℕ) → LogVerdict → Type 0
 IsVerdictOf subject [] verdict = verdict ≡ verdicts.Refused 1 causes.Header
 IsVerdictOf subject (text ∷ texts) verdict =
-    ((text ≢ header) × (verdict ≡ verdicts.Refused 1 causes.Header)) ⊎ ((text ≡ header) × IsVerdictBehind subject texts verdict)
+    ((text ≢ header) × (verdict ≡ verdicts.Refused 1 causes.Header)) ⊎ ((text ≡ header) × IsVerdictBehind First subject texts verdict)
 
 -- what a checker says of a log
 abbrev pub IsVerdict : Subject → List ℕ → LogVerdict → Type 0

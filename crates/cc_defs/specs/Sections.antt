@@ -1,5 +1,5 @@
 -- The sections of a log over clauses: right lines, right sections, and the first line of a section that is not right.
-use Rattle.std.specs.Prelude.{◌≡◌, ◌≢◌, ℕ, ◌+◌, ◌<◌, ◌≤◌, ◌⊎◌, ◌↔◌, List, [], ◌∷◌, ◌++◌, length, Contains}
+use Rattle.std.specs.Prelude.{◌≡◌, ◌≢◌, ℕ, ◌+◌, ◌<◌, ◌≤◌, ◌⊎◌, ◌↔◌, Bool, true, false, List, [], ◌∷◌, ◌++◌, length, Contains}
 use Rattle.cc_defs.specs.declared.log.Cause.{Cause}
 use Rattle.cc_defs.specs.declared.log.Cause.TheVariants as causes
 use Rattle.cc_defs.specs.declared.log.EndWord.{EndWord}
@@ -8,7 +8,7 @@ use Rattle.cc_defs.specs.declared.log.LogLine.{LogLine}
 use Rattle.cc_defs.specs.declared.log.LogLine.TheVariants as lines
 use Rattle.cc_defs.specs.ClauseForms.{positive}
 use Rattle.cc_defs.specs.Clauses.{Literal, IsClause, IsOver, Reaches, opposite}
-use Rattle.cc_defs.specs.LogTexts.{IsLine}
+use Rattle.cc_defs.specs.LogBytes.{Version, IsSpelled, line_meant}
 use Rattle.cc_defs.specs.Rows.{IsRow}
 
 -- the axioms of a section: the sizes of its positions, how many variables there are, and the clauses, numbered from 1
@@ -87,36 +87,49 @@ pub data Finding : Type 0 where
   Trailed : (word : EndWord) → (line : ℕ) → Cause → Finding
   Wrong : (line : ℕ) → Cause → Finding
 
+-- How the lines of a section are read: the version that they are written in, and whether a row may be blocked among them.
+pub record Reading : Type 0 where
+  pub version : Version
+  pub blocks : Bool
+
 -- a text is that of no line
-abbrev pub HasNoForm : List ℕ → Type 0
-HasNoForm text = (line : LogLine) → IsLine text line → ⊥
+abbrev pub HasNoForm : Version → List ℕ → Type 0
+HasNoForm version text = (line : LogLine) → IsSpelled version text line → ⊥
 
 -- What stands behind the end of a section is out of its place.
-abbrev pub IsEnded : EndWord → ℕ → ℕ → List (List ℕ) → Finding → Type 0
-IsEnded word blocks line [] finding = finding ≡ Right word blocks line
-IsEnded word blocks line (text ∷ texts) finding =
-    (HasNoForm text × (finding ≡ Trailed word line causes.Form)) ⊎ (((other : LogLine) × IsLine text other) × (finding ≡ Trailed word line causes.Section))
+abbrev pub IsEnded : Version → EndWord → ℕ → ℕ → List (List ℕ) → Finding → Type 0
+IsEnded version word blocks line [] finding = finding ≡ Right word blocks line
+IsEnded version word blocks line (text ∷ texts) finding =
+    (HasNoForm version text × (finding ≡ Trailed word line causes.Form))
+    ⊎ (((other : LogLine) × IsSpelled version text other) × (finding ≡ Trailed word line causes.Section))
 
--- A line that is read so at this number; `Goes` says what is found behind it, of the clauses that are there then and of how
--- many blocks.
-abbrev pub IsJudged : Axioms → List (List Literal) → (blocks line : ℕ) → (List (List Literal) → ℕ → Type 0) → List (List ℕ) → Finding → LogLine → Type 0
-IsJudged axioms before blocks line Goes texts finding (lines.Section conditions horizon) = finding ≡ Wrong line causes.Section
-IsJudged axioms before blocks line Goes texts finding (lines.End word) =
-    (EndsRightly before word × IsEnded word blocks line texts finding) ⊎ ((EndsRightly before word → ⊥) × (finding ≡ Wrong line causes.Section))
-IsJudged axioms before blocks line Goes texts finding (lines.Derived clause chain) =
-    (Contains before [] × (finding ≡ Wrong line causes.Section))
-    ⊎ (HasNoEmpty before × ((cause : Cause) × IsWrongly axioms before clause chain cause × (finding ≡ Wrong line cause)))
-    ⊎ (HasNoEmpty before × IsClause clause × IsOver axioms.variables clause × Reaches before chain clause × Goes (before ++ clause ∷ []) blocks)
-IsJudged axioms before blocks line Goes texts finding (lines.Block row) =
+-- A row is blocked at this number: it may not be where no row may, nor behind an empty clause; and it is a row of the section.
+abbrev pub IsBlockJudged : Bool → Axioms → List (List Literal) → (blocks line : ℕ) → (List (List Literal) → ℕ → Type 0) → Finding → List ℕ → Type 0
+IsBlockJudged false axioms before blocks line Goes finding row = finding ≡ Wrong line causes.Section
+IsBlockJudged true axioms before blocks line Goes finding row =
     (Contains before [] × (finding ≡ Wrong line causes.Section))
     ⊎ (HasNoEmpty before × (IsRow axioms.sizes row → ⊥) × (finding ≡ Wrong line causes.Row))
     ⊎ (HasNoEmpty before × IsRow axioms.sizes row × Goes (before ++ row_denial axioms.sizes row ∷ []) (blocks + 1))
 
--- What the lines of a section are found to be, behind these clauses and so many blocks; `line` is the number in the log of the
--- first of them. A section that ends without an end line is wrong one line behind its last.
-abbrev pub IsFound : Axioms → List (List Literal) → (blocks line : ℕ) → List (List ℕ) → Finding → Type 0
-IsFound axioms before blocks line [] finding = finding ≡ Wrong line causes.Section
-IsFound axioms before blocks line (text ∷ texts) finding =
-    (HasNoForm text × (finding ≡ Wrong line causes.Form))
-    ⊎ ((read : LogLine) × IsLine text read
-    × IsJudged axioms before blocks line (λ after count. IsFound axioms after count (line + 1) texts finding) texts finding read)
+-- A line that is read so at this number; `Goes` says what is found behind it, of the clauses that are there then and of how
+-- many blocks.
+abbrev pub IsJudged : Reading → Axioms → List (List Literal) → (blocks line : ℕ) → (List (List Literal) → ℕ → Type 0) → List (List ℕ) → Finding → LogLine → Type 0
+IsJudged reading axioms before blocks line Goes texts finding (lines.Section conditions horizon) = finding ≡ Wrong line causes.Section
+IsJudged reading axioms before blocks line Goes texts finding (lines.End word) =
+    (EndsRightly before word × IsEnded reading.version word blocks line texts finding)
+    ⊎ ((EndsRightly before word → ⊥) × (finding ≡ Wrong line causes.Section))
+IsJudged reading axioms before blocks line Goes texts finding (lines.Derived clause chain) =
+    (Contains before [] × (finding ≡ Wrong line causes.Section))
+    ⊎ (HasNoEmpty before × ((cause : Cause) × IsWrongly axioms before clause chain cause × (finding ≡ Wrong line cause)))
+    ⊎ (HasNoEmpty before × IsClause clause × IsOver axioms.variables clause × Reaches before chain clause × Goes (before ++ clause ∷ []) blocks)
+IsJudged reading axioms before blocks line Goes texts finding (lines.Block row) = IsBlockJudged reading.blocks axioms before blocks line Goes finding row
+
+-- What the lines of a section are found to be, read so, behind these clauses and so many blocks; `line` is the number in the log of
+-- the first of them. A section that ends without an end line is wrong one line behind its last.
+abbrev pub IsFound : Reading → Axioms → List (List Literal) → (blocks line : ℕ) → List (List ℕ) → Finding → Type 0
+IsFound reading axioms before blocks line [] finding = finding ≡ Wrong line causes.Section
+IsFound reading axioms before blocks line (text ∷ texts) finding =
+    (HasNoForm reading.version text × (finding ≡ Wrong line causes.Form))
+    ⊎ ((read : LogLine) × IsSpelled reading.version text read
+    × IsJudged reading axioms before blocks line (λ after count. IsFound reading axioms after count (line + 1) texts finding) texts finding
+        (line_meant reading.version (length before + 1) read))

@@ -1,5 +1,6 @@
 //! Literals of propositional variables.
 ghost use Rattle.std.specs.Prelude.{◌≡◌, ◌≤◌, Bool, true, false, not};
+ghost use Rattle.cc_defs.specs.Limits.{most_variables};
 
 use std::marker::Model;
 
@@ -30,7 +31,7 @@ impl Lit {
     /// The positive literal of a variable.
     pub fn positive(variable: u32) -> Lit
         requires some { 1 ≤ variable }
-        requires most { variable ≤ 4000000 }
+        requires most { variable ≤ most_variables }
         ensures { result ≡ record { variable = variable; positive = true } }
     {
         Lit {
@@ -41,7 +42,7 @@ impl Lit {
     /// The negative literal of a variable.
     pub fn negative(variable: u32) -> Lit
         requires some { 1 ≤ variable }
-        requires most { variable ≤ 4000000 }
+        requires most { variable ≤ most_variables }
         ensures { result ≡ record { variable = variable; positive = false } }
     {
         Lit { code: 2 * variable }

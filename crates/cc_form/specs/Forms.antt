@@ -12,8 +12,7 @@ use Rattle.cc_defs.specs.Refusals.{past}
 use Rattle.cc_defs.specs.Resolved.{Query}
 use Rattle.cc_defs.specs.Runs.{without_claim}
 use Rattle.cc_defs.specs.Sections.{Axioms}
-use Rattle.cc_defs.specs.Rows.{IsRow}
-use Rattle.cc_clauses.specs.RowsOf.{HasRow, IsRowOf, MeetsAll}
+use Rattle.cc_clauses.specs.Tells.{Tells}
 use Rattle.cc_form.specs.Store.{literal_count_of}
 
 -- the first limit that a clause list passes
@@ -34,13 +33,9 @@ abbrev pub asked : (with_claim : Bool) → Query → Query
 asked true q = q
 asked false q = without_claim q
 
--- The rows of the clauses are the histories, and each is that of exactly one assignment to their variables; an assignment that
--- meets them has a row.
-pub record TellsHistories (d : Description) (q : Query) (horizon : ℕ) (key : Option (List ℕ)) (form : Axioms) : Type 0 where
-  pub histories : (row : List ℕ) → IsRowOf form.sizes form.clauses row ↔ IsHistory d q horizon key row
-  pub once : (row : List ℕ) (one other : ℕ → Bool) → HasRow form.sizes one row → HasRow form.sizes other row →
-      MeetsAll one form.clauses → MeetsAll other form.clauses → (variable : ℕ) → 0 < variable → variable ≤ form.variables → one variable ≡ other variable
-  pub each : (assignment : ℕ → Bool) → MeetsAll assignment form.clauses → (row : List ℕ) × HasRow form.sizes assignment row × IsRow form.sizes row
+-- the rows of the clauses are the histories
+abbrev pub TellsHistories : Description → Query → ℕ → Option (List ℕ) → Axioms → Type 0
+TellsHistories d q horizon key form = Tells form (IsHistory d q horizon key)
 
 -- axioms: clauses over their variables, which say of each position that it has exactly one value
 pub record IsAxioms (form : Axioms) : Type 0 where

@@ -8,7 +8,8 @@ use Rattle.cc_defs.specs.ClauseLists.{clauses_over}
 use Rattle.cc_defs.specs.Rows.{IsRow, IsBelow}
 use Rattle.cc_defs.specs.Terms.{Ground, Fits, postfix}
 use Rattle.cc_defs.specs.TimedRules.{TimedRule}
-use Rattle.cc_clauses.specs.RowsOf.{HasRow, IsRowOf, MeetsAll}
+use Rattle.cc_clauses.specs.Tells.{Tells}
+use Rattle.cc_defs.specs.Sections.{Axioms}
 use Rattle.cc_theory.specs.Completion.{MeetsCompletion, holds}
 
 -- ---- atoms that the positions have
@@ -40,15 +41,14 @@ pub record IsTold (sizes : List ℕ) (rules : List TimedRule) (conditions : List
   pub claim_fails : IfSome claim (λ claim. IsFalse (holds row claim))
   pub after : IfSome key (λ key. IsBelow key.row row)
 
--- The rows of the clauses are these rows, each is that of exactly one assignment to their variables, and an assignment that meets
--- them has a row.
-pub record TellsRows (sizes : List ℕ) (rules : List TimedRule) (conditions : List Ground) (claim : Option Ground) (key : Option Key) : Type 0 where
-  pub rows : (row : List ℕ) → IsRowOf sizes (clauses_over sizes rules conditions claim key).clauses row ↔ IsTold sizes rules conditions claim key row
-  pub once : (row : List ℕ) (one other : ℕ → Bool) → HasRow sizes one row → HasRow sizes other row →
-      MeetsAll one (clauses_over sizes rules conditions claim key).clauses → MeetsAll other (clauses_over sizes rules conditions claim key).clauses →
-      (variable : ℕ) → 0 < variable → variable ≤ (clauses_over sizes rules conditions claim key).variables → one variable ≡ other variable
-  pub each : (assignment : ℕ → Bool) → MeetsAll assignment (clauses_over sizes rules conditions claim key).clauses →
-      (row : List ℕ) × HasRow sizes assignment row × IsRow sizes row
+-- the axioms of rules, conditions, a claim and a key
+abbrev pub axioms_over : List ℕ → List TimedRule → List Ground → Option Ground → Option Key → Axioms
+axioms_over sizes rules conditions claim key =
+    let list = clauses_over sizes rules conditions claim key
+    in record { sizes = sizes; variables = list.variables; clauses = list.clauses }
+
+abbrev pub TellsRows : List ℕ → List TimedRule → List Ground → Option Ground → Option Key → Type 0
+TellsRows sizes rules conditions claim key = Tells (axioms_over sizes rules conditions claim key) (IsTold sizes rules conditions claim key)
 
 abbrev pub ClausesTellRows : Type 0
 ClausesTellRows = (sizes : List ℕ) (rules : List TimedRule) (conditions : List Ground) (claim : Option Ground) (key : Option Key) →

@@ -6,7 +6,7 @@ ghost use Rattle.cc_cdcl.specs.Solvers.{Ready};
 ghost use Rattle.cc_defs.specs.ClauseLists.{clause_list};
 ghost use Rattle.cc_defs.specs.Description.{Description};
 ghost use Rattle.cc_defs.specs.GroundLaws.{StandsForQuery};
-ghost use Rattle.cc_defs.specs.Limits.{most_steps, most_variables};
+ghost use Rattle.cc_defs.specs.Limits.{most_clauses, most_steps, most_variables};
 ghost use Rattle.cc_defs.specs.Refusals.{IsRefusedBy};
 ghost use Rattle.cc_defs.specs.Resolved.{Query};
 ghost use Rattle.cc_form.specs.Forms.{TellsHistories, asked, form_of, form_refusal};
@@ -65,7 +65,7 @@ pub(crate) fn solver_of(alloc: Global, form: Form) -> Result<Solver, OutOfMemory
     ensures variables { IfOk result (λ solver. solver.kernel.variables ≡ form.variables) }
     ensures few { OnOk result (form.variables ≤ most_variables) }
     ensures entries { IfOk result (λ solver. solver.kernel.entries ≡ axioms_of form.clauses) }
-    ensures count { OnOk result (length form.clauses ≤ 8000000) }
+    ensures count { OnOk result (length form.clauses ≤ most_clauses) }
     ensures good { OnOk result (AreGoodAxioms form) }
     ensures ready { IfOk result (λ solver. solver.standing ≡ Ready) }
 {

@@ -6,6 +6,7 @@ use Rattle.cc_defs.specs.declared.refusal.Fault.{Fault}
 use Rattle.cc_defs.specs.declared.refusal.Fault.TheVariants as faults
 use Rattle.cc_defs.specs.declared.refusal.Refusal.{Refusal}
 use Rattle.cc_defs.specs.declared.signature.Symbol.{Symbol}
+use Rattle.cc_defs.specs.Limits.{most_steps}
 use Rattle.cc_defs.specs.Description.{Description}
 use Rattle.cc_defs.specs.GroundLaws.{PlainGroundQuery, StandsForQuery}
 use Rattle.cc_defs.specs.Resolved.{Query}
@@ -21,7 +22,7 @@ use Rattle.cc_words.specs.Words.{Text}
 pub record AreSearchable (signature : Signature) (laws : List GroundLaw) (query : PlainGroundQuery) (key : Option Key) : Type 0 where
   pub laws_fit : AreLawsFor signature laws
   pub ordered : query.lo ≤ query.hi
-  pub most : query.hi ≤ 1000
+  pub most : query.hi ≤ most_steps
   pub steps : (horizon : ℕ) → query.lo ≤ horizon → horizon ≤ query.hi → IsQueryAt signature horizon query
   pub key_fits : IfSome key (Fits signature query)
 

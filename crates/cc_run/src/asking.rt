@@ -2,6 +2,7 @@
 ghost use Rattle.std.specs.Prelude.{◌≡◌, ℕ, ◌≤◌, IfOk, IfErr, IfSome, None, Some, find, map, option_map};
 ghost use Rattle.cc_arena.specs.GroundViews.{plain_ground_query};
 ghost use Rattle.cc_asked.specs.Descriptions.{IsDescriptionOf};
+ghost use Rattle.cc_defs.specs.Limits.{most_steps};
 ghost use Rattle.cc_defs.specs.Conditions.{IsSignatureOfDescription};
 ghost use Rattle.cc_defs.specs.Description.{Description};
 ghost use Rattle.cc_defs.specs.GroundLaws.{StandsForQuery};
@@ -93,7 +94,7 @@ fn query_asked<'a>(
 ) -> Result<GroundQuery<'a>, Fault>
     requires signature { IsSignatureFor described.now.table described.now.sig }
     requires formulas { AsksFormulas described.now }
-    ensures range { IfOk result (λ made. (made.lo ≤ made.hi) × (made.hi ≤ 1000)) }
+    ensures range { IfOk result (λ made. (made.lo ≤ made.hi) × (made.hi ≤ most_steps)) }
     ensures steps { IfOk result (λ made. (horizon : ℕ) → made.lo ≤ horizon → horizon ≤ made.hi → IsQueryAt described.now.sig horizon (plain_ground_query made)) }
     ensures named { (d : Description) → IsDescriptionOf described.now d → IfOk result (λ made.
         IsAskedAs d (map plain_query described.now.queries) (plain_text label.entry) (plain_ground_query made)) }

@@ -1,5 +1,6 @@
 //! A case: what is asked of its description.
 ghost use Rattle.std.specs.Prelude.{ℕ, ◌≤◌, IfOk};
+ghost use Rattle.cc_defs.specs.Limits.{most_steps};
 ghost use Rattle.cc_arena.specs.GroundViews.{plain_ground_query};
 ghost use Rattle.cc_describe.specs.Describing.{AsksFormulas, HasForms};
 ghost use Rattle.cc_form.specs.Queries.{IsQueryAt};
@@ -105,7 +106,7 @@ fn query_asked<'a>(
 ) -> Result<GroundQuery<'a>, Halt>
     requires signature { IsSignatureFor described.now.table described.now.sig }
     requires formulas { AsksFormulas described.now }
-    ensures most { IfOk result (λ made. made.hi ≤ 1000) }
+    ensures most { IfOk result (λ made. made.hi ≤ most_steps) }
     ensures steps { IfOk result (λ made. (horizon : ℕ) → made.lo ≤ horizon → horizon ≤ made.hi → IsQueryAt described.now.sig horizon (plain_ground_query made)) }
 {
     let Some(query) = described.queries.items().get(number as usize) else {

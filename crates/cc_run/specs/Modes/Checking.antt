@@ -1,0 +1,84 @@
+-- Check mode: a log is judged.
+use Rattle.std.specs.Prelude.{◌≡◌, ℕ, ◌+◌, ◌<◌, ◌^◌, ◌≤◌, ◌⊎◌, Bool, true, false, List, [], ◌∷◌, ◌++◌, length, map, Contains, Option, Some, None, is_some, IsNone, codes, if◌then◌else◌, ◌==◌}
+use Rattle.std.specs.List.{AllByRecursion}
+use Rattle.cc_defs.specs.declared.event.Ending.{Ending}
+use Rattle.cc_defs.specs.declared.event.Ending.TheVariants as endings
+use Rattle.cc_defs.specs.declared.event.Told.{Told}
+use Rattle.cc_defs.specs.declared.event.Event.TheVariants as events
+use Rattle.cc_defs.specs.declared.log.EndWord.TheVariants as words
+use Rattle.cc_defs.specs.declared.log.LogLine.TheVariants as lines
+use Rattle.cc_defs.specs.declared.log.LogVerdict.{LogVerdict}
+use Rattle.cc_defs.specs.declared.log.LogVerdict.TheVariants as verdicts
+use Rattle.cc_defs.specs.declared.refusal.Fault.TheVariants as faults
+use Rattle.cc_defs.specs.declared.refusal.LimitAt.TheVariants as limits
+use Rattle.cc_defs.specs.declared.refusal.Refusal.{Refusal}
+use Rattle.cc_defs.specs.Assignments.{HasOpen}
+use Rattle.cc_defs.specs.Events.{out_text, log_of}
+use Rattle.cc_defs.specs.Description.{Description}
+use Rattle.cc_defs.specs.Limits.{limit_number, most_histories}
+use Rattle.cc_defs.specs.LogTexts.{IsFormed}
+use Rattle.cc_defs.specs.Logs.{IsAccepted, IsVerdict}
+use Rattle.cc_defs.specs.Refusals.{past}
+use Rattle.cc_defs.specs.Runs.{Horizon, Histories, Conditions, Claim, Failure, Run, EndsWith, IsFairRun, axioms_of, events_of, first_horizon, horizon_at, last_horizon}
+use Rattle.cc_defs.specs.Sections.{Axioms}
+use Rattle.cc_describe.specs.Places.{Files}
+use Rattle.cc_judge.specs.Judging.{BlocksHistories, IsJudgeFault, IsVerdictWithin}
+use Rattle.cc_ports.specs.Contents.{Contents, IsPrefix, Rose}
+use Rattle.cc_print.specs.Refusals.{refusal_line}
+use Rattle.cc_print.specs.Summaries.{endings_told, summary}
+use Rattle.cc_print.specs.Verdicts.{verdict_line}
+use Rattle.cc_query.specs.Accepted.{lines_of, subject_of}
+use Rattle.cc_query.specs.Sessions.{TellsTooMany, opening_refusal}
+use Rattle.cc_run.specs.declared.status.Status.{Status}
+use Rattle.cc_run.specs.declared.status.Status.TheVariants as statuses
+use Rattle.cc_run.specs.Tasks.{RefusesNamed, Task, IsTask, made_files, made_named, named_by, named_in, refusal_without_place, request_of}
+use Rattle.cc_words.specs.Requests.{Checking, Listing, Request, ToList, ToCheck, ToMake}
+use Rattle.cc_words.specs.Words.{Text}
+
+-- A log that is to be judged is too long, or it reaches a section that passes a limit.
+abbrev pub RefusesLog : Task → List ℕ → Refusal → Type 0
+RefusesLog task bytes refusal =
+    ((limit_number limits.LogBytes < length bytes) × (refusal ≡ past limits.LogBytes))
+    ⊎ ((length bytes ≤ limit_number limits.LogBytes) × IsJudgeFault task.description task.query task.ask.after bytes (faults.Refused refusal))
+
+-- the log that words name, and what it is to be the log of
+pub record NamesLog (files : Files) (checking : Checking) (task : Task) (bytes : List ℕ) : Type 0 where
+  pub is : IsTask files (named_in checking) task
+  pub there : files checking.log ≡ Some bytes
+
+abbrev pub RefusesChecking : Files → Checking → Refusal → Text → Type 0
+RefusesChecking files checking refusal file =
+    RefusesNamed files (named_in checking) refusal file
+    ⊎ ((task : Task) × (bytes : List ℕ) × NamesLog files checking task bytes × RefusesLog task bytes refusal × (file ≡ []))
+
+abbrev pub verdict_status : LogVerdict → Status
+verdict_status (verdicts.Accepted first last blocked) = statuses.Right
+verdict_status (verdicts.Refused line reason) = statuses.Not
+
+-- What a checker says of the log is given to Out. Where it is accepted, each history of its horizons is blocked in it.
+pub record Checks (checking : Checking) (files : Files) (whole : Whole) : Type 0 where
+  pub task : Task
+  pub bytes : List ℕ
+  pub named : NamesLog files checking task bytes
+  pub few : length bytes ≤ limit_number limits.LogBytes
+  pub verdict : LogVerdict
+  pub judged : IsVerdict (subject_of task.description task.query task.ask.after) bytes verdict
+  pub within : IsVerdictWithin task.description task.query task.ask.after bytes verdict
+  pub blocks : BlocksHistories task.description task.query task.ask.after bytes verdict
+  pub given : whole.given ≡ only_out (verdict_line verdict)
+  pub begun : whole.begun ≡ false
+  pub ends : whole.ends ≡ Some (verdict_status verdict)
+
+abbrev pub MayEndChecking : Status → Type 0
+MayEndChecking statuses.Spent = ⊥
+MayEndChecking statuses.Asked = ⊥
+MayEndChecking status = IsEndStatus status
+
+abbrev pub checking_promise : Checking → Promise
+checking_promise checking = record {
+  Refuses = λ files. RefusesChecking files checking;
+  Gives = Checks checking;
+  Opens = λ files opened. (named : List Text) × AreToOpen files checking.file named × (opened ≡ named ++ checking.log ∷ []);
+  begins = None;
+  MayEnd = MayEndChecking;
+}
