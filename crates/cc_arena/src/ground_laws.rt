@@ -1,7 +1,8 @@
 //! Ground laws and queries, whose terms lie in an arena.
-ghost use Rattle.std.specs.Prelude.{◌≡◌};
+ghost use Rattle.std.specs.Prelude.{◌≡◌, IfOk};
 
-use cc_defs::{At, GroundHead, LawKind, List, Node};
+use cc_defs::{At, GroundHead, LawKind, List, Node, OutOfMemory};
+use std::alloc::Global;
 use std::marker::Model;
 
 /// A ground law. `after` is there exactly for a fluent dynamic law; `base` is the number of the law that it is an
@@ -29,6 +30,21 @@ pub struct GroundQuery<'a> {
     pub hi: u32,
     pub conditions: List<GroundCondition<'a>>,
     pub claim: Option<GroundCondition<'a>>,
+}
+
+impl<'a> GroundQuery<'a> {
+    /// Another one with the same range, conditions and claim, over the same nodes.
+    pub fn copy(&self, alloc: Global) -> Result<GroundQuery<'a>, OutOfMemory>
+        ensures { IfOk result (λ copy. copy ≡ self.now) }
+    {
+        let conditions = Vec::from_slice(alloc, self.conditions.items())?;
+        Ok(GroundQuery {
+            lo: self.lo,
+            hi: self.hi,
+            conditions: List::of(conditions),
+            claim: self.claim,
+        })
+    }
 }
 
 /// Ground laws, in order.

@@ -132,4 +132,4 @@ IsFound reading axioms before blocks line (text ∷ texts) finding =
     (HasNoForm reading.version text × (finding ≡ Wrong line causes.Form))
     ⊎ ((read : LogLine) × IsSpelled reading.version text read
     × IsJudged reading axioms before blocks line (λ after count. IsFound reading axioms after count (line + 1) texts finding) texts finding
-        (line_meant reading.version (length before + 1) read))
+    (line_meant reading.version (length before + 1) read))
