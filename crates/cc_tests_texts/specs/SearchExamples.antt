@@ -16,6 +16,7 @@ use Rattle.cc_defs.specs.ClauseLists.{clause_list}
 use Rattle.cc_defs.specs.Clauses.{Literal, opposite}
 use Rattle.cc_defs.specs.Description.{Description}
 use Rattle.cc_tests_texts.specs.Examples.{boolean, fluents_with_laws, has, law_for, lamp, two_simple}
+use Rattle.cc_defs.specs.LogBytes.{IsEntry, First, Second, entry_bytes, line_meant, literal_bytes, number_bytes}
 use Rattle.cc_defs.specs.LogTexts.{header}
 use Rattle.cc_defs.specs.Logs.{Subject, IsVerdict}
 use Rattle.cc_defs.specs.Resolved.{Formula, Not, Both, Either, Falsity, BaseLaw, Condition, Query}
@@ -174,3 +175,26 @@ ListingsAreTold = AreFair lamp lamp_is_turned_on (record ask_all { count = Some 
     logged (lines.Section false 0) ∷ logged (lines.Derived [] (4 ∷ 2 ∷ 5 ∷ [])) ∷ logged (lines.End words.Empty) ∷ told (events.NoHistory 0)
     ∷ logged (lines.Section false 1) ∷ told_row (events.History 1 1) (0 ∷ 1 ∷ 1 ∷ []) ∷ logged (lines.End words.Found)
     ∷ told (events.Ended (endings.Asked 1 1)) ∷ [])
+
+-- ---- entries of version 2
+
+-- the entries of the log that shows the lamp's one history of one step to be all, as far as the first end
+abbrev pub EntriesAreWritten : Type 0
+EntriesAreWritten =
+    (number_bytes 0 ≡ 0 ∷ []) × (number_bytes 127 ≡ 127 ∷ []) × (number_bytes 128 ≡ 128 ∷ 1 ∷ [])
+    × (number_bytes 1999999999 ≡ 255 ∷ 167 ∷ 214 ∷ 185 ∷ 7 ∷ [])
+    × (literal_bytes (yes_of 64) ≡ 128 ∷ 1 ∷ []) × (literal_bytes (not_of 3) ≡ 7 ∷ [])
+    × IsEntry (1 ∷ 0 ∷ []) (lines.Section false 0) × IsEntry (2 ∷ 1 ∷ []) (lines.Section true 1)
+    × IsEntry (3 ∷ 0 ∷ 1 ∷ 2 ∷ 2 ∷ 1 ∷ []) (lines.Derived [] (2 ∷ 2 ∷ 1 ∷ []))
+    × IsEntry (4 ∷ 3 ∷ 0 ∷ 1 ∷ 1 ∷ []) (lines.Block (0 ∷ 1 ∷ 1 ∷ []))
+    × IsEntry (5 ∷ []) (lines.End words.Empty) × IsEntry (6 ∷ []) (lines.End words.Found) × IsEntry (7 ∷ []) (lines.End words.Spent)
+
+-- a chain is named by distances from its own clause; one that is 0, or reaches no clause, names none that is earlier
+abbrev pub DistancesAreMeant : Type 0
+DistancesAreMeant =
+    (line_meant Second 6 (lines.Derived [] (2 ∷ 2 ∷ 1 ∷ [])) ≡ lines.Derived [] (4 ∷ 2 ∷ 5 ∷ []))
+    × (line_meant First 6 (lines.Derived [] (4 ∷ 2 ∷ 5 ∷ [])) ≡ lines.Derived [] (4 ∷ 2 ∷ 5 ∷ []))
+    × (line_meant Second 6 (lines.Derived [] (0 ∷ [])) ≡ lines.Derived [] (6 ∷ []))
+    × (line_meant Second 6 (lines.Derived [] (6 ∷ [])) ≡ lines.Derived [] (0 ∷ []))
+    × (line_meant Second 6 (lines.Derived [] (9 ∷ [])) ≡ lines.Derived [] (0 ∷ []))
+    × (line_meant Second 6 (lines.Block (0 ∷ 1 ∷ [])) ≡ lines.Block (0 ∷ 1 ∷ []))

@@ -1,5 +1,5 @@
 //! Examples of clause lists, logs and runs whose answers are known beforehand, each the contract of a function with no body.
-ghost use Rattle.cc_tests_texts.specs.SearchExamples.{LampHasFiveClauses, LampHasTwentySevenClauses, KeysAreClauses, FourAreOpen, FourteenAreOpen, LinesAreEarned, SectionsAreRight, EmptyLogsAreWrong, ClaimsThatHoldAreTold, ClaimsOfNothingAreTold, ClaimsThatFailAreTold, ListingsAreTold};
+ghost use Rattle.cc_tests_texts.specs.SearchExamples.{LampHasFiveClauses, LampHasTwentySevenClauses, KeysAreClauses, FourAreOpen, FourteenAreOpen, LinesAreEarned, SectionsAreRight, EmptyLogsAreWrong, ClaimsThatHoldAreTold, ClaimsOfNothingAreTold, ClaimsThatFailAreTold, ListingsAreTold, EntriesAreWritten, DistancesAreMeant};
 
 fn lamp_has_five_clauses()
     ensures { LampHasFiveClauses }
@@ -49,6 +49,14 @@ fn listings_are_told()
     ensures { ListingsAreTold }
 {}
 
+fn entries_are_written()
+    ensures { EntriesAreWritten }
+{}
+
+fn distances_are_meant()
+    ensures { DistancesAreMeant }
+{}
+
 #[test]
 fn search_examples_are_as_they_should(_rt: HostRuntime) {
     lamp_has_five_clauses();
@@ -63,4 +71,6 @@ fn search_examples_are_as_they_should(_rt: HostRuntime) {
     claims_of_nothing_are_told();
     claims_that_fail_are_told();
     listings_are_told();
+    entries_are_written();
+    distances_are_meant();
 }
