@@ -33,8 +33,9 @@ use Rattle.cc_query.specs.Laws.{SearchLaws as Laws}
 use Rattle.cc_query.specs.Parts.{axioms_at, is_conditions, told_by, section_of, open_section, rows_in, MayAsk, TellsTrue}
 use Rattle.cc_query.specs.Sessions.{SessionView, After, Awaits, Holds, HasTooMany, IsClosed, IsRefuted, IsSearched, IsTold, Opens, RowsAreHistories, has_conditions}
 use Rattle.cc_query.proofs.Holding.{clauses_held, counted_as_derived, counted_within, holds_block, holds_line}
-use Rattle.cc_query.proofs.PartsTold.{IsGoingOn, asked_of, asked_true, begun, counterexample_first, denied_on, empty_true, found_true, going_on, going_on_told, line_on, next_first, open_true, spent_true, still_fewer, telling_true, true_of}
+use Rattle.cc_query.proofs.PartsTold.{IsGoingOn, asked_of, asked_true, begun, counterexample_first, denied_on, empty_true, found_true, going_on, going_on_told, line_on, next_first, open_true, spent_true, telling_true, true_of}
 use Rattle.cc_query.proofs.Running.{IsRunning, begins, block_event, end_event, ends_behind, ends_within, goes_on, history_event, horizon_event, line_event, passes, run_at, running, true_there, within_there}
+use Rattle.cc_query.proofs.Told.{still_fewer}
 use Rattle.cc_query.proofs.Steps.{added_behind, counted_more, in_first, in_none, rows_kept, rows_more}
 
 -- what is asked goes with the query
@@ -48,7 +49,7 @@ claimed d q ask horizon parts.Histories before may other = absurd (other refl)
 claimed d q ask horizon parts.Conditions before may other = may
 claimed d q ask horizon parts.Claim before may other = may.0
 
-earned_none_empty : (clauses : List (List Literal)) (clause : List Literal) → IsEarned clauses clause → HasNoEmpty clauses
+pub earned_none_empty : (clauses : List (List Literal)) (clause : List Literal) → IsEarned clauses clause → HasNoEmpty clauses
 earned_none_empty clauses clause earned there = earned.closed.none_failed [] there (λ literal none. absurd (in_none literal none))
 
 -- a session behind a run that has not ended

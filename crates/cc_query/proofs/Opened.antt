@@ -50,13 +50,18 @@ nothing_behind : (entries : List Entry) → entries ++ [] ≡ entries
 nothing_behind [] = refl
 nothing_behind (entry ∷ entries) = ap (λ (l : List Entry). entry ∷ l) (nothing_behind entries)
 
+pub holds_first : (form : Axioms) (solver : SolverView) → solver.sizes ≡ form.sizes → solver.kernel.variables ≡ form.variables → form.variables ≤ 4000000 →
+    solver.kernel.entries ≡ axioms_of form.clauses → Holds form [] solver
+holds_first form solver sizes variables few entries =
+    record { sizes = sizes; variables = variables; few = few; entries = entries ∙ sym (nothing_behind (map axiom_of form.clauses)) }
+
 pub holds_opened : (d : Description) (q : Query) (s now : SessionView) (part : Part) (denies : Bool) (key : Option Key) (form : Axioms) (solver : SolverView) →
     s ≡ now → denies ≡ not (is_conditions part) → key ≡ s.ask.after → form ≡ form_of d q s.horizon denies key → solver.sizes ≡ form.sizes →
     solver.kernel.variables ≡ form.variables → form.variables ≤ 4000000 → solver.kernel.entries ≡ axioms_of form.clauses →
     Holds (axioms_at d q now.ask now.horizon part) [] solver
 holds_opened d q s now part denies key form solver same denies_is key_is is sizes variables few entries =
     subst (λ (f : Axioms). Holds f [] solver) (is ∙ same_form d q s now part denies key same denies_is key_is)
-    (record { sizes = sizes; variables = variables; few = few; entries = entries ∙ sym (nothing_behind (map axiom_of form.clauses)) })
+    (holds_first form solver sizes variables few entries)
 
 asked_is : (q : Query) (part : Part) → asked (not (is_conditions part)) q ≡ query_of part q
 asked_is q parts.Histories = refl

@@ -1,5 +1,5 @@
 //! A search for the histories of a query, or for a path that goes against its claim.
-ghost use Rattle.std.specs.Prelude.{◌≡◌, ◌≢◌, ◌⊎◌, Contains, ℕ, ◌+◌, ◌<◌, ◌≤◌, ◌++◌, [], ◌∷◌, List, length, IfOk, IfErr, IfSome, IsNone, IsSome, OnErr, OnOk, Some, None, true, false};
+ghost use Rattle.std.specs.Prelude.{◌≡◌, ◌≢◌, ◌⊎◌, ℕ, ◌+◌, ◌<◌, ◌≤◌, ◌++◌, [], ◌∷◌, List, length, IfOk, IfErr, IfSome, IsNone, IsSome, OnErr, OnOk, Some, None, true, false};
 ghost use Rattle.std.specs.Option.{option_map};
 ghost use Rattle.cc_arena.specs.GroundViews.{plain_ground_query};
 ghost use Rattle.cc_cdcl.specs.Solvers.{SolverView, Found as IsFound, IsStep, Ready};
@@ -33,11 +33,11 @@ use crate::ask::Ask;
 use crate::laws::search_laws;
 use crate::opening::{denies_claim, form_at, solver_of};
 use crate::phase::{Part, Phase};
+use crate::shared::{budget_of, derived_line, is_asked, is_refuted};
 use cc_arena::{GroundQuery, Laws};
 use cc_cdcl::{Solver, Step};
 use cc_defs::{
-    EndWord, Ending, Event, Fault, Key, LimitAt, Lits, LogLine, Nums, OutOfMemory, Refusal, Row,
-    Sig,
+    EndWord, Ending, Event, Fault, Key, LimitAt, LogLine, OutOfMemory, Refusal, Row, Sig,
 };
 use cc_kernel::Kernel;
 use std::alloc::Global;
@@ -79,12 +79,8 @@ fn derived(alloc: Global, kernel: &Kernel) -> Result<Event, OutOfMemory>
     requires { 0 < length kernel.now.entries }
     ensures { (clause : List Literal) → IsNumbered (clauses_of kernel.now) (length kernel.now.entries) clause → IfOk result (λ event. event ≡ events.Log (lines.Derived clause kernel.now.chain)) }
 {
-    let clause = Vec::from_slice(alloc, kernel.clause(kernel.count()))?;
-    let chain = Vec::from_slice(alloc, kernel.chain())?;
-    Ok(Event::Log(LogLine::Derived {
-        clause: Lits::of(clause),
-        chain: Nums::of(chain),
-    }))
+    let line = derived_line(alloc, kernel)?;
+    Ok(Event::Log(line))
 }
 
 /// The first horizon that is tried.
@@ -114,24 +110,6 @@ fn key_of(ask: &Ask) -> Option<&Key>
     ask.after.as_ref()
 }
 
-/// How many derived clauses a section may have.
-fn budget_of(ask: &Ask) -> u32
-    ensures { result ≡ ask.now.budget }
-{
-    ask.budget
-}
-
-/// Whether just so many histories are asked for.
-fn is_asked(ask: &Ask, listed: u32) -> bool
-    ensures is { result ≡ true → ask.now.count ≡ Some listed }
-    ensures other { result ≡ false → ask.now.count ≢ Some listed }
-{
-    match ask.count {
-        Some(count) => count == listed,
-        None => false,
-    }
-}
-
 /// Whether no history was told at a horizon, and none lies before a key.
 fn has_none(ask: &Ask, listed: u32) -> bool
     ensures none { result ≡ true → listed ≡ 0 }
@@ -153,14 +131,6 @@ fn is_listing(part: Part) -> bool
         Part::Histories => true,
         Part::Conditions | Part::Claim => false,
     }
-}
-
-/// Whether one of the clauses is empty.
-fn is_refuted(solver: &Solver) -> bool
-    ensures some { result ≡ true → Contains (clauses_of solver.now.kernel) [] }
-    ensures none { result ≡ false → HasNoEmpty (clauses_of solver.now.kernel) }
-{
-    solver.kernel().refuted().is_some()
 }
 
 /// The heading of a section.
