@@ -1,4 +1,5 @@
-//! The session of a search: horizons, claims, keys, the log; the clause list of a section, and the search of one section by itself.
+//! The session of a search, with its log: horizons, claims, keys (`Session`); the clause list of a section (`form_at`); and the
+//! search of one section by itself (`Search`).
 #![tactic(auto)]
 
 mod ask;

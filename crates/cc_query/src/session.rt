@@ -1,5 +1,5 @@
 //! A search for the histories of a query, or for a path that goes against its claim.
-ghost use Rattle.std.specs.Prelude.{◌≡◌, ◌≢◌, ◌⊎◌, ℕ, ◌+◌, ◌<◌, ◌≤◌, ◌++◌, [], ◌∷◌, List, length, IfOk, IfErr, IfSome, IsNone, IsSome, OnErr, OnOk, Some, None, true, false};
+ghost use Rattle.std.specs.Prelude.{◌≡◌, ◌≢◌, ◌⊎◌, Bool, ℕ, ◌+◌, ◌<◌, ◌≤◌, ◌++◌, [], ◌∷◌, List, length, IfOk, IfErr, IfSome, IsNone, IsSome, OnErr, OnOk, Some, None, true, false};
 ghost use Rattle.std.specs.Option.{option_map};
 ghost use Rattle.cc_arena.specs.GroundViews.{plain_ground_query};
 ghost use Rattle.cc_cdcl.specs.Solvers.{SolverView, Found as IsFound, IsStep, Ready};
@@ -11,12 +11,13 @@ ghost use Rattle.cc_defs.specs.Refusals.{IsRefusedBy, past};
 ghost use Rattle.cc_defs.specs.declared.refusal.Fault.TheVariants as faults;
 ghost use Rattle.cc_defs.specs.declared.refusal.LimitAt.TheVariants as limits;
 ghost use Rattle.cc_defs.specs.Resolved.{Query};
+ghost use Rattle.cc_defs.specs.Runs.{axioms_of};
 ghost use Rattle.cc_defs.specs.declared.event.Event.TheVariants as events;
 ghost use Rattle.cc_defs.specs.declared.event.Told.{Told};
 ghost use Rattle.cc_defs.specs.declared.log.EndWord.TheVariants as words;
 ghost use Rattle.cc_defs.specs.declared.log.LogLine.TheVariants as lines;
 ghost use Rattle.cc_form.specs.Queries.{IsQueryAt};
-ghost use Rattle.cc_kernel.specs.Kernels.{KernelView, clauses_of};
+ghost use Rattle.cc_kernel.specs.Kernels.{KernelView, clauses_of, derived_count};
 ghost use Rattle.cc_query.specs.Parts.{axioms_at, is_conditions};
 ghost use Rattle.cc_defs.specs.declared.event.Ending.{Ending as EndingSeen};
 ghost use Rattle.cc_defs.specs.Sections.{HasNoEmpty};
@@ -24,7 +25,7 @@ ghost use Rattle.cc_query.specs.declared.phase.Phase.{Phase as PhaseSeen};
 ghost use Rattle.cc_query.specs.Accepted.{AreGoodAxioms};
 ghost use Rattle.cc_query.specs.Events.{Gives};
 ghost use Rattle.cc_query.specs.Lefts.{left_of};
-ghost use Rattle.cc_query.specs.Sessions.{After, Fits, HasFound, HasMore, Holds, IsBlocked, IsReady, IsFewEvent, IsRightFault, IsSame, IsSessionOf, IsShortEvent, IsWithin, OpensGood, OpensWithin, RowsAreHistories, SessionView, Tells, ending_behind, first_at, last_at, opening_refusal, opens_at, with_row};
+ghost use Rattle.cc_query.specs.Sessions.{After, Fits, HasFound, HasMore, Holds, IsBlocked, IsReady, IsFewEvent, IsRightFault, IsOpened, IsSame, IsSessionOf, IsShortEvent, IsWithin, OpensGood, OpensWithin, RowsAreHistories, SessionView, StandsOpened, Tells, ending_behind, first_at, last_at, opening_refusal, opens_at, with_row};
 ghost use Rattle.cc_query.specs.declared.phase.Part.TheVariants as parts;
 ghost use Rattle.cc_query.specs.declared.phase.Phase.TheVariants as phases;
 ghost use Rattle.cc_theory.specs.Theories.{AreLawsFor};
@@ -220,6 +221,17 @@ impl<'a> Session<'a> {
         &self.row
     }
 
+    /// How many axioms the section has whose heading was the last event: the clauses of its own lines are numbered behind them.
+    pub fn axioms(&self) -> u32
+        requires { (conditions : Bool) × (horizon : ℕ) × IsOpened self.now conditions horizon }
+        ensures { (d : Description) (q : Query) (given : List Told) (conditions : Bool) (horizon : ℕ) → After d q self.now given → IsOpened self.now conditions horizon → result ≡ length ((axioms_of d q self.now.ask.after conditions horizon).clauses) }
+    {
+        match &self.phase {
+            Phase::Searching { solver, .. } => solver.kernel().count(),
+            _ => unreachable!(),
+        }
+    }
+
     // The search over the clauses of a section, at the horizon that is tried.
     fn solver(&self, part: Part) -> Result<Solver, Fault>
         requires { self.now.horizon ≤ last_at self.now.query self.now.ask.after }
@@ -230,6 +242,7 @@ impl<'a> Session<'a> {
         ensures good { (d : Description) (q : Query) → IsSessionOf self.now d q → OnOk result (AreGoodAxioms (axioms_at d q self.now.ask self.now.horizon part)) }
         ensures ready { IfOk result (λ solver. solver.standing ≡ Ready) }
         ensures few { IfOk result (λ solver. IsWithin self.now.ask solver 0) }
+        ensures fresh { IfOk result (λ solver. derived_count solver.kernel.entries ≡ 0) }
     {
         let key = key_of(&self.ask);
         let form = form_at(
@@ -568,6 +581,7 @@ impl<'a> Session<'a> {
         ensures short { IfOk result IsShortEvent }
         ensures good { IfOk result (OpensGood self.old) }
         ensures few { IfOk result IsFewEvent }
+        ensures heading { IfOk result (StandsOpened self.new) }
     {
         self.step()
     }
