@@ -7,6 +7,7 @@ use Rattle.cc_defs.specs.declared.log.EndWord.TheVariants as words
 use Rattle.cc_defs.specs.declared.log.LogLine.{LogLine}
 use Rattle.cc_defs.specs.declared.log.LogLine.TheVariants as lines
 use Rattle.cc_defs.specs.Clauses.{Literal}
+use Rattle.cc_defs.specs.LogBytes.{First}
 use Rattle.cc_defs.specs.LogTexts.{IsFormed, IsLine, IsShort, IsShortLiteral, header, line_parts, line_text, lines_in, literal_text, log_text}
 use Rattle.cc_defs.specs.Logs.{IsNoHeading}
 
@@ -130,9 +131,9 @@ letter_within (lines.Derived clause chain) within = omega arith
 letter_within (lines.Block row) within = omega arith
 letter_within (lines.End word) within = omega arith
 
-no_heading : (line : LogLine) → IsWithin line → IsNoHeading (line_text line)
+no_heading : (line : LogLine) → IsWithin line → IsNoHeading First (line_text line)
 no_heading line within true horizon is = let e = sym (letter line) ∙ first_letter _ _ is in let low = letter_within line within in omega arith
 no_heading line within false horizon is = let e = sym (letter line) ∙ first_letter _ _ is in let low = letter_within line within in omega arith
 
-pub no_headings : (inside : List LogLine) → AllByRecursion IsWithin inside → AllByRecursion IsNoHeading (map line_text inside)
-no_headings inside within = all_map IsNoHeading IsWithin line_text no_heading inside within
+pub no_headings : (inside : List LogLine) → AllByRecursion IsWithin inside → AllByRecursion (IsNoHeading First) (map line_text inside)
+no_headings inside within = all_map (IsNoHeading First) IsWithin line_text no_heading inside within

@@ -16,6 +16,7 @@ use Rattle.cc_defs.specs.declared.log.LogVerdict.TheVariants as verdicts
 use Rattle.cc_defs.specs.Description.{Description, sizes_at}
 use Rattle.cc_defs.specs.Events.{line_told}
 use Rattle.cc_defs.specs.Histories.{AreFirst}
+use Rattle.cc_defs.specs.LogBytes.{First}
 use Rattle.cc_defs.specs.LogTexts.{IsFormed, IsShort, line_text}
 use Rattle.cc_defs.specs.Logs.{Subject, SectionText, Standing, AreSections, AreJudged, IsContinued, IsVerdictOf, IsVerdictBehind, at_first}
 use Rattle.cc_defs.specs.Paths.{IsPath}
@@ -46,7 +47,7 @@ in_middle false = refl
 
 abbrev pub IsAcceptedBehind : Subject → Standing → ℕ → List LogLine → Type 0
 IsAcceptedBehind subject standing line all =
-    (last : ℕ) × (blocked : ℕ) × (sections : List SectionText) × AreSections line (map line_text all) sections × AreJudged subject standing sections (verdicts.Accepted subject.first last blocked)
+    (last : ℕ) × (blocked : ℕ) × (sections : List SectionText) × AreSections First line (map line_text all) sections × AreJudged First subject standing sections (verdicts.Accepted subject.first last blocked)
 
 -- these lines are accepted at a horizon, or in its middle, however many rows were blocked, and at whatever line
 abbrev pub IsAcceptedAt : Subject → Bool → ℕ → List LogLine → Type 0
@@ -62,8 +63,8 @@ module _ (subject : Subject) (middle conditions : Bool) (horizon : ℕ) (heading
   standing blocked at = record { middle = middle; horizon = horizon; blocked = blocked; line = at }
 
   section_goes : (word : EndWord) → IsWritten (subject.axioms conditions horizon) inside word → (blocked at line : ℕ) →
-      ((count last behind : ℕ) → (to : ℕ) × (rows : ℕ) × (sections : List SectionText) × AreSections behind (map line_text more) sections
-      × IsContinued (λ next. AreJudged subject next sections (verdicts.Accepted subject.first to rows)) (standing blocked at) conditions word count last (verdicts.Accepted subject.first to rows)) →
+      ((count last behind : ℕ) → (to : ℕ) × (rows : ℕ) × (sections : List SectionText) × AreSections First behind (map line_text more) sections
+      × IsContinued (λ next. AreJudged First subject next sections (verdicts.Accepted subject.first to rows)) (standing blocked at) conditions word count last (verdicts.Accepted subject.first to rows)) →
       IsAcceptedBehind subject (standing blocked at) line (lines.Section conditions horizon ∷ (inside ++ more))
   section_goes word is blocked at line follows =
       let (count, last, found) = is.found (line + 1) in
@@ -307,9 +308,9 @@ module _ (d : Description) (q : Query) (ask : Ask) where
 
 -- ---- the verdict
 
-verdict_behind : (subject : Subject) (all : List LogLine) (sections : List SectionText) (last blocked : ℕ) → AreSections 2 (map line_text all) sections →
-    AreJudged subject (at_first subject) sections (verdicts.Accepted subject.first last blocked) →
-    IsVerdictBehind subject (map line_text all) (verdicts.Accepted subject.first last blocked)
+verdict_behind : (subject : Subject) (all : List LogLine) (sections : List SectionText) (last blocked : ℕ) → AreSections First 2 (map line_text all) sections →
+    AreJudged First subject (at_first subject) sections (verdicts.Accepted subject.first last blocked) →
+    IsVerdictBehind First subject (map line_text all) (verdicts.Accepted subject.first last blocked)
 verdict_behind subject [] [] last blocked are judged = elim judged [ inl closed ↦ absurd (closed.1 refl) | inr refused ↦ absurd cc ]
 verdict_behind subject [] (section ∷ sections) last blocked are judged = let none = are.2 in absurd cc
 verdict_behind subject (line ∷ all) sections last blocked are judged = inr (inr (sections, are, judged))

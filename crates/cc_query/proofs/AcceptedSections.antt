@@ -1,5 +1,5 @@
 -- The sections of a fair run are found right.
-use Rattle.std.proofs.Common.{◌≡◌, ℕ, ◌+◌, ◌-◌, ◌<◌, ◌≤◌, inl, inr, zero, suc, false, List, [], ◌∷◌, ◌++◌, map, Some, refl, sym, subst, arith}
+use Rattle.std.proofs.Common.{◌≡◌, ℕ, ◌+◌, ◌-◌, ◌<◌, ◌≤◌, inl, inr, zero, suc, true, false, List, [], ◌∷◌, ◌++◌, map, Some, refl, sym, subst, arith}
 use Rattle.std.specs.Prelude.{Contains, slice_get}
 use Rattle.std.specs.List.{AllByRecursion, sum}
 use Rattle.std.proofs.lemmas.List.Sums.{sum_by-cons}
@@ -8,10 +8,11 @@ use Rattle.cc_defs.specs.declared.log.LogLine.{LogLine}
 use Rattle.cc_defs.specs.declared.log.LogLine.TheVariants as lines
 use Rattle.cc_defs.specs.ClauseForms.{positive}
 use Rattle.cc_defs.specs.Clauses.{Literal, IsClause, IsOver, IsResolvent, ReachesFrom, Reaches, opposite}
+use Rattle.cc_defs.specs.LogBytes.{First}
 use Rattle.cc_defs.specs.LogTexts.{IsFormed, line_text}
 use Rattle.cc_defs.specs.Rows.{IsRow}
 use Rattle.cc_defs.specs.Runs.{Step, Derive, Tell, AreFairSteps}
-use Rattle.cc_defs.specs.Sections.{Axioms, Right, EndsRightly, IsFound, denial_from, row_denial}
+use Rattle.cc_defs.specs.Sections.{Axioms, Reading, Right, EndsRightly, IsFound, denial_from, row_denial}
 use Rattle.cc_query.specs.Accepted.{AreGoodAxioms}
 use Rattle.cc_query.specs.Parts.{rows_in}
 use Rattle.cc_query.proofs.AcceptedLines.{IsWithin, all_append, read_back}
@@ -114,9 +115,13 @@ step_lines (Tell row ∷ steps) = lines.Block row ∷ step_lines steps
 abbrev pub inner_lines : List Step → EndWord → List LogLine
 inner_lines steps word = step_lines steps ++ lines.End word ∷ []
 
+-- lines of the first version, with blocks
+abbrev plainly : Reading
+plainly = record { version = First; blocks = true }
+
 -- with this end word, at some line
 abbrev IsFoundRight : Axioms → List (List Literal) → (blocks line : ℕ) → List (List ℕ) → EndWord → Type 0
-IsFoundRight axioms before blocks line texts word = (count : ℕ) × (last : ℕ) × IsFound axioms before blocks line texts (Right word count last)
+IsFoundRight axioms before blocks line texts word = (count : ℕ) × (last : ℕ) × IsFound plainly axioms before blocks line texts (Right word count last)
 
 found_right : (axioms : Axioms) → sum axioms.sizes ≤ axioms.variables → (word : EndWord) (steps : List Step) (before after : List (List Literal)) (blocks line : ℕ) →
     AllByRecursion (IsGoodClause axioms.variables) before → AllByRecursion (IsRow axioms.sizes) (rows_in steps) → AreFairSteps axioms.sizes before steps after →

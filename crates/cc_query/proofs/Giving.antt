@@ -88,6 +88,7 @@ module _ (laws : SearchLaws) (s : SessionView) (askable : IsAskable s.signature 
     tells = tells;
     within = λ d q of conditions horizon is. absurd (other conditions horizon is);
     good = λ d q of conditions horizon is. absurd (other conditions horizon is);
+    opened = λ conditions horizon is. absurd (other conditions horizon is);
     few = few;
     short = short;
     less = less;
@@ -105,6 +106,7 @@ module _ (laws : SearchLaws) (s : SessionView) (askable : IsAskable s.signature 
     tells = tells;
     within = λ d q of conditions horizon is. absurd cc;
     good = λ d q of conditions horizon is. absurd cc;
+    opened = λ conditions horizon is. absurd cc;
     few = λ horizon number is. absurd cc;
     short = tt;
     less = less_at s s.row s.met phase phases.Ended phase_is some;
@@ -221,11 +223,11 @@ module _ (laws : SearchLaws) (s : SessionView) (askable : IsAskable s.signature 
   heading_after d q fits given solver phases.Failing phase_is part opens after low holds rows = absurd cc
   heading_after d q fits given solver phases.Ended phase_is part opens after low holds rows = absurd cc
 
-  pub gives_heading : (part : Part) (solver : SolverView) → opens_at s.phase ≡ Some part → s.horizon ≤ last_at s.query s.ask.after →
+  pub gives_heading : (part : Part) (solver : SolverView) → derived_count solver.kernel.entries ≡ 0 → opens_at s.phase ≡ Some part → s.horizon ≤ last_at s.query s.ask.after →
       ((d : Description) (q : Query) → IsSessionOf s d q → Holds (axioms_at d q s.ask s.horizon part) [] solver × RowsAreHistories d q s.ask s.horizon part
       × (opening_refusal d q s.ask s.horizon (is_conditions part) ≡ None) × AreGoodAxioms (axioms_at d q s.ask s.horizon part)) →
       Gives s (record s { phase = phases.Searching part solver 0 }) (events.Log (lines.Section (is_conditions part) s.horizon))
-  gives_heading part solver opens low made = record {
+  gives_heading part solver fresh opens low made = record {
     same = same_of s.row s.horizon s.met (phases.Searching part solver 0);
     tells = λ d q given of after.
         heading_after d q (asks_for s d q askable of) given solver s.phase refl part opens after
@@ -240,6 +242,10 @@ module _ (laws : SearchLaws) (s : SessionView) (askable : IsAskable s.signature 
         let here : s.horizon ≡ horizon = cc in
         subst (λ (n : ℕ). AreGoodAxioms (axioms_of d q s.ask.after conditions n)) here
         (subst (λ (b : Bool). AreGoodAxioms (axioms_of d q s.ask.after b s.horizon)) same (made d q of).3);
+    opened = λ conditions horizon is.
+        let same : is_conditions part ≡ conditions = cc in
+        let here : s.horizon ≡ horizon = cc in
+        (part, solver, refl, fresh, sym same, sym here);
     few = λ other number is. absurd cc;
     short = let last = last_low s.signature s.query s.ask.after askable.most askable.key in omega arith;
     less = less_at s s.row s.met s.phase (phases.Searching part solver 0) refl (less_heading s.phase part solver opens);

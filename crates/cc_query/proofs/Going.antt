@@ -1,5 +1,5 @@
 -- A session that goes on: where it stands behind each of its steps.
-use Rattle.std.proofs.Common.{◌≡◌, ◌≢◌, ◌∙◌, ℕ, ◌+◌, ◌<◌, ◌≤◌, ◌⊎◌, inl, inr, Bool, true, false, List, [], ◌∷◌, ◌++◌, length, Option, Some, None, refl, sym, subst, ap, arith, append-nil}
+use Rattle.std.proofs.Common.{◌≡◌, ◌≢◌, ◌∙◌, ℕ, ◌+◌, ◌<◌, ◌≤◌, ◌⊎◌, inl, inr, Bool, true, false, List, [], ◌∷◌, ◌++◌, length, map, Option, Some, None, refl, sym, subst, ap, arith, append-nil}
 use Rattle.std.specs.Prelude.{Contains, IfSome, IsSome, IsNone, ◌||◌, if◌then◌else◌, is_some}
 use Rattle.std.specs.List.{AllByRecursion, list_any}
 use Rattle.std.proofs.lemmas.List.{length_push}
@@ -21,20 +21,22 @@ use Rattle.cc_defs.specs.Clauses.{Literal}
 use Rattle.cc_defs.specs.Description.{Description}
 use Rattle.cc_defs.specs.Histories.{AreFirst}
 use Rattle.cc_defs.specs.Resolved.{Query}
-use Rattle.cc_defs.specs.Runs.{Ask, Step, Derive, Tell, Section, Horizon, Histories, Conditions, Claim, Failure, AreDone, EndsWith, MayEndBehind, MayEndWithin, IsFairRun, IsWithoutConditions, counted, counted_in, events_of, first_horizon, horizon_events, key_row, last_horizon, logged, rows_of, section_events, told, told_row}
+use Rattle.cc_defs.specs.Runs.{Ask, Step, Derive, Tell, Section, Horizon, Histories, Conditions, Claim, Failure, AreDone, EndsWith, MayEndBehind, MayEndWithin, IsFairRun, IsWithoutConditions, axioms_of, counted, counted_in, events_of, first_horizon, horizon_events, key_row, last_horizon, logged, rows_of, section_events, told, told_row}
 use Rattle.cc_defs.specs.Sections.{Axioms, HasNoEmpty, row_denial}
 use Rattle.cc_kernel.specs.declared.kernel.Origin.TheVariants as origins
-use Rattle.cc_kernel.specs.Kernels.{added, clauses_of, derived_count}
+use Rattle.cc_kernel.specs.Kernels.{Entry, added, axiom_of, clauses_of, derived_count}
 use Rattle.cc_query.specs.declared.phase.Part.{Part}
 use Rattle.cc_query.specs.declared.phase.Part.TheVariants as parts
 use Rattle.cc_query.specs.declared.phase.Phase.{Phase}
 use Rattle.cc_query.specs.declared.phase.Phase.TheVariants as phases
 use Rattle.cc_query.specs.Laws.{SearchLaws as Laws}
 use Rattle.cc_query.specs.Parts.{axioms_at, is_conditions, told_by, section_of, open_section, rows_in, MayAsk, TellsTrue}
-use Rattle.cc_query.specs.Sessions.{SessionView, After, Awaits, Holds, HasTooMany, IsClosed, IsRefuted, IsSearched, IsTold, Opens, RowsAreHistories, has_conditions}
-use Rattle.cc_query.proofs.Holding.{clauses_held, counted_as_derived, counted_within, holds_block, holds_line}
-use Rattle.cc_query.proofs.PartsTold.{IsGoingOn, asked_of, asked_true, begun, counterexample_first, denied_on, empty_true, found_true, going_on, going_on_told, line_on, next_first, open_true, spent_true, still_fewer, telling_true, true_of}
+use Rattle.cc_query.specs.Sessions.{SessionView, After, Awaits, Holds, HasTooMany, IsClosed, IsOpened, IsRefuted, IsSearched, IsTold, Opens, RowsAreHistories, has_conditions}
+use Rattle.cc_query.proofs.Holding.{axioms_alone, clauses_held, counted_as_derived, counted_within, holds_block, holds_line}
+use Rattle.cc_query.proofs.Opened.{as_many, nothing_behind}
+use Rattle.cc_query.proofs.PartsTold.{IsGoingOn, asked_of, asked_true, begun, counterexample_first, denied_on, empty_true, found_true, going_on, going_on_told, line_on, next_first, open_true, spent_true, telling_true, true_of}
 use Rattle.cc_query.proofs.Running.{IsRunning, begins, block_event, end_event, ends_behind, ends_within, goes_on, history_event, horizon_event, line_event, passes, run_at, running, true_there, within_there}
+use Rattle.cc_query.proofs.Told.{still_fewer}
 use Rattle.cc_query.proofs.Steps.{added_behind, counted_more, in_first, in_none, rows_kept, rows_more}
 
 -- what is asked goes with the query
@@ -48,7 +50,7 @@ claimed d q ask horizon parts.Histories before may other = absurd (other refl)
 claimed d q ask horizon parts.Conditions before may other = may
 claimed d q ask horizon parts.Claim before may other = may.0
 
-earned_none_empty : (clauses : List (List Literal)) (clause : List Literal) → IsEarned clauses clause → HasNoEmpty clauses
+pub earned_none_empty : (clauses : List (List Literal)) (clause : List Literal) → IsEarned clauses clause → HasNoEmpty clauses
 earned_none_empty clauses clause earned there = earned.closed.none_failed [] there (λ literal none. absurd (in_none literal none))
 
 -- a session behind a run that has not ended
@@ -631,3 +633,20 @@ module _ (laws : Laws) (d : Description) (q : Query) (s : SessionView) (fits : I
               (next_first laws d q s.ask s.horizon here.steps (clauses_of solver.kernel) here.on here.rows row least_of);
         };
       }
+
+-- ---- right behind a heading
+
+-- the solver that is at hand has just the axioms of the section
+pub axioms_counted : (d : Description) (q : Query) (s now : SessionView) (given : List Told) (part : Part) (solver : SolverView) (listed : ℕ) (conditions : Bool) (horizon : ℕ) →
+    s ≡ now → s.phase ≡ phases.Searching part solver listed → After d q now given → IsOpened now conditions horizon →
+    length solver.kernel.entries ≡ length ((axioms_of d q now.ask.after conditions horizon).clauses)
+axioms_counted d q s now given part solver listed conditions horizon same at (run, fair, given_is, stands) (other, held, phase_is, none, conditions_is, horizon_is) =
+    let awaits : (run.ending ≡ None) × IsSearched d q now run other held 0 = subst (λ (p : Phase). Awaits d q now run p) phase_is stands.awaits in
+    let searched = awaits.1 in
+    let here : phases.Searching part solver listed ≡ phases.Searching other held 0 = sym at ∙ ap (λ (v : SessionView). v.phase) same ∙ phase_is in
+    let one : solver ≡ held = cc in
+    let form = axioms_at d q now.ask now.horizon other in
+    let alone = axioms_alone form searched.steps held searched.holds none searched.listed_is in
+    ap (λ (v : SolverView). length v.kernel.entries) one ∙ ap (λ (l : List Entry). length l) (alone ∙ nothing_behind (map axiom_of form.clauses)) ∙ as_many form.clauses
+    ∙ ap (λ (n : ℕ). length ((axioms_of d q now.ask.after (is_conditions other) n).clauses)) (sym horizon_is)
+    ∙ ap (λ (b : Bool). length ((axioms_of d q now.ask.after b horizon).clauses)) (sym conditions_is)

@@ -1,5 +1,5 @@
 -- What a kernel holds behind the steps of a section.
-use Rattle.std.proofs.Common.{◌≡◌, ◌∙◌, ℕ, ◌+◌, ◌≤◌, suc, cond, List, [], ◌∷◌, ◌++◌, map, refl, sym, subst, ap, arith, append_assoc}
+use Rattle.std.proofs.Common.{◌≡◌, ◌∙◌, ℕ, ◌+◌, ◌≤◌, suc, cond, List, [], ◌∷◌, ◌++◌, length, map, refl, sym, subst, ap, arith, append_assoc}
 use Rattle.std.specs.Prelude.{Contains, not}
 use Rattle.std.proofs.lemmas.List.{map-append}
 use Rattle.std.proofs.lemmas.List.Sums.{sum_by-cons}
@@ -10,7 +10,7 @@ use Rattle.cc_defs.specs.Runs.{Step, Derive, Tell, counted_in}
 use Rattle.cc_defs.specs.Sections.{Axioms, HasNoEmpty, row_denial}
 use Rattle.cc_kernel.specs.declared.kernel.Origin.TheVariants as origins
 use Rattle.cc_kernel.specs.Kernels.{Entry, KernelView, added, axiom_of, clauses_of, derived_count, is_given}
-use Rattle.cc_query.specs.Parts.{clause_added, clauses_behind}
+use Rattle.cc_query.specs.Parts.{clause_added, clauses_behind, rows_in}
 use Rattle.cc_query.specs.Sessions.{Holds, entry_of}
 use Rattle.cc_query.proofs.Steps.{in_first, in_rest}
 
@@ -97,6 +97,18 @@ counted_all sizes (Tell row ∷ steps) none =
 derived_are : (form : Axioms) (steps : List Step) (solver : SolverView) → Holds form steps solver → derived_count solver.kernel.entries ≡ derived_in steps
 derived_are form steps solver holds =
     ap (λ (l : List Entry). derived_count l) holds.entries ∙ count_behind form.clauses (map (entry_of form.sizes) steps) ∙ count_steps form.sizes steps
+
+no_steps : (steps : List Step) → derived_in steps ≡ 0 → 0 ≡ length (rows_in steps) → steps ≡ []
+no_steps [] none silent = refl
+no_steps (Derive clause chain ∷ steps) none silent = absurd (omega arith)
+no_steps (Tell row ∷ steps) none silent = absurd (omega arith)
+
+-- a solver that has derived nothing, and whose steps tell no row, has the axioms alone
+pub axioms_alone : (form : Axioms) (steps : List Step) (solver : SolverView) → Holds form steps solver → derived_count solver.kernel.entries ≡ 0 →
+    0 ≡ length (rows_in steps) → solver.kernel.entries ≡ map axiom_of form.clauses ++ []
+axioms_alone form steps solver holds none silent =
+    holds.entries ∙ ap (λ (l : List Step). map axiom_of form.clauses ++ map (entry_of form.sizes) l)
+    (no_steps steps (sym (derived_are form steps solver holds) ∙ none) silent)
 
 pub counted_within : (form : Axioms) (steps : List Step) (solver : SolverView) → Holds form steps solver → counted_in steps ≤ derived_count solver.kernel.entries
 counted_within form steps solver holds = let few = counted_few steps in let same = derived_are form steps solver holds in omega arith

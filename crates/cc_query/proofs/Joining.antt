@@ -130,7 +130,7 @@ line_gives laws (Ok given) now new old solver part listed askable (clause, some,
     (gives_line laws (record now { phase = phases.Searching part old listed }) askable part old solver listed refl clause adds earned most sizes within)
 
 -- the empty clause was derived, where there was none
-added_empty : (old solver : SolverView) → HasNoEmpty (clauses_of old.kernel) → Contains (clauses_of solver.kernel) [] →
+pub added_empty : (old solver : SolverView) → HasNoEmpty (clauses_of old.kernel) → Contains (clauses_of solver.kernel) [] →
     (solver.kernel ≡ old.kernel) ⊎ AddsDerived old.kernel solver.kernel [] → AddsDerived old.kernel solver.kernel []
 added_empty old solver none there (inl same) = absurd (none (subst (λ (k : KernelView). Contains (clauses_of k) []) same there))
 added_empty old solver none there (inr adds) = adds
@@ -181,7 +181,7 @@ found_ready ask old solver listed (row, least, is) within = (
 row_is : (budget : ℕ) (old solver : SolverView) (items : List ℕ) → (step : IsStep budget old solver answers.Found) → solver.standing ≡ Found items → step.0 ≡ items
 row_is budget old solver items (row, least, is) standing = let there : solver.standing ≡ Found row = ap (λ (v : SolverView). v.standing) is in cc
 
-least_there : (budget : ℕ) (old solver : SolverView) (items : List ℕ) → (step : IsStep budget old solver answers.Found) → solver.standing ≡ Found items →
+pub least_there : (budget : ℕ) (old solver : SolverView) (items : List ℕ) → (step : IsStep budget old solver answers.Found) → solver.standing ≡ Found items →
     IsLeastRowOf old.sizes (clauses_of old.kernel) items × (solver ≡ record old { standing = Found items })
 least_there budget old solver items step standing =
     subst (λ (row : List ℕ). IsLeastRowOf old.sizes (clauses_of old.kernel) row × (solver ≡ record old { standing = Found row }))

@@ -26,3 +26,5 @@ pub mod SameRows
 pub mod HorizonsAlike
 pub mod HorizonsSame
 pub mod SameRuns
+pub mod Finding
+pub mod Moving

@@ -46,9 +46,14 @@ same_form d q s now part denies key same denies_is key_is =
     ∙ ap (λ (k : Option Key). form_of d q s.horizon (not (is_conditions part)) k) key_is
     ∙ ap (λ (v : SessionView). form_of d q v.horizon (not (is_conditions part)) v.ask.after) same
 
-nothing_behind : (entries : List Entry) → entries ++ [] ≡ entries
+pub nothing_behind : (entries : List Entry) → entries ++ [] ≡ entries
 nothing_behind [] = refl
 nothing_behind (entry ∷ entries) = ap (λ (l : List Entry). entry ∷ l) (nothing_behind entries)
+
+pub holds_first : (form : Axioms) (solver : SolverView) → solver.sizes ≡ form.sizes → solver.kernel.variables ≡ form.variables → form.variables ≤ 4000000 →
+    solver.kernel.entries ≡ axioms_of form.clauses → Holds form [] solver
+holds_first form solver sizes variables few entries =
+    record { sizes = sizes; variables = variables; few = few; entries = entries ∙ sym (nothing_behind (map axiom_of form.clauses)) }
 
 pub holds_opened : (d : Description) (q : Query) (s now : SessionView) (part : Part) (denies : Bool) (key : Option Key) (form : Axioms) (solver : SolverView) →
     s ≡ now → denies ≡ not (is_conditions part) → key ≡ s.ask.after → form ≡ form_of d q s.horizon denies key → solver.sizes ≡ form.sizes →
@@ -56,7 +61,7 @@ pub holds_opened : (d : Description) (q : Query) (s now : SessionView) (part : P
     Holds (axioms_at d q now.ask now.horizon part) [] solver
 holds_opened d q s now part denies key form solver same denies_is key_is is sizes variables few entries =
     subst (λ (f : Axioms). Holds f [] solver) (is ∙ same_form d q s now part denies key same denies_is key_is)
-    (record { sizes = sizes; variables = variables; few = few; entries = entries ∙ sym (nothing_behind (map axiom_of form.clauses)) })
+    (holds_first form solver sizes variables few entries)
 
 asked_is : (q : Query) (part : Part) → asked (not (is_conditions part)) q ≡ query_of part q
 asked_is q parts.Histories = refl
@@ -85,14 +90,17 @@ none_derived : (clauses : List (List Literal)) → derived_count (axioms_of clau
 none_derived [] = refl
 none_derived (clause ∷ clauses) = none_derived clauses
 
-as_many : (clauses : List (List Literal)) → length (axioms_of clauses) ≡ length clauses
+pub as_many : (clauses : List (List Literal)) → length (axioms_of clauses) ≡ length clauses
 as_many [] = refl
 as_many (clause ∷ clauses) = ap suc (as_many clauses)
+
+pub fresh_opened : (solver : SolverView) (form : Axioms) → solver.kernel.entries ≡ axioms_of form.clauses → derived_count solver.kernel.entries ≡ 0
+fresh_opened solver form entries = ap derived_count entries ∙ none_derived form.clauses
 
 pub within_opened : (ask : Ask) (solver : SolverView) (form : Axioms) → AreGoodAxioms form → solver.sizes ≡ form.sizes → solver.kernel.variables ≡ form.variables →
     form.variables ≤ 4000000 → solver.kernel.entries ≡ axioms_of form.clauses → length form.clauses ≤ 8000000 → IsWithin ask solver 0
 within_opened ask solver form good sizes variables low entries few =
-    let none : derived_count solver.kernel.entries ≡ 0 = ap derived_count entries ∙ none_derived form.clauses in
+    let none = fresh_opened solver form entries in
     let many : length solver.kernel.entries ≡ length form.clauses = ap (λ (l : List Entry). length l) entries ∙ as_many form.clauses in
     let clauses : clauses_of solver.kernel ≡ form.clauses = ap (λ (l : List Entry). map (λ entry. entry.clause) l) entries ∙ axioms_are form.clauses in
     record {

@@ -1,8 +1,7 @@
 -- The sections of all parts alike: what one has told, and what is true with one step or end word more.
-use Rattle.std.proofs.Common.{◌≡◌, ◌≢◌, ◌∙◌, ℕ, ◌+◌, ◌<◌, ◌≤◌, List, [], ◌∷◌, ◌++◌, length, Option, Some, None, refl, sym, subst, ap, arith}
+use Rattle.std.proofs.Common.{◌≡◌, ◌≢◌, ◌∙◌, ℕ, ◌+◌, ◌<◌, ◌≤◌, List, [], ◌∷◌, ◌++◌, length, Option, Some, None, refl, sym, subst, ap}
 use Rattle.std.specs.Prelude.{Contains, IfSome}
 use Rattle.std.specs.Option.{option_map}
-use Rattle.std.proofs.lemmas.List.{length_push}
 use Rattle.cc_clauses.specs.RowsOf.{IsLeastRowOf}
 use Rattle.cc_defs.specs.declared.lists.Key.{Key}
 use Rattle.cc_defs.specs.declared.log.EndWord.TheVariants as words
@@ -17,9 +16,8 @@ use Rattle.cc_query.specs.declared.phase.Part.TheVariants as parts
 use Rattle.cc_query.specs.Laws.{SearchLaws as Laws}
 use Rattle.cc_query.specs.Parts.{query_of, axioms_at, told_by, section_of, open_section, rows_in, MayAsk, TellsTrue}
 use Rattle.cc_query.specs.Sessions.{RowsAreHistories}
-use Rattle.cc_query.proofs.Told.{HasTold, nothing_told, line_told, row_told, next_told, all_told, row_is_history, open_fair, found_fair, empty_fair, spent_fair, listing_so_far, listing_to, looks, told_of_histories, told_of_look}
-use Rattle.cc_query.proofs.Rows.{first_front}
-use Rattle.cc_query.proofs.Steps.{none_empty, rows_more, rows_kept}
+use Rattle.cc_query.proofs.Told.{HasTold, nothing_told, line_told, next_told, all_told, row_is_of, open_fair, found_fair, empty_fair, spent_fair, listing_asked, listing_denied, listing_empty, listing_next, listing_on, listing_on_told, listing_open, listing_spent, listing_telling, looks, told_of_look}
+use Rattle.cc_query.proofs.Steps.{none_empty, rows_kept}
 
 -- how many histories it may still tell: fewer than are asked for; of a claim, none
 abbrev pub MayGoOn : Part → Ask → List Step → Type 0
@@ -28,7 +26,7 @@ MayGoOn parts.Conditions ask steps = (rows_in steps ≡ []) × (ask.after ≡ No
 MayGoOn parts.Claim ask steps = (rows_in steps ≡ []) × (ask.after ≡ None)
 
 pub record IsGoingOn (d : Description) (q : Query) (ask : Ask) (horizon : ℕ) (part : Part) (steps : List Step) (clauses : List (List Literal)) : Type 0 where
-  pub told : HasTold d (query_of part q) (key_row ask) (axioms_at d q ask horizon part) ask.budget horizon steps clauses
+  pub told : HasTold (IsHistory d (query_of part q) horizon (key_row ask)) (axioms_at d q ask horizon part) ask.budget steps clauses
   pub may : MayGoOn part ask steps
 
 pub true_of : (d : Description) (q : Query) (ask : Ask) (horizon : ℕ) (part : Part) (before section : Section) → MayAsk d q ask horizon part before →
@@ -55,7 +53,8 @@ module _ (laws : Laws) (d : Description) (q : Query) (ask : Ask) (horizon : ℕ)
   pub going_on : (part : Part) (steps : List Step) → (part ≢ parts.Histories → ask.after ≡ None) → TellsTrue d q ask horizon part (open_section steps) →
       (clauses : List (List Literal)) × IsGoingOn d q ask horizon part steps clauses
   going_on parts.Histories steps key tells =
-      let told = told_of_histories d q ask horizon steps tells in (told.0, record { told = told.1; may = tells.denied })
+      let on = listing_on laws (IsHistory d q horizon (key_row ask)) (axioms_at d q ask horizon parts.Histories) ask.count ask.budget steps tells in
+      (on.0, record { told = on.1.told; may = on.1.may })
   going_on parts.Conditions steps key tells =
       let told = told_of_look d (without_claim q) (axioms_at d q ask horizon parts.Conditions) (key_row ask) ask.budget horizon steps tells in
       (told.0, record { told = told.1; may = (told.2, key (λ is. absurd cc)) })
@@ -66,7 +65,7 @@ module _ (laws : Laws) (d : Description) (q : Query) (ask : Ask) (horizon : ℕ)
   pub begun : (part : Part) → (part ≢ parts.Histories → ask.after ≡ None) → IfSome ask.count (λ most. 0 < most) →
       IsGoingOn d q ask horizon part [] (axioms_at d q ask horizon part).clauses
   begun part key some = record {
-    told = nothing_told laws d (query_of part q) (key_row ask) (axioms_at d q ask horizon part) ask.budget horizon;
+    told = nothing_told laws (IsHistory d (query_of part q) horizon (key_row ask)) (axioms_at d q ask horizon part) ask.budget;
     may = none_yet part ask key some;
   }
 
@@ -77,7 +76,7 @@ module _ (laws : Laws) (d : Description) (q : Query) (ask : Ask) (horizon : ℕ)
       (clause : List Literal) (chain : List ℕ) → HasNoEmpty clauses → IsFairLine clauses clause chain → counted_in steps + counted (Derive clause chain) ≤ ask.budget →
       IsGoingOn d q ask horizon part (steps ++ Derive clause chain ∷ []) (clauses ++ clause ∷ [])
   line_on part steps clauses is clause chain none line most = record {
-    told = line_told laws d (query_of part q) (key_row ask) (form_at part) ask.budget horizon steps clauses is.told clause chain none line most;
+    told = line_told laws (IsHistory d (query_of part q) horizon (key_row ask)) (form_at part) ask.budget steps clauses is.told clause chain none line most;
     may = kept_by part is.may;
   }
     where
@@ -89,49 +88,43 @@ module _ (laws : Laws) (d : Description) (q : Query) (ask : Ask) (horizon : ℕ)
   pub open_true : (part : Part) (steps : List Step) (clauses : List (List Literal)) → IsGoingOn d q ask horizon part steps clauses →
       TellsTrue d q ask horizon part (open_section steps)
   open_true parts.Histories steps clauses is =
-      listing_so_far (IsHistory d q horizon (key_row ask)) (form_at parts.Histories) ask.count ask.budget steps None
-      (open_fair laws d q (key_row ask) (form_at parts.Histories) ask.budget horizon steps clauses is.told None) is.told.first is.may (λ e. absurd cc) (λ e. absurd cc)
+      listing_open laws (IsHistory d q horizon (key_row ask)) (form_at parts.Histories) ask.count ask.budget steps clauses (record { told = is.told; may = is.may })
   open_true parts.Conditions steps clauses is =
       looks d (without_claim q) (form_at parts.Conditions) ask.budget horizon steps None
-      (open_fair laws d (without_claim q) (key_row ask) (form_at parts.Conditions) ask.budget horizon steps clauses is.told None)
+      (open_fair laws (IsHistory d (without_claim q) horizon (key_row ask)) (form_at parts.Conditions) ask.budget steps clauses is.told None)
       is.may.0 (λ e. absurd cc) (λ e. absurd cc)
   open_true parts.Claim steps clauses is =
       looks d q (form_at parts.Claim) ask.budget horizon steps None
-      (open_fair laws d q (key_row ask) (form_at parts.Claim) ask.budget horizon steps clauses is.told None) is.may.0 (λ e. absurd cc) (λ e. absurd cc)
+      (open_fair laws (IsHistory d q horizon (key_row ask)) (form_at parts.Claim) ask.budget steps clauses is.told None) is.may.0 (λ e. absurd cc) (λ e. absurd cc)
 
   pub spent_true : (part : Part) (steps : List Step) (clauses : List (List Literal)) → IsGoingOn d q ask horizon part steps clauses →
       HasNoEmpty clauses → counted_in steps ≡ ask.budget → TellsTrue d q ask horizon part (section_of steps None (Some words.Spent))
   spent_true parts.Histories steps clauses is none all =
-      listing_so_far (IsHistory d q horizon (key_row ask)) (form_at parts.Histories) ask.count ask.budget steps (Some words.Spent)
-      (spent_fair laws d q (key_row ask) (form_at parts.Histories) ask.budget horizon steps clauses is.told None none all)
-      is.told.first is.may (λ e. absurd cc) (λ e. absurd cc)
+      listing_spent laws (IsHistory d q horizon (key_row ask)) (form_at parts.Histories) ask.count ask.budget steps clauses (record { told = is.told; may = is.may }) none all
   spent_true parts.Conditions steps clauses is none all =
       looks d (without_claim q) (form_at parts.Conditions) ask.budget horizon steps (Some words.Spent)
-      (spent_fair laws d (without_claim q) (key_row ask) (form_at parts.Conditions) ask.budget horizon steps clauses is.told None none all)
+      (spent_fair laws (IsHistory d (without_claim q) horizon (key_row ask)) (form_at parts.Conditions) ask.budget steps clauses is.told None none all)
       is.may.0 (λ e. absurd cc) (λ e. absurd cc)
   spent_true parts.Claim steps clauses is none all =
       looks d q (form_at parts.Claim) ask.budget horizon steps (Some words.Spent)
-      (spent_fair laws d q (key_row ask) (form_at parts.Claim) ask.budget horizon steps clauses is.told None none all)
+      (spent_fair laws (IsHistory d q horizon (key_row ask)) (form_at parts.Claim) ask.budget steps clauses is.told None none all)
       is.may.0 (λ e. absurd cc) (λ e. absurd cc)
 
   pub empty_true : (part : Part) (steps : List Step) (clauses : List (List Literal)) → IsGoingOn d q ask horizon part steps clauses →
       RowsAreHistories d q ask horizon part → Contains clauses [] → TellsTrue d q ask horizon part (section_of steps None (Some words.Empty))
   empty_true parts.Histories steps clauses is rows there =
-      listing_so_far (IsHistory d q horizon (key_row ask)) (form_at parts.Histories) ask.count ask.budget steps (Some words.Empty)
-      (empty_fair laws d q (key_row ask) (form_at parts.Histories) ask.budget horizon steps clauses is.told None there)
-      is.told.first is.may (λ e. absurd cc)
-      (λ _. all_told laws d q (key_row ask) (form_at parts.Histories) ask.budget horizon steps clauses is.told rows there)
+      listing_empty laws (IsHistory d q horizon (key_row ask)) (form_at parts.Histories) ask.count ask.budget steps clauses (record { told = is.told; may = is.may }) rows.rows there
   empty_true parts.Conditions steps clauses is rows there =
       looks d (without_claim q) (form_at parts.Conditions) ask.budget horizon steps (Some words.Empty)
-      (empty_fair laws d (without_claim q) (key_row ask) (form_at parts.Conditions) ask.budget horizon steps clauses is.told None there) is.may.0
+      (empty_fair laws (IsHistory d (without_claim q) horizon (key_row ask)) (form_at parts.Conditions) ask.budget steps clauses is.told None there) is.may.0
       (λ _. subst (λ (key : Option (List ℕ)). IsListing d (without_claim q) horizon key (rows_in steps)) (no_key ask is.may.1)
-      (all_told laws d (without_claim q) (key_row ask) (form_at parts.Conditions) ask.budget horizon steps clauses is.told rows there))
+      (all_told laws (IsHistory d (without_claim q) horizon (key_row ask)) (form_at parts.Conditions) ask.budget steps clauses is.told rows.rows there))
       (λ e. absurd cc)
   empty_true parts.Claim steps clauses is rows there =
       looks d q (form_at parts.Claim) ask.budget horizon steps (Some words.Empty)
-      (empty_fair laws d q (key_row ask) (form_at parts.Claim) ask.budget horizon steps clauses is.told None there) is.may.0
+      (empty_fair laws (IsHistory d q horizon (key_row ask)) (form_at parts.Claim) ask.budget steps clauses is.told None there) is.may.0
       (λ _. subst (λ (key : Option (List ℕ)). IsListing d q horizon key (rows_in steps)) (no_key ask is.may.1)
-      (all_told laws d q (key_row ask) (form_at parts.Claim) ask.budget horizon steps clauses is.told rows there))
+      (all_told laws (IsHistory d q horizon (key_row ask)) (form_at parts.Claim) ask.budget steps clauses is.told rows.rows there))
       (λ e. absurd cc)
 
   pub found_true : (part : Part) → part ≢ parts.Histories → (steps : List Step) (clauses : List (List Literal)) → IsGoingOn d q ask horizon part steps clauses →
@@ -140,23 +133,23 @@ module _ (laws : Laws) (d : Description) (q : Query) (ask : Ask) (horizon : ℕ)
   found_true parts.Histories other steps clauses is rows row least = absurd (other refl)
   found_true parts.Conditions other steps clauses is rows row least =
       looks d (without_claim q) (form_at parts.Conditions) ask.budget horizon steps (Some words.Found)
-      (found_fair laws d (without_claim q) (key_row ask) (form_at parts.Conditions) ask.budget horizon steps clauses is.told None
+      (found_fair laws (IsHistory d (without_claim q) horizon (key_row ask)) (form_at parts.Conditions) ask.budget steps clauses is.told None
       (none_empty (form_at parts.Conditions).sizes clauses row least.one))
       is.may.0 (λ e. absurd cc)
       (λ _. (
         row,
         subst (λ (key : Option (List ℕ)). IsHistory d (without_claim q) horizon key row) (no_key ask is.may.1)
-            (row_is_history laws d (without_claim q) (key_row ask) (form_at parts.Conditions) ask.budget horizon steps clauses is.told rows row least.one),
+            (row_is_of laws (IsHistory d (without_claim q) horizon (key_row ask)) (form_at parts.Conditions) ask.budget steps clauses is.told rows.rows row least.one),
       ))
   found_true parts.Claim other steps clauses is rows row least =
       looks d q (form_at parts.Claim) ask.budget horizon steps (Some words.Found)
-      (found_fair laws d q (key_row ask) (form_at parts.Claim) ask.budget horizon steps clauses is.told None
+      (found_fair laws (IsHistory d q horizon (key_row ask)) (form_at parts.Claim) ask.budget steps clauses is.told None
       (none_empty (form_at parts.Claim).sizes clauses row least.one))
       is.may.0 (λ e. absurd cc)
       (λ _. (
         row,
         subst (λ (key : Option (List ℕ)). IsHistory d q horizon key row) (no_key ask is.may.1)
-            (row_is_history laws d q (key_row ask) (form_at parts.Claim) ask.budget horizon steps clauses is.told rows row least.one),
+            (row_is_of laws (IsHistory d q horizon (key_row ask)) (form_at parts.Claim) ask.budget steps clauses is.told rows.rows row least.one),
       ))
 
   -- the row that goes against a claim is the least one
@@ -165,7 +158,7 @@ module _ (laws : Laws) (d : Description) (q : Query) (ask : Ask) (horizon : ℕ)
   counterexample_first steps clauses is rows row least =
       subst (λ (key : Option (List ℕ)). AreFirst d q horizon key (row ∷ [])) (no_key ask is.may.1)
       (subst (λ (told : List (List ℕ)). AreFirst d q horizon (key_row ask) (told ++ row ∷ [])) is.may.0
-      (next_told laws d q (key_row ask) (form_at parts.Claim) ask.budget horizon steps clauses is.told rows row least))
+      (next_told laws (IsHistory d q horizon (key_row ask)) (form_at parts.Claim) ask.budget steps clauses is.told rows.rows row least))
 
   -- ---- histories
 
@@ -173,48 +166,29 @@ module _ (laws : Laws) (d : Description) (q : Query) (ask : Ask) (horizon : ℕ)
       RowsAreHistories d q ask horizon parts.Histories → (row : List ℕ) → IsLeastRowOf (form_at parts.Histories).sizes clauses row →
       TellsHistories d q ask horizon (section_of steps (Some row) None)
   telling_true steps clauses is rows row least =
-      listing_to (IsHistory d q horizon (key_row ask)) (form_at parts.Histories) ask.count ask.budget steps None row
-      (open_fair laws d q (key_row ask) (form_at parts.Histories) ask.budget horizon steps clauses is.told (Some row))
-      (next_told laws d q (key_row ask) (form_at parts.Histories) ask.budget horizon steps clauses is.told rows row least)
-      is.may (λ e. absurd cc) (λ e. absurd cc) (λ some. absurd cc)
+      listing_telling laws (IsHistory d q horizon (key_row ask)) (form_at parts.Histories) ask.count ask.budget steps clauses (record { told = is.told; may = is.may }) rows.rows row least
 
   pub next_first : (steps : List Step) (clauses : List (List Literal)) → IsGoingOn d q ask horizon parts.Histories steps clauses →
       RowsAreHistories d q ask horizon parts.Histories → (row : List ℕ) → IsLeastRowOf (form_at parts.Histories).sizes clauses row →
       AreFirst d q horizon (key_row ask) (rows_in steps ++ row ∷ [])
   next_first steps clauses is rows row least =
-      next_told laws d q (key_row ask) (form_at parts.Histories) ask.budget horizon steps clauses is.told rows row least
+      listing_next laws (IsHistory d q horizon (key_row ask)) (form_at parts.Histories) ask.count ask.budget steps clauses (record { told = is.told; may = is.may }) rows.rows row least
 
   pub asked_true : (steps : List Step) (clauses : List (List Literal)) → IsGoingOn d q ask horizon parts.Histories steps clauses →
       RowsAreHistories d q ask horizon parts.Histories → (row : List ℕ) → IsLeastRowOf (form_at parts.Histories).sizes clauses row →
       ask.count ≡ Some (length (rows_in steps) + 1) → TellsHistories d q ask horizon (section_of steps (Some row) (Some words.Found))
   asked_true steps clauses is rows row least all =
-      listing_to (IsHistory d q horizon (key_row ask)) (form_at parts.Histories) ask.count ask.budget steps (Some words.Found) row
-      (found_fair laws d q (key_row ask) (form_at parts.Histories) ask.budget horizon steps clauses is.told (Some row)
-      (none_empty (form_at parts.Histories).sizes clauses row least.one))
-      (next_told laws d q (key_row ask) (form_at parts.Histories) ask.budget horizon steps clauses is.told rows row least)
-      is.may (λ e. absurd cc) (λ _. all ∙ ap (λ (n : ℕ). Some n) (sym (length_push (rows_in steps) row))) (λ _. refl)
+      listing_asked laws (IsHistory d q horizon (key_row ask)) (form_at parts.Histories) ask.count ask.budget steps clauses (record { told = is.told; may = is.may }) rows.rows row least all
 
   pub denied_on : (steps : List Step) (clauses : List (List Literal)) → IsGoingOn d q ask horizon parts.Histories steps clauses →
       RowsAreHistories d q ask horizon parts.Histories → (row : List ℕ) → IsLeastRowOf (form_at parts.Histories).sizes clauses row →
       IfSome ask.count (λ most. length (rows_in steps) + 1 < most) →
       IsGoingOn d q ask horizon parts.Histories (steps ++ Tell row ∷ []) (clauses ++ row_denial (form_at parts.Histories).sizes row ∷ [])
-  denied_on steps clauses is rows row least few = record {
-    told = row_told laws d q (key_row ask) (form_at parts.Histories) ask.budget horizon steps clauses is.told rows row least;
-    may = subst (λ (n : ℕ). IfSome ask.count (λ most. n < most))
-        (sym (ap (λ (l : List (List ℕ)). length l) (rows_more steps row) ∙ length_push (rows_in steps) row)) few;
-  }
+  denied_on steps clauses is rows row least few =
+      let on = listing_denied laws (IsHistory d q horizon (key_row ask)) (form_at parts.Histories) ask.count ask.budget steps clauses (record { told = is.told; may = is.may }) rows.rows row least few in
+      record { told = on.told; may = on.may }
 
   pub going_on_told : (steps : List Step) (row : List ℕ) → TellsHistories d q ask horizon (section_of steps (Some row) None) →
       (clauses : List (List Literal)) × IsGoingOn d q ask horizon parts.Histories steps clauses
-  going_on_told steps row tells = (
-    tells.fair.clauses,
-    record {
-      told = record { fair = tells.fair.steps; within = tells.fair.within; first = first_front (IsHistory d q horizon (key_row ask)) (rows_in steps) row tells.first };
-      may = tells.denied;
-    },
-  )
-
--- not yet so many as are asked for
-pub still_fewer : (count : Option ℕ) (n : ℕ) → IfSome count (λ most. n < most) → (count ≡ Some (n + 1) → ⊥) → IfSome count (λ most. n + 1 < most)
-still_fewer None n few other = tt
-still_fewer (Some most) n few other = let apart : most ≡ n + 1 → ⊥ = λ same. other (ap (λ (k : ℕ). Some k) same) in omega arith
+  going_on_told steps row tells =
+      let on = listing_on_told laws (IsHistory d q horizon (key_row ask)) (form_at parts.Histories) ask.count ask.budget steps row tells in (on.0, record { told = on.1.told; may = on.1.may })

@@ -3,4 +3,5 @@ pub mod Events
 pub mod Laws
 pub mod Lefts
 pub mod Parts
+pub mod Searches
 pub mod Sessions

@@ -249,6 +249,16 @@ abbrev pub OpensGood : SessionView → Event → Type 0
 OpensGood session event = (d : Description) (q : Query) → IsSessionOf session d q → (conditions : Bool) (horizon : ℕ) →
     event ≡ events.Log (lines.Section conditions horizon) → AreGoodAxioms (axioms_of d q session.ask.after conditions horizon)
 
+-- the section with this heading is searched, and has no line yet
+abbrev pub IsOpened : SessionView → (conditions : Bool) → ℕ → Type 0
+IsOpened session conditions horizon =
+    (part : Part) × (solver : SolverView) × (session.phase ≡ phases.Searching part solver 0) × (derived_count solver.kernel.entries ≡ 0)
+    × (conditions ≡ is_conditions part) × (horizon ≡ session.horizon)
+
+-- so it is behind its heading
+abbrev pub StandsOpened : SessionView → Event → Type 0
+StandsOpened session event = (conditions : Bool) (horizon : ℕ) → event ≡ events.Log (lines.Section conditions horizon) → IsOpened session conditions horizon
+
 -- a history that is told is not past the number that may be told at a horizon
 abbrev pub IsFewEvent : Event → Type 0
 IsFewEvent event = (horizon number : ℕ) → event ≡ events.History horizon number → number ≤ most_histories

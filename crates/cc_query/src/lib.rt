@@ -1,4 +1,5 @@
-//! The session of a search: horizons, claims, keys.
+//! The session of a search, with its log: horizons, claims, keys (`Session`); the clause list of a section (`form_at`); and the
+//! search of one section by itself (`Search`).
 #![tactic(auto)]
 
 mod ask;
@@ -6,9 +7,14 @@ mod keys;
 pub mod laws;
 mod opening;
 mod phase;
+mod search;
 mod session;
+mod shared;
+mod stage;
 
 pub use ask::Ask;
 pub use keys::fits;
 pub use opening::form_at;
+pub use search::Search;
 pub use session::Session;
+pub use stage::Find;

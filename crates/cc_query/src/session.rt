@@ -1,5 +1,5 @@
 //! A search for the histories of a query, or for a path that goes against its claim.
-ghost use Rattle.std.specs.Prelude.{◌≡◌, ◌≢◌, ◌⊎◌, Contains, ℕ, ◌+◌, ◌<◌, ◌≤◌, ◌++◌, [], ◌∷◌, List, length, IfOk, IfErr, IfSome, IsNone, IsSome, OnErr, OnOk, Some, None, true, false};
+ghost use Rattle.std.specs.Prelude.{◌≡◌, ◌≢◌, ◌⊎◌, Bool, ℕ, ◌+◌, ◌<◌, ◌≤◌, ◌++◌, [], ◌∷◌, List, length, IfOk, IfErr, IfSome, IsNone, IsSome, OnErr, OnOk, Some, None, true, false};
 ghost use Rattle.std.specs.Option.{option_map};
 ghost use Rattle.cc_arena.specs.GroundViews.{plain_ground_query};
 ghost use Rattle.cc_cdcl.specs.Solvers.{SolverView, Found as IsFound, IsStep, Ready};
@@ -11,12 +11,13 @@ ghost use Rattle.cc_defs.specs.Refusals.{IsRefusedBy, past};
 ghost use Rattle.cc_defs.specs.declared.refusal.Fault.TheVariants as faults;
 ghost use Rattle.cc_defs.specs.declared.refusal.LimitAt.TheVariants as limits;
 ghost use Rattle.cc_defs.specs.Resolved.{Query};
+ghost use Rattle.cc_defs.specs.Runs.{axioms_of};
 ghost use Rattle.cc_defs.specs.declared.event.Event.TheVariants as events;
 ghost use Rattle.cc_defs.specs.declared.event.Told.{Told};
 ghost use Rattle.cc_defs.specs.declared.log.EndWord.TheVariants as words;
 ghost use Rattle.cc_defs.specs.declared.log.LogLine.TheVariants as lines;
 ghost use Rattle.cc_form.specs.Queries.{IsQueryAt};
-ghost use Rattle.cc_kernel.specs.Kernels.{KernelView, clauses_of};
+ghost use Rattle.cc_kernel.specs.Kernels.{KernelView, clauses_of, derived_count};
 ghost use Rattle.cc_query.specs.Parts.{axioms_at, is_conditions};
 ghost use Rattle.cc_defs.specs.declared.event.Ending.{Ending as EndingSeen};
 ghost use Rattle.cc_defs.specs.Sections.{HasNoEmpty};
@@ -24,7 +25,7 @@ ghost use Rattle.cc_query.specs.declared.phase.Phase.{Phase as PhaseSeen};
 ghost use Rattle.cc_query.specs.Accepted.{AreGoodAxioms};
 ghost use Rattle.cc_query.specs.Events.{Gives};
 ghost use Rattle.cc_query.specs.Lefts.{left_of};
-ghost use Rattle.cc_query.specs.Sessions.{After, Fits, HasFound, HasMore, Holds, IsBlocked, IsReady, IsFewEvent, IsRightFault, IsSame, IsSessionOf, IsShortEvent, IsWithin, OpensGood, OpensWithin, RowsAreHistories, SessionView, Tells, ending_behind, first_at, last_at, opening_refusal, opens_at, with_row};
+ghost use Rattle.cc_query.specs.Sessions.{After, Fits, HasFound, HasMore, Holds, IsBlocked, IsReady, IsFewEvent, IsRightFault, IsOpened, IsSame, IsSessionOf, IsShortEvent, IsWithin, OpensGood, OpensWithin, RowsAreHistories, SessionView, StandsOpened, Tells, ending_behind, first_at, last_at, opening_refusal, opens_at, with_row};
 ghost use Rattle.cc_query.specs.declared.phase.Part.TheVariants as parts;
 ghost use Rattle.cc_query.specs.declared.phase.Phase.TheVariants as phases;
 ghost use Rattle.cc_theory.specs.Theories.{AreLawsFor};
@@ -33,11 +34,11 @@ use crate::ask::Ask;
 use crate::laws::search_laws;
 use crate::opening::{denies_claim, form_at, solver_of};
 use crate::phase::{Part, Phase};
+use crate::shared::{budget_of, derived_line, is_asked, is_refuted};
 use cc_arena::{GroundQuery, Laws};
 use cc_cdcl::{Solver, Step};
 use cc_defs::{
-    EndWord, Ending, Event, Fault, Key, LimitAt, Lits, LogLine, Nums, OutOfMemory, Refusal, Row,
-    Sig,
+    EndWord, Ending, Event, Fault, Key, LimitAt, LogLine, OutOfMemory, Refusal, Row, Sig,
 };
 use cc_kernel::Kernel;
 use std::alloc::Global;
@@ -79,12 +80,8 @@ fn derived(alloc: Global, kernel: &Kernel) -> Result<Event, OutOfMemory>
     requires { 0 < length kernel.now.entries }
     ensures { (clause : List Literal) → IsNumbered (clauses_of kernel.now) (length kernel.now.entries) clause → IfOk result (λ event. event ≡ events.Log (lines.Derived clause kernel.now.chain)) }
 {
-    let clause = Vec::from_slice(alloc, kernel.clause(kernel.count()))?;
-    let chain = Vec::from_slice(alloc, kernel.chain())?;
-    Ok(Event::Log(LogLine::Derived {
-        clause: Lits::of(clause),
-        chain: Nums::of(chain),
-    }))
+    let line = derived_line(alloc, kernel)?;
+    Ok(Event::Log(line))
 }
 
 /// The first horizon that is tried.
@@ -114,24 +111,6 @@ fn key_of(ask: &Ask) -> Option<&Key>
     ask.after.as_ref()
 }
 
-/// How many derived clauses a section may have.
-fn budget_of(ask: &Ask) -> u32
-    ensures { result ≡ ask.now.budget }
-{
-    ask.budget
-}
-
-/// Whether just so many histories are asked for.
-fn is_asked(ask: &Ask, listed: u32) -> bool
-    ensures is { result ≡ true → ask.now.count ≡ Some listed }
-    ensures other { result ≡ false → ask.now.count ≢ Some listed }
-{
-    match ask.count {
-        Some(count) => count == listed,
-        None => false,
-    }
-}
-
 /// Whether no history was told at a horizon, and none lies before a key.
 fn has_none(ask: &Ask, listed: u32) -> bool
     ensures none { result ≡ true → listed ≡ 0 }
@@ -153,14 +132,6 @@ fn is_listing(part: Part) -> bool
         Part::Histories => true,
         Part::Conditions | Part::Claim => false,
     }
-}
-
-/// Whether one of the clauses is empty.
-fn is_refuted(solver: &Solver) -> bool
-    ensures some { result ≡ true → Contains (clauses_of solver.now.kernel) [] }
-    ensures none { result ≡ false → HasNoEmpty (clauses_of solver.now.kernel) }
-{
-    solver.kernel().refuted().is_some()
 }
 
 /// The heading of a section.
@@ -250,6 +221,17 @@ impl<'a> Session<'a> {
         &self.row
     }
 
+    /// How many axioms the section has whose heading was the last event: the clauses of its own lines are numbered behind them.
+    pub fn axioms(&self) -> u32
+        requires { (conditions : Bool) × (horizon : ℕ) × IsOpened self.now conditions horizon }
+        ensures { (d : Description) (q : Query) (given : List Told) (conditions : Bool) (horizon : ℕ) → After d q self.now given → IsOpened self.now conditions horizon → result ≡ length ((axioms_of d q self.now.ask.after conditions horizon).clauses) }
+    {
+        match &self.phase {
+            Phase::Searching { solver, .. } => solver.kernel().count(),
+            _ => unreachable!(),
+        }
+    }
+
     // The search over the clauses of a section, at the horizon that is tried.
     fn solver(&self, part: Part) -> Result<Solver, Fault>
         requires { self.now.horizon ≤ last_at self.now.query self.now.ask.after }
@@ -260,6 +242,7 @@ impl<'a> Session<'a> {
         ensures good { (d : Description) (q : Query) → IsSessionOf self.now d q → OnOk result (AreGoodAxioms (axioms_at d q self.now.ask self.now.horizon part)) }
         ensures ready { IfOk result (λ solver. solver.standing ≡ Ready) }
         ensures few { IfOk result (λ solver. IsWithin self.now.ask solver 0) }
+        ensures fresh { IfOk result (λ solver. derived_count solver.kernel.entries ≡ 0) }
     {
         let key = key_of(&self.ask);
         let form = form_at(
@@ -598,6 +581,7 @@ impl<'a> Session<'a> {
         ensures short { IfOk result IsShortEvent }
         ensures good { IfOk result (OpensGood self.old) }
         ensures few { IfOk result IsFewEvent }
+        ensures heading { IfOk result (StandsOpened self.new) }
     {
         self.step()
     }

@@ -21,7 +21,7 @@ returns-clause-gives c = λ phase opens.
     (c.heading.ensures ∙ ap (λ (v : SessionView). events.Log (lines.Section (is_conditions c.args.part) v.horizon)) same)
     (gives_heading c.search_laws.ensures (record c.args.self.now { phase = phase })
     (askable_of _ (record c.args.self.now { phase = phases.Searching c.args.part c.in_ok-solver.solver 0 }) same c.self.invariant)
-    c.args.part c.in_ok-solver.solver opens c.requires
+    c.args.part c.in_ok-solver.solver c.in_ok-solver.ensures.fresh opens c.requires
     (λ d q of.
     let there : IsSessionOf c.args.self.now d q = record { laws = of.laws; query = of.query } in
     (c.in_ok-solver.ensures.made d q there, c.in_ok-solver.ensures.rows d q there, c.in_ok-solver.ensures.within d q there, c.in_ok-solver.ensures.good d q there)))

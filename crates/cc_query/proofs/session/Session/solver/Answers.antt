@@ -1,6 +1,6 @@
 use Rattle.std.proofs.Common.{sym, subst}
 use Rattle.std.specs.Option.{option_map}
-use Rattle.cc_query.proofs.Opened.{good_opened, holds_opened, rows_opened, within_opened}
+use Rattle.cc_query.proofs.Opened.{fresh_opened, good_opened, holds_opened, rows_opened, within_opened}
 use Rattle.cc_query.proofs.Reaching.{query_there}
 use Rattle.cc_query.proofs.Refusing.{opening_refused}
 use Rattle.cc_query.specs.Sessions.{SessionView, IsSessionOf}
@@ -38,3 +38,6 @@ returns-clause-good c = λ d q of.
     let there = subst (λ (v : SessionView). IsSessionOf v d q) (sym c.self.view_is) of in
     good_opened d q _ c.args.self.now c.args.part c.denies_claim.result (option_map (λ key. key.now) c.key_of-key.result) c.in_ok-form.form
     c.self.view_is c.denies_claim.ensures c.key_of-key.ensures (c.in_ok-form.ensures.made d q there.laws there.query) c.in_ok-solver_of.ensures.good
+
+pub returns-clause-fresh : goal.returns-clause-fresh
+returns-clause-fresh c = fresh_opened c.in_ok-solver_of.field-0 c.in_ok-form.form c.in_ok-solver_of.ensures.entries

@@ -3,7 +3,7 @@ use Rattle.std.specs.Prelude.{Contains, is_some}
 use Rattle.cc_defs.specs.Sections.{HasNoEmpty}
 use Rattle.cc_kernel.specs.Kernels.{KernelView, clauses_of}
 use Rattle.cc_query.proofs.Joining.{none_first, some_first}
-use Rattle.cc_query.proofs.session.is_refuted.Goals as goal
+use Rattle.cc_query.proofs.shared.is_refuted.Goals as goal
 
 none_of : (found : Option ℕ) → is_some found ≡ false → found ≡ None
 none_of None is = refl

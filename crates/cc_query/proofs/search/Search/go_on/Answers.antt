@@ -1,0 +1,6 @@
+use Rattle.cc_query.proofs.Finding.{budget_low, empty_ends}
+use Rattle.cc_query.proofs.search.Search.go_on.Goals as goal
+
+pub returns-then-is_refuted-clause-gives : goal.returns-then-is_refuted-clause-gives
+returns-then-is_refuted-clause-gives c = empty_ends c.search_laws.ensures c.args.self.now c.args.solver c.args.listed
+    (budget_low _ c.args.self.now c.self.view_is c.self.invariant) c.requires.over (c.is_refuted.ensures.some c.if-is_refuted.true)
