@@ -18,6 +18,7 @@ mod Picking
 mod Positions
 mod RowValues
 mod Running
+pub mod Saying
 mod Standing
-mod Telling
+pub mod Telling
 mod Written

@@ -3,6 +3,7 @@ pub mod Forms
 pub mod Laws
 pub mod Machine
 pub mod Making
+pub mod Parts
 pub mod Places
 pub mod Queries
 pub mod Store
