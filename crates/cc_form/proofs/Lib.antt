@@ -3,6 +3,8 @@ mod Bodies
 mod Causes
 mod Choices
 mod Definitions
+mod Drafting
+mod Extending
 mod Keeping
 mod Keys
 mod Finishing
@@ -21,4 +23,5 @@ mod Running
 pub mod Saying
 mod Standing
 pub mod Telling
+mod Whole
 mod Written

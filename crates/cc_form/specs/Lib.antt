@@ -1,4 +1,5 @@
 pub mod Building
+pub mod Drafts
 pub mod Forms
 pub mod Laws
 pub mod Machine
