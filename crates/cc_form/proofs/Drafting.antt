@@ -139,6 +139,14 @@ draft_is_form sizes draft made is = record {
       (subst (λ (p : List ℕ). IsAxioms (record { sizes = p; variables = made.last; clauses = first_clauses sizes ++ made.clauses })) (sym is.places) is.axioms);
 }
 
+-- the literal of a term is one of the variables that are there then
+pub literal_over : (old new : Writer) (literal : Literal) (term : List Node) → sum old.places + 1 ≤ old.last → IsTermOver old.places term → literal ≡ (made_nodes old.places old.last term).literal →
+    new.last ≡ (made_nodes old.places old.last term).last → IsLiteralOver new.last literal × (old.last ≤ new.last)
+literal_over old new literal term least over is ends =
+    let m = made_nodes old.places old.last term in
+    let well = nodes_well old.places old.last term over least in
+    (subst (λ (n : ℕ). IsLiteralOver n literal) (sym ends) (subst (IsLiteralOver m.last) (sym is) well.literal_in), (let up = well.rises in omega arith))
+
 pub literal_form : (old new : Writer) (term : List Node) → IsBuiltForm old → IsTermOver old.places term → IsBuilt old new (made_nodes old.places old.last term).last (made_nodes old.places old.last term).clauses → IsBuiltForm new
 literal_form old new term is over built =
     let m = made_nodes old.places old.last term in

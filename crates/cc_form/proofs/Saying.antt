@@ -211,7 +211,7 @@ says_with sizes last one other Is Js first second = record {
 }
 
 -- one part behind another: both
-pub says_then : (sizes : List ℕ) (last : ℕ) (one other : Asserted) (Is Js : List ℕ → Type 0) → SaysFrom sizes last one Is → SaysFrom sizes one.last other Js →
+abbrev pub says_then : (sizes : List ℕ) (last : ℕ) (one other : Asserted) (Is Js : List ℕ → Type 0) → SaysFrom sizes last one Is → SaysFrom sizes one.last other Js →
     SaysFrom sizes last (joined_parts one other) (λ row. Is row × Js row)
 says_then sizes last one other Is Js first second = says_with sizes last one other Is Js first (says_behind sizes last first.given one.last other Js second)
 
@@ -302,7 +302,7 @@ worth_kept sizes last one other Is Js first second literal worth so = record { i
 -- and one of the second part
 pub worth_added : (sizes : List ℕ) (last : ℕ) (one other : Asserted) (Is Js : List ℕ → Type 0) (first : SaysFrom sizes last one Is) (second : SaysFrom sizes one.last other Js)
     (literal : Literal) (worth : List ℕ → Bool) → IsWorth sizes one.last second.given literal worth → IsWorth sizes last (says_then sizes last one other Is Js first second).given literal worth
-unfolding says_with says_then says_behind
+unfolding says_with says_behind
 worth_added sizes last one other Is Js first second literal worth so = record {
   is = λ row is a has is_true known. so.is row is a has is_true (behind a last (first.given row) (second.given row) one.last (says_ends sizes last one Is first row is) known);
 }

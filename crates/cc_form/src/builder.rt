@@ -61,6 +61,8 @@ impl Builder {
         requires term { IsTermOver self.old.sizes (moved_nodes first nodes.now) }
         ensures literal { IfOk result (λ literal. literal ≡ (made_nodes self.old.sizes self.old.variables (moved_nodes first nodes.now)).literal) }
         ensures built { OnOk result (self.new ≡ nodes_behind self.old (moved_nodes first nodes.now)) }
+        ensures over { IfOk result (λ literal. IsLiteralOver self.new.variables literal) }
+        ensures rises { OnOk result (self.old.variables ≤ self.new.variables) }
         ensures extends { (term : Ground) → postfix term ≡ moved_nodes first nodes.now → Contains self.old.clauses (positive (true_variable self.old.sizes) ∷ []) → IfOk result (λ literal. Extends self.old self.new literal (λ row. truth (λ position. slice_index row position) term)) }
         ensures within { OnOk result (axioms_refusal (nodes_behind self.old (moved_nodes first nodes.now)) ≡ None) }
         ensures refused { IfErr result (IsRefusedBy (axioms_refusal (nodes_behind self.old (moved_nodes first nodes.now)))) }

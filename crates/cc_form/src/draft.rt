@@ -58,6 +58,7 @@ impl Draft {
     /// A draft over positions with so many values each. Refuses more than 4,000,000 variables (14).
     pub fn new(alloc: Global, sizes: Vec<u32>) -> Result<Draft, Fault>
         ensures draft { IfOk result (λ draft. IsDraft sizes.items draft (record { last = true_variable sizes.items; clauses = [] })) }
+        ensures places { IfOk result (λ draft. draft.places ≡ sizes.items) }
         ensures refused { IfErr result (IsPast (true_variable sizes.items)) }
     {
         let mut writer = Writer::new(alloc, sizes)?;
@@ -73,6 +74,9 @@ impl Draft {
         requires term { IsTermOver self.old.places (moved_nodes first nodes.now) }
         ensures literal { (sizes : List ℕ) (made : Asserted) → IsDraft sizes self.old made → IfOk result (λ literal. literal ≡ (made_nodes sizes made.last (moved_nodes first nodes.now)).literal) }
         ensures draft { (sizes : List ℕ) (made : Asserted) → IsDraft sizes self.old made → OnOk result (IsDraft sizes self.new (with_nodes sizes made (moved_nodes first nodes.now))) }
+        ensures over { IfOk result (λ literal. IsLiteralOver self.new.last literal) }
+        ensures rises { OnOk result (self.old.last ≤ self.new.last) }
+        ensures places { OnOk result (self.new.places ≡ self.old.places) }
         ensures refused { (sizes : List ℕ) (made : Asserted) → IsDraft sizes self.old made → IfErr result (IsPast (made_nodes sizes made.last (moved_nodes first nodes.now)).last) }
     {
         let mut writer = replace(&mut self.writer, Writer::none(self.alloc));
@@ -84,7 +88,9 @@ impl Draft {
     /// Puts a clause behind the others: each literal once, ascending; one with a variable in both signs is left out.
     pub fn clause(&mut self, literals: &[Lit]) -> Result<(), OutOfMemory>
         requires { AllByRecursion (IsLiteralOver self.old.last) literals.now }
-        ensures { (sizes : List ℕ) (made : Asserted) → IsDraft sizes self.old made → OnOk result (IsDraft sizes self.new (with_clause made literals.now)) }
+        ensures draft { (sizes : List ℕ) (made : Asserted) → IsDraft sizes self.old made → OnOk result (IsDraft sizes self.new (with_clause made literals.now)) }
+        ensures last { OnOk result (self.new.last ≡ self.old.last) }
+        ensures places { OnOk result (self.new.places ≡ self.old.places) }
     {
         let mut writer = replace(&mut self.writer, Writer::none(self.alloc));
         write_all(&mut writer.store, literals)?;

@@ -15,8 +15,8 @@ invariant_of-self-2 c =
     clause_form old new c.args.literals.now (subst IsBuiltForm (sym c.replace-writer.ensures.value) c.self.invariant)
     (subst (λ (w : Writer). AllByRecursion (IsLiteralOver w.last) c.args.literals.now) same c.requires) refl refl c.in_ok-write_all.ensures
 
-pub returns : goal.returns
-returns c = λ sizes made is.
+pub returns-clause-draft : goal.returns-clause-draft
+returns-clause-draft c = λ sizes made is.
     let old = c.replace-writer.result in
     let new : Writer = record { places = old.places; last = old.last; stack = old.stack; store = c.write_all.new.store } in
     let same : c.args.self.now ≡ old = sym (c.replace-writer.ensures.value ∙ c.self.view_is) in
