@@ -3,14 +3,14 @@ use Rattle.std.proofs.Common.{◌≡◌, ◌∙◌, ℕ, ◌≤◌, List, [], �
 use Rattle.cc_defs.specs.declared.node.Node.{Node}
 use Rattle.cc_defs.specs.declared.refusal.Fault.{Fault}
 use Rattle.cc_defs.specs.Clauses.{Literal}
-use Rattle.cc_form.specs.declared.builder.Builder.{Builder}
+use Rattle.cc_form.specs.declared.writer.Writer.{Writer}
 use Rattle.cc_form.specs.Machine.{IsBuilt, IsPast, made_nodes}
 use Rattle.cc_form.specs.Making.{asserted_nodes}
 use Rattle.cc_form.specs.Store.{Gives}
 use Rattle.cc_form.proofs.Keeping.{gives_more, gives_none}
 use Rattle.cc_form.proofs.Running.{past_more, run_rises}
 
-pub record AssertedSoFar (old now : Builder) (rest whole : List (List Node)) : Type 0 where
+pub record AssertedSoFar (old now : Writer) (rest whole : List (List Node)) : Type 0 where
   pub places : now.places ≡ old.places
   pub within : now.last ≤ 4000000
   pub done : List (List Literal)
@@ -18,11 +18,11 @@ pub record AssertedSoFar (old now : Builder) (rest whole : List (List Node)) : T
   pub clauses : done ++ (asserted_nodes old.places now.last rest).clauses ≡ (asserted_nodes old.places old.last whole).clauses
   pub ends : (asserted_nodes old.places now.last rest).last ≡ (asserted_nodes old.places old.last whole).last
 
-pub asserting : (old : Builder) (whole : List (List Node)) → old.last ≤ 4000000 → AssertedSoFar old old whole whole
+pub asserting : (old : Writer) (whole : List (List Node)) → old.last ≤ 4000000 → AssertedSoFar old old whole whole
 asserting old whole within = record { places = refl; within = within; done = []; gives = gives_none old.store.kept; clauses = refl; ends = refl }
 
--- the builder behind the literal of a term, and the one behind its clause
-pub assert_step : (old now between new : Builder) (literal : Literal) (term : List Node) (rest whole : List (List Node)) → AssertedSoFar old now (term ∷ rest) whole →
+-- the writer behind the literal of a term, and the one behind its clause
+pub assert_step : (old now between new : Writer) (literal : Literal) (term : List Node) (rest whole : List (List Node)) → AssertedSoFar old now (term ∷ rest) whole →
     literal ≡ (made_nodes now.places now.last term).literal → IsBuilt now between (made_nodes now.places now.last term).last (made_nodes now.places now.last term).clauses →
     new.places ≡ between.places → new.last ≡ between.last → Gives between.store.kept new.store.kept ((literal ∷ []) ∷ []) → AssertedSoFar old new rest whole
 assert_step old now between new literal term rest whole so is' built' places last kept =
@@ -50,7 +50,7 @@ asserted_rise sizes last (term ∷ terms) =
     let more = asserted_rise sizes (made_nodes sizes last term).last terms in
     omega arith
 
-pub assert_fails : (old now : Builder) (term : List Node) (rest whole : List (List Node)) (fault : Fault) → AssertedSoFar old now (term ∷ rest) whole → IsPast (made_nodes now.places now.last term).last fault →
+pub assert_fails : (old now : Writer) (term : List Node) (rest whole : List (List Node)) (fault : Fault) → AssertedSoFar old now (term ∷ rest) whole → IsPast (made_nodes now.places now.last term).last fault →
     IsPast (asserted_nodes old.places old.last whole).last fault
 assert_fails old now term rest whole fault so past =
     let m = made_nodes old.places now.last term in
@@ -58,7 +58,7 @@ assert_fails old now term rest whole fault so past =
     (subst (λ (n : ℕ). m.last ≤ n) so.ends (asserted_rise old.places m.last rest))
     (subst (λ (p : List ℕ). IsPast (made_nodes p now.last term).last fault) so.places past)
 
-pub assert_ends : (old now : Builder) (whole : List (List Node)) → AssertedSoFar old now [] whole → IsBuilt old now (asserted_nodes old.places old.last whole).last (asserted_nodes old.places old.last whole).clauses
+pub assert_ends : (old now : Writer) (whole : List (List Node)) → AssertedSoFar old now [] whole → IsBuilt old now (asserted_nodes old.places old.last whole).last (asserted_nodes old.places old.last whole).clauses
 assert_ends old now whole so = record {
   places = so.places;
   ends = so.ends;

@@ -8,7 +8,7 @@ use Rattle.cc_defs.specs.ClauseLists.{Bodied, is_certain}
 use Rattle.cc_defs.specs.Clauses.{Literal}
 use Rattle.cc_theory.specs.declared.rule.TimedRule.{TimedRule}
 use Rattle.cc_theory.specs.Theories.{plain_head}
-use Rattle.cc_form.specs.declared.builder.Builder.{Builder}
+use Rattle.cc_form.specs.declared.writer.Writer.{Writer}
 use Rattle.cc_form.specs.Machine.{IsBuilt, IsPast, made_nodes, plain_made}
 use Rattle.cc_form.specs.Making.{IsBodyOver, body_nodes, made_bodies, made_rule}
 use Rattle.cc_form.specs.Store.{Gives}
@@ -18,7 +18,7 @@ use Rattle.cc_form.proofs.Running.{past_more, run_rises}
 abbrev bodies_in : List Bodied → List Literal
 bodies_in rules = map (λ rule. rule.body) rules
 
-pub record BodiesSoFar (old now : Builder) (stride : ℕ) (literals : List Literal) (rest whole : List TimedRule) : Type 0 where
+pub record BodiesSoFar (old now : Writer) (stride : ℕ) (literals : List Literal) (rest whole : List TimedRule) : Type 0 where
   pub places : now.places ≡ old.places
   pub within : now.last ≤ 4000000
   pub done : List (List Literal)
@@ -28,10 +28,10 @@ pub record BodiesSoFar (old now : Builder) (stride : ℕ) (literals : List Liter
   pub bodies : literals ++ bodies_in (made_bodies old.places stride now.last rest).rules ≡ bodies_in (made_bodies old.places stride old.last whole).rules
   pub fits : AllByRecursion (IsBodyOver old.places stride) rest
 
-pub bodies_begin : (old : Builder) (stride : ℕ) (whole : List TimedRule) → old.last ≤ 4000000 → AllByRecursion (IsBodyOver old.places stride) whole → BodiesSoFar old old stride [] whole whole
+pub bodies_begin : (old : Writer) (stride : ℕ) (whole : List TimedRule) → old.last ≤ 4000000 → AllByRecursion (IsBodyOver old.places stride) whole → BodiesSoFar old old stride [] whole whole
 bodies_begin old stride whole within fits = record { places = refl; within = within; done = []; gives = gives_none old.store.kept; clauses = refl; ends = refl; bodies = refl; fits = fits }
 
-pub bodies_step : (old now new : Builder) (stride : ℕ) (literals more : List Literal) (literal : Literal) (rule : TimedRule) (rest whole : List TimedRule) → BodiesSoFar old now stride literals (rule ∷ rest) whole →
+pub bodies_step : (old now new : Writer) (stride : ℕ) (literals more : List Literal) (literal : Literal) (rule : TimedRule) (rest whole : List TimedRule) → BodiesSoFar old now stride literals (rule ∷ rest) whole →
     literal ≡ (made_rule now.places stride now.last rule).literal → IsBuilt now new (made_rule now.places stride now.last rule).last (made_rule now.places stride now.last rule).clauses →
     more ≡ literals ++ literal ∷ [] → BodiesSoFar old new stride more rest whole
 bodies_step old now new stride literals more literal rule rest whole so is' built' pushed =
@@ -66,7 +66,7 @@ bodies_rise sizes stride last (rule ∷ rules) =
     let more = bodies_rise sizes stride (made_rule sizes stride last rule).last rules in
     omega arith
 
-pub bodies_fail : (old now : Builder) (stride : ℕ) (literals : List Literal) (rule : TimedRule) (rest whole : List TimedRule) (fault : Fault) → BodiesSoFar old now stride literals (rule ∷ rest) whole →
+pub bodies_fail : (old now : Writer) (stride : ℕ) (literals : List Literal) (rule : TimedRule) (rest whole : List TimedRule) (fault : Fault) → BodiesSoFar old now stride literals (rule ∷ rest) whole →
     IsPast (made_rule now.places stride now.last rule).last fault → IsPast (made_bodies old.places stride old.last whole).last fault
 bodies_fail old now stride literals rule rest whole fault so past =
     let m = made_rule old.places stride now.last rule in

@@ -7,14 +7,15 @@ use Rattle.cc_defs.specs.declared.node.GroundHead.{GroundHead}
 use Rattle.cc_defs.specs.declared.node.GroundHead.TheVariants as heads
 use Rattle.cc_defs.specs.declared.node.Node.TheVariants as nodes
 use Rattle.cc_defs.specs.ClauseForms.{atom_variable, made_of, positive, true_variable}
-use Rattle.cc_defs.specs.ClauseLists.{Asserted, Bodied, MadeRules, assert_all, bodies_of, completion_from, completion_of, deny, is_certain, is_falsity, is_of_atom, made_rules, position_completion, rules_that_count}
-use Rattle.cc_defs.specs.Clauses.{Literal, meets, opposite}
+use Rattle.cc_defs.specs.ClauseLists.{Bodied, MadeRules, assert_all, bodies_of, completion_from, completion_of, deny, is_certain, is_falsity, is_of_atom, made_rules, position_completion, rules_that_count}
+use Rattle.cc_defs.specs.Clauses.{Literal, opposite}
 use Rattle.cc_defs.specs.Rules.{upto}
 use Rattle.cc_defs.specs.Terms.{Ground, Operands, Fits, nothing, and_then, operand_count, postfix, postfixes, truth}
 use Rattle.cc_defs.specs.Terms as terms
 use Rattle.cc_defs.specs.TimedRules.{TimedRule}
 use Rattle.cc_form.specs.Laws.{RuleFits, TermFits}
-use Rattle.cc_form.proofs.Meaning.{Agrees, AllMet, AtomsFit, AtomsFitIn, agrees_both, agrees_left, agrees_right, any_met, lit, met_any, met_both, met_left, met_right, opposite_is, or_gives, or_is, term_told, values_of}
+use Rattle.cc_form.specs.Parts.{Agrees, AllMet, AreAsserted}
+use Rattle.cc_form.proofs.Meaning.{AtomsFit, AtomsFitIn, agrees_both, agrees_left, agrees_right, any_met, lit, met_any, met_both, met_left, met_right, one_true, opposite_is, or_gives, or_is, term_told, values_of}
 use Rattle.cc_form.proofs.Ordered.{cases_test}
 
 -- ---- one list of clauses behind another
@@ -270,19 +271,10 @@ module _ (a : ℕ → Bool) (sizes : List ℕ) (v : ℕ → ℕ) (is_true : a (t
 
   -- ---- terms that are asserted, and one that is denied
 
-  pub record AreAsserted (last : ℕ) (made : Asserted) (given : List Bool) (Holds : Type 0) : Type 0 where
-    pub ends : made.last ≡ last + length given
-    pub meets : AllMet a made.clauses → Agrees a last given
-    pub holds : AllMet a made.clauses → Holds
-    pub agrees : Agrees a last given → Holds → AllMet a made.clauses
-
   abbrev pub terms_values : ℕ → List Ground → List Bool
   terms_values last formulas = terms_values_of sizes v last formulas
 
-  one_true : (l : Literal) → meets a (l ∷ []) ≡ true → lit a l ≡ true
-  one_true l e = elim (or_gives (lit a l) false e) [ inl h ↦ h | inr h ↦ absurd cc ]
-
-  pub terms_asserted : (formulas : List Ground) (last : ℕ) → AllByRecursion (AtomsFit sizes) formulas → AreAsserted last (assert_all sizes last formulas) (terms_values last formulas) (AllTrue v formulas)
+  pub terms_asserted : (formulas : List Ground) (last : ℕ) → AllByRecursion (AtomsFit sizes) formulas → AreAsserted a last (assert_all sizes last formulas) (terms_values last formulas) (AllTrue v formulas)
   terms_asserted [] last fit = record { ends = omega arith; meets = λ h. tt; holds = λ h. tt; agrees = λ h k. tt }
   terms_asserted (f ∷ formulas) last fit =
       let m = made_of sizes last f in
@@ -295,7 +287,7 @@ module _ (a : ℕ → Bool) (sizes : List ℕ) (v : ℕ → ℕ) (is_true : a (t
       record {
         ends = ends_together a last xs ys m.last one.ends n.last other.ends;
         meets = λ h. joined a last xs ys m.last one.ends (one.meets (met_left a m.clauses tail h)) (other.meets (met_right a m.clauses tail h).1);
-        holds = λ h. (sym (one.literal (one.meets (met_left a m.clauses tail h))) ∙ one_true m.literal (met_right a m.clauses tail h).0, other.holds (met_right a m.clauses tail h).1);
+        holds = λ h. (sym (one.literal (one.meets (met_left a m.clauses tail h))) ∙ one_true a m.literal (met_right a m.clauses tail h).0, other.holds (met_right a m.clauses tail h).1);
         agrees = λ h k.
             met_both a m.clauses tail (one.agrees (agrees_left a last xs ys h))
             (or_is (lit a m.literal) false (inl (one.literal (agrees_left a last xs ys h) ∙ k.0)), other.agrees (behind a last xs ys m.last one.ends h) k.1);
@@ -304,7 +296,7 @@ module _ (a : ℕ → Bool) (sizes : List ℕ) (v : ℕ → ℕ) (is_true : a (t
   abbrev pub claim_values : ℕ → Option Ground → List Bool
   claim_values last claim = claim_values_of sizes v last claim
 
-  pub claim_denied : (claim : Option Ground) (last : ℕ) → IfSome claim (TermFits sizes) → AreAsserted last (deny sizes last claim) (claim_values last claim) (IsDenied v claim)
+  pub claim_denied : (claim : Option Ground) (last : ℕ) → IfSome claim (TermFits sizes) → AreAsserted a last (deny sizes last claim) (claim_values last claim) (IsDenied v claim)
   claim_denied None last fit = record { ends = omega arith; meets = λ h. tt; holds = λ h. tt; agrees = λ h k. tt }
   claim_denied (Some f) last fit =
       let m = made_of sizes last f in
@@ -313,7 +305,7 @@ module _ (a : ℕ → Bool) (sizes : List ℕ) (v : ℕ → ℕ) (is_true : a (t
       record {
         ends = one.ends;
         meets = λ h. one.meets (met_left a m.clauses tail h);
-        holds = λ h. sym (one.literal (one.meets (met_left a m.clauses tail h))) ∙ untrue (lit a m.literal) (sym (opposite_is a m.literal) ∙ one_true (opposite m.literal) (met_right a m.clauses tail h).0);
+        holds = λ h. sym (one.literal (one.meets (met_left a m.clauses tail h))) ∙ untrue (lit a m.literal) (sym (opposite_is a m.literal) ∙ one_true a (opposite m.literal) (met_right a m.clauses tail h).0);
         agrees = λ h k. met_both a m.clauses tail (one.agrees h) (or_is (lit a (opposite m.literal)) false (inl (opposite_is a m.literal ∙ ap not (one.literal h ∙ k))), tt);
       }
     where

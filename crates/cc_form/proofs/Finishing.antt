@@ -31,7 +31,7 @@ use Rattle.cc_arena.specs.Walks.{OneFormula}
 use Rattle.cc_theory.specs.Laws.{ModelsArePaths, ModelsMeetCompletion}
 use Rattle.cc_theory.specs.Making.{stride_of}
 use Rattle.cc_theory.specs.Theories.{AreRulesAt, IsTheoryOf, PlainTheory, plain_head}
-use Rattle.cc_form.specs.declared.builder.Builder.{Builder}
+use Rattle.cc_form.specs.declared.writer.Writer.{Writer}
 use Rattle.cc_form.specs.declared.store.Kept.{Kept}
 use Rattle.cc_form.specs.Building.{IsBuiltForm, IsSection, count_refusal}
 use Rattle.cc_form.specs.Forms.{IsAxioms, TellsHistories, asked, form_of, form_refusal}
@@ -62,8 +62,8 @@ pub bodies_long : (sizes : List ℕ) (stride last : ℕ) (rules : List code.Time
 bodies_long sizes stride last [] = refl
 bodies_long sizes stride last (rule ∷ rules) = ap suc (bodies_long sizes stride (made_rule sizes stride last rule).last rules)
 
--- the clauses of rules one group behind another: `between` is the builder before the bodies, `made` the one behind them
-pub rules_done : (old between made new : Builder) (k1 : Kept) (stride : ℕ) (rules : List code.TimedRule) (truth : Literal) (literals : List Literal) (sizes : List ℕ) (k4 : Kept) →
+-- the clauses of rules one group behind another: `between` is the writer before the bodies, `made` the one behind them
+pub rules_done : (old between made new : Writer) (k1 : Kept) (stride : ℕ) (rules : List code.TimedRule) (truth : Literal) (literals : List Literal) (sizes : List ℕ) (k4 : Kept) →
     old.last ≡ true_variable old.places → truth ≡ positive (true_variable old.places) → sizes ≡ old.places →
     Gives old.store.kept k1 ((truth ∷ []) ∷ []) → Gives k1 between.store.kept (positions_from 1 sizes) → between.places ≡ old.places → between.last ≡ old.last →
     IsBuilt between made (made_bodies between.places stride between.last rules).last (made_bodies between.places stride between.last rules).clauses →
@@ -118,7 +118,7 @@ conditions_past sizes last conditions claim key fault past' =
     let d = denied_nodes sizes q.last claim in
     past_more q.last (query_list sizes last conditions claim key).last fault (let two = denied_rises sizes q.last claim in let three = asserted_rise sizes d.last key in omega arith) past'
 
-pub claim_past : (old between : Builder) (conditions : List (List Node)) (claim : Option (List Node)) (key : List (List Node)) (fault : Fault) →
+pub claim_past : (old between : Writer) (conditions : List (List Node)) (claim : Option (List Node)) (key : List (List Node)) (fault : Fault) →
     IsBuilt old between (asserted_nodes old.places old.last conditions).last (asserted_nodes old.places old.last conditions).clauses → IsPast (denied_nodes between.places between.last claim).last fault →
     IsPast (query_list old.places old.last conditions claim key).last fault
 claim_past old between conditions claim key fault one past' =
@@ -127,7 +127,7 @@ claim_past old between conditions claim key fault one past' =
     past_more d.last (query_list old.places old.last conditions claim key).last fault (asserted_rise old.places d.last key)
     (subst (λ (n : ℕ). IsPast (denied_nodes old.places n claim).last fault) one.ends (subst (λ (p : List ℕ). IsPast (denied_nodes p between.last claim).last fault) one.places past'))
 
-pub query_done : (old between made new : Builder) (conditions : List (List Node)) (claim : Option (List Node)) (keys : List ℕ → List (List Node)) (result : Result (Unit {0}) Fault) →
+pub query_done : (old between made new : Writer) (conditions : List (List Node)) (claim : Option (List Node)) (keys : List ℕ → List (List Node)) (result : Result (Unit {0}) Fault) →
     IsBuilt old between (asserted_nodes old.places old.last conditions).last (asserted_nodes old.places old.last conditions).clauses →
     IsBuilt between made (denied_nodes between.places between.last claim).last (denied_nodes between.places between.last claim).clauses →
     Adds made new result (asserted_nodes made.places made.last (keys made.places)) → Adds old new result (query_list old.places old.last conditions claim (keys old.places))
@@ -165,7 +165,7 @@ query_done old between made new conditions claim keys result one two' third = la
 
 -- ---- the whole section, built
 
-pub section_done : (sizes : List ℕ) (stride : ℕ) (rules : List code.TimedRule) (conditions : List (List Node)) (claim : Option (List Node)) (keys : List ℕ → List (List Node)) (begun between new : Builder) →
+pub section_done : (sizes : List ℕ) (stride : ℕ) (rules : List code.TimedRule) (conditions : List (List Node)) (claim : Option (List Node)) (keys : List ℕ → List (List Node)) (begun between new : Writer) →
     begun.places ≡ sizes → Holds begun.store.kept [] → IsBuilt begun between (rules_list begun.places stride rules).last (rules_list begun.places stride rules).clauses →
     IsBuilt between new (query_list between.places between.last conditions claim (keys between.places)).last (query_list between.places between.last conditions claim (keys between.places)).clauses →
     IsSection sizes (list_over sizes stride rules conditions claim (keys sizes)) new
@@ -303,12 +303,12 @@ module _ (theory : PlainTheory) (query : PlainGroundQuery) (with_claim : Bool) (
         choices = choices_in P rules.0 conditions.0 claim.0 key;
       })
 
-  pub built_form : (builder : Builder) → IsSection P list builder → IsBuiltForm builder
-  built_form builder is = record {
+  pub built_form : (writer : Writer) → IsSection P list writer → IsBuiltForm writer
+  built_form writer is = record {
     clauses = list.clauses;
     holds = is.holds;
     within = (let e = is.ends in let w = is.within in omega arith);
-    axioms = subst (λ (n : ℕ). IsAxioms (record { sizes = builder.places; variables = n; clauses = list.clauses })) (sym is.ends)
+    axioms = subst (λ (n : ℕ). IsAxioms (record { sizes = writer.places; variables = n; clauses = list.clauses })) (sym is.ends)
         (subst (λ (p : List ℕ). IsAxioms (record { sizes = p; variables = list.variables; clauses = list.clauses })) (sym is.places) section_axioms);
   }
 
@@ -364,11 +364,11 @@ module _ (theory : PlainTheory) (query : PlainGroundQuery) (with_claim : Bool) (
   abbrev section : ClauseList
   section = section_list theory query with_claim key
 
-  pub form_is : {E : Type 0} (result : Result Axioms E) (builder : Builder) → IsSection (position_sizes theory.signature h) section builder →
-      IfOk result (λ form. form ≡ record { sizes = builder.places; variables = builder.last; clauses = section.clauses }) → IfOk result (λ form. form ≡ form_of d q h with_claim key)
-  form_is (Err e) builder is made = tt
-  form_is (Ok form) builder is made =
-      made ∙ ap (λ (p : List ℕ). let a : Axioms = record { sizes = p; variables = builder.last; clauses = section.clauses } in a) (is.places ∙ sizes_same)
+  pub form_is : {E : Type 0} (result : Result Axioms E) (writer : Writer) → IsSection (position_sizes theory.signature h) section writer →
+      IfOk result (λ form. form ≡ record { sizes = writer.places; variables = writer.last; clauses = section.clauses }) → IfOk result (λ form. form ≡ form_of d q h with_claim key)
+  form_is (Err e) writer is made = tt
+  form_is (Ok form) writer is made =
+      made ∙ ap (λ (p : List ℕ). let a : Axioms = record { sizes = p; variables = writer.last; clauses = section.clauses } in a) (is.places ∙ sizes_same)
       ∙ ap (λ (n : ℕ). let a : Axioms = record { sizes = sizes_at d h; variables = n; clauses = section.clauses } in a) is.ends
       ∙ ap (λ (l : ClauseList). let a : Axioms = record { sizes = sizes_at d h; variables = l.variables; clauses = l.clauses } in a) list_of_description
 
@@ -437,7 +437,7 @@ module _ (theory : PlainTheory) (query : PlainGroundQuery) (with_claim : Bool) (
       ∙ ap (λ (l : List (List Node)). list_over sizes_own (stride_of theory.signature) theory.rules l (nodes_if with_claim (option_map nodes_own claim)) (map postfix (key_terms sizes_own key))) conditions_at
       ∙ ap (λ (o : Option (List Node)). list_over sizes_own (stride_of theory.signature) theory.rules (map (condition_nodes (stride_of theory.signature) theory.horizon) query.conditions) o (map postfix (key_terms sizes_own key))) claim_at
 
-  pub section_built : (begun between new : Builder) → begun.places ≡ sizes_own → Holds begun.store.kept [] → IsBuilt begun between (rules_list begun.places own_stride theory.rules).last (rules_list begun.places own_stride theory.rules).clauses →
+  pub section_built : (begun between new : Writer) → begun.places ≡ sizes_own → Holds begun.store.kept [] → IsBuilt begun between (rules_list begun.places own_stride theory.rules).last (rules_list begun.places own_stride theory.rules).clauses →
       IsBuilt between new (query_list between.places between.last (map nodes_own conditions) (nodes_if with_claim (option_map nodes_own claim)) (map postfix (key_terms between.places key))).last
       (query_list between.places between.last (map nodes_own conditions) (nodes_if with_claim (option_map nodes_own claim)) (map postfix (key_terms between.places key))).clauses →
       IsSection sizes_own (section_list theory query with_claim key) new
@@ -451,13 +451,13 @@ module _ (theory : PlainTheory) (query : PlainGroundQuery) (with_claim : Bool) (
       (begin_past sizes_own own_stride theory.rules (map nodes_own conditions) (nodes_if with_claim (option_map nodes_own claim)) (map postfix (key_terms sizes_own key)) fault
       (subst (λ (s : List ℕ). IsPast (true_variable s) fault) same past'))
 
-  pub theory_past : (begun : Builder) (fault : Fault) → begun.places ≡ sizes_own → IsPast (rules_list begun.places own_stride theory.rules).last fault → IsPast (section_list theory query with_claim key).variables fault
+  pub theory_past : (begun : Writer) (fault : Fault) → begun.places ≡ sizes_own → IsPast (rules_list begun.places own_stride theory.rules).last fault → IsPast (section_list theory query with_claim key).variables fault
   theory_past begun fault same past' =
       subst (λ (l : ClauseList). IsPast l.variables fault) own_list
       (rules_past sizes_own own_stride theory.rules (map nodes_own conditions) (nodes_if with_claim (option_map nodes_own claim)) (map postfix (key_terms sizes_own key)) fault
       (subst (λ (s : List ℕ). IsPast (rules_list s own_stride theory.rules).last fault) same past'))
 
-  pub query_past : (begun between : Builder) (fault : Fault) → begun.places ≡ sizes_own → IsBuilt begun between (rules_list begun.places own_stride theory.rules).last (rules_list begun.places own_stride theory.rules).clauses →
+  pub query_past : (begun between : Writer) (fault : Fault) → begun.places ≡ sizes_own → IsBuilt begun between (rules_list begun.places own_stride theory.rules).last (rules_list begun.places own_stride theory.rules).clauses →
       IsPast (query_list between.places between.last (map nodes_own conditions) (nodes_if with_claim (option_map nodes_own claim)) (map postfix (key_terms between.places key))).last fault →
       IsPast (section_list theory query with_claim key).variables fault
   query_past begun between fault same one past' =

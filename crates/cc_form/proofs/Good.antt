@@ -55,7 +55,7 @@ opposites : (n : ℕ) (xs : List Literal) → AreWithin n xs → AreWithin n (ma
 opposites n [] h = tt
 opposites n (x ∷ xs) h = (h.0, opposites n xs h.1)
 
-written_good : (n : ℕ) (xs : List Literal) → AreWithin n xs → AreGood n (written xs)
+pub written_good : (n : ℕ) (xs : List Literal) → AreWithin n xs → AreGood n (written xs)
 written_good n xs all = chosen (is_tautology xs)
   where
     chosen : (b : Bool) → AreGood n (if b then [] else in_order xs ∷ [])

@@ -115,7 +115,7 @@ module _ (models : ModelsMeetCompletion) (paths : ModelsArePaths) (mean : TermsM
       TellsRows (sizes_at d h) (timed_rules d h) (map (condition_term d h) q.conditions) (claim_if with_claim (option_map (condition_term d h) q.claim)) key →
       TellsHistories d (asked with_claim q) h (option_map (λ key. key.row) key) (form_of d q h with_claim key)
   tells_histories q h with_claim key tells = record {
-    histories = λ row. (
+    rows = λ row. (
       (λ of.
           let told = (tells.rows row).0 of in
           record {

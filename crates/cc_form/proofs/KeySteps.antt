@@ -10,7 +10,7 @@ use Rattle.cc_defs.specs.Rows.{IsRow}
 use Rattle.cc_defs.specs.Rules.{upto}
 use Rattle.cc_defs.specs.Terms.{Ground, Operands, nothing, and_then, operand_count, operands_behind, postfix, postfixes}
 use Rattle.cc_defs.specs.Terms as terms
-use Rattle.cc_form.specs.declared.builder.Builder.{Builder}
+use Rattle.cc_form.specs.declared.writer.Writer.{Writer}
 use Rattle.cc_form.specs.Machine.{IsPast, IsRan, Ran, run}
 use Rattle.cc_form.specs.Making.{key_down, key_part, key_up, nodes_above}
 use Rattle.cc_form.proofs.Parts.{front_rises, part_fails, ran_part}
@@ -28,12 +28,12 @@ module _ (sizes : List ℕ) (stack : List Literal) (last : ℕ) (whole : ℕ →
       let end = ap (λ (m : ℕ). (run sizes (whole m) stack last).last) (let e : suc (n + k) ≡ n + suc k = omega arith in e) in
       omega arith
 
-pub turn_ran : (old now new : Builder) (whole part : ℕ → List Node) (n : ℕ) (own : List Node) → ((m : ℕ) → whole (suc m) ≡ whole m ++ part m) → own ≡ part n →
+pub turn_ran : (old now new : Writer) (whole part : ℕ → List Node) (n : ℕ) (own : List Node) → ((m : ℕ) → whole (suc m) ≡ whole m ++ part m) → own ≡ part n →
     IsRan old now (run old.places (whole n) old.stack.items old.last) → IsRan now new (run now.places own now.stack.items now.last) → IsRan old new (run old.places (whole (n + 1)) old.stack.items old.last)
 turn_ran old now new whole part n own grows same one other =
     ran_part old now new (whole n) own (whole (n + 1)) (ap (λ (t : List Node). whole n ++ t) same ∙ sym (grows n) ∙ ap whole (let e : suc n ≡ n + 1 = omega arith in e)) one other
 
-pub turn_fails : (old now : Builder) (whole part : ℕ → List Node) (n count : ℕ) (own : List Node) (fault : Fault) → ((m : ℕ) → whole (suc m) ≡ whole m ++ part m) → own ≡ part n → n < count →
+pub turn_fails : (old now : Writer) (whole part : ℕ → List Node) (n count : ℕ) (own : List Node) (fault : Fault) → ((m : ℕ) → whole (suc m) ≡ whole m ++ part m) → own ≡ part n → n < count →
     IsRan old now (run old.places (whole n) old.stack.items old.last) → IsPast (run now.places own now.stack.items now.last).last fault → IsPast (run old.places (whole count) old.stack.items old.last).last fault
 turn_fails old now whole part n count own fault grows same less one past =
     past_more (run old.places (whole (suc n)) old.stack.items old.last).last (run old.places (whole count) old.stack.items old.last).last fault

@@ -3,6 +3,8 @@ mod Bodies
 mod Causes
 mod Choices
 mod Definitions
+mod Drafting
+mod Extending
 mod Keeping
 mod Keys
 mod Finishing
@@ -18,6 +20,8 @@ mod Picking
 mod Positions
 mod RowValues
 mod Running
+pub mod Saying
 mod Standing
-mod Telling
+pub mod Telling
+mod Whole
 mod Written

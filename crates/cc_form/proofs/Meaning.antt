@@ -4,18 +4,15 @@ use Rattle.std.specs.Prelude.{if◌then◌else◌, ◌==◌}
 use Rattle.std.specs.Bool.{beq}
 use Rattle.std.specs.List.{list_all, list_any}
 use Rattle.cc_defs.specs.declared.node.Node.TheVariants as nodes
-use Rattle.cc_defs.specs.ClauseForms.{Made, MadeAll, all_clauses, all_written, any_clauses, atom_variable, in_order, is_tautology, made_all, made_any, made_of, made_operands, positive, same_clauses, true_variable, written}
+use Rattle.cc_defs.specs.ClauseForms.{MadeAll, all_clauses, all_written, any_clauses, atom_variable, in_order, is_tautology, made_all, made_any, made_of, made_operands, positive, same_clauses, true_variable, written}
 use Rattle.cc_defs.specs.Clauses.{Literal, is_made_true, meets, opposite, IsIn}
 use Rattle.cc_defs.specs.Terms.{Ground, Operands, Fits, nothing, and_then, operand_count, postfix, postfixes, truth, all_true, any_true}
 use Rattle.cc_defs.specs.Terms as terms
+use Rattle.cc_form.specs.Parts.{Agrees, AllMet, IsTermTold}
 use Rattle.cc_form.proofs.Ordered.{cases_test, ordered_from, ordered_has}
 use Rattle.cc_form.proofs.Written.{any_gives, any_made, equal_tests, tautology_gives}
 
 -- ---- the values of the variables behind a number
-
-abbrev pub Agrees : (ℕ → Bool) → ℕ → List Bool → Type 0
-Agrees assignment last [] = Unit {0}
-Agrees assignment last (value ∷ values) = (assignment (last + 1) ≡ value) × Agrees assignment (last + 1) values
 
 pub agrees_left : (a : ℕ → Bool) (last : ℕ) (xs ys : List Bool) → Agrees a last (xs ++ ys) → Agrees a last xs
 agrees_left a last [] ys h = tt
@@ -30,10 +27,6 @@ agrees_both a last [] ys h k = subst (λ (n : ℕ). Agrees a n ys) (let e : last
 agrees_both a last (x ∷ xs) ys h k = (h.0, agrees_both a (last + 1) xs ys h.1 (subst (λ (n : ℕ). Agrees a n ys) (let e : last + suc (length xs) ≡ last + 1 + length xs = omega arith in e) k))
 
 -- ---- clauses that are all met
-
-abbrev pub AllMet : (ℕ → Bool) → List (List Literal) → Type 0
-AllMet assignment [] = Unit {0}
-AllMet assignment (clause ∷ clauses) = (meets assignment clause ≡ true) × AllMet assignment clauses
 
 pub met_left : (a : ℕ → Bool) (xs ys : List (List Literal)) → AllMet a (xs ++ ys) → AllMet a xs
 met_left a [] ys h = tt
@@ -269,13 +262,10 @@ module _ (a : ℕ → Bool) where
   pub same_met : (x f g : Literal) → lit x ≡ beq (lit f) (lit g) → AllMet a (same_clauses x f g)
   same_met x f g e = subst (λ (t : Type 0). t) (sym (same_three x f g)) (is_three (lit x) (lit f) (lit g) e)
 
-  -- ---- what clauses with new variables tell
+  pub one_true : (l : Literal) → meets a (l ∷ []) ≡ true → lit l ≡ true
+  one_true l e = elim (or_gives (lit l) false e) [ inl h ↦ h | inr h ↦ absurd cc ]
 
-  pub record IsTold (last : ℕ) (made : Made) (values : List Bool) (b : Bool) : Type 0 where
-    pub ends : made.last ≡ last + length values
-    pub meets : AllMet a made.clauses → Agrees a last values
-    pub agrees : Agrees a last values → AllMet a made.clauses
-    pub literal : Agrees a last values → lit made.literal ≡ b
+  -- ---- what clauses with new variables tell
 
   pub record AreTold (last : ℕ) (made : MadeAll) (values : List Bool) (all any : Bool) : Type 0 where
     pub ends : made.last ≡ last + length values
@@ -288,7 +278,7 @@ module _ (a : ℕ → Bool) where
   one_more : (last : ℕ) (values : List Bool) (b : Bool) (top : ℕ) (before defining : List (List Literal)) → top ≡ last + length values →
       (AllMet a before → Agrees a last values) → (Agrees a last values → AllMet a before) →
       (Agrees a last values → AllMet a defining → a (top + 1) ≡ b) → (Agrees a last values → a (top + 1) ≡ b → AllMet a defining) →
-      IsTold last (record { literal = positive (top + 1); last = top + 1; clauses = before ++ defining }) (values ++ b ∷ []) b
+      IsTermTold a last (record { literal = positive (top + 1); last = top + 1; clauses = before ++ defining }) (values ++ b ∷ []) b
   one_more last values b top before defining ends meets agrees given gives =
       let here : (h : Agrees a last (values ++ b ∷ [])) → a (top + 1) ≡ b = λ h. ap (λ (n : ℕ). a (n + 1)) ends ∙ (agrees_right a last values (b ∷ []) h).0 in
       record {
@@ -303,10 +293,10 @@ module _ (a : ℕ → Bool) where
       }
 
   plain : (last : ℕ) (made : MadeAll) (values : List Bool) (all any b : Bool) (l : Literal) → AreTold last made values all any → (Agrees a last values → lit l ≡ b) →
-      IsTold last (record { literal = l; last = made.last; clauses = made.clauses }) (values ++ []) b
+      IsTermTold a last (record { literal = l; last = made.last; clauses = made.clauses }) (values ++ []) b
   plain last made values all any b l told is =
       let e = append-nil values in
-      subst (λ (vs : List Bool). IsTold last (record { literal = l; last = made.last; clauses = made.clauses }) vs b) (sym e)
+      subst (λ (vs : List Bool). IsTermTold a last (record { literal = l; last = made.last; clauses = made.clauses }) vs b) (sym e)
       (record { ends = told.ends; meets = told.meets; agrees = told.agrees; literal = is })
 
   and_last : (p : Bool) → (p && true) ≡ p
@@ -319,7 +309,7 @@ module _ (a : ℕ → Bool) where
 
   told_all : (t : Literal) → lit t ≡ true → (last : ℕ) (literals : List Literal) (top : ℕ) (clauses : List (List Literal)) (values : List Bool) (all any : Bool) →
       AreTold last (record { literals = literals; last = top; clauses = clauses }) values all any →
-      IsTold last (made_all t (record { literals = literals; last = top; clauses = clauses }) literals) (values ++ own_values literals all) all
+      IsTermTold a last (made_all t (record { literals = literals; last = top; clauses = clauses }) literals) (values ++ own_values literals all) all
   told_all t is last [] top clauses values all any told = plain last (record { literals = []; last = top; clauses = clauses }) values all any all t told (λ h. is ∙ told.all_are h)
   told_all t is last (x ∷ []) top clauses values all any told = plain last (record { literals = x ∷ []; last = top; clauses = clauses }) values all any all x told (λ h. sym (and_last (lit x)) ∙ told.all_are h)
   told_all t is last (x ∷ y ∷ xs) top clauses values all any told =
@@ -329,7 +319,7 @@ module _ (a : ℕ → Bool) where
 
   told_any : (t : Literal) → lit t ≡ true → (last : ℕ) (literals : List Literal) (top : ℕ) (clauses : List (List Literal)) (values : List Bool) (all any : Bool) →
       AreTold last (record { literals = literals; last = top; clauses = clauses }) values all any →
-      IsTold last (made_any t (record { literals = literals; last = top; clauses = clauses }) literals) (values ++ own_values literals any) any
+      IsTermTold a last (made_any t (record { literals = literals; last = top; clauses = clauses }) literals) (values ++ own_values literals any) any
   told_any t is last [] top clauses values all any told = plain last (record { literals = []; last = top; clauses = clauses }) values all any any (opposite t) told (λ h. opposite_is t ∙ ap not is ∙ told.any_is h)
   told_any t is last (x ∷ []) top clauses values all any told = plain last (record { literals = x ∷ []; last = top; clauses = clauses }) values all any any x told (λ h. sym (or_last (lit x)) ∙ told.any_is h)
   told_any t is last (x ∷ y ∷ xs) top clauses values all any told =
@@ -348,12 +338,12 @@ module _ (a : ℕ → Bool) where
     values_in last operands = values_of_operands sizes v last operands
 
     abbrev pub Told : ℕ → Ground → Type 0
-    Told last f = IsTold last (made_of sizes last f) (values last f) (truth v f)
+    Told last f = IsTermTold a last (made_of sizes last f) (values last f) (truth v f)
 
     abbrev pub ToldIn : ℕ → Operands → Type 0
     ToldIn last operands = AreTold last (made_operands sizes last operands) (values_in last operands) (all_true v operands) (any_true v operands)
 
-    leaf : (last : ℕ) (l : Literal) (b : Bool) → lit l ≡ b → IsTold last (record { literal = l; last = last; clauses = [] }) [] b
+    leaf : (last : ℕ) (l : Literal) (b : Bool) → lit l ≡ b → IsTermTold a last (record { literal = l; last = last; clauses = [] }) [] b
     leaf last l b e = record { ends = omega arith; meets = λ h. tt; agrees = λ h. tt; literal = λ h. e }
 
     told_not : (last : ℕ) (f : Ground) → Told last f → Told last (terms.Not f)

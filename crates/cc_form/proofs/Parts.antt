@@ -9,7 +9,7 @@ use Rattle.cc_defs.specs.ClauseLists.{Asserted}
 use Rattle.cc_defs.specs.Clauses.{Literal}
 use Rattle.cc_defs.specs.Rules.{upto}
 use Rattle.cc_defs.specs.Terms.{IsTermOver, postfix}
-use Rattle.cc_form.specs.declared.builder.Builder.{Builder}
+use Rattle.cc_form.specs.declared.writer.Writer.{Writer}
 use Rattle.cc_form.specs.declared.store.Kept.{Kept}
 use Rattle.cc_form.specs.declared.store.Store.{Store}
 use Rattle.cc_form.specs.Machine.{Adds, IsBuilt, IsPast, IsRan, IsReady, Makes, Ran, RunsTo, behind, first_of, made_node, made_nodes, moved_node, moved_nodes, run, stepped}
@@ -18,12 +18,12 @@ use Rattle.cc_form.specs.Store.{Gives}
 use Rattle.cc_form.proofs.Keeping.{gives_more, gives_none}
 use Rattle.cc_form.proofs.Running.{behind_twice, past_more, ready, run_rises, runs}
 
-pub makes_of : (old new : Builder) (result : Result Literal Fault) (made : Made) → IfOk result (λ literal. literal ≡ made.literal) → OnOk result (IsBuilt old new made.last made.clauses) →
+pub makes_of : (old new : Writer) (result : Result Literal Fault) (made : Made) → IfOk result (λ literal. literal ≡ made.literal) → OnOk result (IsBuilt old new made.last made.clauses) →
     IfErr result (IsPast made.last) → Makes old new result made
 makes_of old new (Ok literal) made same built past = (same, built)
 makes_of old new (Err fault) made same built past = past
 
-pub makes_err : (old new : Builder) (result : Result Literal Fault) (made : Made) (fault : Fault) → IsErrAnd result (λ given. given ≡ fault) → IsPast made.last fault → Makes old new result made
+pub makes_err : (old new : Writer) (result : Result Literal Fault) (made : Made) (fault : Fault) → IsErrAnd result (λ given. given ≡ fault) → IsPast made.last fault → Makes old new result made
 makes_err old new (Ok literal) made fault is past = absurd is
 makes_err old new (Err given) made fault is past = subst (IsPast made.last) (sym is) past
 
@@ -48,7 +48,7 @@ module _ (sizes : List ℕ) where
 pub ready_at : (sizes : List ℕ) (term : List Node) (count : ℕ) → IsTermOver sizes term → IsReady count term
 ready_at sizes term count is = subst (IsReady count) (append-nil (postfix is.formula) ∙ sym is.written) (ready is.formula [] count tt)
 
-pub ran_more : (sizes : List ℕ) (old between new : Builder) (a b : List Node) (stack : List Literal) (last : ℕ) → old.places ≡ sizes → IsRan old between (run sizes a stack last) →
+pub ran_more : (sizes : List ℕ) (old between new : Writer) (a b : List Node) (stack : List Literal) (last : ℕ) → old.places ≡ sizes → IsRan old between (run sizes a stack last) →
     IsRan between new (run between.places b between.stack.items between.last) → IsRan old new (run sizes (a ++ b) stack last)
 ran_more sizes old between new a b stack last same one other =
     let r = run sizes a stack last in
@@ -66,7 +66,7 @@ ran_more sizes old between new a b stack last same one other =
       };
     })
 
-pub step_is_run : (sizes : List ℕ) (old new : Builder) (node : Node) (stack : List Literal) (last : ℕ) → IsRan old new (stepped sizes node stack last) → IsRan old new (run sizes (node ∷ []) stack last)
+pub step_is_run : (sizes : List ℕ) (old new : Writer) (node : Node) (stack : List Literal) (last : ℕ) → IsRan old new (stepped sizes node stack last) → IsRan old new (run sizes (node ∷ []) stack last)
 step_is_run sizes old new node stack last ran =
     let s = stepped sizes node stack last in
     subst (IsRan old new) (ap (λ (l : List (List Literal)). let r : Ran = record { stack = s.stack; last = s.last; clauses = l } in r) (sym (append-nil s.clauses))) ran
@@ -98,8 +98,8 @@ joined_both a b e f = rw (e, f) refl
 
 -- ---- both parts, run one after the other
 
--- a builder that has begun a term
-pub begun : (old begin between : Builder) (term : List Node) → begin.places ≡ old.places → begin.last ≡ old.last → begin.store ≡ old.store → begin.stack.items ≡ [] →
+-- a writer that has begun a term
+pub begun : (old begin between : Writer) (term : List Node) → begin.places ≡ old.places → begin.last ≡ old.last → begin.store ≡ old.store → begin.stack.items ≡ [] →
     IsRan begin between (run begin.places term begin.stack.items begin.last) → IsRan old between (run old.places term [] old.last)
 begun old begin between term places last store none ran =
     let same : run begin.places term begin.stack.items begin.last ≡ run old.places term [] old.last =
@@ -115,18 +115,18 @@ begun old begin between term places last store none ran =
       };
     }
 
-pub made_from : (old new : Builder) (literal : Literal) (term : List Node) → literal ≡ first_of new.stack.items → IsRan old new (run old.places term [] old.last) →
+pub made_from : (old new : Writer) (literal : Literal) (term : List Node) → literal ≡ first_of new.stack.items → IsRan old new (run old.places term [] old.last) →
     (literal ≡ (made_nodes old.places old.last term).literal) × IsBuilt old new (made_nodes old.places old.last term).last (made_nodes old.places old.last term).clauses
 made_from old new literal term is ran = (is ∙ ap first_of ran.stack, ran.built)
 
-pub begun_past : (old begin : Builder) (term : List Node) (fault : Fault) → begin.places ≡ old.places → begin.last ≡ old.last → begin.stack.items ≡ [] →
+pub begun_past : (old begin : Writer) (term : List Node) (fault : Fault) → begin.places ≡ old.places → begin.last ≡ old.last → begin.stack.items ≡ [] →
     IsPast (run begin.places term begin.stack.items begin.last).last fault → IsPast (run old.places term [] old.last).last fault
 begun_past old begin term fault places last none past =
     subst (λ (n : ℕ). IsPast (run old.places term [] n).last fault) last
     (subst (λ (s : List Literal). IsPast (run old.places term s begin.last).last fault) none
     (subst (λ (p : List ℕ). IsPast (run p term begin.stack.items begin.last).last fault) places past))
 
-pub next_past : (old between : Builder) (a b : List Node) (fault : Fault) → IsRan old between (run old.places a [] old.last) →
+pub next_past : (old between : Writer) (a b : List Node) (fault : Fault) → IsRan old between (run old.places a [] old.last) →
     IsPast (run between.places b between.stack.items between.last).last fault → IsPast (run old.places (a ++ b) [] old.last).last fault
 next_past old between a b fault ran past =
     let r = run old.places a [] old.last in
@@ -141,16 +141,16 @@ front_past sizes a b last fault past = past_more (run sizes a [] last).last (run
 pub step_past : (sizes : List ℕ) (node : Node) (stack : List Literal) (last : ℕ) (fault : Fault) → IsPast (stepped sizes node stack last).last fault → IsPast (run sizes (node ∷ []) stack last).last fault
 step_past sizes node stack last fault past = past
 
-pub runs_err : (old new : Builder) (result : Result (Unit {0}) Fault) (ran : Ran) (fault : Fault) → IsErrAnd result (λ given. given ≡ fault) → IsPast ran.last fault → RunsTo old new result ran
+pub runs_err : (old new : Writer) (result : Result (Unit {0}) Fault) (ran : Ran) (fault : Fault) → IsErrAnd result (λ given. given ≡ fault) → IsPast ran.last fault → RunsTo old new result ran
 runs_err old new (Ok done) ran fault is past = absurd is
 runs_err old new (Err given) ran fault is past = subst (IsPast ran.last) (sym is) past
 
-pub adds_err : (old new : Builder) (result : Result (Unit {0}) Fault) (made : Asserted) (fault : Fault) → IsErrAnd result (λ given. given ≡ fault) → IsPast made.last fault → Adds old new result made
+pub adds_err : (old new : Writer) (result : Result (Unit {0}) Fault) (made : Asserted) (fault : Fault) → IsErrAnd result (λ given. given ≡ fault) → IsPast made.last fault → Adds old new result made
 adds_err old new (Ok done) made fault is past = absurd is
 adds_err old new (Err given) made fault is past = subst (IsPast made.last) (sym is) past
 
 -- what runs one list and then another runs both
-pub next_runs : (sizes : List ℕ) (old between new : Builder) (a b : List Node) (stack : List Literal) (last : ℕ) (result : Result (Unit {0}) Fault) → old.places ≡ sizes → IsRan old between (run sizes a stack last) →
+pub next_runs : (sizes : List ℕ) (old between new : Writer) (a b : List Node) (stack : List Literal) (last : ℕ) (result : Result (Unit {0}) Fault) → old.places ≡ sizes → IsRan old between (run sizes a stack last) →
     RunsTo between new result (run between.places b between.stack.items between.last) → RunsTo old new result (run sizes (a ++ b) stack last)
 next_runs sizes old between new a b stack last (Ok done) same one other = ran_more sizes old between new a b stack last same one other
 next_runs sizes old between new a b stack last (Err fault) same one past =
@@ -160,24 +160,24 @@ next_runs sizes old between new a b stack last (Err fault) same one past =
     (subst (λ (s : List Literal). IsPast (run sizes b s between.last).last fault) one.stack
     (subst (λ (p : List ℕ). IsPast (run p b between.stack.items between.last).last fault) (one.built.places ∙ same) past)))
 
-pub runs_step : (sizes : List ℕ) (old new : Builder) (node : Node) (stack : List Literal) (last : ℕ) (result : Result (Unit {0}) Fault) → OnOk result (IsRan old new (stepped sizes node stack last)) → IfErr result (IsPast (stepped sizes node stack last).last) →
+pub runs_step : (sizes : List ℕ) (old new : Writer) (node : Node) (stack : List Literal) (last : ℕ) (result : Result (Unit {0}) Fault) → OnOk result (IsRan old new (stepped sizes node stack last)) → IfErr result (IsPast (stepped sizes node stack last).last) →
     RunsTo old new result (run sizes (node ∷ []) stack last)
 runs_step sizes old new node stack last (Ok done) ran past = step_is_run sizes old new node stack last ran
 runs_step sizes old new node stack last (Err fault) ran past = past
 
 -- ---- loops that run one list behind another
 
-pub ran_none : (old : Builder) → old.last ≤ 4000000 → IsRan old old (run old.places [] old.stack.items old.last)
+pub ran_none : (old : Writer) → old.last ≤ 4000000 → IsRan old old (run old.places [] old.stack.items old.last)
 ran_none old within = record { stack = refl; built = record { places = refl; ends = refl; within = within; gives = gives_none old.store.kept } }
 
 -- a step more of a list that goes on with a part
-pub ran_part : (old now new : Builder) (front part whole : List Node) → front ++ part ≡ whole → IsRan old now (run old.places front old.stack.items old.last) →
+pub ran_part : (old now new : Writer) (front part whole : List Node) → front ++ part ≡ whole → IsRan old now (run old.places front old.stack.items old.last) →
     IsRan now new (run now.places part now.stack.items now.last) → IsRan old new (run old.places whole old.stack.items old.last)
 ran_part old now new front part whole e one other =
     subst (λ (t : List Node). IsRan old new (run old.places t old.stack.items old.last)) e (ran_more old.places old now new front part old.stack.items old.last refl one other)
 
 -- and where that step fails
-pub part_fails : (old now : Builder) (front part rest whole : List Node) (fault : Fault) → front ++ part ++ rest ≡ whole → IsRan old now (run old.places front old.stack.items old.last) →
+pub part_fails : (old now : Writer) (front part rest whole : List Node) (fault : Fault) → front ++ part ++ rest ≡ whole → IsRan old now (run old.places front old.stack.items old.last) →
     IsPast (run now.places part now.stack.items now.last).last fault → IsPast (run old.places whole old.stack.items old.last).last fault
 part_fails old now front part rest whole fault e ran past =
     let r = run old.places front old.stack.items old.last in

@@ -11,8 +11,9 @@ use Rattle.cc_defs.specs.Rows.{IsRow}
 use Rattle.cc_defs.specs.Rules.{upto}
 use Rattle.cc_defs.specs.Terms.{Fits}
 use Rattle.cc_clauses.specs.RowsOf.{HasRow, HasRowFrom, MeetsAll}
+use Rattle.cc_form.specs.Parts.{Agrees, AllMet}
 use Rattle.cc_form.proofs.Choices.{variables_front}
-use Rattle.cc_form.proofs.Meaning.{Agrees, AllMet, agrees_both, agrees_left, agrees_right, met_both, met_left, met_right, or_gives, pair_gives, pair_is}
+use Rattle.cc_form.proofs.Meaning.{agrees_both, agrees_left, agrees_right, met_both, met_left, met_right, or_gives, pair_gives, pair_is}
 use Rattle.cc_form.proofs.Ordered.{among, contained, cases_test}
 use Rattle.cc_form.proofs.Positions.{sum_cons}
 use Rattle.cc_form.proofs.Written.{any_made}

@@ -10,7 +10,7 @@ use Rattle.cc_defs.specs.ClauseForms.{Made, MadeAll, positive, true_variable, ma
 use Rattle.cc_defs.specs.Clauses.{Literal, opposite}
 use Rattle.cc_defs.specs.Terms.{Ground, Operands, Fits, IsTermOver, nothing, and_then, operand_count, postfix, postfixes}
 use Rattle.cc_defs.specs.Terms as terms
-use Rattle.cc_form.specs.declared.builder.Builder.{Builder}
+use Rattle.cc_form.specs.declared.writer.Writer.{Writer}
 use Rattle.cc_form.specs.Machine.{Ran, IsPast, IsRan, IsReady, behind, first_of, made_node, made_nodes, moved_node, run, stepped}
 use Rattle.cc_form.specs.Store.{Gives}
 use Rattle.cc_form.proofs.Keeping.{gives_more, gives_none}
@@ -224,7 +224,7 @@ arity_moved by nodes.Same = refl
 
 -- ---- a loop over the nodes
 
-pub record RunsOn (old now : Builder) (whole rest : List Node) : Type 0 where
+pub record RunsOn (old now : Writer) (whole rest : List Node) : Type 0 where
   pub places : now.places ≡ old.places
   pub within : now.last ≤ 4000000
   pub done : List (List Literal)
@@ -233,10 +233,10 @@ pub record RunsOn (old now : Builder) (whole rest : List Node) : Type 0 where
   pub fits : AllByRecursion (Fits old.places) rest
   pub ready : IsReady (length now.stack.items) rest
 
-pub run_begins : (old : Builder) (whole : List Node) → old.last ≤ 4000000 → AllByRecursion (Fits old.places) whole → IsReady (length old.stack.items) whole → RunsOn old old whole whole
+pub run_begins : (old : Writer) (whole : List Node) → old.last ≤ 4000000 → AllByRecursion (Fits old.places) whole → IsReady (length old.stack.items) whole → RunsOn old old whole whole
 run_begins old whole within fits ready = record { places = refl; within = within; done = []; gives = gives_none old.store.kept; joined = refl; fits = fits; ready = ready }
 
-pub run_step : (old now new : Builder) (whole rest : List Node) (node : Node) → RunsOn old now whole (node ∷ rest) → IsRan now new (stepped now.places node now.stack.items now.last) → RunsOn old new whole rest
+pub run_step : (old now new : Writer) (whole rest : List Node) (node : Node) → RunsOn old now whole (node ∷ rest) → IsRan now new (stepped now.places node now.stack.items now.last) → RunsOn old new whole rest
 run_step old now new whole rest node so ran' =
     let ran : IsRan now new (stepped old.places node now.stack.items now.last) = subst (λ (p : List ℕ). IsRan now new (stepped p node now.stack.items now.last)) so.places ran' in
     let step = stepped old.places node now.stack.items now.last in
@@ -262,7 +262,7 @@ run_step old now new whole rest node so ran' =
     front_long (x ∷ xs) zero less = refl
     front_long (x ∷ xs) (suc n) less = ap suc (front_long xs n (omega arith))
 
-pub run_ends : (old now : Builder) (whole : List Node) → RunsOn old now whole [] → IsRan old now (run old.places whole old.stack.items old.last)
+pub run_ends : (old now : Writer) (whole : List Node) → RunsOn old now whole [] → IsRan old now (run old.places whole old.stack.items old.last)
 run_ends old now whole so = record {
   stack = ap (λ (r : Ran). r.stack) so.joined;
   built = record {
@@ -273,7 +273,7 @@ run_ends old now whole so = record {
   };
 }
 
-pub run_fails : (old now : Builder) (whole rest : List Node) (node : Node) (fault : Fault) → RunsOn old now whole (node ∷ rest) →
+pub run_fails : (old now : Writer) (whole rest : List Node) (node : Node) (fault : Fault) → RunsOn old now whole (node ∷ rest) →
     IsPast (stepped now.places node now.stack.items now.last).last fault → IsPast (run old.places whole old.stack.items old.last).last fault
 run_fails old now whole rest node fault so is =
     let step = stepped old.places node now.stack.items now.last in

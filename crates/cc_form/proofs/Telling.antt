@@ -1,25 +1,28 @@
 -- The rows of a clause list are those that meet the completion and the conditions, do not meet the claim, and lie after the key.
-use Rattle.std.proofs.Common.{◌≡◌, ◌∙◌, ℕ, zero, suc, ◌+◌, ◌-◌, ◌<◌, ◌≤◌, inl, inr, Bool, true, false, not, ◌&&◌, ◌||◌, List, [], ◌∷◌, ◌++◌, length, get_or, slice_get, Option, Some, None, refl, sym, ap, subst, arith, length-append, IsFalse}
+use Rattle.std.proofs.Common.{◌≡◌, ◌∙◌, ℕ, zero, suc, ◌+◌, ◌<◌, inl, inr, Bool, true, false, not, ◌&&◌, List, [], ◌∷◌, ◌++◌, slice_get, Option, Some, None, refl, sym, ap, subst, arith, append_assoc, IsFalse, IsTrue}
 use Rattle.std.specs.Prelude.{◌==◌, IfSome, slice_index}
 use Rattle.std.specs.List.{list_all, list_any, filter, AllByRecursion}
-use Rattle.std.proofs.lemmas.Bool.{cases_lt, eqb-true, eq-eqb}
+use Rattle.std.proofs.lemmas.Bool.{eqb-true, eq-eqb}
 use Rattle.cc_defs.specs.declared.lists.Key.{Key}
 use Rattle.cc_defs.specs.declared.node.GroundHead.{GroundHead}
 use Rattle.cc_defs.specs.declared.node.GroundHead.TheVariants as heads
-use Rattle.cc_defs.specs.ClauseForms.{all_written, atom_variable, positive, true_variable}
-use Rattle.cc_defs.specs.ClauseLists.{Asserted, MadeRules, assert_all, bodies_of, clauses_over, completion_from, denials_of, deny, is_certain, is_falsity, is_of_atom, key_terms, made_rules, positions_from, rules_that_count}
+use Rattle.cc_defs.specs.ClauseForms.{all_written, atom_variable, true_variable}
+use Rattle.cc_defs.specs.ClauseLists.{Asserted, MadeRules, assert_all, bodies_of, completion_from, denials_of, deny, is_certain, is_falsity, is_of_atom, key_terms, made_rules, rules_that_count}
 use Rattle.cc_defs.specs.Clauses.{Literal, IsIn}
 use Rattle.cc_defs.specs.Rows.{IsBelow, IsRow}
 use Rattle.cc_defs.specs.Terms.{Ground}
 use Rattle.cc_defs.specs.TimedRules.{TimedRule}
-use Rattle.cc_clauses.specs.RowsOf.{HasRow, HasRowFrom}
+use Rattle.cc_clauses.specs.RowsOf.{HasRow}
+use Rattle.cc_clauses.specs.Tells.{Tells}
 use Rattle.cc_theory.specs.Completion.{IsCause, MeetsCompletion, holds}
-use Rattle.cc_form.specs.Laws.{AllFit, ClausesTellRows, HeadFits, IsTold, RuleFits, TellsRows}
-use Rattle.cc_form.proofs.Causes.{AllTrue, AreAsserted, AreRulesTold, IsDenied, all_atoms_fit, all_filter, atoms_counting, behind, claim_denied, claim_values_of, completion_met, denials_met, ends_together, falsity_counting, joined, met_completion, met_denials, rules_told, rules_values_of, terms_asserted, terms_values_of}
+use Rattle.cc_form.specs.Laws.{AllFit, ClausesTellRows, HeadFits, IsTold, RuleFits, TellsRows, TermFits, axioms_over}
+use Rattle.cc_form.specs.Parts.{Agrees, AllMet, Says, SaysFrom, axioms_behind, first_clauses, joined_parts}
+use Rattle.cc_form.proofs.Causes.{AllTrue, AreRulesTold, IsDenied, all_atoms_fit, all_filter, atoms_counting, claim_denied, claim_values_of, completion_met, denials_met, falsity_counting, met_completion, met_denials, rules_told, rules_values_of, terms_asserted, terms_values_of}
 use Rattle.cc_form.proofs.Keys.{after_true, key_fits, true_after}
-use Rattle.cc_form.proofs.Meaning.{Agrees, AllMet, AtomsFit, agrees_both, agrees_left, agrees_right, all_written_met, and_is, lit, met_all_written, met_both, met_left, met_right, or_gives, or_is}
+use Rattle.cc_form.proofs.Meaning.{AtomsFit, all_written_met, and_is, lit, met_all_written, met_both, met_left, met_right}
 use Rattle.cc_form.proofs.Ordered.{among, both_true, cases_test, contained}
-use Rattle.cc_form.proofs.RowValues.{agrees_row, atom_is, meets_from, met_from, positions_met, row_agrees, row_of, row_values, row_values_long}
+use Rattle.cc_form.proofs.RowValues.{atom_is}
+use Rattle.cc_form.proofs.Saying.{parts_tell_rows, says_then, tells_alike}
 use Rattle.cc_form.proofs.Written.{any_gives, any_made, equal_tests}
 
 -- ---- the completion of rules as equations of Booleans
@@ -127,43 +130,10 @@ pub key_atoms : (sizes : List ℕ) (key : Option Key) → IfSome key (λ key. Is
 key_atoms sizes None fits = tt
 key_atoms sizes (Some key) fits = (key_fits sizes sizes key.row 0 fits (λ k size e. ap (slice_get sizes) (let s : 0 + k ≡ k = omega arith in s) ∙ e), tt)
 
--- ---- assignments by lists of values
+-- ---- the parts of a list
 
-looked : List Bool → ℕ → Bool
-looked values variable = get_or values (variable - 1) false
-
-looked_at : (front values : List Bool) → Agrees (looked (front ++ values)) (length front) values
-unfolding looked
-looked_at front [] = tt
-looked_at front (b ∷ values) = (
-  ap (λ (n : ℕ). get_or (front ++ b ∷ values) n false) (let e : length front + 1 - 1 ≡ length front = omega arith in e) ∙ reads front,
-  subst (λ (n : ℕ). Agrees (looked (front ++ b ∷ values)) n values) (length-append front (b ∷ []))
-      (subst (λ (l : List Bool). Agrees (looked l) (length (front ++ b ∷ [])) values) (regroup front) (looked_at (front ++ b ∷ []) values)),
-)
-  where
-    reads : (xs : List Bool) → get_or (xs ++ b ∷ values) (length xs) false ≡ b
-    reads [] = refl
-    reads (x ∷ xs) = reads xs
-
-    regroup : (xs : List Bool) → (xs ++ b ∷ []) ++ values ≡ xs ++ b ∷ values
-    regroup [] = refl
-    regroup (x ∷ xs) = ap (λ l. x ∷ l) (regroup xs)
-
-agrees_same : (one other : ℕ → Bool) (last : ℕ) (values : List Bool) → Agrees one last values → Agrees other last values → (n : ℕ) → last < n → n ≤ last + length values → one n ≡ other n
-agrees_same one other last [] h k n above below = absurd (omega arith)
-agrees_same one other last (b ∷ values) h k n above below = elim (cases_lt (last + 1) n) [
-  | inl later ↦ agrees_same one other (last + 1) values h.1 k.1 n later (omega arith)
-  | inr here ↦ let same : n ≡ last + 1 = omega arith in ap one same ∙ h.0 ∙ sym k.0 ∙ ap other (sym same)
-]
-
--- assignments that have a row in common have every row in common
-has_same : (first : ℕ) (sizes row found : List ℕ) (one other : ℕ → Bool) → HasRowFrom first sizes one row → HasRowFrom first sizes other row → HasRowFrom first sizes one found → HasRowFrom first sizes other found
-has_same first [] row found one other h k f = tt
-has_same first (size ∷ sizes) [] found one other h k f = absurd h
-has_same first (size ∷ sizes) (i ∷ row) [] one other h k f = absurd f
-has_same first (size ∷ sizes) (i ∷ row) (j ∷ found) one other h k f = (λ value less. k.0 value less ∙ sym (h.0 value less) ∙ f.0 value less, has_same (first + size) sizes row found one other h.1 k.1 f.1)
-
-module _ (sizes : List ℕ) (rules : List TimedRule) (conditions : List Ground) (claim : Option Ground) (key : Option Key) (fit : AllFit sizes rules conditions claim key) where
+-- what the clauses of rules, of their completion and of their denials say
+module _ (sizes : List ℕ) (rules : List TimedRule) (fit : AllByRecursion (RuleFits sizes) rules) where
   abbrev T : ℕ
   T = true_variable sizes
 
@@ -173,29 +143,14 @@ module _ (sizes : List ℕ) (rules : List TimedRule) (conditions : List Ground) 
   abbrev bodies : MadeRules
   bodies = made_rules sizes T counted
 
-  abbrev query : Asserted
-  query = assert_all sizes bodies.last conditions
-
-  abbrev denied : Asserted
-  denied = deny sizes query.last claim
-
-  abbrev later : Asserted
-  later = assert_all sizes denied.last (key_terms sizes key)
-
-  abbrev first_part : List (List Literal)
-  first_part = (positive T ∷ []) ∷ positions_from 1 sizes
-
   abbrev completion : List (List Literal)
   completion = all_written (completion_from sizes bodies.rules 0 sizes)
 
   abbrev denials : List (List Literal)
   denials = all_written (denials_of bodies.rules)
 
-  abbrev whole : List (List Literal)
-  whole = first_part ++ bodies.clauses ++ completion ++ denials ++ query.clauses ++ denied.clauses ++ later.clauses
-
-  whole_is : whole ≡ (clauses_over sizes rules conditions claim key).clauses
-  whole_is = refl
+  abbrev pub rules_part : Asserted
+  rules_part = record { last = bodies.last; clauses = bodies.clauses ++ completion ++ denials }
 
   abbrev value_in : List ℕ → ℕ → ℕ
   value_in row = λ position. slice_index row position
@@ -203,83 +158,21 @@ module _ (sizes : List ℕ) (rules : List TimedRule) (conditions : List Ground) 
   abbrev body_values : List ℕ → List Bool
   body_values row = rules_values_of sizes (value_in row) T counted
 
-  abbrev query_values : List ℕ → List Bool
-  query_values row = terms_values_of sizes (value_in row) bodies.last conditions
-
-  abbrev denied_values : List ℕ → List Bool
-  denied_values row = claim_values_of sizes (value_in row) query.last claim
-
-  abbrev later_values : List ℕ → List Bool
-  later_values row = terms_values_of sizes (value_in row) denied.last (key_terms sizes key)
-
-  abbrev given : List ℕ → List Bool
-  given row = body_values row ++ (query_values row ++ (denied_values row ++ later_values row))
-
-  abbrev all_values : List ℕ → List Bool
-  all_values row = row_values sizes row ++ true ∷ given row
-
   module _ (row : List ℕ) (is : IsRow sizes row) (a : ℕ → Bool) (has_row : HasRow sizes a row) (is_true : a T ≡ true) where
     bodies_told : AreRulesTold a sizes (value_in row) is_true (atom_is a sizes row has_row) T bodies (body_values row) counted
-    bodies_told = rules_told a sizes (value_in row) is_true (atom_is a sizes row has_row) counted T (all_filter (RuleFits sizes) (λ rule. not (is_certain sizes rule.head)) rules fit.rules_fit)
+    bodies_told = rules_told a sizes (value_in row) is_true (atom_is a sizes row has_row) counted T (all_filter (RuleFits sizes) (λ rule. not (is_certain sizes rule.head)) rules fit)
 
-    query_told : AreAsserted a sizes (value_in row) is_true (atom_is a sizes row has_row) bodies.last query (query_values row) (AllTrue (value_in row) conditions)
-    query_told = terms_asserted a sizes (value_in row) is_true (atom_is a sizes row has_row) conditions bodies.last (all_atoms_fit sizes conditions fit.conditions_fit)
-
-    claim_told : AreAsserted a sizes (value_in row) is_true (atom_is a sizes row has_row) query.last denied (denied_values row) (IsDenied (value_in row) claim)
-    claim_told = claim_denied a sizes (value_in row) is_true (atom_is a sizes row has_row) claim query.last fit.claim_fits
-
-    key_told : AreAsserted a sizes (value_in row) is_true (atom_is a sizes row has_row) denied.last later (later_values row) (AllTrue (value_in row) (key_terms sizes key))
-    key_told = terms_asserted a sizes (value_in row) is_true (atom_is a sizes row has_row) (key_terms sizes key) denied.last (key_atoms sizes key fit.key_fits)
-
-    -- the last variable is that of the last value
-    late_ends : later.last ≡ query.last + length (denied_values row ++ later_values row)
-    late_ends = ends_together a query.last (denied_values row) (later_values row) denied.last claim_told.ends later.last key_told.ends
-
-    middle_ends : later.last ≡ bodies.last + length (query_values row ++ (denied_values row ++ later_values row))
-    middle_ends = ends_together a bodies.last (query_values row) (denied_values row ++ later_values row) query.last query_told.ends later.last late_ends
-
-    all_end : later.last ≡ T + length (given row)
-    all_end = ends_together a T (body_values row) (query_values row ++ (denied_values row ++ later_values row)) bodies.last bodies_told.ends later.last middle_ends
-
-    -- the parts of the list
-    module _ (met : AllMet a whole) where
-      up_to_denied : AllMet a (first_part ++ bodies.clauses ++ completion ++ denials ++ query.clauses ++ denied.clauses)
-      up_to_denied = met_left a (first_part ++ bodies.clauses ++ completion ++ denials ++ query.clauses ++ denied.clauses) later.clauses met
-
-      up_to_query : AllMet a (first_part ++ bodies.clauses ++ completion ++ denials ++ query.clauses)
-      up_to_query = met_left a (first_part ++ bodies.clauses ++ completion ++ denials ++ query.clauses) denied.clauses up_to_denied
-
-      up_to_denials : AllMet a (first_part ++ bodies.clauses ++ completion ++ denials)
-      up_to_denials = met_left a (first_part ++ bodies.clauses ++ completion ++ denials) query.clauses up_to_query
-
-      up_to_completion : AllMet a (first_part ++ bodies.clauses ++ completion)
-      up_to_completion = met_left a (first_part ++ bodies.clauses ++ completion) denials up_to_denials
-
-      up_to_bodies : AllMet a (first_part ++ bodies.clauses)
-      up_to_bodies = met_left a (first_part ++ bodies.clauses) completion up_to_completion
+    module _ (met : AllMet a rules_part.clauses) where
+      up_to_completion : AllMet a (bodies.clauses ++ completion)
+      up_to_completion = met_left a (bodies.clauses ++ completion) denials met
 
       bodies_met : AllMet a bodies.clauses
-      bodies_met = met_right a first_part bodies.clauses up_to_bodies
-
-      query_met : AllMet a query.clauses
-      query_met = met_right a (first_part ++ bodies.clauses ++ completion ++ denials) query.clauses up_to_query
-
-      denied_met : AllMet a denied.clauses
-      denied_met = met_right a (first_part ++ bodies.clauses ++ completion ++ denials ++ query.clauses) denied.clauses up_to_denied
-
-      later_met : AllMet a later.clauses
-      later_met = met_right a (first_part ++ bodies.clauses ++ completion ++ denials ++ query.clauses ++ denied.clauses) later.clauses met
-
-      pub given_agrees : Agrees a T (given row)
-      given_agrees =
-          joined a T (body_values row) (query_values row ++ (denied_values row ++ later_values row)) bodies.last bodies_told.ends (bodies_told.meets bodies_met)
-          (joined a bodies.last (query_values row) (denied_values row ++ later_values row) query.last query_told.ends (query_told.meets query_met)
-          (joined a query.last (denied_values row) (later_values row) denied.last claim_told.ends (claim_told.meets denied_met) (key_told.meets later_met)))
+      bodies_met = met_left a bodies.clauses completion up_to_completion
 
       equal : AreEqual sizes row rules
       equal position size value at more less =
           let done = met_completion a sizes (value_in row) is_true (atom_is a sizes row has_row) bodies.rules sizes 0
-          (met_all_written a (completion_from sizes bodies.rules 0 sizes) (met_right a (first_part ++ bodies.clauses) completion up_to_completion)) position size value at more less in
+          (met_all_written a (completion_from sizes bodies.rules 0 sizes) (met_right a bodies.clauses completion up_to_completion)) position size value at more less in
           let here = subst (λ (p : ℕ). a (atom_variable sizes p value) ≡ list_any (lit a) (bodies_of p value bodies.rules)) (let e : 0 + position ≡ position = omega arith in e) done in
           sym (atom_is a sizes row has_row position value (size, at, less)) ∙ here ∙ bodies_told.tests (bodies_told.meets bodies_met) (is_of_atom position value)
           ∙ atoms_counting a sizes (value_in row) is_true (atom_is a sizes row has_row) rules position value size at more
@@ -288,110 +181,119 @@ module _ (sizes : List ℕ) (rules : List TimedRule) (conditions : List Ground) 
       none =
           sym (falsity_counting a sizes (value_in row) is_true (atom_is a sizes row has_row) rules) ∙ sym (bodies_told.tests (bodies_told.meets bodies_met) is_falsity)
           ∙ met_denials a sizes (value_in row) is_true (atom_is a sizes row has_row) (filter (λ rule. is_falsity rule.head) bodies.rules)
-          (met_all_written a (denials_of bodies.rules) (met_right a (first_part ++ bodies.clauses ++ completion) denials up_to_denials))
+          (met_all_written a (denials_of bodies.rules) (met_right a (bodies.clauses ++ completion) denials met))
 
-      pub told : IsTold sizes rules conditions claim key row
-      told = record {
-        is_row = is;
-        completion = completed sizes row rules is fit.rules_fit equal none;
-        conditions_hold = all_hold row conditions (query_told.holds query_met);
-        claim_fails = fails_from row claim (claim_told.holds denied_met);
-        after = key_after sizes row key is fit.key_fits (key_told.holds later_met);
-      }
+      rules_met : MeetsCompletion sizes rules row
+      rules_met = completed sizes row rules is fit equal none
 
-    pub all_met : IsTold sizes rules conditions claim key row → Agrees a T (given row) → AllMet a whole
-    all_met told agrees =
-        let rest = query_values row ++ (denied_values row ++ later_values row) in
-        let of_bodies = agrees_left a T (body_values row) rest agrees in
-        let behind_bodies = behind a T (body_values row) rest bodies.last bodies_told.ends agrees in
-        let of_query = agrees_left a bodies.last (query_values row) (denied_values row ++ later_values row) behind_bodies in
-        let behind_query = behind a bodies.last (query_values row) (denied_values row ++ later_values row) query.last query_told.ends behind_bodies in
-        let of_claim = agrees_left a query.last (denied_values row) (later_values row) behind_query in
-        let of_key = behind a query.last (denied_values row) (later_values row) denied.last claim_told.ends behind_query in
-        let equal = equal_of sizes row rules told.completion in
-        let bodies_met = bodies_told.agrees of_bodies in
-        met_both a (first_part ++ bodies.clauses ++ completion ++ denials ++ query.clauses ++ denied.clauses) later.clauses
-        (met_both a (first_part ++ bodies.clauses ++ completion ++ denials ++ query.clauses) denied.clauses
-        (met_both a (first_part ++ bodies.clauses ++ completion ++ denials) query.clauses
-        (met_both a (first_part ++ bodies.clauses ++ completion) denials
-        (met_both a (first_part ++ bodies.clauses) completion
-        (met_both a first_part bodies.clauses (or_is (a T) false (inl is_true), positions_met a sizes row 1 is has_row) bodies_met)
+    met_rules : Agrees a T (body_values row) → MeetsCompletion sizes rules row → AllMet a rules_part.clauses
+    met_rules agrees meets_it =
+        let equal = equal_of sizes row rules meets_it in
+        met_both a (bodies.clauses ++ completion) denials
+        (met_both a bodies.clauses completion (bodies_told.agrees agrees)
         (all_written_met a (completion_from sizes bodies.rules 0 sizes)
         (completion_met a sizes (value_in row) is_true (atom_is a sizes row has_row) bodies.rules sizes 0 (λ position size value at more less.
         subst (λ (p : ℕ). a (atom_variable sizes p value) ≡ list_any (lit a) (bodies_of p value bodies.rules)) (let e : position ≡ 0 + position = omega arith in e)
         (atom_is a sizes row has_row position value (size, at, less) ∙ equal position size value at more less
-        ∙ sym (bodies_told.tests of_bodies (is_of_atom position value) ∙ atoms_counting a sizes (value_in row) is_true (atom_is a sizes row has_row) rules position value size at more))))))
+        ∙ sym (bodies_told.tests agrees (is_of_atom position value) ∙ atoms_counting a sizes (value_in row) is_true (atom_is a sizes row has_row) rules position value size at more))))))
         (all_written_met a (denials_of bodies.rules)
         (denials_met a sizes (value_in row) is_true (atom_is a sizes row has_row) (filter (λ rule. is_falsity rule.head) bodies.rules)
-        (bodies_told.tests of_bodies is_falsity ∙ falsity_counting a sizes (value_in row) is_true (atom_is a sizes row has_row) rules ∙ none_of sizes row rules told.completion))))
-        (query_told.agrees of_query (hold_all row conditions told.conditions_hold)))
-        (claim_told.agrees of_claim (denied_from row claim told.claim_fails)))
-        (key_told.agrees of_key (after_key_is sizes row key is fit.key_fits told.after))
+        (bodies_told.tests agrees is_falsity ∙ falsity_counting a sizes (value_in row) is_true (atom_is a sizes row has_row) rules ∙ none_of sizes row rules meets_it)))
 
-  true_from : (a : ℕ → Bool) → AllMet a whole → a T ≡ true
-  true_from a met = elim (or_gives (a T) false (first_of_all a met)) [ inl e ↦ e | inr e ↦ absurd cc ]
-    where
-      first_of_all : (a : ℕ → Bool) → AllMet a whole → (a T || false) ≡ true
-      first_of_all a met = met.0
+  -- the rows that meet their completion
+  pub says_rules : Says sizes rules_part (MeetsCompletion sizes rules)
+  says_rules = record {
+    given = body_values;
+    says = λ row is a has_row is_true. record {
+      ends = (bodies_told row is a has_row is_true).ends;
+      meets = λ h. (bodies_told row is a has_row is_true).meets (bodies_met row is a has_row is_true h);
+      holds = rules_met row is a has_row is_true;
+      agrees = met_rules row is a has_row is_true;
+    };
+  }
 
-  T_behind : (row : List ℕ) → IsRow sizes row → length (row_values sizes row) + 1 ≡ T
-  T_behind row is = ap (λ (n : ℕ). n + 1) (row_values_long sizes row is)
+-- conditions: the rows in which they hold
+pub says_conditions : (sizes : List ℕ) (last : ℕ) (conditions : List Ground) → AllByRecursion (TermFits sizes) conditions →
+    SaysFrom sizes last (assert_all sizes last conditions) (λ row. IsTrue (list_all (holds row) conditions))
+says_conditions sizes last conditions fit = record {
+  given = λ row. terms_values_of sizes (λ position. slice_index row position) last conditions;
+  says = λ row is a has_row is_true.
+      let told = terms_asserted a sizes (λ position. slice_index row position) is_true (atom_is a sizes row has_row) conditions last (all_atoms_fit sizes conditions fit) in
+      record { ends = told.ends; meets = told.meets; holds = λ h. all_hold row conditions (told.holds h); agrees = λ h k. told.agrees h (hold_all row conditions k) };
+}
 
-  canonical : (row : List ℕ) → IsRow sizes row → Agrees (looked (all_values row)) 0 (all_values row)
-  canonical row is = looked_at [] (all_values row)
+-- a claim that is denied: the rows in which it does not hold
+pub says_denied : (sizes : List ℕ) (last : ℕ) (claim : Option Ground) → IfSome claim (TermFits sizes) → SaysFrom sizes last (deny sizes last claim) (λ row. IfSome claim (λ claim. IsFalse (holds row claim)))
+says_denied sizes last claim fit = record {
+  given = λ row. claim_values_of sizes (λ position. slice_index row position) last claim;
+  says = λ row is a has_row is_true.
+      let told = claim_denied a sizes (λ position. slice_index row position) is_true (atom_is a sizes row has_row) claim last fit in
+      record { ends = told.ends; meets = told.meets; holds = λ h. fails_from row claim (told.holds h); agrees = λ h k. told.agrees h (denied_from row claim k) };
+}
 
-  abbrev assigned : List ℕ → ℕ → Bool
-  assigned row = looked (all_values row)
+-- a key: the rows behind it
+pub says_key : (sizes : List ℕ) (last : ℕ) (key : Option Key) → IfSome key (λ key. IsRow sizes key.row) → SaysFrom sizes last (assert_all sizes last (key_terms sizes key)) (λ row. IfSome key (λ key. IsBelow key.row row))
+says_key sizes last key fit = record {
+  given = λ row. terms_values_of sizes (λ position. slice_index row position) last (key_terms sizes key);
+  says = λ row is a has_row is_true.
+      let told = terms_asserted a sizes (λ position. slice_index row position) is_true (atom_is a sizes row has_row) (key_terms sizes key) last (key_atoms sizes key fit) in
+      record { ends = told.ends; meets = told.meets; holds = λ h. key_after sizes row key is fit (told.holds h); agrees = λ h k. told.agrees h (after_key_is sizes row key is fit k) };
+}
 
-  row_in : (row : List ℕ) (is : IsRow sizes row) → HasRow sizes (assigned row) row
-  row_in row is = agrees_row (assigned row) 0 sizes row is (agrees_left (assigned row) 0 (row_values sizes row) (true ∷ given row) (canonical row is))
+-- ---- the whole list
 
-  true_in : (row : List ℕ) (is : IsRow sizes row) → (a : ℕ → Bool) → Agrees a (0 + length (row_values sizes row)) (true ∷ given row) → (a T ≡ true) × Agrees a T (given row)
-  true_in row is a h =
-      let e : 0 + length (row_values sizes row) + 1 ≡ T = (let t = T_behind row is in omega arith) in
-      (ap a (sym e) ∙ h.0, subst (λ (n : ℕ). Agrees a n (given row)) e h.1)
+one_behind : (front xs ys whole : List (List Literal)) → whole ≡ front ++ xs → whole ++ ys ≡ front ++ (xs ++ ys)
+one_behind front xs ys whole e = ap (λ (l : List (List Literal)). l ++ ys) e ∙ append_assoc front xs ys
 
-  whole_agrees : (row : List ℕ) (is : IsRow sizes row) (a : ℕ → Bool) → HasRow sizes a row → AllMet a whole → Agrees a 0 (all_values row)
-  whole_agrees row is a has_row met =
-      let is_true = true_from a met in
-      let e : T ≡ 0 + length (row_values sizes row) + 1 = (let t = T_behind row is in omega arith) in
-      agrees_both a 0 (row_values sizes row) (true ∷ given row) (row_agrees a 0 sizes row has_row)
-      (ap a (sym e) ∙ is_true, subst (λ (n : ℕ). Agrees a n (given row)) e (given_agrees row is a has_row is_true met))
+module _ (sizes : List ℕ) (rules : List TimedRule) (conditions : List Ground) (claim : Option Ground) (key : Option Key) (fit : AllFit sizes rules conditions claim key) where
+  abbrev of_rules : Asserted
+  of_rules = rules_part sizes rules fit.rules_fit
 
-  positions_in : (a : ℕ → Bool) → AllMet a whole → AllMet a (positions_from 1 sizes)
-  positions_in a met =
-      (met_left a first_part bodies.clauses
-      (met_left a (first_part ++ bodies.clauses) completion
-      (met_left a (first_part ++ bodies.clauses ++ completion) denials
-      (met_left a (first_part ++ bodies.clauses ++ completion ++ denials) query.clauses
-      (met_left a (first_part ++ bodies.clauses ++ completion ++ denials ++ query.clauses) denied.clauses
-      (met_left a (first_part ++ bodies.clauses ++ completion ++ denials ++ query.clauses ++ denied.clauses) later.clauses met)))))).1
+  abbrev of_conditions : Asserted
+  of_conditions = assert_all sizes of_rules.last conditions
 
-  only_one : (row : List ℕ) → IsRow sizes row → (one other : ℕ → Bool) → HasRow sizes one row → HasRow sizes other row → AllMet one whole → AllMet other whole →
-      (variable : ℕ) → 0 < variable → variable ≤ later.last → one variable ≡ other variable
-  only_one row is one other has_one has_other met_one met_other variable some most =
-      agrees_same one other 0 (all_values row) (whole_agrees row is one has_one met_one) (whole_agrees row is other has_other met_other) variable some
-      (let end = all_end row is one has_one (true_from one met_one) in
-      let t = T_behind row is in
-      let long = length-append (row_values sizes row) (true ∷ given row) in
-      omega arith)
+  abbrev of_claim : Asserted
+  of_claim = deny sizes of_conditions.last claim
+
+  abbrev of_key : Asserted
+  of_key = assert_all sizes of_claim.last (key_terms sizes key)
+
+  abbrev to_claim : Asserted
+  to_claim = joined_parts (joined_parts of_rules of_conditions) of_claim
+
+  abbrev Said : List ℕ → Type 0
+  Said row = ((MeetsCompletion sizes rules row × IsTrue (list_all (holds row) conditions)) × IfSome claim (λ claim. IsFalse (holds row claim))) × IfSome key (λ key. IsBelow key.row row)
+
+  part : Says sizes (joined_parts to_claim of_key) Said
+  part =
+      let to_conditions = says_then sizes (true_variable sizes) of_rules of_conditions (MeetsCompletion sizes rules) (λ row. IsTrue (list_all (holds row) conditions))
+      (says_rules sizes rules fit.rules_fit) (says_conditions sizes of_rules.last conditions fit.conditions_fit) in
+      let claimed = says_then sizes (true_variable sizes) (joined_parts of_rules of_conditions) of_claim (λ row. MeetsCompletion sizes rules row × IsTrue (list_all (holds row) conditions))
+      (λ row. IfSome claim (λ claim. IsFalse (holds row claim))) to_conditions (says_denied sizes of_conditions.last claim fit.claim_fits) in
+      says_then sizes (true_variable sizes) to_claim of_key
+      (λ row. (MeetsCompletion sizes rules row × IsTrue (list_all (holds row) conditions)) × IfSome claim (λ claim. IsFalse (holds row claim)))
+      (λ row. IfSome key (λ key. IsBelow key.row row)) claimed (says_key sizes of_claim.last key fit.key_fits)
+
+  same_list : (axioms_over sizes rules conditions claim key).clauses ≡ first_clauses sizes ++ (joined_parts to_claim of_key).clauses
+  same_list =
+      let first = first_clauses sizes in
+      let made = bodies sizes rules fit.rules_fit in
+      let done = completion sizes rules fit.rules_fit in
+      let none = denials sizes rules fit.rules_fit in
+      one_behind first (of_rules.clauses ++ of_conditions.clauses ++ of_claim.clauses) of_key.clauses (first ++ made.clauses ++ done ++ none ++ of_conditions.clauses ++ of_claim.clauses)
+      (one_behind first (of_rules.clauses ++ of_conditions.clauses) of_claim.clauses (first ++ made.clauses ++ done ++ none ++ of_conditions.clauses)
+      (one_behind first of_rules.clauses of_conditions.clauses (first ++ made.clauses ++ done ++ none)
+      (one_behind first (made.clauses ++ done) none (first ++ made.clauses ++ done)
+      (one_behind first made.clauses done (first ++ made.clauses) refl))))
 
   pub tells : TellsRows sizes rules conditions claim key
-  tells = record {
-    rows = λ row. (
-      (λ of. let met = met_from of.assignment whole of.meets_all in told row of.is_row of.assignment of.has (true_from of.assignment met) met),
-      (λ of.
-          let is = of.is_row in
-          let a = assigned row in
-          let rest = true_in row is a (agrees_right a 0 (row_values sizes row) (true ∷ given row) (canonical row is)) in
-          record { is_row = is; assignment = a; has = row_in row is; meets_all = meets_from a whole (all_met row is a (row_in row is) rest.0 of rest.1) }),
-    );
-    once = λ row one other has_one has_other met_one met_other variable some most.
-        let met = met_from one whole met_one in
-        let found = row_of one sizes 1 (positions_in one met) in
-        only_one found.0 found.2 one other found.1 (has_same 1 sizes row found.0 one other has_one has_other found.1) met (met_from other whole met_other) variable some most;
-    each = λ a met_all. let met = met_from a whole met_all in let found = row_of a sizes 1 (positions_in a met) in (found.0, found.1, found.2);
-  }
+  tells =
+      subst (λ (list : List (List Literal)). Tells (record { sizes = sizes; variables = of_key.last; clauses = list }) (IsTold sizes rules conditions claim key)) (sym same_list)
+      (tells_alike (axioms_behind sizes (joined_parts to_claim of_key)) (λ row. IsRow sizes row × Said row) (IsTold sizes rules conditions claim key) (λ row. (
+        (λ so. record { is_row = so.0; completion = so.1.0.0.0; conditions_hold = so.1.0.0.1; claim_fails = so.1.0.1; after = so.1.1 }),
+        (λ told. (told.is_row, (((told.completion, told.conditions_hold), told.claim_fails), told.after))),
+      ))
+      (parts_tell_rows sizes (joined_parts to_claim of_key) Said part))
 
 pub clauses_tell_rows : ClausesTellRows
 clauses_tell_rows sizes rules conditions claim key fit = tells sizes rules conditions claim key fit

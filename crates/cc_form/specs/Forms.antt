@@ -1,5 +1,5 @@
 -- What the clause list of a section tells: its rows are the histories.
-use Rattle.std.specs.Prelude.{◌≡◌, ℕ, ◌<◌, ◌≤◌, ◌+◌, ◌↔◌, All, Contains, sum, Bool, true, false, List, length, Option, Some, None, nat_lt, if◌then◌else◌}
+use Rattle.std.specs.Prelude.{ℕ, ◌≤◌, ◌+◌, All, Contains, sum, Bool, true, false, List, length, Option, Some, None, nat_lt, if◌then◌else◌}
 use Rattle.cc_defs.specs.Limits.{most_variables, most_clauses, most_literals}
 use Rattle.cc_defs.specs.declared.lists.Key.{Key}
 use Rattle.cc_defs.specs.declared.refusal.LimitAt.TheVariants as limits

@@ -1,5 +1,5 @@
 -- What clause lists tell: which rows meet them, and with how many assignments.
-use Rattle.std.specs.Prelude.{◌≡◌, ℕ, ◌<◌, ◌≤◌, ◌↔◌, Bool, IsTrue, IsFalse, List, Option, Some, IfSome, slice_get}
+use Rattle.std.specs.Prelude.{◌≡◌, ℕ, ◌<◌, IsTrue, IsFalse, List, Option, Some, IfSome, slice_get}
 use Rattle.std.specs.List.{list_all, AllByRecursion}
 use Rattle.cc_defs.specs.declared.lists.Key.{Key}
 use Rattle.cc_defs.specs.declared.node.GroundHead.{GroundHead}

@@ -1,8 +1,10 @@
 pub mod Building
+pub mod Drafts
 pub mod Forms
 pub mod Laws
 pub mod Machine
 pub mod Making
+pub mod Parts
 pub mod Places
 pub mod Queries
 pub mod Store

@@ -11,7 +11,7 @@ use Rattle.cc_defs.specs.ClauseForms.{Made, positive, atom_variable, true_variab
 use Rattle.cc_defs.specs.ClauseLists.{Asserted}
 use Rattle.cc_defs.specs.Clauses.{Literal, opposite}
 use Rattle.cc_defs.specs.Refusals.{past}
-use Rattle.cc_form.specs.declared.builder.Builder.{Builder}
+use Rattle.cc_form.specs.declared.writer.Writer.{Writer}
 use Rattle.cc_form.specs.Store.{Gives}
 
 -- ---- terms whose constants are positions
@@ -83,7 +83,7 @@ made_nodes sizes last term =
     let ran = run sizes term [] last
     in record { literal = first_of ran.stack; last = ran.last; clauses = ran.clauses }
 
--- ---- what a builder does
+-- ---- what a writer does
 
 -- a last variable is past its limit
 abbrev pub IsPast : ℕ → Fault → Type 0
@@ -91,27 +91,27 @@ IsPast last (faults.Refused refusal) = (refusal ≡ past limits.Variables) × (m
 IsPast last faults.OutOfMemory = Unit {0}
 
 -- it has this last variable, and these clauses behind those that it had
-pub record IsBuilt (old new : Builder) (last : ℕ) (clauses : List (List Literal)) : Type 0 where
+pub record IsBuilt (old new : Writer) (last : ℕ) (clauses : List (List Literal)) : Type 0 where
   pub places : new.places ≡ old.places
   pub ends : new.last ≡ last
   pub within : last ≤ most_variables
   pub gives : Gives old.store.kept new.store.kept clauses
 
-pub record IsRan (old new : Builder) (ran : Ran) : Type 0 where
+pub record IsRan (old new : Writer) (ran : Ran) : Type 0 where
   pub stack : new.stack.items ≡ ran.stack
   pub built : IsBuilt old new ran.last ran.clauses
 
 -- the literal of a term is made, or the last variable is past its limit, or memory was wanting
-abbrev pub Makes : Builder → Builder → Result Literal Fault → Made → Type 0
+abbrev pub Makes : Writer → Writer → Result Literal Fault → Made → Type 0
 Makes old new (Ok literal) made = (literal ≡ made.literal) × IsBuilt old new made.last made.clauses
 Makes old new (Err fault) made = IsPast made.last fault
 
 -- the same of clauses alone
-abbrev pub Adds : Builder → Builder → Result (Unit {0}) Fault → Asserted → Type 0
+abbrev pub Adds : Writer → Writer → Result (Unit {0}) Fault → Asserted → Type 0
 Adds old new (Ok done) made = IsBuilt old new made.last made.clauses
 Adds old new (Err fault) made = IsPast made.last fault
 
 -- the same of the stack
-abbrev pub RunsTo : Builder → Builder → Result (Unit {0}) Fault → Ran → Type 0
+abbrev pub RunsTo : Writer → Writer → Result (Unit {0}) Fault → Ran → Type 0
 RunsTo old new (Ok done) ran = IsRan old new ran
 RunsTo old new (Err fault) ran = IsPast ran.last fault

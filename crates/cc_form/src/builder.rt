@@ -1,257 +1,98 @@
-//! Clauses over the positions of a horizon: the literals of terms, and clauses of literals.
-ghost use Rattle.std.specs.Prelude.{◌≡◌, ◌+◌, ◌≤◌, ◌<◌, ◌++◌, [], ◌∷◌, length, IfOk, IfErr, OnOk};
+//! Clauses over positions, one after another, that are always within their limits.
+ghost use Rattle.std.specs.Prelude.{◌≡◌, ◌≤◌, ℕ, List, [], ◌∷◌, Contains, IfOk, IfErr, OnOk, None, slice_index};
 ghost use Rattle.std.specs.List.{AllByRecursion};
-ghost use Rattle.cc_arena.specs.Walks.{arity as arity_of};
-ghost use Rattle.cc_defs.specs.Limits.{most_variables};
-ghost use Rattle.cc_defs.specs.declared.node.Node.TheVariants as nodes;
-ghost use Rattle.cc_defs.specs.ClauseForms.{made_all as made_all_of, made_any as made_any_of, made_same as made_same_of, positive, true_variable};
-ghost use Rattle.cc_defs.specs.Terms.{Fits, IsTermOver};
-ghost use Rattle.cc_form.specs.Machine.{first_of, made_node, made_nodes, moved_node, moved_nodes, plain_made, run as run_of, stepped, IsBuilt, IsPast, IsRan, IsReady};
-ghost use Rattle.cc_form.specs.Store.{Gives, Holds};
+ghost use Rattle.cc_defs.specs.ClauseForms.{positive, true_variable};
+ghost use Rattle.cc_defs.specs.Clauses.{IsLiteralOver};
+ghost use Rattle.cc_defs.specs.Refusals.{IsRefusedBy};
+ghost use Rattle.cc_defs.specs.Terms.{Ground, IsTermOver, postfix, truth};
+ghost use Rattle.cc_form.specs.Drafts.{Extends, axioms_refusal, clause_behind, nodes_behind};
+ghost use Rattle.cc_form.specs.Machine.{made_nodes, moved_nodes};
+ghost use Rattle.cc_form.specs.Parts.{axioms_behind};
 
-use crate::defining::{define_all, define_any, define_same};
-use crate::places::Places;
-use crate::store::Store;
-use cc_clauses::ClauseArena;
-use cc_defs::{Fault, LimitAt, Lit, Node, Refusal};
+use crate::defining::write_all;
+use crate::draft::write_first;
+use crate::form::{Form, form_of_whole};
+use crate::writer::Writer;
+use cc_defs::{Fault, Lit, Node};
 use std::alloc::Global;
+use std::marker::Model;
+use std::mem::replace;
 
-/// Makes clauses over the positions of a horizon. Each conjunction, disjunction and equivalence gets a variable of its own
-/// (Tseitin, 1968).
+/// A clause list over positions that grows and is within its limits after each call: that a variable is true, that each
+/// position has exactly one value, and then what its calls put behind. After an `Err` it is one of no positions and without
+/// clauses.
 #[derive(Drop)]
-pub(crate) struct Builder {
-    pub(crate) places: Places,
-    // The number of the last variable.
-    pub(crate) last: u32,
-    // The literals of the operands that wait for their node.
-    stack: Vec<Lit>,
-    pub(crate) store: Store,
+pub struct Builder {
+    writer: Writer,
+    alloc: Global,
 }
 
-/// How many operands stand before a node.
-fn arity(node: Node) -> usize
-    ensures { result ≡ arity_of node }
-{
-    match node {
-        Node::True | Node::False | Node::Atom { .. } => 0,
-        Node::Not => 1,
-        Node::Same => 2,
-        Node::All(count) | Node::Any(count) => count as usize,
-    }
-}
+impl Model for Builder {
+    ghost use Rattle.cc_defs.specs.Sections.{Axioms};
+    ghost use Rattle.cc_form.specs.Drafts.{IsWhole};
 
-/// A new variable.
-fn fresh(last: &mut u32) -> Result<Lit, Fault>
-    requires { last.old ≤ most_variables }
-    ensures literal { IfOk result (λ literal. literal ≡ positive (last.old + 1)) }
-    ensures last { OnOk result (last.new ≡ last.old + 1) }
-    ensures within { OnOk result (last.old + 1 ≤ most_variables) }
-    ensures refused { IfErr result (IsPast (last.old + 1)) }
-{
-    if *last == LimitAt::Variables.number() {
-        return Err(Fault::Refused(Refusal::past(LimitAt::Variables)));
-    }
-    *last += 1;
-    Ok(Lit::positive(*last))
-}
+    ghost Value = { Axioms };
 
-/// The literal of all of these.
-fn made_all(truth: Lit, operands: &[Lit], last: &mut u32, store: &mut Store) -> Result<Lit, Fault>
-    requires { last.old ≤ most_variables }
-    ensures literal { IfOk result (λ literal. literal ≡ (made_all_of truth (record { literals = operands.now; last = last.old; clauses = [] }) operands.now).literal) }
-    ensures last { OnOk result (last.new ≡ (made_all_of truth (record { literals = operands.now; last = last.old; clauses = [] }) operands.now).last) }
-    ensures within { OnOk result (last.new ≤ most_variables) }
-    ensures clauses { OnOk result (Gives store.old.kept store.new.kept (made_all_of truth (record { literals = operands.now; last = last.old; clauses = [] }) operands.now).clauses) }
-    ensures refused { IfErr result (IsPast (made_all_of truth (record { literals = operands.now; last = last.old; clauses = [] }) operands.now).last) }
-{
-    match operands {
-        [] => Ok(truth),
-        [only] => Ok(*only),
-        _ => {
-            let x = fresh(last)?;
-            define_all(store, x, operands)?;
-            Ok(x)
-        }
-    }
-}
+    ghost view = { λ builder. record { sizes = builder.writer.places; variables = builder.writer.last; clauses = builder.writer.store.kept.arena } };
 
-/// The literal of one of these.
-fn made_any(truth: Lit, operands: &[Lit], last: &mut u32, store: &mut Store) -> Result<Lit, Fault>
-    requires { last.old ≤ most_variables }
-    ensures literal { IfOk result (λ literal. literal ≡ (made_any_of truth (record { literals = operands.now; last = last.old; clauses = [] }) operands.now).literal) }
-    ensures last { OnOk result (last.new ≡ (made_any_of truth (record { literals = operands.now; last = last.old; clauses = [] }) operands.now).last) }
-    ensures within { OnOk result (last.new ≤ most_variables) }
-    ensures clauses { OnOk result (Gives store.old.kept store.new.kept (made_any_of truth (record { literals = operands.now; last = last.old; clauses = [] }) operands.now).clauses) }
-    ensures refused { IfErr result (IsPast (made_any_of truth (record { literals = operands.now; last = last.old; clauses = [] }) operands.now).last) }
-{
-    match operands {
-        [] => Ok(truth.opposite()),
-        [only] => Ok(*only),
-        _ => {
-            let x = fresh(last)?;
-            define_any(store, x, operands)?;
-            Ok(x)
-        }
-    }
-}
-
-/// The literal of both of these, or neither.
-fn made_same(f: Lit, g: Lit, last: &mut u32, store: &mut Store) -> Result<Lit, Fault>
-    requires { last.old ≤ most_variables }
-    ensures literal { IfOk result (λ literal. literal ≡ (made_same_of (plain_made f last.old) (plain_made g last.old)).literal) }
-    ensures last { OnOk result (last.new ≡ (made_same_of (plain_made f last.old) (plain_made g last.old)).last) }
-    ensures within { OnOk result (last.new ≤ most_variables) }
-    ensures clauses { OnOk result (Gives store.old.kept store.new.kept (made_same_of (plain_made f last.old) (plain_made g last.old)).clauses) }
-    ensures refused { IfErr result (IsPast (made_same_of (plain_made f last.old) (plain_made g last.old)).last) }
-{
-    let x = fresh(last)?;
-    define_same(store, x, f, g)?;
-    Ok(x)
-}
-
-/// The literal of a node over those of its operands.
-fn made(
-    places: &Places,
-    node: Node,
-    offset: u64,
-    operands: &[Lit],
-    last: &mut u32,
-    store: &mut Store,
-) -> Result<Lit, Fault>
-    requires last { last.old ≤ most_variables }
-    requires offset { offset ≤ 9000000000000 }
-    requires fits { Fits places.now (moved_node offset node) }
-    requires operands { length operands.now ≡ arity_of node }
-    ensures literal { IfOk result (λ literal. literal ≡ (made_node places.now (moved_node offset node) operands.now last.old).literal) }
-    ensures last { OnOk result (last.new ≡ (made_node places.now (moved_node offset node) operands.now last.old).last) }
-    ensures within { OnOk result (last.new ≤ most_variables) }
-    ensures clauses { OnOk result (Gives store.old.kept store.new.kept (made_node places.now (moved_node offset node) operands.now last.old).clauses) }
-    ensures refused { IfErr result (IsPast (made_node places.now (moved_node offset node) operands.now last.old).last) }
-{
-    match node {
-        Node::True => Ok(places.truth()),
-        Node::False => Ok(places.truth().opposite()),
-        Node::Atom { constant, value } => Ok(places.atom(offset + u64::from(constant), value)),
-        Node::Not => Ok(operands[0].opposite()),
-        Node::All(_) => made_all(places.truth(), operands, last, store),
-        Node::Any(_) => made_any(places.truth(), operands, last, store),
-        Node::Same => made_same(operands[0], operands[1], last, store),
-    }
+    ghost invariant = { λ builder. IsWhole builder.writer };
 }
 
 impl Builder {
-    /// One with no clauses.
-    pub(crate) fn new(alloc: Global, sizes: Vec<u32>) -> Result<Builder, Fault>
-        ensures places { IfOk result (λ builder. builder.places ≡ sizes.items) }
-        ensures last { IfOk result (λ builder. builder.last ≡ true_variable sizes.items) }
-        ensures within { OnOk result (true_variable sizes.items ≤ most_variables) }
-        ensures clauses { IfOk result (λ builder. Holds builder.store.kept []) }
-        ensures refused { IfErr result (IsPast (true_variable sizes.items)) }
+    /// A list over positions with so many values each. Refuses, in this order, more than 4,000,000 variables, 8,000,000
+    /// clauses and 40,000,000 literals (14, with the limit), as each call does that puts something behind.
+    pub fn new(alloc: Global, sizes: &[u32]) -> Result<Builder, Fault>
+        ensures built { IfOk result (λ builder. builder ≡ axioms_behind sizes.now (record { last = true_variable sizes.now; clauses = [] })) }
+        ensures within { OnOk result (axioms_refusal (axioms_behind sizes.now (record { last = true_variable sizes.now; clauses = [] })) ≡ None) }
+        ensures refused { IfErr result (IsRefusedBy (axioms_refusal (axioms_behind sizes.now (record { last = true_variable sizes.now; clauses = [] })))) }
     {
-        let places = Places::new(alloc, sizes)?;
-        let last = places.last();
-        Ok(Builder {
-            places,
-            last,
-            stack: Vec::new(alloc),
-            store: Store::new(alloc),
-        })
+        let mut own = Vec::new(alloc);
+        own.extend_from_slice(sizes)?;
+        let mut writer = Writer::new(alloc, own)?;
+        write_first(&mut writer)?;
+        writer.fits()?;
+        Ok(Builder { writer, alloc })
     }
 
-    /// A node takes the literals of its operands from the stack, and puts its own there.
-    pub(crate) fn step(&mut self, node: Node, offset: u64) -> Result<(), Fault>
-        requires last { self.old.last ≤ most_variables }
-        requires offset { offset ≤ 9000000000000 }
-        requires fits { Fits self.old.places (moved_node offset node) }
-        requires operands { arity_of node ≤ length self.old.stack.items }
-        ensures ran { OnOk result (IsRan self.old self.new (stepped self.old.places (moved_node offset node) self.old.stack.items self.old.last)) }
-        ensures refused { IfErr result (IsPast (stepped self.old.places (moved_node offset node) self.old.stack.items self.old.last).last) }
+    /// The literal of a term, whose constants stand so many positions behind their numbers. Each conjunction, disjunction and
+    /// equivalence gets a variable of its own, and its clauses come behind the others. The rows of the clauses stay.
+    pub fn literal(&mut self, nodes: &[Node], first: u64) -> Result<Lit, Fault>
+        requires first { first ≤ 9000000000000 }
+        requires term { IsTermOver self.old.sizes (moved_nodes first nodes.now) }
+        ensures literal { IfOk result (λ literal. literal ≡ (made_nodes self.old.sizes self.old.variables (moved_nodes first nodes.now)).literal) }
+        ensures built { OnOk result (self.new ≡ nodes_behind self.old (moved_nodes first nodes.now)) }
+        ensures over { IfOk result (λ literal. IsLiteralOver self.new.variables literal) }
+        ensures rises { OnOk result (self.old.variables ≤ self.new.variables) }
+        ensures extends { (term : Ground) → postfix term ≡ moved_nodes first nodes.now → Contains self.old.clauses (positive (true_variable self.old.sizes) ∷ []) → IfOk result (λ literal. Extends self.old self.new literal (λ row. truth (λ position. slice_index row position) term)) }
+        ensures within { OnOk result (axioms_refusal (nodes_behind self.old (moved_nodes first nodes.now)) ≡ None) }
+        ensures refused { IfErr result (IsRefusedBy (axioms_refusal (nodes_behind self.old (moved_nodes first nodes.now)))) }
     {
-        let start = self.stack.len() - arity(node);
-        let operands = &self.stack[start..];
-        let literal = made(
-            &self.places,
-            node,
-            offset,
-            operands,
-            &mut self.last,
-            &mut self.store,
-        )?;
-        self.stack.truncate(start);
-        self.stack.push(literal)?;
+        let mut writer = replace(&mut self.writer, Writer::none(self.alloc));
+        let literal = writer.literal(nodes, first)?;
+        writer.fits()?;
+        self.writer = writer;
+        Ok(literal)
+    }
+
+    /// Puts a clause behind the others: each literal once, ascending; one with a variable in both signs is left out.
+    pub fn clause(&mut self, literals: &[Lit]) -> Result<(), Fault>
+        requires { AllByRecursion (IsLiteralOver self.old.variables) literals.now }
+        ensures built { OnOk result (self.new ≡ clause_behind self.old literals.now) }
+        ensures within { OnOk result (axioms_refusal (clause_behind self.old literals.now) ≡ None) }
+        ensures refused { IfErr result (IsRefusedBy (axioms_refusal (clause_behind self.old literals.now))) }
+    {
+        let mut writer = replace(&mut self.writer, Writer::none(self.alloc));
+        write_all(&mut writer.store, literals)?;
+        writer.fits()?;
+        self.writer = writer;
         Ok(())
     }
 
-    /// Puts the literal of an atom of a position on the stack.
-    pub(crate) fn step_atom(&mut self, position: u64, value: u32) -> Result<(), Fault>
-        requires last { self.old.last ≤ most_variables }
-        requires fits { Fits self.old.places (nodes.Atom position value) }
-        ensures ran { OnOk result (IsRan self.old self.new (stepped self.old.places (nodes.Atom position value) self.old.stack.items self.old.last)) }
-        ensures refused { IfErr result (IsPast (stepped self.old.places (nodes.Atom position value) self.old.stack.items self.old.last).last) }
+    /// The clause list.
+    pub fn close(self) -> Form
+        ensures { result ≡ self }
     {
-        self.stack.push(self.places.atom(position, value))?;
-        Ok(())
-    }
-
-    /// Puts the literal of a term on the stack, whose constants stand so many positions behind their numbers.
-    pub(crate) fn run(&mut self, term: &[Node], offset: u64) -> Result<(), Fault>
-        requires last { self.old.last ≤ most_variables }
-        requires offset { offset ≤ 9000000000000 }
-        requires fits { AllByRecursion (Fits self.old.places) (moved_nodes offset term.now) }
-        requires ready { IsReady (length self.old.stack.items) (moved_nodes offset term.now) }
-        ensures ran { OnOk result (IsRan self.old self.new (run_of self.old.places (moved_nodes offset term.now) self.old.stack.items self.old.last)) }
-        ensures refused { IfErr result (IsPast (run_of self.old.places (moved_nodes offset term.now) self.old.stack.items self.old.last).last) }
-    {
-        for node in term {
-            self.step(*node, offset)?;
-        }
-        Ok(())
-    }
-
-    /// Begins with a term.
-    pub(crate) fn begin(&mut self)
-        ensures places { self.new.places ≡ self.old.places }
-        ensures last { self.new.last ≡ self.old.last }
-        ensures kept { self.new.store ≡ self.old.store }
-        ensures stack { self.new.stack.items ≡ [] }
-    {
-        self.stack.clear();
-    }
-
-    /// The literal of the term that was begun.
-    pub(crate) fn end(&self) -> Lit
-        requires { 0 < length self.now.stack.items }
-        ensures { result ≡ first_of self.now.stack.items }
-    {
-        self.stack[0]
-    }
-
-    /// The literal of a term, whose constants stand so many positions behind their numbers.
-    pub(crate) fn literal(&mut self, term: &[Node], offset: u64) -> Result<Lit, Fault>
-        requires last { self.old.last ≤ most_variables }
-        requires offset { offset ≤ 9000000000000 }
-        requires term { IsTermOver self.old.places (moved_nodes offset term.now) }
-        ensures literal { IfOk result (λ literal. literal ≡ (made_nodes self.old.places self.old.last (moved_nodes offset term.now)).literal) }
-        ensures built { OnOk result (IsBuilt self.old self.new (made_nodes self.old.places self.old.last (moved_nodes offset term.now)).last (made_nodes self.old.places self.old.last (moved_nodes offset term.now)).clauses) }
-        ensures refused { IfErr result (IsPast (made_nodes self.old.places self.old.last (moved_nodes offset term.now)).last) }
-    {
-        self.begin();
-        self.run(term, offset)?;
-        Ok(self.end())
-    }
-
-    /// The positions, the number of the last variable, and the clauses.
-    pub(crate) fn close(self) -> (Places, u32, ClauseArena)
-        ensures places { result.0 ≡ self.places }
-        ensures last { result.1 ≡ self.last }
-        ensures clauses { result.2 ≡ self.store.kept.arena }
-    {
-        let Builder {
-            places,
-            last,
-            stack: _,
-            store,
-        } = self;
-        (places, last, store.close())
+        let Builder { writer, alloc: _ } = self;
+        form_of_whole(writer)
     }
 }

@@ -1,6 +1,6 @@
 //! The clauses that make a variable all of literals, one of them, or that two are the same.
 ghost use Rattle.std.specs.Prelude.{◌≡◌, ◌++◌, [], ◌∷◌, map, OnOk};
-ghost use Rattle.cc_defs.specs.ClauseForms.{all_clauses, all_written, any_clauses, same_clauses};
+ghost use Rattle.cc_defs.specs.ClauseForms.{all_clauses, all_written, any_clauses, same_clauses, written};
 ghost use Rattle.cc_defs.specs.Clauses.{opposite};
 ghost use Rattle.cc_form.specs.Store.{Gives};
 
@@ -48,6 +48,15 @@ fn write_all_opposites(store: &mut Store, first: Lit, literals: &[Lit]) -> Resul
     store.begin();
     store.stage(first)?;
     store.stage_opposites(literals)?;
+    store.write()
+}
+
+/// The clause of these literals.
+pub(crate) fn write_all(store: &mut Store, literals: &[Lit]) -> Result<(), OutOfMemory>
+    ensures { OnOk result (Gives store.old.kept store.new.kept (written literals.now)) }
+{
+    store.begin();
+    store.stage_all(literals)?;
     store.write()
 }
 

@@ -14,6 +14,7 @@ ghost use Rattle.cc_defs.specs.Rows.{IsRow};
 ghost use Rattle.cc_defs.specs.Terms.{postfix};
 ghost use Rattle.cc_theory.specs.Making.{stride_of};
 ghost use Rattle.cc_theory.specs.Theories.{AreRulesAt, IsTheoryOf};
+ghost use Rattle.cc_form.specs.Drafts.{IsWhole};
 ghost use Rattle.cc_form.specs.Forms.{TellsHistories, asked, form_of, form_refusal};
 ghost use Rattle.cc_form.specs.Machine.{Adds, IsPast};
 ghost use Rattle.cc_form.specs.Making.{asserted_nodes, denied_nodes, nodes_if, query_list, rules_list};
@@ -23,16 +24,16 @@ ghost use Rattle.cc_form.specs.Building.{IsBuiltForm, IsSection, count_refusal};
 ghost use Rattle.cc_form.specs.Store.{AreFew, Holds};
 ghost use Rattle.std.specs.List.{AllByRecursion};
 
-use crate::builder::Builder;
 use crate::groups::{complete, deny_falsity, positions};
 use crate::laws::clauses_tell_rows;
 use crate::places::{Places, sizes_of};
 use crate::rules::bodies_within;
 use crate::section::{assert_all, deny, follow};
+use crate::writer::Writer;
 use cc_arena::laws::terms_mean_formulas;
 use cc_arena::{GroundCondition, GroundQuery, one_formula};
 use cc_clauses::ClauseArena;
-use cc_defs::{Fault, Key, LimitAt, Lit, Refusal};
+use cc_defs::{Fault, Key, Lit};
 use cc_theory::Theory;
 use cc_theory::laws::{models_are_paths, models_meet_completion};
 use std::alloc::Global;
@@ -125,50 +126,50 @@ impl Form {
 /// The clauses of positions, rules, completion and denials.
 fn add_rules(
     alloc: Global,
-    builder: &mut Builder,
+    writer: &mut Writer,
     stride: u64,
     theory: &Theory<'_>,
 ) -> Result<(), Fault>
-    requires last { builder.old.last ≡ true_variable builder.old.places }
-    requires within { builder.old.last ≤ most_variables }
+    requires last { writer.old.last ≡ true_variable writer.old.places }
+    requires within { writer.old.last ≤ most_variables }
     requires bound { stride ≤ 8589934592 }
     requires stride { stride ≡ stride_of theory.now.signature }
-    requires places { builder.old.places ≡ position_sizes theory.now.signature theory.now.horizon }
-    ensures { Adds builder.old builder.new result (rules_list builder.old.places stride theory.now.rules) }
+    requires places { writer.old.places ≡ position_sizes theory.now.signature theory.now.horizon }
+    ensures { Adds writer.old writer.new result (rules_list writer.old.places stride theory.now.rules) }
 {
-    let truth = builder.places.truth();
-    builder.store.keep_one(truth)?;
-    positions(&mut builder.store, builder.places.sizes())?;
+    let truth = writer.places.truth();
+    writer.store.keep_one(truth)?;
+    positions(&mut writer.store, writer.places.sizes())?;
     let horizon = theory.horizon();
-    let bodies = bodies_within(alloc, builder, stride, horizon, theory.rules())?;
+    let bodies = bodies_within(alloc, writer, stride, horizon, theory.rules())?;
     let mut causes = Vec::new(alloc);
     complete(
-        &mut builder.store,
-        &builder.places,
+        &mut writer.store,
+        &writer.places,
         theory,
         &bodies,
         &mut causes,
     )?;
-    deny_falsity(&mut builder.store, theory, &bodies)?;
+    deny_falsity(&mut writer.store, theory, &bodies)?;
     Ok(())
 }
 
 /// The claim does not hold, where it is asked for and there is one.
 fn deny_if(
-    builder: &mut Builder,
+    writer: &mut Writer,
     stride: u64,
     horizon: u32,
     claim: Option<GroundCondition<'_>>,
     with_claim: bool,
 ) -> Result<(), Fault>
-    requires last { builder.old.last ≤ most_variables }
+    requires last { writer.old.last ≤ most_variables }
     requires bound { stride ≤ 8589934592 }
-    requires claim { IfSome claim (λ claim. IsOverPlaces builder.old.places stride horizon (plain_ground_condition claim)) }
-    ensures { Adds builder.old builder.new result (denied_nodes builder.old.places builder.old.last (nodes_if with_claim (option_map (λ claim. condition_nodes stride horizon (plain_ground_condition claim)) claim.entry))) }
+    requires claim { IfSome claim (λ claim. IsOverPlaces writer.old.places stride horizon (plain_ground_condition claim)) }
+    ensures { Adds writer.old writer.new result (denied_nodes writer.old.places writer.old.last (nodes_if with_claim (option_map (λ claim. condition_nodes stride horizon (plain_ground_condition claim)) claim.entry))) }
 {
     if with_claim {
         return match claim {
-            Some(claim) => deny(builder, stride, horizon, claim),
+            Some(claim) => deny(writer, stride, horizon, claim),
             None => Ok(()),
         };
     }
@@ -176,57 +177,60 @@ fn deny_if(
 }
 
 /// The row lies after a key, where there is one.
-fn follow_if(builder: &mut Builder, after: Option<&Key>) -> Result<(), Fault>
-    requires last { builder.old.last ≤ most_variables }
-    requires key { IfSome after (λ key. IsRow builder.old.places key.now.row) }
-    ensures { Adds builder.old builder.new result (asserted_nodes builder.old.places builder.old.last (map postfix (key_terms builder.old.places (option_map (λ key. key.now) after.entry)))) }
+fn follow_if(writer: &mut Writer, after: Option<&Key>) -> Result<(), Fault>
+    requires last { writer.old.last ≤ most_variables }
+    requires key { IfSome after (λ key. IsRow writer.old.places key.now.row) }
+    ensures { Adds writer.old writer.new result (asserted_nodes writer.old.places writer.old.last (map postfix (key_terms writer.old.places (option_map (λ key. key.now) after.entry)))) }
 {
     match after {
-        Some(key) => follow(builder, key.row.items()),
+        Some(key) => follow(writer, key.row.items()),
         None => Ok(()),
     }
 }
 
 /// The clauses of conditions, of a claim where it is asked for, and of a key.
 fn add_query(
-    builder: &mut Builder,
+    writer: &mut Writer,
     stride: u64,
     horizon: u32,
     query: &GroundQuery<'_>,
     with_claim: bool,
     after: Option<&Key>,
 ) -> Result<(), Fault>
-    requires last { builder.old.last ≤ most_variables }
+    requires last { writer.old.last ≤ most_variables }
     requires bound { stride ≤ 8589934592 }
-    requires conditions { AllByRecursion (λ condition. IsOverPlaces builder.old.places stride horizon (plain_ground_condition condition)) query.now.conditions }
-    requires claim { IfSome query.now.claim (λ claim. IsOverPlaces builder.old.places stride horizon (plain_ground_condition claim)) }
-    requires key { IfSome after (λ key. IsRow builder.old.places key.now.row) }
-    ensures { Adds builder.old builder.new result (query_list builder.old.places builder.old.last (map (λ condition. condition_nodes stride horizon (plain_ground_condition condition)) query.now.conditions) (nodes_if with_claim (option_map (λ claim. condition_nodes stride horizon (plain_ground_condition claim)) query.now.claim)) (map postfix (key_terms builder.old.places (option_map (λ key. key.now) after.entry)))) }
+    requires conditions { AllByRecursion (λ condition. IsOverPlaces writer.old.places stride horizon (plain_ground_condition condition)) query.now.conditions }
+    requires claim { IfSome query.now.claim (λ claim. IsOverPlaces writer.old.places stride horizon (plain_ground_condition claim)) }
+    requires key { IfSome after (λ key. IsRow writer.old.places key.now.row) }
+    ensures { Adds writer.old writer.new result (query_list writer.old.places writer.old.last (map (λ condition. condition_nodes stride horizon (plain_ground_condition condition)) query.now.conditions) (nodes_if with_claim (option_map (λ claim. condition_nodes stride horizon (plain_ground_condition claim)) query.now.claim)) (map postfix (key_terms writer.old.places (option_map (λ key. key.now) after.entry)))) }
 {
-    assert_all(builder, stride, horizon, query.conditions.items())?;
-    deny_if(builder, stride, horizon, query.claim, with_claim)?;
-    follow_if(builder, after)
+    assert_all(writer, stride, horizon, query.conditions.items())?;
+    deny_if(writer, stride, horizon, query.claim, with_claim)?;
+    follow_if(writer, after)
 }
 
-/// The form of what was built, where it is within its limits.
-fn close(builder: Builder) -> Result<Form, Fault>
-    requires { IsBuiltForm builder }
-    ensures form { (kept : List (List Literal)) → Holds builder.store.kept kept → IfOk result (λ form. form ≡ record { sizes = builder.places; variables = builder.last; clauses = kept }) }
-    ensures few { (kept : List (List Literal)) → Holds builder.store.kept kept → OnOk result (AreFew kept) }
-    ensures refused { (kept : List (List Literal)) → Holds builder.store.kept kept → IfErr result (IsRefusedBy (count_refusal kept)) }
+/// The form of what was built, all of whose clauses are kept.
+pub(crate) fn form_of_whole(writer: Writer) -> Form
+    requires { IsWhole writer }
+    ensures { result ≡ record { sizes = writer.places; variables = writer.last; clauses = writer.store.kept.arena } }
 {
-    if builder.store.is_full() {
-        return Err(Fault::Refused(Refusal::past(LimitAt::AxiomClauses)));
-    }
-    if builder.store.kept.is_long {
-        return Err(Fault::Refused(Refusal::past(LimitAt::AxiomLiterals)));
-    }
-    let (places, variables, clauses) = builder.close();
-    Ok(Form {
+    let (places, variables, clauses) = writer.close();
+    Form {
         places,
         variables,
         clauses,
-    })
+    }
+}
+
+/// The form of what was built, where it is within its limits.
+pub(crate) fn close(writer: Writer) -> Result<Form, Fault>
+    requires { IsBuiltForm writer }
+    ensures form { (kept : List (List Literal)) → Holds writer.store.kept kept → IfOk result (λ form. form ≡ record { sizes = writer.places; variables = writer.last; clauses = kept }) }
+    ensures few { (kept : List (List Literal)) → Holds writer.store.kept kept → OnOk result (AreFew kept) }
+    ensures refused { (kept : List (List Literal)) → Holds writer.store.kept kept → IfErr result (IsRefusedBy (count_refusal kept)) }
+{
+    writer.fits()?;
+    Ok(form_of_whole(writer))
 }
 
 /// The clauses of a section, built.
@@ -236,7 +240,7 @@ fn build(
     query: &GroundQuery<'_>,
     with_claim: bool,
     after: Option<&Key>,
-) -> Result<Builder, Fault>
+) -> Result<Writer, Fault>
     requires query { IsQueryAt theory.now.signature theory.now.horizon (plain_ground_query query.now) }
     requires key { IfSome after (λ key. IsKeyAt theory.now.signature theory.now.horizon key.now) }
     ensures built { IfOk result (IsSection (position_sizes theory.now.signature theory.now.horizon) (section_list theory.now (plain_ground_query query.now) with_claim (option_map (λ key. key.now) after.entry))) }
@@ -250,10 +254,10 @@ fn build(
     let sig = theory.sig();
     let stride = u64::from(sig.fluents()) + u64::from(sig.actions());
     let sizes = sizes_of(alloc, sig, horizon)?;
-    let mut builder = Builder::new(alloc, sizes)?;
-    add_rules(alloc, &mut builder, stride, theory)?;
-    add_query(&mut builder, stride, horizon, query, with_claim, after)?;
-    Ok(builder)
+    let mut writer = Writer::new(alloc, sizes)?;
+    add_rules(alloc, &mut writer, stride, theory)?;
+    add_query(&mut writer, stride, horizon, query, with_claim, after)?;
+    Ok(writer)
 }
 
 /// The clause list of a section: the axioms of the search for the histories of a query at the horizon of a theory. In order:
@@ -280,6 +284,6 @@ pub fn clauses(
     models_are_paths();
     terms_mean_formulas();
     one_formula();
-    let builder = build(alloc, theory, query, with_claim, after)?;
-    close(builder)
+    let writer = build(alloc, theory, query, with_claim, after)?;
+    close(writer)
 }

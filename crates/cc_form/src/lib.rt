@@ -3,6 +3,7 @@
 
 mod builder;
 mod defining;
+mod draft;
 mod form;
 mod groups;
 pub mod laws;
@@ -10,5 +11,8 @@ mod places;
 mod rules;
 mod section;
 mod store;
+mod writer;
 
+pub use builder::Builder;
+pub use draft::Draft;
 pub use form::{Form, clauses};

@@ -1,5 +1,5 @@
 //! The positions of a horizon, and the variables of their atoms.
-ghost use Rattle.std.specs.Prelude.{◌≡◌, ◌+◌, ◌≤◌, ◌<◌, ◌++◌, ◌↔◌, length, take, min, sum, IfOk, IfErr, OnOk, IsTrue, Some, slice_get};
+ghost use Rattle.std.specs.Prelude.{◌≡◌, ◌+◌, ◌≤◌, ◌<◌, ◌++◌, ◌↔◌, [], length, take, min, sum, IfOk, IfErr, OnOk, IsTrue, Some, slice_get};
 ghost use Rattle.cc_defs.specs.Limits.{most_variables};
 ghost use Rattle.cc_defs.specs.declared.node.Node.TheVariants as nodes;
 ghost use Rattle.cc_defs.specs.ClauseForms.{atom_variable, positive, true_variable};
@@ -111,6 +111,17 @@ impl Places {
             firsts,
             truth: Lit::positive(count + 1),
         })
+    }
+
+    /// No positions.
+    pub(crate) fn none(alloc: Global) -> Places
+        ensures { result ≡ [] }
+    {
+        Places {
+            sizes: Vec::new(alloc),
+            firsts: Vec::new(alloc),
+            truth: Lit::positive(1),
+        }
     }
 
     pub(crate) fn sizes(&self) -> &[u32]

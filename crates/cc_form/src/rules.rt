@@ -13,8 +13,8 @@ ghost use Rattle.cc_form.specs.Places.{position_sizes};
 ghost use Rattle.cc_form.specs.Machine.{first_of, made_nodes, IsBuilt, IsPast, Makes};
 ghost use Rattle.cc_form.specs.Making.{body_nodes, head_nodes, is_truth as is_truth_of, joined_nodes, made_bodies, made_rule as made_rule_of, part_nodes, IsBodyOver};
 
-use crate::builder::Builder;
 use crate::places::Places;
+use crate::writer::Writer;
 use cc_defs::{Fault, Lit, Node};
 use cc_theory::{Timed, TimedHead, TimedRule};
 use std::alloc::Global;
@@ -37,71 +37,66 @@ fn is_truth(term: &[Node]) -> bool
 }
 
 /// The literal of the conjunction of both parts.
-fn both(builder: &mut Builder, stride: u64, now: Timed<'_>, before: Timed<'_>) -> Result<Lit, Fault>
-    requires last { builder.old.last ≤ most_variables }
+fn both(writer: &mut Writer, stride: u64, now: Timed<'_>, before: Timed<'_>) -> Result<Lit, Fault>
+    requires last { writer.old.last ≤ most_variables }
     requires stride { stride ≤ 8589934592 }
     requires now_step { now.step ≤ most_steps }
     requires before_step { before.step ≤ most_steps }
-    requires now { IsTermOver builder.old.places (part_nodes stride now) }
-    requires before { IsTermOver builder.old.places (part_nodes stride before) }
-    ensures { Makes builder.old builder.new result (made_nodes builder.old.places builder.old.last (part_nodes stride now.entry ++ part_nodes stride before.entry ++ nodes.All 2 ∷ [])) }
+    requires now { IsTermOver writer.old.places (part_nodes stride now) }
+    requires before { IsTermOver writer.old.places (part_nodes stride before) }
+    ensures { Makes writer.old writer.new result (made_nodes writer.old.places writer.old.last (part_nodes stride now.entry ++ part_nodes stride before.entry ++ nodes.All 2 ∷ [])) }
 {
-    builder.begin();
-    builder.run(now.nodes, offset_of(stride, now.step))?;
-    builder.run(before.nodes, offset_of(stride, before.step))?;
-    builder.step(Node::All(2), 0)?;
-    Ok(builder.end())
+    writer.begin();
+    writer.run(now.nodes, offset_of(stride, now.step))?;
+    writer.run(before.nodes, offset_of(stride, before.step))?;
+    writer.step(Node::All(2), 0)?;
+    Ok(writer.end())
 }
 
 /// The literal of two parts, each of which may be `true`, which asks nothing.
-fn joined(
-    builder: &mut Builder,
-    stride: u64,
-    now: Timed<'_>,
-    before: Timed<'_>,
-) -> Result<Lit, Fault>
-    requires last { builder.old.last ≤ most_variables }
+fn joined(writer: &mut Writer, stride: u64, now: Timed<'_>, before: Timed<'_>) -> Result<Lit, Fault>
+    requires last { writer.old.last ≤ most_variables }
     requires stride { stride ≤ 8589934592 }
     requires now_step { now.step ≤ most_steps }
     requires before_step { before.step ≤ most_steps }
-    requires now { IsTermOver builder.old.places (part_nodes stride now) }
-    requires before { IsTermOver builder.old.places (part_nodes stride before) }
-    ensures { Makes builder.old builder.new result (made_nodes builder.old.places builder.old.last (joined_nodes (part_nodes stride now.entry) (part_nodes stride before.entry))) }
+    requires now { IsTermOver writer.old.places (part_nodes stride now) }
+    requires before { IsTermOver writer.old.places (part_nodes stride before) }
+    ensures { Makes writer.old writer.new result (made_nodes writer.old.places writer.old.last (joined_nodes (part_nodes stride now.entry) (part_nodes stride before.entry))) }
 {
     if is_truth(now.nodes) {
-        return builder.literal(before.nodes, offset_of(stride, before.step));
+        return writer.literal(before.nodes, offset_of(stride, before.step));
     }
     if is_truth(before.nodes) {
-        return builder.literal(now.nodes, offset_of(stride, now.step));
+        return writer.literal(now.nodes, offset_of(stride, now.step));
     }
-    both(builder, stride, now, before)
+    both(writer, stride, now, before)
 }
 
 /// The literal of a head's atom; for falsity, that of `true`.
-fn head_literal(builder: &mut Builder, head: TimedHead) -> Lit
-    requires head { IsTermOver builder.old.places (head_nodes head) }
-    requires last { builder.old.last ≤ most_variables }
-    ensures literal { result ≡ (made_nodes builder.old.places builder.old.last (head_nodes head)).literal }
-    ensures built { IsBuilt builder.old builder.new (made_nodes builder.old.places builder.old.last (head_nodes head)).last (made_nodes builder.old.places builder.old.last (head_nodes head)).clauses }
+fn head_literal(writer: &mut Writer, head: TimedHead) -> Lit
+    requires head { IsTermOver writer.old.places (head_nodes head) }
+    requires last { writer.old.last ≤ most_variables }
+    ensures literal { result ≡ (made_nodes writer.old.places writer.old.last (head_nodes head)).literal }
+    ensures built { IsBuilt writer.old writer.new (made_nodes writer.old.places writer.old.last (head_nodes head)).last (made_nodes writer.old.places writer.old.last (head_nodes head)).clauses }
 {
     match head {
-        TimedHead::Atom { position, value } => builder.places.atom(position, value),
-        TimedHead::Falsity => builder.places.truth(),
+        TimedHead::Atom { position, value } => writer.places.atom(position, value),
+        TimedHead::Falsity => writer.places.truth(),
     }
 }
 
 /// The literal of the body of a rule.
-fn body(builder: &mut Builder, stride: u64, rule: TimedRule<'_>) -> Result<Lit, Fault>
-    requires last { builder.old.last ≤ most_variables }
+fn body(writer: &mut Writer, stride: u64, rule: TimedRule<'_>) -> Result<Lit, Fault>
+    requires last { writer.old.last ≤ most_variables }
     requires stride { stride ≤ 8589934592 }
-    requires fits { IsBodyOver builder.old.places stride rule }
-    ensures { Makes builder.old builder.new result (made_nodes builder.old.places builder.old.last (body_nodes stride rule.entry)) }
+    requires fits { IsBodyOver writer.old.places stride rule }
+    ensures { Makes writer.old writer.new result (made_nodes writer.old.places writer.old.last (body_nodes stride rule.entry)) }
 {
     match rule.now {
-        None => Ok(head_literal(builder, rule.head)),
+        None => Ok(head_literal(writer, rule.head)),
         Some(now) => match rule.before {
-            None => builder.literal(now.nodes, offset_of(stride, now.step)),
-            Some(before) => joined(builder, stride, now, before),
+            None => writer.literal(now.nodes, offset_of(stride, now.step)),
+            Some(before) => joined(writer, stride, now, before),
         },
     }
 }
@@ -118,35 +113,35 @@ fn is_certain(places: &Places, head: TimedHead) -> bool
 }
 
 /// The literal of the body of a rule that counts; of another one, that of `true`.
-fn made_rule(builder: &mut Builder, stride: u64, rule: TimedRule<'_>) -> Result<Lit, Fault>
-    requires last { builder.old.last ≤ most_variables }
+fn made_rule(writer: &mut Writer, stride: u64, rule: TimedRule<'_>) -> Result<Lit, Fault>
+    requires last { writer.old.last ≤ most_variables }
     requires stride { stride ≤ 8589934592 }
-    requires fits { IsBodyOver builder.old.places stride rule }
-    ensures { Makes builder.old builder.new result (made_rule_of builder.old.places stride builder.old.last rule.entry) }
+    requires fits { IsBodyOver writer.old.places stride rule }
+    ensures { Makes writer.old writer.new result (made_rule_of writer.old.places stride writer.old.last rule.entry) }
 {
-    if is_certain(&builder.places, rule.head) {
-        return Ok(builder.places.truth());
+    if is_certain(&writer.places, rule.head) {
+        return Ok(writer.places.truth());
     }
-    body(builder, stride, rule)
+    body(writer, stride, rule)
 }
 
 /// The literals of the bodies of rules, by their numbers.
 pub(crate) fn bodies(
     alloc: Global,
-    builder: &mut Builder,
+    writer: &mut Writer,
     stride: u64,
     rules: &[TimedRule<'_>],
 ) -> Result<Vec<Lit>, Fault>
-    requires last { builder.old.last ≤ most_variables }
+    requires last { writer.old.last ≤ most_variables }
     requires stride { stride ≤ 8589934592 }
-    requires fits { AllByRecursion (IsBodyOver builder.old.places stride) rules.now }
-    ensures literals { IfOk result (λ bodies. bodies.items ≡ map (λ rule. rule.body) (made_bodies builder.old.places stride builder.old.last rules.now).rules) }
-    ensures built { OnOk result (IsBuilt builder.old builder.new (made_bodies builder.old.places stride builder.old.last rules.now).last (made_bodies builder.old.places stride builder.old.last rules.now).clauses) }
-    ensures refused { IfErr result (IsPast (made_bodies builder.old.places stride builder.old.last rules.now).last) }
+    requires fits { AllByRecursion (IsBodyOver writer.old.places stride) rules.now }
+    ensures literals { IfOk result (λ bodies. bodies.items ≡ map (λ rule. rule.body) (made_bodies writer.old.places stride writer.old.last rules.now).rules) }
+    ensures built { OnOk result (IsBuilt writer.old writer.new (made_bodies writer.old.places stride writer.old.last rules.now).last (made_bodies writer.old.places stride writer.old.last rules.now).clauses) }
+    ensures refused { IfErr result (IsPast (made_bodies writer.old.places stride writer.old.last rules.now).last) }
 {
     let mut bodies = Vec::new(alloc);
     for rule in rules {
-        let literal = made_rule(builder, stride, *rule)?;
+        let literal = made_rule(writer, stride, *rule)?;
         bodies.push(literal)?;
     }
     Ok(bodies)
@@ -155,18 +150,18 @@ pub(crate) fn bodies(
 /// The literals of the bodies of the rules of a horizon, by their numbers.
 pub(crate) fn bodies_within(
     alloc: Global,
-    builder: &mut Builder,
+    writer: &mut Writer,
     stride: u64,
     horizon: u32,
     rules: &[TimedRule<'_>],
 ) -> Result<Vec<Lit>, Fault>
-    requires last { builder.old.last ≤ most_variables }
+    requires last { writer.old.last ≤ most_variables }
     requires bound { stride ≤ 8589934592 }
     requires horizon { horizon ≤ most_steps }
-    requires fits { (signature : Signature) × (stride ≡ stride_of signature) × (builder.old.places ≡ position_sizes signature horizon) × AreRulesAt signature horizon rules.now }
-    ensures literals { IfOk result (λ bodies. bodies.items ≡ map (λ rule. rule.body) (made_bodies builder.old.places stride builder.old.last rules.now).rules) }
-    ensures built { OnOk result (IsBuilt builder.old builder.new (made_bodies builder.old.places stride builder.old.last rules.now).last (made_bodies builder.old.places stride builder.old.last rules.now).clauses) }
-    ensures refused { IfErr result (IsPast (made_bodies builder.old.places stride builder.old.last rules.now).last) }
+    requires fits { (signature : Signature) × (stride ≡ stride_of signature) × (writer.old.places ≡ position_sizes signature horizon) × AreRulesAt signature horizon rules.now }
+    ensures literals { IfOk result (λ bodies. bodies.items ≡ map (λ rule. rule.body) (made_bodies writer.old.places stride writer.old.last rules.now).rules) }
+    ensures built { OnOk result (IsBuilt writer.old writer.new (made_bodies writer.old.places stride writer.old.last rules.now).last (made_bodies writer.old.places stride writer.old.last rules.now).clauses) }
+    ensures refused { IfErr result (IsPast (made_bodies writer.old.places stride writer.old.last rules.now).last) }
 {
-    bodies(alloc, builder, stride, rules)
+    bodies(alloc, writer, stride, rules)
 }

@@ -3,7 +3,7 @@ use Rattle.cc_defs.specs.ClauseForms.{all_written}
 use Rattle.cc_defs.specs.ClauseLists.{completion_from, denials_of}
 use Rattle.cc_defs.specs.Clauses.{Literal}
 use Rattle.cc_theory.specs.declared.rule.TimedRule.{TimedRule}
-use Rattle.cc_form.specs.declared.builder.Builder.{Builder}
+use Rattle.cc_form.specs.declared.writer.Writer.{Writer}
 use Rattle.cc_form.specs.Machine.{IsBuilt}
 use Rattle.cc_form.specs.Making.{bodied, made_bodies}
 use Rattle.cc_form.specs.Store.{Gives}
@@ -12,18 +12,18 @@ use Rattle.cc_form.proofs.form.add_rules.Goals as goal
 
 pub complete-requires-clause-bodies : goal.complete-requires-clause-bodies
 complete-requires-clause-bodies c =
-    ap length (c.deref.ensures.value ∙ c.in_ok-bodies.ensures.literals) ∙ bodies_long c.args.builder.now.places c.args.stride c.args.builder.now.last c.rules.result.now ∙ ap length c.rules.ensures.rules
+    ap length (c.deref.ensures.value ∙ c.in_ok-bodies.ensures.literals) ∙ bodies_long c.args.writer.now.places c.args.stride c.args.writer.now.last c.rules.result.now ∙ ap length c.rules.ensures.rules
 
 pub deny_falsity-requires : goal.deny_falsity-requires
 deny_falsity-requires c =
-    ap length (c.deref-2.ensures.value ∙ c.in_ok-bodies.ensures.literals) ∙ bodies_long c.args.builder.now.places c.args.stride c.args.builder.now.last c.rules.result.now ∙ ap length c.rules.ensures.rules
+    ap length (c.deref-2.ensures.value ∙ c.in_ok-bodies.ensures.literals) ∙ bodies_long c.args.writer.now.places c.args.stride c.args.writer.now.last c.rules.result.now ∙ ap length c.rules.ensures.rules
 
 pub returns : goal.returns
 returns c =
-    let b = c.args.builder.now in
+    let b = c.args.writer.now in
     let rules = c.args.theory.now.rules in
-    let made = c.bodies_within.new.builder in
-    let between : Builder = record { places = b.places; last = b.last; stack = b.stack; store = c.positions.new.store } in
+    let made = c.bodies_within.new.writer in
+    let between : Writer = record { places = b.places; last = b.last; stack = b.stack; store = c.positions.new.store } in
     rules_done b between made _ c.keep_one.new.self.kept c.args.stride rules c.truth-truth.result c.in_ok-bodies.bodies.items c.sizes.result.now c.complete.new.store.kept
     c.requires.last c.truth-truth.ensures c.sizes.ensures c.in_ok-keep_one.ensures c.in_ok-positions.ensures refl refl
     (subst (λ (r : List TimedRule). IsBuilt between made (made_bodies between.places c.args.stride between.last r).last (made_bodies between.places c.args.stride between.last r).clauses) c.rules.ensures.rules c.in_ok-bodies.ensures.built)

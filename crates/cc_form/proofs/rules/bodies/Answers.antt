@@ -11,16 +11,16 @@ none = record { head = timed_heads.Atom 0 0; now = None; before = None }
 pub returns-in_err-literal-clause-refused : goal.returns-in_err-literal-clause-refused
 unfolding none
 returns-in_err-literal-clause-refused c =
-    let so = subst (λ (rest : List TimedRule). BodiesSoFar c.args.builder.now c.loop-rule.builder c.args.stride c.loop-rule.bodies.items rest c.args.rules.now)
+    let so = subst (λ (rest : List TimedRule). BodiesSoFar c.args.writer.now c.loop-rule.writer c.args.stride c.loop-rule.bodies.items rest c.args.rules.now)
     (front_at c.args.rules.now c.loop-rule.rule-index none c.loop-rule-test.true) c.loop-rule.invariant in
     err_past c.from_residual.result _ c.in_err-literal.field-0.0 c.from_residual.ensures.1
-    (bodies_fail c.args.builder.now c.loop-rule.builder c.args.stride c.loop-rule.bodies.items (get_or c.args.rules.now c.loop-rule.rule-index none) (drop (c.loop-rule.rule-index + 1) c.args.rules.now) c.args.rules.now
+    (bodies_fail c.args.writer.now c.loop-rule.writer c.args.stride c.loop-rule.bodies.items (get_or c.args.rules.now c.loop-rule.rule-index none) (drop (c.loop-rule.rule-index + 1) c.args.rules.now) c.args.rules.now
     c.in_err-literal.field-0.0 so c.in_err-literal.ensures)
 
 pub loop-rule-preserved : goal.loop-rule-preserved
 unfolding none
 loop-rule-preserved c =
-    let so = subst (λ (rest : List TimedRule). BodiesSoFar c.args.builder.now c.loop-rule.builder c.args.stride c.loop-rule.bodies.items rest c.args.rules.now)
+    let so = subst (λ (rest : List TimedRule). BodiesSoFar c.args.writer.now c.loop-rule.writer c.args.stride c.loop-rule.bodies.items rest c.args.rules.now)
     (front_at c.args.rules.now c.loop-rule.rule-index none c.loop-rule-test.true) c.loop-rule.invariant in
-    bodies_step c.args.builder.now c.loop-rule.builder c.made_rule.new.builder c.args.stride c.loop-rule.bodies.items c.push.new.self.items c.in_ok-literal.literal
+    bodies_step c.args.writer.now c.loop-rule.writer c.made_rule.new.writer c.args.stride c.loop-rule.bodies.items c.push.new.self.items c.in_ok-literal.literal
     (get_or c.args.rules.now c.loop-rule.rule-index none) (drop (c.loop-rule.rule-index + 1) c.args.rules.now) c.args.rules.now so c.in_ok-literal.ensures.0 c.in_ok-literal.ensures.1 c.in_ok-push.ensures.items

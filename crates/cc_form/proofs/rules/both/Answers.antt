@@ -10,22 +10,22 @@ use Rattle.cc_form.proofs.rules.both.Goals as goal
 
 pub run-requires-clause-ready : goal.run-requires-clause-ready
 run-requires-clause-ready c =
-    ready_at c.args.builder.now.places (moved_nodes c.offset_of.result c.args.now.nodes.now) (length c.begin.new.self.stack.items)
-    (subst (λ (n : ℕ). IsTermOver c.args.builder.now.places (moved_nodes n c.args.now.nodes.now)) (sym c.offset_of.ensures.value) c.requires.now)
+    ready_at c.args.writer.now.places (moved_nodes c.offset_of.result c.args.now.nodes.now) (length c.begin.new.self.stack.items)
+    (subst (λ (n : ℕ). IsTermOver c.args.writer.now.places (moved_nodes n c.args.now.nodes.now)) (sym c.offset_of.ensures.value) c.requires.now)
 
 pub run-requires-2-clause-fits : goal.run-requires-2-clause-fits
 run-requires-2-clause-fits c =
     subst (λ (p : List ℕ). AllByRecursion (Fits p) (moved_nodes c.offset_of-2.result c.args.before.nodes.now)) (sym (c.in_ok-run.ensures.ran.built.places ∙ c.begin.ensures.places))
-    (subst (λ (n : ℕ). AllByRecursion (Fits c.args.builder.now.places) (moved_nodes n c.args.before.nodes.now)) (sym c.offset_of-2.ensures.value) c.requires.before.fits)
+    (subst (λ (n : ℕ). AllByRecursion (Fits c.args.writer.now.places) (moved_nodes n c.args.before.nodes.now)) (sym c.offset_of-2.ensures.value) c.requires.before.fits)
 
 pub run-requires-2-clause-ready : goal.run-requires-2-clause-ready
 run-requires-2-clause-ready c =
-    ready_at c.args.builder.now.places (moved_nodes c.offset_of-2.result c.args.before.nodes.now) (length c.run.new.self.stack.items)
-    (subst (λ (n : ℕ). IsTermOver c.args.builder.now.places (moved_nodes n c.args.before.nodes.now)) (sym c.offset_of-2.ensures.value) c.requires.before)
+    ready_at c.args.writer.now.places (moved_nodes c.offset_of-2.result c.args.before.nodes.now) (length c.run.new.self.stack.items)
+    (subst (λ (n : ℕ). IsTermOver c.args.writer.now.places (moved_nodes n c.args.before.nodes.now)) (sym c.offset_of-2.ensures.value) c.requires.before)
 
 pub returns-in_err-run : goal.returns-in_err-run
 returns-in_err-run c =
-    let b = c.args.builder.now in
+    let b = c.args.writer.now in
     let A = part_nodes c.args.stride c.args.now in
     let B = part_nodes c.args.stride c.args.before in
     let N : List Node = nodes.All 2 ∷ [] in
@@ -36,7 +36,7 @@ returns-in_err-run c =
 
 pub returns-in_err-run-2 : goal.returns-in_err-run-2
 returns-in_err-run-2 c =
-    let b = c.args.builder.now in
+    let b = c.args.writer.now in
     let A = part_nodes c.args.stride c.args.now in
     let B = part_nodes c.args.stride c.args.before in
     let N : List Node = nodes.All 2 ∷ [] in
@@ -48,7 +48,7 @@ returns-in_err-run-2 c =
 
 pub step-requires-clause-operands : goal.step-requires-clause-operands
 step-requires-clause-operands c =
-    let b = c.args.builder.now in
+    let b = c.args.writer.now in
     let A = part_nodes c.args.stride c.args.now in
     let B = part_nodes c.args.stride c.args.before in
     let N : List Node = nodes.All 2 ∷ [] in
@@ -65,7 +65,7 @@ step-requires-clause-operands c =
 
 pub returns-in_err-step : goal.returns-in_err-step
 returns-in_err-step c =
-    let b = c.args.builder.now in
+    let b = c.args.writer.now in
     let A = part_nodes c.args.stride c.args.now in
     let B = part_nodes c.args.stride c.args.before in
     let N : List Node = nodes.All 2 ∷ [] in
@@ -78,7 +78,7 @@ returns-in_err-step c =
 
 pub returns : goal.returns
 returns c =
-    let b = c.args.builder.now in
+    let b = c.args.writer.now in
     let A = part_nodes c.args.stride c.args.now in
     let B = part_nodes c.args.stride c.args.before in
     let N : List Node = nodes.All 2 ∷ [] in

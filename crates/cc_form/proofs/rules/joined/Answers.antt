@@ -7,7 +7,7 @@ use Rattle.cc_form.proofs.rules.joined.Goals as goal
 
 pub returns-then-is_truth : goal.returns-then-is_truth
 returns-then-is_truth c =
-    let b = c.args.builder.now in
+    let b = c.args.writer.now in
     subst (λ (t : List Node). Makes b c.literal.new.self c.literal.result (made_nodes b.places b.last t))
     (ap (λ (n : ℕ). moved_nodes n c.args.before.nodes.now) c.offset_of.ensures.value
     ∙ sym (joined_first (part_nodes c.args.stride c.args.now) (part_nodes c.args.stride c.args.before)
@@ -16,7 +16,7 @@ returns-then-is_truth c =
 
 pub returns-then-is_truth-2 : goal.returns-then-is_truth-2
 returns-then-is_truth-2 c =
-    let b = c.args.builder.now in
+    let b = c.args.writer.now in
     subst (λ (t : List Node). Makes b c.literal-then-is_truth-2.new.self c.literal-then-is_truth-2.result (made_nodes b.places b.last t))
     (ap (λ (n : ℕ). moved_nodes n c.args.now.nodes.now) c.offset_of-then-is_truth-2.ensures.value
     ∙ sym (joined_second (part_nodes c.args.stride c.args.now) (part_nodes c.args.stride c.args.before)
@@ -27,8 +27,8 @@ returns-then-is_truth-2 c =
 
 pub returns : goal.returns
 returns c =
-    let b = c.args.builder.now in
-    subst (λ (t : List Node). Makes b c.both.new.builder c.both.result (made_nodes b.places b.last t))
+    let b = c.args.writer.now in
+    subst (λ (t : List Node). Makes b c.both.new.writer c.both.result (made_nodes b.places b.last t))
     (sym (joined_both (part_nodes c.args.stride c.args.now) (part_nodes c.args.stride c.args.before)
     (truth_moved (c.args.now.step * c.args.stride) c.args.now.nodes.now ∙ sym c.is_truth.ensures ∙ c.if-is_truth.false)
     (truth_moved (c.args.before.step * c.args.stride) c.args.before.nodes.now ∙ sym c.is_truth-2.ensures ∙ c.if-is_truth-2.false)))

@@ -22,24 +22,24 @@ none = record { at = Number 0; nodes = no_nodes }
 
 pub returns-in_err-literal : goal.returns-in_err-literal
 returns-in_err-literal c =
-    let b = c.args.builder.now in
+    let b = c.args.writer.now in
     let i = c.loop-condition.condition-index in
     let f : GroundCondition → List Node = λ condition. condition_nodes c.args.stride c.args.horizon (plain_ground_condition condition) in
     let whole = map f c.args.conditions.now in
-    let so = subst (λ (rest : List (List Node)). AssertedSoFar b c.loop-condition.builder rest whole) (front_mapped f c.args.conditions.now i none c.loop-condition-test.true) c.loop-condition.invariant.so in
-    adds_err b c.literal_at.new.builder c.from_residual.result (asserted_nodes b.places b.last whole) c.in_err-literal.field-0.0 c.from_residual.ensures.1
-    (assert_fails b c.loop-condition.builder (f (get_or c.args.conditions.now i none)) (drop (i + 1) whole) whole c.in_err-literal.field-0.0 so c.in_err-literal.ensures)
+    let so = subst (λ (rest : List (List Node)). AssertedSoFar b c.loop-condition.writer rest whole) (front_mapped f c.args.conditions.now i none c.loop-condition-test.true) c.loop-condition.invariant.so in
+    adds_err b c.literal_at.new.writer c.from_residual.result (asserted_nodes b.places b.last whole) c.in_err-literal.field-0.0 c.from_residual.ensures.1
+    (assert_fails b c.loop-condition.writer (f (get_or c.args.conditions.now i none)) (drop (i + 1) whole) whole c.in_err-literal.field-0.0 so c.in_err-literal.ensures)
 
 pub loop-condition-preserved : goal.loop-condition-preserved
 loop-condition-preserved c =
-    let b = c.args.builder.now in
+    let b = c.args.writer.now in
     let i = c.loop-condition.condition-index in
     let f : GroundCondition → List Node = λ condition. condition_nodes c.args.stride c.args.horizon (plain_ground_condition condition) in
     let whole = map f c.args.conditions.now in
-    let so = subst (λ (rest : List (List Node)). AssertedSoFar b c.loop-condition.builder rest whole) (front_mapped f c.args.conditions.now i none c.loop-condition-test.true) c.loop-condition.invariant.so in
+    let so = subst (λ (rest : List (List Node)). AssertedSoFar b c.loop-condition.writer rest whole) (front_mapped f c.args.conditions.now i none c.loop-condition-test.true) c.loop-condition.invariant.so in
     let fits = subst (AllByRecursion (λ condition. (step_of condition.at c.args.horizon ≤ 1000) × IsTermOver b.places (f condition))) (front_at c.args.conditions.now i none c.loop-condition-test.true) c.loop-condition.invariant.fit in
     record {
-      so = assert_step b c.loop-condition.builder c.literal_at.new.builder _ c.in_ok-literal.literal (f (get_or c.args.conditions.now i none)) (drop (i + 1) whole) whole so
+      so = assert_step b c.loop-condition.writer c.literal_at.new.writer _ c.in_ok-literal.literal (f (get_or c.args.conditions.now i none)) (drop (i + 1) whole) whole so
           c.in_ok-literal.ensures.0 c.in_ok-literal.ensures.1 refl refl c.in_ok-keep_one.ensures;
       fit = fits.1;
     }

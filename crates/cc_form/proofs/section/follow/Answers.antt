@@ -11,18 +11,18 @@ use Rattle.cc_form.proofs.section.follow.Goals as goal
 
 pub returns-in_err-literal : goal.returns-in_err-literal
 returns-in_err-literal c =
-    let b = c.args.builder.now in
+    let b = c.args.writer.now in
     let row = c.args.row.now in
-    adds_err b c.follow_literal.new.builder c.from_residual.result (asserted_nodes b.places b.last (postfix (after_key 0 b.places row) ∷ [])) c.in_err-literal.field-0.0 c.from_residual.ensures.1
+    adds_err b c.follow_literal.new.writer c.from_residual.result (asserted_nodes b.places b.last (postfix (after_key 0 b.places row) ∷ [])) c.in_err-literal.field-0.0 c.from_residual.ensures.1
     (subst (λ (t : List Node). IsPast (made_nodes b.places b.last t).last c.in_err-literal.field-0.0) (key_nodes b.places row c.requires.row) c.in_err-literal.ensures)
 
 pub returns : goal.returns
 returns c =
-    let b = c.args.builder.now in
+    let b = c.args.writer.now in
     let row = c.args.row.now in
     let term = postfix (after_key 0 b.places row) in
     let same = key_nodes b.places row c.requires.row in
     assert_ends b _ (term ∷ [])
-    (assert_step b b c.follow_literal.new.builder _ c.in_ok-literal.literal term [] (term ∷ []) (asserting b (term ∷ []) c.requires.last)
+    (assert_step b b c.follow_literal.new.writer _ c.in_ok-literal.literal term [] (term ∷ []) (asserting b (term ∷ []) c.requires.last)
     (c.in_ok-literal.ensures.0 ∙ ap (λ (t : List Node). (made_nodes b.places b.last t).literal) same)
-    (subst (λ (t : List Node). IsBuilt b c.follow_literal.new.builder (made_nodes b.places b.last t).last (made_nodes b.places b.last t).clauses) same c.in_ok-literal.ensures.1) refl refl c.in_ok-keep_one.ensures)
+    (subst (λ (t : List Node). IsBuilt b c.follow_literal.new.writer (made_nodes b.places b.last t).last (made_nodes b.places b.last t).clauses) same c.in_ok-literal.ensures.1) refl refl c.in_ok-keep_one.ensures)

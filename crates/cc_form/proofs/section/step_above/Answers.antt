@@ -15,8 +15,8 @@ step_atom-requires-clause-fits c = (
 
 pub loop-more-preserved : goal.loop-more-preserved
 loop-more-preserved c =
-    let b = c.args.builder.now in
-    let m = c.loop-more.builder in
+    let b = c.args.writer.now in
+    let m = c.loop-more.writer in
     let node : Node = nodes.Atom c.args.position c.loop-more.more in
     let least = c.loop-more.auto.more in
     record {
@@ -31,8 +31,8 @@ loop-more-preserved c =
 
 pub returns-clause-runs : goal.returns-clause-runs
 returns-clause-runs c =
-    let b = c.args.builder.now in
-    let m = c.loop-more.builder in
+    let b = c.args.writer.now in
+    let m = c.loop-more.writer in
     let count = c.args.size - (c.args.value + 1) in
     let end : c.loop-more.more - (c.args.value + 1) ≡ count = (let least = c.loop-more-test.false in let most = c.loop-more.auto.more-end in let less = c.requires.value in omega arith) in
     next_runs b.places b m c.step.new.self (nodes_above c.args.position c.args.value count) (nodes.Any count ∷ []) b.stack.items b.last c.step.result refl

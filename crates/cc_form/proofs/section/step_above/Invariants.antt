@@ -5,6 +5,6 @@ use Rattle.cc_form.proofs.section.step_above.Given as goal
 
 abbrev pub invariant-loop-more : goal.invariant-loop-more
 invariant-loop-more l = record {
-  ran : IsRan l.initial.builder l.builder (run l.initial.builder.places (nodes_above l.position l.value (l.more - (l.value + 1))) l.initial.builder.stack.items l.initial.builder.last);
-  long : length l.builder.stack.items ≡ length l.initial.builder.stack.items + (l.more - (l.value + 1));
+  ran : IsRan l.initial.writer l.writer (run l.initial.writer.places (nodes_above l.position l.value (l.more - (l.value + 1))) l.initial.writer.stack.items l.initial.writer.last);
+  long : length l.writer.stack.items ≡ length l.initial.writer.stack.items + (l.more - (l.value + 1));
 }

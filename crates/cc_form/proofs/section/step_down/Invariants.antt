@@ -5,6 +5,6 @@ use Rattle.cc_form.proofs.section.step_down.Given as goal
 
 abbrev pub invariant-loop-position : goal.invariant-loop-position
 invariant-loop-position l = record {
-  ran : IsRan l.initial.builder l.builder (run l.initial.builder.places (key_down l.initial.builder.places l.row l.position) l.initial.builder.stack.items l.initial.builder.last);
-  long : length l.builder.stack.items ≡ length l.initial.builder.stack.items + 2 * l.position;
+  ran : IsRan l.initial.writer l.writer (run l.initial.writer.places (key_down l.initial.writer.places l.row l.position) l.initial.writer.stack.items l.initial.writer.last);
+  long : length l.writer.stack.items ≡ length l.initial.writer.stack.items + 2 * l.position;
 }

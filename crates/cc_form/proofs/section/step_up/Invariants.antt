@@ -5,6 +5,6 @@ use Rattle.cc_form.proofs.section.step_up.Given as goal
 
 abbrev pub invariant-loop-pair : goal.invariant-loop-pair
 invariant-loop-pair l = record {
-  ran : IsRan l.initial.builder l.builder (run l.initial.builder.places (key_up l.pair) l.initial.builder.stack.items l.initial.builder.last);
-  long : length l.builder.stack.items + 2 * l.pair ≡ length l.initial.builder.stack.items;
+  ran : IsRan l.initial.writer l.writer (run l.initial.writer.places (key_up l.pair) l.initial.writer.stack.items l.initial.writer.last);
+  long : length l.writer.stack.items + 2 * l.pair ≡ length l.initial.writer.stack.items;
 }

@@ -1,14 +1,41 @@
-use Rattle.std.proofs.Common.{ℕ, List, subst, sym, length}
-use Rattle.cc_defs.specs.Clauses.{Literal}
+use Rattle.std.proofs.Common.{◌≡◌, ◌∙◌, ◌≤◌, sym, ap, subst}
+use Rattle.cc_defs.specs.Sections.{Axioms}
 use Rattle.cc_defs.specs.Terms.{IsTermOver}
-use Rattle.cc_form.specs.Machine.{IsReady, moved_nodes}
-use Rattle.cc_form.proofs.Running.{literal_there, term_ready}
+use Rattle.cc_form.specs.Drafts.{IsWhole}
+use Rattle.cc_form.specs.Machine.{moved_nodes}
+use Rattle.cc_form.proofs.Drafting.{literal_over}
+use Rattle.cc_form.proofs.Whole.{axioms_of, literal_extends, literal_whole}
 use Rattle.cc_form.proofs.builder.Builder.literal.Goals as goal
 
-pub run-requires-clause-ready : goal.run-requires-clause-ready
-run-requires-clause-ready c =
-    subst (λ (s : List Literal). IsReady (length s) (moved_nodes c.args.offset c.args.term.now)) (sym c.begin.ensures.stack) (term_ready c.args.self.now.places (moved_nodes c.args.offset c.args.term.now) c.requires.term)
+pub invariant_of-self-2 : goal.invariant_of-self-2
+invariant_of-self-2 c =
+    let old = c.replace-writer.result in
+    let term = moved_nodes c.args.first c.args.nodes.now in
+    let same : axioms_of old ≡ c.args.self.now = ap axioms_of c.replace-writer.ensures.value ∙ c.self.view_is in
+    literal_whole old c.literal.new.self term (subst IsWhole (sym c.replace-writer.ensures.value) c.self.invariant) (subst (λ (s : Axioms). IsTermOver s.sizes term) (sym same) c.requires.term) c.in_ok-literal.ensures.built
+    (λ clauses holds. (c.in_ok-fits.ensures.kept clauses holds, c.in_ok-fits.ensures.few clauses holds))
 
-pub end-requires : goal.end-requires
-end-requires c = literal_there c.begin.new.self.places (moved_nodes c.args.offset c.args.term.now) c.begin.new.self.last c.begin.new.self.stack.items c.run.new.self.stack.items
-    (subst (λ (p : List ℕ). IsTermOver p (moved_nodes c.args.offset c.args.term.now)) (sym c.begin.ensures.places) c.requires.term) c.begin.ensures.stack c.in_ok-run.ensures.ran.stack
+pub returns-clause-extends : goal.returns-clause-extends
+returns-clause-extends c = λ f written truth.
+    let old = c.replace-writer.result in
+    let term = moved_nodes c.args.first c.args.nodes.now in
+    let same : axioms_of old ≡ c.args.self.now = ap axioms_of c.replace-writer.ensures.value ∙ c.self.view_is in
+    literal_extends old c.literal.new.self c.args.self.now c.in_ok-literal.literal f term (subst IsWhole (sym c.replace-writer.ensures.value) c.self.invariant) same written c.requires.term truth c.in_ok-literal.ensures.literal
+    c.in_ok-literal.ensures.built (λ clauses holds. (c.in_ok-fits.ensures.kept clauses holds, c.in_ok-fits.ensures.few clauses holds))
+
+pub returns-clause-over : goal.returns-clause-over
+returns-clause-over c =
+    let old = c.replace-writer.result in
+    let term = moved_nodes c.args.first c.args.nodes.now in
+    let same : axioms_of old ≡ c.args.self.now = ap axioms_of c.replace-writer.ensures.value ∙ c.self.view_is in
+    let is = subst IsWhole (sym c.replace-writer.ensures.value) c.self.invariant in
+    (literal_over old c.literal.new.self c.in_ok-literal.literal term is.axioms.least (subst (λ (s : Axioms). IsTermOver s.sizes term) (sym same) c.requires.term) c.in_ok-literal.ensures.literal c.in_ok-literal.ensures.built.ends).0
+
+pub returns-clause-rises : goal.returns-clause-rises
+returns-clause-rises c =
+    let old = c.replace-writer.result in
+    let term = moved_nodes c.args.first c.args.nodes.now in
+    let same : axioms_of old ≡ c.args.self.now = ap axioms_of c.replace-writer.ensures.value ∙ c.self.view_is in
+    let is = subst IsWhole (sym c.replace-writer.ensures.value) c.self.invariant in
+    subst (λ (s : Axioms). s.variables ≤ c.literal.new.self.last) same
+    (literal_over old c.literal.new.self c.in_ok-literal.literal term is.axioms.least (subst (λ (s : Axioms). IsTermOver s.sizes term) (sym same) c.requires.term) c.in_ok-literal.ensures.literal c.in_ok-literal.ensures.built.ends).1

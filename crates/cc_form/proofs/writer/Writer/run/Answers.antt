@@ -3,7 +3,7 @@ use Rattle.cc_defs.specs.declared.node.Node.TheVariants as nodes
 use Rattle.cc_defs.specs.Terms.{Fits}
 use Rattle.cc_form.specs.Machine.{moved_node, moved_nodes}
 use Rattle.cc_form.proofs.Running.{RunsOn, arity_moved, err_past, front_mapped, none_left, run_begins, run_ends, run_fails, run_step}
-use Rattle.cc_form.proofs.builder.Builder.run.Goals as goal
+use Rattle.cc_form.proofs.writer.Writer.run.Goals as goal
 
 pub loop-node-init : goal.loop-node-init
 loop-node-init c = run_begins c.args.self.now (moved_nodes c.args.offset c.args.term.now) c.requires.last c.requires.fits c.requires.ready
