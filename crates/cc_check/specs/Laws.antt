@@ -5,6 +5,7 @@ use Rattle.cc_defs.specs.declared.log.Cause.{Cause}
 use Rattle.cc_defs.specs.declared.log.LogLine.{LogLine}
 use Rattle.cc_defs.specs.declared.log.LogVerdict.{LogVerdict}
 use Rattle.cc_defs.specs.declared.log.LogVerdict.TheVariants as verdicts
+use Rattle.cc_defs.specs.LogBytes.{First}
 use Rattle.cc_defs.specs.LogTexts.{IsFormed, IsLine, log_text}
 use Rattle.cc_defs.specs.Logs.{SectionText, Subject, AreJudged, IsVerdict, at_first}
 use Rattle.cc_check.specs.Splits.{Parts, Misread, IsSplit}
@@ -25,4 +26,4 @@ MisreadsAreVerdicts = (subject : Subject) (bytes : List ℕ) (line : ℕ) (cause
 -- the verdict of the sections of a log is its verdict
 abbrev pub SectionsGiveVerdicts : Type 0
 SectionsGiveVerdicts = (subject : Subject) (bytes : List ℕ) (sections : List SectionText) (verdict : LogVerdict) → IsSplit bytes (Parts sections) →
-    AreJudged subject (at_first subject) sections verdict → IsVerdict subject bytes verdict
+    AreJudged First subject (at_first subject) sections verdict → IsVerdict subject bytes verdict

@@ -12,6 +12,6 @@ mod sections;
 mod text;
 
 pub use fault::CheckFault;
-pub use judge::{Finding, Verdict, check, find};
+pub use judge::{Finding, Verdict, check, check_silent, find, find_silent};
 pub use put::put_line;
 pub use sections::{Section, Sections};

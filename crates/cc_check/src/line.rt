@@ -2,6 +2,7 @@
 ghost use Rattle.std.specs.Prelude.{◌≡◌, ℕ, List, [], ◌∷◌, ◌++◌, ◌↔◌, true, false, length, IfOk, IsTrue, MatchOption};
 ghost use Rattle.std.specs.Bool.{MatchBool};
 ghost use Rattle.cc_defs.specs.declared.log.LogLine.TheVariants as lines;
+ghost use Rattle.cc_defs.specs.LogBytes.{First};
 ghost use Rattle.cc_defs.specs.LogTexts.{IsLine};
 ghost use Rattle.cc_defs.specs.Clauses.{Literal};
 ghost use Rattle.cc_defs.specs.Logs.{IsNoHeading};
@@ -107,7 +108,7 @@ fn take_end(numbers: &mut Vec<u32>) -> bool
 
 // Reads what stands behind the letter of a derived line.
 fn read_derived(body: &[u8], room: &mut Room) -> Result<Option<Kind>, OutOfMemory>
-    ensures { IfOk result (λ kind. MatchOption kind (HasNoForm (100 ∷ body.now)) (IsRead (100 ∷ body.now) room.new.literals.items room.new.numbers.items)) }
+    ensures { IfOk result (λ kind. MatchOption kind (HasNoForm First (100 ∷ body.now)) (IsRead (100 ∷ body.now) room.new.literals.items room.new.numbers.items)) }
 {
     let Some(tail) = read_literals(body, &mut room.literals)? else {
         return Ok(None);
@@ -123,7 +124,7 @@ fn read_derived(body: &[u8], room: &mut Room) -> Result<Option<Kind>, OutOfMemor
 
 // Reads what stands behind the letter of a block.
 fn read_block(body: &[u8], room: &mut Room) -> Result<Option<Kind>, OutOfMemory>
-    ensures { IfOk result (λ kind. MatchOption kind (HasNoForm (98 ∷ body.now)) (IsRead (98 ∷ body.now) room.new.literals.items room.new.numbers.items)) }
+    ensures { IfOk result (λ kind. MatchOption kind (HasNoForm First (98 ∷ body.now)) (IsRead (98 ∷ body.now) room.new.literals.items room.new.numbers.items)) }
 {
     if !read_numbers(body, &mut room.numbers)? {
         return Ok(None);
@@ -159,7 +160,7 @@ fn last_number(text: &[u8]) -> Option<u32>
 
 /// What a heading says.
 pub(crate) fn heading_of(text: &[u8]) -> Option<Heading>
-    ensures { MatchOption result (IsNoHeading text.now) (λ heading. IsLine text.now (lines.Section heading.conditions heading.horizon)) }
+    ensures { MatchOption result (IsNoHeading First text.now) (λ heading. IsLine text.now (lines.Section heading.conditions heading.horizon)) }
 {
     let [letter, space, behind @ ..] = text else {
         return None;
@@ -180,7 +181,7 @@ pub(crate) fn heading_of(text: &[u8]) -> Option<Heading>
 
 /// Reads a line, its line feed included. Nothing: it is no line of a log.
 pub(crate) fn read_line(text: &[u8], room: &mut Room) -> Result<Option<Kind>, OutOfMemory>
-    ensures { IfOk result (λ kind. MatchOption kind (HasNoForm text.now) (IsRead text.now room.new.literals.items room.new.numbers.items)) }
+    ensures { IfOk result (λ kind. MatchOption kind (HasNoForm First text.now) (IsRead text.now room.new.literals.items room.new.numbers.items)) }
 {
     let [letter, body @ ..] = text else {
         return Ok(None);
@@ -196,7 +197,7 @@ pub(crate) fn read_line(text: &[u8], room: &mut Room) -> Result<Option<Kind>, Ou
 
 // A line that is neither a derived one nor a block.
 fn other_of(text: &[u8]) -> Option<Kind>
-    ensures { MatchOption result (IsNoHeading text.now × IsNoEnd text.now) (λ kind. (literals : List Literal) (numbers : List ℕ) → IsRead text.now literals numbers kind) }
+    ensures { MatchOption result (IsNoHeading First text.now × IsNoEnd text.now) (λ kind. (literals : List Literal) (numbers : List ℕ) → IsRead text.now literals numbers kind) }
 {
     match end_of(text) {
         Some(word) => Some(Kind::End(word)),

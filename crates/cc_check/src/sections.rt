@@ -3,6 +3,7 @@ ghost use Rattle.std.specs.Prelude.{◌≡◌, ◌+◌, ◌-◌, ℕ, ◌≤◌,
 ghost use Rattle.std.specs.List.{AllByRecursion};
 ghost use Rattle.cc_defs.specs.declared.log.LogLine.TheVariants as lines;
 ghost use Rattle.cc_defs.specs.Limits.{most_log_bytes};
+ghost use Rattle.cc_defs.specs.LogBytes.{First};
 ghost use Rattle.cc_defs.specs.LogTexts.{IsLine, header, lines_in};
 ghost use Rattle.cc_defs.specs.Logs.{AreSections, IsNoHeading};
 ghost use Rattle.cc_check.specs.declared.fault.CheckFault.TheVariants as faults;
@@ -154,7 +155,7 @@ fn parts_of<'b>(
     behind: &'b [u8],
 ) -> Result<Vec<Part<'b>>, OutOfMemory>
     requires { length behind.now ≤ 268435448 }
-    ensures sections { IfOk result (λ parts. (text : List ℕ) → IsLine text (lines.Section first.conditions first.horizon) → AreSections 2 (text ∷ lines_in behind.now) (parts_view parts.items)) }
+    ensures sections { IfOk result (λ parts. (text : List ℕ) → IsLine text (lines.Section first.conditions first.horizon) → AreSections First 2 (text ∷ lines_in behind.now) (parts_view parts.items)) }
     ensures parts { IfOk result (λ parts. AllByRecursion IsPart parts.items) }
 {
     let mut parts = Vec::new(alloc);
@@ -180,7 +181,7 @@ fn parts_of<'b>(
 
 // What is wrong with a second line that is no heading.
 fn second_cause(alloc: Global, text: &[u8]) -> Result<Cause, OutOfMemory>
-    requires { IsNoHeading text.now }
+    requires { IsNoHeading First text.now }
     ensures { IfOk result (λ cause. IsSecond text.now cause) }
 {
     let mut room = Room::new(alloc);
