@@ -14,17 +14,17 @@ use Rattle.cc_check.specs.Texts.{EndsLine, IsFirstLine}
 
 -- ---- the lines up to a heading
 
-pub record InsideSoFar (all rest : List ℕ) (count : ℕ) : Type 0 where
+pub record InsideSoFar (No : List ℕ → Type 0) (all rest : List ℕ) (count : ℕ) : Type 0 where
   pub before : List ℕ
   pub parts : all ≡ before ++ rest
   pub whole : (rest ≡ []) ⊎ EndsLine before
-  pub none : AllByRecursion (IsNoHeading First) (lines_in before)
+  pub none : AllByRecursion No (lines_in before)
   pub counted : count ≡ length (lines_in before)
   pub lines : lines_in all ≡ lines_in before ++ lines_in rest
   pub few : count + length rest ≤ length all
 
-pub inside_begun : (all : List ℕ) → InsideSoFar all all 0
-inside_begun all = record {
+pub inside_begun : (No : List ℕ → Type 0) (all : List ℕ) → InsideSoFar No all all 0
+inside_begun No all = record {
   before = [];
   parts = refl;
   whole = inr (λ behind. refl);
@@ -39,9 +39,9 @@ ends_both a b ends_a ends_b behind =
     ap lines_in (append_assoc a b behind) ∙ ends_a (b ++ behind) ∙ ap (λ (ts : List (List ℕ)). lines_in a ++ ts) (ends_b behind)
     ∙ sym (append_assoc (lines_in a) (lines_in b) (lines_in behind)) ∙ ap (λ (ts : List (List ℕ)). ts ++ lines_in behind) (sym (ends_a b))
 
-none_push : (texts : List (List ℕ)) (text : List ℕ) → AllByRecursion (IsNoHeading First) texts → IsNoHeading First text → AllByRecursion (IsNoHeading First) (texts ++ text ∷ [])
-none_push [] text all one = (one, tt)
-none_push (first ∷ texts) text all one = (all.0, none_push texts text all.1 one)
+none_push : (No : List ℕ → Type 0) (texts : List (List ℕ)) (text : List ℕ) → AllByRecursion No texts → No text → AllByRecursion No (texts ++ text ∷ [])
+none_push No [] text all one = (one, tt)
+none_push No (first ∷ texts) text all one = (all.0, none_push No texts text all.1 one)
 
 pub cut_some : (rest text behind : List ℕ) → IsFirstLine rest text behind → 0 < length rest
 cut_some rest text behind cut = let e = ap length cut.parts ∙ length-append text behind in let f = cut.some in omega arith
@@ -49,11 +49,11 @@ cut_some rest text behind cut = let e = ap length cut.parts ∙ length-append te
 some_left : (rest : List ℕ) → (rest ≡ []) → 0 < length rest → ⊥
 some_left rest is some = let nil : length rest ≡ 0 = ap length is in omega arith
 
-module _ (all rest : List ℕ) (count : ℕ) (h : InsideSoFar all rest count) where
+module _ (No : List ℕ → Type 0) (all rest : List ℕ) (count : ℕ) (h : InsideSoFar No all rest count) where
   before_ends : 0 < length rest → EndsLine h.before
   before_ends some = elim h.whole [ inl nil ↦ absurd (some_left rest nil some) | inr ends ↦ ends ]
 
-  pub inside_more : (text behind : List ℕ) → 0 < length rest → IsFirstLine rest text behind → IsNoHeading First text → InsideSoFar all behind (count + 1)
+  pub inside_more : (text behind : List ℕ) → 0 < length rest → IsFirstLine rest text behind → No text → InsideSoFar No all behind (count + 1)
   inside_more text behind some cut no_heading =
       let ends = before_ends some in
       let grown : lines_in (h.before ++ text) ≡ lines_in h.before ++ text ∷ [] = ends text ∙ ap (λ (ts : List (List ℕ)). lines_in h.before ++ ts) cut.alone in
@@ -65,13 +65,14 @@ module _ (all rest : List ℕ) (count : ℕ) (h : InsideSoFar all rest count) wh
         before = h.before ++ text;
         parts = h.parts ∙ ap (λ (t : List ℕ). h.before ++ t) cut.parts ∙ sym (append_assoc h.before text behind);
         whole = elim cut.ends [ inl nil ↦ inl nil | inr more ↦ inr (ends_both h.before text ends more) ];
-        none = subst (AllByRecursion (IsNoHeading First)) (sym grown) (none_push (lines_in h.before) text h.none no_heading);
+        none = subst (AllByRecursion No) (sym grown) (none_push No (lines_in h.before) text h.none no_heading);
         counted = let l = ap length grown ∙ length-append (lines_in h.before) (text ∷ []) in omega arith;
         lines = h.lines ∙ ap (λ (ts : List (List ℕ)). lines_in h.before ++ ts) cut.lines
             ∙ sym (append_assoc (lines_in h.before) (text ∷ []) (lines_in behind)) ∙ ap (λ (ts : List (List ℕ)). ts ++ lines_in behind) (sym grown);
         few = omega arith;
       }
 
+module _ (all rest : List ℕ) (count : ℕ) (h : InsideSoFar (IsNoHeading First) all rest count) where
   pub inside_at : (text behind inside : List ℕ) (heading : Heading) (next : Bor (List ℕ)) → 0 < length rest → IsFirstLine rest text behind →
       IsLine text (lines.Section heading.conditions heading.horizon) → inside ≡ take (length all - length rest) all → next.now ≡ behind →
       IsInside all inside count (Some (heading, next))

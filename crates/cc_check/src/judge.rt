@@ -261,8 +261,8 @@ impl Checker {
     }
 }
 
-// Goes through the lines of a section, of which the first has this number, where a row may be blocked or not.
-fn find_lines(
+/// Goes through the lines of a section, of which the first has this number, where a row may be blocked or not.
+pub(crate) fn find_lines(
     alloc: Global,
     form: &Form,
     may: bool,

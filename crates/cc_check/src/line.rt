@@ -15,7 +15,7 @@ use std::alloc::Global;
 
 /// What a line is: its literals and numbers stand in a room.
 #[derive(Clone, Copy)]
-pub(crate) enum Kind {
+pub enum Kind {
     Heading,
     Derived,
     Block,
@@ -24,21 +24,23 @@ pub(crate) enum Kind {
 
 /// Room for what a line has, used for one line after another.
 #[derive(Drop)]
-pub(crate) struct Room {
-    pub(crate) literals: Vec<Named>,
+pub struct Room {
+    /// Those of a derived line's clause.
+    pub literals: Vec<Named>,
     /// The chain of a derived line, or the row of a block.
-    pub(crate) numbers: Vec<u32>,
+    pub numbers: Vec<u32>,
 }
 
 /// The heading of a section.
 #[derive(Clone, Copy)]
-pub(crate) struct Heading {
-    pub(crate) conditions: bool,
-    pub(crate) horizon: u32,
+pub struct Heading {
+    pub conditions: bool,
+    pub horizon: u32,
 }
 
 impl Room {
-    pub(crate) fn new(alloc: Global) -> Room {
+    /// Room that is empty. It takes no memory.
+    pub fn new(alloc: Global) -> Room {
         Room {
             literals: Vec::new(alloc),
             numbers: Vec::new(alloc),
@@ -158,8 +160,8 @@ fn last_number(text: &[u8]) -> Option<u32>
     Some(number)
 }
 
-/// What a heading says.
-pub(crate) fn heading_of(text: &[u8]) -> Option<Heading>
+/// What a line, its line feed included, says as a heading. Nothing: it is none.
+pub fn heading_of(text: &[u8]) -> Option<Heading>
     ensures { MatchOption result (IsNoHeading First text.now) (λ heading. IsLine text.now (lines.Section heading.conditions heading.horizon)) }
 {
     let [letter, space, behind @ ..] = text else {
@@ -179,8 +181,9 @@ pub(crate) fn heading_of(text: &[u8]) -> Option<Heading>
     })
 }
 
-/// Reads a line, its line feed included. Nothing: it is no line of a log.
-pub(crate) fn read_line(text: &[u8], room: &mut Room) -> Result<Option<Kind>, OutOfMemory>
+/// Reads a line, its line feed included: what it is, and its literals and numbers into the room, in the place of what is there.
+/// Nothing: it is no line of a log. A line's variables may be past those that a `LogLine` can hold.
+pub fn read_line(text: &[u8], room: &mut Room) -> Result<Option<Kind>, OutOfMemory>
     ensures { IfOk result (λ kind. MatchOption kind (HasNoForm First text.now) (IsRead text.now room.new.literals.items room.new.numbers.items)) }
 {
     let [letter, body @ ..] = text else {

@@ -116,7 +116,7 @@ impl<'b> Section<'b> {
 }
 
 // The front of a text of which so many bytes are left.
-fn ahead(text: &[u8], left: usize) -> &[u8]
+pub(crate) fn ahead(text: &[u8], left: usize) -> &[u8]
     requires { left ≤ length text.now }
     ensures { result.now ≡ take (length text.now - left) text.now }
 {
@@ -179,9 +179,8 @@ fn parts_of<'b>(
     }
 }
 
-// What is wrong with a second line that is no heading.
-fn second_cause(alloc: Global, text: &[u8]) -> Result<Cause, OutOfMemory>
-    requires { IsNoHeading First text.now }
+// What is wrong with a text that stands where a heading has to.
+pub(crate) fn second_cause(alloc: Global, text: &[u8]) -> Result<Cause, OutOfMemory>
     ensures { IfOk result (λ cause. IsSecond text.now cause) }
 {
     let mut room = Room::new(alloc);
