@@ -4,6 +4,7 @@ use Rattle.std.proofs.lemmas.List.{nil_from_length}
 use Rattle.cc_defs.specs.declared.log.Cause.{Cause}
 use Rattle.cc_defs.specs.declared.log.Cause.TheVariants as causes
 use Rattle.cc_defs.specs.declared.log.LogLine.TheVariants as lines
+use Rattle.cc_defs.specs.LogBytes.{First}
 use Rattle.cc_defs.specs.LogTexts.{IsLine, header, lines_in}
 use Rattle.cc_defs.specs.Logs.{SectionText, IsNoHeading, AreSections}
 use Rattle.cc_check.specs.declared.fault.CheckFault.{CheckFault}
@@ -42,7 +43,7 @@ module _ (bytes body : List ℕ) (headed : bytes ≡ header ++ body) where
     of_first : (split : Split) → IsSplitBehind (text ∷ lines_in behind) split → IsSplit bytes split
     of_first split h = behind_header split (subst (λ (ts : List (List ℕ)). IsSplitBehind ts split) (sym cut.lines) h)
 
-    second_split : (cause : Cause) → IsNoHeading text → IsSecond text cause → IsSplit bytes (Misread 2 cause)
+    second_split : (cause : Cause) → IsNoHeading First text → IsSecond text cause → IsSplit bytes (Misread 2 cause)
     second_split causes.Form none h = of_first (Misread 2 causes.Form) (inl (h, refl))
     second_split causes.Section none h = of_first (Misread 2 causes.Section) (inr (inl (none, h, refl)))
     second_split causes.Header none h = absurd h
@@ -53,11 +54,11 @@ module _ (bytes body : List ℕ) (headed : bytes ≡ header ++ body) where
     second_split causes.Row none h = absurd h
     second_split causes.NotRefuted none h = absurd h
 
-    pub second_wrong : (fault : CheckFault) (cause : Cause) → fault ≡ faults.Refused 2 cause → IsNoHeading text → IsSecond text cause → IsRefusal bytes fault
+    pub second_wrong : (fault : CheckFault) (cause : Cause) → fault ≡ faults.Refused 2 cause → IsNoHeading First text → IsSecond text cause → IsRefusal bytes fault
     second_wrong fault cause is none h = refusal_as bytes fault 2 cause is (second_split cause none h)
 
     pub all_read : (conditions : Bool) (horizon : ℕ) (sections : List SectionText) → IsLine text (lines.Section conditions horizon) →
-        ((first : List ℕ) → IsLine first (lines.Section conditions horizon) → AreSections 2 (first ∷ lines_in behind) sections) → IsSplit bytes (Parts sections)
+        ((first : List ℕ) → IsLine first (lines.Section conditions horizon) → AreSections First 2 (first ∷ lines_in behind) sections) → IsSplit bytes (Parts sections)
     all_read conditions horizon sections is are = of_first (Parts sections) (inr (inr (sections, are text is, refl)))
 
     pub behind_few : length bytes ≤ 268435456 → length behind ≤ 268435448

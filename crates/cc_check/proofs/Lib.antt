@@ -11,3 +11,5 @@ pub mod FirstLines
 pub mod Judged
 pub mod Parted
 pub mod Headers
+pub mod SilentLogs
+pub mod Refuted

@@ -11,6 +11,7 @@ use Rattle.cc_defs.specs.declared.log.EndWord.TheVariants as words
 use Rattle.cc_defs.specs.declared.log.LogLine.{LogLine}
 use Rattle.cc_defs.specs.declared.log.LogLine.TheVariants as lines
 use Rattle.cc_defs.specs.Clauses.{Literal}
+use Rattle.cc_defs.specs.LogBytes.{First}
 use Rattle.cc_defs.specs.LogTexts.{IsShort, IsOdd, IsLine, line_text}
 use Rattle.cc_defs.specs.Sections.{HasNoForm}
 use Rattle.cc_check.specs.Reading.{AreNumbers, HasNoNumbers, AreLiterals, HasNoLiterals, IsEndedChain, IsLast, IsNumberAt}
@@ -57,7 +58,7 @@ first_letter text line h = ap (λ (t : List ℕ). get_or t 0 0) h.spelled ∙ le
 pub block_line : (body numbers : List ℕ) → AreNumbers body numbers → IsLine (98 ∷ body) (lines.Block numbers)
 block_line body numbers h = record { formed = h.short; spelled = ap (λ (t : List ℕ). 98 ∷ t) h.spelled ∙ sym (whole_block numbers) }
 
-pub no_block : (body : List ℕ) → HasNoNumbers body → HasNoForm (98 ∷ body)
+pub no_block : (body : List ℕ) → HasNoNumbers body → HasNoForm First (98 ∷ body)
 no_block body none (lines.Section true horizon) h = let e = first_letter _ _ h in omega arith
 no_block body none (lines.Section false horizon) h = let e = first_letter _ _ h in omega arith
 no_block body none (lines.Derived clause chain) h = let e = first_letter _ _ h in omega arith
@@ -93,7 +94,7 @@ derived_parts body chain clause h =
     )
 
 pub no_derived : (body : List ℕ) →
-    ((clause : List Literal) (tail chain : List ℕ) → AreLiterals body clause tail → AreNumbers tail (chain ++ 0 ∷ []) → IsOdd (length chain) → ⊥) → HasNoForm (100 ∷ body)
+    ((clause : List Literal) (tail chain : List ℕ) → AreLiterals body clause tail → AreNumbers tail (chain ++ 0 ∷ []) → IsOdd (length chain) → ⊥) → HasNoForm First (100 ∷ body)
 no_derived body none (lines.Section true horizon) h = let e = first_letter _ _ h in omega arith
 no_derived body none (lines.Section false horizon) h = let e = first_letter _ _ h in omega arith
 no_derived body none (lines.Block row) h = let e = first_letter _ _ h in omega arith
@@ -109,15 +110,15 @@ last_by text rest number h never other (short, spelled) =
     never (one_number text number other rest (10 ∷ []) h (record { formed = short; spelled = spelled; ends = refl })).1
 
 pub no_literals_derived : (body : List ℕ) (r : Option (Bor (List ℕ))) (made : List Literal) →
-    MatchOption r (HasNoLiterals body) (λ rest. AreLiterals body made rest.now) → r ≡ None → HasNoForm (100 ∷ body)
+    MatchOption r (HasNoLiterals body) (λ rest. AreLiterals body made rest.now) → r ≡ None → HasNoForm First (100 ∷ body)
 no_literals_derived body r made h is = no_derived body (λ clause tail chain ls ns odd. (rw is at h) clause tail ls)
 
-pub no_numbers_derived : (body tail : List ℕ) (made : List Literal) → AreLiterals body made tail → HasNoNumbers tail → HasNoForm (100 ∷ body)
+pub no_numbers_derived : (body tail : List ℕ) (made : List Literal) → AreLiterals body made tail → HasNoNumbers tail → HasNoForm First (100 ∷ body)
 no_numbers_derived body tail made h none = no_derived body (λ clause rest chain ls ns odd.
     none (chain ++ 0 ∷ []) (subst (λ (t : List ℕ). AreNumbers t (chain ++ 0 ∷ [])) (sym (one_clause made clause body tail rest h ls).1) ns))
 
 pub no_end_derived : (body tail numbers : List ℕ) (made : List Literal) → AreLiterals body made tail → AreNumbers tail numbers →
-    ((chain : List ℕ) → IsEndedChain numbers chain → ⊥) → HasNoForm (100 ∷ body)
+    ((chain : List ℕ) → IsEndedChain numbers chain → ⊥) → HasNoForm First (100 ∷ body)
 no_end_derived body tail numbers made h ns none = no_derived body (λ clause rest chain ls more odd.
     none chain (odd, one_list numbers (chain ++ 0 ∷ []) tail ns (subst (λ (t : List ℕ). AreNumbers t (chain ++ 0 ∷ [])) (sym (one_clause made clause body tail rest h ls).1) more)))
 

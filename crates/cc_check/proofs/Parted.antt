@@ -4,6 +4,7 @@ use Rattle.std.specs.Borrow.{Bor}
 use Rattle.std.specs.List.{AllByRecursion}
 use Rattle.std.proofs.lemmas.List.{take_at, nil_from_length, map_push}
 use Rattle.cc_defs.specs.declared.log.LogLine.TheVariants as lines
+use Rattle.cc_defs.specs.LogBytes.{First}
 use Rattle.cc_defs.specs.LogTexts.{IsLine, lines_in}
 use Rattle.cc_defs.specs.Logs.{SectionText, IsNoHeading, AreSections}
 use Rattle.cc_check.specs.declared.line.Heading.{Heading}
@@ -13,17 +14,17 @@ use Rattle.cc_check.specs.Texts.{EndsLine, IsFirstLine}
 
 -- ---- the lines up to a heading
 
-pub record InsideSoFar (all rest : List ℕ) (count : ℕ) : Type 0 where
+pub record InsideSoFar (No : List ℕ → Type 0) (all rest : List ℕ) (count : ℕ) : Type 0 where
   pub before : List ℕ
   pub parts : all ≡ before ++ rest
   pub whole : (rest ≡ []) ⊎ EndsLine before
-  pub none : AllByRecursion IsNoHeading (lines_in before)
+  pub none : AllByRecursion No (lines_in before)
   pub counted : count ≡ length (lines_in before)
   pub lines : lines_in all ≡ lines_in before ++ lines_in rest
   pub few : count + length rest ≤ length all
 
-pub inside_begun : (all : List ℕ) → InsideSoFar all all 0
-inside_begun all = record {
+pub inside_begun : (No : List ℕ → Type 0) (all : List ℕ) → InsideSoFar No all all 0
+inside_begun No all = record {
   before = [];
   parts = refl;
   whole = inr (λ behind. refl);
@@ -38,9 +39,9 @@ ends_both a b ends_a ends_b behind =
     ap lines_in (append_assoc a b behind) ∙ ends_a (b ++ behind) ∙ ap (λ (ts : List (List ℕ)). lines_in a ++ ts) (ends_b behind)
     ∙ sym (append_assoc (lines_in a) (lines_in b) (lines_in behind)) ∙ ap (λ (ts : List (List ℕ)). ts ++ lines_in behind) (sym (ends_a b))
 
-none_push : (texts : List (List ℕ)) (text : List ℕ) → AllByRecursion IsNoHeading texts → IsNoHeading text → AllByRecursion IsNoHeading (texts ++ text ∷ [])
-none_push [] text all one = (one, tt)
-none_push (first ∷ texts) text all one = (all.0, none_push texts text all.1 one)
+none_push : (No : List ℕ → Type 0) (texts : List (List ℕ)) (text : List ℕ) → AllByRecursion No texts → No text → AllByRecursion No (texts ++ text ∷ [])
+none_push No [] text all one = (one, tt)
+none_push No (first ∷ texts) text all one = (all.0, none_push No texts text all.1 one)
 
 pub cut_some : (rest text behind : List ℕ) → IsFirstLine rest text behind → 0 < length rest
 cut_some rest text behind cut = let e = ap length cut.parts ∙ length-append text behind in let f = cut.some in omega arith
@@ -48,11 +49,11 @@ cut_some rest text behind cut = let e = ap length cut.parts ∙ length-append te
 some_left : (rest : List ℕ) → (rest ≡ []) → 0 < length rest → ⊥
 some_left rest is some = let nil : length rest ≡ 0 = ap length is in omega arith
 
-module _ (all rest : List ℕ) (count : ℕ) (h : InsideSoFar all rest count) where
+module _ (No : List ℕ → Type 0) (all rest : List ℕ) (count : ℕ) (h : InsideSoFar No all rest count) where
   before_ends : 0 < length rest → EndsLine h.before
   before_ends some = elim h.whole [ inl nil ↦ absurd (some_left rest nil some) | inr ends ↦ ends ]
 
-  pub inside_more : (text behind : List ℕ) → 0 < length rest → IsFirstLine rest text behind → IsNoHeading text → InsideSoFar all behind (count + 1)
+  pub inside_more : (text behind : List ℕ) → 0 < length rest → IsFirstLine rest text behind → No text → InsideSoFar No all behind (count + 1)
   inside_more text behind some cut no_heading =
       let ends = before_ends some in
       let grown : lines_in (h.before ++ text) ≡ lines_in h.before ++ text ∷ [] = ends text ∙ ap (λ (ts : List (List ℕ)). lines_in h.before ++ ts) cut.alone in
@@ -64,13 +65,14 @@ module _ (all rest : List ℕ) (count : ℕ) (h : InsideSoFar all rest count) wh
         before = h.before ++ text;
         parts = h.parts ∙ ap (λ (t : List ℕ). h.before ++ t) cut.parts ∙ sym (append_assoc h.before text behind);
         whole = elim cut.ends [ inl nil ↦ inl nil | inr more ↦ inr (ends_both h.before text ends more) ];
-        none = subst (AllByRecursion IsNoHeading) (sym grown) (none_push (lines_in h.before) text h.none no_heading);
+        none = subst (AllByRecursion No) (sym grown) (none_push No (lines_in h.before) text h.none no_heading);
         counted = let l = ap length grown ∙ length-append (lines_in h.before) (text ∷ []) in omega arith;
         lines = h.lines ∙ ap (λ (ts : List (List ℕ)). lines_in h.before ++ ts) cut.lines
             ∙ sym (append_assoc (lines_in h.before) (text ∷ []) (lines_in behind)) ∙ ap (λ (ts : List (List ℕ)). ts ++ lines_in behind) (sym grown);
         few = omega arith;
       }
 
+module _ (all rest : List ℕ) (count : ℕ) (h : InsideSoFar (IsNoHeading First) all rest count) where
   pub inside_at : (text behind inside : List ℕ) (heading : Heading) (next : Bor (List ℕ)) → 0 < length rest → IsFirstLine rest text behind →
       IsLine text (lines.Section heading.conditions heading.horizon) → inside ≡ take (length all - length rest) all → next.now ≡ behind →
       IsInside all inside count (Some (heading, next))
@@ -95,7 +97,7 @@ module _ (all rest : List ℕ) (count : ℕ) (h : InsideSoFar all rest count) wh
       let same : all ≡ h.before = h.parts ∙ ap (λ (t : List ℕ). h.before ++ t) nothing ∙ append-nil h.before in
       let g = h.few in
       record {
-        none = subst (λ (t : List ℕ). AllByRecursion IsNoHeading (lines_in t)) (sym same) h.none;
+        none = subst (λ (t : List ℕ). AllByRecursion (IsNoHeading First) (lines_in t)) (sym same) h.none;
         counted = h.counted ∙ ap (λ (t : List ℕ). length (lines_in t)) (sym same);
         few = omega arith;
         parted = refl;
@@ -107,7 +109,7 @@ module _ (all rest : List ℕ) (count : ℕ) (h : InsideSoFar all rest count) wh
 pub record PartsSoFar (whole : List ℕ → List (List ℕ)) (conditions : Bool) (horizon : ℕ) (parts : List Part) (heading : Heading) (line : ℕ) (rest : List ℕ) : Type 0 where
   pub so_far : (first : List ℕ) → IsLine first (lines.Section conditions horizon) →
       (text : List ℕ) × IsLine text (lines.Section heading.conditions heading.horizon)
-      × ((others : List SectionText) → AreSections line (text ∷ lines_in rest) others → AreSections 2 (whole first) (parts_view parts ++ others))
+      × ((others : List SectionText) → AreSections First line (text ∷ lines_in rest) others → AreSections First 2 (whole first) (parts_view parts ++ others))
   pub sized : AllByRecursion IsPart parts
   pub few : line + length rest ≤ 268435450
 
@@ -139,7 +141,7 @@ module _ (whole : List ℕ → List (List ℕ)) (conditions : Bool) (horizon : �
           after,
           headed,
           λ more are.
-              subst (AreSections 2 (whole first)) (sym (view_push parts (record { conditions = heading.conditions; horizon = heading.horizon; line = line; bytes = inside }) more))
+              subst (AreSections First 2 (whole first)) (sym (view_push parts (record { conditions = heading.conditions; horizon = heading.horizon; line = line; bytes = inside }) more))
               (go (part_view (record { conditions = heading.conditions; horizon = heading.horizon; line = line; bytes = inside }) ∷ more) (
                 text,
                 after ∷ lines_in others.now,
@@ -147,7 +149,7 @@ module _ (whole : List ℕ → List (List ℕ)) (conditions : Bool) (horizon : �
                 refl,
                 read,
                 i.none,
-                subst (λ (n : ℕ). AreSections (line + 1 + n) (after ∷ lines_in others.now) more) i.counted are,
+                subst (λ (n : ℕ). AreSections First (line + 1 + n) (after ∷ lines_in others.now) more) i.counted are,
               )),
         );
     sized = parts_push parts _ h.sized (part_sized (Some (next, others)) i);
@@ -155,10 +157,10 @@ module _ (whole : List ℕ → List (List ℕ)) (conditions : Bool) (horizon : �
   }
 
   pub parts_done : IsInside rest inside.now count None → (first : List ℕ) → IsLine first (lines.Section conditions horizon) →
-      AreSections 2 (whole first) (parts_view (parts ++ (record { conditions = heading.conditions; horizon = heading.horizon; line = line; bytes = inside }) ∷ []))
+      AreSections First 2 (whole first) (parts_view (parts ++ (record { conditions = heading.conditions; horizon = heading.horizon; line = line; bytes = inside }) ∷ []))
   parts_done i first is =
       let (text, read, go) = h.so_far first is in
-      subst (AreSections 2 (whole first)) (sym (map_push part_view parts (record { conditions = heading.conditions; horizon = heading.horizon; line = line; bytes = inside })))
+      subst (AreSections First 2 (whole first)) (sym (map_push part_view parts (record { conditions = heading.conditions; horizon = heading.horizon; line = line; bytes = inside })))
       (go (part_view (record { conditions = heading.conditions; horizon = heading.horizon; line = line; bytes = inside }) ∷ [])
       (text, [], ap (λ (ts : List (List ℕ)). text ∷ ts) (i.parted ∙ sym (append-nil (lines_in inside.now))), refl, read, i.none, refl))
 
@@ -168,9 +170,9 @@ module _ (whole : List ℕ → List (List ℕ)) (conditions : Bool) (horizon : �
 
   pub parts_done_by : (next : Option (Heading × Bor (List ℕ))) → IsInside rest inside.now count next → next ≡ None → (items : List Part) →
       items ≡ parts ++ (record { conditions = heading.conditions; horizon = heading.horizon; line = line; bytes = inside }) ∷ [] →
-      (first : List ℕ) → IsLine first (lines.Section conditions horizon) → AreSections 2 (whole first) (parts_view items)
+      (first : List ℕ) → IsLine first (lines.Section conditions horizon) → AreSections First 2 (whole first) (parts_view items)
   parts_done_by next i none items same first is =
-      subst (λ (ps : List Part). AreSections 2 (whole first) (parts_view ps)) (sym same)
+      subst (λ (ps : List Part). AreSections First 2 (whole first) (parts_view ps)) (sym same)
       (parts_done (subst (λ (n : Option (Heading × Bor (List ℕ))). IsInside rest inside.now count n) none i) first is)
 
   pub parts_more_by : (next : Option (Heading × Bor (List ℕ))) (after : Heading) (others : Bor (List ℕ)) → IsInside rest inside.now count next → next ≡ Some (after, others) → (items : List Part) →

@@ -5,7 +5,8 @@ use Rattle.std.specs.List.{AllByRecursion}
 use Rattle.cc_defs.specs.declared.log.Cause.{Cause}
 use Rattle.cc_defs.specs.declared.log.Cause.TheVariants as causes
 use Rattle.cc_defs.specs.Clauses.{Literal, IsClause, IsOver, IsNumbered, IsResolvent, Reaches}
-use Rattle.cc_defs.specs.Sections.{Axioms, Finding, Right, Trailed, Wrong, HasNoEmpty, IsWrongly, IsFound, IsEnded}
+use Rattle.cc_defs.specs.LogBytes.{First}
+use Rattle.cc_defs.specs.Sections.{Axioms, Finding, Reading, Right, Trailed, Wrong, HasNoEmpty, IsWrongly, IsFound, IsEnded}
 use Rattle.cc_check.specs.declared.judge.Finding.{Finding as Found}
 use Rattle.cc_check.specs.declared.judge.Finding.TheVariants as findings
 use Rattle.cc_check.specs.declared.judge.Pass.{Pass}
@@ -52,16 +53,21 @@ IsStep clauses variables from pivot number done next =
 
 -- ---- a line of a section, and the section
 
--- What a line does behind these clauses and blocks: the next lines go on behind more, or it ends the section, or it is wrong.
-abbrev pub IsPassed : Axioms → List (List Literal) → ℕ → List ℕ → Pass → List (List Literal) → ℕ → Type 0
-IsPassed axioms own blocks text passes.Goes after count =
-    (line : ℕ) (texts : List (List ℕ)) (finding : Finding) → IsFound axioms (axioms.clauses ++ after) count (line + 1) texts finding →
-    IsFound axioms (axioms.clauses ++ own) blocks line (text ∷ texts) finding
-IsPassed axioms own blocks text (passes.Ends word) after count =
-    (line : ℕ) (texts : List (List ℕ)) (finding : Finding) → IsEnded word count line texts finding →
-    IsFound axioms (axioms.clauses ++ own) blocks line (text ∷ texts) finding
-IsPassed axioms own blocks text (passes.Wrong cause) after count =
-    (line : ℕ) (texts : List (List ℕ)) → IsFound axioms (axioms.clauses ++ own) blocks line (text ∷ texts) (Wrong line cause)
+-- How the lines of a section are read here: as text, and with blocks or without.
+abbrev pub as_text : (blocks : Bool) → Reading
+as_text blocks = record { version = First; blocks = blocks }
+
+-- What a line does behind these clauses and blocks, where a row may be blocked or not: the next lines go on behind more, or it
+-- ends the section, or it is wrong.
+abbrev pub IsPassed : Bool → Axioms → List (List Literal) → ℕ → List ℕ → Pass → List (List Literal) → ℕ → Type 0
+IsPassed may axioms own blocks text passes.Goes after count =
+    (line : ℕ) (texts : List (List ℕ)) (finding : Finding) → IsFound (as_text may) axioms (axioms.clauses ++ after) count (line + 1) texts finding →
+    IsFound (as_text may) axioms (axioms.clauses ++ own) blocks line (text ∷ texts) finding
+IsPassed may axioms own blocks text (passes.Ends word) after count =
+    (line : ℕ) (texts : List (List ℕ)) (finding : Finding) → IsEnded First word count line texts finding →
+    IsFound (as_text may) axioms (axioms.clauses ++ own) blocks line (text ∷ texts) finding
+IsPassed may axioms own blocks text (passes.Wrong cause) after count =
+    (line : ℕ) (texts : List (List ℕ)) → IsFound (as_text may) axioms (axioms.clauses ++ own) blocks line (text ∷ texts) (Wrong line cause)
 
 -- what a finding says
 abbrev pub plain_finding : Found → Finding

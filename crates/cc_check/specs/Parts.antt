@@ -7,6 +7,7 @@ use Rattle.cc_defs.specs.declared.log.Cause.TheVariants as causes
 use Rattle.cc_defs.specs.declared.log.LogLine.{LogLine}
 use Rattle.cc_defs.specs.declared.log.LogLine.TheVariants as lines
 use Rattle.cc_defs.specs.Limits.{most_log_bytes}
+use Rattle.cc_defs.specs.LogBytes.{First}
 use Rattle.cc_defs.specs.LogTexts.{IsLine, lines_in}
 use Rattle.cc_defs.specs.Logs.{SectionText, IsNoHeading}
 use Rattle.cc_defs.specs.Sections.{HasNoForm}
@@ -47,7 +48,7 @@ IsNext all inside next =
     (text : List ℕ) × (all ≡ inside ++ text ∷ lines_in next.1.now) × IsLine text (lines.Section next.0.conditions next.0.horizon)
 
 pub record IsInside (all inside : List ℕ) (count : ℕ) (next : Option (Heading × Bor (List ℕ))) : Type 0 where
-  pub none : AllByRecursion IsNoHeading (lines_in inside)
+  pub none : AllByRecursion (IsNoHeading First) (lines_in inside)
   pub counted : count ≡ length (lines_in inside)
   pub few : length inside ≤ length all
   pub parted : MatchOption next (lines_in all ≡ lines_in inside) (IsNext (lines_in all) (lines_in inside))
@@ -60,7 +61,7 @@ IsRefusal bytes faults.OutOfMemory = Unit {0}
 
 -- what is wrong with a second line
 abbrev pub IsSecond : List ℕ → Cause → Type 0
-IsSecond text causes.Form = HasNoForm text
+IsSecond text causes.Form = HasNoForm First text
 IsSecond text causes.Section = (line : LogLine) × IsLine text line
 IsSecond text causes.Header = ⊥
 IsSecond text causes.Literal = ⊥

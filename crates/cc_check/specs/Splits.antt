@@ -3,6 +3,7 @@ use Rattle.std.specs.Prelude.{◌≡◌, ◌≢◌, ℕ, ◌⊎◌, List, [], �
 use Rattle.cc_defs.specs.declared.log.Cause.{Cause}
 use Rattle.cc_defs.specs.declared.log.Cause.TheVariants as causes
 use Rattle.cc_defs.specs.declared.log.LogLine.{LogLine}
+use Rattle.cc_defs.specs.LogBytes.{First}
 use Rattle.cc_defs.specs.LogTexts.{IsLine, header, lines_in}
 use Rattle.cc_defs.specs.Logs.{SectionText, IsNoHeading, AreSections}
 use Rattle.cc_defs.specs.Sections.{HasNoForm}
@@ -16,9 +17,9 @@ pub data Split : Type 0 where
 abbrev pub IsSplitBehind : List (List ℕ) → Split → Type 0
 IsSplitBehind [] split = split ≡ Misread 2 causes.Section
 IsSplitBehind (text ∷ texts) split =
-    (HasNoForm text × (split ≡ Misread 2 causes.Form))
-    ⊎ (IsNoHeading text × ((line : LogLine) × IsLine text line) × (split ≡ Misread 2 causes.Section))
-    ⊎ ((sections : List SectionText) × AreSections 2 (text ∷ texts) sections × (split ≡ Parts sections))
+    (HasNoForm First text × (split ≡ Misread 2 causes.Form))
+    ⊎ (IsNoHeading First text × ((line : LogLine) × IsLine text line) × (split ≡ Misread 2 causes.Section))
+    ⊎ ((sections : List SectionText) × AreSections First 2 (text ∷ texts) sections × (split ≡ Parts sections))
 
 abbrev pub IsSplitOf : List (List ℕ) → Split → Type 0
 IsSplitOf [] split = split ≡ Misread 1 causes.Header

@@ -1,13 +1,14 @@
 //! The checker of a section.
-ghost use Rattle.std.specs.Prelude.{◌≡◌, ◌==◌, ◌||◌, ◌↔◌, ℕ, ◌+◌, ◌≤◌, ◌++◌, ◌∷◌, [], List, length, IfOk, IsTrue, MatchOption, OnOk};
+ghost use Rattle.std.specs.Prelude.{◌≡◌, ◌==◌, ◌||◌, ◌↔◌, Bool, false, true, ℕ, ◌+◌, ◌≤◌, ◌++◌, ◌∷◌, [], List, length, IfOk, IsTrue, MatchOption, OnOk};
 ghost use Rattle.std.specs.Bool.{MatchBool};
 ghost use Rattle.cc_defs.specs.declared.log.EndWord.TheVariants as words;
 ghost use Rattle.cc_defs.specs.declared.log.LogLine.TheVariants as lines;
 ghost use Rattle.cc_defs.specs.Clauses.{IsClause, IsOver};
 ghost use Rattle.cc_defs.specs.Limits.{most_log_bytes};
+ghost use Rattle.cc_defs.specs.LogBytes.{First};
 ghost use Rattle.cc_defs.specs.LogTexts.{IsLine, lines_in};
 ghost use Rattle.cc_defs.specs.Sections.{EndsRightly, Finding as PlainFinding, IsEnded, IsFound, IsJudged, row_denial};
-ghost use Rattle.cc_check.specs.Clauses.{AreSound, HasLineBehind, IsClauseOver, IsPassed, IsVerdictOf, IsWrongDerived, IsRightDerived, plain_finding};
+ghost use Rattle.cc_check.specs.Clauses.{AreSound, as_text, HasLineBehind, IsClauseOver, IsPassed, IsVerdictOf, IsWrongDerived, IsRightDerived, plain_finding};
 
 use crate::clauses::{
     Stage, are_named, has_empty, is_clause_over, is_same_clause, reach, write_denial,
@@ -156,7 +157,7 @@ impl Checker {
     // The derived line that was read into the room.
     fn derived(&mut self, form: &Form) -> Result<Pass, OutOfMemory>
         requires sound { AreSound form.now self.old.own self.old.refuted }
-        ensures passed { IfOk result (λ pass. (text : List ℕ) → IsLine text (lines.Derived self.old.room.literals.items self.old.room.numbers.items) → IsPassed form.now self.old.own self.old.blocks text pass self.new.own self.new.blocks) }
+        ensures passed { IfOk result (λ pass. (may : Bool) (text : List ℕ) → IsLine text (lines.Derived self.old.room.literals.items self.old.room.numbers.items) → IsPassed may form.now self.old.own self.old.blocks text pass self.new.own self.new.blocks) }
         ensures sound { OnOk result (AreSound form.now self.new.own self.new.refuted) }
         ensures counted { OnOk result (self.new.blocks ≤ self.old.blocks + 1) }
     {
@@ -178,14 +179,17 @@ impl Checker {
         }
     }
 
-    // The block that was read into the room.
-    fn block(&mut self, form: &Form) -> Result<Pass, OutOfMemory>
+    // The block that was read into the room: one may be there or not.
+    fn block(&mut self, form: &Form, may: bool) -> Result<Pass, OutOfMemory>
         requires sound { AreSound form.now self.old.own self.old.refuted }
         requires few { self.old.blocks ≤ most_log_bytes }
-        ensures passed { IfOk result (λ pass. (text : List ℕ) → IsLine text (lines.Block self.old.room.numbers.items) → IsPassed form.now self.old.own self.old.blocks text pass self.new.own self.new.blocks) }
+        ensures passed { IfOk result (λ pass. (text : List ℕ) → IsLine text (lines.Block self.old.room.numbers.items) → IsPassed may form.now self.old.own self.old.blocks text pass self.new.own self.new.blocks) }
         ensures sound { OnOk result (AreSound form.now self.new.own self.new.refuted) }
         ensures counted { OnOk result (self.new.blocks ≤ self.old.blocks + 1) }
     {
+        if !may {
+            return Ok(Pass::Wrong(Cause::Section));
+        }
         if self.refuted {
             return Ok(Pass::Wrong(Cause::Section));
         }
@@ -201,7 +205,7 @@ impl Checker {
     // The end of the section. The word says that a clause is empty, where one is.
     fn end(&self, form: &Form, word: EndWord) -> Pass
         requires sound { AreSound form.now self.now.own self.now.refuted }
-        ensures { (text : List ℕ) → IsLine text (lines.End word) → IsPassed form.now self.now.own self.now.blocks text result self.now.own self.now.blocks }
+        ensures { (may : Bool) (text : List ℕ) → IsLine text (lines.End word) → IsPassed may form.now self.now.own self.now.blocks text result self.now.own self.now.blocks }
     {
         let _ = form;
         if self.refuted == says_empty(word) {
@@ -212,10 +216,10 @@ impl Checker {
     }
 
     // A line.
-    fn pass(&mut self, form: &Form, text: &[u8]) -> Result<Pass, OutOfMemory>
+    fn pass(&mut self, form: &Form, may: bool, text: &[u8]) -> Result<Pass, OutOfMemory>
         requires sound { AreSound form.now self.old.own self.old.refuted }
         requires few { self.old.blocks ≤ most_log_bytes }
-        ensures passed { IfOk result (λ pass. IsPassed form.now self.old.own self.old.blocks text.now pass self.new.own self.new.blocks) }
+        ensures passed { IfOk result (λ pass. IsPassed may form.now self.old.own self.old.blocks text.now pass self.new.own self.new.blocks) }
         ensures sound { OnOk result (AreSound form.now self.new.own self.new.refuted) }
         ensures counted { OnOk result (self.new.blocks ≤ self.old.blocks + 1) }
     {
@@ -224,14 +228,14 @@ impl Checker {
             Some(Kind::Heading) => Ok(Pass::Wrong(Cause::Section)),
             Some(Kind::End(word)) => Ok(self.end(form, word)),
             Some(Kind::Derived) => self.derived(form),
-            Some(Kind::Block) => self.block(form),
+            Some(Kind::Block) => self.block(form, may),
         }
     }
 
     // What stands behind the end of a section, whose line is given.
     fn behind_end(&mut self, word: EndWord, line: u32, rest: &[u8]) -> Result<Finding, OutOfMemory>
         requires { line ≤ 4000000000 }
-        ensures ended { IfOk result (λ finding. IsEnded word self.old.blocks line (lines_in rest.now) (plain_finding finding)) }
+        ensures ended { IfOk result (λ finding. IsEnded First word self.old.blocks line (lines_in rest.now) (plain_finding finding)) }
         ensures few { IfOk result (λ finding. HasLineBehind finding) }
     {
         if rest.is_empty() {
@@ -257,11 +261,17 @@ impl Checker {
     }
 }
 
-// Goes through the lines of a section, of which the first has this number.
-fn find_lines(alloc: Global, form: &Form, first: u32, bytes: &[u8]) -> Result<Finding, OutOfMemory>
+/// Goes through the lines of a section, of which the first has this number, where a row may be blocked or not.
+pub(crate) fn find_lines(
+    alloc: Global,
+    form: &Form,
+    may: bool,
+    first: u32,
+    bytes: &[u8],
+) -> Result<Finding, OutOfMemory>
     requires few { length bytes.now ≤ most_log_bytes }
     requires line { first ≤ most_log_bytes + 2 }
-    ensures found { IfOk result (λ finding. IsFound form.now form.now.clauses 0 first (lines_in bytes.now) (plain_finding finding)) }
+    ensures found { IfOk result (λ finding. IsFound (as_text may) form.now form.now.clauses 0 first (lines_in bytes.now) (plain_finding finding)) }
     ensures few { IfOk result (λ finding. HasLineBehind finding) }
 {
     let mut checker = Checker::new(alloc, form);
@@ -269,7 +279,7 @@ fn find_lines(alloc: Global, form: &Form, first: u32, bytes: &[u8]) -> Result<Fi
     let mut line = first;
     while !rest.is_empty() {
         let (text, behind) = first_line(rest);
-        match checker.pass(form, text)? {
+        match checker.pass(form, may, text)? {
             Pass::Goes => {}
             Pass::Ends(word) => return checker.behind_end(word, line, behind),
             Pass::Wrong(cause) => return Ok(Finding::Wrong { line, cause }),
@@ -283,21 +293,38 @@ fn find_lines(alloc: Global, form: &Form, first: u32, bytes: &[u8]) -> Result<Fi
     })
 }
 
-// What is found of the lines of a section.
-fn found_in(alloc: Global, form: &Form, section: &Section<'_>) -> Result<Finding, OutOfMemory>
-    ensures found { IfOk result (λ finding. IsFound form.now form.now.clauses 0 (section.now.line + 1) section.now.texts (plain_finding finding)) }
+// What is found of the lines of a section, where a row may be blocked or not.
+fn found_in(
+    alloc: Global,
+    form: &Form,
+    may: bool,
+    section: &Section<'_>,
+) -> Result<Finding, OutOfMemory>
+    ensures found { IfOk result (λ finding. IsFound (as_text may) form.now form.now.clauses 0 (section.now.line + 1) section.now.texts (plain_finding finding)) }
     ensures few { IfOk result (λ finding. HasLineBehind finding) }
 {
     let (line, bytes) = section.lines();
-    find_lines(alloc, form, line, bytes)
+    find_lines(alloc, form, may, line, bytes)
 }
 
 /// Goes through the lines of a section over the clauses of a form, those of its horizon and its search: each is right up to the one
 /// that ends the section, or it finds the first that is not.
 pub fn find(alloc: Global, form: &Form, section: &Section<'_>) -> Result<Finding, OutOfMemory>
-    ensures { IfOk result (λ finding. IsFound form.now form.now.clauses 0 (section.now.line + 1) section.now.texts (plain_finding finding)) }
+    ensures { IfOk result (λ finding. IsFound (as_text true) form.now form.now.clauses 0 (section.now.line + 1) section.now.texts (plain_finding finding)) }
 {
-    found_in(alloc, form, section)
+    found_in(alloc, form, true, section)
+}
+
+/// As `find`, for a section in which no row may be blocked: a block is out of its place there (`Section`).
+pub fn find_silent(
+    alloc: Global,
+    form: &Form,
+    section: &Section<'_>,
+) -> Result<Finding, OutOfMemory>
+    ensures found { IfOk result (λ finding. IsFound (as_text false) form.now form.now.clauses 0 (section.now.line + 1) section.now.texts (plain_finding finding)) }
+    ensures few { IfOk result (λ finding. HasLineBehind finding) }
+{
+    found_in(alloc, form, false, section)
 }
 
 // A section is right by itself, or its first line that is not: behind an end that is the line there.
@@ -326,7 +353,18 @@ fn verdict_of(finding: Finding) -> Verdict
 /// Checks a section over the clauses of a form, those of its horizon and its search: each line is right, and the last one ends the
 /// section; or the first that is not. Whether the log may go on behind such an end is not looked at.
 pub fn check(alloc: Global, form: &Form, section: &Section<'_>) -> Result<Verdict, OutOfMemory>
-    ensures { IfOk result (λ verdict. (finding : PlainFinding) × IsFound form.now form.now.clauses 0 (section.now.line + 1) section.now.texts finding × IsVerdictOf finding verdict) }
+    ensures { IfOk result (λ verdict. (finding : PlainFinding) × IsFound (as_text true) form.now form.now.clauses 0 (section.now.line + 1) section.now.texts finding × IsVerdictOf finding verdict) }
 {
-    Ok(verdict_of(found_in(alloc, form, section)?))
+    Ok(verdict_of(found_in(alloc, form, true, section)?))
+}
+
+/// As `check`, for a section in which no row may be blocked: a block is out of its place there (`Section`).
+pub fn check_silent(
+    alloc: Global,
+    form: &Form,
+    section: &Section<'_>,
+) -> Result<Verdict, OutOfMemory>
+    ensures { IfOk result (λ verdict. (finding : PlainFinding) × IsFound (as_text false) form.now form.now.clauses 0 (section.now.line + 1) section.now.texts finding × IsVerdictOf finding verdict) }
+{
+    Ok(verdict_of(found_in(alloc, form, false, section)?))
 }

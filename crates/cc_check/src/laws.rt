@@ -1,5 +1,7 @@
-//! Laws of the reading of logs, each the contract of a function with no body.
-ghost use Rattle.cc_check.specs.Laws.{LinesAreUnique, LogsTellTheirLines, MisreadsAreVerdicts, SectionsGiveVerdicts};
+//! Laws of the reading of logs, each the contract of a function that does nothing.
+ghost use Rattle.cc_check.specs.Laws.{LinesAreUnique, LogsTellTheirLines, MisreadsAreVerdicts, SectionsGiveVerdicts, SilentSectionsHaveNoRows};
+
+use cc_clauses::laws::resolvents_are_sound;
 
 /// No text is that of two lines.
 pub fn lines_are_unique()
@@ -20,3 +22,10 @@ pub fn misreads_are_verdicts()
 pub fn sections_give_verdicts()
     ensures { SectionsGiveVerdicts }
 {}
+
+/// Where a section without blocks is right and ends with `empty`, its axioms have no row.
+pub fn silent_sections_have_no_rows()
+    ensures { SilentSectionsHaveNoRows }
+{
+    resolvents_are_sound();
+}

@@ -1,4 +1,5 @@
-//! The lines of a log, as they are written and as they are read, and a checker of its sections.
+//! The lines of a log, as they are written and as they are read; a checker of one section of a log, with blocks or without; and a
+//! checker of whole logs whose sections are silent, for each kind of heading. The verdict of a query's log is cc_judge's.
 #![tactic(auto)]
 
 mod clauses;
@@ -9,9 +10,14 @@ mod line;
 mod number;
 mod put;
 mod sections;
+mod silent;
 mod text;
 
 pub use fault::CheckFault;
-pub use judge::{Finding, Verdict, check, find};
+pub use judge::{Finding, Verdict, check, check_silent, find, find_silent};
+pub use line::{Heading, Kind, Room, heading_of, read_line};
+pub use number::Named;
 pub use put::put_line;
 pub use sections::{Section, Sections};
+pub use silent::{Silent, SilentVerdict, judge_silent};
+pub use text::first_line;

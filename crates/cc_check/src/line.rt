@@ -2,6 +2,7 @@
 ghost use Rattle.std.specs.Prelude.{◌≡◌, ℕ, List, [], ◌∷◌, ◌++◌, ◌↔◌, true, false, length, IfOk, IsTrue, MatchOption};
 ghost use Rattle.std.specs.Bool.{MatchBool};
 ghost use Rattle.cc_defs.specs.declared.log.LogLine.TheVariants as lines;
+ghost use Rattle.cc_defs.specs.LogBytes.{First};
 ghost use Rattle.cc_defs.specs.LogTexts.{IsLine};
 ghost use Rattle.cc_defs.specs.Clauses.{Literal};
 ghost use Rattle.cc_defs.specs.Logs.{IsNoHeading};
@@ -14,7 +15,7 @@ use std::alloc::Global;
 
 /// What a line is: its literals and numbers stand in a room.
 #[derive(Clone, Copy)]
-pub(crate) enum Kind {
+pub enum Kind {
     Heading,
     Derived,
     Block,
@@ -23,21 +24,23 @@ pub(crate) enum Kind {
 
 /// Room for what a line has, used for one line after another.
 #[derive(Drop)]
-pub(crate) struct Room {
-    pub(crate) literals: Vec<Named>,
+pub struct Room {
+    /// Those of a derived line's clause.
+    pub literals: Vec<Named>,
     /// The chain of a derived line, or the row of a block.
-    pub(crate) numbers: Vec<u32>,
+    pub numbers: Vec<u32>,
 }
 
 /// The heading of a section.
 #[derive(Clone, Copy)]
-pub(crate) struct Heading {
-    pub(crate) conditions: bool,
-    pub(crate) horizon: u32,
+pub struct Heading {
+    pub conditions: bool,
+    pub horizon: u32,
 }
 
 impl Room {
-    pub(crate) fn new(alloc: Global) -> Room {
+    /// Room that is empty. It takes no memory.
+    pub fn new(alloc: Global) -> Room {
         Room {
             literals: Vec::new(alloc),
             numbers: Vec::new(alloc),
@@ -107,7 +110,7 @@ fn take_end(numbers: &mut Vec<u32>) -> bool
 
 // Reads what stands behind the letter of a derived line.
 fn read_derived(body: &[u8], room: &mut Room) -> Result<Option<Kind>, OutOfMemory>
-    ensures { IfOk result (λ kind. MatchOption kind (HasNoForm (100 ∷ body.now)) (IsRead (100 ∷ body.now) room.new.literals.items room.new.numbers.items)) }
+    ensures { IfOk result (λ kind. MatchOption kind (HasNoForm First (100 ∷ body.now)) (IsRead (100 ∷ body.now) room.new.literals.items room.new.numbers.items)) }
 {
     let Some(tail) = read_literals(body, &mut room.literals)? else {
         return Ok(None);
@@ -123,7 +126,7 @@ fn read_derived(body: &[u8], room: &mut Room) -> Result<Option<Kind>, OutOfMemor
 
 // Reads what stands behind the letter of a block.
 fn read_block(body: &[u8], room: &mut Room) -> Result<Option<Kind>, OutOfMemory>
-    ensures { IfOk result (λ kind. MatchOption kind (HasNoForm (98 ∷ body.now)) (IsRead (98 ∷ body.now) room.new.literals.items room.new.numbers.items)) }
+    ensures { IfOk result (λ kind. MatchOption kind (HasNoForm First (98 ∷ body.now)) (IsRead (98 ∷ body.now) room.new.literals.items room.new.numbers.items)) }
 {
     if !read_numbers(body, &mut room.numbers)? {
         return Ok(None);
@@ -157,9 +160,9 @@ fn last_number(text: &[u8]) -> Option<u32>
     Some(number)
 }
 
-/// What a heading says.
-pub(crate) fn heading_of(text: &[u8]) -> Option<Heading>
-    ensures { MatchOption result (IsNoHeading text.now) (λ heading. IsLine text.now (lines.Section heading.conditions heading.horizon)) }
+/// What a line, its line feed included, says as a heading. Nothing: it is none.
+pub fn heading_of(text: &[u8]) -> Option<Heading>
+    ensures { MatchOption result (IsNoHeading First text.now) (λ heading. IsLine text.now (lines.Section heading.conditions heading.horizon)) }
 {
     let [letter, space, behind @ ..] = text else {
         return None;
@@ -178,9 +181,10 @@ pub(crate) fn heading_of(text: &[u8]) -> Option<Heading>
     })
 }
 
-/// Reads a line, its line feed included. Nothing: it is no line of a log.
-pub(crate) fn read_line(text: &[u8], room: &mut Room) -> Result<Option<Kind>, OutOfMemory>
-    ensures { IfOk result (λ kind. MatchOption kind (HasNoForm text.now) (IsRead text.now room.new.literals.items room.new.numbers.items)) }
+/// Reads a line, its line feed included: what it is, and its literals and numbers into the room, in the place of what is there.
+/// Nothing: it is no line of a log. A line's variables may be past those that a `LogLine` can hold.
+pub fn read_line(text: &[u8], room: &mut Room) -> Result<Option<Kind>, OutOfMemory>
+    ensures { IfOk result (λ kind. MatchOption kind (HasNoForm First text.now) (IsRead text.now room.new.literals.items room.new.numbers.items)) }
 {
     let [letter, body @ ..] = text else {
         return Ok(None);
@@ -196,7 +200,7 @@ pub(crate) fn read_line(text: &[u8], room: &mut Room) -> Result<Option<Kind>, Ou
 
 // A line that is neither a derived one nor a block.
 fn other_of(text: &[u8]) -> Option<Kind>
-    ensures { MatchOption result (IsNoHeading text.now × IsNoEnd text.now) (λ kind. (literals : List Literal) (numbers : List ℕ) → IsRead text.now literals numbers kind) }
+    ensures { MatchOption result (IsNoHeading First text.now × IsNoEnd text.now) (λ kind. (literals : List Literal) (numbers : List ℕ) → IsRead text.now literals numbers kind) }
 {
     match end_of(text) {
         Some(word) => Some(Kind::End(word)),

@@ -7,9 +7,9 @@ use std::marker::Model;
 
 /// A literal as a line names it: its variable has at most nine digits, and may be past the last.
 #[derive(Clone, Copy)]
-pub(crate) struct Named {
-    pub(crate) variable: u32,
-    pub(crate) positive: bool,
+pub struct Named {
+    pub variable: u32,
+    pub positive: bool,
 }
 
 impl Model for Named {

@@ -3,6 +3,7 @@ ghost use Rattle.std.specs.Prelude.{◌≡◌, ◌+◌, ◌-◌, ℕ, ◌≤◌,
 ghost use Rattle.std.specs.List.{AllByRecursion};
 ghost use Rattle.cc_defs.specs.declared.log.LogLine.TheVariants as lines;
 ghost use Rattle.cc_defs.specs.Limits.{most_log_bytes};
+ghost use Rattle.cc_defs.specs.LogBytes.{First};
 ghost use Rattle.cc_defs.specs.LogTexts.{IsLine, header, lines_in};
 ghost use Rattle.cc_defs.specs.Logs.{AreSections, IsNoHeading};
 ghost use Rattle.cc_check.specs.declared.fault.CheckFault.TheVariants as faults;
@@ -115,7 +116,7 @@ impl<'b> Section<'b> {
 }
 
 // The front of a text of which so many bytes are left.
-fn ahead(text: &[u8], left: usize) -> &[u8]
+pub(crate) fn ahead(text: &[u8], left: usize) -> &[u8]
     requires { left ≤ length text.now }
     ensures { result.now ≡ take (length text.now - left) text.now }
 {
@@ -154,7 +155,7 @@ fn parts_of<'b>(
     behind: &'b [u8],
 ) -> Result<Vec<Part<'b>>, OutOfMemory>
     requires { length behind.now ≤ 268435448 }
-    ensures sections { IfOk result (λ parts. (text : List ℕ) → IsLine text (lines.Section first.conditions first.horizon) → AreSections 2 (text ∷ lines_in behind.now) (parts_view parts.items)) }
+    ensures sections { IfOk result (λ parts. (text : List ℕ) → IsLine text (lines.Section first.conditions first.horizon) → AreSections First 2 (text ∷ lines_in behind.now) (parts_view parts.items)) }
     ensures parts { IfOk result (λ parts. AllByRecursion IsPart parts.items) }
 {
     let mut parts = Vec::new(alloc);
@@ -178,9 +179,8 @@ fn parts_of<'b>(
     }
 }
 
-// What is wrong with a second line that is no heading.
-fn second_cause(alloc: Global, text: &[u8]) -> Result<Cause, OutOfMemory>
-    requires { IsNoHeading text.now }
+// What is wrong with a text that stands where a heading has to.
+pub(crate) fn second_cause(alloc: Global, text: &[u8]) -> Result<Cause, OutOfMemory>
     ensures { IfOk result (λ cause. IsSecond text.now cause) }
 {
     let mut room = Room::new(alloc);

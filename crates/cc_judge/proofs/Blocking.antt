@@ -15,6 +15,7 @@ use Rattle.cc_defs.specs.declared.log.LogLine.TheVariants as lines
 use Rattle.cc_defs.specs.Clauses.{Literal, IsNumbered, Reaches, ReachesFrom, meets}
 use Rattle.cc_defs.specs.Description.{Description}
 use Rattle.cc_defs.specs.Histories.{IsHistory}
+use Rattle.cc_check.specs.Clauses.{as_text}
 use Rattle.cc_defs.specs.LogTexts.{line_text}
 use Rattle.cc_defs.specs.Resolved.{Query}
 use Rattle.cc_defs.specs.Rows.{IsRow}
@@ -87,7 +88,7 @@ module _ (sound : ResolventsAreSound) (leaves : DenialLeavesOthers) (axioms : Ax
   Blocks texts = Contains texts (line_text (lines.Block row))
 
   blocked : (before : List (List Literal)) (blocks line : ℕ) (texts : List (List ℕ)) → MeetsAll assignment before →
-      IsFound axioms before blocks line texts (Right word count end_line) → Blocks texts
+      IsFound (as_text true) axioms before blocks line texts (Right word count end_line) → Blocks texts
   blocked before blocks line [] met is = absurd cc
   blocked before blocks line (text ∷ texts) met (inl (none, is)) = absurd cc
   blocked before blocks line (text ∷ texts) met (inr (lines.Section conditions horizon, read, is)) = absurd cc
@@ -119,8 +120,8 @@ of_asked d q false horizon key row is = record { path = is.path; meets = record 
 
 pub history_blocked : (sound : ResolventsAreSound) (leaves : DenialLeavesOthers) (d : Description) (q : Query) (with_claim : Bool) (horizon : ℕ) (key : Option (List ℕ)) (axioms : Axioms)
     (line : ℕ) (texts : List (List ℕ)) (word : EndWord) (count end_line : ℕ) → TellsHistories d (asked with_claim q) horizon key axioms →
-    IsFound axioms axioms.clauses 0 line texts (Right word count end_line) → word ≡ words.Empty → (row : List ℕ) → IsHistory d q horizon key row →
+    IsFound (as_text true) axioms axioms.clauses 0 line texts (Right word count end_line) → word ≡ words.Empty → (row : List ℕ) → IsHistory d q horizon key row →
     Contains texts (line_text (lines.Block row))
 history_blocked sound leaves d q with_claim horizon key axioms line texts word count end_line tells found empty row is =
-    let one = (tells.histories row).1 (of_asked d q with_claim horizon key row is) in
+    let one = (tells.rows row).1 (of_asked d q with_claim horizon key row is) in
     blocked sound leaves axioms one.assignment row one.is_row one.has word count end_line empty axioms.clauses 0 line texts one.meets_all found

@@ -3,7 +3,7 @@ use Rattle.std.proofs.Common.{◌≡◌, ◌∙◌, ℕ, ◌+◌, ◌<◌, ◌�
 use Rattle.std.specs.Prelude.{◌==◌, if◌then◌else◌, Contains}
 use Rattle.cc_check.specs.declared.judge.Finding.{Finding as Found}
 use Rattle.cc_check.specs.declared.judge.Finding.TheVariants as findings
-use Rattle.cc_check.specs.Clauses.{plain_finding}
+use Rattle.cc_check.specs.Clauses.{as_text, plain_finding}
 use Rattle.cc_check.specs.Splits.{Parts, IsSplit, IsSplitBehind, IsSplitOf}
 use Rattle.cc_defs.specs.declared.log.Cause.{Cause}
 use Rattle.cc_defs.specs.declared.log.Cause.TheVariants as causes
@@ -11,6 +11,7 @@ use Rattle.cc_defs.specs.declared.log.EndWord.{EndWord}
 use Rattle.cc_defs.specs.declared.log.EndWord.TheVariants as words
 use Rattle.cc_defs.specs.declared.log.LogLine.TheVariants as lines
 use Rattle.cc_defs.specs.Clauses.{Literal}
+use Rattle.cc_defs.specs.LogBytes.{First}
 use Rattle.cc_defs.specs.LogTexts.{before_lines, header, lines_in}
 use Rattle.cc_defs.specs.Logs.{SectionText, Standing, AreSections}
 use Rattle.cc_defs.specs.Sections.{Axioms, Finding, Right, Trailed, Wrong, IsEnded, IsFound, row_denial}
@@ -22,7 +23,7 @@ use Rattle.cc_judge.specs.Standings.{AreFew, HasRoom, IsBehind, IsBehindFinding,
 
 -- ---- within a section
 
-pub ended : (other : EndWord) (blocks line : ℕ) (texts : List (List ℕ)) (word : EndWord) (count end_line : ℕ) → IsEnded other blocks line texts (Right word count end_line) →
+pub ended : (other : EndWord) (blocks line : ℕ) (texts : List (List ℕ)) (word : EndWord) (count end_line : ℕ) → IsEnded First other blocks line texts (Right word count end_line) →
     (word ≡ other) × (count ≡ blocks) × (end_line ≡ line)
 ended other blocks line [] word count end_line is = (cc, cc, cc)
 ended other blocks line (text ∷ texts) word count end_line (inl (none, is)) = absurd cc
@@ -53,12 +54,12 @@ module _ (axioms : Axioms) (finding : Finding) where
       IsCounted blocks line (text ∷ texts) finding
   trail_counted blocks line word reason text texts is = subst (IsCounted blocks line (text ∷ texts)) (sym is) (omega arith)
 
-  end_counted : (other : EndWord) (blocks line : ℕ) (text : List ℕ) (texts : List (List ℕ)) → IsEnded other blocks line texts finding → IsCounted blocks line (text ∷ texts) finding
+  end_counted : (other : EndWord) (blocks line : ℕ) (text : List ℕ) (texts : List (List ℕ)) → IsEnded First other blocks line texts finding → IsCounted blocks line (text ∷ texts) finding
   end_counted other blocks line text [] is = subst (IsCounted blocks line (text ∷ [])) (sym is) (omega arith, omega arith)
   end_counted other blocks line text (next ∷ texts) (inl (none, is)) = trail_counted blocks line other causes.Form text (next ∷ texts) is
   end_counted other blocks line text (next ∷ texts) (inr (read, is)) = trail_counted blocks line other causes.Section text (next ∷ texts) is
 
-  pub found_counted : (before : List (List Literal)) (blocks line : ℕ) (texts : List (List ℕ)) → IsFound axioms before blocks line texts finding → IsCounted blocks line texts finding
+  pub found_counted : (before : List (List Literal)) (blocks line : ℕ) (texts : List (List ℕ)) → IsFound (as_text true) axioms before blocks line texts finding → IsCounted blocks line texts finding
   found_counted before blocks line [] is = wrong_counted blocks line line causes.Section [] is
   found_counted before blocks line (text ∷ texts) (inl (none, is)) = wrong_counted blocks line line causes.Form (text ∷ texts) is
   found_counted before blocks line (text ∷ texts) (inr (lines.Section conditions horizon, read, is)) = wrong_counted blocks line line causes.Section (text ∷ texts) is
@@ -75,7 +76,7 @@ module _ (axioms : Axioms) (finding : Finding) where
       counted_block_more blocks line text texts finding (found_counted (before ++ row_denial axioms.sizes row ∷ []) (blocks + 1) (line + 1) texts goes)
 
 pub room_for : (axioms : Axioms) (blocked : ℕ) (section : SectionText) (found : Found) → IsEarly blocked section →
-    IsFound axioms axioms.clauses 0 (section.line + 1) section.texts (plain_finding found) → HasRoom blocked found
+    IsFound (as_text true) axioms axioms.clauses 0 (section.line + 1) section.texts (plain_finding found) → HasRoom blocked found
 room_for axioms blocked section (findings.Right word count end_line) early is =
     let few = found_counted axioms (Right word count end_line) axioms.clauses 0 (section.line + 1) section.texts is in
     let counts = few.0 in let ends = few.1 in let first = early.0 in let last = early.1 in (omega arith, omega arith)
@@ -106,7 +107,7 @@ trail_stays true words.Spent line reason held is = absurd cc
 trail_stays false words.Spent line reason held is = absurd cc
 
 pub forward : (axioms : Axioms) (standing : Standing) (section : SectionText) (conditions : Bool) (finding : Finding) (next : Next) → IsEarly standing.blocked section →
-    IsFound axioms axioms.clauses 0 (section.line + 1) section.texts finding → IsBehindFinding standing conditions finding next → IsForward standing section next
+    IsFound (as_text true) axioms axioms.clauses 0 (section.line + 1) section.texts finding → IsBehindFinding standing conditions finding next → IsForward standing section next
 forward axioms standing section conditions finding (nexts.Wrong line reason) early found is = tt
 forward axioms standing section conditions (Wrong line reason) (nexts.Goes held) early found is = absurd cc
 forward axioms standing section conditions (Trailed word line reason) (nexts.Goes held) early found is = absurd (trail_stays conditions word line reason held is)
@@ -130,15 +131,15 @@ lines_few (byte ∷ bytes) = let rest = lines_few bytes in let front = shorter (
 
 -- ---- the sections of a split log
 
-split_behind : (texts : List (List ℕ)) (sections : List SectionText) → IsSplitBehind texts (Parts sections) → AreSections 2 texts sections
+split_behind : (texts : List (List ℕ)) (sections : List SectionText) → IsSplitBehind texts (Parts sections) → AreSections First 2 texts sections
 split_behind [] sections is = absurd cc
 split_behind (text ∷ texts) sections (inl (none, is)) = absurd cc
 split_behind (text ∷ texts) sections (inr (inl (none, read, is))) = absurd cc
 split_behind (text ∷ texts) sections (inr (inr (others, are, is))) =
-    let same : others ≡ sections = cc in subst (λ (l : List SectionText). AreSections 2 (text ∷ texts) l) same are
+    let same : others ≡ sections = cc in subst (λ (l : List SectionText). AreSections First 2 (text ∷ texts) l) same are
 
 split_of : (lines : List (List ℕ)) (sections : List SectionText) → IsSplitOf lines (Parts sections) →
-    (texts : List (List ℕ)) × (lines ≡ header ∷ texts) × AreSections 2 texts sections
+    (texts : List (List ℕ)) × (lines ≡ header ∷ texts) × AreSections First 2 texts sections
 split_of [] sections is = absurd cc
 split_of (text ∷ texts) sections (inl (other, is)) = absurd cc
 split_of (text ∷ texts) sections (inr (same, behind)) = (texts, ap (λ (t : List ℕ). t ∷ texts) same, split_behind texts sections behind)
@@ -159,7 +160,7 @@ are_few bytes sections most split =
 pub record AreLeft (sections : List SectionText) (blocked : ℕ) : Type 0 where
   pub line : ℕ
   pub texts : List (List ℕ)
-  pub are : AreSections line texts sections
+  pub are : AreSections First line texts sections
   pub most : line + length texts ≤ 268435458
   pub few : blocked ≤ line
 

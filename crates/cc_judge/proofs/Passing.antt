@@ -17,6 +17,7 @@ use Rattle.cc_defs.specs.declared.refusal.Fault.TheVariants as faults
 use Rattle.cc_defs.specs.Description.{Description}
 use Rattle.cc_defs.specs.GroundLaws.{PlainGroundQuery, StandsForQuery}
 use Rattle.cc_defs.specs.Histories.{IsHistory}
+use Rattle.cc_check.specs.Clauses.{as_text}
 use Rattle.cc_defs.specs.Logs.{SectionText, Standing, IsContinued, IsFollowed, IsNext, IsTrailed}
 use Rattle.cc_defs.specs.Refusals.{IsRefusedBy}
 use Rattle.cc_defs.specs.Resolved.{Query}
@@ -95,7 +96,7 @@ module _ (sound : ResolventsAreSound) (leaves : DenialLeavesOthers) (d : Descrip
   -- ---- a section that was checked
 
   denied : IsNext (subject_of d q key) standing section → TellsHistories d (asked (not section.conditions) q) section.horizon (row_of key) axioms →
-      (word : EndWord) (blocks line : ℕ) (held : Held) → IsFound axioms axioms.clauses 0 (section.line + 1) section.texts (Right word blocks line) →
+      (word : EndWord) (blocks line : ℕ) (held : Held) → IsFound (as_text true) axioms axioms.clauses 0 (section.line + 1) section.texts (Right word blocks line) →
       IsBehind standing section.conditions word blocks line (nexts.Goes held) →
       (horizon : ℕ) (row : List ℕ) → horizon < held.horizon → IsHistory d q horizon (row_of key) row → (horizon < standing.horizon) ⊎ IsRowDenied section horizon row
   denied next tells word blocks line held found is horizon row less history =
@@ -115,7 +116,7 @@ module _ (sound : ResolventsAreSound) (leaves : DenialLeavesOthers) (d : Descrip
 
   pub in_place : IsNext (subject_of d q key) standing section → limit_of d q key section.conditions section.horizon ≡ None →
       TellsHistories d (asked (not section.conditions) q) section.horizon (row_of key) axioms →
-      (finding : Finding) (next : Next) → IsFound axioms axioms.clauses 0 (section.line + 1) section.texts finding →
+      (finding : Finding) (next : Next) → IsFound (as_text true) axioms axioms.clauses 0 (section.line + 1) section.texts finding →
       IsBehindFinding standing section.conditions finding next → IsJudgedTo d q key standing section next
   in_place at none tells finding (nexts.Wrong other because) found is = λ sections.
       inr (
@@ -176,11 +177,11 @@ pub section_judged : (sound : ResolventsAreSound) (leaves : DenialLeavesOthers) 
     horizon ≡ section.horizon → conditions ≡ section.conditions → again ≡ section.conditions → IsPlaced query (key_of after) standing section →
     form ≡ form_of d q horizon (not conditions) (key_of after) → refusal_at d q horizon (not conditions) (key_of after) ≡ None →
     TellsHistories d (asked (not conditions) q) horizon (option_map (λ (key : Bor Key). key.now.row) after) (form_of d q horizon (not conditions) (key_of after)) →
-    IsFound form form.clauses 0 (section.line + 1) section.texts finding → IsBehindFinding standing again finding next → IsJudgedTo d q (key_of after) standing section next
+    IsFound (as_text true) form form.clauses 0 (section.line + 1) section.texts finding → IsBehindFinding standing again finding next → IsJudgedTo d q (key_of after) standing section next
 section_judged sound leaves query d q stands after standing section horizon conditions again form finding next horizon_is conditions_is again_is placed made none tells found behind =
     let form_is : form ≡ form_of d q section.horizon (not section.conditions) (key_of after) =
     made ∙ ap (λ (n : ℕ). form_of d q n (not conditions) (key_of after)) horizon_is ∙ ap (λ (b : Bool). form_of d q section.horizon (not b) (key_of after)) conditions_is in
-    let found_here = subst (λ (f : Axioms). IsFound f f.clauses 0 (section.line + 1) section.texts finding) form_is found in
+    let found_here = subst (λ (f : Axioms). IsFound (as_text true) f f.clauses 0 (section.line + 1) section.texts finding) form_is found in
     let tells_there = subst (λ (n : ℕ). TellsHistories d (asked (not conditions) q) n (option_map (λ (key : Bor Key). key.now.row) after) (form_of d q n (not conditions) (key_of after))) horizon_is tells in
     let tells_here = subst (λ (b : Bool). TellsHistories d (asked (not b) q) section.horizon (option_map (λ (key : Bor Key). key.now.row) after) (form_of d q section.horizon (not b) (key_of after))) conditions_is tells_there in
     let none_here : limit_of d q (key_of after) section.conditions section.horizon ≡ None =

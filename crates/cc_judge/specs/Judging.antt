@@ -14,6 +14,7 @@ use Rattle.cc_defs.specs.declared.refusal.Fault.TheVariants as faults
 use Rattle.cc_defs.specs.declared.refusal.Refusal.{Refusal}
 use Rattle.cc_defs.specs.Description.{Description}
 use Rattle.cc_defs.specs.Histories.{IsHistory}
+use Rattle.cc_defs.specs.LogBytes.{First}
 use Rattle.cc_defs.specs.LogTexts.{header, line_text, lines_in}
 use Rattle.cc_defs.specs.Logs.{SectionText, Standing, Subject, AreSections, IsClosedBy, IsFollowed, IsNext, at_first, into_middle, next_horizon}
 use Rattle.cc_defs.specs.Resolved.{Query}
@@ -44,7 +45,7 @@ ReachesLimit subject limit standing (section ∷ sections) refusal =
     IsNext subject standing section
     × ((limit section.conditions section.horizon ≡ Some refusal)
     ⊎ ((limit section.conditions section.horizon ≡ None) × ((finding : Finding)
-    × IsFound (subject.axioms section.conditions section.horizon) ((subject.axioms section.conditions section.horizon).clauses) 0 (section.line + 1) section.texts finding
+    × IsFound (record { version = First; blocks = true }) (subject.axioms section.conditions section.horizon) ((subject.axioms section.conditions section.horizon).clauses) 0 (section.line + 1) section.texts finding
     × GoesOn (λ next. ReachesLimit subject limit next sections refusal) standing section.conditions finding)))
 
 -- The verdict of sections, where the axioms of each section that is judged for it pass no limit.
@@ -53,12 +54,12 @@ AreJudgedWithin subject limit standing [] verdict = IsClosedBy subject standing 
 AreJudgedWithin subject limit standing (section ∷ sections) verdict =
     ((IsNext subject standing section → ⊥) × (verdict ≡ verdicts.Refused section.line causes.Section))
     ⊎ (IsNext subject standing section × (limit section.conditions section.horizon ≡ None) × ((finding : Finding)
-    × IsFound (subject.axioms section.conditions section.horizon) ((subject.axioms section.conditions section.horizon).clauses) 0 (section.line + 1) section.texts finding
+    × IsFound (record { version = First; blocks = true }) (subject.axioms section.conditions section.horizon) ((subject.axioms section.conditions section.horizon).clauses) 0 (section.line + 1) section.texts finding
     × IsFollowed (λ next. AreJudgedWithin subject limit next sections verdict) standing section.conditions finding verdict))
 
 -- the sections of a log
 abbrev pub HasSections : List ℕ → List SectionText → Type 0
-HasSections bytes sections = (texts : List (List ℕ)) × (lines_in bytes ≡ header ∷ texts) × AreSections 2 texts sections
+HasSections bytes sections = (texts : List (List ℕ)) × (lines_in bytes ≡ header ∷ texts) × AreSections First 2 texts sections
 
 -- a limit is reached in a log, or memory was wanting
 abbrev pub IsJudgeFault : Description → Query → Option Key → List ℕ → Fault → Type 0

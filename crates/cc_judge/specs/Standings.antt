@@ -17,6 +17,7 @@ use Rattle.cc_defs.specs.Description.{Description}
 use Rattle.cc_defs.specs.GroundLaws.{PlainGroundQuery}
 use Rattle.cc_defs.specs.Histories.{IsHistory}
 use Rattle.cc_defs.specs.Limits.{most_log_bytes}
+use Rattle.cc_defs.specs.LogBytes.{First}
 use Rattle.cc_defs.specs.LogTexts.{line_text}
 use Rattle.cc_defs.specs.Logs.{SectionText, Standing, AreSections, at_first, into_middle, next_horizon}
 use Rattle.cc_defs.specs.Resolved.{Query}
@@ -116,7 +117,7 @@ IsForward standing section (nexts.Wrong line reason) = Unit {0}
 -- ---- the sections of a log
 
 abbrev pub AreFew : List SectionText → Type 0
-AreFew sections = (texts : List (List ℕ)) × AreSections 2 texts sections × (length texts ≤ most_log_bytes)
+AreFew sections = (texts : List (List ℕ)) × AreSections First 2 texts sections × (length texts ≤ most_log_bytes)
 
 -- one of them blocks a row of a horizon
 abbrev pub IsDeniedIn : List SectionText → ℕ → List ℕ → Type 0

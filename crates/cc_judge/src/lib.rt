@@ -1,4 +1,5 @@
-//! The verdict of a log: its sections one after another, each over the clause list that is made for it.
+//! The verdict of the log of a query: its sections one after another, each over the clause list that is made for it. One section is
+//! checked in cc_check, and there logs of silent sections are judged too.
 #![tactic(auto)]
 
 mod logs;

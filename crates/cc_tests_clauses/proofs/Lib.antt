@@ -1,3 +1,4 @@
 mod Each
 mod Having
 mod Nothing
+mod Behind

@@ -10,7 +10,7 @@ use Rattle.cc_defs.specs.Signatures.{Signature, IsSignature}
 use Rattle.cc_form.specs.Queries.{IsConditionAt, IsQueryAt}
 use Rattle.cc_theory.specs.Theories.{AreLawsFor}
 
-abbrev empty : Signature
+abbrev pub empty : Signature
 empty = record { fluents = []; actions = [] }
 
 empty_is : IsSignature empty

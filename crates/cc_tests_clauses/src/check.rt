@@ -100,22 +100,23 @@ fn logs_are_misread(rt: HostRuntime) {
 }
 
 // That of a description without constants.
-fn no_signature(alloc: Global) -> Sig
+pub(crate) fn no_signature(alloc: Global) -> Sig
     ensures { result ≡ record { fluents = []; actions = [] } }
 {
     Sig::of(Vec::new(alloc), Vec::new(alloc))
 }
 
-fn no_laws<'a>(alloc: Global) -> Laws<'a>
+pub(crate) fn no_laws<'a>(alloc: Global) -> Laws<'a>
     ensures { result ≡ [] }
 {
     Laws::of(Vec::new(alloc))
 }
 
 // It asks nothing.
-fn no_query<'a>(alloc: Global) -> GroundQuery<'a>
+pub(crate) fn no_query<'a>(alloc: Global) -> GroundQuery<'a>
     ensures conditions { (plain_ground_query result).conditions ≡ [] }
     ensures claim { (plain_ground_query result).claim ≡ None }
+    ensures horizons { ((plain_ground_query result).lo ≡ 0) × ((plain_ground_query result).hi ≡ 0) }
 {
     GroundQuery {
         lo: 0,

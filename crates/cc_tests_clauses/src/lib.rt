@@ -13,4 +13,6 @@ mod clauses;
 #[cfg(test)]
 mod kernel;
 #[cfg(test)]
+mod silent;
+#[cfg(test)]
 mod trail;

@@ -2,11 +2,11 @@ use Rattle.cc_check.proofs.Judged.{derived_passed, derived_wrong}
 use Rattle.cc_check.proofs.judge.Checker.derived.Goals as goal
 
 pub returns-in_ok-add-in-None-clause-passed : goal.returns-in_ok-add-in-None-clause-passed
-returns-in_ok-add-in-None-clause-passed c text read =
-    derived_passed c.args.form.now c.args.self.now.own c.args.self.now.blocks text c.in_ok-cause.field-0 c.as_slice-clause.result.now _ _ c.as_slice-chain.result.now _ c.add.new.self.own c.add.new.self.blocks
+returns-in_ok-add-in-None-clause-passed c may text read =
+    derived_passed may c.args.form.now c.args.self.now.own c.args.self.now.blocks text c.in_ok-cause.field-0 c.as_slice-clause.result.now _ _ c.as_slice-chain.result.now _ c.add.new.self.own c.add.new.self.blocks
     c.as_slice-clause.ensures.value c.as_slice-chain.ensures.value c.in_ok-cause.ensures c.in-None.is c.in_ok-add-in-None.ensures.own c.in_ok-add-in-None.ensures.counted read
 
 pub returns-in-Some-clause-passed : goal.returns-in-Some-clause-passed
-returns-in-Some-clause-passed c text read =
-    derived_wrong c.args.form.now c.args.self.now.own c.args.self.now.blocks text c.in_ok-cause.field-0 c.in-Some.cause c.as_slice-clause.result.now _ c.as_slice-chain.result.now _ _ c.args.self.now.own c.args.self.now.blocks
+returns-in-Some-clause-passed c may text read =
+    derived_wrong may c.args.form.now c.args.self.now.own c.args.self.now.blocks text c.in_ok-cause.field-0 c.in-Some.cause c.as_slice-clause.result.now _ c.as_slice-chain.result.now _ _ c.args.self.now.own c.args.self.now.blocks
     c.as_slice-clause.ensures.value c.as_slice-chain.ensures.value c.in_ok-cause.ensures c.in-Some.is read

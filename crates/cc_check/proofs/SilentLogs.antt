@@ -1,0 +1,270 @@
+-- Logs of silent sections, one section after another.
+use Rattle.std.proofs.Common.{◌≡◌, ◌≢◌, ℕ, ◌+◌, ◌-◌, ◌≤◌, List, [], ◌∷◌, ◌++◌, false, length, take, Some, None, refl, sym, ap, subst, ◌∙◌, arith, append-nil, length-append, inl, inr}
+use Rattle.std.specs.Borrow.{Bor}
+use Rattle.std.specs.List.{AllByRecursion}
+use Rattle.std.specs.Prelude.{Result, Ok, Err, IfOk, IfErr, IsErrAnd}
+use Rattle.std.proofs.lemmas.List.{take_at, nil_from_length}
+use Rattle.cc_defs.specs.declared.log.Cause.{Cause}
+use Rattle.cc_defs.specs.declared.log.Cause.TheVariants as causes
+use Rattle.cc_defs.specs.declared.refusal.Fault.{Fault}
+use Rattle.cc_defs.specs.declared.refusal.Fault.TheVariants as faults
+use Rattle.cc_defs.specs.LogTexts.{lines_in}
+use Rattle.cc_defs.specs.Refusals.{IsRefusedBy}
+use Rattle.cc_defs.specs.Sections.{Axioms, Finding, IsFound}
+use Rattle.cc_check.specs.declared.silent.Passed.{Passed}
+use Rattle.cc_check.specs.declared.silent.Passed.TheVariants as passeds
+use Rattle.cc_check.specs.declared.silent.SilentVerdict.{SilentVerdict}
+use Rattle.cc_check.specs.declared.silent.SilentVerdict.TheVariants as verdicts
+use Rattle.cc_check.specs.Clauses.{as_text}
+use Rattle.cc_check.specs.Parts.{IsSecond}
+use Rattle.cc_check.specs.Silent.{BeginsSection, IsEmptySection, IsNextSection, IsSilentFault, IsSilentVerdictBehind, IsSilentVerdictOf, IsStopped, IsUnread, LeadsTo, PassesNoLimit, SilentSection, SilentSubject, refused_for}
+use Rattle.cc_check.specs.SilentParts.{IsBehindFault, IsPassFault, IsPassedFrom, IsShorter, IsSilentInside}
+use Rattle.cc_check.specs.Texts.{IsFirstLine}
+use Rattle.cc_check.proofs.Parted.{InsideSoFar}
+
+-- ---- the lines up to the next heading
+
+module _ {H : Type 0} (subject : SilentSubject H) (all rest : List ℕ) (count : ℕ) (h : InsideSoFar (IsUnread subject) all rest count) where
+  pub silent_at : (text behind inside : List ℕ) → IsFirstLine rest text behind → ((heading : H) × subject.Reads text heading) →
+      inside ≡ take (length all - length rest) all → IsSilentInside subject all inside count rest
+  silent_at text behind inside cut read front =
+      let g = h.few in
+      let whole = ap length h.parts ∙ length-append h.before rest in
+      let n : length h.before ≡ length all - length rest = omega arith in
+      let before_is : inside ≡ h.before = front ∙ ap (take (length all - length rest)) h.parts ∙ take_at h.before rest (length all - length rest) n in
+      subst (λ (i : List ℕ). IsSilentInside subject all i count rest) (sym before_is) (record {
+        unread = h.none;
+        counted = h.counted;
+        parted = h.lines;
+        next = subst (BeginsSection subject) (sym cut.lines) read;
+        few = omega arith;
+        fewer = h.few;
+      })
+
+  pub silent_all : length rest ≡ 0 → IsSilentInside subject all all count rest
+  silent_all nil =
+      let nothing = nil_from_length rest nil in
+      let same : all ≡ h.before = h.parts ∙ ap (λ (t : List ℕ). h.before ++ t) nothing ∙ append-nil h.before in
+      record {
+        unread = subst (λ (t : List ℕ). AllByRecursion (IsUnread subject) (lines_in t)) (sym same) h.none;
+        counted = h.counted ∙ ap (λ (t : List ℕ). length (lines_in t)) (sym same);
+        parted = sym (append-nil (lines_in all)) ∙ ap (λ (t : List ℕ). lines_in all ++ lines_in t) (sym nothing);
+        next = subst (λ (t : List ℕ). BeginsSection subject (lines_in t)) (sym nothing) tt;
+        few = omega arith;
+        fewer = h.few;
+      }
+
+-- ---- a section
+
+module _ {H : Type 0} (subject : SilentSubject H) (line : ℕ) (text behind : List ℕ) where
+  pub unread_stops : (cause : Cause) (verdict : SilentVerdict) → IsUnread subject text → IsSecond text cause → verdict ≡ verdicts.Refused line cause → (sections : ℕ) →
+      IsStopped subject (PassesNoLimit subject) sections line (text ∷ lines_in behind) verdict
+  unread_stops causes.Form verdict unread h is sections = inl (unread, h, is)
+  unread_stops causes.Section verdict unread h is sections = inr (inl (unread, h, is))
+  unread_stops causes.Header verdict unread h is sections = absurd h
+  unread_stops causes.Literal verdict unread h is sections = absurd h
+  unread_stops causes.Number verdict unread h is sections = absurd h
+  unread_stops causes.Pivot verdict unread h is sections = absurd h
+  unread_stops causes.Clause verdict unread h is sections = absurd h
+  unread_stops causes.Row verdict unread h is sections = absurd h
+  unread_stops causes.NotRefuted verdict unread h is sections = absurd h
+
+  module _ (heading : H) (inside : List ℕ) (count : ℕ) (rest : List ℕ) (reads : subject.Reads text heading) (i : IsSilentInside subject behind inside count rest) where
+    abbrev here : SilentSection H
+    here = record { heading = heading; line = line; texts = lines_in inside }
+
+    next_here : IsNextSection subject line (text ∷ lines_in behind) here (lines_in rest)
+    next_here = record {
+      text = text;
+      parts = ap (λ (ts : List (List ℕ)). text ∷ ts) i.parted;
+      line_is = refl;
+      reads = reads;
+      inside = i.unread;
+      next = i.next;
+    }
+
+    pub not_right_stops : (verdict : SilentVerdict) → (subject.Right heading → ⊥) → verdict ≡ verdicts.Refused line causes.Section → (sections : ℕ) →
+        IsStopped subject (PassesNoLimit subject) sections line (text ∷ lines_in behind) verdict
+    not_right_stops verdict wrong is sections = inr (inr (here, lines_in rest, next_here, inl (wrong, is)))
+
+    module _ (right : subject.Right heading) where
+      pub pass_fault : (fault : Fault) → IsRefusedBy (subject.limit heading) fault → IsPassFault subject line (text ∷ lines_in behind) fault
+      pass_fault (faults.Refused refusal) is = (here, lines_in rest, next_here, right, is)
+      pass_fault faults.OutOfMemory is = tt
+
+      module _ (form : Axioms) (made : form ≡ subject.axioms heading) (within : subject.limit heading ≡ None) (finding : Finding)
+          (found : IsFound (as_text false) form form.clauses 0 (line + 1) (lines_in inside) finding) where
+        found_here : IsFound (as_text false) (subject.axioms heading) ((subject.axioms heading).clauses) 0 (line + 1) (lines_in inside) finding
+        found_here = subst (λ (a : Axioms). IsFound (as_text false) a a.clauses 0 (line + 1) (lines_in inside) finding) made found
+
+        pub wrong_stops : (verdict : SilentVerdict) → refused_for finding ≡ Some verdict → (sections : ℕ) →
+            IsStopped subject (PassesNoLimit subject) sections line (text ∷ lines_in behind) verdict
+        wrong_stops verdict is sections = inr (inr (here, lines_in rest, next_here, inr (right, within, (finding, found_here, is))))
+
+        pub right_goes : (others : Bor (List ℕ)) → others.now ≡ rest → refused_for finding ≡ None →
+            IsPassedFrom subject line (text ∷ lines_in behind) (passeds.Goes count others)
+        right_goes others same is = (
+          here,
+          subst (λ (r : List ℕ). IsNextSection subject line (text ∷ lines_in behind) here (lines_in r)) (sym same) next_here,
+          (right, within, (finding, found_here, is)),
+          i.counted,
+        )
+
+-- ---- sections one after another
+
+module _ {H : Type 0} (subject : SilentSubject H) (Passes : H → Type 0) (section : SilentSection H) (behind : List (List ℕ)) (empty : IsEmptySection subject Passes section) where
+  leads_more : (line : ℕ) (texts : List (List ℕ)) (sections : List (SilentSection H)) (after : ℕ) (rest : List (List ℕ)) → LeadsTo subject Passes line texts sections after rest →
+      IsNextSection subject after rest section behind → LeadsTo subject Passes line texts (sections ++ section ∷ []) (after + 1 + length section.texts) behind
+  leads_more line texts [] after rest (same_line, same) next = (
+    behind,
+    subst (λ (n : ℕ). IsNextSection subject n texts section behind) same_line
+        (subst (λ (ts : List (List ℕ)). IsNextSection subject after ts section behind) same next),
+    empty,
+    (ap (λ (n : ℕ). n + 1 + length section.texts) same_line, refl),
+  )
+  leads_more line texts (first ∷ sections) after rest (between, is_next, is_empty, more) next =
+      (between, is_next, is_empty, leads_more (line + 1 + length first.texts) between sections after rest more next)
+
+pub record SilentSoFar {H : Type 0} (subject : SilentSubject H) (texts : List (List ℕ)) (count line : ℕ) (rest : List ℕ) : Type 0 where
+  pub sections : List (SilentSection H)
+  pub leads : LeadsTo subject (PassesNoLimit subject) 2 texts sections line (lines_in rest)
+  pub counted : count ≡ length sections
+  pub least : 2 ≤ line
+  pub few : line + length rest ≤ 268435458
+  pub fewer : count ≤ line
+
+pub silent_begun : {H : Type 0} (subject : SilentSubject H) (body : List ℕ) → length body ≤ 268435456 → SilentSoFar subject (lines_in body) 0 2 body
+silent_begun subject body few = record { sections = []; leads = (refl, refl); counted = refl; least = omega arith; few = omega arith; fewer = omega arith }
+
+module _ {H : Type 0} (subject : SilentSubject H) (texts : List (List ℕ)) (count line : ℕ) (rest : List ℕ) (h : SilentSoFar subject texts count line rest) where
+  pub silent_done : length rest ≡ 0 → (verdict : SilentVerdict) → verdict ≡ verdicts.Accepted count → IsSilentVerdictBehind subject (PassesNoLimit subject) texts verdict
+  silent_done nil verdict is = (
+    h.sections,
+    line,
+    [],
+    subst (λ (t : List ℕ). LeadsTo subject (PassesNoLimit subject) 2 texts h.sections line (lines_in t)) (nil_from_length rest nil) h.leads,
+    is ∙ ap verdicts.Accepted h.counted,
+  )
+
+  module _ (text behind : List ℕ) (cut : IsFirstLine rest text behind) where
+    pub cut_few : (length behind ≤ 268435456) × (line ≤ 268435457)
+    cut_few =
+        let e = ap length cut.parts ∙ length-append text behind in
+        let some = cut.some in
+        let f = h.few in
+        let l = h.least in
+        (omega arith, omega arith)
+
+    pub silent_more : (passed : Passed) (more : ℕ) (others : Bor (List ℕ)) → passed ≡ passeds.Goes more others → IsPassedFrom subject line (text ∷ lines_in behind) passed →
+        IsShorter (length behind) passed → SilentSoFar subject texts (count + 1) (line + 1 + more) others.now
+    silent_more passed more others is from shorter =
+        let (section, next, empty, lines) : IsPassedFrom subject line (text ∷ lines_in behind) (passeds.Goes more others) =
+        subst (IsPassedFrom subject line (text ∷ lines_in behind)) is from in
+        let less : more + length others.now ≤ length behind = subst (IsShorter (length behind)) is shorter in
+        let e = ap length cut.parts ∙ length-append text behind in
+        let some = cut.some in
+        let f = h.few in
+        let g = h.fewer in
+        let l = h.least in
+        record {
+          sections = h.sections ++ section ∷ [];
+          leads = subst (λ (n : ℕ). LeadsTo subject (PassesNoLimit subject) 2 texts (h.sections ++ section ∷ []) (line + 1 + n) (lines_in others.now)) (sym lines)
+              (leads_more subject (PassesNoLimit subject) section (lines_in others.now) empty 2 texts h.sections line (lines_in rest) h.leads
+              (subst (λ (ts : List (List ℕ)). IsNextSection subject line ts section (lines_in others.now)) (sym cut.lines) next));
+          counted = ap (λ (n : ℕ). n + 1) h.counted ∙ sym (length-append h.sections (section ∷ []));
+          least = omega arith;
+          few = omega arith;
+          fewer = omega arith;
+        }
+
+    pub silent_stops : (passed : Passed) (verdict : SilentVerdict) → passed ≡ passeds.Stops verdict → IsPassedFrom subject line (text ∷ lines_in behind) passed →
+        IsSilentVerdictBehind subject (PassesNoLimit subject) texts verdict
+    silent_stops passed verdict is from = (
+      h.sections,
+      line,
+      lines_in rest,
+      h.leads,
+      subst (λ (ts : List (List ℕ)). IsStopped subject (PassesNoLimit subject) (length h.sections) line ts verdict) (sym cut.lines)
+          (subst (IsPassedFrom subject line (text ∷ lines_in behind)) is from (length h.sections)),
+    )
+
+    pub silent_past : (fault : Fault) → IsPassFault subject line (text ∷ lines_in behind) fault → IsBehindFault subject texts fault
+    silent_past (faults.Refused refusal) (section, after, next, right, limit) = record {
+      sections = h.sections;
+      line = line;
+      rest = lines_in rest;
+      leads = h.leads;
+      section = section;
+      behind = after;
+      next = subst (λ (ts : List (List ℕ)). IsNextSection subject line ts section after) (sym cut.lines) next;
+      right = right;
+      limit = limit;
+    }
+    silent_past faults.OutOfMemory fault = tt
+
+-- ---- the header
+
+module _ {H : Type 0} (subject : SilentSubject H) (bytes : List ℕ) where
+  pub nothing_there : (Passes : H → Type 0) (verdict : SilentVerdict) → length bytes ≡ 0 → verdict ≡ verdicts.Refused 1 causes.Header →
+      IsSilentVerdictOf subject Passes (lines_in bytes) verdict
+  nothing_there Passes verdict nil is =
+      subst (λ (t : List ℕ). IsSilentVerdictOf subject Passes (lines_in t) verdict) (sym (nil_from_length bytes nil)) is
+
+  module _ (text body : List ℕ) (cut : IsFirstLine bytes text body) where
+    pub other_header : (Passes : H → Type 0) (verdict : SilentVerdict) → text ≢ subject.header → verdict ≡ verdicts.Refused 1 causes.Header →
+        IsSilentVerdictOf subject Passes (lines_in bytes) verdict
+    other_header Passes verdict other is = subst (λ (ts : List (List ℕ)). IsSilentVerdictOf subject Passes ts verdict) (sym cut.lines) (inl (other, is))
+
+    pub behind_header : text ≡ subject.header → (Passes : H → Type 0) (verdict : SilentVerdict) → IsSilentVerdictBehind subject Passes (lines_in body) verdict →
+        IsSilentVerdictOf subject Passes (lines_in bytes) verdict
+    behind_header same Passes verdict is = subst (λ (ts : List (List ℕ)). IsSilentVerdictOf subject Passes ts verdict) (sym cut.lines) (inr (same, is))
+
+    pub fault_behind : text ≡ subject.header → (fault : Fault) → IsBehindFault subject (lines_in body) fault → IsSilentFault subject bytes fault
+    fault_behind same (faults.Refused refusal) is = (lines_in body, cut.lines ∙ ap (λ (t : List ℕ). t ∷ lines_in body) same, is)
+    fault_behind same faults.OutOfMemory is = tt
+
+-- ---- a verdict within the limits is the verdict
+
+module _ {H : Type 0} (subject : SilentSubject H) where
+  leads_weaker : (line : ℕ) (texts : List (List ℕ)) (sections : List (SilentSection H)) (after : ℕ) (rest : List (List ℕ)) →
+      LeadsTo subject (PassesNoLimit subject) line texts sections after rest → LeadsTo subject (λ _. Unit {0}) line texts sections after rest
+  leads_weaker line texts [] after rest h = h
+  leads_weaker line texts (first ∷ sections) after rest (between, next, (right, within, found), more) =
+      (between, next, (right, tt, found), leads_weaker (line + 1 + length first.texts) between sections after rest more)
+
+  stopped_weaker : (sections line : ℕ) (texts : List (List ℕ)) (verdict : SilentVerdict) → IsStopped subject (PassesNoLimit subject) sections line texts verdict →
+      IsStopped subject (λ _. Unit {0}) sections line texts verdict
+  stopped_weaker sections line [] verdict h = h
+  stopped_weaker sections line (text ∷ texts) verdict (inl h) = inl h
+  stopped_weaker sections line (text ∷ texts) verdict (inr (inl h)) = inr (inl h)
+  stopped_weaker sections line (text ∷ texts) verdict (inr (inr (section, behind, next, inl h))) = inr (inr (section, behind, next, inl h))
+  stopped_weaker sections line (text ∷ texts) verdict (inr (inr (section, behind, next, inr (right, within, found)))) =
+      inr (inr (section, behind, next, inr (right, tt, found)))
+
+  verdict_weaker : (texts : List (List ℕ)) (verdict : SilentVerdict) → IsSilentVerdictOf subject (PassesNoLimit subject) texts verdict →
+      IsSilentVerdictOf subject (λ _. Unit {0}) texts verdict
+  verdict_weaker [] verdict h = h
+  verdict_weaker (text ∷ texts) verdict (inl h) = inl h
+  verdict_weaker (text ∷ texts) verdict (inr (same, (sections, line, rest, leads, stopped))) =
+      inr (same, (sections, line, rest, leads_weaker 2 texts sections line rest leads, stopped_weaker (length sections) line rest verdict stopped))
+
+-- ---- the answers
+
+module _ {H : Type 0} (subject : SilentSubject H) (bytes text body : List ℕ) (cut : IsFirstLine bytes text body) (same : text ≡ subject.header) where
+  pub ok_within : (r : Result SilentVerdict Fault) → IfOk r (IsSilentVerdictBehind subject (PassesNoLimit subject) (lines_in body)) →
+      IfOk r (IsSilentVerdictOf subject (PassesNoLimit subject) (lines_in bytes))
+  ok_within (Ok verdict) is = behind_header subject bytes text body cut same (PassesNoLimit subject) verdict is
+  ok_within (Err fault) is = tt
+
+  pub ok_verdict : (r : Result SilentVerdict Fault) → IfOk r (IsSilentVerdictBehind subject (PassesNoLimit subject) (lines_in body)) →
+      IfOk r (IsSilentVerdictOf subject (λ _. Unit {0}) (lines_in bytes))
+  ok_verdict (Ok verdict) is = verdict_weaker subject (lines_in bytes) verdict (behind_header subject bytes text body cut same (PassesNoLimit subject) verdict is)
+  ok_verdict (Err fault) is = tt
+
+  pub err_fault : (r : Result SilentVerdict Fault) → IfErr r (IsBehindFault subject (lines_in body)) → IfErr r (IsSilentFault subject bytes)
+  err_fault (Ok verdict) is = tt
+  err_fault (Err fault) is = fault_behind subject bytes text body cut same fault is
+
+pub as_err : (P : Fault → Type 0) {A : Type 0} (r : Result A Fault) (fault : Fault) → IsErrAnd r (λ (given : Fault). given ≡ fault) → P fault → IfErr r P
+as_err P (Ok value) fault is holds = tt
+as_err P (Err given) fault is holds = subst P (sym is) holds

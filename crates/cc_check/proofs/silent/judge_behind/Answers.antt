@@ -1,0 +1,21 @@
+use Rattle.cc_defs.specs.LogTexts.{lines_in}
+use Rattle.cc_check.specs.SilentParts.{IsBehindFault}
+use Rattle.cc_check.proofs.SilentLogs.{as_err, silent_more, silent_past, silent_stops}
+use Rattle.cc_check.proofs.silent.judge_behind.Goals as goal
+
+pub returns-in_err-count-clause-refused : goal.returns-in_err-count-clause-refused
+returns-in_err-count-clause-refused g c =
+    as_err (IsBehindFault (g.S.Silent.subject c.args.kind.now) (lines_in c.args.body.now)) c.from_residual.result c.in_err-count.field-0.0 c.from_residual.ensures.1
+    (silent_past (g.S.Silent.subject c.args.kind.now) (lines_in c.args.body.now) c.loop-rest.sections c.loop-rest.line c.loop-rest.rest.now c.loop-rest.invariant
+    c.first_line.result.0.now c.first_line.result.1.now c.first_line.ensures c.in_err-count.field-0.0 c.in_err-count.ensures.refused)
+
+pub loop-rest-preserved : goal.loop-rest-preserved
+loop-rest-preserved g c =
+    silent_more (g.S.Silent.subject c.args.kind.now) (lines_in c.args.body.now) c.loop-rest.sections c.loop-rest.line c.loop-rest.rest.now c.loop-rest.invariant
+    c.first_line.result.0.now c.first_line.result.1.now c.first_line.ensures c.in_ok-count.field-0 c.in-Goes.count c.in-Goes.others c.in-Goes.is
+    c.in_ok-count.ensures.passed c.in_ok-count.ensures.shorter
+
+pub returns-in-Stops-clause-within : goal.returns-in-Stops-clause-within
+returns-in-Stops-clause-within g c =
+    silent_stops (g.S.Silent.subject c.args.kind.now) (lines_in c.args.body.now) c.loop-rest.sections c.loop-rest.line c.loop-rest.rest.now c.loop-rest.invariant
+    c.first_line.result.0.now c.first_line.result.1.now c.first_line.ensures c.in_ok-count.field-0 c.in-Stops.verdict c.in-Stops.is c.in_ok-count.ensures.passed

@@ -1,0 +1,19 @@
+use Rattle.std.proofs.Common.{refl}
+use Rattle.std.proofs.lemmas.Bool.{false≢true}
+use Rattle.cc_check.specs.SilentParts.{IsPassFault}
+use Rattle.cc_check.proofs.SilentLogs.{as_err, not_right_stops, pass_fault}
+use Rattle.cc_check.proofs.silent.pass_section.Goals as goal
+
+pub returns-then-not-is_right-clause-passed : goal.returns-then-not-is_right-clause-passed
+returns-then-not-is_right-clause-passed g c =
+    not_right_stops (g.S.Silent.subject c.args.kind.now) c.args.line c.args.text.now c.args.behind.now c.in-Some.heading c.inside_of-inside.result.bytes.now
+    c.inside_of-inside.result.count c.inside_of-inside.result.rest.now c.in-Some.ensures c.inside_of-inside.ensures c.refused-then-not-is_right.result
+    (λ right. false≢true (c.if-not-is_right.ensures.1 right)) c.refused-then-not-is_right.ensures
+
+pub returns-in_err-form-clause-refused : goal.returns-in_err-form-clause-refused
+returns-in_err-form-clause-refused g c =
+    as_err (IsPassFault (g.S.Silent.subject c.args.kind.now) c.args.line _) c.from_residual-in_err-form.result c.in_err-form.field-0.0
+    c.from_residual-in_err-form.ensures.1
+    (pass_fault (g.S.Silent.subject c.args.kind.now) c.args.line c.args.text.now c.args.behind.now c.in-Some.heading c.inside_of-inside.result.bytes.now
+    c.inside_of-inside.result.count c.inside_of-inside.result.rest.now c.in-Some.ensures c.inside_of-inside.ensures (c.if-not-is_right.ensures.0 refl)
+    c.in_err-form.field-0.0 c.in_err-form.ensures.refused)

@@ -1,0 +1,219 @@
+//! Logs of sections without blocks, each ended by `empty`, under headings of any form.
+ghost use Rattle.std.specs.Prelude.{◌≡◌, ◌↔◌, ℕ, ◌+◌, ◌≤◌, ◌∷◌, length, IfErr, IfOk, IsTrue, List, MatchOption, None, OnOk};
+ghost use Rattle.std.specs.Bool.{MatchBool};
+ghost use Rattle.cc_check.specs.declared.silent.SilentVerdict.TheVariants as verdicts;
+ghost use Rattle.cc_check.specs.Clauses.{HasLineBehind, plain_finding};
+ghost use Rattle.cc_check.specs.Silent.{IsSilentFault, IsSilentVerdict, IsSilentVerdictBehind, IsSilentVerdictWithin, IsUnread, PassesNoLimit, SilentSubject, refused_for};
+ghost use Rattle.cc_check.specs.SilentParts.{IsBehindFault, IsPassFault, IsPassedFrom, IsShorter, IsSilentInside};
+ghost use Rattle.cc_defs.specs.Limits.{most_log_bytes};
+ghost use Rattle.cc_defs.specs.LogTexts.{lines_in};
+ghost use Rattle.cc_defs.specs.Refusals.{IsRefusedBy};
+
+use crate::judge::{Finding, find_lines};
+use crate::sections::{ahead, second_cause};
+use crate::text::first_line;
+use cc_defs::{Cause, EndWord, Fault};
+use cc_form::Form;
+use std::alloc::Global;
+
+/// A kind of log: a header, then sections under headings, each right, without blocks, and ended by `empty`.
+pub trait Silent {
+    /// What a heading says.
+    type Heading: Drop;
+
+    /// What a log of this kind is read as.
+    ghost subject: { Self → SilentSubject Self.Heading };
+
+    /// The first line, with its line feed.
+    fn header(&self) -> &[u8]
+        ensures { result.now ≡ (subject self.now).header };
+
+    /// What the text of a line, with its line feed, says as a heading.
+    fn read(&self, text: &[u8]) -> Option<Self::Heading>
+        ensures { MatchOption result (IsUnread (subject self.now) text.now) ((subject self.now).Reads text.now) };
+
+    /// Whether a log may have a section under this heading.
+    fn is_right(&self, heading: &Self::Heading) -> bool
+        ensures { IsTrue result ↔ (subject self.now).Right heading.now };
+
+    /// The axioms of the section under a heading. Refuses exactly the limit that they pass.
+    fn form(&self, alloc: Global, heading: &Self::Heading) -> Result<Form, Fault>
+        requires { (subject self.now).Right heading.now }
+        ensures made { IfOk result (λ form. form ≡ (subject self.now).axioms heading.now) }
+        ensures within { OnOk result ((subject self.now).limit heading.now ≡ None) }
+        ensures refused { IfErr result (IsRefusedBy ((subject self.now).limit heading.now)) };
+}
+
+/// What a checker says of a log of silent sections.
+#[derive(Clone, Copy, Debug, PartialEq, Eq)]
+pub enum SilentVerdict {
+    /// Each line is right, and so many sections are refuted.
+    Accepted { sections: u32 },
+    /// The first wrong line, from 1, and the first cause that it has.
+    Refused { line: u32, cause: Cause },
+}
+
+// A right section, with how many lines it has and what stands behind them; or the log stops at it.
+#[derive(Clone, Copy)]
+enum Passed<'b> {
+    Goes { count: u32, rest: &'b [u8] },
+    Stops(SilentVerdict),
+}
+
+// The lines of a section, how many they are, and what stands behind them.
+#[derive(Clone, Copy)]
+struct SilentInside<'b> {
+    bytes: &'b [u8],
+    count: u32,
+    rest: &'b [u8],
+}
+
+fn refused(line: u32, cause: Cause) -> SilentVerdict
+    ensures { result ≡ verdicts.Refused line cause }
+{
+    SilentVerdict::Refused { line, cause }
+}
+
+fn is_header<S: Silent>(kind: &S, text: &[u8]) -> bool
+    ensures { IsTrue result ↔ (text.now ≡ (S.subject kind.now).header) }
+{
+    text == kind.header()
+}
+
+// Whether a text is that of a heading.
+fn is_read<S: Silent>(kind: &S, text: &[u8]) -> bool
+    ensures { MatchBool result ((heading : S.Heading) × (S.subject kind.now).Reads text.now heading) (IsUnread (S.subject kind.now) text.now) }
+{
+    match kind.read(text) {
+        Some(_) => true,
+        None => false,
+    }
+}
+
+// The lines up to the next heading.
+fn inside_of<'b, S: Silent>(kind: &S, all: &'b [u8]) -> SilentInside<'b>
+    requires { length all.now ≤ most_log_bytes }
+    ensures { IsSilentInside (S.subject kind.now) all.now result.bytes.now result.count result.rest.now }
+{
+    let mut rest = all;
+    let mut count = 0;
+    while !rest.is_empty() {
+        let (text, behind) = first_line(rest);
+        if is_read(kind, text) {
+            let bytes = ahead(all, rest.len());
+            return SilentInside { bytes, count, rest };
+        }
+        count += 1;
+        rest = behind;
+    }
+    SilentInside {
+        bytes: all,
+        count,
+        rest,
+    }
+}
+
+// What refuses a section, by what its lines are found to be.
+fn refusal_of(finding: Finding) -> Option<SilentVerdict>
+    requires { HasLineBehind finding }
+    ensures { result ≡ refused_for (plain_finding finding) }
+{
+    match finding {
+        Finding::Wrong { line, cause } => Some(refused(line, cause)),
+        Finding::Trailed {
+            ending,
+            line,
+            cause,
+        } => match ending {
+            EndWord::Empty => Some(refused(line + 1, cause)),
+            EndWord::Found | EndWord::Spent => Some(refused(line, Cause::NotRefuted)),
+        },
+        Finding::Right { ending, line, .. } => match ending {
+            EndWord::Empty => None,
+            EndWord::Found | EndWord::Spent => Some(refused(line, Cause::NotRefuted)),
+        },
+    }
+}
+
+// The section whose heading is the text at a line: a right one is passed.
+fn pass_section<'b, S: Silent>(
+    alloc: Global,
+    kind: &S,
+    line: u32,
+    text: &[u8],
+    behind: &'b [u8],
+) -> Result<Passed<'b>, Fault>
+    requires few { length behind.now ≤ most_log_bytes }
+    requires line { line ≤ most_log_bytes + 1 }
+    ensures passed { IfOk result (IsPassedFrom (S.subject kind.now) line (text.now ∷ lines_in behind.now)) }
+    ensures shorter { IfOk result (IsShorter (length behind.now)) }
+    ensures refused { IfErr result (IsPassFault (S.subject kind.now) line (text.now ∷ lines_in behind.now)) }
+{
+    let Some(heading) = kind.read(text) else {
+        let cause = second_cause(alloc, text)?;
+        return Ok(Passed::Stops(refused(line, cause)));
+    };
+    let inside = inside_of(kind, behind);
+    if !kind.is_right(&heading) {
+        return Ok(Passed::Stops(refused(line, Cause::Section)));
+    }
+    let form = kind.form(alloc, &heading)?;
+    let finding = find_lines(alloc, &form, false, line + 1, inside.bytes)?;
+    match refusal_of(finding) {
+        Some(verdict) => Ok(Passed::Stops(verdict)),
+        None => Ok(Passed::Goes {
+            count: inside.count,
+            rest: inside.rest,
+        }),
+    }
+}
+
+// The verdict of the sections behind the header.
+fn judge_behind<S: Silent>(alloc: Global, kind: &S, body: &[u8]) -> Result<SilentVerdict, Fault>
+    requires { length body.now ≤ most_log_bytes }
+    ensures within { IfOk result (IsSilentVerdictBehind (S.subject kind.now) (PassesNoLimit (S.subject kind.now)) (lines_in body.now)) }
+    ensures refused { IfErr result (IsBehindFault (S.subject kind.now) (lines_in body.now)) }
+{
+    let mut rest = body;
+    let mut line = 2;
+    let mut sections = 0;
+    while !rest.is_empty() {
+        let (text, behind) = first_line(rest);
+        match pass_section(alloc, kind, line, text, behind)? {
+            Passed::Goes {
+                count,
+                rest: others,
+            } => {
+                line = line + 1 + count;
+                sections += 1;
+                rest = others;
+            }
+            Passed::Stops(verdict) => return Ok(verdict),
+        }
+    }
+    Ok(SilentVerdict::Accepted { sections })
+}
+
+/// What a checker says of the bytes of a log of silent sections. The axioms of a section are made when it is come to, and gone
+/// before the next; a section is a part of the bytes. The log may have no section, and a heading may come twice. Refuses the
+/// first limit that the axioms under a right heading pass which has right sections before it.
+pub fn judge_silent<S: Silent>(
+    alloc: Global,
+    kind: &S,
+    bytes: &[u8],
+) -> Result<SilentVerdict, Fault>
+    requires { length bytes.now ≤ most_log_bytes }
+    ensures verdict { IfOk result (IsSilentVerdict (S.subject kind.now) bytes.now) }
+    // No section that is looked at for it passes a limit.
+    ensures within { IfOk result (IsSilentVerdictWithin (S.subject kind.now) bytes.now) }
+    ensures refused { IfErr result (IsSilentFault (S.subject kind.now) bytes.now) }
+{
+    if bytes.is_empty() {
+        return Ok(refused(1, Cause::Header));
+    }
+    let (text, body) = first_line(bytes);
+    if !is_header(kind, text) {
+        return Ok(refused(1, Cause::Header));
+    }
+    judge_behind(alloc, kind, body)
+}

@@ -1,0 +1,166 @@
+//! What no clause says of logs of silent sections: that they are accepted, and refused, while there is memory.
+ghost use Rattle.std.specs.Prelude.{◌≡◌, ◌↔◌, ◌<◌, ◌≤◌, IfErr, IfOk, IsTrue, MatchOption, None, OnOk, length};
+ghost use Rattle.cc_check.specs.Silent.{IsUnread, SilentSubject};
+ghost use Rattle.cc_defs.specs.Refusals.{IsRefusedBy};
+ghost use Rattle.cc_arena.specs.GroundViews.{plain_ground_query};
+ghost use Rattle.cc_defs.specs.GroundLaws.{StandsForQuery};
+ghost use Rattle.cc_form.specs.Queries.{IsKeyAt, IsQueryAt};
+ghost use Rattle.cc_theory.specs.Theories.{AreLawsFor, AreLawsOf};
+ghost use Rattle.cc_tests_clauses.specs.Digits.{axioms_behind, digits, no_description, no_question, only_row};
+
+use crate::check::{no_laws, no_query, no_signature};
+use cc_arena::{GroundQuery, Laws};
+use cc_check::{Silent, SilentVerdict, judge_silent, laws};
+use cc_defs::{Cause, Fault, Key, Row, Sig, is_digit_byte};
+use cc_form::{Form, clauses};
+use cc_theory::Theory;
+use std::alloc::Global;
+
+// Headings of one digit, over clauses that no row meets; a right one is below 9.
+struct Digits;
+
+// The digit that a text is, with a line feed.
+fn digit_of(text: &[u8]) -> Option<u32>
+    ensures { MatchOption result (IsUnread digits text.now) (digits.Reads text.now) }
+{
+    let [digit, last] = text else {
+        return None;
+    };
+    if *last != b'\n' || !is_digit_byte(*digit) {
+        return None;
+    }
+    Some(u32::from(*digit - 48))
+}
+
+fn only_key(alloc: Global) -> Key
+    ensures { result ≡ only_row }
+{
+    Key {
+        horizon: 0,
+        row: Row::of(Vec::new(alloc)),
+    }
+}
+
+// The clauses of a description without constants, whose row is to lie behind a key.
+fn clauses_after(
+    alloc: Global,
+    sig: &Sig,
+    laws: &Laws<'_>,
+    query: &GroundQuery<'_>,
+    key: &Key,
+) -> Result<Form, Fault>
+    requires for_laws { AreLawsFor sig.now laws.now }
+    requires of_laws { AreLawsOf sig.now laws.now no_description }
+    requires query { IsQueryAt sig.now 0 (plain_ground_query query.now) }
+    requires stands { StandsForQuery (plain_ground_query query.now) no_description no_question }
+    requires fits { IsKeyAt sig.now 0 key.now }
+    requires key { key.now ≡ only_row }
+    ensures made { IfOk result (λ form. form ≡ axioms_behind) }
+    ensures refused { IfErr result (IsRefusedBy None) }
+{
+    let theory = Theory::at(alloc, sig, laws, 0)?;
+    clauses(alloc, &theory, query, false, Some(key))
+}
+
+// No row lies behind the only one.
+fn clauses_behind(alloc: Global) -> Result<Form, Fault>
+    ensures made { IfOk result (λ form. form ≡ axioms_behind) }
+    ensures refused { IfErr result (IsRefusedBy None) }
+{
+    let sig = no_signature(alloc);
+    let laws = no_laws(alloc);
+    let query = no_query(alloc);
+    let key = only_key(alloc);
+    clauses_after(alloc, &sig, &laws, &query, &key)
+}
+
+impl Silent for Digits {
+    type Heading = u32;
+
+    ghost subject = { λ _. digits };
+
+    fn header(&self) -> &[u8] {
+        b"digits\n".as_slice()
+    }
+
+    fn read(&self, text: &[u8]) -> Option<u32> {
+        digit_of(text)
+    }
+
+    fn is_right(&self, heading: &u32) -> bool {
+        *heading < 9
+    }
+
+    fn form(&self, alloc: Global, heading: &u32) -> Result<Form, Fault> {
+        let _digit = *heading;
+        clauses_behind(alloc)
+    }
+}
+
+fn judged(alloc: Global, text: &str) -> Result<SilentVerdict, Fault>
+    requires { length text.now ≤ 100 }
+{
+    judge_silent(alloc, &Digits, text.as_bytes())
+}
+
+fn is_accepted(alloc: Global, text: &str, count: u32) -> bool
+    requires { length text.now ≤ 100 }
+{
+    match judged(alloc, text) {
+        Ok(verdict) => verdict == SilentVerdict::Accepted { sections: count },
+        Err(_) => false,
+    }
+}
+
+fn is_refused(alloc: Global, text: &str, line: u32, cause: Cause) -> bool
+    requires { length text.now ≤ 100 }
+{
+    match judged(alloc, text) {
+        Ok(verdict) => verdict == SilentVerdict::Refused { line, cause },
+        Err(_) => false,
+    }
+}
+
+#[test]
+fn logs_are_accepted(rt: HostRuntime) {
+    for (text, count) in [
+        ("digits\n", 0),
+        ("digits\n0\nd 0 1 1 2 0\ne empty\n", 1),
+        (
+            "digits\n3\nd 0 1 1 2 0\ne empty\n3\nd 0 1 1 2 0\ne empty\n",
+            2,
+        ),
+    ] {
+        if text.len() <= 100 {
+            assert!(rt; is_accepted(rt.alloc(), text, count), "{text}");
+        }
+    }
+}
+
+#[test]
+fn logs_are_refused(rt: HostRuntime) {
+    for (text, line, cause) in [
+        ("", 1, Cause::Header),
+        ("digits", 1, Cause::Header),
+        ("ccalc log 1\n", 1, Cause::Header),
+        ("digits\n10\n", 2, Cause::Form),
+        ("digits\nh 0\n", 2, Cause::Section),
+        ("digits\n9\ne spent\n", 2, Cause::Section),
+        ("digits\n0\n", 3, Cause::Section),
+        ("digits\n0\nb\ne empty\n", 3, Cause::Section),
+        ("digits\n0\ne spent\n", 3, Cause::NotRefuted),
+        ("digits\n0\ne found\nh 0\n", 3, Cause::NotRefuted),
+        ("digits\n0\nd 0 1 1 2 0\ne empty\nh 0\n", 5, Cause::Section),
+        ("digits\n0\nd 0 1 1 2 0\ne empty\n1", 5, Cause::Form),
+        ("digits\n0\nd 0 1 2 2 0\ne empty\n", 3, Cause::Pivot),
+    ] {
+        if text.len() <= 100 {
+            assert!(rt; is_refused(rt.alloc(), text, line, cause), "{text}");
+        }
+    }
+}
+
+#[test]
+fn a_law_is_called(_rt: HostRuntime) {
+    laws::silent_sections_have_no_rows();
+}
