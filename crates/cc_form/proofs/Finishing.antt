@@ -10,8 +10,8 @@ use Rattle.cc_defs.specs.declared.lists.Key.{Key}
 use Rattle.cc_defs.specs.declared.node.Node.{Node}
 use Rattle.cc_defs.specs.declared.refusal.Fault.{Fault}
 use Rattle.cc_defs.specs.declared.refusal.Fault.TheVariants as faults
-use Rattle.cc_defs.specs.ClauseForms.{all_written, positive, true_variable}
-use Rattle.cc_defs.specs.ClauseLists.{Asserted, Bodied, ClauseList, MadeRules, claim_if, clause_list, clauses_over, completion_from, condition_term, denials_of, key_terms, positions_from}
+use Rattle.cc_defs.specs.ClauseForms.{all_written, true_variable}
+use Rattle.cc_defs.specs.ClauseLists.{Asserted, Bodied, ClauseList, MadeRules, claim_if, clause_list, clauses_over, completion_from, condition_term, denials_of, key_terms}
 use Rattle.cc_defs.specs.Clauses.{Literal}
 use Rattle.cc_defs.specs.Description.{Description, sizes_at, stride}
 use Rattle.cc_defs.specs.GroundLaws.{PlainGroundCondition, PlainGroundQuery, StandsForQuery, ground_condition}
@@ -38,6 +38,7 @@ use Rattle.cc_form.specs.Forms.{IsAxioms, TellsHistories, asked, form_of, form_r
 use Rattle.cc_form.specs.Laws.{AllFit, ClausesTellRows, TermFits}
 use Rattle.cc_form.specs.Machine.{Adds, IsBuilt, IsPast}
 use Rattle.cc_form.specs.Making.{asserted_nodes, bodied, denied_nodes, list_over, made_bodies, made_rule, nodes_if, query_list, rules_list}
+use Rattle.cc_form.specs.Parts.{first_clauses}
 use Rattle.cc_form.specs.Places.{position_sizes}
 use Rattle.cc_form.specs.Queries.{IsConditionAt, IsKeyAt, IsOverPlaces, IsQueryAt, condition_nodes, section_list}
 use Rattle.cc_form.specs.Store.{AreFew, Gives, Holds, literal_count_of}
@@ -63,14 +64,13 @@ bodies_long sizes stride last [] = refl
 bodies_long sizes stride last (rule ∷ rules) = ap suc (bodies_long sizes stride (made_rule sizes stride last rule).last rules)
 
 -- the clauses of rules one group behind another: `between` is the writer before the bodies, `made` the one behind them
-pub rules_done : (old between made new : Writer) (k1 : Kept) (stride : ℕ) (rules : List code.TimedRule) (truth : Literal) (literals : List Literal) (sizes : List ℕ) (k4 : Kept) →
-    old.last ≡ true_variable old.places → truth ≡ positive (true_variable old.places) → sizes ≡ old.places →
-    Gives old.store.kept k1 ((truth ∷ []) ∷ []) → Gives k1 between.store.kept (positions_from 1 sizes) → between.places ≡ old.places → between.last ≡ old.last →
+pub rules_done : (old between made new : Writer) (stride : ℕ) (rules : List code.TimedRule) (literals : List Literal) (k4 : Kept) →
+    old.last ≡ true_variable old.places → Gives old.store.kept between.store.kept (first_clauses old.places) → between.places ≡ old.places → between.last ≡ old.last →
     IsBuilt between made (made_bodies between.places stride between.last rules).last (made_bodies between.places stride between.last rules).clauses →
     literals ≡ map (λ rule. rule.body) (made_bodies between.places stride between.last rules).rules →
     Gives made.store.kept k4 (all_written (completion_from made.places (bodied rules literals) 0 made.places)) → Gives k4 new.store.kept (all_written (denials_of (bodied rules literals))) →
     new.places ≡ made.places → new.last ≡ made.last → IsBuilt old new (rules_list old.places stride rules).last (rules_list old.places stride rules).clauses
-rules_done old between made new k1 stride rules truth literals sizes k4 first is same gt gp places last built' made_are' gc gd places' last' =
+rules_done old between made new stride rules literals k4 first one places last built' made_are' gc gd places' last' =
     let P = old.places in
     let T = true_variable P in
     let B = made_bodies P stride T rules in
@@ -79,20 +79,16 @@ rules_done old between made new k1 stride rules truth literals sizes k4 first is
     let rules_are : bodied rules literals ≡ B.rules =
     ap (bodied rules) (made_are' ∙ ap (λ (m : MadeRules). map (λ rule. rule.body) m.rules) at) ∙ bodied_is P stride T rules in
     let made_places : made.places ≡ P = built.places ∙ places in
-    let head : List (List Literal) = (positive T ∷ []) ∷ [] in
-    let of_truth : Gives old.store.kept k1 head = subst (λ (l : Literal). Gives old.store.kept k1 ((l ∷ []) ∷ [])) is gt in
-    let of_positions : Gives k1 between.store.kept (positions_from 1 P) = subst (λ (s : List ℕ). Gives k1 between.store.kept (positions_from 1 s)) same gp in
     let completion : Gives made.store.kept k4 (all_written (completion_from P B.rules 0 P)) =
     subst (λ (r : List Bodied). Gives made.store.kept k4 (all_written (completion_from P r 0 P))) rules_are (subst (λ (p : List ℕ). Gives made.store.kept k4 (all_written (completion_from p (bodied rules literals) 0 p))) made_places gc) in
     let denials : Gives k4 new.store.kept (all_written (denials_of B.rules)) = subst (λ (r : List Bodied). Gives k4 new.store.kept (all_written (denials_of r))) rules_are gd in
-    let one = gives_more old.store.kept k1 between.store.kept head (positions_from 1 P) of_truth of_positions in
-    let two = gives_more old.store.kept between.store.kept made.store.kept (head ++ positions_from 1 P) B.clauses one built.gives in
-    let three = gives_more old.store.kept made.store.kept k4 (head ++ positions_from 1 P ++ B.clauses) (all_written (completion_from P B.rules 0 P)) two completion in
+    let two = gives_more old.store.kept between.store.kept made.store.kept (first_clauses P) B.clauses one built.gives in
+    let three = gives_more old.store.kept made.store.kept k4 (first_clauses P ++ B.clauses) (all_written (completion_from P B.rules 0 P)) two completion in
     record {
       places = places' ∙ made_places;
       ends = last' ∙ built.ends;
       within = built.within;
-      gives = gives_more old.store.kept k4 new.store.kept (head ++ positions_from 1 P ++ B.clauses ++ all_written (completion_from P B.rules 0 P)) (all_written (denials_of B.rules)) three denials;
+      gives = gives_more old.store.kept k4 new.store.kept (first_clauses P ++ B.clauses ++ all_written (completion_from P B.rules 0 P)) (all_written (denials_of B.rules)) three denials;
     }
 
 -- ---- the query

@@ -24,7 +24,8 @@ ghost use Rattle.cc_form.specs.Building.{IsBuiltForm, IsSection, count_refusal};
 ghost use Rattle.cc_form.specs.Store.{AreFew, Holds};
 ghost use Rattle.std.specs.List.{AllByRecursion};
 
-use crate::groups::{complete, deny_falsity, positions};
+use crate::draft::write_first;
+use crate::groups::{complete, deny_falsity};
 use crate::laws::clauses_tell_rows;
 use crate::places::{Places, sizes_of};
 use crate::rules::bodies_within;
@@ -137,9 +138,7 @@ fn add_rules(
     requires places { writer.old.places ≡ position_sizes theory.now.signature theory.now.horizon }
     ensures { Adds writer.old writer.new result (rules_list writer.old.places stride theory.now.rules) }
 {
-    let truth = writer.places.truth();
-    writer.store.keep_one(truth)?;
-    positions(&mut writer.store, writer.places.sizes())?;
+    write_first(writer)?;
     let horizon = theory.horizon();
     let bodies = bodies_within(alloc, writer, stride, horizon, theory.rules())?;
     let mut causes = Vec::new(alloc);
