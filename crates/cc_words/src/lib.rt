@@ -18,6 +18,7 @@
 mod asked;
 mod given;
 pub mod laws;
+mod modes;
 mod numbers;
 mod parse;
 mod words;
