@@ -24,4 +24,5 @@ mod parse;
 mod words;
 
 pub use asked::{Asked, CheckAsked, ListAsked};
+pub use modes::{Item, Mode};
 pub use words::read;

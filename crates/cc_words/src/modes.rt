@@ -4,21 +4,31 @@ ghost use Rattle.cc_words.specs.Requests.{bars, mode_named, needs};
 
 /// What is done.
 #[derive(Clone, Copy, Debug)]
-pub(crate) enum Mode {
+pub enum Mode {
+    /// Histories of a query are listed.
     List,
+    /// A log is judged.
     Check,
+    /// A description of a size is made and searched.
     Make,
 }
 
 /// What may stand among the words: an option with its value, or the FILE.
 #[derive(Clone, Copy, Debug)]
-pub(crate) enum Item {
+pub enum Item {
+    /// `--query LABEL`.
     Query,
+    /// `--count N`.
     Count,
+    /// `--budget B`.
     Budget,
+    /// `--after KEY`.
     After,
+    /// `--log NAME`.
     Log,
+    /// `--size N`.
     Size,
+    /// FILE.
     File,
 }
 
