@@ -17,7 +17,8 @@ use Rattle.cc_ports.specs.Contents.{Contents, Rose, with_rest}
 use Rattle.cc_run.specs.Asking.{AreNamed, IsRefusedNamed}
 use Rattle.cc_run.specs.Requested.{IsFileOf, named_of, opens_behind, source_of, OpensDescription, Reads}
 use Rattle.cc_run.specs.Answers.{promise_of}
-use Rattle.cc_run.specs.Stops.{Begins, IsCalm, Moment, Prints, names_log}
+use Rattle.cc_run.specs.Names.{names_log}
+use Rattle.cc_run.specs.Stops.{Begins, IsCalm, Moment, Prints}
 use Rattle.cc_run.specs.declared.status.Status.{Status}
 use Rattle.cc_run.specs.declared.status.Stop.{Stop}
 use Rattle.cc_run.specs.Tasks.{AreRead, IsTask, Named, RefusesNamed, Task, asked_refusal, description_in, made_files, made_named, query_named, request_of}

@@ -5,7 +5,7 @@ use Rattle.std.proofs.lemmas.Bool.{leb-true}
 use Rattle.cc_defs.specs.Grammar.{number_of}
 use Rattle.cc_defs.specs.Tokens.{is_number}
 use Rattle.cc_run.specs.Requested.{IsWithin}
-use Rattle.cc_run.specs.Stops.{names_log}
+use Rattle.cc_run.specs.Names.{names_log}
 use Rattle.cc_run.specs.Tasks.{request_of, refusal_without_place}
 use Rattle.cc_describe.specs.Places.{Files}
 use Rattle.cc_words.specs.declared.asked.Asked.{Asked}

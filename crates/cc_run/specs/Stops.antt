@@ -1,5 +1,5 @@
 -- Why a run stops before its end, and what each step of a run gives.
-use Rattle.std.specs.Prelude.{◌≡◌, ℕ, ◌⊎◌, ◌≤◌, Bool, true, false, List, [], ◌∷◌, ◌++◌, flat_map, Option, Some, option_map, is_some, Result, MatchResult, IfSome, IfOk, IfErr, IsSomeAnd, IsErrOf, is_ok, Ok, Err, ◌||◌}
+use Rattle.std.specs.Prelude.{◌≡◌, ℕ, ◌⊎◌, ◌≤◌, Bool, true, false, List, [], ◌∷◌, ◌++◌, flat_map, Option, Some, option_map, Result, MatchResult, IfSome, IfOk, IfErr, IsSomeAnd, IsErrOf, is_ok, Ok, Err, ◌||◌}
 use Rattle.cc_defs.specs.declared.event.Event.{Event}
 use Rattle.cc_defs.specs.declared.event.Event.TheVariants as events
 use Rattle.cc_defs.specs.declared.event.Told.{Told}
@@ -20,12 +20,11 @@ use Rattle.cc_run.specs.declared.status.Status.TheVariants as statuses
 use Rattle.cc_run.specs.declared.status.Stop.{Stop}
 use Rattle.cc_run.specs.declared.status.Stop.TheVariants as stops
 use Rattle.cc_run.specs.Answers.{Ended, GaveSoFar, IsFresh, left_in}
-use Rattle.cc_run.specs.Names.{AreAsked, IsAnswer, MayEndWith, log_asked, log_named}
+use Rattle.cc_run.specs.Names.{AreAsked, IsAnswer, MayEndWith, log_asked}
 use Rattle.cc_run.specs.Refusing.{memory_line, read_fault_line, write_fault_line}
 use Rattle.cc_run.specs.Searching.{IsTold, Manner, OneByOne, Summed, out_told}
 use Rattle.cc_run.specs.Tasks.{Task, request_of}
 use Rattle.cc_run.specs.Wholes.{AreFronts, Given, joined, nothing}
-use Rattle.cc_words.specs.Requests.{Request}
 use Rattle.cc_words.specs.Words.{Text}
 
 -- what is known of a desk at a moment
@@ -148,10 +147,6 @@ pub record TellsStop (stop : Stop) (old new : Moment) (status : Status) : Type 0
 pub record Leaves (words : List (List ℕ)) (before after : Contents) (begun : Bool) (result : Result Status Stop) : Type 0 where
   pub files : after.files ≡ before.files
   pub how : MatchResult result (λ status. Ended before.files words status (left_in after begun)) (λ _. GaveSoFar before.files words (left_in after begun))
-
--- whether a log is to be begun
-abbrev pub names_log : Option Request → Bool
-names_log request = is_some (log_named request)
 
 -- the status of a run that ended or stopped
 abbrev pub outcome : Result Status Stop → Status

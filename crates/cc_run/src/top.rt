@@ -9,10 +9,10 @@ ghost use Rattle.cc_ports.specs.Calls.{Call, names_begun, names_opened, with_cal
 ghost use Rattle.cc_ports.specs.Contents.{Rose};
 ghost use Rattle.cc_run.specs.Answers.{IsFresh, Answered, counts};
 ghost use Rattle.cc_run.specs.Asking.{AreOf, AreSearchable};
-ghost use Rattle.cc_run.specs.Names.{BeginsAsked, MayEndWith, OpensAsked};
+ghost use Rattle.cc_run.specs.Names.{BeginsAsked, MayEndWith, OpensAsked, names_log};
 ghost use Rattle.cc_run.specs.Promises.{IsEndStatus};
 ghost use Rattle.cc_run.specs.Requested.{IsFileOf, IsWithin, Reads, named_of, opens_behind, source_of};
-ghost use Rattle.cc_run.specs.Stops.{Moment, Prints, PrintsAsked, moment, names_log};
+ghost use Rattle.cc_run.specs.Stops.{Moment, Prints, PrintsAsked, moment};
 ghost use Rattle.cc_run.specs.Tasks.{IsTask, request_of};
 ghost use Rattle.cc_sorts.specs.Tables.{IsSignatureFor};
 ghost use Rattle.cc_words.specs.Requests.{Request, ToMake};

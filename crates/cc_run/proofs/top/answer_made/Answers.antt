@@ -2,7 +2,7 @@ use Rattle.std.proofs.Common.{◌∙◌, ap, subst, sym, IfOk, Some}
 use Rattle.std.specs.Prelude.{IfErr}
 use Rattle.cc_describe.specs.Describing.{Describes, HasStopped}
 use Rattle.cc_make.specs.Single.{each_is}
-use Rattle.cc_run.specs.Stops.{names_log}
+use Rattle.cc_run.specs.Names.{names_log}
 use Rattle.cc_run.specs.Tasks.{made_named}
 use Rattle.cc_words.specs.Requests.{ToMake}
 use Rattle.cc_run.proofs.Outcomes.{prints_as, prints_lacking, prints_opened}
