@@ -6,7 +6,7 @@ use Rattle.cc_defs.specs.declared.refusal.Refusal.{Refusal}
 use Rattle.cc_describe.specs.declared.description.Described.{Described}
 use Rattle.cc_describe.specs.declared.description.DescribeStop.{DescribeStop}
 use Rattle.cc_describe.specs.declared.description.DescribeStop.TheVariants as describe_stops
-use Rattle.cc_describe.specs.Describing.{AreFirstNames, AreToOpen, OpensFor}
+use Rattle.cc_describe.specs.Describing.{AreFirstNames}
 use Rattle.cc_describe.specs.Places.{Files, HasPlaces}
 use Rattle.cc_ports.specs.Calls.{AreGivings, AreReadings, Begins, Call, Gives, Reads, name_begun, name_opened, names_begun, names_opened, with_call, with_calls}
 use Rattle.cc_ports.specs.Contents.{Contents}
@@ -17,7 +17,8 @@ use Rattle.cc_run.specs.declared.status.Status.{Status}
 use Rattle.cc_run.specs.declared.status.Status.TheVariants as statuses
 use Rattle.cc_run.specs.declared.status.Stop.{Stop}
 use Rattle.cc_run.specs.declared.status.Stop.TheVariants as stops
-use Rattle.cc_run.specs.Names.{AreAsked, IsAnswer, IsEndStatus, MayEndWith}
+use Rattle.cc_run.specs.Names.{AreAsked, IsAnswer, MayEndWith}
+use Rattle.cc_run.specs.Promises.{IsEndStatus}
 use Rattle.cc_run.specs.Stops.{Asks, Called, Moment, TellsStop, cut_status, outcome, stop_status}
 use Rattle.cc_words.specs.Requests.{Request, ToCheck, ToList, ToMake}
 use Rattle.cc_words.specs.Words.{Text}
@@ -194,24 +195,6 @@ called_reading x y more calls begun = record { more = more; calls = calls; opene
 
 abbrev stopped : DescribeStop → Result Described DescribeStop
 stopped stop = Err stop
-
--- names of which these are the first, which are those of a description
-pub record AreFirstOf (o : Option Contents) (name : Text) (names : List Text) : Type 0 where
-  pub all : List Text
-  pub first : AreFirstNames names all
-  pub are : IfSome o (λ c. AreToOpen c.files name all)
-
-first_in : (files : Files) (name : Text) (stop : DescribeStop) (names : List Text) → OpensFor files name (stopped stop) names →
-    (all : List Text) × AreToOpen files name all × AreFirstNames names all
-first_in files name (describe_stops.Refused refusal file) names are = (names, are, first_all names)
-first_in files name describe_stops.ReadFault names are = are
-first_in files name describe_stops.OutOfMemory names are = are
-
-pub first_of : (o : Option Contents) (name : Text) (stop : DescribeStop) (names : List Text) → IfSome o (λ c. OpensFor c.files name (stopped stop) names) → AreFirstOf o name names
-first_of None name stop names opens = record { all = names; first = first_all names; are = tt }
-first_of (Some c) name stop names opens =
-    let there = first_in c.files name stop names opens in
-    record { all = there.0; first = there.2; are = there.1 }
 
 pub refused_is_no_fault : (stop : DescribeStop) (refusal : Refusal) (file : Text) → stop ≡ describe_stops.Refused refusal file → IsErrOf (stopped stop) describe_stops.ReadFault → ⊥
 refused_is_no_fault stop refusal file is fault = cc

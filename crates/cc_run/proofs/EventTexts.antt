@@ -10,9 +10,10 @@ use Rattle.cc_defs.specs.Events.{line_told, out_text, told_text}
 use Rattle.cc_defs.specs.LogTexts.{line_text}
 use Rattle.cc_run.specs.declared.telling.Teller.{Teller}
 use Rattle.cc_run.specs.declared.telling.Teller.TheVariants as tellers
-use Rattle.cc_run.specs.Answers.{Manner, Summed, out_told, summed}
+use Rattle.cc_run.specs.Searching.{Manner, Summed, out_told, summed}
 use Rattle.cc_run.specs.Stops.{lines_text, texts_behind, texts_of}
-use Rattle.cc_run.specs.Telling.{KeepsUp, joined, manner_of}
+use Rattle.cc_run.specs.Telling.{KeepsUp, manner_of}
+use Rattle.cc_run.specs.Wholes.{joined}
 
 lines_more : (told more : List Told) → lines_text (told ++ more) ≡ lines_text told ++ lines_text more
 lines_more told more =
@@ -27,7 +28,7 @@ module _ (d : Description) (before : List Told) (one : Told) where
   AreJoined manner = joined (texts_of manner d before) (texts_behind manner d before one) ≡ texts_of manner d (before ++ one ∷ [])
 
   told_joined : (teller : Teller) → KeepsUp teller before → AreJoined (manner_of teller)
-  told_joined tellers.Whole keeps = λ i. record { out = sym (out_more d before (one ∷ [])) i; err = []; log = sym (lines_more before (one ∷ [])) i }
+  told_joined tellers.OneByOne keeps = λ i. record { out = sym (out_more d before (one ∷ [])) i; err = []; log = sym (lines_more before (one ∷ [])) i }
   told_joined (tellers.Summed size outcome) keeps = λ i. record {
     out = ap (λ (endings : List Ending). summed size before endings ++ out_told (Summed size) d (before ++ one ∷ [])) keeps.1 i;
     err = [];

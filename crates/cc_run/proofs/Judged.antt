@@ -15,10 +15,10 @@ use Rattle.cc_describe.specs.Places.{Files}
 use Rattle.cc_judge.specs.Judging.{BlocksHistories, IsJudgeFault, IsVerdictWithin}
 use Rattle.cc_ports.specs.Contents.{Contents}
 use Rattle.cc_query.specs.Accepted.{subject_of}
-use Rattle.cc_run.specs.Answers.{NamesLog, RefusesLog, RefusesRequest}
+use Rattle.cc_run.specs.Modes.Checking.{NamesLog, RefusesLog}
 use Rattle.cc_run.specs.Tasks.{IsTask, Task, named_in, request_of}
 use Rattle.cc_run.specs.Telling.{task_to_check}
-use Rattle.cc_run.proofs.Outcomes.{IsSaid}
+use Rattle.cc_run.proofs.Outcomes.{IsSaid, RefusesRequest}
 use Rattle.cc_run.proofs.Readings.{checking_by}
 use Rattle.cc_words.specs.declared.asked.CheckAsked.{CheckAsked}
 use Rattle.cc_words.specs.Requests.{Checking, ToCheck}
@@ -48,7 +48,7 @@ is_said d q key found bytes verdict same few judged within whole = record {
   few = few;
   judged = subst (λ (k : Option Key). IsVerdict (subject_of d q k) bytes verdict) same judged;
   within = subst (λ (k : Option Key). IsVerdictWithin d q k bytes verdict) same within;
-  whole = subst (λ (k : Option Key). BlocksHistories d q k bytes verdict) same whole;
+  blocks = subst (λ (k : Option Key). BlocksHistories d q k bytes verdict) same whole;
 }
 
 pub fault_as : (d : Description) (q : Query) (key found : Option Key) (bytes : List ℕ) (fault : Fault) → found ≡ key → IsJudgeFault d q found bytes fault → IsJudgeFault d q key bytes fault

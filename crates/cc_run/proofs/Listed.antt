@@ -1,5 +1,5 @@
 -- A search told event by event: each step of it, and its beginning and ends.
-use Rattle.std.proofs.Common.{◌≡◌, ℕ, List, [], ◌∷◌, ◌++◌, Option, Some, None, Result, Ok, Err, MatchResult, refl, sym, ap, subst, ◌∙◌, append_assoc, append-nil, inl, inr, ◌⊎◌}
+use Rattle.std.proofs.Common.{◌≡◌, ℕ, List, [], ◌∷◌, ◌++◌, Option, Some, None, Result, Ok, Err, refl, sym, ap, subst, ◌∙◌, append_assoc, append-nil, arith, false, inl, inr}
 use Rattle.std.specs.Prelude.{IsErrAnd, IfOk, IsNone, is_some}
 use Rattle.cc_arena.specs.declared.ground_laws.GroundLaw.{GroundLaw}
 use Rattle.cc_asked.specs.Descriptions.{IsDescriptionOf}
@@ -17,7 +17,6 @@ use Rattle.cc_defs.specs.Resolved.{Query}
 use Rattle.cc_defs.specs.Runs.{Ask, Run, AreFair, IsFairRun, events_of, first_horizon}
 use Rattle.cc_defs.specs.Signatures.{Signature}
 use Rattle.cc_describe.specs.declared.description.Described.{Described}
-use Rattle.cc_ports.specs.Contents.{IsPrefix}
 use Rattle.cc_ports.specs.declared.desk.To.TheVariants as outputs
 use Rattle.cc_query.specs.Accepted.{WrittenLogsAreAccepted}
 use Rattle.cc_query.specs.Laws.{SpentBudgetsAreSmall}
@@ -27,22 +26,20 @@ use Rattle.cc_run.specs.declared.status.Status.TheVariants as statuses
 use Rattle.cc_run.specs.declared.status.Stop.{Stop}
 use Rattle.cc_run.specs.declared.status.Stop.TheVariants as stops
 use Rattle.cc_run.specs.declared.telling.Teller.{Teller}
-use Rattle.cc_run.specs.Answers.{Manner, Whole, Summed, Given, AreFronts, IsTold, PassesLimit, nothing, only_err, out_told, refusal_text, status_of}
 use Rattle.cc_run.specs.Asking.{AreOf}
-use Rattle.cc_run.specs.Stops.{IsRowOfEvent, IsTelling, Moment, Moves, Searches, Step, behind, given_to, lines_text, texts_behind, texts_of}
+use Rattle.cc_run.specs.Refusing.{refusal_text}
+use Rattle.cc_run.specs.Searching.{EndsSo, IsTold, Manner, OneByOne, Summed, out_told, status_of}
+use Rattle.cc_run.specs.Stops.{IsRowOfEvent, Moment, Moves, Searches, Step, given_to, lines_text, texts_behind, texts_of}
 use Rattle.cc_run.specs.Tasks.{Task}
-use Rattle.cc_run.specs.Telling.{Finishes, GoesOn, HasGoodLines, IsListing, KeepsUp, ListedSoFar, joined, manner_of, status_told, task_of}
+use Rattle.cc_run.specs.Telling.{GoesOn, HasGoodLines, IsListing, KeepsUp, ListedSoFar, manner_of, so_far, status_told, task_of}
+use Rattle.cc_run.specs.Wholes.{Given, joined, nothing, only_err, only_log}
 use Rattle.cc_theory.specs.Theories.{AreLawsOf}
 use Rattle.cc_run.proofs.EventTexts.{texts_more}
-use Rattle.cc_run.proofs.GivenSteps.{given_all, fronts-nothing, moves_again, moves_as, moves_both, moves_done, moves_none, moves_nothing, prefix_behind, step_again}
+use Rattle.cc_run.proofs.GivenSteps.{given_all, joined-nothing, moves_again, moves_as, moves_both, moves_done, moves_none, step_again, step_as, step_nothing, step_of, step_then}
 use Rattle.cc_run.proofs.Passing.{StopsAt, no_run}
 use Rattle.cc_run.proofs.RunEvents.{ends_so, last_row}
 use Rattle.cc_run.proofs.Spending.{budget_small}
 use Rattle.cc_run.proofs.Worth.{IsGoodEvent, keeps_limits, logs_accepted, next_good, no_lines}
-
--- what is behind the header of a log
-abbrev so_far : Manner → Description → List Told → Given
-so_far manner d given = behind header (texts_of manner d given)
 
 -- ---- what a run tells
 
@@ -65,10 +62,6 @@ all_err manner d given told text is = record {
   log = append-nil (header ++ lines_text given) ∙ ap (λ (l : List Told). log_of l) is;
 }
 
-front_of_none : (front : List ℕ) → IsPrefix front [] → front ≡ []
-front_of_none [] is = refl
-front_of_none (byte ∷ bytes) is = absurd cc
-
 -- ---- events
 
 fair_of : (d : Description) (q : Query) (session : SessionView) (ask : Ask) (given : List Told) → session.ask ≡ ask → After d q session given → AreFair d q ask given
@@ -83,54 +76,22 @@ ending_told (events.Holds horizon) status is = absurd cc
 ending_told (events.Counterexample horizon) status is = absurd cc
 ending_told (events.Ended ending) status is = (ending, refl, cc)
 
-module _ (manner : Manner) (d : Description) (q : Query) (ask : Ask) (given : List Told) (x y : Moment) where
-  -- a run was told up to its ending or to a limit
-  ends : WrittenLogsAreAccepted → SpentBudgetsAreSmall → (run : Run) (told : List Told) (more : Given) (status : Status) → IsFairRun d q ask run → HasGoodLines d q ask.after told →
-      told ≡ events_of (first_horizon q ask.after) run → IsAll manner d (events_of (first_horizon q ask.after) run) (so_far manner d given) more →
-      ((ending : Ending) × (run.ending ≡ Some ending) × (more.err ≡ []) × (status ≡ status_of ending))
-      ⊎ ((refusal : Refusal) × IsNone run.ending × PassesLimit (task_of d q ask) run refusal × (more.err ≡ refusal_text refusal []) × (status ≡ statuses.Refused)) →
-      Moves more x y (Ok status) → Finishes manner (task_of d q ask) (so_far manner d given) x y (Ok status)
-  ends law small run told more status fair good is all how moves =
-      let lines = subst (λ (l : List Told). HasGoodLines d q ask.after l) is good in
-      record {
-        given = more;
-        moves = moves;
-        how = (
-          run,
-          record {
-            fair = fair;
-            out = all.out;
-            log = all.log;
-            limits = keeps_limits d q ask (events_of (first_horizon q ask.after) run) lines;
-            accepted = logs_accepted d q ask run law fair lines;
-            spent = budget_small d q ask small run fair lines;
-            ends = how;
-          },
-        );
-      }
-
-  -- it stopped with a front of what was to be given
-  stops_within : (run : Run) (told : List Told) (more : Given) (stop : Stop) → IsFairRun d q ask run → HasGoodLines d q ask.after told →
-      told ≡ events_of (first_horizon q ask.after) run → IsAll manner d (events_of (first_horizon q ask.after) run) (so_far manner d given) more →
-      (step : Step {X = Option Status} more x y (Err stop)) →
-      (step.given.err ≡ []) ⊎ ((refusal : Refusal) × PassesLimit (task_of d q ask) run refusal × IsPrefix step.given.err (refusal_text refusal [])) →
-      Finishes manner (task_of d q ask) (so_far manner d given) x y (Err stop)
-  stops_within run told more stop fair good is all step err =
-      let before = so_far manner d given in
-      record {
-        given = step.given;
-        moves = moves_again step.given x y stop stop refl step.moves;
-        how = (
-          run,
-          record {
-            fair = fair;
-            limits = keeps_limits d q ask (events_of (first_horizon q ask.after) run) (subst (λ (l : List Told). HasGoodLines d q ask.after l) is good);
-            out = subst (λ (text : List ℕ). IsPrefix (before.out ++ step.given.out) text) all.out (prefix_behind before.out step.given.out more.out step.how.out);
-            log = subst (λ (text : List ℕ). IsPrefix (before.log ++ step.given.log) text) all.log (prefix_behind before.log step.given.log more.log step.how.log);
-            err = err;
-          },
-        );
-      }
+-- what was told is of a fair run, and this is given of it
+told_so : (manner : Manner) (d : Description) (q : Query) (ask : Ask) (given : List Told) → WrittenLogsAreAccepted → SpentBudgetsAreSmall → (run : Run) (told : List Told) (more : Given)
+    (ends : Option Status) → IsFairRun d q ask run → HasGoodLines d q ask.after told → told ≡ events_of (first_horizon q ask.after) run →
+    IsAll manner d (events_of (first_horizon q ask.after) run) (so_far manner d given) more → EndsSo (task_of d q ask) run more.err ends →
+    IsTold manner (task_of d q ask) run (record { given = joined (so_far manner d given) more; begun = false; ends = ends })
+told_so manner d q ask given law small run told more ends fair good is all how =
+    let lines = subst (λ (l : List Told). HasGoodLines d q ask.after l) is good in
+    record {
+      fair = fair;
+      out = all.out;
+      log = all.log;
+      limits = keeps_limits d q ask (events_of (first_horizon q ask.after) run) lines;
+      accepted = logs_accepted d q ask run law fair lines;
+      spent = budget_small d q ask small run fair lines;
+      ends = how;
+    }
 
 module _ (d : Description) (q : Query) (given : List Told) (old new : Teller) (session next : SessionView) where
   abbrev Going : Moment → Moment → Result (Option Status) Stop → Type 0
@@ -172,12 +133,24 @@ module _ (d : Description) (q : Query) (given : List Told) (old new : Teller) (s
       told_here (Ok (Some status)) step told kept =
           let ending = ending_told event status told in
           let last = subst (λ (e : Event). given ++ with_row e next.row ∷ [] ≡ events_of (first_horizon q session.ask.after) fair.0) ending.1 fair.2 in
-          ends (manner_of old) d q session.ask given x y law small fair.0 (given ++ one ∷ []) more status fair.1 good fair.2 all
-          (inl (ending.0, ends_so (first_horizon q session.ask.after) fair.0 given ending.0 last, ap (λ (g : Given). g.err) joins, ending.2))
-          (moves_done _ x y (Some status) status (given_all _ x y (Some status) step))
+          record {
+            run = fair.0;
+            given = more;
+            ends = Some status;
+            told = told_so (manner_of old) d q session.ask given law small fair.0 (given ++ one ∷ []) more (Some status) fair.1 good fair.2 all
+                (inl (ending.0, ends_so (first_horizon q session.ask.after) fair.0 given ending.0 last, ap (λ (g : Given). g.err) joins, ending.2));
+            step = step_of more x y status (moves_done more x y (Some status) status (given_all more x y (Some status) step));
+            ended = refl;
+          }
       told_here (Err stop) step status kept =
-          stops_within (manner_of old) d q session.ask given x y fair.0 (given ++ one ∷ []) more stop fair.1 good fair.2 all step
-          (inl (front_of_none step.given.err (subst (λ (text : List ℕ). IsPrefix step.given.err text) (ap (λ (g : Given). g.err) joins) step.how.err)))
+          record {
+            run = fair.0;
+            given = more;
+            ends = None;
+            told = told_so (manner_of old) d q session.ask given law small fair.0 (given ++ one ∷ []) more None fair.1 good fair.2 all (ap (λ (g : Given). g.err) joins);
+            step = record { given = step.given; moves = moves_again step.given x y stop stop refl step.moves; how = step.how };
+            ended = tt;
+          }
 
       -- the next event was told, or a front of it
       pub event_told : (row : List ℕ) (r : Result (Option Status) Stop) → row ≡ next.row → Step (texts_behind (manner_of old) d given (with_row event row)) x y r →
@@ -190,29 +163,67 @@ module _ (d : Description) (q : Query) (given : List Told) (old new : Teller) (s
         IsAll (manner_of old) d (events_of (first_horizon q session.ask.after) at.run) (so_far (manner_of old) d given) (only_err (refusal_text refusal []))
     limit_all refusal at = all_err (manner_of old) d given (events_of (first_horizon q session.ask.after) at.run) (refusal_text refusal []) at.given_is
 
+    limit_so : (refusal : Refusal) → (at : StopsAt d q session.ask given refusal) → IsTold (manner_of old) (task_of d q session.ask) at.run
+        (record { given = joined (so_far (manner_of old) d given) (only_err (refusal_text refusal [])); begun = false; ends = Some statuses.Refused })
+    limit_so refusal at = told_so (manner_of old) d q session.ask given law small at.run given (only_err (refusal_text refusal [])) (Some statuses.Refused) at.fair lines at.given_is
+        (limit_all refusal at) (inr (refusal, at.still, at.passes, refl, refl))
+
     -- a limit was told, or a front of its line
     pub limit_told : (refusal : Refusal) (x y : Moment) (r : Result (Option Status) Stop) → StopsAt d q session.ask given refusal →
         Step (only_err (refusal_text refusal [])) x y r → IfOk r (λ status. status ≡ Some statuses.Refused) → Going x y r
     limit_told refusal x y (Ok None) at step status = absurd cc
-    limit_told refusal x y (Ok (Some status)) at step told =
-        ends (manner_of old) d q session.ask given x y law small at.run given (only_err (refusal_text refusal [])) status at.fair lines at.given_is (limit_all refusal at)
-        (inr (refusal, at.still, at.passes, refl, cc)) (moves_done (only_err (refusal_text refusal [])) x y (Some status) status (given_all _ x y (Some status) step))
-    limit_told refusal x y (Err stop) at step status =
-        stops_within (manner_of old) d q session.ask given x y at.run given (only_err (refusal_text refusal [])) stop at.fair lines at.given_is (limit_all refusal at) step
-        (inr (refusal, at.passes, step.how.err))
+    limit_told refusal x y (Ok (Some status)) at step told = record {
+      run = at.run;
+      given = only_err (refusal_text refusal []);
+      ends = Some statuses.Refused;
+      told = limit_so refusal at;
+      step = step_of (only_err (refusal_text refusal [])) x y status (moves_done _ x y (Some status) status (given_all _ x y (Some status) step));
+      ended = sym told;
+    }
+    limit_told refusal x y (Err stop) at step status = record {
+      run = at.run;
+      given = only_err (refusal_text refusal []);
+      ends = Some statuses.Refused;
+      told = limit_so refusal at;
+      step = record { given = step.given; moves = moves_again step.given x y stop stop refl step.moves; how = step.how };
+      ended = tt;
+    }
 
-  -- memory was wanting
-  pub memory_told : (m : Moment) → HasGoodLines d q session.ask.after given → After d q session given → Going m m (Err stops.OutOfMemory)
-  memory_told m lines after =
-      let lacking : Result (Option Status) Stop = Err stops.OutOfMemory in
-      let none : Step {X = Option Status} nothing m m lacking = record { given = nothing; moves = moves_nothing m lacking refl; how = fronts-nothing nothing } in
-      stops_within (manner_of old) d q session.ask given m m after.0 given nothing stops.OutOfMemory after.1 lines after.2
-      (all_err (manner_of old) d given (events_of (first_horizon q session.ask.after) after.0) [] after.2) none (inl refl)
+    -- memory was wanting
+    pub memory_told : (m : Moment) → After d q session given → Going m m (Err stops.OutOfMemory)
+    memory_told m after =
+        let lacking : Result Status Stop = Err stops.OutOfMemory in
+        record {
+          run = after.0;
+          given = nothing;
+          ends = None;
+          told = told_so (manner_of old) d q session.ask given law small after.0 given nothing None after.1 lines after.2
+              (all_err (manner_of old) d given (events_of (first_horizon q session.ask.after) after.0) [] after.2) refl;
+          step = step_nothing nothing m lacking refl;
+          ended = tt;
+        }
+
+-- ---- behind what was given
+
+joined_assoc : (a b c : Given) → joined (joined a b) c ≡ joined a (joined b c)
+joined_assoc a b c = λ i. record { out = append_assoc a.out b.out c.out i; err = append_assoc a.err b.err c.err i; log = append_assoc a.log b.log c.log i }
+
+-- a step, and the search behind it
+pub search_behind : {X : Type 0} (manner : Manner) (task : Task) (before more : Given) (x y z : Moment) (r : Result X Stop) (v : X) (s : Result Status Stop) → Step more x y r → r ≡ Ok v →
+    Searches manner task (joined before more) y z s → Searches manner task before x z s
+search_behind manner task before more x y z r v s step is search = record {
+  run = search.run;
+  given = joined more search.given;
+  ends = search.ends;
+  told = subst (λ (g : Given). IsTold manner task search.run (record { given = g; begun = false; ends = search.ends })) (joined_assoc before more search.given) search.told;
+  step = step_then more search.given x y z r v s step is search.step;
+  ended = search.ended;
+}
 
 -- ---- the loop
 
 none_given : (manner : Manner) (d : Description) → nothing ≡ texts_of manner d []
-none_given Whole d = refl
+none_given OneByOne d = refl
 none_given (Summed size) d = refl
 
 module _ (described : Described) (manner : Manner) (entry : SessionView) where
@@ -271,81 +282,66 @@ module _ (described : Described) (manner : Manner) (entry : SessionView) where
           };
     }
 
-    headed : (d : Description) (q : Query) (given : List Told) (s : Result Status Stop) → Moves {X = Unit {0}} (texts_of manner d given) x y (Ok tt) →
-        Finishes manner (task_of d q session.ask) (so_far manner d given) y z s → Searches manner (task_of d q entry.ask) header x z s
-    headed d q given s moves ends = record {
-      given = joined (texts_of manner d given) here.given;
-      moves = moves_both (texts_of manner d given) here.given x y z tt s moves here.moves;
-      how = subst (λ (g : Given). MatchResult s (λ status. (run : Run) × IsTold manner (task_of d q entry.ask) run g status) (λ _. (run : Run) × IsTelling manner (task_of d q entry.ask) run g))
-          (headed_as (texts_of manner d given) here.given) here.how;
-    }
-      where
-        here : Finishes manner (task_of d q entry.ask) (so_far manner d given) y z s
-        here = subst (λ (a : Ask). Finishes manner (task_of d q a) (so_far manner d given) y z s) listing.same.ask ends
-
-        headed_as : (a b : Given) → joined (behind header a) b ≡ behind header (joined a b)
-        headed_as a b = λ i. record { out = a.out ++ b.out; err = a.err ++ b.err; log = append_assoc header a.log b.log i }
+    -- the search as a whole, from its last part
+    whole_of : (d : Description) (q : Query) (given : List Told) (s : Result Status Stop) → Moves {X = Unit {0}} (texts_of manner d given) x y (Ok tt) →
+        Searches manner (task_of d q session.ask) (so_far manner d given) y z s → Searches manner (task_of d q entry.ask) (only_log header) x z s
+    whole_of d q given s moves ends =
+        search_behind manner (task_of d q entry.ask) (only_log header) (texts_of manner d given) x y z (Ok tt) tt s (step_of (texts_of manner d given) x y tt moves) refl
+        (subst (λ (a : Ask). Searches manner (task_of d q a) (so_far manner d given) y z s) listing.same.ask ends)
 
     module _ (d : Description) (q : Query) (is_described : IsDescriptionOf described d) (is_of : IsSessionOf entry d q) (after : After d q entry []) where
       abbrev before : ListedSoFar manner d q old session x y
       before = listing.so_far d q is_described is_of after
 
-      pub listing_ends : (status : Status) → r ≡ Ok (Some status) → Searches manner (task_of d q entry.ask) header x z (Ok status)
+      pub listing_ends : (status : Status) → r ≡ Ok (Some status) → Searches manner (task_of d q entry.ask) (only_log header) x z (Ok status)
       listing_ends status is =
-          headed d q before.given (Ok status) before.moves (gone (Ok (Some status)) is d q before.given is_described before.is before.after before.lines before.keeps)
+          whole_of d q before.given (Ok status) before.moves (gone (Ok (Some status)) is d q before.given is_described before.is before.after before.lines before.keeps)
 
-      pub listing_stops : (stop : Stop) (s : Result Status Stop) → r ≡ Err stop → IsErrAnd s (λ e. e ≡ stop) → Searches manner (task_of d q entry.ask) header x z s
+      pub listing_stops : (stop : Stop) (s : Result Status Stop) → r ≡ Err stop → IsErrAnd s (λ e. e ≡ stop) → Searches manner (task_of d q entry.ask) (only_log header) x z s
       listing_stops stop (Ok status) is same = absurd same
       listing_stops stop (Err error) is same =
-          headed d q before.given (Err error) before.moves
+          whole_of d q before.given (Err error) before.moves
           (gone (Err error) (is ∙ ap Err (sym same)) d q before.given is_described before.is before.after before.lines before.keeps)
 
 -- ---- from the header on
 
-module _ (manner : Manner) (task : Task) (x y z : Moment) where
-  -- the header was given
-  pub headed_search : {X : Type 0} (r : Result X Stop) (v : X) (s : Result Status Stop) → Step (given_to outputs.Log header) x y r → r ≡ Ok v →
-      Searches manner task header y z s → Searches manner task [] x z s
-  headed_search {X = X} r v s step is search =
-      let done : Step (given_to outputs.Log header) x y (Ok v) = subst (λ (t : Result X Stop). Step (given_to outputs.Log header) x y t) is step in
-      record {
-        given = joined (given_to outputs.Log header) search.given;
-        moves = moves_both (given_to outputs.Log header) search.given x y z v s (given_all (given_to outputs.Log header) x y v done) search.moves;
-        how = search.how;
-      }
-
 module _ (manner : Manner) (task : Task) (x y : Moment) (fair : IsFairRun task.description task.query task.ask no_run) where
-  -- no more than a front of the header was given
-  front_telling : (given : Given) → AreFronts given (given_to outputs.Log header) → IsTelling manner task no_run (behind [] given)
-  front_telling given fronts = record {
+  -- a run that has not begun, of which the header is given
+  told_none : IsTold manner task no_run (record { given = joined nothing (given_to outputs.Log header); begun = false; ends = None })
+  told_none = record {
     fair = fair;
+    out = ap (λ (g : Given). g.out) (none_given manner task.description);
+    log = sym (append-nil header);
     limits = keeps_limits task.description task.query task.ask [] (no_lines task.description task.query task.ask.after);
-    out = subst (λ (text : List ℕ). IsPrefix given.out text) (ap (λ (g : Given). g.out) (none_given manner task.description)) fronts.out;
-    log = subst (λ (text : List ℕ). IsPrefix given.log text) (sym (append-nil header)) fronts.log;
-    err = inl (front_of_none given.err fronts.err);
+    accepted = record { reported = λ some. absurd (omega arith); complete = λ horizon listed is. absurd cc };
+    spent = λ at listed next opens is. absurd cc;
+    ends = refl;
   }
 
   pub header_cut : {X : Type 0} (r : Result X Stop) (stop : Stop) (s : Result Status Stop) → Step (given_to outputs.Log header) x y r → r ≡ Err stop →
-      IsErrAnd s (λ e. e ≡ stop) → Searches manner task [] x y s
+      IsErrAnd s (λ e. e ≡ stop) → Searches manner task nothing x y s
   header_cut r stop (Ok status) step is same = absurd same
-  header_cut r stop (Err error) step is same =
-      let cut = step_again (given_to outputs.Log header) x y r stop (Err error) step is same in
-      record { given = cut.given; moves = cut.moves; how = (no_run, front_telling cut.given cut.how) }
+  header_cut r stop (Err error) step is same = record {
+    run = no_run;
+    given = given_to outputs.Log header;
+    ends = None;
+    told = told_none;
+    step = step_again (given_to outputs.Log header) x y r stop (Err error) step is same;
+    ended = tt;
+  }
 
   pub header_lacks : {X : Type 0} (r : Result X Stop) (v : X) (s : Result Status Stop) → Step (given_to outputs.Log header) x y r → r ≡ Ok v →
-      IsErrAnd s (λ e. e ≡ stops.OutOfMemory) → Searches manner task [] x y s
+      IsErrAnd s (λ e. e ≡ stops.OutOfMemory) → Searches manner task nothing x y s
   header_lacks r v (Ok status) step is lacks = absurd lacks
-  header_lacks {X = X} r v (Err error) step is lacks =
-      let done : Step (given_to outputs.Log header) x y (Ok v) = subst (λ (t : Result X Stop). Step (given_to outputs.Log header) x y t) is step in
-      let both = moves_both (given_to outputs.Log header) nothing x y y v (Err error) (given_all (given_to outputs.Log header) x y v done) (moves_nothing y (Err error) lacks) in
-      record {
-        given = joined (given_to outputs.Log header) nothing;
-        moves = both;
-        how = (no_run, front_telling (joined (given_to outputs.Log header) nothing) (record { out = ([], refl); err = ([], refl); log = whole }));
-      }
-    where
-      whole : IsPrefix (header ++ []) header
-      whole = ([], sym (append-nil (header ++ []) ∙ append-nil header))
+  header_lacks r v (Err error) step is lacks = record {
+    run = no_run;
+    given = given_to outputs.Log header;
+    ends = None;
+    told = told_none;
+    step = step_as (joined (given_to outputs.Log header) nothing) (given_to outputs.Log header) x y (Err error) (joined-nothing (given_to outputs.Log header))
+        (step_then (given_to outputs.Log header) nothing x y y r v (Err error) step is (step_nothing nothing y (Err error) lacks));
+    ended = tt;
+  }
 
 -- ---- the row of an event that comes
 
@@ -364,6 +360,6 @@ session_of session signature laws query d q signature_is laws_is query_is of = r
 }
 
 -- the same search, asked by what the session holds
-pub search_as : (manner : Manner) (d : Description) (q : Query) (a b : Ask) (head : List ℕ) (x y : Moment) (r : Result Status Stop) → a ≡ b → Searches manner (task_of d q a) head x y r →
+pub search_as : (manner : Manner) (d : Description) (q : Query) (a b : Ask) (head : Given) (x y : Moment) (r : Result Status Stop) → a ≡ b → Searches manner (task_of d q a) head x y r →
     Searches manner (task_of d q b) head x y r
 search_as manner d q a b head x y r same search = subst (λ (ask : Ask). Searches manner (task_of d q ask) head x y r) same search

@@ -1,6 +1,6 @@
 -- What a run leaves behind, from its steps.
-use Rattle.std.proofs.Common.{◌≡◌, ◌∙◌, refl, sym, ap, subst, ℕ, ◌≤◌, Bool, true, false, List, [], ◌∷◌, ◌++◌, Option, Some, None, Result, Ok, Err, IfSome, IfOk, MatchResult, inl, inr, option_map, append-nil, length, arith}
-use Rattle.std.specs.Prelude.{◌⊎◌, is_some, IsErrAnd, IsErrOf, IsSomeAnd, ◌||◌}
+use Rattle.std.proofs.Common.{◌≡◌, ◌∙◌, refl, sym, ap, subst, ℕ, ◌≤◌, Bool, true, false, List, [], ◌++◌, Option, Some, None, Result, Ok, Err, IfSome, IfOk, MatchResult, inl, inr, option_map, append-nil, length, arith}
+use Rattle.std.specs.Prelude.{◌⊎◌, IsNone, is_some, IsErrAnd, IsErrOf, IsSomeAnd, ◌||◌}
 use Rattle.std.specs.Borrow.{Bor}
 use Rattle.cc_defs.specs.declared.event.Ending.{Ending}
 use Rattle.cc_defs.specs.declared.event.Ending.TheVariants as endings
@@ -10,7 +10,7 @@ use Rattle.cc_defs.specs.declared.refusal.LimitAt.TheVariants as limits
 use Rattle.cc_defs.specs.declared.refusal.Refusal.{Refusal}
 use Rattle.cc_defs.specs.Limits.{limit_number}
 use Rattle.cc_defs.specs.Logs.{IsVerdict}
-use Rattle.cc_describe.specs.Describing.{AreFirstNames, AreToOpen}
+use Rattle.cc_describe.specs.Describing.{AreFirstNames}
 use Rattle.cc_describe.specs.Places.{Files, HasPlaces}
 use Rattle.cc_ports.specs.Calls.{Begins as BeginsLog, Call, names_begun, names_opened, with_call, with_calls}
 use Rattle.cc_ports.specs.Contents.{Contents, Rose, IsPrefix, after_create, with_rest}
@@ -22,11 +22,18 @@ use Rattle.cc_run.specs.declared.status.Status.{Status}
 use Rattle.cc_run.specs.declared.status.Status.TheVariants as statuses
 use Rattle.cc_run.specs.declared.status.Stop.{Stop}
 use Rattle.cc_run.specs.declared.status.Stop.TheVariants as stops
-use Rattle.cc_run.specs.Answers.{Answered, Answers, AreFronts, CheckedPlan, Counts, Ended, GaveSoFar, Given, IsFresh, IsTold, Left, Lists, Manner, NamesLog, Plan, RefusesRequest, RoseTwice, counts, left_in, nothing, only_err, only_out, refusal_text, status_of, verdict_status}
-use Rattle.cc_run.specs.Names.{AreAsked, BeginsAsked, IsAnswer, IsEndStatus, MayEndWith, OpensAsked, log_asked}
-use Rattle.cc_run.specs.Stops.{Begins, Called, IsCalm, IsTelling, Leaves, Moment, Prints, PrintsAsked, Searches, Step, TellsStop, adding, cut_status, given_to, outcome, stop_line, stop_status}
-use Rattle.cc_run.specs.Tasks.{Task, request_of}
-use Rattle.cc_defs.specs.Runs.{Run, optional}
+use Rattle.cc_run.specs.Answers.{Answered, Answers, Counts, Ended, GaveSoFar, Gives, IsFresh, RefusesWords, RoseTwice, counts, left_in, promise_of}
+use Rattle.cc_run.specs.Modes.Checking.{Checks, MayEndChecking, NamesLog, verdict_status}
+use Rattle.cc_run.specs.Modes.Listing.{Lists}
+use Rattle.cc_run.specs.Modes.Making.{Makes, MayEndMaking}
+use Rattle.cc_run.specs.Names.{AreAsked, BeginsAsked, IsAnswer, MayEndWith, OpensAsked, log_asked}
+use Rattle.cc_run.specs.Promises.{IsEndStatus}
+use Rattle.cc_run.specs.Refusing.{refusal_text}
+use Rattle.cc_run.specs.Searching.{EndsSo, IsTold, Manner, OneByOne, Summed, status_of}
+use Rattle.cc_run.specs.Stops.{Asks, Begins, Called, IsCalm, Leaves, Moment, Prints, PrintsAsked, Searches, Step, TellsStop, adding, cut_status, given_to, outcome, stop_line, stop_status}
+use Rattle.cc_run.specs.Tasks.{IsTask, Task, made_files, made_named, named_by, request_of}
+use Rattle.cc_run.specs.Wholes.{AreFronts, Given, Left, Whole, nothing, only_err, only_out}
+use Rattle.cc_defs.specs.Runs.{Claim, Conditions, Failure, Histories, Horizon, IsFairRun, IsTrueOf, MayEnd, MayEndWithin, Run, first_horizon, horizon_at, last_horizon, optional, rows_of}
 use Rattle.cc_words.specs.Requests.{Checking, Listing, Request, ToCheck, ToList, ToMake}
 use Rattle.cc_words.specs.Views.{plain_text}
 use Rattle.cc_words.specs.Words.{Text}
@@ -87,43 +94,30 @@ known : (o : Option Contents) (P Q : Contents → Type 0) → ((c : Contents) �
 known None P Q f h = tt
 known (Some c) P Q f h = f c h
 
--- ---- a refusal
+-- ---- a whole that is given
 
-ends_refused : (request : Option Request) (r : Result Status Stop) → IfOk r (λ status. status ≡ statuses.Refused) → IfOk r (MayEndWith request)
-ends_refused request (Ok status) is = subst (λ (s : Status). MayEndWith request s) (sym is) (may_be_refused request)
-ends_refused request (Err stop) is = tt
-
-refused_answers_nothing : (r : Result Status Stop) → IfOk r (λ status. status ≡ statuses.Refused) → IsAnswer (outcome r) → ⊥
-refused_answers_nothing (Ok status) is answer = subst IsAnswer is answer
-refused_answers_nothing (Err stop) is answer = stop_answers_nothing stop answer
-
-refusal_comes : (files : Files) (words : List Text) (refusal : Refusal) (file : Text) (given : Given) (begun : Bool) (r : Result Status Stop) →
-    RefusesRequest files (request_of words) refusal file → begun ≡ false →
-    MatchResult r (λ _. given ≡ only_err (refusal_text refusal file)) (λ _. AreFronts given (only_err (refusal_text refusal file))) →
-    IfOk r (λ status. status ≡ statuses.Refused) → Comes files words (left given begun) r
-refusal_comes files words refusal file given begun (Ok status) refused none how is = record {
-  plan = record { given = only_err (refusal_text refusal file); begun = false; status = statuses.Refused };
-  planned = inl (record { refusal = refusal; file = file; refused = refused; given = refl; begun = refl; status = refl });
-  given = how;
-  begun = none;
-  status_planned = is;
+-- what a step gave, which gives a whole or a front of it
+whole_comes : (files : Files) (words : List Text) (whole : Whole) (given : Given) (begun : Bool) (r : Result Status Stop) → Gives files (request_of words) whole → begun ≡ whole.begun →
+    MatchResult r (λ _. given ≡ whole.given) (λ _. AreFronts given whole.given) → IfOk r (λ status. whole.ends ≡ Some status) → Comes files words (left given begun) r
+whole_comes files words whole given begun (Ok status) gives same how ends = record {
+  whole = whole;
+  gives = gives;
+  ends = ends;
+  left_is = λ i. record { given = how i; begun = same i };
 }
-refusal_comes files words refusal file given begun (Err stop) refused none how is = inr (inl (record {
-  plan = record { given = only_err (refusal_text refusal file); begun = false; status = statuses.Refused };
-  planned = record { refusal = refusal; file = file; refused = refused; given = refl; begun = refl; status = refl };
-  fronts = how;
-  begun = none;
-}))
+whole_comes files words whole given begun (Err stop) gives same how ends =
+    inr (record { whole = whole; gives = gives; front = record { fronts = how; begun = same } })
 
-pub prints_refusal : (words : List Text) (begins : Bool) (opens : List Text) (refusal : Refusal) (file : Text) (x z : Moment) (r : Result Status Stop) →
-    IfSome x.told (λ c. RefusesRequest c.files (request_of words) refusal file) → Step (only_err (refusal_text refusal file)) x z r →
-    IfOk r (λ status. status ≡ statuses.Refused) → Prints words begins opens x z r
-prints_refusal words begins opens refusal file x z r refused step is = record {
+-- a run that gives a whole, or a front of it where it stops
+pub prints_whole : (words : List Text) (begins : Bool) (opens : List Text) (whole : Whole) (x z : Moment) (r : Result Status Stop) →
+    IfSome x.told (λ c. Gives c.files (request_of words) whole) → whole.begun ≡ false → Step whole.given x z r → IfOk r (λ status. whole.ends ≡ Some status) →
+    IfOk r (MayEndWith (request_of words)) → Asks opens (log_asked (request_of words)) x z r → Prints words begins opens x z r
+prints_whole words begins opens whole x z r gives unbegun step ended may asks = record {
   told = told_given words step.given x.told z.told x.begun z.begun r step.moves.told
-      (known x.told (λ c. RefusesRequest c.files (request_of words) refusal file) (λ c. x.begun ≡ false → Comes c.files words (left step.given z.begun) r)
-      (λ c refused none. refusal_comes c.files words refusal file step.given z.begun r refused (step.moves.begun ∙ none) step.how is) refused);
-  ends = ends_refused (request_of words) r is;
-  asks = asks_nothing opens (log_asked (request_of words)) x z r step.moves.called (refused_answers_nothing r is);
+      (known x.told (λ c. Gives c.files (request_of words) whole) (λ c. x.begun ≡ false → Comes c.files words (left step.given z.begun) r)
+      (λ c gives none. whole_comes c.files words whole step.given z.begun r gives (step.moves.begun ∙ (none ∙ sym unbegun)) step.how ended) gives);
+  ends = may;
+  asks = asks;
   calm = step.moves.calm;
   begun = λ _. step.moves.begun;
   reads = step.moves.reads;
@@ -131,6 +125,43 @@ prints_refusal words begins opens refusal file x z r refused step is = record {
   read_fault = λ fault. absurd (step.moves.no_read_fault fault);
   write_fault = step.moves.write_fault;
 }
+
+-- ---- a refusal
+
+-- what is refused of a request
+abbrev pub RefusesRequest : Files → Option Request → Refusal → Text → Type 0
+RefusesRequest files None refusal file = RefusesWords refusal file
+RefusesRequest files (Some request) refusal file = (promise_of request).Refuses files refusal file
+
+abbrev refusal_whole : Refusal → Text → Whole
+refusal_whole refusal file = record { given = only_err (refusal_text refusal file); begun = false; ends = Some statuses.Refused }
+
+refusal_given : (files : Files) (request : Option Request) (refusal : Refusal) (file : Text) → RefusesRequest files request refusal file → Gives files request (refusal_whole refusal file)
+refusal_given files None refusal file refused = record { refusal = refusal; file = file; refused = refused; given = refl; begun = refl; ends = refl }
+refusal_given files (Some request) refusal file refused =
+    inl (record { refusal = refusal; file = file; refused = refused; given = refl; begun = refl; ends = refl })
+
+ends_refused : (request : Option Request) (r : Result Status Stop) → IfOk r (λ status. status ≡ statuses.Refused) → IfOk r (MayEndWith request)
+ends_refused request (Ok status) is = subst (λ (s : Status). MayEndWith request s) (sym is) (may_be_refused request)
+ends_refused request (Err stop) is = tt
+
+refused_ends : (r : Result Status Stop) → IfOk r (λ status. status ≡ statuses.Refused) → IfOk r (λ status. Some statuses.Refused ≡ Some status)
+refused_ends (Ok status) is = ap Some (sym is)
+refused_ends (Err stop) is = tt
+
+refused_answers_nothing : (r : Result Status Stop) → IfOk r (λ status. status ≡ statuses.Refused) → IsAnswer (outcome r) → ⊥
+refused_answers_nothing (Ok status) is answer = subst IsAnswer is answer
+refused_answers_nothing (Err stop) is answer = stop_answers_nothing stop answer
+
+pub prints_refusal : (words : List Text) (begins : Bool) (opens : List Text) (refusal : Refusal) (file : Text) (x z : Moment) (r : Result Status Stop) →
+    IfSome x.told (λ c. RefusesRequest c.files (request_of words) refusal file) → Step (only_err (refusal_text refusal file)) x z r →
+    IfOk r (λ status. status ≡ statuses.Refused) → Prints words begins opens x z r
+prints_refusal words begins opens refusal file x z r refused step is =
+    prints_whole words begins opens (refusal_whole refusal file) x z r
+    (known x.told (λ c. RefusesRequest c.files (request_of words) refusal file) (λ c. Gives c.files (request_of words) (refusal_whole refusal file))
+    (λ c is_refused. refusal_given c.files (request_of words) refusal file is_refused) refused)
+    refl step (refused_ends r is) (ends_refused (request_of words) r is)
+    (asks_nothing opens (log_asked (request_of words)) x z r step.moves.called (refused_answers_nothing r is))
 
 -- ---- a verdict
 
@@ -150,71 +181,50 @@ pub record IsSaid (task : Task) (bytes : List ℕ) (verdict : LogVerdict) : Type
   pub few : length bytes ≤ limit_number limits.LogBytes
   pub judged : IsVerdict (subject_of task.description task.query task.ask.after) bytes verdict
   pub within : IsVerdictWithin task.description task.query task.ask.after bytes verdict
-  pub whole : BlocksHistories task.description task.query task.ask.after bytes verdict
+  pub blocks : BlocksHistories task.description task.query task.ask.after bytes verdict
 
-abbrev verdict_plan : LogVerdict → Plan
-verdict_plan verdict = record { given = only_out (verdict_line verdict); begun = false; status = verdict_status verdict }
+abbrev verdict_whole : LogVerdict → Whole
+verdict_whole verdict = record { given = only_out (verdict_line verdict); begun = false; ends = Some (verdict_status verdict) }
 
-verdict_planned : (files : Files) (words : List Text) (checking : Checking) (task : Task) (bytes : List ℕ) (verdict : LogVerdict) →
-    request_of words ≡ Some (ToCheck checking) → NamesLog files checking task bytes → IsSaid task bytes verdict → CheckedPlan files words (verdict_plan verdict)
-verdict_planned files words checking task bytes verdict asked named said = record {
-  checking = checking;
-  asked = asked;
-  task = task;
-  bytes = bytes;
-  named = named;
-  few = said.few;
-  verdict = verdict;
-  judged = said.judged;
-  within = said.within;
-  whole = said.whole;
-  given = refl;
-  begun = refl;
-  status = refl;
-}
+verdict_given : (files : Files) (words : List Text) (checking : Checking) (task : Task) (bytes : List ℕ) (verdict : LogVerdict) →
+    request_of words ≡ Some (ToCheck checking) → NamesLog files checking task bytes → IsSaid task bytes verdict → Gives files (request_of words) (verdict_whole verdict)
+verdict_given files words checking task bytes verdict asked named said =
+    subst (λ (o : Option Request). Gives files o (verdict_whole verdict)) (sym asked) (inr checks)
+  where
+    checks : Checks checking files (verdict_whole verdict)
+    checks = record {
+      task = task;
+      bytes = bytes;
+      named = named;
+      few = said.few;
+      verdict = verdict;
+      judged = said.judged;
+      within = said.within;
+      blocks = said.blocks;
+      given = refl;
+      begun = refl;
+      ends = refl;
+    }
 
-verdict_comes : (files : Files) (words : List Text) (verdict : LogVerdict) (given : Given) (begun : Bool) (r : Result Status Stop) →
-    CheckedPlan files words (verdict_plan verdict) → begun ≡ false →
-    MatchResult r (λ _. given ≡ only_out (verdict_line verdict)) (λ _. AreFronts given (only_out (verdict_line verdict))) →
-    IfOk r (λ status. status ≡ verdict_status verdict) → Comes files words (left given begun) r
-verdict_comes files words verdict given begun (Ok status) planned none how is = record {
-  plan = verdict_plan verdict;
-  planned = inr (inr planned);
-  given = how;
-  begun = none;
-  status_planned = is;
-}
-verdict_comes files words verdict given begun (Err stop) planned none how is = inr (inr (inr (record {
-  plan = verdict_plan verdict;
-  planned = planned;
-  fronts = how;
-  begun = none;
-})))
+verdict_ended : (verdict : LogVerdict) (r : Result Status Stop) → IfOk r (λ status. status ≡ verdict_status verdict) → IfOk r (λ status. Some (verdict_status verdict) ≡ Some status)
+verdict_ended verdict (Ok status) is = ap Some (sym is)
+verdict_ended verdict (Err stop) is = tt
 
 pub prints_verdict : (words : List Text) (begins : Bool) (checking : Checking) (task : Task) (bytes : List ℕ) (verdict : LogVerdict) (x z : Moment) (r : Result Status Stop) →
     request_of words ≡ Some (ToCheck checking) → IfSome x.told (λ c. NamesLog c.files checking task bytes) → IsSaid task bytes verdict →
     Step (only_out (verdict_line verdict)) x z r → IfOk r (λ status. status ≡ verdict_status verdict) → Prints words begins [] x z r
-prints_verdict words begins checking task bytes verdict x z r asked named said step is = record {
-  told = told_given words step.given x.told z.told x.begun z.begun r step.moves.told
-      (known x.told (λ c. NamesLog c.files checking task bytes) (λ c. x.begun ≡ false → Comes c.files words (left step.given z.begun) r)
-      (λ c log none. verdict_comes c.files words verdict step.given z.begun r (verdict_planned c.files words checking task bytes verdict asked log said)
-      (step.moves.begun ∙ none) step.how is) named);
-  ends = ends_verdict (request_of words) checking verdict r asked is;
-  asks = record {
-    opened = [];
-    begun = [];
-    called = step.moves.called;
-    opened_first = first_none [];
-    begun_first = first_none (log_asked (request_of words));
-    whole = λ _. (refl, sym (ap log_asked asked));
-  };
-  calm = step.moves.calm;
-  begun = λ _. step.moves.begun;
-  reads = step.moves.reads;
-  writes = step.moves.writes;
-  read_fault = λ fault. absurd (step.moves.no_read_fault fault);
-  write_fault = step.moves.write_fault;
-}
+prints_verdict words begins checking task bytes verdict x z r asked named said step is =
+    prints_whole words begins [] (verdict_whole verdict) x z r
+    (known x.told (λ c. NamesLog c.files checking task bytes) (λ c. Gives c.files (request_of words) (verdict_whole verdict))
+    (λ c log. verdict_given c.files words checking task bytes verdict asked log said) named)
+    refl step (verdict_ended verdict r is) (ends_verdict (request_of words) checking verdict r asked is) (record {
+      opened = [];
+      begun = [];
+      called = step.moves.called;
+      opened_first = first_none [];
+      begun_first = first_none (log_asked (request_of words));
+      whole = λ _. (refl, sym (ap log_asked asked));
+    })
 
 -- ---- other words
 
@@ -231,31 +241,15 @@ prints_unopened words begins x z r asked prints = record { opens = []; asked = o
     of None = tt
     of (Some c) = asked c.files
 
--- a run that has the files of a description to open
-pub prints_listing : (words : List Text) (begins : Bool) (listing : Listing) (opens : List Text) (x z : Moment) (r : Result Status Stop) →
-    request_of words ≡ Some (ToList listing) → IfSome x.told (λ before. AreToOpen before.files listing.file opens) → Prints words begins opens x z r →
-    PrintsAsked words begins x z r
-prints_listing words begins listing opens x z r asked are prints = record {
+-- a run that has these files to open
+pub prints_opened : (words : List Text) (begins : Bool) (request : Request) (opens : List Text) (x z : Moment) (r : Result Status Stop) → request_of words ≡ Some request →
+    IfSome x.told (λ before. (promise_of request).Opens before.files opens) → Prints words begins opens x z r → PrintsAsked words begins x z r
+prints_opened words begins request opens x z r asked are prints = record {
   opens = opens;
-  asked = known x.told (λ before. AreToOpen before.files listing.file opens) (λ before. AreAsked before.files (request_of words) opens)
+  asked = known x.told (λ before. (promise_of request).Opens before.files opens) (λ before. AreAsked before.files (request_of words) opens)
       (λ before is. subst (λ (o : Option Request). AreAsked before.files o opens) (sym asked) is) are;
   prints = prints;
 }
-
--- and a log behind them
-pub prints_checking : (words : List Text) (begins : Bool) (checking : Checking) (opens : List Text) (x z : Moment) (r : Result Status Stop) →
-    request_of words ≡ Some (ToCheck checking) → IfSome x.told (λ before. AreToOpen before.files checking.file opens) →
-    Prints words begins (opens ++ checking.log ∷ []) x z r → PrintsAsked words begins x z r
-prints_checking words begins checking opens x z r asked are prints = record {
-  opens = opens ++ checking.log ∷ [];
-  asked = known x.told (λ before. AreToOpen before.files checking.file opens)
-      (λ before. AreAsked before.files (request_of words) (opens ++ checking.log ∷ []))
-      (λ before is. subst (λ (o : Option Request). AreAsked before.files o (opens ++ checking.log ∷ [])) (sym asked) (opens, is, refl)) are;
-  prints = prints;
-}
-
-pub prints_opening : (words : List Text) (begins : Bool) (a b : List Text) (x z : Moment) (r : Result Status Stop) → a ≡ b → Prints words begins a x z r → Prints words begins b x z r
-prints_opening words begins a b x z r same prints = subst (λ opens. Prints words begins opens x z r) same prints
 
 -- what was refused of what was asked
 pub refused_known : (o : Option Contents) (request : Option Request) (refusal : Refusal) (file : Text) → ((files : Files) → RefusesRequest files request refusal file) →
@@ -373,54 +367,116 @@ ending_ends endings.ClaimHolds = tt
 ending_ends endings.ClaimEmpty = tt
 ending_ends endings.ClaimFails = tt
 
-told_ends : (manner : Manner) (task : Task) (run : Run) (given : Given) (status : Status) → IsTold manner task run given status → IsEndStatus status
-told_ends manner task run given status told = elim told.ends [
-  | inl ended ↦ subst IsEndStatus (sym ended.3) (ending_ends ended.0)
-  | inr refused ↦ subst IsEndStatus (sym refused.4) tt
-]
+none_counted : (o : Option ℕ) (n : ℕ) → o ≡ Some n → IsNone o → ⊥
+none_counted None n is all = absurd cc
+none_counted (Some m) n is all = absurd cc
 
-search_ends : (request : Option Request) (manner : Manner) (task : Task) (given : Given) (r : Result Status Stop) → ((status : Status) → IsEndStatus status → MayEndWith request status) →
-    MatchResult r (λ status. (run : Run) × IsTold manner task run given status) (λ _. (run : Run) × IsTelling manner task run given) → IfOk r (MayEndWith request)
-search_ends request manner task given (Ok status) may how = may status (told_ends manner task how.0 given status how.1)
-search_ends request manner task given (Err stop) may how = tt
+asked_within : (task : Task) (at horizon listed : ℕ) (next : Horizon) → IsTrueOf task.description task.query task.ask at next → MayEndWithin task.ask at next (endings.Asked horizon listed) →
+    IsNone task.ask.count → ⊥
+asked_within task at horizon listed (Histories section) told ends all = none_counted task.ask.count (length (rows_of section)) (told.1.enough ends.2) all
+asked_within task at horizon listed (Conditions section) told ends all = ends
+asked_within task at horizon listed (Claim conditions claim) told ends all = ends
+asked_within task at horizon listed (Failure conditions claim row) told ends all = ends
 
--- what a search is for: these are the logs that it begins, and it may end as it does
-pub record IsForSearch (request : Option Request) (names : List Text) : Type 0 where
-  pub names_are : names ≡ log_asked request
-  pub may : (status : Status) → IsEndStatus status → MayEndWith request status
+asked_at : (task : Task) (run : Run) (at horizon listed : ℕ) (next : Option Horizon) →
+    IfSome next (λ n. (at ≤ last_horizon task.query task.ask.after) × IsTrueOf task.description task.query task.ask at n) →
+    MayEnd task.query task.ask at run next (endings.Asked horizon listed) → IsNone task.ask.count → ⊥
+asked_at task run at horizon listed None told ends all = ends.1
+asked_at task run at horizon listed (Some next) told ends all = asked_within task at horizon listed next told.1 ends all
 
-pub lists_for : (request : Option Request) (listing : Listing) (names : List Text) → request ≡ Some (ToList listing) → names ≡ optional listing.log → IsForSearch request names
-lists_for request listing names asked named = record {
+-- a run whose ending is that as many histories were told as were asked for was asked for a number of them
+asked_fair : (task : Task) (run : Run) (horizon listed : ℕ) → IsFairRun task.description task.query task.ask run → run.ending ≡ Some (endings.Asked horizon listed) → IsNone task.ask.count → ⊥
+asked_fair task run horizon listed fair is all =
+    let at = horizon_at (first_horizon task.query task.ask.after) run in
+    asked_at task run at horizon listed run.next fair.next (subst (λ (e : Option Ending). IfSome e (MayEnd task.query task.ask at run run.next)) is fair.ending) all
+
+asked_ending : (task : Task) (run : Run) (ending : Ending) → IsFairRun task.description task.query task.ask run → run.ending ≡ Some ending → status_of ending ≡ statuses.Asked → IsNone task.ask.count → ⊥
+asked_ending task run (endings.Complete horizon listed) fair is asked all = absurd cc
+asked_ending task run (endings.Asked horizon listed) fair is asked all = asked_fair task run horizon listed fair is all
+asked_ending task run (endings.Spent horizon listed) fair is asked all = absurd cc
+asked_ending task run endings.NoHistory fair is asked all = absurd cc
+asked_ending task run endings.ClaimHolds fair is asked all = absurd cc
+asked_ending task run endings.ClaimEmpty fair is asked all = absurd cc
+asked_ending task run endings.ClaimFails fair is asked all = absurd cc
+
+abbrev some : {X : Type 0} → X → Option X
+some x = Some x
+
+some_same : (a b : Status) → some a ≡ some b → a ≡ b
+some_same a b e = cc
+
+told_none : (manner : Manner) (task : Task) (run : Run) (whole : Whole) → IsTold manner task run whole → whole.ends ≡ Some statuses.Asked → IsNone task.ask.count → ⊥
+told_none manner task run whole told is all = ends whole.ends is told.ends
+  where
+    ends : (e : Option Status) → e ≡ Some statuses.Asked → EndsSo task run whole.given.err e → ⊥
+    ends None is how = absurd cc
+    ends (Some other) is (inl ended) = asked_ending task run ended.0 told.fair ended.1 (sym ended.3 ∙ some_same other statuses.Asked is) all
+    ends (Some other) is (inr refused) = let same = sym refused.4 ∙ some_same other statuses.Asked is in absurd cc
+
+-- what a search is for: what it tells is what is asked, its log is the one that is named, and it may end so
+pub record IsForSearch (words : List Text) (begins : Bool) (names : List Text) (manner : Manner) (task : Task) (x : Moment) : Type 0 where
+  pub names_are : names ≡ log_asked (request_of words)
+  pub gives : (run : Run) (whole : Whole) → whole.begun ≡ begins → IsTold manner task run whole → IfSome x.told (λ c. Gives c.files (request_of words) whole)
+  pub may : (run : Run) (whole : Whole) (status : Status) → IsTold manner task run whole → whole.ends ≡ Some status → MayEndWith (request_of words) status
+
+told_ends : (manner : Manner) (task : Task) (run : Run) (whole : Whole) (status : Status) → IsTold manner task run whole → whole.ends ≡ Some status → IsEndStatus status
+told_ends manner task run whole status told is = ends whole.ends is told.ends
+  where
+    ends : (e : Option Status) → e ≡ Some status → EndsSo task run whole.given.err e → IsEndStatus status
+    ends None is how = absurd cc
+    ends (Some other) is (inl ended) = subst IsEndStatus (sym ended.3 ∙ some_same other status is) (ending_ends ended.0)
+    ends (Some other) is (inr refused) = subst IsEndStatus (sym refused.4 ∙ some_same other status is) tt
+
+pub log_asked_by : (words : List Text) (listing : Listing) (names : List Text) → request_of words ≡ Some (ToList listing) → names ≡ optional listing.log → names ≡ log_asked (request_of words)
+log_asked_by words listing names asked named = named ∙ sym (ap log_asked asked)
+
+pub lists_for : (words : List Text) (listing : Listing) (names : List Text) (task : Task) (x : Moment) → request_of words ≡ Some (ToList listing) → names ≡ optional listing.log →
+    task.ask.count ≡ listing.count → task.ask.budget ≡ listing.budget → IfSome x.told (λ before. IsTask before.files (named_by listing) task) →
+    IsForSearch words (is_some listing.log) names OneByOne task x
+lists_for words listing names task x asked named count budget is = record {
   names_are = named ∙ sym (ap log_asked asked);
-  may = λ status is. subst (λ (o : Option Request). MayEndWith o status) (sym asked) is;
+  gives = λ run whole begun told. known x.told (λ before. IsTask before.files (named_by listing) task) (λ before. Gives before.files (request_of words) whole)
+      (λ before is. subst (λ (o : Option Request). Gives before.files o whole) (sym asked) (inr (lists before.files is run whole begun told))) is;
+  may = λ run whole status told ends. subst (λ (o : Option Request). MayEndWith o status) (sym asked) (told_ends OneByOne task run whole status told ends);
 }
+  where
+    lists : (files : Files) → IsTask files (named_by listing) task → (run : Run) (whole : Whole) → whole.begun ≡ is_some listing.log → IsTold OneByOne task run whole → Lists listing files whole
+    lists files is run whole begun told = record { task = task; is = is; count = count; budget = budget; begun = begun; run = run; told = told }
 
-pub makes_for : (request : Option Request) (size budget : ℕ) → request ≡ Some (ToMake size budget) → IsForSearch request []
-makes_for request size budget asked = record {
+pub makes_for : (words : List Text) (size budget : ℕ) (task : Task) (x : Moment) → request_of words ≡ Some (ToMake size budget) → IsNone task.ask.count → task.ask.budget ≡ budget →
+    IfSome x.told (λ _. IsTask (made_files size) made_named task) → IsForSearch words false [] (Summed size) task x
+makes_for words size budget task x asked all same is = record {
   names_are = sym (ap log_asked asked);
-  may = λ status is. subst (λ (o : Option Request). MayEndWith o status) (sym asked) is;
+  gives = λ run whole begun told. known x.told (λ _. IsTask (made_files size) made_named task) (λ before. Gives before.files (request_of words) whole)
+      (λ before is. subst (λ (o : Option Request). Gives before.files o whole) (sym asked) (inr (makes before.files is run whole begun told))) is;
+  may = λ run whole status told ends. subst (λ (o : Option Request). MayEndWith o status) (sym asked) (may_make task run whole status told ends all);
 }
+  where
+    makes : (files : Files) → IsTask (made_files size) made_named task → (run : Run) (whole : Whole) → whole.begun ≡ false → IsTold (Summed size) task run whole → Makes size budget files whole
+    makes files is run whole begun told = record { task = task; is = is; count = all; budget_is = same; begun = begun; run = run; told = told }
 
-search_comes : (files : Files) (words : List Text) (manner : Manner) (task : Task) (given : Given) (begun : Bool) (r : Result Status Stop) → Lists files words begun manner task →
-    MatchResult r (λ status. (run : Run) × IsTold manner task run given status) (λ _. (run : Run) × IsTelling manner task run given) → Comes files words (left given begun) r
-search_comes files words manner task given begun (Ok status) lists how = record {
-  plan = record { given = given; begun = begun; status = status };
-  planned = inr (inl (record { manner = manner; task = task; lists = lists; run = how.0; told = how.1 }));
-  given = refl;
-  begun = refl;
-  status_planned = refl;
+    may_make : (task : Task) (run : Run) (whole : Whole) (status : Status) → IsTold (Summed size) task run whole → whole.ends ≡ Some status → IsNone task.ask.count → MayEndMaking status
+    may_make task run whole statuses.Asked told ends all = told_none (Summed size) task run whole told ends all
+    may_make task run whole statuses.Right told ends all = tt
+    may_make task run whole statuses.Not told ends all = tt
+    may_make task run whole statuses.Refused told ends all = tt
+    may_make task run whole statuses.Spent told ends all = tt
+    may_make task run whole statuses.ReadFault told ends all = told_ends (Summed size) task run whole statuses.ReadFault told ends
+    may_make task run whole statuses.WriteFault told ends all = told_ends (Summed size) task run whole statuses.WriteFault told ends
+    may_make task run whole statuses.OutOfMemory told ends all = told_ends (Summed size) task run whole statuses.OutOfMemory told ends
+
+-- the same whole, where a log was begun
+told_with : (manner : Manner) (task : Task) (run : Run) (given : Given) (ends : Option Status) (begun : Bool) →
+    IsTold manner task run (record { given = given; begun = false; ends = ends }) → IsTold manner task run (record { given = given; begun = begun; ends = ends })
+told_with manner task run given ends begun told = record {
+  fair = told.fair;
+  out = told.out;
+  log = told.log;
+  limits = told.limits;
+  accepted = told.accepted;
+  spent = told.spent;
+  ends = told.ends;
 }
-search_comes files words manner task given begun (Err stop) lists how = inr (inr (inl (record {
-  manner = manner;
-  task = task;
-  lists = lists;
-  run = how.0;
-  fair = how.1.fair;
-  limits = how.1.limits;
-  out = how.1.out;
-  log = how.1.log;
-  err = how.1.err;
-})))
 
 told_search : (words : List Text) (given : Given) (old mid new : Option Contents) (was begun : Bool) (r : Result Status Stop) →
     IfSome old (λ before. IsFresh before → mid ≡ Some before) → new ≡ option_map (adding given) mid →
@@ -431,21 +487,27 @@ told_search words given (Some c) mid new was begun r told moves how = λ fresh n
     subst (λ (n : Option Contents). IsSomeAnd n (λ after. Leaves words c after begun r)) (sym (moves ∙ ap (option_map (adding given)) (told fresh)))
     (comes_over words c c given begun r fresh refl (how none))
 
+search_may : (words : List Text) (begins : Bool) (names : List Text) (manner : Manner) (task : Task) (x : Moment) (run : Run) (whole : Whole) (r : Result Status Stop) →
+    IsForSearch words begins names manner task x → IsTold manner task run whole → IfOk r (λ status. whole.ends ≡ Some status) → IfOk r (MayEndWith (request_of words))
+search_may words begins names manner task x run whole (Ok status) for told ended = for.may run whole status told ended
+search_may words begins names manner task x run whole (Err stop) for told ended = tt
+
 -- a log was begun where one is named, and a search behind it
 pub prints_search : {X : Type 0} (words : List Text) (begins : Bool) (names : List Text) (manner : Manner) (task : Task) (x y z : Moment) (b : Result X Stop) (v : X) (r : Result Status Stop) →
-    IsForSearch (request_of words) names → Begins begins names x y b → b ≡ Ok v → Searches manner task [] y z r →
-    IfSome x.told (λ before. Lists before.files words begins manner task) → Prints words begins [] x z r
-prints_search {X = X} words begins names manner task x y z b v r for at is searched lists =
+    IsForSearch words begins names manner task x → Begins begins names x y b → b ≡ Ok v → Searches manner task nothing y z r → Prints words begins [] x z r
+prints_search {X = X} words begins names manner task x y z b v r for at is searched =
     let made : Result X Stop = Ok v in
     let done : Begins begins names x y made = subst (λ b. Begins begins names x y b) is at in
-    let given = searched.given in
-    let moves = searched.moves in
+    let given = searched.step.given in
+    let moves = searched.step.moves in
+    let whole : Whole = record { given = searched.given; begun = begins; ends = searched.ends } in
+    let told : IsTold manner task searched.run whole = told_with manner task searched.run searched.given searched.ends begins searched.told in
     record {
       told = told_search words given x.told y.told z.told x.begun z.begun r done.told moves.told
-          (known x.told (λ before. Lists before.files words begins manner task) (λ before. x.begun ≡ false → Comes before.files words (left given z.begun) r)
-          (λ before lists none. search_comes before.files words manner task given z.begun r
-          (subst (λ (w : Bool). Lists before.files words w manner task) (begun_as begins x.begun y.begun z.begun done.begun moves.begun none) lists) searched.how) lists);
-      ends = search_ends (request_of words) manner task given r for.may searched.how;
+          (known x.told (λ before. Gives before.files (request_of words) whole) (λ before. x.begun ≡ false → Comes before.files words (left given z.begun) r)
+          (λ before gives none. whole_comes before.files words whole given z.begun r gives (sym (begun_as begins x.begun y.begun z.begun done.begun moves.begun none)) searched.step.how searched.ended)
+          (for.gives searched.run whole refl told));
+      ends = search_may words begins names manner task x searched.run whole r for told searched.ended;
       asks = record {
         opened = [];
         begun = names;
@@ -508,7 +570,7 @@ begins_failed {X = X} o name x y is told begun calls rose reads writes =
 
 -- a log that was not begun
 pub prints_unbegun : {X : Type 0} (words : List Text) (named : Bool) (names : List Text) (x y : Moment) (b : Result X Stop) (e : Stop) (r : Result Status Stop) →
-    IsForSearch (request_of words) names → Begins named names x y b → b ≡ Err e → IsErrAnd r (λ d. d ≡ e) → Prints words named [] x y r
+    names ≡ log_asked (request_of words) → Begins named names x y b → b ≡ Err e → IsErrAnd r (λ d. d ≡ e) → Prints words named [] x y r
 prints_unbegun words named names x y b e (Ok status) for at is same = absurd same
 prints_unbegun {X = X} words named names x y b e (Err d) for at is same =
     let failed : Result X Stop = Err e in
@@ -524,7 +586,7 @@ prints_unbegun {X = X} words named names x y b e (Err d) for at is same =
         begun = names;
         called = left.called;
         opened_first = first_none [];
-        begun_first = ([], sym for.names_are ∙ sym (append-nil names));
+        begun_first = ([], sym for ∙ sym (append-nil names));
         whole = λ is. absurd (stop_answers_nothing d is);
       };
       calm = λ ok. absurd cc;
@@ -546,25 +608,38 @@ begins_none x = record { told = same x.told; begun = refl; failed = tt; called =
     same None = tt
     same (Some c) = λ fresh. refl
 
--- a search whose log was not begun
-pub prints_made : (words : List Text) (manner : Manner) (task : Task) (x z : Moment) (r : Result Status Stop) → IsForSearch (request_of words) [] → Searches manner task [] x z r →
-    IfSome x.told (λ before. Lists before.files words false manner task) → Prints words false [] x z r
-prints_made words manner task x z r for searched lists = prints_search words false [] manner task x x z (Ok tt) tt r for (begins_none x) refl searched lists
+-- a search that begins no log
+pub prints_made : (words : List Text) (manner : Manner) (task : Task) (x z : Moment) (r : Result Status Stop) → IsForSearch words false [] manner task x → Searches manner task nothing x z r →
+    Prints words false [] x z r
+prints_made words manner task x z r for searched = prints_search words false [] manner task x x z (Ok tt) tt r for (begins_none x) refl searched
 
 -- ---- the end of a run
+
+may_end_checking : (status : Status) → MayEndChecking status → IsEndStatus status
+may_end_checking statuses.Right is = is
+may_end_checking statuses.Not is = is
+may_end_checking statuses.Refused is = is
+may_end_checking statuses.Spent is = absurd is
+may_end_checking statuses.Asked is = absurd is
+may_end_checking statuses.ReadFault is = is
+may_end_checking statuses.WriteFault is = is
+may_end_checking statuses.OutOfMemory is = is
+
+may_end_making : (status : Status) → MayEndMaking status → IsEndStatus status
+may_end_making statuses.Right is = is
+may_end_making statuses.Not is = is
+may_end_making statuses.Refused is = is
+may_end_making statuses.Spent is = is
+may_end_making statuses.Asked is = absurd is
+may_end_making statuses.ReadFault is = is
+may_end_making statuses.WriteFault is = is
+may_end_making statuses.OutOfMemory is = is
 
 pub ends_as_it_may : (request : Option Request) (status : Status) → MayEndWith request status → IsEndStatus status
 ends_as_it_may None status is = subst IsEndStatus (sym is) tt
 ends_as_it_may (Some (ToList listing)) status is = is
-ends_as_it_may (Some (ToMake size budget)) status is = is
-ends_as_it_may (Some (ToCheck checking)) statuses.Right is = is
-ends_as_it_may (Some (ToCheck checking)) statuses.Not is = is
-ends_as_it_may (Some (ToCheck checking)) statuses.Refused is = is
-ends_as_it_may (Some (ToCheck checking)) statuses.Spent is = absurd is
-ends_as_it_may (Some (ToCheck checking)) statuses.Asked is = absurd is
-ends_as_it_may (Some (ToCheck checking)) statuses.ReadFault is = is
-ends_as_it_may (Some (ToCheck checking)) statuses.WriteFault is = is
-ends_as_it_may (Some (ToCheck checking)) statuses.OutOfMemory is = is
+ends_as_it_may (Some (ToCheck checking)) status is = may_end_checking status is
+ends_as_it_may (Some (ToMake size budget)) status is = may_end_making status is
 
 answers_ended : (files : Files) (words : List Text) (status : Status) (c : Counts) (l : Left) → IsEndStatus status → Ended files words status l → Answers files words status c l
 answers_ended files words statuses.Right c l ends ended = ended

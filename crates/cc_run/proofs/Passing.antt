@@ -17,7 +17,7 @@ use Rattle.cc_query.specs.declared.phase.Phase.{Phase}
 use Rattle.cc_query.specs.declared.phase.Phase.TheVariants as phases
 use Rattle.cc_query.specs.Parts.{is_conditions}
 use Rattle.cc_query.specs.Sessions.{After, Awaits, HasMore, HasTooMany, IsSessionOf, MayRefuse, Opens, SessionView, StandsBehind, last_at, opening_refusal, opens_at}
-use Rattle.cc_run.specs.Answers.{OpensNext, PassesLimit, horizon_of}
+use Rattle.cc_run.specs.Searching.{OpensNext, PassesLimit, horizon_of}
 use Rattle.cc_run.specs.Tasks.{Task}
 use Rattle.cc_run.proofs.RunEvents.{both_open}
 

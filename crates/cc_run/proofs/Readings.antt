@@ -1,27 +1,35 @@
 -- A description that was read, by its places, and what is listed or refused of it.
-use Rattle.std.proofs.Common.{◌≡◌, ◌∙◌, refl, sym, ap, subst, ℕ, Bool, false, List, [], map, Option, Some, None, IfSome, inl, inr, is_some}
-use Rattle.std.specs.Prelude.{IsNone}
+use Rattle.std.proofs.Common.{◌≡◌, ◌∙◌, refl, sym, ap, subst, ℕ, List, [], ◌∷◌, ◌++◌, append-nil, map, Option, Some, None, IfSome, Result, Ok, Err, inl, inr, is_some, ◌≤◌, IfOk, arith, option_map}
+use Rattle.std.specs.Prelude.{IfErr, IsErrOf}
 use Rattle.cc_asked.specs.Descriptions.{IsDescriptionOf, description_of}
 use Rattle.cc_defs.specs.declared.lists.Key.{Key}
 use Rattle.cc_defs.specs.declared.refusal.Refusal.{Refusal}
+use Rattle.cc_defs.specs.Description.{Description}
 use Rattle.cc_defs.specs.Resolved.{Query, plain_query}
 use Rattle.cc_describe.specs.declared.description.Described.{Described}
 use Rattle.cc_describe.specs.declared.description.DescribeStop.TheVariants as describe_stops
-use Rattle.cc_describe.specs.Describing.{Describes, HasStopped, IsDescribed, SaysAll}
+use Rattle.cc_describe.specs.declared.description.DescribeStop.{DescribeStop}
+use Rattle.cc_describe.specs.Describing.{AreFirstNames, AreToOpen, Describes, HasStopped, IsDescribed, OpensFor, SaysAll}
 use Rattle.cc_describe.specs.FirstRefusal.{declared_in, file_named}
 use Rattle.cc_describe.specs.Places.{Files, Place}
-use Rattle.cc_make.specs.Locks.{made_text}
-use Rattle.cc_make.specs.Single.{contents_of}
-use Rattle.cc_ports.specs.Contents.{Contents}
-use Rattle.cc_run.specs.Answers.{Lists, RefusesRequest, Summed, Whole}
+use Rattle.cc_ports.specs.Calls.{Call, names_begun, names_opened, with_calls}
+use Rattle.cc_ports.specs.Contents.{Contents, Rose, with_rest}
 use Rattle.cc_run.specs.Asking.{AreNamed, IsRefusedNamed}
-use Rattle.cc_run.specs.Stops.{names_log}
-use Rattle.cc_run.specs.Tasks.{AreRead, IsTask, Named, RefusesNamed, Task, asked_refusal, description_in, made_files, made_named, named_by, named_in, query_named, request_of}
+use Rattle.cc_run.specs.Requested.{IsFileOf, named_of, opens_behind, source_of, OpensDescription, Reads}
+use Rattle.cc_run.specs.Answers.{promise_of}
+use Rattle.cc_run.specs.Names.{names_log}
+use Rattle.cc_run.specs.Stops.{Begins, IsCalm, Moment, Prints}
+use Rattle.cc_run.specs.declared.status.Status.{Status}
+use Rattle.cc_run.specs.declared.status.Stop.{Stop}
+use Rattle.cc_run.specs.Tasks.{AreRead, IsTask, Named, RefusesNamed, Task, asked_refusal, description_in, made_files, made_named, query_named, request_of}
+use Rattle.cc_words.specs.declared.asked.Asked.{Asked}
 use Rattle.cc_words.specs.declared.asked.CheckAsked.{CheckAsked}
 use Rattle.cc_words.specs.declared.asked.ListAsked.{ListAsked}
-use Rattle.cc_words.specs.Requests.{Checking, Listing, ToCheck, ToList, ToMake}
-use Rattle.cc_words.specs.Views.{plain_text}
+use Rattle.cc_words.specs.Requests.{Checking, Listing, Request, ToCheck, ToList, ToMake}
+use Rattle.cc_words.specs.Views.{plain_request, plain_text}
 use Rattle.cc_words.specs.Words.{Text}
+use Rattle.cc_run.proofs.Callings.{called_none, called_reading, first_all, first_longer}
+use Rattle.cc_run.proofs.Outcomes.{RefusesRequest}
 
 -- what is asked for, in plain words
 abbrev pub listing_by : ListAsked → Listing
@@ -52,23 +60,20 @@ description_is places described is = record {
   is = ap (description_of (declared_in places)) (sym is.laws);
 }
 
--- some places say all of it, and they are those of the files where the desk tells these
-pub record IsRead (o : Option Contents) (name : Text) (described : Described) : Type 0 where
+-- some places say all of it, and they are those of the files that it is read from, where the desk tells these
+pub record IsRead (o : Option Contents) (source : Files → Files) (name : Text) (described : Described) : Type 0 where
   pub places : List Place
   pub said : IsDescribed places described
-  pub read : IfSome o (λ before. AreRead before.files name places)
+  pub read : IfSome o (λ before. AreRead (source before.files) name places)
 
-pub is_read : (o : Option Contents) (name : Text) (described : Described) → SaysAll described → IfSome o (λ before. Describes before.files name described) → IsRead o name described
-is_read None name described says describes = record { places = says.0; said = says.2; read = tt }
-is_read (Some c) name described says describes = record {
+pub is_read : (o : Option Contents) (source : Files → Files) (name : Text) (described : Described) → SaysAll described →
+    IfSome o (λ before. Describes (source before.files) name described) → IsRead o source name described
+is_read None source name described says describes = record { places = says.0; said = says.2; read = tt }
+is_read (Some c) source name described says describes = record {
   places = describes.0;
   said = describes.3;
   read = record { all = describes.1; unrefused = describes.2; there = describes.4 };
 }
-
--- a desk that a made description is read from
-abbrev pub made_source : ℕ → Contents
-made_source size = contents_of (record { text = made_text size; rest = []; write_faults = 0 })
 
 -- what is true of the files, where the desk tells these
 known : (o : Option Contents) (P Q : Contents → Type 0) → ((c : Contents) → P c → Q c) → IfSome o P → IfSome o Q
@@ -90,26 +95,13 @@ is_task files by places described q count budget key said named read = record {
   key = named.key_is;
 }
 
-pub task_read : (o : Option Contents) (by : Named) (described : Described) (of : IsRead o by.file described) (q : Query) (count : Option ℕ) (budget : ℕ) (key : Option Key) →
-    AreNamed (description_in of.places) (map plain_query described.queries) by.query by.after q key →
-    IfSome o (λ before. IsTask before.files by (record { description = description_in of.places; query = q; ask = record { count = count; budget = budget; after = key } }))
-task_read o by described of q count budget key named =
-    known o (λ before. AreRead before.files by.file of.places)
-    (λ before. IsTask before.files by (record { description = description_in of.places; query = q; ask = record { count = count; budget = budget; after = key } }))
-    (λ before read. is_task before.files by of.places described q count budget key of.said named read) of.read
-
-pub lists_asked : (o : Option Contents) (words : List Text) (listing : Listing) (begins : Bool) (task : Task) → request_of words ≡ Some (ToList listing) →
-    task.ask.count ≡ listing.count → task.ask.budget ≡ listing.budget → begins ≡ is_some listing.log → IfSome o (λ before. IsTask before.files (named_by listing) task) →
-    IfSome o (λ before. Lists before.files words begins Whole task)
-lists_asked o words listing begins task asked same_count same_budget log =
-    known o (λ before. IsTask before.files (named_by listing) task) (λ before. Lists before.files words begins Whole task)
-    (λ before is. inl (record { listing = listing; asked = asked; is = is; count = same_count; budget = same_budget; manner_is = refl; begun_is = log }))
-
-pub lists_made : (o : Option Contents) (words : List Text) (size : ℕ) (task : Task) → IsTask (made_files size) made_named task → IsNone task.ask.count →
-    request_of words ≡ Some (ToMake size task.ask.budget) → IfSome o (λ before. Lists before.files words false (Summed size) task)
-lists_made None words size task is all asked = tt
-lists_made (Some c) words size task is all asked =
-    inr (record { size = size; budget = task.ask.budget; asked = asked; is = is; count = all; budget_is = refl; manner_is = refl; begun_is = refl })
+pub task_read : (o : Option Contents) (source : Files → Files) (by : Named) (described : Described) (of : IsRead o source by.file described) (q : Query) (key : Option Key) →
+    AreNamed (description_in of.places) (map plain_query described.queries) by.query by.after q key → (count : Option ℕ) (budget : ℕ) →
+    IfSome o (λ before. IsTask (source before.files) by (record { description = description_in of.places; query = q; ask = record { count = count; budget = budget; after = key } }))
+task_read o source by described of q key named count budget =
+    known o (λ before. AreRead (source before.files) by.file of.places)
+    (λ before. IsTask (source before.files) by (record { description = description_in of.places; query = q; ask = record { count = count; budget = budget; after = key } }))
+    (λ before read. is_task (source before.files) by of.places described q count budget key of.said named read) of.read
 
 same_request : (a b : Listing) → ToList a ≡ ToList b → a ≡ b
 same_request a b e = cc
@@ -117,43 +109,65 @@ same_request a b e = cc
 pub listing_is : (asked : ListAsked) (listing : Listing) → ToList (listing_by asked) ≡ ToList listing → listing_by asked ≡ listing
 listing_is asked listing e = same_request (listing_by asked) listing e
 
-pub log_named : (asked : ListAsked) → is_some asked.log ≡ is_some (plain_text asked.log)
+log_named : (asked : ListAsked) → is_some asked.log ≡ is_some (plain_text asked.log)
 log_named asked = named asked.log
   where
     named : (o : Option _) → is_some o ≡ is_some (plain_text o)
     named None = refl
     named (Some text) = refl
 
-pub named_log : (words : List Text) (asked : ListAsked) → request_of words ≡ Some (ToList (listing_by asked)) → is_some asked.log ≡ names_log (request_of words)
-named_log words asked e = log_named asked ∙ sym (ap names_log e)
+-- a log that is begun as it is named
+pub begins_named : {X : Type 0} (asked : ListAsked) (listing : Listing) → listing_by asked ≡ listing → (names : List Text) (x y : Moment) (r : Result X Stop) →
+    Begins (is_some asked.log) names x y r → Begins (is_some listing.log) names x y r
+begins_named asked listing is names x y r begins = subst (λ b. Begins b names x y r) (log_named asked ∙ ap (λ (l : Listing). is_some l.log) is) begins
+
+-- the same for a request that is spelled otherwise
+pub task_as : (o : Option Contents) (a b : Request) (task : Task) → a ≡ b → IfSome o (λ before. IsTask (source_of b before.files) (named_of b) task) →
+    IfSome o (λ before. IsTask (source_of a before.files) (named_of a) task)
+task_as o a b task same is = subst (λ (r : Request). IfSome o (λ before. IsTask (source_of r before.files) (named_of r) task)) (sym same) is
+
+pub prints_request : (words : List Text) (a b : Request) (x z : Moment) (r : Result Status Stop) → a ≡ b → Prints words (names_log (Some a)) (opens_behind a) x z r →
+    Prints words (names_log (Some b)) (opens_behind b) x z r
+prints_request words a b x z r same prints = subst (λ (request : Request). Prints words (names_log (Some request)) (opens_behind request) x z r) same prints
+
+-- what is named, by the words of the request
+pub named_as : (d : Description) (queries : List Query) (request : Request) (label after : Option Text) {asked : Request} {q : Query} {key : Option Key} → label ≡ (named_of asked).query →
+    after ≡ (named_of asked).after → asked ≡ request → AreNamed d queries label after q key → AreNamed d queries (named_of request).query (named_of request).after q key
+named_as d queries request label after {q = q} {key = key} query_is after_is same named =
+    subst (λ (l : Option Text). AreNamed d queries l (named_of request).after q key) (query_is ∙ ap (λ (r : Request). (named_of r).query) same)
+    (subst (λ (a : Option Text). AreNamed d queries label a q key) (after_is ∙ ap (λ (r : Request). (named_of r).after) same) named)
+
+pub refused_as : (d : Description) (queries : List Query) (request : Request) (label after : Option Text) {asked : Request} {refusal : Refusal} → label ≡ (named_of asked).query →
+    after ≡ (named_of asked).after → asked ≡ request → IsRefusedNamed d queries label after refusal → IsRefusedNamed d queries (named_of request).query (named_of request).after refusal
+refused_as d queries request label after {refusal = refusal} query_is after_is same refused =
+    subst (λ (l : Option Text). IsRefusedNamed d queries l (named_of request).after refusal) (query_is ∙ ap (λ (r : Request). (named_of r).query) same)
+    (subst (λ (a : Option Text). IsRefusedNamed d queries label a refusal) (after_is ∙ ap (λ (r : Request). (named_of r).after) same) refused)
 
 -- ---- what is refused
 
--- where what is named is refused, the run is refused so
-abbrev pub RefusesWith : List Text → Named → Type 0
-RefusesWith words by = (files : Files) (refusal : Refusal) (file : Text) → RefusesNamed files by refusal file → RefusesRequest files (request_of words) refusal file
-
-pub listing_refused : (words : List Text) (listing : Listing) → request_of words ≡ Some (ToList listing) → RefusesWith words (named_by listing)
-listing_refused words listing asked files refusal file refused = subst (λ request. RefusesRequest files request refusal file) (sym asked) refused
-
-pub checking_refused : (words : List Text) (checking : Checking) → request_of words ≡ Some (ToCheck checking) → RefusesWith words (named_in checking)
-checking_refused words checking asked files refusal file refused = subst (λ request. RefusesRequest files request refusal file) (sym asked) (inl refused)
-
-pub refuses_made : (o : Option Contents) (words : List Text) (size budget : ℕ) (refusal : Refusal) (file : Text) → request_of words ≡ Some (ToMake size budget) →
-    RefusesNamed (made_files size) made_named refusal file → IfSome o (λ before. RefusesRequest before.files (request_of words) refusal file)
-refuses_made None words size budget refusal file asked refused = tt
-refuses_made (Some c) words size budget refusal file asked refused = subst (λ request. RefusesRequest c.files request refusal file) (sym asked) refused
+-- where what is named is refused, the request is refused so
+pub refused_so : (files : Files) (request : Request) (refusal : Refusal) (file : Text) → RefusesNamed (source_of request files) (named_of request) refusal file →
+    RefusesRequest files (Some request) refusal file
+refused_so files (ToList listing) refusal file refused = refused
+refused_so files (ToCheck checking) refusal file refused = inl refused
+refused_so files (ToMake size budget) refusal file refused = refused
 
 pub stopped_refuses : (files : Files) (by : Named) (refusal : Refusal) (file : Text) → HasStopped files by.file (describe_stops.Refused refusal file) →
     RefusesNamed files by refusal file
 stopped_refuses files by refusal file stopped =
     inl (record { places = stopped.0; all = stopped.1; refused = stopped.2; there = stopped.4; name = stopped.3 })
 
-pub refuses_description : (o : Option Contents) (words : List Text) (by : Named) (refusal : Refusal) (file : Text) → RefusesWith words by →
-    IfSome o (λ before. HasStopped before.files by.file (describe_stops.Refused refusal file)) → IfSome o (λ before. RefusesRequest before.files (request_of words) refusal file)
-refuses_description o words by refusal file refuses =
-    known o (λ before. HasStopped before.files by.file (describe_stops.Refused refusal file)) (λ before. RefusesRequest before.files (request_of words) refusal file)
-    (λ before stopped. refuses before.files refusal file (stopped_refuses before.files by refusal file stopped))
+asked_refuses : (words : List Text) (request : Request) (files : Files) (refusal : Refusal) (file : Text) → request_of words ≡ Some request →
+    RefusesNamed (source_of request files) (named_of request) refusal file → RefusesRequest files (request_of words) refusal file
+asked_refuses words request files refusal file asked refused =
+    subst (λ (o : Option Request). RefusesRequest files o refusal file) (sym asked) (refused_so files request refusal file refused)
+
+pub refuses_description : (o : Option Contents) (words : List Text) (request : Request) (refusal : Refusal) (file : Text) → request_of words ≡ Some request →
+    IfSome o (λ before. HasStopped (source_of request before.files) (named_of request).file (describe_stops.Refused refusal file)) →
+    IfSome o (λ before. RefusesRequest before.files (request_of words) refusal file)
+refuses_description o words request refusal file asked =
+    known o (λ before. HasStopped (source_of request before.files) (named_of request).file (describe_stops.Refused refusal file)) (λ before. RefusesRequest before.files (request_of words) refusal file)
+    (λ before stopped. asked_refuses words request before.files refusal file asked (stopped_refuses (source_of request before.files) (named_of request) refusal file stopped))
 
 pub named_refused : (files : Files) (by : Named) (places : List Place) (described : Described) (refusal : Refusal) (file : Text) → IsDescribed places described →
     AreRead files by.file places → file ≡ file_named described.files refusal →
@@ -175,11 +189,159 @@ named_refused files by places described refusal file said read name (inr (q, nam
   name = name ∙ ap (file_named described.files) same;
 }))
 
-pub refuses_named : (o : Option Contents) (words : List Text) (by : Named) (described : Described) (of : IsRead o by.file described) (refusal : Refusal) (file : Text) →
-    RefusesWith words by → file ≡ file_named described.files refusal →
-    IsRefusedNamed (description_in of.places) (map plain_query described.queries) by.query by.after refusal →
+pub refuses_named : (o : Option Contents) (words : List Text) (request : Request) (described : Described) (of : IsRead o (source_of request) (named_of request).file described) (refusal : Refusal)
+    (file : Text) → request_of words ≡ Some request → file ≡ file_named described.files refusal →
+    IsRefusedNamed (description_in of.places) (map plain_query described.queries) (named_of request).query (named_of request).after refusal →
     IfSome o (λ before. RefusesRequest before.files (request_of words) refusal file)
-refuses_named o words by described of refusal file refuses name refused =
-    known o (λ before. AreRead before.files by.file of.places) (λ before. RefusesRequest before.files (request_of words) refusal file)
-    (λ before read. refuses before.files refusal file
-    (named_refused before.files by of.places described refusal file of.said read name refused)) of.read
+refuses_named o words request described of refusal file asked name refused =
+    known o (λ before. AreRead (source_of request before.files) (named_of request).file of.places) (λ before. RefusesRequest before.files (request_of words) refusal file)
+    (λ before read. asked_refuses words request before.files refusal file asked
+    (named_refused (source_of request before.files) (named_of request) of.places described refusal file of.said read name refused)) of.read
+
+-- ---- what is opened
+
+-- all files of the description were opened
+abbrev pub OpenedAll : Request → Option Contents → List Text → Type 0
+OpenedAll request o opened = IfSome o (λ before. (promise_of request).Opens before.files (opened ++ opens_behind request))
+
+opens_all : (files : Files) (request : Request) (described : Described) (opened : List Text) → OpensDescription request files (Ok described) opened →
+    (promise_of request).Opens files (opened ++ opens_behind request)
+opens_all files (ToList listing) described opened are = subst (λ (names : List Text). AreToOpen files listing.file names) (sym (append-nil opened)) are
+opens_all files (ToCheck checking) described opened are = (opened, are, refl)
+opens_all files (ToMake size budget) described opened are = append-nil opened ∙ are
+
+pub opened_all : (o : Option Contents) (request : Request) (described : Described) (opened : List Text) → IfSome o (λ before. OpensDescription request before.files (Ok described) opened) →
+    OpenedAll request o opened
+opened_all o request described opened =
+    known o (λ before. OpensDescription request before.files (Ok described) opened) (λ before. (promise_of request).Opens before.files (opened ++ opens_behind request))
+    (λ before are. opens_all before.files request described opened are)
+
+abbrev pub stopped : DescribeStop → Result Described DescribeStop
+stopped stop = Err stop
+
+opens_refused : (files : Files) (request : Request) (refusal : Refusal) (file : Text) (opened : List Text) →
+    OpensDescription request files (stopped (describe_stops.Refused refusal file)) opened → (promise_of request).Opens files (opened ++ opens_behind request)
+opens_refused files (ToList listing) refusal file opened are = subst (λ (names : List Text). AreToOpen files listing.file names) (sym (append-nil opened)) are
+opens_refused files (ToCheck checking) refusal file opened are = (opened, are, refl)
+opens_refused files (ToMake size budget) refusal file opened are = append-nil opened ∙ are
+
+pub opened_refused : (o : Option Contents) (request : Request) (refusal : Refusal) (file : Text) (opened : List Text) →
+    IfSome o (λ before. OpensDescription request before.files (stopped (describe_stops.Refused refusal file)) opened) → OpenedAll request o opened
+opened_refused o request refusal file opened =
+    known o (λ before. OpensDescription request before.files (stopped (describe_stops.Refused refusal file)) opened)
+    (λ before. (promise_of request).Opens before.files (opened ++ opens_behind request)) (λ before are. opens_refused before.files request refusal file opened are)
+
+-- names of which these are the first, which are those that the request opens
+pub record AreFirstOf (o : Option Contents) (request : Request) (names : List Text) : Type 0 where
+  pub all : List Text
+  pub first : AreFirstNames names all
+  pub are : IfSome o (λ c. (promise_of request).Opens c.files all)
+
+first_files : (files : Files) (name : Text) (stop : DescribeStop) (names : List Text) → OpensFor files name (stopped stop) names →
+    (all : List Text) × AreToOpen files name all × AreFirstNames names all
+first_files files name (describe_stops.Refused refusal file) names are = (names, are, first_all names)
+first_files files name describe_stops.ReadFault names are = are
+first_files files name describe_stops.OutOfMemory names are = are
+
+first_in : (files : Files) (request : Request) (stop : DescribeStop) (names : List Text) → OpensDescription request files (stopped stop) names →
+    (all : List Text) × (promise_of request).Opens files all × AreFirstNames names all
+first_in files (ToList listing) stop names are = first_files files listing.file stop names are
+first_in files (ToCheck checking) stop names are =
+    let there = first_files files checking.file stop names are in
+    (there.0 ++ checking.log ∷ [], (there.0, there.1, refl), first_longer names there.0 (checking.log ∷ []) there.2)
+first_in files (ToMake size budget) stop names are = (names, are, first_all names)
+
+pub first_of : (o : Option Contents) (request : Request) (stop : DescribeStop) (names : List Text) → IfSome o (λ c. OpensDescription request c.files (stopped stop) names) →
+    AreFirstOf o request names
+first_of None request stop names opens = record { all = names; first = first_all names; are = tt }
+first_of (Some c) request stop names opens =
+    let there = first_in c.files request stop names opens in
+    record { all = there.0; first = there.2; are = there.1 }
+
+-- ---- what was read
+
+abbrev Outcome : Type 0
+Outcome = Result Described DescribeStop
+
+opens_file : (o : Option Contents) (request : Request) (file : Text) (r : Outcome) (names : List Text) → IsFileOf request file → IfSome o (λ c. OpensFor c.files file r names) →
+    IfSome o (λ c. OpensDescription request c.files r names)
+opens_file None request file r names is opens = tt
+opens_file (Some c) (ToList listing) file r names is opens = subst (λ (f : Text). OpensFor c.files f r names) is opens
+opens_file (Some c) (ToCheck checking) file r names is opens = subst (λ (f : Text). OpensFor c.files f r names) is opens
+opens_file (Some c) (ToMake size budget) file r names is opens = absurd is
+
+describes_file : (o : Option Contents) (request : Request) (file : Text) (r : Outcome) → IsFileOf request file → IfSome o (λ c. IfOk r (Describes c.files file)) →
+    IfSome o (λ c. IfOk r (Describes (source_of request c.files) (named_of request).file))
+describes_file None request file r is describes = tt
+describes_file (Some c) (ToList listing) file r is describes = subst (λ (f : Text). IfOk r (Describes c.files f)) is describes
+describes_file (Some c) (ToCheck checking) file r is describes = subst (λ (f : Text). IfOk r (Describes c.files f)) is describes
+describes_file (Some c) (ToMake size budget) file r is describes = absurd is
+
+stopped_file : (o : Option Contents) (request : Request) (file : Text) (r : Outcome) → IsFileOf request file → IfSome o (λ c. IfErr r (HasStopped c.files file)) →
+    IfSome o (λ c. IfErr r (HasStopped (source_of request c.files) (named_of request).file))
+stopped_file None request file r is describes = tt
+stopped_file (Some c) (ToList listing) file r is describes = subst (λ (f : Text). IfErr r (HasStopped c.files f)) is describes
+stopped_file (Some c) (ToCheck checking) file r is describes = subst (λ (f : Text). IfErr r (HasStopped c.files f)) is describes
+stopped_file (Some c) (ToMake size budget) file r is describes = absurd is
+
+pub reads_as : (request : Request) (a b : Outcome) (x y : Moment) → a ≡ b → Reads request a x y → Reads request b x y
+reads_as request a b x y same reads = subst (λ (r : Outcome). Reads request r x y) same reads
+
+-- the file that is named, by what was asked
+pub file_as : (a b : Asked) (file : Text) → a ≡ b → IsFileOf (plain_request b) file → IsFileOf (plain_request a) file
+file_as a b file same is = subst (λ (asked : Asked). IsFileOf (plain_request asked) file) (sym same) is
+
+-- a description was read from the file that is named
+pub reads_file : (request : Request) (file : Text) (r : Outcome) (x y : Moment) → IsFileOf request file → IfSome x.told (λ c. IfOk r (Describes c.files file)) →
+    IfSome x.told (λ c. IfErr r (HasStopped c.files file)) → (IsErrOf r describe_stops.ReadFault → Rose x.reads y.reads) → ((rest : List ℕ) × (y.told ≡ option_map (with_rest rest) x.told)) →
+    y.begun ≡ x.begun → ((more : List Call) × (y.calls ≡ with_calls more x.calls) × (names_begun more ≡ []) × IfSome x.told (λ c. OpensFor c.files file r (names_opened more))) →
+    ((IsErrOf r describe_stops.ReadFault → ⊥) → IsCalm x y) → x.reads ≤ y.reads → x.writes ≤ y.writes → Reads request r x y
+reads_file request file r x y is described refused failed after begun calls calm reads writes = record {
+  rest = after.0;
+  told = after.1;
+  begun = begun;
+  reads = reads;
+  writes = writes;
+  opened = names_opened calls.0;
+  called = called_reading x y calls.0 calls.1 calls.2;
+  opens = opens_file x.told request file r (names_opened calls.0) is calls.3;
+  describes = describes_file x.told request file r is described;
+  stopped = stopped_file x.told request file r is refused;
+  failed = failed;
+  calm = calm;
+}
+
+whatever : {P : Type 0} (o : Option Contents) → P → IfSome o (λ _. P)
+whatever None p = tt
+whatever (Some c) p = p
+
+-- a made description was read
+pub reads_made : (size budget : ℕ) (r : Outcome) (m : Moment) → IfOk r (Describes (made_files size) made_named.file) → IfErr r (HasStopped (made_files size) made_named.file) →
+    (IsErrOf r describe_stops.ReadFault → ⊥) → Reads (ToMake size budget) r m m
+reads_made size budget r m described refused failed =
+    let same = same_told m.told in
+    record {
+      rest = same.0;
+      told = same.1;
+      begun = refl;
+      reads = omega arith;
+      writes = omega arith;
+      opened = [];
+      called = called_none m;
+      opens = whatever m.told refl;
+      describes = whatever m.told described;
+      stopped = whatever m.told refused;
+      failed = λ is. absurd (failed is);
+      calm = λ _. (refl, refl);
+    }
+  where
+    same_told : (o : Option Contents) → (rest : List ℕ) × (o ≡ option_map (with_rest rest) o)
+    same_told None = ([], refl)
+    same_told (Some c) = (c.rest, refl)
+
+pub no_rose : Rose 0 0 → ⊥
+no_rose (inl rose) = omega arith
+no_rose (inr end) = omega arith
+
+pub opens_made : (size budget : ℕ) (o : Option Contents) → IfSome o (λ c. (promise_of (ToMake size budget)).Opens c.files [])
+opens_made size budget o = whatever o refl

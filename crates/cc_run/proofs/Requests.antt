@@ -1,17 +1,21 @@
 -- What words ask for: its numbers are within their bounds.
-use Rattle.std.proofs.Common.{◌≡◌, ◌∙◌, refl, sym, ap, subst, ℕ, ◌≤◌, Bool, true, false, cond, List, [], Option, Some, None, IfSome, option_map, is_some, unwrap_or, nat_le, arith, length}
+use Rattle.std.proofs.Common.{◌≡◌, ◌∙◌, refl, sym, ap, subst, ℕ, ◌≤◌, Bool, true, false, cond, List, [], Option, Some, None, IfSome, option_map, unwrap_or, nat_le, arith, length}
 use Rattle.std.specs.Prelude.{◌&&◌, option_and_then}
 use Rattle.std.proofs.lemmas.Bool.{leb-true}
 use Rattle.cc_defs.specs.Grammar.{number_of}
 use Rattle.cc_defs.specs.Tokens.{is_number}
+use Rattle.cc_run.specs.Requested.{IsWithin}
+use Rattle.cc_run.specs.Names.{names_log}
 use Rattle.cc_run.specs.Tasks.{request_of, refusal_without_place}
-use Rattle.cc_run.specs.Answers.{RefusesRequest}
 use Rattle.cc_describe.specs.Places.{Files}
 use Rattle.cc_words.specs.declared.asked.Asked.{Asked}
 use Rattle.cc_words.specs.Readings.{reading}
-use Rattle.cc_words.specs.Requests.{Check, Listing, List as Listed, Make, Mode, Request, ToCheck, ToList, ToMake, asked_in, asked_of, bars_make, budget_of, count_of, mode_of, number_up_to, optional, provided}
+use Rattle.cc_words.specs.declared.modes.Mode.{Mode}
+use Rattle.cc_words.specs.declared.modes.Mode.TheVariants as modes
+use Rattle.cc_words.specs.Requests.{Request, asked_in, asked_of, budget_of, count_of, mode_of, number_up_to, optional, provided, suits, valued}
 use Rattle.cc_words.specs.Views.{plain_asked, plain_request}
 use Rattle.cc_words.specs.Words.{Given, Text}
+use Rattle.cc_run.proofs.Outcomes.{RefusesRequest}
 
 abbrev some : {X : Type 0} → X → Option X
 some x = Some x
@@ -31,9 +35,9 @@ from_test : {X : Type 0} (b : Bool) (x y : X) → cond b (Some x) None ≡ Some 
 from_test true x y e = (refl, some_is x y e)
 from_test false x y e = absurd cc
 
-from_barred : {X : Type 0} (b : Bool) (o : Option X) (y : X) → cond b None o ≡ Some y → o ≡ Some y
-from_barred true o y e = absurd cc
-from_barred false o y e = e
+from_suited : {X : Type 0} (b : Bool) (o : Option X) (y : X) → cond b o None ≡ Some y → o ≡ Some y
+from_suited true o y e = e
+from_suited false o y e = absurd cc
 
 both : (a b : Bool) → (a && b) ≡ true → (a ≡ true) × (b ≡ true)
 both true b e = (refl, e)
@@ -70,27 +74,24 @@ budget_within given budget e =
     within None h = omega arith
     within (Some n) h = h.1
 
--- its numbers are within their bounds
-abbrev IsWithin : Request → Type 0
-IsWithin (ToList listing) = IfSome listing.count (λ n. 1 ≤ n) × (listing.budget ≤ 2000000)
-IsWithin (ToCheck checking) = Unit {0}
-IsWithin (ToMake size budget) = (1 ≤ size) × (budget ≤ 2000000)
-
-asked_within : (mode : Mode) (given : Given) (request : Request) → asked_in mode given ≡ Some request → IsWithin request
-asked_within Listed given request e =
-    let file = from_provided given.file _ request (from_barred (is_some given.size) _ request e) in
+valued_within : (mode : Mode) (given : Given) (request : Request) → valued mode given ≡ Some request → IsWithin request
+valued_within modes.List given request e =
+    let file = from_provided given.file _ request e in
     let count = from_provided (count_of given) _ request file.2 in
     let budget = from_provided (budget_of given) _ request count.2 in
     subst IsWithin (some_is _ request budget.2) (count_within given count.0 count.1, budget_within given budget.0 budget.1)
-asked_within Check given request e =
-    let file = from_provided given.file _ request (from_barred _ _ request e) in
+valued_within modes.Check given request e =
+    let file = from_provided given.file _ request e in
     let log = from_provided given.log _ request file.2 in
     subst IsWithin (some_is _ request log.2) tt
-asked_within Make given request e =
-    let text = from_provided given.size _ request (from_barred (bars_make given) _ request e) in
+valued_within modes.Make given request e =
+    let text = from_provided given.size _ request e in
     let size = from_provided (number_up_to 100 text.0) _ request text.2 in
     let budget = from_provided (budget_of given) _ request size.2 in
     subst IsWithin (some_is _ request budget.2) ((number_within 100 size.0 text.0 size.1).0, budget_within given budget.0 budget.1)
+
+asked_within : (mode : Mode) (given : Given) (request : Request) → asked_in mode given ≡ Some request → IsWithin request
+asked_within mode given request e = valued_within mode given request (from_suited (suits mode given) (valued mode given) request e)
 
 read_within : (o : Option Given) (request : Request) → option_and_then asked_of o ≡ Some request → IsWithin request
 read_within None request e = absurd cc
@@ -98,15 +99,15 @@ read_within (Some given) request e =
     let mode = from_provided (mode_of given) _ request e in
     asked_within mode.0 given request mode.2
 
-pub listing_within : (words : List Text) (listing : Listing) → request_of words ≡ Some (ToList listing) → IfSome listing.count (λ n. 1 ≤ n) × (listing.budget ≤ 2000000)
-listing_within words listing e = read_within (reading words) (ToList listing) e
-
-pub making_within : (words : List Text) (size budget : ℕ) → request_of words ≡ Some (ToMake size budget) → (1 ≤ size) × (budget ≤ 2000000)
-making_within words size budget e = read_within (reading words) (ToMake size budget) e
+pub request_within : (words : List Text) (request : Request) → request_of words ≡ Some request → IsWithin request
+request_within words request e = read_within (reading words) request e
 
 -- what the words were read as
-pub asked_is : (words : List Text) (o : Option Asked) (a b : Asked) → plain_asked o ≡ request_of words → o ≡ Some a → a ≡ b → request_of words ≡ Some (plain_request b)
-asked_is words o a b taken is same = sym taken ∙ (ap plain_asked is ∙ ap (λ (x : Asked). some (plain_request x)) same)
+pub asked_is : (words : List Text) (o : Option Asked) (a : Asked) → plain_asked o ≡ request_of words → o ≡ Some a → request_of words ≡ Some (plain_request a)
+asked_is words o a taken is = sym taken ∙ ap plain_asked is
+
+pub named_log : (words : List Text) (request : Request) → request_of words ≡ Some request → names_log (Some request) ≡ names_log (request_of words)
+named_log words request asked = sym (ap names_log asked)
 
 pub asked_none : (words : List Text) (o : Option Asked) → plain_asked o ≡ request_of words → o ≡ None → request_of words ≡ None
 asked_none words o taken is = sym taken ∙ ap plain_asked is

@@ -19,7 +19,7 @@ use Rattle.cc_defs.specs.Rows.{IsRow}
 use Rattle.cc_defs.specs.Runs.{Ask, Horizon, Histories, Conditions, Claim, Failure, Run, Section, EndsWith, IsFairRun, IsFairSection, IsTrueOf, LooksForOne, MayEnd, MayEndWithin, axioms_of, denied_rows, done_events, events_of, first_horizon, horizon_at, horizon_events, key_row, last_horizon, optional, rows_of, section_events, told}
 use Rattle.cc_query.specs.Accepted.{HaveGoodAxioms, lines_of}
 use Rattle.cc_query.specs.Laws.{SpentBudgetsAreSmall}
-use Rattle.cc_run.specs.Answers.{IsSpentEarly, axioms_in}
+use Rattle.cc_run.specs.Searching.{IsSpentEarly, axioms_in}
 use Rattle.cc_run.specs.Telling.{HasGoodLines, task_of}
 use Rattle.cc_run.proofs.Worth.{all_front, lines_both}
 

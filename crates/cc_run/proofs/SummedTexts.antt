@@ -9,7 +9,7 @@ use Rattle.cc_defs.specs.Description.{Description}
 use Rattle.cc_ports.specs.declared.desk.To.TheVariants as outputs
 use Rattle.cc_print.specs.Summaries.{endings_told, summary}
 use Rattle.cc_query.specs.Sessions.{with_row}
-use Rattle.cc_run.specs.Answers.{Summed, summed}
+use Rattle.cc_run.specs.Searching.{Summed, summed}
 use Rattle.cc_run.specs.Stops.{given_to, texts_behind}
 use Rattle.cc_run.specs.Telling.{SumUp}
 

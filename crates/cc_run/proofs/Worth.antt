@@ -21,7 +21,7 @@ use Rattle.cc_defs.specs.Resolved.{Query}
 use Rattle.cc_defs.specs.Runs.{Ask, Horizon, Histories, Conditions, Claim, Failure, Run, IsFairRun, MayEnd, axioms_of, done_events, events_of, first_horizon, horizon_at, horizon_events, optional, told}
 use Rattle.cc_query.specs.Accepted.{AreGoodAxioms, IsReported, WrittenLogsAreAccepted, lines_of}
 use Rattle.cc_query.specs.Sessions.{IsFewEvent, IsShortEvent, refusal_at, with_row}
-use Rattle.cc_run.specs.Answers.{AreLogsAccepted, KeepsLimits, only_reported}
+use Rattle.cc_run.specs.Searching.{AreLogsAccepted, KeepsLimits, only_reported}
 use Rattle.cc_run.specs.Telling.{HasGoodLines, task_of}
 
 -- ---- lines behind others

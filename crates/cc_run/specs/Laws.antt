@@ -5,7 +5,7 @@ use Rattle.cc_defs.specs.Events.{log_of, out_text}
 use Rattle.cc_defs.specs.LogTexts.{IsFormed}
 use Rattle.cc_defs.specs.Runs.{IsFairRun, Run}
 use Rattle.cc_query.specs.Accepted.{lines_of}
-use Rattle.cc_run.specs.Answers.{told_by}
+use Rattle.cc_run.specs.Searching.{told_by}
 use Rattle.cc_run.specs.Tasks.{Task}
 
 -- a fair run of a task, whose lines can be written

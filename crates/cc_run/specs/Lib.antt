@@ -1,8 +1,14 @@
 pub mod Answers
 pub mod Asking
 pub mod Codes
+pub mod Laws
+pub mod Modes
 pub mod Names
+pub mod Promises
+pub mod Refusing
+pub mod Requested
+pub mod Searching
 pub mod Stops
 pub mod Tasks
 pub mod Telling
-pub mod Laws
+pub mod Wholes

@@ -1,11 +1,13 @@
 -- The names of the files that a run opens, and of the log that it begins; and the statuses with which it may end.
-use Rattle.std.specs.Prelude.{◌≡◌, List, [], ◌∷◌, ◌++◌, Option, Some, None}
+use Rattle.std.specs.Prelude.{◌≡◌, Bool, List, [], Option, Some, None, is_some}
 use Rattle.cc_defs.specs.Runs.{optional}
-use Rattle.cc_describe.specs.Describing.{AreFirstNames, AreToOpen}
+use Rattle.cc_describe.specs.Describing.{AreFirstNames}
 use Rattle.cc_describe.specs.Places.{Files}
 use Rattle.cc_run.specs.declared.status.Status.{Status}
 use Rattle.cc_run.specs.declared.status.Status.TheVariants as statuses
-use Rattle.cc_words.specs.Requests.{Request, ToList, ToCheck, ToMake}
+use Rattle.cc_run.specs.Answers.{promise_of}
+use Rattle.cc_run.specs.Promises.{IsEndStatus}
+use Rattle.cc_words.specs.Requests.{Request}
 use Rattle.cc_words.specs.Words.{Text}
 
 -- ---- statuses
@@ -38,6 +40,10 @@ pub record OpensAsked (files : Files) (request : Option Request) (status : Statu
 abbrev pub log_named : Option Request → Option Text
 log_named None = None
 log_named (Some request) = (promise_of request).begins
+
+-- whether it begins one
+abbrev pub names_log : Option Request → Bool
+names_log request = is_some (log_named request)
 
 abbrev pub log_asked : Option Request → List Text
 log_asked request = optional (log_named request)

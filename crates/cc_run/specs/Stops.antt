@@ -1,14 +1,14 @@
 -- Why a run stops before its end, and what each step of a run gives.
-use Rattle.std.specs.Prelude.{◌≡◌, ℕ, ◌⊎◌, ◌≤◌, Bool, true, false, List, [], ◌∷◌, ◌++◌, flat_map, Option, Some, None, option_map, is_some, Result, MatchResult, IfSome, IfOk, IfErr, IsSomeAnd, IsErrOf, is_ok, Ok, Err, ◌||◌}
+use Rattle.std.specs.Prelude.{◌≡◌, ℕ, ◌⊎◌, ◌≤◌, Bool, true, false, List, [], ◌∷◌, ◌++◌, flat_map, Option, Some, option_map, Result, MatchResult, IfSome, IfOk, IfErr, IsSomeAnd, IsErrOf, is_ok, Ok, Err, ◌||◌}
 use Rattle.cc_defs.specs.declared.event.Event.{Event}
 use Rattle.cc_defs.specs.declared.event.Event.TheVariants as events
 use Rattle.cc_defs.specs.declared.event.Told.{Told}
 use Rattle.cc_defs.specs.Conditions.{IsSignatureOfDescription}
 use Rattle.cc_defs.specs.Description.{Description, sizes_at}
-use Rattle.cc_defs.specs.Events.{line_told, log_of}
+use Rattle.cc_defs.specs.Events.{line_told}
 use Rattle.cc_defs.specs.LogTexts.{line_text}
 use Rattle.cc_defs.specs.Rows.{IsRow}
-use Rattle.cc_defs.specs.Runs.{IsFairRun, Run}
+use Rattle.cc_defs.specs.Runs.{Run}
 use Rattle.cc_defs.specs.Signatures.{Signature}
 use Rattle.cc_describe.specs.Describing.{AreFirstNames}
 use Rattle.cc_ports.specs.Calls.{Call, names_begun, names_opened, with_calls}
@@ -19,11 +19,12 @@ use Rattle.cc_run.specs.declared.status.Status.{Status}
 use Rattle.cc_run.specs.declared.status.Status.TheVariants as statuses
 use Rattle.cc_run.specs.declared.status.Stop.{Stop}
 use Rattle.cc_run.specs.declared.status.Stop.TheVariants as stops
-use Rattle.cc_run.specs.Answers.{Manner, Whole, Summed, Given, AreFronts, KeepsLimits, IsFresh, IsTold, PassesLimit, Ended, GaveSoFar, left_in, memory_line, nothing, out_told, read_fault_line, refusal_text, told_by, write_fault_line}
+use Rattle.cc_run.specs.Answers.{Ended, GaveSoFar, IsFresh, left_in}
 use Rattle.cc_run.specs.Names.{AreAsked, IsAnswer, MayEndWith, log_asked}
+use Rattle.cc_run.specs.Refusing.{memory_line, read_fault_line, write_fault_line}
+use Rattle.cc_run.specs.Searching.{IsTold, Manner, OneByOne, Summed, out_told}
 use Rattle.cc_run.specs.Tasks.{Task, request_of}
-use Rattle.cc_defs.specs.declared.refusal.Refusal.{Refusal}
-use Rattle.cc_words.specs.Requests.{Request, ToList, ToCheck, ToMake}
+use Rattle.cc_run.specs.Wholes.{AreFronts, Given, joined, nothing}
 use Rattle.cc_words.specs.Words.{Text}
 
 -- what is known of a desk at a moment
@@ -90,7 +91,7 @@ texts_of manner d told = record { out = out_told manner d told; err = []; log = 
 
 -- what one more event gives behind others, with which the search has not ended
 abbrev pub texts_behind : Manner → Description → List Told → Told → Given
-texts_behind Whole d before told = texts_of Whole d (told ∷ [])
+texts_behind OneByOne d before told = texts_of OneByOne d (told ∷ [])
 texts_behind (Summed size) d before told = record { out = out_told (Summed size) d (before ++ told ∷ []); err = []; log = lines_text (told ∷ []) }
 
 -- the row of a history or a counterexample is one of its horizon
@@ -103,22 +104,14 @@ IsRowOfEvent signature (events.NoConditions horizon) row = Unit {0}
 IsRowOfEvent signature (events.Holds horizon) row = Unit {0}
 IsRowOfEvent signature (events.Ended ending) row = Unit {0}
 
--- what a search gives is a front of what it tells
-pub record IsTelling (manner : Manner) (task : Task) (run : Run) (given : Given) : Type 0 where
-  pub fair : IsFairRun task.description task.query task.ask run
-  pub limits : KeepsLimits task (told_by task run)
-  pub out : IsPrefix given.out (out_told manner task.description (told_by task run))
-  pub log : IsPrefix given.log (log_of (told_by task run))
-  pub err : (given.err ≡ []) ⊎ ((refusal : Refusal) × PassesLimit task run refusal × IsPrefix given.err (refusal_text refusal []))
-
-abbrev pub behind : (head : List ℕ) → Given → Given
-behind head given = record given { log = head ++ given.log }
-
--- A search whose log has this head already: it tells a run up to its ending or to a limit, or it stops within.
-pub record Searches (manner : Manner) (task : Task) (head : List ℕ) (old new : Moment) (result : Result Status Stop) : Type 0 where
+-- A search that gave this before tells a run, up to its ending or to a limit; or it stops within.
+pub record Searches (manner : Manner) (task : Task) (before : Given) (old new : Moment) (result : Result Status Stop) : Type 0 where
+  pub run : Run
   pub given : Given
-  pub moves : Moves given old new result
-  pub how : MatchResult result (λ status. (run : Run) × IsTold manner task run (behind head given) status) (λ _. (run : Run) × IsTelling manner task run (behind head given))
+  pub ends : Option Status
+  pub told : IsTold manner task run (record { given = joined before given; begun = false; ends = ends })
+  pub step : Step given old new result
+  pub ended : IfOk result (λ status. ends ≡ Some status)
 
 -- ---- stops
 
@@ -154,13 +147,6 @@ pub record TellsStop (stop : Stop) (old new : Moment) (status : Status) : Type 0
 pub record Leaves (words : List (List ℕ)) (before after : Contents) (begun : Bool) (result : Result Status Stop) : Type 0 where
   pub files : after.files ≡ before.files
   pub how : MatchResult result (λ status. Ended before.files words status (left_in after begun)) (λ _. GaveSoFar before.files words (left_in after begun))
-
--- whether a log is to be begun
-abbrev pub names_log : Option Request → Bool
-names_log (Some (ToList listing)) = is_some listing.log
-names_log (Some (ToCheck checking)) = false
-names_log (Some (ToMake size budget)) = false
-names_log None = false
 
 -- the status of a run that ended or stopped
 abbrev pub outcome : Result Status Stop → Status

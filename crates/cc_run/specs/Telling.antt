@@ -1,5 +1,5 @@
 -- What is told of one event of a search, and how a search goes on behind what it told before.
-use Rattle.std.specs.Prelude.{◌≡◌, ℕ, ◌≤◌, Bool, not, List, [], ◌∷◌, ◌++◌, map, Contains, Option, Some, None, Result, Ok, Err, MatchResult}
+use Rattle.std.specs.Prelude.{◌≡◌, ℕ, ◌≤◌, Bool, not, List, [], ◌∷◌, ◌++◌, map, Contains, Option, Some, None, Result, Ok, Err}
 use Rattle.std.specs.List.{AllByRecursion}
 use Rattle.cc_asked.specs.Descriptions.{IsDescriptionOf}
 use Rattle.cc_defs.specs.declared.event.Event.{Event}
@@ -11,7 +11,7 @@ use Rattle.cc_defs.specs.Description.{Description}
 use Rattle.cc_defs.specs.Limits.{most_histories}
 use Rattle.cc_defs.specs.LogTexts.{IsFormed, header}
 use Rattle.cc_defs.specs.Resolved.{Query}
-use Rattle.cc_defs.specs.Runs.{Ask, Run}
+use Rattle.cc_defs.specs.Runs.{Ask}
 use Rattle.cc_describe.specs.declared.description.Described.{Described}
 use Rattle.cc_print.specs.Summaries.{empty_horizons, endings_told}
 use Rattle.cc_query.specs.Accepted.{HaveGoodAxioms, lines_of}
@@ -20,13 +20,10 @@ use Rattle.cc_run.specs.declared.status.Status.{Status}
 use Rattle.cc_run.specs.declared.status.Stop.{Stop}
 use Rattle.cc_run.specs.declared.telling.Teller.{Teller}
 use Rattle.cc_run.specs.declared.telling.Teller.TheVariants as tellers
-use Rattle.cc_run.specs.Answers.{Given, IsTold, Manner, Whole, Summed, status_of}
-use Rattle.cc_run.specs.Stops.{IsTelling, Moment, Moves, behind, texts_behind, texts_of}
+use Rattle.cc_run.specs.Searching.{Manner, OneByOne, Summed, status_of}
+use Rattle.cc_run.specs.Stops.{Moment, Moves, Searches, texts_behind, texts_of}
 use Rattle.cc_run.specs.Tasks.{Task}
-
--- one after the other
-abbrev pub joined : Given → Given → Given
-joined a b = record { out = a.out ++ b.out; err = a.err ++ b.err; log = a.log ++ b.log }
+use Rattle.cc_run.specs.Wholes.{Given, joined, only_log}
 
 -- the status of a run whose last event this is; none where more is to come
 abbrev pub status_told : Event → Option Status
@@ -54,16 +51,10 @@ pub record HasGoodLines (d : Description) (q : Query) (key : Option Key) (told :
       refusal_at d q horizon (not conditions) key ≡ None
   pub few : (horizon number : ℕ) → Contains (map (λ one. one.event) told) (events.History horizon number) → number ≤ most_histories
 
--- A search that gave this before: it tells a run up to its ending or to a limit, or it stops within.
-pub record Finishes (manner : Manner) (task : Task) (before : Given) (old new : Moment) (result : Result Status Stop) : Type 0 where
-  pub given : Given
-  pub moves : Moves given old new result
-  pub how : MatchResult result (λ status. (run : Run) × IsTold manner task run (joined before given) status) (λ _. (run : Run) × IsTelling manner task run (joined before given))
-
 -- ---- how events are told
 
 abbrev pub manner_of : Teller → Manner
-manner_of tellers.Whole = Whole
+manner_of tellers.OneByOne = OneByOne
 manner_of (tellers.Summed size outcome) = Summed size
 
 -- these events have the summary of those
@@ -72,7 +63,7 @@ SumUp outcome told = (empty_horizons outcome ≡ empty_horizons told) × (ending
 
 -- What a teller keeps is right for the events that were told, with which the search has not ended.
 abbrev pub KeepsUp : Teller → List Told → Type 0
-KeepsUp tellers.Whole told = Unit {0}
+KeepsUp tellers.OneByOne told = Unit {0}
 KeepsUp (tellers.Summed size outcome) told = SumUp outcome.items told × (endings_told told ≡ [])
 
 -- one event more of it was told
@@ -84,13 +75,17 @@ pub record TellsOne (manner : Manner) (d : Description) (q : Query) (given : Lis
   pub keeps : KeepsUp teller (given ++ told ∷ [])
   pub moves : Moves {X = Option Status} (texts_behind manner d given told) old new (Ok None)
 
+-- what a search gave that told these events
+abbrev pub so_far : Manner → Description → List Told → Given
+so_far manner d given = joined (only_log header) (texts_of manner d given)
+
 -- behind these events a session tells the next one, or it is done
 abbrev pub GoesOn : Manner → Description → Query → List Told → Teller → SessionView → SessionView → Moment → Moment → Result (Option Status) Stop → Type 0
 GoesOn manner d q given teller session next old new (Ok None) = TellsOne manner d q given teller next old new
 GoesOn manner d q given teller session next old new (Ok (Some status)) =
-    Finishes manner (task_of d q session.ask) (behind header (texts_of manner d given)) old new (Ok status)
+    Searches manner (task_of d q session.ask) (so_far manner d given) old new (Ok status)
 GoesOn manner d q given teller session next old new (Err stop) =
-    Finishes manner (task_of d q session.ask) (behind header (texts_of manner d given)) old new (Err stop)
+    Searches manner (task_of d q session.ask) (so_far manner d given) old new (Err stop)
 
 -- the events so far were told, and nothing else was given
 pub record ListedSoFar (manner : Manner) (d : Description) (q : Query) (teller : Teller) (session : SessionView) (old new : Moment) : Type 0 where

@@ -2,11 +2,10 @@
 #![tactic(auto)]
 
 mod asking;
-mod checking;
 pub mod laws;
-mod listing;
-mod making;
-mod printing;
+mod modes;
+mod refusing;
+mod searching;
 mod status;
 mod summing;
 mod telling;

@@ -5,7 +5,7 @@ ghost use Rattle.cc_defs.specs.declared.event.Told.{Told as ToldEvent};
 ghost use Rattle.cc_ports.specs.declared.desk.To.TheVariants as outputs;
 ghost use Rattle.cc_print.specs.Summaries.{endings_told, summary};
 ghost use Rattle.cc_query.specs.Sessions.{IsShortEvent, with_row};
-ghost use Rattle.cc_run.specs.Answers.{Summed};
+ghost use Rattle.cc_run.specs.Searching.{Summed};
 ghost use Rattle.cc_run.specs.Stops.{Step, moment, given_to, texts_behind};
 ghost use Rattle.cc_run.specs.Telling.{SumUp, status_told};
 

@@ -10,12 +10,12 @@ ghost use Rattle.cc_defs.specs.Rows.{IsRow};
 ghost use Rattle.cc_defs.specs.Texts as texts;
 ghost use Rattle.cc_ports.specs.declared.desk.To.TheVariants as outputs;
 ghost use Rattle.cc_query.specs.Sessions.{IsShortEvent, with_row};
-ghost use Rattle.cc_run.specs.Answers.{Whole};
+ghost use Rattle.cc_run.specs.Searching.{OneByOne};
 ghost use Rattle.cc_run.specs.Stops.{IsRowOfEvent, Step, moment, given_to, texts_behind, texts_of};
 ghost use Rattle.cc_run.specs.Telling.{KeepsUp, manner_of, status_told};
 ghost use Rattle.cc_sorts.specs.Tables.{IsSignatureFor};
 
-use crate::printing::give;
+use crate::refusing::give;
 use crate::status::Stop;
 use crate::summing::sum;
 use cc_check::put_line;
@@ -29,7 +29,7 @@ use std::alloc::Global;
 #[derive(Drop)]
 pub(crate) enum Teller {
     /// Each as it comes.
-    Whole,
+    OneByOne,
     /// By a summary behind the last one, as that of a made description of this size; with the events so far that it speaks of.
     Summed { size: u32, outcome: Vec<Told> },
 }
@@ -129,7 +129,7 @@ fn tell<D: Desk>(
     requires row { IsRowOfEvent described.now.sig event.now row.now }
     requires short { IsShortEvent event.now }
     ensures { (d : Description) → IsDescriptionOf described.now d →
-        Step (texts_of Whole d (with_row event.now row.now ∷ [])) (moment D.told D.begun D.read_faults D.write_faults D.calls desk.old) (moment D.told D.begun D.read_faults D.write_faults D.calls desk.new) result }
+        Step (texts_of OneByOne d (with_row event.now row.now ∷ [])) (moment D.told D.begun D.read_faults D.write_faults D.calls desk.old) (moment D.told D.begun D.read_faults D.write_faults D.calls desk.new) result }
 {
     match event {
         Event::Log(line) => tell_line(alloc, desk, line),
@@ -164,7 +164,7 @@ pub(crate) fn tell_by<D: Desk>(
     ensures manner { manner_of teller.new ≡ manner_of teller.old }
 {
     match teller {
-        Teller::Whole => tell(alloc, desk, described, event, row),
+        Teller::OneByOne => tell(alloc, desk, described, event, row),
         Teller::Summed { size, outcome } => sum(alloc, desk, *size, outcome, event),
     }
 }

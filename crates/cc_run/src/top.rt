@@ -1,40 +1,40 @@
-//! The top call.
-ghost use Rattle.std.specs.Prelude.{◌≡◌, ◌≢◌, ◌≤◌, List, [], false, map, Some, IfSome, IsSomeAnd, is_some, string_bytes};
+//! The top call, and the way of each run up to its mode.
+ghost use Rattle.std.specs.Prelude.{◌≡◌, ◌≢◌, ◌≤◌, ℕ, List, Option, false, map, Some, IfOk, IfSome, IsSomeAnd, string_bytes};
 ghost use Rattle.cc_arena.specs.GroundViews.{plain_ground_query};
 ghost use Rattle.cc_asked.specs.Descriptions.{IsDescriptionOf};
 ghost use Rattle.cc_defs.specs.Description.{Description};
 ghost use Rattle.cc_defs.specs.Resolved.{Query};
-ghost use Rattle.cc_defs.specs.Runs.{optional};
 ghost use Rattle.cc_describe.specs.Describing.{Describes, SaysAll, AsksFormulas, HasForms};
 ghost use Rattle.cc_ports.specs.Calls.{Call, names_begun, names_opened, with_calls};
 ghost use Rattle.cc_ports.specs.Contents.{Rose};
 ghost use Rattle.cc_run.specs.Answers.{IsFresh, Answered, counts};
 ghost use Rattle.cc_run.specs.Asking.{AreOf, AreSearchable};
-ghost use Rattle.cc_run.specs.Names.{BeginsAsked, IsEndStatus, MayEndWith, OpensAsked};
-ghost use Rattle.cc_run.specs.Stops.{Begins, Prints, PrintsAsked, moment, names_log};
-ghost use Rattle.cc_run.specs.Tasks.{IsTask, named_by, request_of};
+ghost use Rattle.cc_run.specs.Names.{BeginsAsked, MayEndWith, OpensAsked, names_log};
+ghost use Rattle.cc_run.specs.Promises.{IsEndStatus};
+ghost use Rattle.cc_run.specs.Requested.{IsFileOf, IsWithin, Reads, named_of, opens_behind, source_of};
+ghost use Rattle.cc_run.specs.Stops.{Moment, Prints, PrintsAsked, moment};
+ghost use Rattle.cc_run.specs.Tasks.{IsTask, request_of};
 ghost use Rattle.cc_sorts.specs.Tables.{IsSignatureFor};
-ghost use Rattle.cc_words.specs.Requests.{Listing, ToList};
+ghost use Rattle.cc_words.specs.Requests.{Request, ToMake};
 ghost use Rattle.cc_words.specs.Views.{plain_request, plain_text};
-ghost use Rattle.cc_words.specs.declared.asked.Asked.TheVariants as requests;
 ghost use Rattle.cc_words.specs.Words.{Text};
 
 use crate::asking::{Prepared, prepare};
-use crate::checking::check_described;
-use crate::listing::list;
-use crate::making::answer_make;
-use crate::printing::{file_named, refuse, tell_stop};
+use crate::modes::{check, list, make};
+use crate::refusing::{file_named, refuse, tell_stop};
 use crate::status::{Status, Stop};
-use crate::telling::Teller;
 use bumpalo::Bump;
 use cc_arena::Terms;
 use cc_defs::{Fault, Refusal};
 use cc_describe::laws::has_places;
 use cc_describe::{DescribeStop, Described, describe};
+use cc_make::{TextDesk, make_text};
 use cc_ports::{Desk, Files, StillDesk};
-use cc_query::Ask;
-use cc_words::{Asked, CheckAsked, ListAsked, read};
+use cc_words::{Asked, read};
 use std::alloc::Global;
+
+/// The name under which a made description is read.
+const MADE: &str = "made";
 
 /// Reads the words, and does the one thing that they ask for: with a file that they name and a query of its description, it lists the
 /// histories of the query at the first of its horizons that has any, or judges the claim of the query, or judges a log of it, which
@@ -78,44 +78,74 @@ fn answer<D: Desk>(alloc: Global, words: &[String], desk: &mut D) -> Result<Stat
 {
     has_places();
     match read(alloc, words)? {
-        Some(Asked::List(asked)) => answer_list(alloc, desk, &asked),
-        Some(Asked::Check(asked)) => answer_check(alloc, desk, &asked),
-        Some(Asked::Make { size, budget }) => answer_make(alloc, desk, size, budget),
+        Some(asked) => answer_asked(alloc, desk, &asked),
         None => refuse(alloc, desk, &Refusal::at(1, 0, 0), ""),
     }
 }
 
-/// The answer to words that ask for histories.
-fn answer_list<D: Desk>(alloc: Global, desk: &mut D, asked: &ListAsked<'_>) -> Result<Status, Stop>
-    requires count { IfSome asked.now.count (λ count. 1 ≤ count) }
-    requires budget { asked.now.budget ≤ 2000000 }
-    ensures { (words : List Text) → request_of words ≡ Some (plain_request (requests.List asked.now)) →
-        PrintsAsked words (is_some asked.now.log) (moment D.told D.begun D.read_faults D.write_faults D.calls desk.old) (moment D.told D.begun D.read_faults D.write_faults D.calls desk.new) result }
+/// The answer to words that ask for something.
+fn answer_asked<D: Desk>(alloc: Global, desk: &mut D, asked: &Asked<'_>) -> Result<Status, Stop>
+    requires within { IsWithin (plain_request asked.now) }
+    ensures { (words : List Text) → request_of words ≡ Some (plain_request asked.now) →
+        PrintsAsked words (names_log (Some (plain_request asked.now))) (moment D.told D.begun D.read_faults D.write_faults D.calls desk.old) (moment D.told D.begun D.read_faults D.write_faults D.calls desk.new) result }
 {
-    match describe(alloc, desk, asked.file) {
-        Ok(described) => {
-            let answer = list_described(alloc, desk, asked, &described);
-            drop(described);
-            answer
-        }
-        Err(DescribeStop::Refused { refusal, file }) => refuse(alloc, desk, &refusal, file.text()),
-        Err(DescribeStop::ReadFault) => Err(Stop::ReadFault),
-        Err(DescribeStop::OutOfMemory) => Err(Stop::OutOfMemory),
+    match asked {
+        Asked::List(list) => answer_file(alloc, desk, asked, list.file),
+        Asked::Check(check) => answer_file(alloc, desk, asked, check.file),
+        Asked::Make { size, .. } => answer_made(alloc, desk, asked, *size),
     }
 }
 
-/// The answer to words that ask whether a log is right.
-fn answer_check<D: Desk>(
+/// The answer to words that name the file of a description.
+fn answer_file<D: Desk>(
     alloc: Global,
     desk: &mut D,
-    asked: &CheckAsked<'_>,
+    asked: &Asked<'_>,
+    file: &str,
 ) -> Result<Status, Stop>
-    ensures { (words : List Text) → request_of words ≡ Some (plain_request (requests.Check asked.now)) →
-        PrintsAsked words false (moment D.told D.begun D.read_faults D.write_faults D.calls desk.old) (moment D.told D.begun D.read_faults D.write_faults D.calls desk.new) result }
+    requires within { IsWithin (plain_request asked.now) }
+    ensures { (words : List Text) → request_of words ≡ Some (plain_request asked.now) → IsFileOf (plain_request asked.now) file.now →
+        PrintsAsked words (names_log (Some (plain_request asked.now))) (moment D.told D.begun D.read_faults D.write_faults D.calls desk.old) (moment D.told D.begun D.read_faults D.write_faults D.calls desk.new) result }
 {
-    match describe(alloc, desk, asked.file) {
+    let described = describe(alloc, desk, file);
+    answer_described(alloc, desk, asked, described)
+}
+
+/// The answer to words that ask for a made description of a size.
+fn answer_made<D: Desk>(
+    alloc: Global,
+    desk: &mut D,
+    asked: &Asked<'_>,
+    size: u32,
+) -> Result<Status, Stop>
+    requires within { IsWithin (plain_request asked.now) }
+    requires size { 1 ≤ size }
+    ensures { (words : List Text) (budget : ℕ) → request_of words ≡ Some (plain_request asked.now) → plain_request asked.now ≡ ToMake size budget →
+        PrintsAsked words (names_log (Some (plain_request asked.now))) (moment D.told D.begun D.read_faults D.write_faults D.calls desk.old) (moment D.told D.begun D.read_faults D.write_faults D.calls desk.new) result }
+{
+    let text = make_text(alloc, size)?;
+    let mut source = TextDesk::of(text.text().as_bytes());
+    let described = describe(alloc, &mut source, MADE);
+    answer_described(alloc, desk, asked, described)
+}
+
+/// The answer once the description was read, or was not.
+fn answer_described<D: Desk>(
+    alloc: Global,
+    desk: &mut D,
+    asked: &Asked<'_>,
+    described: Result<Described, DescribeStop>,
+) -> Result<Status, Stop>
+    requires within { IsWithin (plain_request asked.now) }
+    requires says { IfOk described SaysAll }
+    requires forms { IfOk described HasForms }
+    requires formulas { IfOk described AsksFormulas }
+    ensures { (words : List Text) (request : Request) (earlier : Moment) → request_of words ≡ Some request → plain_request asked.now ≡ request →
+        Reads request described earlier (moment D.told D.begun D.read_faults D.write_faults D.calls desk.old) → PrintsAsked words (names_log (Some request)) earlier (moment D.told D.begun D.read_faults D.write_faults D.calls desk.new) result }
+{
+    match described {
         Ok(described) => {
-            let answer = check_described(alloc, desk, asked, &described);
+            let answer = answer_query(alloc, desk, asked, &described);
             drop(described);
             answer
         }
@@ -125,26 +155,25 @@ fn answer_check<D: Desk>(
     }
 }
 
-/// Lists the histories of a query of a description, where nothing of what is named is refused.
-fn list_described<D: Desk>(
+/// The answer for a query of a description, where nothing of what is named is refused.
+fn answer_query<D: Desk>(
     alloc: Global,
     desk: &mut D,
-    asked: &ListAsked<'_>,
+    asked: &Asked<'_>,
     described: &Described,
 ) -> Result<Status, Stop>
-    requires count { IfSome asked.now.count (λ count. 1 ≤ count) }
-    requires budget { asked.now.budget ≤ 2000000 }
+    requires within { IsWithin (plain_request asked.now) }
     requires says { SaysAll described.now }
     requires forms { HasForms described.now }
     requires formulas { AsksFormulas described.now }
-    ensures { (words : List Text) → request_of words ≡ Some (plain_request (requests.List asked.now)) →
-        IfSome (D.told desk.old) (λ before. Describes before.files asked.now.file.now described.now) →
-        Prints words (is_some asked.now.log) [] (moment D.told D.begun D.read_faults D.write_faults D.calls desk.old) (moment D.told D.begun D.read_faults D.write_faults D.calls desk.new) result }
+    ensures { (words : List Text) (request : Request) → request_of words ≡ Some request → plain_request asked.now ≡ request →
+        IfSome (D.told desk.old) (λ before. Describes (source_of request before.files) (named_of request).file described.now) →
+        Prints words (names_log (Some request)) (opens_behind request) (moment D.told D.begun D.read_faults D.write_faults D.calls desk.old) (moment D.told D.begun D.read_faults D.write_faults D.calls desk.new) result }
 {
     let arena = Bump::new(alloc);
     let terms = Terms::new(&arena);
-    match prepare(alloc, described, asked.query, asked.after, &terms) {
-        Ok(prepared) => list_prepared(alloc, desk, asked, described, prepared),
+    match prepare(alloc, described, query_of(asked), key_of(asked), &terms) {
+        Ok(prepared) => answer_prepared(alloc, desk, asked, described, prepared),
         Err(Fault::Refused(refusal)) => {
             let file = file_named(described.files.items(), &refusal);
             refuse(alloc, desk, &refusal, file)
@@ -153,46 +182,52 @@ fn list_described<D: Desk>(
     }
 }
 
-/// Begins a log where one is named.
-fn begin_log<D: Desk>(desk: &mut D, name: Option<&str>) -> Result<(), Stop>
-    ensures { Begins (is_some name.entry) (optional (plain_text name.entry)) (moment D.told D.begun D.read_faults D.write_faults D.calls desk.old) (moment D.told D.begun D.read_faults D.write_faults D.calls desk.new) result }
+/// The label of the query that is asked for.
+fn query_of<'a>(asked: &Asked<'a>) -> Option<&'a str>
+    ensures { plain_text result ≡ (named_of (plain_request asked.now)).query }
 {
-    match name {
-        Some(name) => match desk.create_file(name) {
-            Ok(()) => Ok(()),
-            Err(_) => Err(Stop::WriteFault),
-        },
-        None => Ok(()),
+    match asked {
+        Asked::List(list) => list.query,
+        Asked::Check(check) => check.query,
+        Asked::Make { .. } => None,
     }
 }
 
-/// Begins the log where one is named, and lists the histories.
-fn list_prepared<D: Desk>(
+/// The text of the key that is asked for.
+fn key_of<'a>(asked: &Asked<'a>) -> Option<&'a str>
+    ensures { plain_text result ≡ (named_of (plain_request asked.now)).after }
+{
+    match asked {
+        Asked::List(list) => list.after,
+        Asked::Check(check) => check.after,
+        Asked::Make { .. } => None,
+    }
+}
+
+/// The answer of the mode.
+fn answer_prepared<D: Desk>(
     alloc: Global,
     desk: &mut D,
-    asked: &ListAsked<'_>,
+    asked: &Asked<'_>,
     described: &Described,
     prepared: Prepared<'_>,
 ) -> Result<Status, Stop>
-    requires count { IfSome asked.now.count (λ count. 1 ≤ count) }
-    requires budget { asked.now.budget ≤ 2000000 }
+    requires within { IsWithin (plain_request asked.now) }
     requires signature { IsSignatureFor described.now.table described.now.sig }
     requires searchable { AreSearchable described.now.sig prepared.laws (plain_ground_query prepared.query) prepared.key }
     requires of { (d : Description) × (q : Query) × IsDescriptionOf described.now d × AreOf described.now.sig prepared.laws (plain_ground_query prepared.query) d q }
-    ensures { (words : List Text) (listing : Listing) (d : Description) (q : Query) → request_of words ≡ Some (ToList listing) →
-        plain_request (requests.List asked.now) ≡ ToList listing → IsDescriptionOf described.now d →
-        AreOf described.now.sig prepared.entry.laws (plain_ground_query prepared.entry.query) d q →
-        IfSome (D.told desk.old) (λ before. IsTask before.files (named_by listing) (record { description = d; query = q; ask = record { count = asked.now.count; budget = asked.now.budget; after = prepared.entry.key } })) →
-        Prints words (is_some asked.now.log) [] (moment D.told D.begun D.read_faults D.write_faults D.calls desk.old) (moment D.told D.begun D.read_faults D.write_faults D.calls desk.new) result }
+    ensures { (words : List Text) (request : Request) (d : Description) (q : Query) → request_of words ≡ Some request → plain_request asked.now ≡ request →
+        IsDescriptionOf described.now d → AreOf described.now.sig prepared.entry.laws (plain_ground_query prepared.entry.query) d q →
+        ((count : Option ℕ) (budget : ℕ) → IfSome (D.told desk.old) (λ before. IsTask (source_of request before.files) (named_of request) (record { description = d; query = q; ask = record { count = count; budget = budget; after = prepared.entry.key } }))) →
+        Prints words (names_log (Some request)) (opens_behind request) (moment D.told D.begun D.read_faults D.write_faults D.calls desk.old) (moment D.told D.begun D.read_faults D.write_faults D.calls desk.new) result }
 {
-    begin_log(desk, asked.log)?;
-    let Prepared { laws, query, key } = prepared;
-    let ask = Ask {
-        count: asked.count,
-        budget: asked.budget,
-        after: key,
-    };
-    list(alloc, desk, described, &laws, query, ask, Teller::Whole)
+    match asked {
+        Asked::List(list) => list::list(alloc, desk, described, list, prepared),
+        Asked::Check(check) => check::check(alloc, desk, described, check, &prepared),
+        Asked::Make { size, budget } => {
+            make::make(alloc, desk, described, *size, *budget, prepared)
+        }
+    }
 }
 
 /// Runs over a desk that never fails: neither fault is answered, since its counts of faults stay 0; and words that ask for nothing

@@ -1,7 +1,12 @@
 -- What the program is asked for.
-use Rattle.std.specs.Prelude.{ℕ, Bool, ◌&&◌, ◌||◌, nat_le, if◌then◌else◌, length, codes, Option, Some, None, option_map, is_some, unwrap_or}
+use Rattle.std.specs.Prelude.{ℕ, Bool, ◌&&◌, not, nat_le, if◌then◌else◌, List, [], ◌∷◌, length, codes, Option, Some, None, option_map, is_some, unwrap_or}
+use Rattle.std.specs.List.{list_all, list_any}
 use Rattle.cc_defs.specs.Grammar.{number_of, same_text}
 use Rattle.cc_defs.specs.Tokens.{is_number}
+use Rattle.cc_words.specs.declared.modes.Item.{Item}
+use Rattle.cc_words.specs.declared.modes.Item.TheVariants as items
+use Rattle.cc_words.specs.declared.modes.Mode.{Mode}
+use Rattle.cc_words.specs.declared.modes.Mode.TheVariants as modes
 use Rattle.cc_words.specs.Words.{Given, Text}
 
 -- histories of a query
@@ -28,16 +33,11 @@ pub data Request : Type 0 where
 
 -- ---- values
 
-pub data Mode : Type 0 where
-  List : Mode
-  Check : Mode
-  Make : Mode
-
 abbrev pub mode_named : Text → Option Mode
 mode_named text =
-    if same_text text (codes "list") then Some List
-    else (if same_text text (codes "check") then Some Check
-    else (if same_text text (codes "make") then Some Make else None))
+    if same_text text (codes "list") then Some modes.List
+    else (if same_text text (codes "check") then Some modes.Check
+    else (if same_text text (codes "make") then Some modes.Make else None))
 
 -- the number from 1 to `most` that one to seven decimal digits spell
 abbrev pub number_up_to : ℕ → Text → Option ℕ
@@ -50,7 +50,33 @@ abbrev pub optional : {X : Type 0} → (Text → Option X) → Option Text → O
 optional form None = Some None
 optional form (Some text) = option_map (λ x. Some x) (form text)
 
--- ---- what goes with which mode
+-- ---- which words go with which mode
+
+-- what a mode needs
+abbrev pub needs : Mode → List Item
+needs modes.List = items.File ∷ []
+needs modes.Check = items.File ∷ items.Log ∷ []
+needs modes.Make = items.Size ∷ []
+
+-- and what it bars
+abbrev pub bars : Mode → List Item
+bars modes.List = items.Size ∷ []
+bars modes.Check = items.Count ∷ items.Budget ∷ items.Size ∷ []
+bars modes.Make = items.Query ∷ items.Count ∷ items.After ∷ items.Log ∷ items.File ∷ []
+
+abbrev pub has : Given → Item → Bool
+has given items.Query = is_some given.query
+has given items.Count = is_some given.count
+has given items.Budget = is_some given.budget
+has given items.After = is_some given.after
+has given items.Log = is_some given.log
+has given items.Size = is_some given.size
+has given items.File = is_some given.file
+
+abbrev pub suits : Mode → Given → Bool
+suits mode given = list_all (has given) (needs mode) && not (list_any (has given) (bars mode))
+
+-- ---- the values of a mode
 
 abbrev pub provided : {X Y : Type 0} → Option X → (X → Option Y) → Option Y
 provided None make = None
@@ -65,46 +91,39 @@ count_of given = optional (number_up_to 1000000) given.count
 abbrev pub budget_of : Given → Option ℕ
 budget_of given = option_map (λ budget. unwrap_or budget default_budget) (optional (number_up_to 2000000) given.budget)
 
--- a file, and no size
 abbrev pub to_list : Given → Option Request
-to_list given =
-    if is_some given.size then None
-    else provided given.file (λ file. provided (count_of given) (λ count. provided (budget_of given) (λ budget. Some (ToList (record {
-      file = file;
-      query = given.query;
-      count = count;
-      budget = budget;
-      after = given.after;
-      log = given.log;
-    })))))
+to_list given = provided given.file (λ file. provided (count_of given) (λ count. provided (budget_of given) (λ budget. Some (ToList (record {
+  file = file;
+  query = given.query;
+  count = count;
+  budget = budget;
+  after = given.after;
+  log = given.log;
+})))))
 
--- a file and a log, and no number
 abbrev pub to_check : Given → Option Request
-to_check given =
-    if is_some given.count || (is_some given.budget || is_some given.size) then None
-    else provided given.file (λ file. provided given.log (λ log. Some (ToCheck (record {
-      file = file;
-      query = given.query;
-      after = given.after;
-      log = log;
-    }))))
+to_check given = provided given.file (λ file. provided given.log (λ log. Some (ToCheck (record {
+  file = file;
+  query = given.query;
+  after = given.after;
+  log = log;
+}))))
 
-abbrev pub bars_make : Given → Bool
-bars_make given = is_some given.query || (is_some given.count || (is_some given.after || (is_some given.log || is_some given.file)))
-
--- a size, a budget if it is given, and nothing else
 abbrev pub to_make : Given → Option Request
 to_make given =
-    if bars_make given then None
-    else provided given.size (λ text. provided (number_up_to 100 text) (λ size. provided (budget_of given) (λ budget. Some (ToMake size budget))))
+    provided given.size (λ text. provided (number_up_to 100 text) (λ size. provided (budget_of given) (λ budget. Some (ToMake size budget))))
 
+abbrev pub valued : Mode → Given → Option Request
+valued modes.List given = to_list given
+valued modes.Check given = to_check given
+valued modes.Make given = to_make given
+
+-- what is asked for in a mode, where the words suit it
 abbrev pub asked_in : Mode → Given → Option Request
-asked_in List given = to_list given
-asked_in Check given = to_check given
-asked_in Make given = to_make given
+asked_in mode given = if suits mode given then valued mode given else None
 
 abbrev pub mode_of : Given → Option Mode
-mode_of given = option_map (λ mode. unwrap_or mode List) (optional mode_named given.mode)
+mode_of given = option_map (λ mode. unwrap_or mode modes.List) (optional mode_named given.mode)
 
 abbrev pub asked_of : Given → Option Request
 asked_of given = provided (mode_of given) (λ mode. asked_in mode given)

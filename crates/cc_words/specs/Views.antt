@@ -4,9 +4,7 @@ use Rattle.std.specs.Borrow.{Bor}
 use Rattle.cc_words.specs.declared.asked.Asked.{Asked}
 use Rattle.cc_words.specs.declared.asked.Asked.TheVariants as asked
 use Rattle.cc_words.specs.declared.given.Given.{Given as GivenWords}
-use Rattle.cc_words.specs.declared.given.Mode.{Mode as WordMode}
-use Rattle.cc_words.specs.declared.given.Mode.TheVariants as mode
-use Rattle.cc_words.specs.Requests.{Mode, List, Check, Make, Request, ToList, ToCheck, ToMake}
+use Rattle.cc_words.specs.Requests.{Request, ToList, ToCheck, ToMake}
 use Rattle.cc_words.specs.Words.{Given, Text}
 
 abbrev pub plain_text : Option (Bor Text) → Option Text
@@ -23,11 +21,6 @@ plain_given given = record {
   size = plain_text given.size;
   file = plain_text given.file;
 }
-
-abbrev pub plain_mode : WordMode → Mode
-plain_mode mode.List = List
-plain_mode mode.Check = Check
-plain_mode mode.Make = Make
 
 abbrev pub plain_request : Asked → Request
 plain_request (asked.List list) = ToList (record {

@@ -1,9 +1,12 @@
 //! What the words give, and what is asked with it.
-ghost use Rattle.std.specs.Prelude.{◌≡◌, option_map};
-ghost use Rattle.cc_words.specs.Requests.{asked_of, bars_make, budget_of, count_of, mode_named, mode_of, to_check, to_list, to_make};
-ghost use Rattle.cc_words.specs.Views.{plain_asked, plain_given, plain_mode};
+ghost use Rattle.std.specs.Prelude.{◌≡◌};
+ghost use Rattle.std.specs.List.{list_all, list_any};
+ghost use Rattle.cc_words.specs.Requests as requests;
+ghost use Rattle.cc_words.specs.Requests.{asked_in, asked_of, budget_of, count_of, mode_of, to_check, to_list, to_make, valued};
+ghost use Rattle.cc_words.specs.Views.{plain_asked, plain_given};
 
 use crate::asked::{Asked, CheckAsked, ListAsked};
+use crate::modes::{Item, Mode};
 use crate::numbers::{optional_up_to, up_to};
 
 /// The value of each option that stands there, and the file.
@@ -19,35 +22,57 @@ pub(crate) struct Given<'a> {
     pub file: Option<&'a str>,
 }
 
-#[derive(Clone, Copy, Debug)]
-enum Mode {
-    List,
-    Check,
-    Make,
-}
-
-fn mode_of_name(name: &str) -> Option<Mode>
-    ensures { option_map plain_mode result ≡ mode_named name.now }
-{
-    if name == "list" {
-        Some(Mode::List)
-    } else if name == "check" {
-        Some(Mode::Check)
-    } else if name == "make" {
-        Some(Mode::Make)
-    } else {
-        None
-    }
-}
-
 impl<'a> Given<'a> {
     fn mode(&self) -> Option<Mode>
-        ensures { option_map plain_mode result ≡ mode_of (plain_given self.now) }
+        ensures { result ≡ mode_of (plain_given self.now) }
     {
         match self.mode {
             None => Some(Mode::List),
-            Some(name) => mode_of_name(name),
+            Some(name) => Mode::named(name),
         }
+    }
+
+    fn has(&self, item: Item) -> bool
+        ensures { result ≡ requests.has (plain_given self.now) item }
+    {
+        match item {
+            Item::Query => self.query.is_some(),
+            Item::Count => self.count.is_some(),
+            Item::Budget => self.budget.is_some(),
+            Item::After => self.after.is_some(),
+            Item::Log => self.log.is_some(),
+            Item::Size => self.size.is_some(),
+            Item::File => self.file.is_some(),
+        }
+    }
+
+    fn has_all(&self, items: &[Item]) -> bool
+        ensures { result ≡ list_all (requests.has (plain_given self.now)) items.now }
+    {
+        for item in items {
+            if !self.has(*item) {
+                return false;
+            }
+        }
+        true
+    }
+
+    fn has_any(&self, items: &[Item]) -> bool
+        ensures { result ≡ list_any (requests.has (plain_given self.now)) items.now }
+    {
+        for item in items {
+            if self.has(*item) {
+                return true;
+            }
+        }
+        false
+    }
+
+    /// The words have what the mode needs, and nothing that it bars.
+    fn suits(&self, mode: Mode) -> bool
+        ensures { result ≡ requests.suits mode (plain_given self.now) }
+    {
+        self.has_all(mode.needs()) && !self.has_any(mode.bars())
     }
 
     fn count(&self) -> Option<Option<u32>>
@@ -63,13 +88,9 @@ impl<'a> Given<'a> {
         Some(budget.unwrap_or(200_000))
     }
 
-    /// A file, and no size.
     fn to_list(&self) -> Option<Asked<'a>>
         ensures { plain_asked result ≡ to_list (plain_given self.now) }
     {
-        if self.size.is_some() {
-            return None;
-        }
         let file = self.file?;
         let count = self.count()?;
         let budget = self.budget()?;
@@ -83,13 +104,9 @@ impl<'a> Given<'a> {
         }))
     }
 
-    /// A file and a log, and no number.
     fn to_check(&self) -> Option<Asked<'a>>
         ensures { plain_asked result ≡ to_check (plain_given self.now) }
     {
-        if self.count.is_some() || self.budget.is_some() || self.size.is_some() {
-            return None;
-        }
         let file = self.file?;
         let log = self.log?;
         Some(Asked::Check(CheckAsked {
@@ -100,26 +117,33 @@ impl<'a> Given<'a> {
         }))
     }
 
-    fn bars_make(&self) -> bool
-        ensures { result ≡ bars_make (plain_given self.now) }
-    {
-        self.query.is_some()
-            || self.count.is_some()
-            || self.after.is_some()
-            || self.log.is_some()
-            || self.file.is_some()
-    }
-
-    /// A size, a budget if it is given, and nothing else.
     fn to_make(&self) -> Option<Asked<'a>>
         ensures { plain_asked result ≡ to_make (plain_given self.now) }
     {
-        if self.bars_make() {
-            return None;
-        }
         let size = up_to(100, self.size?)?;
         let budget = self.budget()?;
         Some(Asked::Make { size, budget })
+    }
+
+    /// What is asked in a mode, by its values.
+    fn valued(&self, mode: Mode) -> Option<Asked<'a>>
+        ensures { plain_asked result ≡ valued mode (plain_given self.now) }
+    {
+        match mode {
+            Mode::List => self.to_list(),
+            Mode::Check => self.to_check(),
+            Mode::Make => self.to_make(),
+        }
+    }
+
+    /// What is asked in a mode, where the words suit it.
+    fn asked_in(&self, mode: Mode) -> Option<Asked<'a>>
+        ensures { plain_asked result ≡ asked_in mode (plain_given self.now) }
+    {
+        if !self.suits(mode) {
+            return None;
+        }
+        self.valued(mode)
     }
 
     /// What is asked; `None` where a value is not of its form, where what is required is missing, or where an option does
@@ -127,10 +151,6 @@ impl<'a> Given<'a> {
     pub fn asked(&self) -> Option<Asked<'a>>
         ensures { plain_asked result ≡ asked_of (plain_given self.now) }
     {
-        match self.mode()? {
-            Mode::List => self.to_list(),
-            Mode::Check => self.to_check(),
-            Mode::Make => self.to_make(),
-        }
+        self.asked_in(self.mode()?)
     }
 }

@@ -18,9 +18,11 @@
 mod asked;
 mod given;
 pub mod laws;
+mod modes;
 mod numbers;
 mod parse;
 mod words;
 
 pub use asked::{Asked, CheckAsked, ListAsked};
+pub use modes::{Item, Mode};
 pub use words::read;

@@ -1,6 +1,6 @@
 -- The text of the log tells its lines, and these and the printed text tell the run.
 use Rattle.cc_query.specs.Accepted.{lines_of}
-use Rattle.cc_run.specs.Answers.{told_by}
+use Rattle.cc_run.specs.Searching.{told_by}
 use Rattle.cc_run.proofs.laws.texts_tell_one_run.Goals as goal
 
 pub returns : goal.returns

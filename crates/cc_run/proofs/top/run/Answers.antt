@@ -1,5 +1,5 @@
 use Rattle.std.proofs.Common.{refl, subst}
-use Rattle.cc_run.specs.Names.{IsEndStatus}
+use Rattle.cc_run.specs.Promises.{IsEndStatus}
 use Rattle.cc_run.proofs.Outcomes.{ended_is, names_ended, names_stopped, run_ended, run_stopped}
 use Rattle.cc_run.proofs.Callings.{told_ends_nothing}
 use Rattle.cc_run.proofs.top.run.Goals as goal

@@ -1,0 +1,35 @@
+use Rattle.std.proofs.Common.{subst}
+use Rattle.cc_query.specs.Sessions.{IsRightFault}
+use Rattle.cc_run.proofs.Listed.{event_row, event_told, limit_told, memory_told}
+use Rattle.cc_run.proofs.Passing.{stops_at}
+use Rattle.cc_run.proofs.Worth.{IsGoodEvent}
+use Rattle.cc_run.proofs.searching.list_event.Goals as goal
+
+pub tell_next-requires-clause-row : goal.tell_next-requires-clause-row
+tell_next-requires-clause-row g c =
+    let of = c.requires.of in
+    event_row of.0 of.1 of.2 c.args.described.now.sig c.args.session.now c.next.new.self c.in-Ok.event c.row.result.now of.4 c.requires.same c.row.ensures
+    (c.in-Ok.ensures.event of.0 of.1 of.2 of.4 of.5).0
+
+pub returns-in-Ok-clause-goes : goal.returns-in-Ok-clause-goes
+returns-in-Ok-clause-goes g c = λ d q given is is_of after lines keeps.
+    let good : IsGoodEvent d q c.args.session.now.ask.after c.in-Ok.event = record {
+      short = c.in-Ok.ensures.short;
+      good = c.in-Ok.ensures.good d q is_of;
+      opened = c.in-Ok.ensures.opened d q is_of;
+      few = c.in-Ok.ensures.few;
+    } in
+    event_told d q given c.args.teller.now c.tell_next.new.teller c.args.session.now c.next.new.self c.written_logs_are_accepted.ensures c.spent_budgets_are_small.ensures lines keeps
+    c.in-Ok.event good c.in-Ok.ensures.same (c.in-Ok.ensures.event d q given is_of after) _ _
+    c.row.result.now c.tell_next.result c.row.ensures (c.tell_next.ensures.told d given is keeps) c.tell_next.ensures.status c.tell_next.ensures.keeps
+
+pub returns-in-Err-Refused-clause-goes : goal.returns-in-Err-Refused-clause-goes
+returns-in-Err-Refused-clause-goes g c = λ d q given is is_of after lines keeps.
+    let refused = subst (λ fault. IsRightFault c.args.session.now fault) c.in-Err-Refused.field-0-is c.in-Err-Refused.ensures.refused in
+    limit_told d q given c.args.teller.now c.args.teller.now c.args.session.now c.next.new.self c.written_logs_are_accepted.ensures c.spent_budgets_are_small.ensures lines
+    c.in-Err-Refused.refusal _ _ c.tell_limit.result (stops_at d q c.args.session.now given c.in-Err-Refused.refusal is_of c.requires.more after (refused d q given is_of after))
+    c.tell_limit.ensures.told c.tell_limit.ensures.status
+
+pub returns-in-Err-OutOfMemory-clause-goes : goal.returns-in-Err-OutOfMemory-clause-goes
+returns-in-Err-OutOfMemory-clause-goes g c = λ d q given is is_of after lines keeps.
+    memory_told d q given c.args.teller.now c.args.teller.now c.args.session.now c.next.new.self c.written_logs_are_accepted.ensures c.spent_budgets_are_small.ensures lines _ after

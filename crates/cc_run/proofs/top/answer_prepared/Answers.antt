@@ -1,0 +1,28 @@
+use Rattle.std.proofs.Common.{◌∙◌, None, Some, ap, refl, sym}
+use Rattle.cc_words.specs.Requests.{ToCheck, ToList, ToMake}
+use Rattle.cc_words.specs.Views.{plain_request}
+use Rattle.cc_run.proofs.Readings.{checking_by, listing_by, prints_request, task_as}
+use Rattle.cc_run.proofs.top.answer_prepared.Goals as goal
+
+pub returns-in-List : goal.returns-in-List
+returns-in-List g c = λ words request d q asked same is of task.
+    let list = c.in-List.list in
+    let listing = listing_by list in
+    let e = sym (ap plain_request c.in-List.is) ∙ same in
+    prints_request words (ToList listing) request _ _ c.list.result e
+    (c.list.ensures words listing d q (asked ∙ ap Some (sym e)) refl is of (task_as _ (ToList listing) request _ e (task list.count list.budget)))
+
+pub returns-in-Check : goal.returns-in-Check
+returns-in-Check g c = λ words request d q asked same is of task.
+    let checking = checking_by c.in-Check.check in
+    let e = sym (ap plain_request c.in-Check.is) ∙ same in
+    prints_request words (ToCheck checking) request _ _ c.check.result e
+    (c.check.ensures words checking d q (asked ∙ ap Some (sym e)) refl of (task_as _ (ToCheck checking) request _ e (task None 0)))
+
+pub returns-in-Make : goal.returns-in-Make
+returns-in-Make g c = λ words request d q asked same is of task.
+    let size = c.in-Make.size in
+    let budget = c.in-Make.budget in
+    let e = sym (ap plain_request c.in-Make.is) ∙ same in
+    prints_request words (ToMake size budget) request _ _ c.make.result e
+    (c.make.ensures words d q (asked ∙ ap Some (sym e)) is of (task_as _ (ToMake size budget) request _ e (task None budget)))

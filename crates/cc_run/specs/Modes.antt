@@ -1,0 +1,3 @@
+pub mod Checking
+pub mod Listing
+pub mod Making

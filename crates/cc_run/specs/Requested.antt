@@ -1,0 +1,63 @@
+-- What a request works on, mode by mode, and what was read for it.
+use Rattle.std.specs.Prelude.{◌≡◌, ℕ, ◌≤◌, List, [], ◌∷◌, Result, IfSome, IfOk, IfErr, IsErrOf, option_map}
+use Rattle.cc_describe.specs.declared.description.Described.{Described}
+use Rattle.cc_describe.specs.declared.description.DescribeStop.{DescribeStop}
+use Rattle.cc_describe.specs.declared.description.DescribeStop.TheVariants as stops
+use Rattle.cc_describe.specs.Describing.{Describes, HasStopped, OpensFor}
+use Rattle.cc_describe.specs.Places.{Files}
+use Rattle.cc_ports.specs.Contents.{Rose, with_rest}
+use Rattle.cc_run.specs.Stops.{Called, IsCalm, Moment}
+use Rattle.cc_run.specs.Tasks.{Named, made_files, made_named, named_by, named_in}
+use Rattle.cc_words.specs.Requests.{Request, ToList, ToCheck, ToMake}
+use Rattle.cc_words.specs.Words.{Text}
+
+-- the description, the query and the key that it names
+abbrev pub named_of : Request → Named
+named_of (ToList listing) = named_by listing
+named_of (ToCheck checking) = named_in checking
+named_of (ToMake size budget) = made_named
+
+-- the files that the description is read from
+abbrev pub source_of : Request → Files → Files
+source_of (ToList listing) files = files
+source_of (ToCheck checking) files = files
+source_of (ToMake size budget) files = made_files size
+
+-- the file of the description, where one is named
+abbrev pub IsFileOf : Request → Text → Type 0
+IsFileOf (ToList listing) file = file ≡ listing.file
+IsFileOf (ToCheck checking) file = file ≡ checking.file
+IsFileOf (ToMake size budget) file = ⊥
+
+-- its numbers are within their bounds
+abbrev pub IsWithin : Request → Type 0
+IsWithin (ToList listing) = IfSome listing.count (λ count. 1 ≤ count) × (listing.budget ≤ 2000000)
+IsWithin (ToCheck checking) = Unit {0}
+IsWithin (ToMake size budget) = (1 ≤ size) × (budget ≤ 2000000)
+
+-- the files that it opens behind those of the description
+abbrev pub opens_behind : Request → List Text
+opens_behind (ToList listing) = []
+opens_behind (ToCheck checking) = checking.log ∷ []
+opens_behind (ToMake size budget) = []
+
+-- these files are opened to read the description
+abbrev pub OpensDescription : Request → Files → Result Described DescribeStop → List Text → Type 0
+OpensDescription (ToList listing) files described names = OpensFor files listing.file described names
+OpensDescription (ToCheck checking) files described names = OpensFor files checking.file described names
+OpensDescription (ToMake size budget) files described names = names ≡ []
+
+-- the description of a request was read, or it was not
+pub record Reads (request : Request) (described : Result Described DescribeStop) (old new : Moment) : Type 0 where
+  pub rest : List ℕ
+  pub told : new.told ≡ option_map (with_rest rest) old.told
+  pub begun : new.begun ≡ old.begun
+  pub reads : old.reads ≤ new.reads
+  pub writes : old.writes ≤ new.writes
+  pub opened : List Text
+  pub called : Called opened [] old new
+  pub opens : IfSome old.told (λ before. OpensDescription request before.files described opened)
+  pub describes : IfSome old.told (λ before. IfOk described (Describes (source_of request before.files) (named_of request).file))
+  pub stopped : IfSome old.told (λ before. IfErr described (HasStopped (source_of request before.files) (named_of request).file))
+  pub failed : IsErrOf described stops.ReadFault → Rose old.reads new.reads
+  pub calm : (IsErrOf described stops.ReadFault → ⊥) → IsCalm old new

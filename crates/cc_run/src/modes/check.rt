@@ -1,0 +1,102 @@
+//! Check mode: a log that words name is judged.
+ghost use Rattle.std.specs.Prelude.{◌≡◌, ◌≤◌, List, [], ◌∷◌, false, IfOk, IfSome, Some, length};
+ghost use Rattle.cc_arena.specs.GroundViews.{plain_ground_query};
+ghost use Rattle.cc_defs.specs.Description.{Description};
+ghost use Rattle.cc_defs.specs.Limits.{limit_number};
+ghost use Rattle.cc_defs.specs.declared.refusal.LimitAt.TheVariants as limits;
+ghost use Rattle.cc_defs.specs.Resolved.{Query};
+ghost use Rattle.cc_print.specs.Verdicts.{verdict_line};
+ghost use Rattle.cc_run.specs.Asking.{AreOf, AreSearchable};
+ghost use Rattle.cc_run.specs.Modes.Checking as checks;
+ghost use Rattle.cc_run.specs.Modes.Checking.{NamesLog};
+ghost use Rattle.cc_run.specs.Stops.{Prints, Step, moment};
+ghost use Rattle.cc_run.specs.Tasks.{IsTask, named_in, request_of};
+ghost use Rattle.cc_run.specs.Telling.{task_to_check};
+ghost use Rattle.cc_run.specs.Wholes.{only_out};
+ghost use Rattle.cc_words.specs.Requests.{Checking, ToCheck};
+ghost use Rattle.cc_words.specs.Views.{plain_request};
+ghost use Rattle.cc_words.specs.declared.asked.Asked.TheVariants as requests;
+ghost use Rattle.cc_words.specs.Words.{Text};
+
+use crate::asking::Prepared;
+use crate::refusing::{give, refuse};
+use crate::status::{Status, Stop};
+use cc_defs::{Fault, LimitAt, LogVerdict, Refusal};
+use cc_describe::Described;
+use cc_judge::judge;
+use cc_ports::{Desk, ReadStop, To, read_all};
+use cc_print::verdict_text;
+use cc_words::CheckAsked;
+use std::alloc::Global;
+
+/// The status of a run with this verdict.
+fn verdict_status(verdict: &LogVerdict) -> Status
+    ensures { result ≡ checks.verdict_status verdict.now }
+{
+    match verdict {
+        LogVerdict::Accepted { .. } => Status::Right,
+        LogVerdict::Refused { .. } => Status::Not,
+    }
+}
+
+/// Tells a verdict by its line.
+fn tell_verdict<D: Desk>(alloc: Global, desk: &mut D, verdict: &LogVerdict) -> Result<Status, Stop>
+    ensures told { Step (only_out (verdict_line verdict.now)) (moment D.told D.begun D.read_faults D.write_faults D.calls desk.old) (moment D.told D.begun D.read_faults D.write_faults D.calls desk.new) result }
+    ensures status { IfOk result (λ status. status ≡ checks.verdict_status verdict.now) }
+{
+    let text = verdict_text(alloc, verdict)?;
+    give(desk, To::Out, text.text().as_bytes())?;
+    Ok(verdict_status(verdict))
+}
+
+/// Judges the bytes of a log.
+fn check_log<D: Desk>(
+    alloc: Global,
+    desk: &mut D,
+    described: &Described,
+    prepared: &Prepared<'_>,
+    bytes: &[u8],
+) -> Result<Status, Stop>
+    requires searchable { AreSearchable described.now.sig prepared.now.laws (plain_ground_query prepared.now.query) prepared.now.key }
+    requires few { length bytes.now ≤ limit_number limits.LogBytes }
+    ensures { (words : List Text) (checking : Checking) (d : Description) (q : Query) → request_of words ≡ Some (ToCheck checking) →
+        AreOf described.now.sig prepared.now.laws (plain_ground_query prepared.now.query) d q →
+        IfSome (D.told desk.old) (λ before. NamesLog before.files checking (task_to_check d q prepared.now.key) bytes.now) →
+        Prints words false [] (moment D.told D.begun D.read_faults D.write_faults D.calls desk.old) (moment D.told D.begun D.read_faults D.write_faults D.calls desk.new) result }
+{
+    match judge(
+        alloc,
+        &described.sig,
+        &prepared.laws,
+        &prepared.query,
+        prepared.key.as_ref(),
+        bytes,
+    ) {
+        Ok(verdict) => tell_verdict(alloc, desk, &verdict),
+        Err(Fault::Refused(refusal)) => refuse(alloc, desk, &refusal, ""),
+        Err(Fault::OutOfMemory) => Err(Stop::OutOfMemory),
+    }
+}
+
+/// Reads the log and judges it.
+pub(crate) fn check<D: Desk>(
+    alloc: Global,
+    desk: &mut D,
+    described: &Described,
+    asked: &CheckAsked<'_>,
+    prepared: &Prepared<'_>,
+) -> Result<Status, Stop>
+    requires searchable { AreSearchable described.now.sig prepared.now.laws (plain_ground_query prepared.now.query) prepared.now.key }
+    ensures { (words : List Text) (checking : Checking) (d : Description) (q : Query) → request_of words ≡ Some (ToCheck checking) →
+        plain_request (requests.Check asked.now) ≡ ToCheck checking →
+        AreOf described.now.sig prepared.now.laws (plain_ground_query prepared.now.query) d q →
+        IfSome (D.told desk.old) (λ before. IsTask before.files (named_in checking) (task_to_check d q prepared.now.key)) →
+        Prints words false (asked.now.log.now ∷ []) (moment D.told D.begun D.read_faults D.write_faults D.calls desk.old) (moment D.told D.begun D.read_faults D.write_faults D.calls desk.new) result }
+{
+    match read_all(alloc, desk, asked.log, LimitAt::LogBytes.number() as usize) {
+        Ok(bytes) => check_log(alloc, desk, described, prepared, bytes.items()),
+        Err(ReadStop::Limit) => refuse(alloc, desk, &Refusal::past(LimitAt::LogBytes), ""),
+        Err(ReadStop::Failed) => Err(Stop::ReadFault),
+        Err(ReadStop::OutOfMemory) => Err(Stop::OutOfMemory),
+    }
+}

@@ -1,0 +1,53 @@
+//! List mode: the first histories of a query, each event as it comes.
+ghost use Rattle.std.specs.Prelude.{◌≡◌, ◌≤◌, List, [], Some, IfSome, is_some};
+ghost use Rattle.cc_arena.specs.GroundViews.{plain_ground_query};
+ghost use Rattle.cc_asked.specs.Descriptions.{IsDescriptionOf};
+ghost use Rattle.cc_defs.specs.Description.{Description};
+ghost use Rattle.cc_defs.specs.Resolved.{Query};
+ghost use Rattle.cc_run.specs.Asking.{AreOf, AreSearchable};
+ghost use Rattle.cc_run.specs.Stops.{Prints, moment};
+ghost use Rattle.cc_run.specs.Tasks.{IsTask, named_by, request_of};
+ghost use Rattle.cc_sorts.specs.Tables.{IsSignatureFor};
+ghost use Rattle.cc_words.specs.Requests.{Listing, ToList};
+ghost use Rattle.cc_words.specs.Views.{plain_request};
+ghost use Rattle.cc_words.specs.declared.asked.Asked.TheVariants as requests;
+ghost use Rattle.cc_words.specs.Words.{Text};
+
+use crate::asking::Prepared;
+use crate::searching::{begin_log, search};
+use crate::status::{Status, Stop};
+use crate::telling::Teller;
+use cc_describe::Described;
+use cc_ports::Desk;
+use cc_query::Ask;
+use cc_words::ListAsked;
+use std::alloc::Global;
+
+/// Begins the log where one is named, and lists the histories.
+pub(crate) fn list<D: Desk>(
+    alloc: Global,
+    desk: &mut D,
+    described: &Described,
+    asked: &ListAsked<'_>,
+    prepared: Prepared<'_>,
+) -> Result<Status, Stop>
+    requires count { IfSome asked.now.count (λ count. 1 ≤ count) }
+    requires budget { asked.now.budget ≤ 2000000 }
+    requires signature { IsSignatureFor described.now.table described.now.sig }
+    requires searchable { AreSearchable described.now.sig prepared.laws (plain_ground_query prepared.query) prepared.key }
+    requires of { (d : Description) × (q : Query) × IsDescriptionOf described.now d × AreOf described.now.sig prepared.laws (plain_ground_query prepared.query) d q }
+    ensures { (words : List Text) (listing : Listing) (d : Description) (q : Query) → request_of words ≡ Some (ToList listing) →
+        plain_request (requests.List asked.now) ≡ ToList listing → IsDescriptionOf described.now d →
+        AreOf described.now.sig prepared.entry.laws (plain_ground_query prepared.entry.query) d q →
+        IfSome (D.told desk.old) (λ before. IsTask before.files (named_by listing) (record { description = d; query = q; ask = record { count = asked.now.count; budget = asked.now.budget; after = prepared.entry.key } })) →
+        Prints words (is_some listing.log) [] (moment D.told D.begun D.read_faults D.write_faults D.calls desk.old) (moment D.told D.begun D.read_faults D.write_faults D.calls desk.new) result }
+{
+    begin_log(desk, asked.log)?;
+    let Prepared { laws, query, key } = prepared;
+    let ask = Ask {
+        count: asked.count,
+        budget: asked.budget,
+        after: key,
+    };
+    search(alloc, desk, described, &laws, query, ask, Teller::OneByOne)
+}

@@ -1,0 +1,57 @@
+//! Make mode: all histories of a made description, summed up.
+ghost use Rattle.std.specs.Prelude.{◌≡◌, ◌≤◌, List, [], None, Some, false, IfSome};
+ghost use Rattle.cc_arena.specs.GroundViews.{plain_ground_query};
+ghost use Rattle.cc_asked.specs.Descriptions.{IsDescriptionOf};
+ghost use Rattle.cc_defs.specs.Description.{Description};
+ghost use Rattle.cc_defs.specs.Resolved.{Query};
+ghost use Rattle.cc_run.specs.Asking.{AreOf, AreSearchable};
+ghost use Rattle.cc_run.specs.Stops.{Prints, moment};
+ghost use Rattle.cc_run.specs.Tasks.{IsTask, made_files, made_named, request_of};
+ghost use Rattle.cc_sorts.specs.Tables.{IsSignatureFor};
+ghost use Rattle.cc_words.specs.Requests.{ToMake};
+ghost use Rattle.cc_words.specs.Words.{Text};
+
+use crate::asking::Prepared;
+use crate::searching::search;
+use crate::status::{Status, Stop};
+use crate::telling::Teller;
+use cc_describe::Described;
+use cc_ports::Desk;
+use cc_query::Ask;
+use std::alloc::Global;
+
+/// Lists the histories of a made description, and sums them up.
+pub(crate) fn make<D: Desk>(
+    alloc: Global,
+    desk: &mut D,
+    described: &Described,
+    size: u32,
+    budget: u32,
+    prepared: Prepared<'_>,
+) -> Result<Status, Stop>
+    requires budget { budget ≤ 2000000 }
+    requires signature { IsSignatureFor described.now.table described.now.sig }
+    requires searchable { AreSearchable described.now.sig prepared.laws (plain_ground_query prepared.query) prepared.key }
+    requires of { (d : Description) × (q : Query) × IsDescriptionOf described.now d × AreOf described.now.sig prepared.laws (plain_ground_query prepared.query) d q }
+    ensures { (words : List Text) (d : Description) (q : Query) → request_of words ≡ Some (ToMake size budget) → IsDescriptionOf described.now d →
+        AreOf described.now.sig prepared.entry.laws (plain_ground_query prepared.entry.query) d q →
+        IfSome (D.told desk.old) (λ _. IsTask (made_files size) made_named (record { description = d; query = q; ask = record { count = None; budget = budget; after = prepared.entry.key } })) →
+        Prints words false [] (moment D.told D.begun D.read_faults D.write_faults D.calls desk.old) (moment D.told D.begun D.read_faults D.write_faults D.calls desk.new) result }
+{
+    let Prepared { laws, query, key } = prepared;
+    let ask = Ask {
+        count: None,
+        budget,
+        after: key,
+    };
+    let outcome = Vec::new(alloc);
+    search(
+        alloc,
+        desk,
+        described,
+        &laws,
+        query,
+        ask,
+        Teller::Summed { size, outcome },
+    )
+}
