@@ -17,7 +17,7 @@ use Rattle.cc_defs.specs.Nodes.{Side, both_have, common_values, equation, consta
 use Rattle.cc_defs.specs.Universe.{Universe, constants_in, objects_of}
 use Rattle.cc_defs.specs.Satisfaction.{Environment, bind, constant_meant}
 use Rattle.cc_ground.specs.Bindings.{BindingsView, environment_of, with_bound}
-use Rattle.cc_ground.specs.Views.{AreSearchable, HasPut, IsLike, IsSearchable, IsSideSearchable, LacksRoom, universe_in, universe_of}
+use Rattle.cc_ground.specs.Views.{HasPut, IsLike, LacksRoom, universe_in, universe_of}
 
 -- ---- one behind another
 
@@ -249,27 +249,7 @@ commons_lack {constant} {values} {other} {others} {i} found halt so within at la
     let whole = ap (λ (l : Operands). length (postfixes l)) (common_rest (Some found) so within at) in
     lacks_behind _ _ halt so.put (omega (arith, whole, length-append (postfixes so.made) (postfix one), commons_grow (and_then so.made one) constant (i + 1) (drop (i + 1) values) other others)) lacks
 
--- ---- values that can be searched
-
-found_searchable : (number : ℕ) (constants : List Const) (place : ℕ) → AllByRecursion (λ constant. IsSearchable constant.domain) constants →
-    IsSideSearchable (constant_side number (slice_get constants place))
-found_searchable number [] place all = tt
-found_searchable number (constant ∷ constants) zero all = all.0
-found_searchable number (constant ∷ constants) (suc place) all = found_searchable number constants place all.1
-
-numbered_searchable : (u : Universe) (found : Option ℕ) → AreSearchable u → IsSideSearchable (numbered_side u found)
-numbered_searchable u None all = tt
-numbered_searchable u (Some number) all = found_searchable number (constants_in u) number all
-
-value_searchable : (found : Option ℕ) → IsSideSearchable (value_side found)
-value_searchable None = tt
-value_searchable (Some value) = tt
-
-pub side_searchable : (u : Universe) (env : Environment) (term : Term) → AreSearchable u → IsSideSearchable (side u env term)
-side_searchable u env (resolved.Constant symbol args) all = numbered_searchable u (constant_meant u env symbol args) all
-side_searchable u env (resolved.Object object) all = tt
-side_searchable u env (resolved.Variable variable) all = value_searchable (env variable)
-side_searchable u env resolved.Nothing all = tt
+-- ---- two sides
 
 pub sides_as : (u : Universe) (env one other : Environment) (s t : Term) (left right : Side) → one ≡ env → other ≡ env → left ≡ side u one s → right ≡ side u other t →
     equation left right ≡ equation (side u env s) (side u env t)

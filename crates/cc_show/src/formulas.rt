@@ -24,8 +24,37 @@ pub(crate) fn show_term(out: &mut String, table: &Table, term: &Term) -> Result<
         Term::Object(object) => out.push_str(object_name(table, *object))?,
         Term::Variable(number) => show_variable(out, *number)?,
         Term::Nothing => out.push_str("none")?,
+        Term::Number(number) => write!(out, "{number}")?,
+        Term::Plus(left, right) => show_sum(out, table, left, "+", right)?,
+        Term::Minus(left, right) => show_sum(out, table, left, "-", right)?,
     }
     Ok(())
+}
+
+/// A sum with its group, in parentheses.
+fn show_sum(
+    out: &mut String,
+    table: &Table,
+    left: &Term,
+    sign: &str,
+    right: &Term,
+) -> Result<(), OutOfMemory> {
+    out.push_str("(")?;
+    show_sides(out, table, left, sign, right)?;
+    out.push_str(")")?;
+    Ok(())
+}
+
+fn show_sides(
+    out: &mut String,
+    table: &Table,
+    left: &Term,
+    sign: &str,
+    right: &Term,
+) -> Result<(), OutOfMemory> {
+    show_term(out, table, left)?;
+    out.push_str(sign)?;
+    show_term(out, table, right)
 }
 
 /// The operator between two formulas, or what a bracket begins with.
@@ -37,7 +66,7 @@ fn sign_of(formula: &Formula) -> &'static str {
         Formula::Same(..) => " <-> ",
         Formula::ForAll(..) => "[/\\",
         Formula::Exists(..) => "[\\/",
-        Formula::True | Formula::False | Formula::Equal(..) | Formula::Not(_) => "",
+        _ => "",
     }
 }
 
@@ -65,11 +94,9 @@ pub(crate) fn show_formula(
     match formula {
         Formula::True => out.push_str("true")?,
         Formula::False => out.push_str("false")?,
-        Formula::Equal(left, right) => {
-            show_term(out, table, left)?;
-            out.push_str("=")?;
-            show_term(out, table, right)?;
-        }
+        Formula::Equal(left, right) => show_sides(out, table, left, "=", right)?,
+        Formula::Less(left, right) => show_sides(out, table, left, "<", right)?,
+        Formula::AtMost(left, right) => show_sides(out, table, left, "=<", right)?,
         Formula::Not(inner) => {
             out.push_str("-")?;
             show_formula(out, table, inner)?;

@@ -11,6 +11,7 @@ pub mod Decided
 pub mod Declared
 pub mod Denied
 pub mod Entries
+pub mod Filled
 pub mod Fitting
 pub mod Growing
 pub mod Grown
@@ -19,11 +20,15 @@ pub mod Lefts
 pub mod Listed
 pub mod Names
 pub mod Numbered
-pub mod Ordered
 pub mod Pairs
 pub mod Passes
 pub mod Past
+pub mod Placing
+pub mod Ranges
 pub mod Reading
+pub mod Showing
+pub mod Spaces
+pub mod Tabled
 pub mod Unions
 pub mod Uppers
 pub mod Upward

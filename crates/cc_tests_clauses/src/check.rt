@@ -103,7 +103,7 @@ fn logs_are_misread(rt: HostRuntime) {
 pub(crate) fn no_signature(alloc: Global) -> Sig
     ensures { result ≡ record { fluents = []; actions = [] } }
 {
-    Sig::of(Vec::new(alloc), Vec::new(alloc))
+    Sig::of(Vec::new(alloc), Vec::new(alloc), Vec::new(alloc))
 }
 
 pub(crate) fn no_laws<'a>(alloc: Global) -> Laws<'a>
