@@ -57,6 +57,7 @@ class Case:
         self.sorts = ["boolean"]
         self.pairs = []
         self.objects = {"false": "boolean", "true": "boolean"}
+        self.numbers = []  # what was put as a number, with its sort
         self.variables = {}
         self.symbols = []
         self.labels = []
@@ -70,7 +71,11 @@ class Case:
         return lower == upper or any(up == upper and self.is_below(lower, low) for up, low in self.pairs)
 
     def objects_of(self, sort):
-        return [name for name, own in self.objects.items() if self.is_below(own, sort)]
+        names = [name for name, own in self.objects.items() if self.is_below(own, sort)]
+        return names + list(dict.fromkeys(str(number) for number, own in self.numbers if self.is_below(own, sort)))
+
+    def is_numeric(self, sort):
+        return any(self.is_below(own, sort) for _, own in self.numbers)
 
     def variables_of(self, sort, allowed):
         return [name for name in allowed if self.is_below(self.variables[name], sort)]
@@ -147,6 +152,10 @@ class Case:
 
     def object_item(self):
         sort = self.a_sort(self.sorts[1:])
+        if chance(0.4):
+            members = self.number_members(sort)
+            if members:
+                return members + ["::", sort]
         names = []
         for _ in range(random.choice([1, 2, 2, 3])):
             if len(self.objects) < 9:
@@ -155,6 +164,28 @@ class Case:
         names = names or [self.new_name()]
         self.objects.setdefault(names[-1], sort if sort in self.sorts else "boolean")
         return joined([[name] for name in names], ",") + ["::", sort]
+
+    def number_members(self, sort):
+        """One to four numbers, in any order, alone or as ranges; some were put into another sort before."""
+        free = [n for n in range(6) if self.is_wild("taken") or (n, sort) not in self.numbers]
+        if not free or len(self.objects_of(sort)) > 5:
+            return None
+        if chance(0.4):
+            low = random.choice(free)
+            numbers = []
+            while low in free and len(numbers) < random.choice([2, 3, 4]):
+                numbers.append(low)
+                low += 1
+            members = [[str(numbers[0]), "..", random.choice(["", "0"]) + str(numbers[-1])]]
+        else:
+            numbers = random.sample(free, min(len(free), random.choice([1, 2, 2, 3, 4])))
+            members = [[random.choice(["", "", "", "0"]) + str(number)] for number in numbers]
+        if sort in self.sorts:
+            self.numbers += [(number, sort) for number in numbers]
+        if chance(0.15) and len(self.objects) < 9:
+            members.append([self.new_name()])
+            self.objects.setdefault(members[-1][0], sort if sort in self.sorts else "boolean")
+        return joined(members, ",")
 
     def add_variables(self):
         items = []
@@ -237,6 +268,8 @@ class Case:
             return self.wild_term()
         if self.is_wild("sorts"):
             return [self.near_name(sort)]
+        if chance(0.3 if self.is_numeric(sort) else 0.02):
+            return self.sum("test", allowed)
         variables = self.variables_of(sort, allowed)
         objects = self.objects_of(sort)
         if variables and (chance(0.65) or not objects):
@@ -270,6 +303,39 @@ class Case:
         if symbol.is_boolean() and chance(0.7):
             return [random.choice(["true", "false"])]
         return self.argument(symbol.domain, allowed)
+
+    # Sums
+
+    def sum(self, kind, allowed, depth=0):
+        """A sum of one to three pieces; without a constant where the kind is 'test'."""
+        tokens = self.piece(kind, allowed, depth)
+        for _ in range(random.choice([0, 1, 1, 2])):
+            tokens = tokens + [random.choice(["+", "+", "-"])] + self.piece(kind, allowed, depth)
+        return tokens
+
+    def piece(self, kind, allowed, depth):
+        if self.is_wild("sums") and chance(0.4):
+            booleans = [symbol.name for symbol in self.symbols if symbol.is_boolean() and not symbol.sorts]
+            return [random.choice(list(self.objects) + booleans * 2 + ["none", "true"])]
+        numeric = [name for name in allowed if self.is_numeric(self.variables[name])]
+        symbols = [symbol for symbol in self.symbols_for(kind) if self.is_numeric(symbol.domain)]
+        if chance(0.08):
+            numeric = list(allowed)
+            symbols = [symbol for symbol in self.symbols_for(kind) if not symbol.is_boolean()]
+        if symbols and depth < 2 and chance(0.55):
+            constant = self.constant_within(random.choice(symbols), allowed, depth)
+            if constant is not None:
+                return constant
+        if numeric and chance(0.6):
+            return [random.choice(numeric)]
+        return [str(random.choice([0, 1, 1, 1, 2, 2, 3, 4, 5, 7]))]
+
+    def constant_within(self, symbol, allowed, depth):
+        return self.constant(symbol, allowed) if depth < 1 or not symbol.sorts else None
+
+    def comparison(self, kind, allowed):
+        sign = random.choice(["=", "\\=", "<", "=<", ">", ">="])
+        return self.sum(kind, allowed) + [sign] + self.sum(kind, allowed)
 
     # Formulas. The kind tells which constants they may have: 'fluent', 'action', 'any', 'test' (none).
 
@@ -321,6 +387,11 @@ class Case:
             return self.wild_leaf()
         if self.is_wild("sorts") and chance(0.5):
             return self.near_leaf(kind, allowed)
+        if self.numbers and chance(0.3) or self.is_wild("sums") and chance(0.5):
+            # a formula of a kind has a constant of it: a sum may have none
+            tokens = self.comparison(kind, allowed)
+            if kind != "action" or any(symbol.name in tokens for symbol in self.symbols_for(kind)):
+                return tokens
         for _ in range(4):
             symbols = self.symbols_for(kind)
             if symbols and chance(0.9):
@@ -354,11 +425,16 @@ class Case:
             return constant
         if chance(0.2):
             other = self.constant(random.choice(symbols), allowed)
+        elif self.is_numeric(symbol.domain) and chance(0.4):
+            other = self.sum("test", allowed)
         else:
             other = self.value(symbol, allowed)
         if other is None:
             return None
         sign = [random.choice(["=", "=", "\\="])]
+        if self.is_numeric(symbol.domain) and chance(0.25):
+            other = self.sum("test", allowed)
+            sign = [random.choice(["<", "=<", ">", ">="])]
         return constant + sign + other if chance(0.75) else other + sign + constant
 
     def plain_leaf(self, allowed):
@@ -411,6 +487,7 @@ class Case:
         """What looks like a part of a head, and is one or not."""
         leaf = self.leaf(kind, allowed)
         near = [leaf, ["-"] + leaf, ["-", "-"] + leaf, ["-", "("] + leaf + [")"], ["true"], ["-", "false"]]
+        near += [self.comparison(kind, allowed), ["-", "("] + self.comparison(kind, allowed) + [")"]] if self.numbers else []
         booleans = [symbol for symbol in self.symbols_for(kind) if symbol.domain == "boolean"]
         constant = self.constant(random.choice(booleans), allowed) if booleans else None
         if constant:
@@ -429,6 +506,8 @@ class Case:
         if symbol.is_boolean() and chance(0.75):
             return self.boolean_part(constant)
         value = self.value(symbol, allowed)
+        if self.is_numeric(symbol.domain) and chance(0.4):
+            value = self.sum("test", allowed)
         if value is None:
             return None
         return constant + ["="] + value if chance(0.75) else value + ["="] + constant
@@ -602,7 +681,7 @@ class Case:
 # What a choice may be loose in, as often as it should come.
 LOOSE_KINDS = (
     "taken twice twice chains chains attributes attributes names arities arities sorts sorts sorts sorts kinds kinds "
-    "kinds determined determined determined determined heads heads heads free free free tests"
+    "kinds determined determined determined determined heads heads heads free free free tests sums sums sums sums"
 ).split() + ["sort names"]
 KINDS_OF_DECLARATIONS = ["taken", "sort names", "chains", "attributes"]
 
@@ -672,7 +751,7 @@ def change_name(statements):
 
 def change_operator(statements):
     """An operator is another one: mostly still a tree, and often no definite head or another form of law."""
-    groups = [["&", "++", "->>", "<->"], ["=", "\\="], ["/\\", "\\/"]]
+    groups = [["&", "++", "->>", "<->"], ["=", "\\=", "<", "=<", ">", ">="], ["/\\", "\\/"], ["+", "-"]]
     groups += [["if", "after"], ["causes", "if"], ["caused", "default"]]
     for _ in range(10):
         tokens = random.choice(statements)
@@ -722,11 +801,32 @@ def say_again(statements):
     return statements
 
 
-def add_not_yet(statements):
-    tokens = random.choice(statements)
-    extra = random.choice([["1"], ["+"], ["<"], ["=<"], [">"], [">="], [".."], ["1", "..", "3"], ["+", "1"]])
-    at = random.randrange(len(tokens))
-    tokens[at:at] = extra
+def add_number_fault(statements):
+    """A range turned round, an overlap of ranges, digits where a name is wanted, or a sign of sums anywhere."""
+    choice = random.randrange(4)
+    if choice == 0:
+        extra = random.choice([["1"], ["+"], ["<"], ["=<"], [">"], [">="], [".."], ["1", "..", "3"], ["+", "1"], ["-", "1"], ["<", "2"]])
+        tokens = random.choice(statements)
+        at = random.randrange(len(tokens))
+        tokens[at:at] = extra
+        return statements
+    if choice == 1:
+        names = [(tokens, at) for tokens in statements for at, token in enumerate(tokens) if token in NAMES]
+        for tokens, at in random.sample(names, min(len(names), 1)):
+            tokens[at] = random.choice(["1", "0", "12"])
+        return statements
+    at = random.randrange(len(statements) + 1)
+    low = random.randrange(4)
+    ends = (low + random.choice([0, 1, 2]), low) if choice == 2 else (low, low + random.choice([0, 1, 2, 999999990]))
+    members = [[str(ends[0]), "..", str(ends[1])]]
+    if chance(0.6):
+        members.insert(random.randrange(2), [str(random.randrange(6))])
+    sorts = random.choice([["amount"], ["amount", "amount"], ["amount", "number"], ["number", "unknown"], ["boolean"]])
+    items = [joined(members, ",") + ["::", sort] for sort in sorts]
+    statements[at:at] = [
+        [":-", "sorts"] + random.choice([["amount", ",", "number"], ["number", ">>", "amount"]]) + ["."],
+        [":-", "objects"] + joined(items, ";") + ["."],
+    ]
     return statements
 
 
@@ -810,7 +910,7 @@ def add_limit(statements):
 STATEMENT_FAULTS = [
     (change_tokens, 10), (change_name, 12), (change_operator, 14), (change_kind, 14), (move_statement, 6),
     (change_sort, 16),
-    (say_again, 5), (add_not_yet, 4), (add_empty_domain, 8), (add_limit, 4),
+    (say_again, 5), (add_number_fault, 12), (add_empty_domain, 8), (add_limit, 4),
     (add_attribute, 10), (add_chains, 6),
 ]
 
@@ -937,6 +1037,12 @@ def limit_cases():
         yield f"objects +{more}", [("f.cc", filled)]
         comma = "," if more else ""
         yield f"declaration tokens +{more}", [("f.cc", ":- variables " + many("v", 9998) + f"{comma} :: boolean.\n")]
+        put = f":- sorts s, t.\n:- objects 1..2000 :: s; 1..{2096 + more} :: t.\n"
+        yield f"numbers of two sorts +{more}", [("f.cc", put)]
+        lists = ":- sorts s, t.\n:- objects 0..399 :: s; 0..99 :: t.\n"
+        lists += ":- constants c, d :: simpleFluent(s); e :: simpleFluent(t); f(t) :: simpleFluent(t).\n"
+        lists += "constraint c+d+e+1=0.\n" + ("constraint f(100)=1.\n" if more else "")
+        yield f"choices +{more}", [("f.cc", lists)]
         values = ":- sorts s.\n:- objects " + many("o", 1000 + more) + " :: s.\n:- constants c :: simpleFluent(s).\n"
         yield f"domain values +{more}", [("f.cc", values)]
         attribute = ":- sorts s. :- objects " + many("o", 999 + more) + " :: s.\n"

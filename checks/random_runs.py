@@ -1,8 +1,8 @@
 #!/usr/bin/env python3
 """Makes a book of random runs in list mode over small descriptions, and in make mode, for cc_rows and checks/runs.py.
 
-A description has two to four constants with few values, some laws of each kind, and one or two queries, some with a claim; the words
-ask for a label, a number of histories, or the histories after a key. About one case in eight has words, a query or a key that is
+A description has two to four constants with few values, in every second case some with numbers, some laws of each kind with sums and
+comparisons where there are numbers, and one or two queries, some with a claim; the words ask for a label, a number of histories, or the histories after a key. About one case in eight has words, a query or a key that is
 refused. About one in ten asks for a made description, or nearly does. The same number of cases and the same seed give the same book.
 
 Usage: checks/random_runs.py CASES SEED      (the book goes to standard output)
@@ -20,6 +20,9 @@ class Description:
 
     def __init__(self):
         self.lines = [":- sorts s. :- objects a, b, c :: s. :- variables V :: s."]
+        self.numbers = []  # the values of the sort n, in its order
+        if chance(0.55):
+            self.declare_numbers()
         self.fluents, self.determined, self.actions = {}, {}, {}
         for name in ["p", "q", "r"][: random.randint(1, 2)]:
             self.fluents[name] = self.declare(name, random.choice(["simpleFluent", "inertialFluent", "inertialFluent"]))
@@ -30,15 +33,55 @@ class Description:
         for _ in range(random.randint(0, 5)):
             self.lines.append(self.law())
 
+    def declare_numbers(self):
+        """A sort of one to four numbers, some put into a sort below it too, and a variable over it."""
+        numbers = [str(number) for number in random.sample(range(5), random.choice([1, 2, 3, 3, 4]))]
+        low = random.randrange(3)
+        if chance(0.4):
+            self.lines.append(f":- sorts n. :- objects {low}..{low + len(numbers) - 1} :: n. :- variables N, M :: n.")
+            self.numbers = [str(low + more) for more in range(len(numbers))]
+        elif chance(0.5):
+            self.lines.append(f":- sorts n. :- objects {', '.join(numbers)} :: n. :- variables N, M :: n.")
+            self.numbers = numbers
+        else:
+            again = random.sample(numbers, random.randint(1, len(numbers)))
+            both = [f"{', '.join(numbers)} :: n", f"{', '.join(again)} :: m"]
+            random.shuffle(both)
+            self.lines.append(f":- sorts n >> m. :- objects {'; '.join(both)}. :- variables N :: n; M :: m.")
+            shown = both[0].split(" :: ")[0].split(", ") + both[1].split(" :: ")[0].split(", ")
+            self.numbers = list(dict.fromkeys(shown))
+
     def declare(self, name, kind, is_boolean=False):
+        if self.numbers and not is_boolean and chance(0.5):
+            self.lines.append(f":- constants {name} :: {kind}(n).")
+            return list(self.numbers)
         if is_boolean or chance(0.75):
             self.lines.append(f":- constants {name} :: {kind}.")
             return None
         self.lines.append(f":- constants {name} :: {kind}(s).")
         return ["a", "b", "c"]
 
+    def is_number(self, constants, name):
+        return constants[name] is not None and "a" not in constants[name]
+
+    def sum(self, constants, variables=()):
+        """A sum of one to three pieces over constants with numbers."""
+        named = [name for name in constants if self.is_number(constants, name)]
+        tokens = []
+        for _ in range(random.choice([1, 1, 2, 2, 3])):
+            kinds = [random.choice(["0", "1", "1", "2", "3", "4", "7"])] + [random.choice(named)] * 2 if named else ["1", "2"]
+            tokens.append(random.choice(list(variables) + kinds))
+        return "".join(piece if place == 0 else random.choice([" + ", " + ", " - "]) + piece for place, piece in enumerate(tokens))
+
+    def comparison(self, constants, variables=()):
+        sign = random.choice(["=", "\\=", "<", "=<", ">", ">="])
+        return f"{self.sum(constants, variables)} {sign} {self.sum(constants, variables)}"
+
     def literal(self, constants):
         name = random.choice(list(constants))
+        if any(self.is_number(constants, one) for one in constants) and chance(0.35):
+            text = self.comparison(constants)
+            return text if chance(0.8) else "[" + random.choice(["/\\", "\\/"]) + f"N | {self.comparison(constants, ['N'])}]"
         if constants[name] is None:
             return ("" if chance(0.5) else "-") + name
         return name + random.choice(["=", "=", "\\="]) + random.choice(constants[name])
@@ -46,7 +89,20 @@ class Description:
     def atom(self, constants):
         """A literal that may be a head."""
         name = random.choice(list(constants))
+        if self.is_number(constants, name) and chance(0.3):
+            return f"{name}={random.choice(['5', '1+1', '3-1', '2-3', '0+0'])}"
         return ("" if chance(0.6) else "-") + name if constants[name] is None else f"{name}={random.choice(constants[name])}"
+
+    def law_of_numbers(self):
+        """A law with variables over numbers, whose head is there in some of its instances."""
+        name = random.choice([one for one in self.fluents if self.is_number(self.fluents, one)])
+        head = random.choice([f"{name}=N+1", f"{name}=N-1", f"N={name}", f"{name}=N+M", f"{name}=N-M"])
+        test = f" where {self.comparison({}, ['N'] + (['M'] if 'M' in head else []))}" if chance(0.4) else ""
+        variables = [one for one in "NM" if one in head]
+        if self.actions and chance(0.7):
+            cause = random.choice([" causes ", " may cause "])
+            return f"{self.literal_of_action()}{cause}{head} if {self.comparison(self.fluents, variables)}{test}."
+        return f"caused {head} if {self.comparison(self.fluents, variables)} after {name}={random.choice(variables)}{test}."
 
     def formula(self, constants, depth=2):
         if depth == 0 or chance(0.55):
@@ -62,6 +118,8 @@ class Description:
         kinds = ["caused", "caused", "constraint", "default", "after", "after"]
         kinds += ["causes", "causes", "may", "non", "action"] if self.actions else []
         kinds += ["noconcurrency"] if len(self.actions) > 1 and chance(0.2) else []
+        if any(self.is_number(self.fluents, one) for one in self.fluents) and chance(0.3):
+            return self.law_of_numbers()
         kind = random.choice(kinds)
         if kind == "caused":
             return f"caused {self.atom(states)} if {self.formula(states)}."
@@ -108,10 +166,10 @@ class Description:
     def key(self, lo, hi):
         horizon = random.randint(lo, hi) if chance(0.9) else hi + 1
         constants = [v for v in self.states().values()], [v for v in self.actions.values()]
-        sizes = [2 if v is None else 3 for v in constants[0]]
+        sizes = [2 if v is None else len(v) for v in constants[0]]
         row = list(sizes)
         for _ in range(horizon):
-            row += [2 if v is None else 3 for v in constants[1]] + sizes
+            row += [2 if v is None else len(v) for v in constants[1]] + sizes
         indexes = [random.randrange(size) if chance(0.97) else size for size in row]
         if chance(0.04):
             indexes.append(0)

@@ -12,6 +12,7 @@ the file. The first file of a case is its main one, and of two files of one name
 Usage: checks/reference.py BOOK..
 """
 import itertools
+import math
 import re
 import sys
 import threading
@@ -23,7 +24,7 @@ from collections import namedtuple
 
 REFUSAL_NAMES = {
     2: "Byte", 3: "Syntax", 4: "TwiceDeclared", 5: "UnknownName", 6: "Arity", 7: "Sort", 8: "Unbound", 9: "LawForm",
-    10: "SdInDynamicHead", 11: "NotDefinite", 12: "EmptyDomain", 13: "NotYet", 14: "Limit", 16: "Step", 17: "Include",
+    10: "SdInDynamicHead", 11: "NotDefinite", 12: "EmptyDomain", 14: "Limit", 16: "Step", 17: "Include",
 }
 
 LIMITS = {
@@ -38,6 +39,7 @@ LIMITS = {
     "domain values": 1000,
     "ground constants": 20000,
     "law instances": 1000000,
+    "choices": 16000000,
     "ground nodes": 16000000,
     "horizon": 1000,
 }
@@ -146,10 +148,6 @@ def statements_of(tokens):
 # The refusals of a statement's tokens, and its tree
 # ---------------------------------------------------------------------------------------------------------------
 
-NOT_YET_IN_QUERY = ["+", "<", "=<", ">", ">="]
-NOT_YET_ELSEWHERE = NOT_YET_IN_QUERY + [".."]
-
-
 def begins_with_directive(tokens, words):
     return (
         len(tokens) >= 2
@@ -166,29 +164,23 @@ def check_token_count(tokens, place):
         check_limit("statement tokens", len(tokens), place)
 
 
-def check_not_yet(tokens, place):
-    marks = [token.text for token in tokens if token.kind == "mark"]
-    if begins_with_directive(tokens, ["query"]):
-        fault = any(mark in NOT_YET_IN_QUERY for mark in marks)
-    else:
-        fault = any(mark in NOT_YET_ELSEWHERE for mark in marks) or any(token.kind == "number" for token in tokens)
-    if fault:
-        raise Refused(13, place)
-
-
 def statement_tree(tokens, place):
     check_token_count(tokens, place)
-    check_not_yet(tokens, place)
     try:
         return Grammar(tokens).statement()
     except NoTree:
         raise Refused(3, place) from None
 
 
-# Trees. Formulas are tuples with their operator first: ('alone', t), ('=', s, t), ('\\=', s, t), ('-', F),
-# ('&', F, G), ('++', F, G), ('->>', F, G), ('<->', F, G), ('/\\', X, F), ('\\/', X, F). Parentheses leave no trace:
-# what a tree means, and whether a head is definite, does not depend on them.
-Term = namedtuple("Term", "name arguments")
+# Trees. Formulas are tuples with their operator first: ('alone', t), ('-', F), ('&', F, G), ('++', F, G),
+# ('->>', F, G), ('<->', F, G), ('/\\', X, F), ('\\/', X, F), and ('=', s, t) and so on for the six signs that compare
+# two sums. Parentheses leave no trace: what a tree means, and whether a head is definite, does not depend on them.
+#
+# A number is an int and a name a str, in trees, in tables and among values, so that 1 and '1' differ.
+Term = namedtuple("Term", "name arguments")  # its arguments are sums
+Sum = namedtuple("Sum", "first rest")  # a piece, then pairs of '+' or '-' and a piece; a piece is a number or a term
+Span = namedtuple("Span", "low high")  # numbers, from the one to the other
+ObjectItem = namedtuple("ObjectItem", "members sort")  # a member is a name or a Span
 Shape = namedtuple("Shape", "name sorts")
 SortList = namedtuple("SortList", "names")
 SortChain = namedtuple("SortChain", "names")
@@ -207,6 +199,24 @@ LawTree = namedtuple("LawTree", "word F G H A c where", defaults=[None] * 6)
 
 FALSE = ("alone", Term("false", ()))
 TRUE = ("alone", Term("true", ()))
+
+COMPARISONS = ("=", "\\=", "<", "=<", ">", ">=")
+
+
+def single(piece):
+    """A sum of one piece."""
+    return Sum(piece, ())
+
+
+def pieces(whole):
+    """The pieces of a sum in order."""
+    return [whole.first] + [piece for _, piece in whole.rest]
+
+
+def lone_term(whole):
+    """The term that a sum is; None for a number and for a sum of two or more."""
+    return whole.first if not whole.rest and isinstance(whole.first, Term) else None
+
 
 KIND_WORDS = ["simpleFluent", "inertialFluent", "sdFluent", "rigid", "action", "exogenousAction"]
 
@@ -248,6 +258,12 @@ class Grammar:
             raise NoTree
         return text
 
+    def sees_number(self):
+        return self.at < len(self.tokens) and self.tokens[self.at].kind == "number"
+
+    def number(self):
+        return int(self.take_kind("number"))
+
     def separated(self, item, mark):
         items = [item()]
         while self.take_if(mark):
@@ -265,7 +281,7 @@ class Grammar:
         self.take(":-")
         for word, item in (
             ("sorts", self.sortitem),
-            ("objects", self.listitem),
+            ("objects", self.objitem),
             ("variables", self.listitem),
             ("constants", self.constitem),
         ):
@@ -283,6 +299,17 @@ class Grammar:
         if self.take_if(","):
             return SortList((first,) + self.separated(self.name, ","))
         return SortList((first,))
+
+    def objitem(self):
+        members = self.separated(self.member, ",")
+        self.take("::")
+        return ObjectItem(members, self.name())
+
+    def member(self):
+        if not self.sees_number():
+            return self.name()
+        low = self.number()
+        return Span(low, self.number() if self.take_if("..") else low)
 
     def listitem(self):
         names = self.separated(self.name, ",")
@@ -321,18 +348,16 @@ class Grammar:
         if self.sees("label", "::"):
             self.take("label")
             self.take("::")
-            is_number = self.at < len(self.tokens) and self.tokens[self.at].kind == "number"
-            return Label(self.take_kind("number") if is_number else self.name())
+            return Label(self.take_kind("number") if self.sees_number() else self.name())
         if self.sees("maxstep", "::"):
             self.take("maxstep")
             self.take("::")
-            lo = int(self.take_kind("number"))
-            hi = int(self.take_kind("number")) if self.take_if("..") else lo
-            return Range(lo, hi)
+            lo = self.number()
+            return Range(lo, self.number() if self.take_if("..") else lo)
         claim = self.take_if("claim")
         if claim:
             self.take("::")
-        at = "maxstep" if self.take_if("maxstep") else int(self.take_kind("number"))
+        at = "maxstep" if self.take_if("maxstep") else self.number()
         self.take(":")
         return AtStep(claim, at, self.separated(self.formula, ","))
 
@@ -409,11 +434,24 @@ class Grammar:
                     self.take("]")
                     return (sign, variable, inner)
             raise NoTree
-        left = self.term()
-        for sign in ("=", "\\="):
+        left = self.sum()
+        for sign in COMPARISONS:
             if self.take_if(sign):
-                return (sign, left, self.term())
-        return ("alone", left)
+                return (sign, left, self.sum())
+        # what is not compared is one term
+        if lone_term(left) is None:
+            raise NoTree
+        return ("alone", left.first)
+
+    def sum(self):
+        first, rest = self.piece(), []
+        while self.sees("+") or self.sees("-"):
+            sign = self.take_kind("mark")
+            rest.append((sign, self.piece()))
+        return Sum(first, tuple(rest))
+
+    def piece(self):
+        return self.number() if self.sees_number() else self.term()
 
     def term(self):
         for word in ("true", "false", "none"):
@@ -421,7 +459,7 @@ class Grammar:
                 return Term(word, ())
         name, arguments = self.name(), ()
         if self.take_if("("):
-            arguments = self.separated(self.term, ",")
+            arguments = self.separated(self.sum, ",")
             self.take(")")
         return Term(name, arguments)
 
@@ -450,14 +488,17 @@ class Table:
     def __init__(self):
         self.sorts = ["boolean"]
         self.pairs = []  # (upper, lower) for upper >> lower
-        self.objects = {"false": "boolean", "true": "boolean"}  # with their sorts
+        self.objects = {"false": "boolean", "true": "boolean"}  # the named ones, with their sorts
+        self.puts = list(self.objects.items())  # what is put into sorts: a name or a Span, with the sort
         self.variables = {}  # with their sorts
         self.symbols = {}
+        self.found = {}  # what objects_of found; it is asked of a table that does not change any more
 
     def copy(self):
         other = Table()
         other.sorts, other.pairs = list(self.sorts), list(self.pairs)
         other.objects, other.variables, other.symbols = dict(self.objects), dict(self.variables), dict(self.symbols)
+        other.puts = list(self.puts)
         return other
 
     def has_name(self, name):
@@ -471,9 +512,17 @@ class Table:
         return lower in reached
 
     def objects_of(self, sort):
-        """The objects of a sort and of the sorts below it, in declared order."""
-        below = [low for low in self.sorts if self.is_below(low, sort)]
-        return [name for name, own in self.objects.items() if own in below]
+        """What was put into a sort and into the sorts below it, in the order of the puts, each at its first place."""
+        if sort not in self.found:
+            below = [low for low in self.sorts if self.is_below(low, sort)]
+            put = [one for member, own in self.puts if own in below for one in each_of(member)]
+            self.found[sort] = list(dict.fromkeys(put))
+        return self.found[sort]
+
+
+def each_of(member):
+    """What a member of an object item puts: a name that object, numbers each from the one to the other."""
+    return range(member.low, member.high + 1) if isinstance(member, Span) else [member]
 
 
 def is_boolean_constant(symbol):
@@ -494,7 +543,7 @@ def declare(table, tree, place):
         faults |= declare_items(declared, item, place)
     if faults:
         raise Refused(min(faults), place)
-    check_limit("objects", len(declared.objects) - 2, place)
+    check_limit("objects", sum(len(each_of(member)) for member, _ in declared.puts) - 2, place)
     return declared
 
 
@@ -537,12 +586,27 @@ def declare_objects(table, item, place):
     faults = sort_faults(table, [item.sort])
     if item.sort == "boolean":
         faults.add(7)
-    for name in item.names:
-        if table.has_name(name):
+    for member in item.members:
+        if isinstance(member, Span):
+            faults |= number_faults(table, member, item.sort)
+        elif table.has_name(member):
             faults.add(4)
         else:
-            table.objects[name] = item.sort
+            table.objects[member] = item.sort
+        table.puts.append((member, item.sort))
     return faults
+
+
+def number_faults(table, numbers, sort):
+    """7: a greater number before a lesser one, which puts nothing. 4: one of them was put into the same sort before."""
+    if numbers.low > numbers.high:
+        return {7}
+    before = [member for member, own in table.puts if own == sort and isinstance(member, Span)]
+    return {4} if any(share_a_number(numbers, other) for other in before) else set()
+
+
+def share_a_number(numbers, other):
+    return max(numbers.low, other.low) <= min(numbers.high, other.high)
 
 
 def declare_variables(table, item, place):
@@ -639,7 +703,7 @@ def ground_constants(table):
 
 
 def applied(name, arguments):
-    return f"{name}({','.join(arguments)})" if arguments else name
+    return f"{name}({','.join(map(str, arguments))})" if arguments else name
 
 
 # ---------------------------------------------------------------------------------------------------------------
@@ -667,21 +731,41 @@ def all_parts(tree):
 
 
 def sides(tree):
-    """The terms that stand alone or in an equation."""
+    """The sums that stand alone or are compared."""
     if tree[0] == "alone":
-        return [tree[1]]
-    return [tree[1], tree[2]] if tree[0] in ("=", "\\=") else []
+        return [single(tree[1])]
+    return [tree[1], tree[2]] if tree[0] in COMPARISONS else []
+
+
+def all_sums(tree):
+    """All sums within a formula, arguments too."""
+    return [found for part in all_parts(tree) for side in sides(part) for found in with_arguments(side)]
+
+
+def with_arguments(whole):
+    """A sum and the sums that are arguments in it, at any depth."""
+    found = [whole]
+    for term in terms_of(whole):
+        for argument in term.arguments:
+            found += with_arguments(argument)
+    return found
+
+
+def terms_of(whole):
+    return [piece for piece in pieces(whole) if isinstance(piece, Term)]
 
 
 def all_terms(tree):
-    """All terms within a formula, arguments too."""
-    return [term for part in all_parts(tree) for side in sides(part) for term in with_arguments(side)]
+    """All terms within a formula in the order of its text, arguments too."""
+    return [term for part in all_parts(tree) for side in sides(part) for term in terms_in(side)]
 
 
-def with_arguments(term):
-    found = [term]
-    for argument in term.arguments:
-        found += with_arguments(argument)
+def terms_in(whole):
+    found = []
+    for term in terms_of(whole):
+        found.append(term)
+        for argument in term.arguments:
+            found += terms_in(argument)
     return found
 
 
@@ -730,22 +814,52 @@ def has_misfit(table, tree):
 
 
 def is_misfit(table, part):
-    if any(not arguments_fit(table, side) for side in sides(part)):
+    if any(has_misfit_within(table, side) for side in sides(part)):
         return True
     if part[0] == "alone":
         return not may_stand_alone(table, part[1])
     if part[0] in ("=", "\\="):
         return not may_be_compared(table, part[1], part[2])
+    if part[0] in COMPARISONS:
+        return any(is_no_summand(table, lone_term(side)) for side in sides(part))
     if part[0] in ("/\\", "\\/"):
         return what_is(table, part[1]) != "variable"
     return False
 
 
+def has_misfit_within(table, side):
+    """A part that may not stand in a sum of two or more, or an argument that does not fit, at any depth."""
+    return any(
+        has_bad_part(table, whole) or any(not arguments_fit(table, term) for term in terms_of(whole))
+        for whole in with_arguments(side)
+    )
+
+
+def has_bad_part(table, whole):
+    return len(pieces(whole)) > 1 and any(is_no_summand(table, term) for term in terms_of(whole))
+
+
+def is_no_summand(table, term):
+    """Whether a term is a named object, 'true', 'false', 'none' or a Boolean constant. A number is no term: None."""
+    if term is None:
+        return False
+    if is_constant(table, term):
+        return is_boolean_constant(table.symbols[term.name])
+    return what_is(table, term.name) in ("object", "none")
+
+
 def arguments_fit(table, term):
     if not is_constant(table, term):
         return True
-    pairs = zip(term.arguments, table.symbols[term.name].sorts)
-    return all(is_of_sort(table, argument, sort) for argument, sort in pairs)
+    return all(is_argument(table, argument, sort) for argument, sort in zip(term.arguments, table.symbols[term.name].sorts))
+
+
+def is_argument(table, whole, sort):
+    """A sum without a constant; an object or a variable alone is one of the sort or below it. A number is not looked at."""
+    if any(is_constant(table, term) for term in terms_in(whole)):
+        return False
+    term = lone_term(whole)
+    return term is None or is_of_sort(table, term, sort)
 
 
 def is_of_sort(table, term, sort):
@@ -763,27 +877,29 @@ def may_stand_alone(table, term):
 
 
 def may_be_compared(table, left, right):
-    if is_constant(table, left) and is_constant(table, right):
+    """For '=' and '\\='. 'none' is compared with an attribute alone; only a constant alone asks for a value that fits."""
+    left, right = lone_term(left), lone_term(right)
+    if is_none(left) or is_none(right):
+        return is_attribute(table, left) or is_attribute(table, right)
+    if left is None or right is None or is_constant(table, left) == is_constant(table, right):
         return True
-    if is_constant(table, left):
-        return is_value_of(table, right, left)
-    if is_constant(table, right):
-        return is_value_of(table, left, right)
-    return "none" not in (left.name, right.name)
+    constant, value = (left, right) if is_constant(table, left) else (right, left)
+    return is_of_sort(table, value, table.symbols[constant.name].domain)
 
 
-def is_value_of(table, term, constant):
-    symbol = table.symbols[constant.name]
-    if term.name == "none":
-        return symbol.attribute_of is not None
-    return is_of_sort(table, term, symbol.domain)
+def is_none(term):
+    return term is not None and term.name == "none"
+
+
+def is_attribute(table, term):
+    return term is not None and is_constant(table, term) and table.symbols[term.name].attribute_of is not None
 
 
 def free_variables(table, tree, bound=()):
     """The names of the variables that are free in a formula, each as often as it comes, in order."""
     if tree[0] in ("/\\", "\\/"):
         return free_variables(table, tree[2], bound + (tree[1],))
-    found = [term.name for side in sides(tree) for term in with_arguments(side)]
+    found = [term.name for side in sides(tree) for term in terms_in(side)]
     found = [name for name in found if what_is(table, name) == "variable" and name not in bound]
     for part in parts_of(tree):
         found += free_variables(table, part, bound)
@@ -821,21 +937,25 @@ def negated(tree):
     return ("-", tree)
 
 
+def equation(left, right):
+    return ("=", single(left), single(right))
+
+
 def exogenous(c):
-    return Caused(("=", c, VALUE), ("=", c, VALUE), None, c)
+    return Caused(equation(c, VALUE), equation(c, VALUE), None, c)
 
 
 def inertial(c):
-    return Caused(("=", c, VALUE), ("=", c, VALUE), ("=", c, VALUE), c)
+    return Caused(equation(c, VALUE), equation(c, VALUE), equation(c, VALUE), c)
 
 
 def rigid(c):
-    return Caused(("=", c, VALUE), TRUE, ("=", c, VALUE), c)
+    return Caused(equation(c, VALUE), TRUE, equation(c, VALUE), c)
 
 
 def only_with_its_action(c, a):
     """An attribute has a value other than none exactly where its action is done."""
-    return Caused(FALSE, TRUE, negated(("<->", ("=", c, Term("none", ())), negated(alone(a)))))
+    return Caused(FALSE, TRUE, negated(("<->", equation(c, Term("none", ())), negated(alone(a)))))
 
 
 def is_short_for(table, law):
@@ -915,23 +1035,28 @@ def definite_part(table, head):
     if head == FALSE:
         return False
     if head[0] == "alone" and is_constant(table, head[1]):
-        return head[1], Term("true", ())
+        return head[1], single(Term("true", ()))
     if head[0] == "=":
         return constant_and_value(table, head[1], head[2])
-    if head[0] == "\\=" and is_constant(table, head[1]):
+    if head[0] == "\\=" and is_lone_constant(table, head[1]):
         return opposite(table, constant_and_value(table, head[1], head[2]))
     if head[0] == "-" and head[1][0] == "alone" and is_constant(table, head[1][1]):
-        return head[1][1], Term("false", ())
+        return head[1][1], single(Term("false", ()))
     if head[0] == "-" and head[1][0] == "=":
         return opposite(table, constant_and_value(table, head[1][1], head[1][2]))
     return None
 
 
 def constant_and_value(table, left, right):
-    """What 'c=v' and 'v=c' say; None for another equation."""
-    if is_constant(table, left) == is_constant(table, right):
-        return None
-    return (left, right) if is_constant(table, left) else (right, left)
+    """What 'c=v' and 'v=c' say, with v a sum without a constant; None for another equation."""
+    for c, v in ((left, right), (right, left)):
+        if is_lone_constant(table, c) and not any(is_constant(table, term) for term in terms_in(v)):
+            return lone_term(c), v
+    return None
+
+
+def is_lone_constant(table, whole):
+    return lone_term(whole) is not None and is_constant(table, lone_term(whole))
 
 
 def opposite(table, part):
@@ -939,20 +1064,22 @@ def opposite(table, part):
     if part is None or not is_boolean_constant(table.symbols[part[0].name]):
         return None
     return {
-        "true": (part[0], Term("false", ())),
-        "false": (part[0], Term("true", ())),
-    }.get(part[1].name)
+        single(Term("true", ())): (part[0], single(Term("false", ()))),
+        single(Term("false", ())): (part[0], single(Term("true", ()))),
+    }.get(part[1])
 
 
 # ---------------------------------------------------------------------------------------------------------------
 # Base laws: variables by number
 # ---------------------------------------------------------------------------------------------------------------
 
-# Formulas with numbers in place of variables: 'true', 'false', ('=', s, t), ('-', F), ('&', F, G), ('++', F, G),
-# ('->>', F, G), ('<->', F, G), ('/\\', k, sort, F), ('\\/', k, sort, F).
+# Formulas with numbers in place of variables: 'true', 'false', ('=', s, t), ('<', s, t), ('=<', s, t), ('-', F),
+# ('&', F, G), ('++', F, G), ('->>', F, G), ('<->', F, G), ('/\\', k, sort, F), ('\\/', k, sort, F).
 Constant = namedtuple("Constant", "name arguments")
 Variable = namedtuple("Variable", "number")
-Value = namedtuple("Value", "name")  # an object or none
+Value = namedtuple("Value", "name")  # an object, a number or none
+Plus = namedtuple("Plus", "left right")
+Minus = namedtuple("Minus", "left right")
 
 # ranges are ('sort', name) and ('domain', name of a symbol); head is False or a pair of a constant and a value
 Law = namedtuple("Law", "ranges head body after test kind place")
@@ -970,23 +1097,36 @@ class Numbers:
         return self.next - 1
 
 
-def resolved_term(table, term, numbers):
-    if term.name in numbers:
-        return Variable(numbers[term.name])
-    if is_constant(table, term):
-        return Constant(term.name, tuple(resolved_term(table, argument, numbers) for argument in term.arguments))
-    return Value(term.name)
+def resolved_sum(table, whole, numbers):
+    """A sum groups to the left."""
+    made = resolved_piece(table, whole.first, numbers)
+    for sign, piece in whole.rest:
+        made = (Plus if sign == "+" else Minus)(made, resolved_piece(table, piece, numbers))
+    return made
+
+
+def resolved_piece(table, piece, numbers):
+    if isinstance(piece, int):
+        return Value(piece)
+    if piece.name in numbers:
+        return Variable(numbers[piece.name])
+    if is_constant(table, piece):
+        return Constant(piece.name, tuple(resolved_sum(table, argument, numbers) for argument in piece.arguments))
+    return Value(piece.name)
 
 
 def resolved(table, tree, numbers, bracket_numbers):
     sign = tree[0]
     if sign == "alone":
-        term = resolved_term(table, tree[1], numbers)
+        term = resolved_piece(table, tree[1], numbers)
         return ("=", term, Value("true")) if isinstance(term, Constant) else term.name
-    if sign == "=":
-        return ("=", resolved_term(table, tree[1], numbers), resolved_term(table, tree[2], numbers))
     if sign == "\\=":
         return ("-", resolved(table, ("=", tree[1], tree[2]), numbers, bracket_numbers))
+    if sign in (">", ">="):
+        # 's>t' is 't<s', and 's>=t' is 't=<s'
+        sign, tree = {">": "<", ">=": "=<"}[sign], (sign, tree[2], tree[1])
+    if sign in COMPARISONS:
+        return (sign, resolved_sum(table, tree[1], numbers), resolved_sum(table, tree[2], numbers))
     if sign in ("/\\", "\\/"):
         number = bracket_numbers.take()
         inner = resolved(table, tree[2], {**numbers, tree[1]: number}, bracket_numbers)
@@ -1016,7 +1156,7 @@ def law_has_misfit(table, law):
     if law.c is None:
         misfit = any(has_misfit(table, tree) for tree in written_parts(law))
     else:
-        misfit = not is_constant(table, law.c) or not arguments_fit(table, law.c)
+        misfit = not is_constant(table, law.c) or has_misfit_within(table, single(law.c))
     return misfit or any(has_misfit(table, tree) or constants_in(table, tree) for tree in test_of(law))
 
 
@@ -1083,7 +1223,7 @@ def base_laws(table, caused, names, ranges, where, place):
         if part is False and kind == "action":
             laws.append(Law(ranges, False, "true", body, test, "fluent", place))
         else:
-            head = part and tuple(resolved_term(table, term, numbers) for term in part)
+            head = part and (resolved_piece(table, part[0], numbers), resolved_sum(table, part[1], numbers))
             laws.append(Law(ranges, head, body, after, test, kind, place))
     return laws
 
@@ -1094,14 +1234,14 @@ def base_laws_of_declaration(table, tree, place):
     for item in tree.items:
         for shape in item.shapes:
             for caused in laws_of_shape(shape, item.kind):
-                names = [argument.name for argument in shape_arguments(shape)]
+                names = [argument.first.name for argument in shape_arguments(shape)]
                 ranges = [("sort", sort) for sort in shape.sorts]
                 laws += base_laws(table, caused, names, ranges, None, place)
     return laws
 
 
 def shape_arguments(shape):
-    return tuple(Term(f"argument {number}", ()) for number in range(len(shape.sorts)))
+    return tuple(single(Term(f"argument {number}", ())) for number in range(len(shape.sorts)))
 
 
 def laws_of_shape(shape, kind):
@@ -1289,28 +1429,48 @@ def choice_count(table, law):
 
 
 def environments(table, law):
-    """The choices of values for which a law's test is true, the first variable slowest."""
+    """The choices of values for which a law's test is true and its head is there, the first variable slowest."""
     choices = itertools.product(*[values_of_range(table, values_range) for values_range in law.ranges])
     for values in choices:
         environment = dict(enumerate(values))
-        if is_true(table, law.test, environment):
+        if holds(table, law.test, environment, {}) and head_is_there(table, law.head, environment):
             yield environment
 
 
-def is_true(table, test, environment):
-    """The truth of a formula without constants."""
-    if isinstance(test, str):
-        return test == "true"
-    sign = test[0]
-    if sign == "=":
-        return value_of(test[1], environment) == value_of(test[2], environment)
+def head_is_there(table, head, environment):
+    """'false' is always there; an atom where its arguments are of their sorts and its value is one of the constant's."""
+    if head is False:
+        return True
+    constant, value = head
+    values = domain_of(table, table.symbols[constant.name])
+    return ground_name(table, constant, environment) is not None and value_of(table, value, environment, {}) in values
+
+
+def holds(table, formula, environment, state):
+    """The truth of a formula where 'state' gives each ground constant its value. A test has no constant."""
+    if isinstance(formula, str):
+        return formula == "true"
+    sign = formula[0]
+    if sign in ("=", "<", "=<"):
+        left, right = (value_of(table, side, environment, state) for side in formula[1:])
+        return is_so(sign, left, right)
     if sign == "-":
-        return not is_true(table, test[1], environment)
+        return not holds(table, formula[1], environment, state)
     if sign in ("/\\", "\\/"):
         quantify = all if sign == "/\\" else any
-        return quantify([is_true(table, test[3], inner) for inner in bracket_environments(table, test, environment)])
-    left, right = is_true(table, test[1], environment), is_true(table, test[2], environment)
+        instances = bracket_environments(table, formula, environment)
+        return quantify([holds(table, formula[3], inner, state) for inner in instances])
+    left, right = holds(table, formula[1], environment, state), holds(table, formula[2], environment, state)
     return {"&": left and right, "++": left or right, "->>": not left or right, "<->": left == right}[sign]
+
+
+def is_so(sign, left, right):
+    """Whether two values are the same, or are numbers the first of which is less, or not greater; no value is None."""
+    if sign == "=":
+        return left is not None and left == right
+    if not isinstance(left, int) or not isinstance(right, int):
+        return False
+    return left < right if sign == "<" else left <= right
 
 
 def bracket_environments(table, bracket, environment):
@@ -1318,20 +1478,35 @@ def bracket_environments(table, bracket, environment):
     return [{**environment, bracket[1]: value} for value in table.objects_of(bracket[2])]
 
 
-def value_of(term, environment):
-    return environment[term.number] if isinstance(term, Variable) else term.name
+def value_of(table, term, environment, state):
+    """The value of a term: a number, a name, or None where it has none."""
+    if isinstance(term, Value):
+        return term.name
+    if isinstance(term, Variable):
+        return environment[term.number]
+    if isinstance(term, Constant):
+        return state.get(ground_name(table, term, environment))
+    left, right = value_of(table, term.left, environment, state), value_of(table, term.right, environment, state)
+    if not isinstance(left, int) or not isinstance(right, int):
+        return None
+    return left + right if isinstance(term, Plus) else left - right
 
 
-def ground_name(constant, environment):
-    return applied(constant.name, [value_of(argument, environment) for argument in constant.arguments])
+def ground_name(table, constant, environment):
+    """The ground constant that a constant is; None where an argument is not one of its sort."""
+    arguments = [value_of(table, argument, environment, {}) for argument in constant.arguments]
+    sorts = table.symbols[constant.name].sorts
+    if any(argument not in table.objects_of(sort) for argument, sort in zip(arguments, sorts)):
+        return None
+    return applied(constant.name, arguments)
 
 
 def nodes_of(table, formula, environment):
     if isinstance(formula, str):
         return [formula]
     sign = formula[0]
-    if sign == "=":
-        return equation_nodes(table, formula[1], formula[2], environment)
+    if sign in ("=", "<", "=<"):
+        return comparison_nodes(table, formula, environment)
     if sign in ("/\\", "\\/"):
         instances = bracket_environments(table, formula, environment)
         nodes = [node for inner in instances for node in nodes_of(table, formula[3], inner)]
@@ -1345,16 +1520,95 @@ def nodes_of(table, formula, environment):
     return left + right + [{"&": "&2", "++": "|2", "<->": "<->"}[sign]]
 
 
-def equation_nodes(table, left, right, environment):
+def comparison_nodes(table, formula, environment):
+    names = names_in(table, formula, environment)
+    if None in names:
+        return ["false"]
+    if not names:
+        return ["true" if holds(table, formula, environment, {}) else "false"]
+    if is_judged(formula):
+        lists = true_lists(table, formula, environment)
+        nodes = [node for atoms in lists for node in [f"{name}={value}" for name, value in atoms] + [f"&{len(atoms)}"]]
+        return nodes + [f"|{len(lists)}"]
+    left, right = formula[1:]
     if isinstance(left, Constant) and isinstance(right, Constant):
-        names = ground_name(left, environment), ground_name(right, environment)
         values = common_values(table, left, right)
         return [node for v in values for node in (f"{names[0]}={v}", f"{names[1]}={v}", "&2")] + [f"|{len(values)}"]
-    if isinstance(left, Constant):
-        return [f"{ground_name(left, environment)}={value_of(right, environment)}"]
-    if isinstance(right, Constant):
-        return [f"{ground_name(right, environment)}={value_of(left, environment)}"]
-    return ["true" if value_of(left, environment) == value_of(right, environment) else "false"]
+    value = right if isinstance(left, Constant) else left
+    return [f"{names[0]}={value_of(table, value, environment, {})}"]
+
+
+def is_judged(formula):
+    """Whether a comparison has another sign than '=', or a side that is a number or a sum of two or more."""
+    return formula[0] != "=" or any(isinstance(side, (Plus, Minus)) or is_number(side) for side in formula[1:])
+
+
+def is_number(term):
+    return isinstance(term, Value) and isinstance(term.name, int)
+
+
+def parts_of_sides(formula):
+    """The pieces of both sides of a comparison, in order."""
+    found, waiting = [], [formula[2], formula[1]]
+    while waiting:
+        term = waiting.pop()
+        if isinstance(term, (Plus, Minus)):
+            waiting += [term.right, term.left]
+        else:
+            found.append(term)
+    return found
+
+
+def constants_of_sides(formula):
+    return [term for term in parts_of_sides(formula) if isinstance(term, Constant)]
+
+
+def names_in(table, formula, environment):
+    """The ground constants of a comparison in order, each as often as it stands there; None for one that does not exist."""
+    return [ground_name(table, constant, environment) for constant in constants_of_sides(formula)]
+
+
+def domains_in(table, formula, environment):
+    """The different ground constants of a comparison that exist, in the order of their first place, with their domains."""
+    found = {}
+    for constant in constants_of_sides(formula):
+        name = ground_name(table, constant, environment)
+        if name is not None:
+            found[name] = domain_of(table, table.symbols[constant.name])
+    return found
+
+
+def true_lists(table, formula, environment):
+    """For each list of values of its different constants under which a comparison is true, the constants with their values."""
+    domains = domains_in(table, formula, environment)
+    ground = tuple([formula[0]] + [ground_side(table, side, environment) for side in formula[1:]])
+    lists = []
+    for values in itertools.product(*domains.values()):
+        state = dict(zip(domains, values))
+        if is_so(ground[0], sum_of(ground[1], state), sum_of(ground[2], state)):
+            lists.append(list(state.items()))
+    return lists
+
+
+def ground_side(table, term, environment):
+    """A side with ground constants in place of constants and with values in place of variables."""
+    if isinstance(term, (Plus, Minus)):
+        return type(term)(ground_side(table, term.left, environment), ground_side(table, term.right, environment))
+    if isinstance(term, Constant):
+        return Constant(ground_name(table, term, environment), ())
+    return Value(value_of(table, term, environment, {}))
+
+
+def sum_of(term, state):
+    """The value of a side that is ground."""
+    if isinstance(term, Value):
+        return term.name
+    if isinstance(term, Constant):
+        return state[term.name]
+    left, right = sum_of(term.left, state), sum_of(term.right, state)
+    if not isinstance(left, int) or not isinstance(right, int):
+        return None
+    return left + right if isinstance(term, Plus) else left - right
 
 
 def common_values(table, left, right):
@@ -1363,19 +1617,65 @@ def common_values(table, left, right):
     return [value for value in domain_of(table, table.symbols[left.name]) if value in others]
 
 
-def node_count(table, formula):
-    """How many nodes a formula has; that is the same under each environment."""
+def node_count(table, formula, environment):
+    """How many nodes a formula has under an environment; without numbers that is the same under each."""
+    return nodes_counted(table, formula, environment, is_plain(formula))
+
+
+def nodes_counted(table, formula, environment, plain):
     if isinstance(formula, str):
         return 1
     sign = formula[0]
-    if sign == "=":
-        if isinstance(formula[1], Constant) and isinstance(formula[2], Constant):
-            return 3 * len(common_values(table, formula[1], formula[2])) + 1
-        return 1
+    if sign in ("=", "<", "=<"):
+        return comparison_count(table, formula, environment)
     if sign in ("/\\", "\\/"):
-        return len(table.objects_of(formula[2])) * node_count(table, formula[3]) + 1
-    inner = sum(node_count(table, part) for part in formula[1:])
+        instances = bracket_environments(table, formula, environment)
+        if instances and plain:
+            return len(instances) * nodes_counted(table, formula[3], instances[0], plain) + 1
+        return sum(nodes_counted(table, formula[3], inner, plain) for inner in instances) + 1
+    inner = sum(nodes_counted(table, part, environment, plain) for part in formula[1:])
     return inner + (2 if sign == "->>" else 1)
+
+
+def comparison_count(table, formula, environment):
+    names = names_in(table, formula, environment)
+    if not names or None in names:
+        return 1
+    if is_judged(formula):
+        return len(true_lists(table, formula, environment)) * (len(set(names)) + 1) + 1
+    if len(names) == 2:
+        return 3 * len(common_values(table, formula[1], formula[2])) + 1
+    return 1
+
+
+def is_plain(formula):
+    """Whether a formula has no number, no sum and no sign of order: all of its constants exist, under each environment."""
+    if isinstance(formula, Constant):
+        return all(is_plain(argument) for argument in formula.arguments)
+    if not isinstance(formula, tuple):
+        return True
+    if isinstance(formula, (Plus, Minus)) or is_number(formula) or formula[0] in ("<", "=<"):
+        return False
+    return isinstance(formula, (Value, Variable)) or all(is_plain(part) for part in formula[1:])
+
+
+def list_count(table, formula, environment):
+    """For the limit of choices: how many lists of values are looked at, for all comparisons of which that is said."""
+    return 0 if is_plain(formula) else lists_counted(table, formula, environment)
+
+
+def lists_counted(table, formula, environment):
+    if isinstance(formula, str):
+        return 0
+    sign = formula[0]
+    if sign in ("=", "<", "=<"):
+        if not is_judged(formula) or not constants_of_sides(formula):
+            return 0
+        return math.prod(len(domain) for domain in domains_in(table, formula, environment).values())
+    if sign in ("/\\", "\\/"):
+        instances = bracket_environments(table, formula, environment)
+        return sum(lists_counted(table, formula[3], inner) for inner in instances)
+    return sum(lists_counted(table, part, environment) for part in formula[1:])
 
 
 def boolean_actions(table):
@@ -1398,14 +1698,28 @@ def pair_count(table):
 
 def check_ground_limits(table, laws):
     check_limit("law instances", sum(choice_count(table, law) for law in laws), None)
-    nodes = 0
-    for law in laws:
-        if isinstance(law, NoConcurrency):
-            nodes += 4 * pair_count(table)
-        else:
-            per_instance = sum(node_count(table, part) for part in (law.body, law.after) if part is not None)
-            nodes += per_instance * sum(1 for _ in environments(table, law))
-    check_limit("ground nodes", nodes, None)
+    check_limit("choices", sum(sum_over_instances(table, law, list_count) for law in laws), None)
+    check_limit("ground nodes", sum(4 * pair_count(table) if isinstance(law, NoConcurrency) else sum_over_instances(table, law, node_count) for law in laws), None)
+
+
+def sum_over_instances(table, law, count):
+    """What the parts of a law count, over its instances; a law without numbers counts the same in each."""
+    if isinstance(law, NoConcurrency):
+        return 0
+    parts = [part for part in (law.body, law.after) if part is not None]
+    if all(is_plain(part) for part in parts):
+        instances = list(itertools.islice(environments(table, law), 1))
+        if not instances:
+            return 0
+        number = sum(1 for _ in environments(table, law))
+        return number * sum(count(table, part, instances[0]) for part in parts)
+    return sum(count(table, part, environment) for environment in environments(table, law) for part in parts)
+
+
+def check_asked_limits(table, parts):
+    """The limits of the formulas that a query asks or denies."""
+    check_limit("choices", sum(list_count(table, part.formula, {}) for part in parts), None)
+    check_limit("ground nodes", sum(node_count(table, part.formula, {}) for part in parts), None)
 
 
 def ground_lines(table, laws):
@@ -1427,7 +1741,7 @@ def ground_lines_of(table, number, law):
 def ground_line(table, number, law, environment):
     head = "false"
     if law.head:
-        head = f"{ground_name(law.head[0], environment)}={value_of(law.head[1], environment)}"
+        head = f"{ground_name(table, law.head[0], environment)}={value_of(table, law.head[1], environment, {})}"
     line = f"ground {number} {law.kind} {head} if {' '.join(nodes_of(table, law.body, environment))}"
     if law.after is not None:
         line += f" after {' '.join(nodes_of(table, law.after, environment))}"
@@ -1442,15 +1756,17 @@ def ground_line(table, number, law, environment):
 def term_text(term):
     if isinstance(term, Variable):
         return f"X{term.number}"
-    return applied(term.name, [term_text(argument) for argument in getattr(term, "arguments", ())])
+    if isinstance(term, (Plus, Minus)):
+        return f"({term_text(term.left)}{'+' if isinstance(term, Plus) else '-'}{term_text(term.right)})"
+    return applied(str(term.name), [term_text(argument) for argument in getattr(term, "arguments", ())])
 
 
 def formula_text(formula):
     if isinstance(formula, str):
         return formula
     sign = formula[0]
-    if sign == "=":
-        return f"{term_text(formula[1])}={term_text(formula[2])}"
+    if sign in ("=", "<", "=<"):
+        return f"{term_text(formula[1])}{sign}{term_text(formula[2])}"
     if sign == "-":
         return "-" + formula_text(formula[1])
     if sign in ("/\\", "\\/"):
@@ -1472,13 +1788,13 @@ def law_line(law, file_names):
 
 
 def table_lines(table):
-    lines = [" ".join([f"sort {sort}:"] + table.objects_of(sort)) for sort in table.sorts]
+    lines = [" ".join([f"sort {sort}:"] + [str(one) for one in table.objects_of(sort)]) for sort in table.sorts]
     lines += [f"variable {name}: {sort}" for name, sort in table.variables.items()]
     for symbol in table.symbols.values():
         line = f"symbol {applied(symbol.name, symbol.sorts)}: {symbol.kind} {symbol.domain}"
         lines.append(line if symbol.attribute_of is None else f"{line} of {symbol.attribute_of}")
     for symbol, arguments in ground_constants(table):
-        values = " ".join(domain_of(table, symbol))
+        values = " ".join(map(str, domain_of(table, symbol)))
         lines.append(f"constant {applied(symbol.name, arguments)}: {symbol.kind}: {values}")
     return lines
 
@@ -1503,7 +1819,7 @@ def asked_lines(table, query):
     parts = [("asks", condition) for condition in query.conditions]
     parts += [("denies", query.claim)] if query.claim else []
     try:
-        check_limit("ground nodes", sum(node_count(table, part.formula) for _, part in parts), None)
+        check_asked_limits(table, [part for _, part in parts])
     except Refused as refused:
         return ["asks refused " + refused.text([])]
     return [f"{word} {part.at}: {' '.join(nodes_of(table, part.formula, {}))}" for word, part in parts]

@@ -10,7 +10,7 @@ Usage: checks/runs.py BOOK..
 import re
 
 from reference import (
-    Refused, check_ground_limits, check_limit, check_steps, described, first_files, is_boolean_constant, node_count, run_deep, show_books,
+    Refused, check_asked_limits, check_ground_limits, check_steps, described, first_files, is_boolean_constant, run_deep, show_books,
 )
 from sections import Theory, clause_list, is_history, judge, paths, split_log
 
@@ -116,7 +116,7 @@ def listing(description, query, count, key):
     out = []
     horizons = range(query.range.lo, query.range.hi + 1) if key is None else [key[0]]
     for horizon in horizons:
-        theory, found = paths(description, horizon)
+        theory, found = paths(description, horizon, query.conditions)
         rows = [row for row in found if is_history(theory, query, True, row) and (key is None or theory.indexes(row) > key[1])]
         if not rows and key is None:
             out.append(f"horizon {horizon}: no history")
@@ -132,8 +132,7 @@ def listing(description, query, count, key):
 def claiming(description, query):
     out, any_met = [], False
     for horizon in range(query.range.lo, query.range.hi + 1):
-        theory, found = paths(description, horizon)
-        met = [row for row in found if is_history(theory, query, False, row)]
+        theory, met = paths(description, horizon, query.conditions)
         against = [row for row in met if is_history(theory, query, True, row)]
         if against:
             return out + [f"horizon {horizon}: counterexample"] + history_lines(theory, against[0]) + ["claim fails"], 1
@@ -168,7 +167,7 @@ def named(asked, files):
         query = chosen(description, asked.label)
         check_steps(description.table, query)
         parts = list(query.conditions) + ([query.claim] if query.claim else [])
-        check_limit("ground nodes", sum(node_count(description.table, part.formula) for part in parts), None)
+        check_asked_limits(description.table, parts)
     except Refused as refused:
         raise Stop(["ccalc: " + stop_line("refused " + refused.text(description.file_names))], 2)
     return description, query, None if asked.after is None else checked_key(description, query, asked.after)

@@ -18,38 +18,19 @@ and, where the log is shown, a file `log`.
 
 Usage: checks/sections.py BOOK..
 """
+import functools
 import itertools
 import re
 
 from reference import (
     Constant, NoConcurrency, action_pairs, applied, bracket_environments, common_values, described, domain_of,
-    environments, first_files, ground_constants, ground_name, run_deep, show_books, value_of,
+    environments, first_files, ground_constants, ground_name, holds, is_judged, names_in, run_deep, show_books, true_lists, value_of,
 )
 
 
 # ---------------------------------------------------------------------------------------------------------------
-# Ground laws and the truth of formulas
+# Ground laws
 # ---------------------------------------------------------------------------------------------------------------
-
-
-def holds(table, formula, environment, state):
-    """The truth of a formula where `state` gives each ground constant its value."""
-    if isinstance(formula, str):
-        return formula == "true"
-    sign = formula[0]
-    if sign == "=":
-        return side(formula[1], environment, state) == side(formula[2], environment, state)
-    if sign == "-":
-        return not holds(table, formula[1], environment, state)
-    if sign in ("/\\", "\\/"):
-        quantify = all if sign == "/\\" else any
-        return quantify([holds(table, formula[3], inner, state) for inner in bracket_environments(table, formula, environment)])
-    left, right = holds(table, formula[1], environment, state), holds(table, formula[2], environment, state)
-    return {"&": left and right, "++": left or right, "->>": not left or right, "<->": left == right}[sign]
-
-
-def side(term, environment, state):
-    return state[ground_name(term, environment)] if isinstance(term, Constant) else value_of(term, environment)
 
 
 class Law:
@@ -67,7 +48,7 @@ def ground_laws(table, laws):
                 found.append(Law("fluent", None, "true", ("pair", a, b), {}))
             continue
         for environment in environments(table, law):
-            head = (ground_name(law.head[0], environment), value_of(law.head[1], environment)) if law.head else None
+            head = (ground_name(table, law.head[0], environment), value_of(table, law.head[1], environment, {})) if law.head else None
             found.append(Law(law.kind, head, law.body, law.after, environment))
     return found
 
@@ -111,20 +92,37 @@ class Theory:
                 rules.append((head, parts))
         return rules
 
-    def part_holds(self, part, row):
+    def states(self, row):
+        """What the constants have at each step."""
+        found = [{} for _ in range(self.horizon + 1)]
+        for (step, name), value in row.items():
+            found[step][name] = value
+        return found
+
+    def part_holds(self, part, states):
         step, formula, environment = part
-        state = {name: row[(step, name)] for name in self.fluents + self.actions if (step, name) in row}
+        state = states[step]
         if isinstance(formula, tuple) and formula[0] == "atom":
             return state[formula[1]] == formula[2]
         if isinstance(formula, tuple) and formula[0] == "pair":
             return state[formula[1]] == "true" and state[formula[2]] == "true"
         return holds(self.table, formula, environment, state)
 
+    def body_holds(self, parts, states):
+        return all(self.part_holds(part, states) for part in parts)
+
     def is_model(self, row):
         """The definition: the row is the one interpretation that satisfies the heads of the rules whose bodies it satisfies."""
-        heads = [head for head, parts in self.rules if all(self.part_holds(part, row) for part in parts)]
-        if None in heads:
+        states = self.states(row)
+        denials = [parts for head, parts in self.rules if head is None]
+        if any(self.body_holds(parts, states) for parts in denials):
             return False
+        heads = []
+        for head, parts in self.rules:
+            if head is not None and self.body_holds(parts, states):
+                if row[head[:2]] != head[2]:
+                    return False
+                heads.append(head)
         others = 1
         for position in self.positions:
             wanted = {head[2] for head in heads if head[:2] == position}
@@ -142,25 +140,38 @@ class Theory:
         return [self.domains[name].index(row[(step, name)]) for step, name in self.positions]
 
 
-def paths(description, horizon):
-    """All paths of so many transitions, by states and transitions alone, in ascending order of their indexes."""
+@functools.lru_cache(maxsize=1)
+def transitions(description):
+    """The models at horizon 1, by the values of their first state."""
+    one = Theory(description, 1)
+    turns = {}
+    for turn in one.rows():
+        if one.is_model(turn):
+            turns.setdefault(tuple(turn[(0, name)] for name in one.fluents), []).append(turn)
+    return turns
+
+
+def paths(description, horizon, conditions=()):
+    """All paths of so many transitions that meet the conditions, by states and transitions alone, in ascending order of their indexes."""
     theory = Theory(description, horizon)
     if horizon == 0:
         found = [row for row in theory.rows() if theory.is_model(row)]
     else:
-        one = Theory(description, 1)
-        transitions = [row for row in one.rows() if one.is_model(row)]
-        found = [dict(row) for row in transitions]
+        turns = transitions(description)
+        found = [dict(turn) for those in turns.values() for turn in those]
         for step in range(1, horizon):
+            # what fails a condition at an earlier step is not gone on with
+            early = [condition for condition in conditions if condition.at != "maxstep" and int(condition.at) < step]
             longer = []
             for row in found:
-                for turn in transitions:
-                    if all(row[(step, name)] == turn[(0, name)] for name in one.fluents):
+                if all(condition_holds(theory, condition, row) for condition in early):
+                    for turn in turns.get(tuple(row[(step, name)] for name in theory.fluents), []):
                         new = dict(row)
                         new.update({(step + at, name): value for (at, name), value in turn.items()})
                         longer.append(new)
             found = longer
-    return theory, sorted(found, key=theory.indexes)
+    met = [row for row in found if all(condition_holds(theory, condition, row) for condition in conditions)]
+    return theory, sorted(met, key=theory.indexes)
 
 
 def step_at(condition, horizon):
@@ -168,7 +179,7 @@ def step_at(condition, horizon):
 
 
 def condition_holds(theory, condition, row):
-    return theory.part_holds((step_at(condition, theory.horizon), condition.formula, {}), row)
+    return theory.part_holds((step_at(condition, theory.horizon), condition.formula, {}), theory.states(row))
 
 
 def is_history(theory, query, claimed, row):
@@ -238,8 +249,8 @@ class Clauses:
             return self.atom(step, formula[1], formula[2])
         if sign == "pair":
             return self.all_of([self.atom(step, formula[1], "true"), self.atom(step, formula[2], "true")])
-        if sign == "=":
-            return self.equation(step, formula[1], formula[2], environment)
+        if sign in ("=", "<", "=<"):
+            return self.comparison(step, formula, environment)
         if sign == "-":
             return -self.literal((step, formula[1], environment))
         if sign in ("/\\", "\\/"):
@@ -258,27 +269,30 @@ class Clauses:
             self.write(clause)
         return x
 
-    def equation(self, step, left, right, environment):
+    def comparison(self, step, formula, environment):
+        table = self.theory.table
+        names = names_in(table, formula, environment)
+        if None in names:
+            return -self.t
+        if not names:
+            return self.t if holds(table, formula, environment, {}) else -self.t
+        if is_judged(formula):
+            lists = true_lists(table, formula, environment)
+            return self.any_of([self.all_of([self.atom(step, *atom) for atom in atoms]) for atoms in lists])
+        left, right = formula[1:]
         if isinstance(left, Constant) and isinstance(right, Constant):
-            names = ground_name(left, environment), ground_name(right, environment)
-            pairs = [
-                self.all_of([self.atom(step, names[0], value), self.atom(step, names[1], value)])
-                for value in common_values(self.theory.table, left, right)
-            ]
+            pairs = [self.all_of([self.atom(step, name, value) for name in names]) for value in common_values(table, left, right)]
             return self.any_of(pairs)
-        if isinstance(left, Constant):
-            return self.atom(step, ground_name(left, environment), value_of(right, environment))
-        if isinstance(right, Constant):
-            return self.atom(step, ground_name(right, environment), value_of(left, environment))
-        return self.t if value_of(left, environment) == value_of(right, environment) else -self.t
+        value = right if isinstance(left, Constant) else left
+        return self.atom(step, names[0], value_of(table, value, environment, {}))
 
     def is_truth(self, part):
-        """Whether a part asks nothing once it is ground: it is `true`, or one value equals itself."""
+        """Whether a part asks nothing once it is ground: it is `true`, or a comparison without a constant that is true."""
         _, formula, environment = part
-        if isinstance(formula, str) or formula[0] != "=":
+        if isinstance(formula, str) or formula[0] not in ("=", "<", "=<"):
             return formula == "true"
-        sides = formula[1:]
-        return not any(isinstance(side, Constant) for side in sides) and value_of(sides[0], environment) == value_of(sides[1], environment)
+        table = self.theory.table
+        return not names_in(table, formula, environment) and holds(table, formula, environment, {})
 
     def body(self, parts):
         asked = [part for part in parts if not self.is_truth(part)]
@@ -469,7 +483,7 @@ def case_lines(files, main):
         elif what == "causes":
             lines += cause_lines(theory)
         elif what == "rows":
-            theory, found = paths(description, asked["horizon"])
+            theory, found = paths(description, asked["horizon"], query.conditions)
             rows = [row for row in found if is_history(theory, query, asked["claim"], row)]
             indexes = [theory.indexes(row) for row in rows]
             lines += ["row " + ",".join(map(str, row)) for row in indexes if asked["after"] is None or row > asked["after"]]

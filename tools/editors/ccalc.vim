@@ -8,7 +8,7 @@ syn keyword ccalcDirective maxstep label claim sorts objects variables constants
 syn keyword ccalcKind simpleFluent inertialFluent sdFluent rigid action exogenousAction attribute
 syn keyword ccalcValue true false none
 syn match ccalcNumber "\<[0-9]\+\>"
-syn match ccalcMark ":-\|::\|>>\|\.\.\|\\=\|=\|&\|++\|->>\|<->\|-\|/\\\|\\/"
+syn match ccalcMark ":-\|::\|>>\|>=\|=<\|\.\.\|\\=\|=\|&\|++\|+\|->>\|<->\|-\|<\|>\|/\\\|\\/"
 syn region ccalcName start="'" end="'" oneline
 syn match ccalcComment "%.*$"
 

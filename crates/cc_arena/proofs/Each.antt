@@ -1,7 +1,11 @@
 -- What holds of each item of lists that are made of others.
-use Rattle.std.proofs.Common.{◌≡◌, ℕ, zero, suc, ◌<◌, Bool, true, false, ◌||◌, List, [], ◌∷◌, ◌++◌, length, map, flat_map, get_or, filter, slice_get, Some, refl, subst, arith}
+use Rattle.std.proofs.Common.{◌≡◌, ℕ, zero, suc, ◌<◌, Bool, true, false, ◌&&◌, ◌||◌, List, [], ◌∷◌, ◌++◌, length, map, flat_map, get_or, filter, slice_get, Some, refl, subst, arith}
 use Rattle.std.specs.Prelude.{if◌then◌else◌, IsTrue, IsFalse}
 use Rattle.std.specs.List.{AllByRecursion, AllZip, list_any}
+
+pub both_hold : (a b : Bool) → (a && b) ≡ true → (a ≡ true) × (b ≡ true)
+both_hold true b e = (refl, e)
+both_hold false b e = absurd cc
 
 module _ {X : Type 0} (P : X → Type 0) where
   pub all_append : (xs ys : List X) → AllByRecursion P xs → AllByRecursion P ys → AllByRecursion P (xs ++ ys)
@@ -30,6 +34,23 @@ module _ {X : Type 0} (P : X → Type 0) where
       here : (passes : Bool) → test y ≡ passes → AllByRecursion P (map f (filter test ys)) → AllByRecursion P (map f (if passes then y ∷ filter test ys else filter test ys))
       here true e rest = (each y e, rest)
       here false e rest = rest
+
+  pub all_kept : (test : X → Bool) (xs : List X) → AllByRecursion P xs → AllByRecursion P (filter test xs)
+  all_kept test [] all = tt
+  all_kept test (x ∷ xs) all = here (test x) (all_kept test xs all.1)
+    where
+      here : (passes : Bool) → AllByRecursion P (filter test xs) → AllByRecursion P (if passes then x ∷ filter test xs else filter test xs)
+      here true rest = (all.0, rest)
+      here false rest = rest
+
+  pub all_parts : (xs ys : List X) → AllByRecursion P (xs ++ ys) → AllByRecursion P xs × AllByRecursion P ys
+  all_parts [] ys all = (tt, all)
+  all_parts (x ∷ xs) ys all = let more = all_parts xs ys all.1 in ((all.0, more.0), more.1)
+
+  -- of what is made of items of which something else holds
+  pub all_made : {Y : Type 0} (Q : Y → Type 0) (f : Y → X) (ys : List Y) → ((y : Y) → Q y → P (f y)) → AllByRecursion Q ys → AllByRecursion P (map f ys)
+  all_made Q f [] each all = tt
+  all_made Q f (y ∷ ys) each all = (each y all.0, all_made Q f ys each all.1)
 
   -- the items of all lists, where they hold of those of each
   pub all_flat : {Y : Type 0} (f : Y → List X) (ys : List Y) → AllByRecursion (λ y. AllByRecursion P (f y)) ys → AllByRecursion P (flat_map f ys)

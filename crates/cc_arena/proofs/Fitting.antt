@@ -1,22 +1,25 @@
 -- The terms of formulas are of constants with so many values each.
-use Rattle.std.proofs.Common.{◌≡◌, ◌∙◌, ℕ, ◌+◌, ◌<◌, Bool, true, false, List, [], ◌∷◌, ◌++◌, length, map, nat_eq, position, slice_get, Option, Some, None, refl, ap, arith}
-use Rattle.std.specs.Option.{option_map}
-use Rattle.std.specs.Prelude.{◌==◌, if◌then◌else◌}
+use Rattle.std.proofs.Common.{◌≡◌, ◌∙◌, ℕ, ◌+◌, ◌<◌, Bool, true, false, List, [], ◌∷◌, ◌++◌, length, map, filter, nat_eq, position, slice_get, Option, Some, None, refl, ap, subst, arith}
+use Rattle.std.specs.Option.{option_map, option_map_or}
+use Rattle.std.specs.Prelude.{◌||◌, ◌==◌, if◌then◌else◌}
 use Rattle.std.specs.List.{AllByRecursion}
 use Rattle.std.proofs.lemmas.List.Quantifiers.{position-Some}
 use Rattle.std.proofs.lemmas.Option.{slice_get-map}
 use Rattle.cc_defs.specs.declared.node.Node.TheVariants as nodes
 use Rattle.cc_defs.specs.declared.signature.Const.{Const}
+use Rattle.cc_defs.specs.Declarations.{firsts}
 use Rattle.cc_defs.specs.Description.{domain_sizes}
 use Rattle.cc_defs.specs.Forms.{formula_symbols, term_symbols}
+use Rattle.cc_defs.specs.Judged.{all_meant, atoms, chosen, constants_of, index_lists, is_sum, judged, judged_over, judged_where, truth_of}
 use Rattle.cc_defs.specs.Nodes.{Side, Constant, Value, Absent, side, value_side, constant_side, numbered_side, atom_at, both_have, common_values, equation, term_of}
 use Rattle.cc_defs.specs.Resolved.{Term, Terms, Formula}
 use Rattle.cc_defs.specs.Resolved as resolved
-use Rattle.cc_defs.specs.Satisfaction.{Environment, bind, constant_meant}
+use Rattle.cc_defs.specs.Satisfaction.{Environment, bind, cons_both, constant_meant, object_given, satisfied}
 use Rattle.cc_defs.specs.Terms.{Ground, Operands, Fits, all_of, any_of, operands_behind, postfix, postfixes, operand_count}
 use Rattle.cc_defs.specs.Terms as terms
 use Rattle.cc_defs.specs.Universe.{Universe, constants_in, objects_of}
-use Rattle.cc_arena.proofs.Each.{all_append, all_map}
+use Rattle.cc_arena.proofs.Each.{all_append, all_kept, all_made, all_map, all_parts}
+use Rattle.cc_arena.proofs.IndexLists.{AreIndexes, IsIndex, all_firsts, lists_are}
 
 -- the index of a value is below the number of values
 pub index_below : (values : List ℕ) (value index : ℕ) → position (nat_eq value) values ≡ Some index → index < length values
@@ -94,41 +97,131 @@ module _ (sizes : List ℕ) where
   equation_fits (Value value) Absent p q = (tt, tt)
   equation_fits Absent other p q = (tt, tt)
 
+  -- ---- equations with sums, and comparisons
+
+  truth_fits : (b : Bool) → TermFits (truth_of b)
+  truth_fits true = (tt, tt)
+  truth_fits false = (tt, tt)
+
+  module _ (u : Universe) where
+    -- an atom of the constant with one of its value indexes fits
+    abbrev HasSize : ℕ → Type 0
+    HasSize number = (index : ℕ) → IsIndex u number index → TermFits (terms.Atom number index)
+
+    atoms_fit : (numbers indexes : List ℕ) → AllByRecursion HasSize numbers → AreIndexes u numbers indexes → AllByRecursion TermFits (atoms numbers indexes)
+    atoms_fit [] indexes sized are = tt
+    atoms_fit (number ∷ numbers) [] sized are = tt
+    atoms_fit (number ∷ numbers) (index ∷ indexes) sized are = (sized.0 index are.0, atoms_fit numbers indexes sized.1 are.1)
+
+    over_fits : (env : Environment) (formula : Formula) (numbers : List ℕ) → AllByRecursion HasSize numbers → TermFits (judged_over u env formula numbers)
+    over_fits env formula [] sized = truth_fits (satisfied u (λ number. 0) env formula)
+    over_fits env formula (number ∷ numbers) sized =
+        let constants = number ∷ numbers in
+        let test = λ (indexes : List ℕ). satisfied u (chosen constants indexes) env formula in
+        let kept = filter test (index_lists u constants) in
+        any_fits (map (λ (indexes : List ℕ). all_of (atoms constants indexes)) kept)
+        (all_made TermFits (AreIndexes u constants) (λ (indexes : List ℕ). all_of (atoms constants indexes)) kept
+        (λ indexes are. all_fits (atoms constants indexes) (atoms_fit constants indexes sized are))
+        (all_kept (AreIndexes u constants) test (index_lists u constants) (lists_are u constants)))
+
+    sized_at : (number : ℕ) (o : Option Const) → IsSized sizes (constant_side number o) → (index : ℕ) → index < option_map_or (λ (c : Const). length c.domain) o 0 → TermFits (terms.Atom number index)
+    sized_at number (Some constant) sized index below = ((length constant.domain, sized, below), tt)
+    sized_at number None sized index below = absurd (omega arith)
+
+    has_size : (o : Option ℕ) → IsSized sizes (numbered_side u o) → (number : ℕ) → o ≡ Some number → HasSize number
+    has_size (Some other) sized number e =
+        let same : other ≡ number = cc in
+        subst HasSize same (sized_at other (slice_get (constants_in u) other) sized)
+    has_size None sized number e = absurd cc
+
   -- ---- formulas, each of whose constants is good
 
   module _ (u : Universe) (Good : ℕ → Type 0) (good : (env : Environment) (symbol : ℕ) (args : Terms) → Good symbol → IsSized sizes (side u env (resolved.Constant symbol args))) where
+    value_fits : (o : Option ℕ) → IsSized sizes (value_side o)
+    value_fits (Some value) = tt
+    value_fits None = tt
+
     side_fits : (env : Environment) (term : Term) → AllByRecursion Good (term_symbols term) → IsSized sizes (side u env term)
     side_fits env (resolved.Constant symbol args) all = good env symbol args all.0
     side_fits env (resolved.Object object) all = tt
     side_fits env (resolved.Variable variable) all = value_fits (env variable)
-      where
-        value_fits : (o : Option ℕ) → IsSized sizes (value_side o)
-        value_fits (Some value) = tt
-        value_fits None = tt
     side_fits env resolved.Nothing all = tt
+    side_fits env (resolved.Number number) all = value_fits (object_given u env (resolved.Number number))
+    side_fits env (resolved.Plus s t) all = value_fits (object_given u env (resolved.Plus s t))
+    side_fits env (resolved.Minus s t) all = value_fits (object_given u env (resolved.Minus s t))
 
-    fronts : (xs ys : List ℕ) → AllByRecursion Good (xs ++ ys) → AllByRecursion Good xs × AllByRecursion Good ys
-    fronts [] ys all = (tt, all)
-    fronts (x ∷ xs) ys all = let more = fronts xs ys all.1 in ((all.0, more.0), more.1)
+    -- ---- the constants of sums
+
+    abbrev GoodConstant : ℕ × Terms → Type 0
+    GoodConstant constant = Good constant.0
+
+    good_constants : (t : Term) → AllByRecursion Good (term_symbols t) → AllByRecursion GoodConstant (constants_of t)
+    good_constants (resolved.Constant symbol args) all = (all.0, tt)
+    good_constants (resolved.Object object) all = tt
+    good_constants (resolved.Variable variable) all = tt
+    good_constants resolved.Nothing all = tt
+    good_constants (resolved.Number number) all = tt
+    good_constants (resolved.Plus s t) all =
+        let both = all_parts Good (term_symbols s) (term_symbols t) all in
+        all_append GoodConstant (constants_of s) (constants_of t) (good_constants s both.0) (good_constants t both.1)
+    good_constants (resolved.Minus s t) all =
+        let both = all_parts Good (term_symbols s) (term_symbols t) all in
+        all_append GoodConstant (constants_of s) (constants_of t) (good_constants s both.0) (good_constants t both.1)
+
+    first_sized : (o : Option ℕ) (m : Option (List ℕ)) → IsSized sizes (numbered_side u o) → ((rest : List ℕ) → m ≡ Some rest → AllByRecursion (HasSize u) rest) →
+        (numbers : List ℕ) → cons_both o m ≡ Some numbers → AllByRecursion (HasSize u) numbers
+    first_sized (Some number) (Some rest) sized others numbers e =
+        let is : number ∷ rest ≡ numbers = cc in
+        subst (AllByRecursion (HasSize u)) is (has_size u (Some number) sized number refl, others rest refl)
+    first_sized (Some number) None sized others numbers e = absurd cc
+    first_sized None m sized others numbers e = absurd cc
+
+    all_sized : (env : Environment) (constants : List (ℕ × Terms)) → AllByRecursion GoodConstant constants → (numbers : List ℕ) → all_meant u env constants ≡ Some numbers →
+        AllByRecursion (HasSize u) numbers
+    all_sized env [] all numbers e =
+        let is : [] ≡ numbers = cc in
+        subst (AllByRecursion (HasSize u)) is tt
+    all_sized env (constant ∷ constants) all numbers e =
+        first_sized (constant_meant u env constant.0 constant.1) (all_meant u env constants) (good env constant.0 constant.1 all.0) (all_sized env constants all.1) numbers e
+
+    where_fits : (env : Environment) (formula : Formula) (constants : List (ℕ × Terms)) → AllByRecursion GoodConstant constants → (o : Option (List ℕ)) → all_meant u env constants ≡ o →
+        TermFits (judged_where u env formula o)
+    where_fits env formula constants all (Some numbers) e = over_fits u env formula (firsts numbers) (all_firsts (HasSize u) numbers (all_sized env constants all numbers e))
+    where_fits env formula constants all None e = (tt, tt)
+
+    judged_fits : (env : Environment) (formula : Formula) (s t : Term) → AllByRecursion Good (term_symbols s ++ term_symbols t) →
+        TermFits (judged u env formula (constants_of s ++ constants_of t))
+    judged_fits env formula s t all =
+        let both = all_parts Good (term_symbols s) (term_symbols t) all in
+        where_fits env formula (constants_of s ++ constants_of t)
+        (all_append GoodConstant (constants_of s) (constants_of t) (good_constants s both.0) (good_constants t both.1))
+        (all_meant u env (constants_of s ++ constants_of t)) refl
+
+    equal_fits : (env : Environment) (s t : Term) (sum : Bool) → AllByRecursion Good (term_symbols s ++ term_symbols t) →
+        TermFits (if sum then judged u env (resolved.Equal s t) (constants_of s ++ constants_of t) else equation (side u env s) (side u env t))
+    equal_fits env s t true all = judged_fits env (resolved.Equal s t) s t all
+    equal_fits env s t false all =
+        let both = all_parts Good (term_symbols s) (term_symbols t) all in
+        equation_fits (side u env s) (side u env t) (side_fits env s both.0) (side_fits env t both.1)
 
     pub term_fits : (env : Environment) (formula : Formula) → AllByRecursion Good (formula_symbols formula) → TermFits (term_of u env formula)
     term_fits env resolved.Truth all = (tt, tt)
     term_fits env resolved.Falsehood all = (tt, tt)
-    term_fits env (resolved.Equal s t) all =
-        let both = fronts (term_symbols s) (term_symbols t) all in
-        equation_fits (side u env s) (side u env t) (side_fits env s both.0) (side_fits env t both.1)
+    term_fits env (resolved.Equal s t) all = equal_fits env s t (is_sum s || is_sum t) all
+    term_fits env (resolved.Less s t) all = judged_fits env (resolved.Less s t) s t all
+    term_fits env (resolved.AtMost s t) all = judged_fits env (resolved.AtMost s t) s t all
     term_fits env (resolved.Not f) all = not_fits (term_of u env f) (term_fits env f all)
     term_fits env (resolved.Both f g) all =
-        let both = fronts (formula_symbols f) (formula_symbols g) all in
+        let both = all_parts Good (formula_symbols f) (formula_symbols g) all in
         all_fits (term_of u env f ∷ term_of u env g ∷ []) (term_fits env f both.0, (term_fits env g both.1, tt))
     term_fits env (resolved.Either f g) all =
-        let both = fronts (formula_symbols f) (formula_symbols g) all in
+        let both = all_parts Good (formula_symbols f) (formula_symbols g) all in
         any_fits (term_of u env f ∷ term_of u env g ∷ []) (term_fits env f both.0, (term_fits env g both.1, tt))
     term_fits env (resolved.Implies f g) all =
-        let both = fronts (formula_symbols f) (formula_symbols g) all in
+        let both = all_parts Good (formula_symbols f) (formula_symbols g) all in
         any_fits (terms.Not (term_of u env f) ∷ term_of u env g ∷ []) (not_fits (term_of u env f) (term_fits env f both.0), (term_fits env g both.1, tt))
     term_fits env (resolved.Same f g) all =
-        let both = fronts (formula_symbols f) (formula_symbols g) all in
+        let both = all_parts Good (formula_symbols f) (formula_symbols g) all in
         same_fits (term_of u env f) (term_of u env g) (term_fits env f both.0) (term_fits env g both.1)
     term_fits env (resolved.ForAll variable sort f) all =
         all_fits (map (λ object. term_of u (bind variable object env) f) (objects_of u sort))

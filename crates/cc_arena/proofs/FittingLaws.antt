@@ -28,12 +28,8 @@ use Rattle.cc_defs.specs.Signatures.{ground_number}
 use Rattle.cc_defs.specs.Terms.{Fits, postfix, all_of}
 use Rattle.cc_defs.specs.Terms as terms
 use Rattle.cc_defs.specs.Universe.{Universe, boolean_actions, constants_in, is_boolean_action, is_boolean_symbol, objects_of, values_of, values_of_symbol}
-use Rattle.cc_arena.proofs.Each.{all_append, all_flat, all_got, all_map, each_fails}
+use Rattle.cc_arena.proofs.Each.{all_append, all_flat, all_got, all_map, both_hold, each_fails}
 use Rattle.cc_arena.proofs.Fitting.{IsSized, index_below, fits_all, pair_fits, size_at, term_fits}
-
-both_hold : (a b : Bool) → (a && b) ≡ true → (a ≡ true) × (b ≡ true)
-both_hold true b e = (refl, e)
-both_hold false b e = absurd cc
 
 -- ---- the constant that a symbol with arguments stands for is one of the symbol
 
@@ -58,7 +54,7 @@ numbered u symbol number args e =
     }
 
 meant : (u : Universe) (env : Environment) (symbol number : ℕ) (args : Terms) → constant_meant u env symbol args ≡ Some number → OfSymbol u symbol number
-meant u env symbol number args e = by_args (arguments env args) e
+meant u env symbol number args e = by_args (arguments u env args) e
   where
     by_args : (o : Option (List ℕ)) → option_and_then (ground_number (constants_in u) symbol) o ≡ Some number → OfSymbol u symbol number
     by_args (Some found) e = numbered u symbol number found e

@@ -2,6 +2,10 @@ pub mod Each
 pub mod Fitting
 pub mod FittingLaws
 pub mod Formulas
+pub mod IndexLists
+pub mod Instances
+pub mod Judging
 pub mod Meaning
 pub mod Truths
+pub mod Values
 pub mod Walking

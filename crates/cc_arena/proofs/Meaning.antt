@@ -16,18 +16,14 @@ use Rattle.cc_defs.specs.GroundLaws.{PlainGroundLaw, ground_condition, ground_he
 use Rattle.cc_defs.specs.Nodes.{Constant, Value, side, value_side, constant_side, numbered_side, nodes_of, term_of}
 use Rattle.cc_defs.specs.Resolved.{Term, Formula, Head, Law, BaseLaw, Condition, Query, terms_of}
 use Rattle.cc_defs.specs.Resolved as resolved
-use Rattle.cc_defs.specs.Satisfaction.{Environment, giving, constant_meant, has_value, head_is_there, value_given}
+use Rattle.cc_defs.specs.Satisfaction.{Environment, giving, constant_meant, has_value, head_is_there, object_given}
 use Rattle.cc_defs.specs.Signatures.{none_value}
 use Rattle.cc_defs.specs.Terms.{Fits, NamesBelow}
 use Rattle.cc_defs.specs.Universe.{Universe, HaveOwnValues, boolean_actions, constants_in}
 use Rattle.cc_arena.specs.Meanings.{Means, MeansPart, MeansHead, MeansInstance, MeanLaws, MeansCondition, MeansClaim, MeansQuery}
-use Rattle.cc_arena.proofs.Each.{all_append, all_map, all_passing, all_since}
+use Rattle.cc_arena.proofs.Each.{all_append, all_map, all_passing, all_since, both_hold}
 use Rattle.cc_arena.proofs.Fitting.{fits_all}
 use Rattle.cc_arena.proofs.Truths.{truth_is, head_is}
-
-both_hold : (a b : Bool) → (a && b) ≡ true → (a ≡ true) × (b ≡ true)
-both_hold true b e = (refl, e)
-both_hold false b e = absurd cc
 
 -- a node that fits names one of the constants
 fit_names : (constants : List Const) (node : Node) → Fits (domain_sizes constants) node → NamesBelow (length constants) node
@@ -66,6 +62,10 @@ module _ (u : Universe) where
     object_there : (value : ℕ) → has_value (Some constant) (Some value) ≡ is_some (head_of_sides (Constant number constant.domain) (Value value))
     object_there value = any_place (nat_eq value) constant.domain ∙ at_place number (position (nat_eq value) constant.domain)
 
+    given_there : (o : Option ℕ) → has_value (Some constant) o ≡ is_some (head_of_sides (Constant number constant.domain) (value_side o))
+    given_there (Some value) = object_there value
+    given_there None = refl
+
     -- a constant is no value
     none_there : (o : Option ℕ) → false ≡ is_some (head_of_sides (Constant number constant.domain) (numbered_side u o))
     none_there None = refl
@@ -75,25 +75,24 @@ module _ (u : Universe) where
         at (Some another) = refl
         at None = refl
 
-    value_there : (value : Term) → has_value (Some constant) (value_given env value) ≡ is_some (head_of_sides (Constant number constant.domain) (side u env value))
+    value_there : (value : Term) → has_value (Some constant) (object_given u env value) ≡ is_some (head_of_sides (Constant number constant.domain) (side u env value))
     value_there (resolved.Constant symbol args) = none_there (constant_meant u env symbol args)
     value_there (resolved.Object object) = object_there object
-    value_there (resolved.Variable variable) = given (env variable)
-      where
-        given : (o : Option ℕ) → has_value (Some constant) o ≡ is_some (head_of_sides (Constant number constant.domain) (value_side o))
-        given (Some value) = object_there value
-        given None = refl
+    value_there (resolved.Variable variable) = given_there (env variable)
     value_there resolved.Nothing = object_there none_value
+    value_there (resolved.Number other) = given_there (object_given u env (resolved.Number other))
+    value_there (resolved.Plus s t) = given_there (object_given u env (resolved.Plus s t))
+    value_there (resolved.Minus s t) = given_there (object_given u env (resolved.Minus s t))
 
   pub heads_there : (env : Environment) (head : Head) → head_is_there u env head ≡ is_some (ground_head u env head)
   heads_there env resolved.Falsity = refl
   heads_there env (resolved.Atom symbol args value) = of_number (constant_meant u env symbol (terms_of args))
     where
-      of_constant : (number : ℕ) (o : Option Const) → has_value o (value_given env value) ≡ is_some (head_of_sides (constant_side number o) (side u env value))
+      of_constant : (number : ℕ) (o : Option Const) → has_value o (object_given u env value) ≡ is_some (head_of_sides (constant_side number o) (side u env value))
       of_constant number (Some constant) = value_there number constant env value
       of_constant number None = refl
 
-      of_number : (o : Option ℕ) → has_value (option_and_then (λ number. slice_get (constants_in u) number) o) (value_given env value) ≡ is_some (head_of_sides (numbered_side u o) (side u env value))
+      of_number : (o : Option ℕ) → has_value (option_and_then (λ number. slice_get (constants_in u) number) o) (object_given u env value) ≡ is_some (head_of_sides (numbered_side u o) (side u env value))
       of_number (Some number) = of_constant number (slice_get (constants_in u) number)
       of_number None = refl
 

@@ -25,8 +25,8 @@ use Rattle.cc_laws.specs.Laws.{HasFormulas, HasStep, HasSteps, StepsFit}
 use Rattle.cc_laws.specs.Questions.{steps_refusal}
 use Rattle.cc_sorts.specs.Tables.{IsSignatureOf, IsTable, TableView, placed_of}
 use Rattle.cc_theory.specs.Theories.{AreLawsFor, AreLawsOf, IsTermAt}
-use Rattle.cc_asked.specs.Descriptions.{description_of, nodes_refusal, nodes_refusal_of}
-use Rattle.cc_ground.specs.Counting.{node_refusal, nodes_in_query}
+use Rattle.cc_asked.specs.Descriptions.{description_of, ground_refusal, ground_refusal_of}
+use Rattle.cc_ground.specs.Counting.{query_refusal}
 
 pub laws_fit : (signature : Signature) (declarations : List Declaration) (laws : List GroundLaw) → IsSignatureOf declarations signature →
     HaveOwnValues (universe declarations) → AreGroundLaws (universe declarations) (plain_ground_laws laws) → AreLawsFor signature laws
@@ -34,6 +34,7 @@ laws_fit signature declarations laws of values fit = record {
   u = universe declarations;
   fluents = sym (ap (λ s. s.fluents) of.1);
   actions = sym (ap (λ s. s.actions) of.1);
+  numbers = sym (ap (λ s. s.numbers) of.1);
   values = values;
   laws_fit = fit;
 }
@@ -41,7 +42,7 @@ laws_fit signature declarations laws of values fit = record {
 pub laws_are : (signature : Signature) (declarations : List Declaration) (base : List BaseLaw) (laws : List GroundLaw) (d : Description) →
     d ≡ description_of declarations base → IsSignatureOf declarations signature → plain_ground_laws laws ≡ ground_laws (universe declarations) base → AreLawsOf signature laws d
 laws_are signature declarations base laws d is of made = subst (λ x. AreLawsOf signature laws x) (sym is) (record {
-  signature_is = record { fluents = ap (λ s. s.fluents) of.1; actions = ap (λ s. s.actions) of.1 };
+  signature_is = record { fluents = ap (λ s. s.fluents) of.1; actions = ap (λ s. s.actions) of.1; numbers = ap (λ s. s.numbers) of.1 };
   laws_are = made;
 })
 
@@ -111,8 +112,8 @@ range_made declarations query made steps is =
     subst (λ (x : PlainGroundQuery). (x.lo ≤ x.hi) × (x.hi ≤ 1000)) (sym is) (steps.ordered, steps.within)
 
 pub nodes_are : (query : Query) (d : Description) (range : ℕ × ℕ) → query.range ≡ Some range →
-    node_refusal (nodes_in_query (ground_query d.universe range query)) ≡ nodes_refusal d query
-nodes_are query d range is = sym (ap (nodes_refusal_of d query) is)
+    query_refusal d.universe range query ≡ ground_refusal d query
+nodes_are query d range is = sym (ap (ground_refusal_of d query) is)
 
 -- the steps of a query that is not refused by its table
 pub steps_are : (table : TableView) (declarations : List Declaration) (query : Query) → IsTable table declarations → StepsFit → HasFormulas (symbols declarations) query →

@@ -3,11 +3,10 @@ use Rattle.std.specs.Prelude.{◌≡◌, ℕ, List, map, Option, Some, None}
 use Rattle.cc_defs.specs.declared.refusal.Refusal.{Refusal}
 use Rattle.cc_defs.specs.Declarations.{Declaration, objects}
 use Rattle.cc_defs.specs.Description.{Description}
-use Rattle.cc_defs.specs.GroundLaws.{ground_query}
 use Rattle.cc_defs.specs.Resolved.{BaseLaw, Query, plain_base_law}
 use Rattle.cc_defs.specs.Universe.{universe}
 use Rattle.cc_describe.specs.declared.description.Described.{Described}
-use Rattle.cc_ground.specs.Counting.{node_refusal, nodes_in_query}
+use Rattle.cc_ground.specs.Counting.{query_refusal}
 use Rattle.cc_sorts.specs.Tables.{IsTable, IsSignatureOf}
 
 abbrev pub description_of : List Declaration → List BaseLaw → Description
@@ -20,10 +19,10 @@ pub record IsDescriptionOf (described : Described) (d : Description) : Type 0 wh
   pub signature : IsSignatureOf declarations described.sig
   pub is : d ≡ description_of declarations (map plain_base_law described.laws)
 
--- the nodes of a query's terms are too many
-abbrev pub nodes_refusal_of : Description → Query → Option (ℕ × ℕ) → Option Refusal
-nodes_refusal_of d query None = None
-nodes_refusal_of d query (Some range) = node_refusal (nodes_in_query (ground_query d.universe range query))
+-- the lists of values that a query's terms are judged by are too many, or its nodes
+abbrev pub ground_refusal_of : Description → Query → Option (ℕ × ℕ) → Option Refusal
+ground_refusal_of d query None = None
+ground_refusal_of d query (Some range) = query_refusal d.universe range query
 
-abbrev pub nodes_refusal : Description → Query → Option Refusal
-nodes_refusal d query = nodes_refusal_of d query query.range
+abbrev pub ground_refusal : Description → Query → Option Refusal
+ground_refusal d query = ground_refusal_of d query query.range

@@ -12,7 +12,7 @@ ghost use Rattle.cc_laws.specs.Laws.{HasFormulas};
 ghost use Rattle.cc_laws.specs.Questions.{steps_refusal};
 ghost use Rattle.cc_laws.specs.Vocabulary.{vocabulary_of};
 ghost use Rattle.cc_sorts.specs.Tables.{IsSignatureFor, IsTable};
-ghost use Rattle.cc_asked.specs.Descriptions.{IsDescriptionOf, nodes_refusal};
+ghost use Rattle.cc_asked.specs.Descriptions.{IsDescriptionOf, ground_refusal};
 
 use cc_arena::laws::{fluent_terms_fit, ground_queries_fit};
 use cc_arena::{GroundQuery, Terms};
@@ -37,8 +37,8 @@ pub fn query_of<'a>(
     ensures range { IfOk result (λ made. (made.lo ≤ made.hi) × (made.hi ≤ most_steps)) }
     ensures asked { IfOk result (λ made. (horizon : ℕ) → made.lo ≤ horizon → horizon ≤ made.hi → IsQueryAt described.now.sig horizon (plain_ground_query made)) }
     ensures stands { (d : Description) → IsDescriptionOf described.now d → IfOk result (λ made. StandsForQuery (plain_ground_query made) d (plain_query query.now)) }
-    ensures unrefused { (d : Description) → IsDescriptionOf described.now d → OnOk result (nodes_refusal d (plain_query query.now) ≡ None) }
-    ensures refused { (d : Description) → IsDescriptionOf described.now d → IfErr result (IsRefusedBy (nodes_refusal d (plain_query query.now))) }
+    ensures unrefused { (d : Description) → IsDescriptionOf described.now d → OnOk result (ground_refusal d (plain_query query.now) ≡ None) }
+    ensures refused { (d : Description) → IsDescriptionOf described.now d → IfErr result (IsRefusedBy (ground_refusal d (plain_query query.now))) }
 {
     steps_fit();
     fluent_terms_fit();

@@ -1,5 +1,5 @@
 -- Conflict analysis: how the staged clause is resolved back along the trail, and what is derived in the end.
-use Rattle.std.proofs.Common.{◌≡◌, ◌≢◌, ◌∙◌, ℕ, ◌+◌, ◌-◌, ◌<◌, ◌≤◌, zero, suc, inl, inr, Bool, true, List, [], ◌∷◌, ◌++◌, length, map, take, drop, get_or, Option, Some, option_and_then, refl, sym, subst, ap, arith, length-append}
+use Rattle.std.proofs.Common.{◌≡◌, ◌≢◌, ◌∙◌, ℕ, ◌+◌, ◌-◌, ◌<◌, ◌≤◌, zero, suc, inl, inr, Bool, true, false, List, [], ◌∷◌, ◌++◌, length, map, take, drop, get_or, Option, Some, option_and_then, refl, sym, subst, ap, arith, length-append}
 use Rattle.std.specs.Prelude.{◌⊎◌, Contains, slice_get, IfSome, OnErr, Result, Ok, Err}
 use Rattle.std.specs.Bool.{MatchBool}
 use Rattle.std.proofs.lemmas.List.{length-map}
@@ -55,6 +55,17 @@ contains_numbered clauses number clause is = at clauses (number - 1) is.1
 pub clauses_added : (kernel : KernelView) (entries : List Entry) (entry : Entry) → entries ≡ kernel.entries ++ entry ∷ [] →
     map (λ (entry : Entry). entry.clause) entries ≡ clauses_of kernel ++ entry.clause ∷ []
 clauses_added kernel entries entry is = ap (map (λ (entry : Entry). entry.clause)) is ∙ map_push (λ (entry : Entry). entry.clause) kernel.entries entry
+
+pub numbered_last : (clauses all : List (List Literal)) (last clause : List Literal) (number : ℕ) → all ≡ clauses ++ last ∷ [] → number ≡ length clauses + 1 →
+    IsNumbered all number clause → clause ≡ last
+numbered_last clauses all last clause number all_is number_is (some, is) =
+    some_same clause last (slice_get (clauses ++ last ∷ []) (length clauses))
+    (subst (λ (n : ℕ). slice_get (clauses ++ last ∷ []) n ≡ Some clause) (omega arith) (subst (λ (cs : List (List Literal)). slice_get cs (number - 1) ≡ Some clause) all_is is))
+    (get_last clauses)
+  where
+    get_last : (xs : List (List Literal)) → slice_get (xs ++ last ∷ []) (length xs) ≡ Some last
+    get_last [] = refl
+    get_last (x ∷ xs) = get_last xs
 
 -- a kernel with the same clauses
 pub fits_kept : (trail : TrailView) (old new : KernelView) → KeepsEntries old new → Fits trail old → Fits trail new
@@ -131,6 +142,9 @@ on_err P (Err error) p = p
 
 pub when_true : (P Q : Type 0) (b : Bool) → b ≡ true → MatchBool b P Q → P
 when_true P Q b is matched = rw is at matched
+
+pub when_false : (P Q : Type 0) (b : Bool) → b ≡ false → MatchBool b P Q → Q
+when_false P Q b is matched = rw is at matched
 
 -- where the walk stands, and that it is to go on
 pub record IsAt (trail : TrailView) (kernel : KernelView) (start : ℕ) : Type 0 where
@@ -310,20 +324,17 @@ derived_learned trail kernel are derived level =
     (derived_one trail kernel derived level)
 
 pub learns : (law : LearnedIsEarned) (trail : TrailView) (old staged new : KernelView) → AreSteps trail.variables trail.steps trail.level_count → IsSettled trail old →
-    0 < trail.level_count → KeepsEntries old staged → (derived : IsDerived staged trail) → AddsDerived old new derived.derivation.clause → (clause : List Literal) →
-    staged.staged ≡ Some clause → IsClause clause → IsOver staged.variables clause → Learns old new
-learns law trail old staged new are settled level kept derived adds clause staged_is is over = record {
+    0 < trail.level_count → (derived : IsDerived staged trail) → AddsDerived old new derived.derivation.clause → (clause : List Literal) →
+    clause ≡ derived.derivation.clause → IsClause clause → IsOver new.variables clause → Learns old new
+learns law trail old staged new are settled level derived adds clause same is over = record {
   clause = derived.derivation.clause;
   adds = adds;
   is_clause = subst IsClause same is;
-  over = subst (λ (n : ℕ). IsOver n derived.derivation.clause) kept.variables (subst (λ (c : List Literal). IsOver staged.variables c) same over);
+  over = subst (λ (n : ℕ). IsOver n derived.derivation.clause) adds.variables (subst (λ (c : List Literal). IsOver new.variables c) same over);
   some = λ empty. let one = derived_one trail staged derived level in let none = ap (level_count_in trail.steps trail.level_count) empty in omega arith;
   earned = (law trail.variables trail.steps trail.level_count (clauses_of old) derived.derivation.clause
       (highest_but trail.steps trail.level_count derived.derivation.clause) are settled (derived_learned trail staged are derived level)).0;
 }
-  where
-    same : clause ≡ derived.derivation.clause
-    same = some_same clause derived.derivation.clause staged.staged staged_is derived.derivation.staged
 
 -- ---- what is learned at a level above 0
 
@@ -342,11 +353,18 @@ module _ (trail : TrailView) (old staged new : KernelView) (are : AreSteps trail
   pub fits_then : (law : AddingKeepsFit) (back : TrailView) → Fits back old → Fits back new
   fits_then law back fits = law back old new derived.derivation.clause adds.variables clauses_then fits
 
-  module _ (clause : List Literal) (staged_is : staged.staged ≡ Some clause) (level back : ℕ) (level_is : level ≡ trail.level_count)
+  -- what is read by the number of the clause
+  pub read_there : (number : ℕ) (clause : List Literal) → number ≡ length staged.entries + 1 → IsNumbered (clauses_of new) number clause → clause ≡ derived.derivation.clause
+  read_there number clause number_is numbered =
+      let count : length (clauses_of old) ≡ length old.entries = length-map old.entries (λ (entry : Entry). entry.clause) in
+      let same : length staged.entries ≡ length old.entries = ap length kept.entries in
+      numbered_last (clauses_of old) (clauses_of new) derived.derivation.clause clause number clauses_then (omega arith) numbered
+
+  module _ (clause : List Literal) (same : clause ≡ derived.derivation.clause) (level back : ℕ) (level_is : level ≡ trail.level_count)
       (back_is : back ≡ highest_but trail.steps level clause) where
     back_there : back ≡ highest_but trail.steps trail.level_count derived.derivation.clause
     back_there = back_is ∙ ap (λ (n : ℕ). highest_but trail.steps n clause) level_is ∙
-        ap (highest_but trail.steps trail.level_count) (some_same clause derived.derivation.clause staged.staged staged_is derived.derivation.staged)
+        ap (highest_but trail.steps trail.level_count) same
 
     learned_there : IsLearned trail.steps trail.level_count derived.derivation.clause back
     learned_there = subst (λ (n : ℕ). IsLearned trail.steps trail.level_count derived.derivation.clause n) (sym back_there) (derived_learned trail staged are derived some)

@@ -1,5 +1,5 @@
 -- Judging a clause by the levels of its literals: when analysis is done, and to which level a block goes back.
-use Rattle.std.proofs.Common.{◌≡◌, ◌≢◌, ◌∙◌, ℕ, ◌+◌, ◌<◌, ◌≤◌, zero, suc, inl, inr, eqb, true, false, List, [], ◌∷◌, length, get_or, sym, subst, ap, arith}
+use Rattle.std.proofs.Common.{◌≡◌, ◌≢◌, ◌∙◌, ℕ, ◌+◌, ◌<◌, ◌≤◌, zero, suc, inl, inr, eqb, true, false, List, [], ◌∷◌, length, get_or, Some, refl, sym, subst, ap, arith}
 use Rattle.std.specs.Prelude.{◌⊎◌}
 use Rattle.std.specs.Bool.{MatchBool}
 use Rattle.std.proofs.lemmas.Bool.Decides.{eqb_tells}
@@ -19,7 +19,7 @@ over_at variables [] index literal over low is = absurd (omega arith)
 over_at variables (first ∷ clause) zero literal over low is = subst (λ (l : Literal). (0 < l.variable) × (l.variable ≤ variables)) (sym is) (over.0, over.1)
 over_at variables (first ∷ clause) (suc index) literal over low is = over_at variables clause index literal over.2 (omega arith) is
 
-count_some : (steps : List Step) (level : ℕ) (clause : List Literal) → HasOneOf steps level clause → level_count_in steps level clause ≢ 0
+pub count_some : (steps : List Step) (level : ℕ) (clause : List Literal) → HasOneOf steps level clause → level_count_in steps level clause ≢ 0
 count_some steps level clause (literal, here, at) none = tests (none_of steps level clause none literal here) (ap (is_level level) at ∙ eqb_itself level)
   where
     tests : at_level steps level literal ≡ false → at_level steps level literal ≡ true → ⊥
@@ -35,6 +35,20 @@ final_or_not steps level clause is left some count count_is = elim (eqb_tells co
         (let many : level_count_in steps level clause ≢ 0 = count_some steps level clause one_of in let apart : count ≢ 1 = other.1 in omega arith))
   ])
 ]
+
+-- where no level was opened, each literal of a false clause is of level 0
+pub empty_or_not : (variables : ℕ) (steps : List Step) (level : ℕ) (clause : List Literal) → AreSteps variables steps level → IsFailed (values_of steps) clause → level ≡ 0 →
+    (count : ℕ) → count ≡ level_count_in steps level clause → MatchBool (eqb count 0) (IsFinal steps level clause) (IsUnfinished steps level clause)
+empty_or_not variables steps level [] are failed zero_is count count_is = rw count_is (inl (zero_is, refl))
+empty_or_not variables steps level (first ∷ clause) are failed zero_is count count_is = elim (eqb_tells count 0) [
+  | inr other ↦ rw (other.0) (inl (zero_is, (λ e. let long : length (first ∷ clause) ≡ 0 = ap length e in omega arith)))
+  | inl none ↦ absurd (by (up_to_last variables steps level (first ∷ clause) are failed first (0, omega arith, refl)) (none.1))
+]
+  where
+    by : (other : ℕ) × (other ≤ level) × (level_of steps first.variable ≡ Some other) → count ≡ 0 → ⊥
+    by (other, low, at) none =
+        let same : other ≡ level = omega arith in
+        count_some steps level (first ∷ clause) (first, (0, omega arith, refl), at ∙ ap (λ (n : ℕ). Some n) same) (sym count_is ∙ none)
 
 none_below : (steps : List Step) (back : ℕ) (clause : List Literal) → back ≡ 0 → IsMild (steps_to back steps) back clause
 none_below steps back clause zero_is level low = absurd (omega arith)

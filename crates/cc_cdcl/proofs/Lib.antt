@@ -21,3 +21,4 @@ mod Listing
 mod Standing
 mod News
 mod OpenExist
+mod Brought

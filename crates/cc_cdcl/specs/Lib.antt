@@ -1,4 +1,5 @@
 pub mod Analysis
+pub mod Brought
 pub mod Choices
 pub mod Cursors
 pub mod Derivations

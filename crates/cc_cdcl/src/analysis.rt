@@ -1,12 +1,13 @@
 //! Conflict analysis: from a false clause back along the trail to the first unique implication point.
-ghost use Rattle.std.specs.Prelude.{◌≡◌, ◌≢◌, List, ℕ, ◌+◌, ◌<◌, ◌≤◌, ◌⊎◌, Some, None, IfOk, IfSome, IfNone, OnOk, OnErr, IsSome, [], length, option_and_then};
+ghost use Rattle.std.specs.Prelude.{◌≡◌, ◌≢◌, ◌&&◌, if◌then◌else◌, List, ℕ, ◌+◌, ◌<◌, ◌≤◌, ◌⊎◌, Some, None, IfOk, IfSome, IfNone, OnOk, OnErr, IsSome, [], length, option_and_then};
 ghost use Rattle.std.specs.Bool.{MatchBool};
 ghost use Rattle.cc_defs.specs.Assignments.{IsFailed};
 ghost use Rattle.cc_defs.specs.Clauses.{Literal, IsClause, IsOver};
-ghost use Rattle.cc_kernel.specs.Kernels.{ClashesWith, IsThere, added, clauses_of};
+ghost use Rattle.cc_kernel.specs.Kernels.{ClashesWith, IsStepped, IsThere, added, clauses_of};
 ghost use Rattle.cc_trail.specs.Steps.{AreSteps, step_of, steps_to, values_of};
 ghost use Rattle.cc_trail.specs.Trails.{Fits, IsFailedClause, IsMild, IsSettled, reason_of_step};
-ghost use Rattle.cc_cdcl.specs.Analysis.{HasOneOf, IsFinal, IsUnfinished, OpenLevels, highest_but, is_level, level_but, level_count_in, level_of};
+ghost use Rattle.cc_cdcl.specs.Analysis.{IsFinal, IsUnfinished, IsWalking, OpenLevels, highest_but, is_level, level_but, level_count_in, level_of};
+ghost use Rattle.cc_cdcl.specs.Brought.{IsCounted, fresh_of, has_literal, is_fresh};
 ghost use Rattle.cc_cdcl.specs.Derivations.{IsBackOver, IsDerived, IsDeriving, Learns};
 ghost use Rattle.cc_cdcl.specs.Searches.{KeepsEntries};
 ghost use Rattle.cc_cdcl.specs.Solvers.{AddsBlock, AddsDerived};
@@ -65,19 +66,84 @@ fn highest_but(trail: &Trail, level: u32, clause: &[Lit]) -> u32
     highest
 }
 
-// Whether a clause is what analysis derives: where no level was opened the empty one, else one with one literal of the last
-// level.
-fn is_final(trail: &Trail, clause: &[Lit]) -> bool
-    requires clause { IsClause clause.now }
-    requires over { IsOver trail.now.variables clause.now }
-    requires left { (trail.now.level_count ≡ 0) ⊎ HasOneOf trail.now.steps trail.now.level_count clause.now }
-    ensures { MatchBool result (IsFinal trail.now.steps trail.now.level_count clause.now) (IsUnfinished trail.now.steps trail.now.level_count clause.now) }
+// Whether a literal is staged.
+fn is_staged(kernel: &Kernel, lit: Lit) -> bool
+    requires { IsSome kernel.now.staged }
+    ensures { (staged : List Literal) → kernel.now.staged ≡ Some staged → result ≡ has_literal staged lit }
 {
+    kernel.stages(lit)
+}
+
+// Whether a step of resolution on the pivot brings a literal of a level to the staged clause.
+fn is_brought(trail: &Trail, kernel: &Kernel, level: u32, pivot: u32, lit: Lit) -> bool
+    requires within { lit.variable ≤ trail.now.variables }
+    requires staged { IsSome kernel.now.staged }
+    ensures { (staged : List Literal) → kernel.now.staged ≡ Some staged → result ≡ (is_fresh pivot staged lit && is_level level (level_of trail.now.steps lit.variable)) }
+{
+    lit.variable() != pivot && !is_staged(kernel, lit) && is_of(trail, level, lit.variable())
+}
+
+// How many literals of a level a step of resolution with a clause on the pivot brings to the staged clause.
+fn brought(trail: &Trail, kernel: &Kernel, level: u32, pivot: u32, clause: &[Lit]) -> usize
+    requires over { IsOver trail.now.variables clause.now }
+    requires staged { IsSome kernel.now.staged }
+    ensures brought { (staged : List Literal) → kernel.now.staged ≡ Some staged → result ≡ level_count_in trail.now.steps level (fresh_of pivot staged clause.now) }
+    ensures few { result ≤ length clause.now }
+{
+    let mut count = 0;
+    for lit in clause {
+        if is_brought(trail, kernel, level, pivot, *lit) {
+            count += 1;
+        }
+    }
+    count
+}
+
+// 1 where a variable got its value at a level, else 0.
+fn weight(trail: &Trail, level: u32, variable: u32) -> usize
+    requires { variable ≤ trail.now.variables }
+    ensures { result ≡ (if is_level level (level_of trail.now.steps variable) then 1 else 0) }
+{
+    usize::from(is_of(trail, level, variable))
+}
+
+// Resolves the staged clause with the clause of a number on the pivot, and returns how many literals of the last level it has
+// then; it had so many.
+fn step_counted(
+    trail: &Trail,
+    kernel: &mut Kernel,
+    pivot: u32,
+    id: u32,
+    held: usize,
+) -> Result<usize, OutOfMemory>
+    requires within { pivot ≤ trail.now.variables }
+    requires variables { trail.now.variables ≡ kernel.old.variables }
+    requires clash { ClashesWith kernel.old pivot id }
+    requires counted { IsCounted trail.now.steps trail.now.level_count kernel.old held }
+    ensures stepped { OnOk result (IsStepped kernel.old kernel.new pivot id) }
+    ensures counted { IfOk result (λ now. IsCounted trail.now.steps trail.now.level_count kernel.new now) }
+    ensures kept { OnErr result (kernel.new ≡ kernel.old) }
+{
+    let _variables = kernel.variables();
+    let level = trail.level_count();
+    let brought = brought(trail, kernel, level, pivot, kernel.clause(id));
+    let lost = weight(trail, level, pivot);
+    kernel.step(pivot, id)?;
+    Ok(held + brought - lost)
+}
+
+// Whether the staged clause, which has so many literals of the last level, is what analysis derives: where no level was opened
+// the empty one, else one with one literal of the last level.
+fn is_final(trail: &Trail, kernel: &Kernel, held: usize) -> bool
+    requires { IsCounted trail.now.steps trail.now.level_count kernel.now held }
+    ensures { (clause : List Literal) (place : ℕ) → kernel.now.staged ≡ Some clause → IsWalking trail.now.steps trail.now.level_count place clause → MatchBool result (IsFinal trail.now.steps trail.now.level_count clause) (IsUnfinished trail.now.steps trail.now.level_count clause) }
+{
+    let _variables = kernel.variables();
     let level = trail.level_count();
     if level == 0 {
-        return clause.is_empty();
+        return held == 0;
     }
-    level_count_in(trail, level, clause) == 1
+    held == 1
 }
 
 // The reason of a variable's value, where the staged clause clashes with it.
@@ -101,42 +167,56 @@ fn clashing_reason(trail: &Trail, kernel: &Kernel, pivot: u32) -> Option<u32>
     }
 }
 
+// Where the walk back along the trail stands: in front of a place, with so many staged literals of the last level.
+#[derive(Clone, Copy)]
+struct Walk {
+    place: usize,
+    held: usize,
+}
+
 // Resolves the staged clause with the reason of the last true literal in front of a place whose opposite it has, and returns
-// the place of that one.
-fn resolve_next(trail: &Trail, kernel: &mut Kernel, start: usize) -> Result<usize, OutOfMemory>
+// the place of that one, and how many literals of the last level the clause has then; it had so many.
+fn resolve_next(trail: &Trail, kernel: &mut Kernel, start: Walk) -> Result<Walk, OutOfMemory>
     requires fits { Fits trail.now kernel.old }
     requires opened { OpenLevels trail.now.steps }
-    requires derivation { IsDeriving kernel.old trail.now start }
+    requires derivation { IsDeriving kernel.old trail.now start.place }
     requires unfinished { (clause : List Literal) → kernel.old.staged ≡ Some clause → IsUnfinished trail.now.steps trail.now.level_count clause }
-    ensures derivation { IfOk result (λ place. IsDeriving kernel.new trail.now place) }
-    ensures fewer { IfOk result (λ place. place < start) }
+    requires counted { IsCounted trail.now.steps trail.now.level_count kernel.old start.held }
+    ensures derivation { IfOk result (λ walk. IsDeriving kernel.new trail.now walk.place) }
+    ensures counted { IfOk result (λ walk. IsCounted trail.now.steps trail.now.level_count kernel.new walk.held) }
+    ensures fewer { IfOk result (λ walk. walk.place < start.place) }
     ensures kept { KeepsEntries kernel.old kernel.new }
 {
     let entries = trail.entries();
-    for place in (0..start).rev() {
+    for place in (0..start.place).rev() {
         let pivot = entries[place].variable();
         match clashing_reason(trail, kernel, pivot) {
             Some(id) => {
-                kernel.step(pivot, id)?;
-                return Ok(place);
+                let held = step_counted(trail, kernel, pivot, id, start.held)?;
+                return Ok(Walk { place, held });
             },
             None => {},
         }
     }
-    Ok(0)
+    Ok(start)
 }
 
-// Resolves the staged clause back along the trail, until it is what analysis derives.
-fn resolve_back(trail: &Trail, kernel: &mut Kernel) -> Result<(), OutOfMemory>
+// Resolves the staged clause, which has so many literals of the last level, back along the trail, until it is what analysis
+// derives.
+fn resolve_back(trail: &Trail, kernel: &mut Kernel, held: usize) -> Result<(), OutOfMemory>
     requires fits { Fits trail.now kernel.old }
     requires opened { OpenLevels trail.now.steps }
     requires derivation { IsDeriving kernel.old trail.now (length trail.now.steps) }
+    requires counted { IsCounted trail.now.steps trail.now.level_count kernel.old held }
     ensures derived { OnOk result (IsDerived kernel.new trail.now) }
     ensures kept { KeepsEntries kernel.old kernel.new }
 {
-    let mut place = trail.entries().len();
-    while !is_final(trail, kernel.current()) {
-        place = resolve_next(trail, kernel, place)?;
+    let mut walk = Walk {
+        place: trail.entries().len(),
+        held,
+    };
+    while !is_final(trail, kernel, walk.held) {
+        walk = resolve_next(trail, kernel, walk)?;
     }
     Ok(())
 }
@@ -151,8 +231,9 @@ fn derive(trail: &Trail, kernel: &mut Kernel, id: u32) -> Result<(), OutOfMemory
     ensures kept { KeepsEntries kernel.old kernel.new }
 {
     kernel.start(id)?;
-    let _level = trail.level_count();
-    resolve_back(trail, kernel)
+    let level = trail.level_count();
+    let held = level_count_in(trail, level, kernel.clause(id));
+    resolve_back(trail, kernel, held)
 }
 
 /// Derives the empty clause from a clause that is false where no level was opened.
@@ -190,8 +271,8 @@ pub fn learn(trail: &mut Trail, kernel: &mut Kernel, id: u32) -> Result<(), OutO
     adding_keeps_settled();
     derive(trail, kernel, id)?;
     let level = trail.level_count();
-    let back = highest_but(trail, level, kernel.current());
     let number = kernel.finish()?;
+    let back = highest_but(trail, level, kernel.clause(number));
     trail.back_to(back);
     trail.attach(kernel, number)?;
     Ok(())

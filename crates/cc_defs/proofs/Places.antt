@@ -1,5 +1,5 @@
 -- A constant is found by halves where constants are in order.
-use Rattle.std.proofs.Common.{◌≡◌, ℕ, zero, suc, ◌+◌, ◌<◌, ◌≤◌, Bool, true, false, ◌&&◌, cond, eqb, List, [], ◌∷◌, ◌++◌, length, map, get_or, Some, None, option_map, refl, sym, ap, subst, ◌∙◌, arith, inl, inr, ◌⊎◌}
+use Rattle.std.proofs.Common.{◌≡◌, ℕ, zero, suc, ◌+◌, ◌-◌, ◌<◌, ◌≤◌, Bool, true, false, ◌&&◌, cond, eqb, List, [], ◌∷◌, ◌++◌, length, map, get_or, Some, None, option_map, refl, sym, ap, subst, ◌∙◌, arith, inl, inr, ◌⊎◌}
 use Rattle.std.specs.Ordering.{nat_cmp, ordering_index, ordering_reverse, is_eq}
 use Rattle.std.specs.declared.cmp.Ordering.{Ordering}
 use Rattle.std.specs.declared.cmp.Ordering.TheVariants.{Less, Equal, Greater}
@@ -7,7 +7,7 @@ use Rattle.std.specs.Cmp.Lexicographic.{slice_cmp, pointwise}
 use Rattle.std.specs.List.{AllByRecursion, position_from, position_or_len}
 use Rattle.std.proofs.lemmas.Iterator.Adapters.{position_from-zero}
 use Rattle.std.specs.List.Sorted.{IsStrictlySortedBy, IsNonDecreasingBy}
-use Rattle.std.proofs.lemmas.Bool.{lt-ltb, le-ltb}
+use Rattle.std.proofs.lemmas.Bool.{cases_lt, lt-ltb, le-ltb}
 use Rattle.std.proofs.lemmas.Cmp.{nat_list_cmp_total}
 use Rattle.std.proofs.lemmas.List.Sums.{position_or_len_is}
 use Rattle.std.proofs.lemmas.Map.Text.{is_eq-slice_cmp}
@@ -42,6 +42,44 @@ ordered_at (c ∷ cs) zero zero d o less within = absurd (omega arith)
 ordered_at (c ∷ cs) zero (suc j) d o less within = behind_less (λ y. order (place c) y ≡ Less) cs j d o.0 (omega arith)
 ordered_at (c ∷ cs) (suc i) zero d o less within = absurd (omega arith)
 ordered_at (c ∷ cs) (suc i) (suc j) d o less within = ordered_at cs i j d o.1 (omega arith) (omega arith)
+
+-- ---- order is seen from neighbours
+
+all_above : (c d : Const) (cs : List Const) → order (place c) (place d) ≡ Less → AllByRecursion (λ y. order (place d) y ≡ Less) (map place cs) →
+    AllByRecursion (λ y. order (place c) y ≡ Less) (map place cs)
+all_above c d [] less all = tt
+all_above c d (e ∷ cs) less all = (nat_list_cmp_total.trans (place c) (place d) (place e) less all.0, all_above c d cs less all.1)
+
+abbrev pub AreNeighbours : ℕ → List Const → Type 0
+AreNeighbours most cs = (d : Const) (j k : ℕ) → k ≡ j + 1 → k < most → order (place (get_or cs j d)) (place (get_or cs k d)) ≡ Less
+
+pub from_neighbours : (cs : List Const) → AreNeighbours (length cs) cs → AreOrdered cs
+unfolding IsStrictlySortedBy
+from_neighbours [] each = tt
+from_neighbours (c ∷ []) each = (tt, tt)
+from_neighbours (c ∷ e ∷ cs) each =
+    let behind = from_neighbours (e ∷ cs) (λ d j k is less. each d (suc j) (suc k) (omega arith) (omega arith)) in
+    let less = each c 0 1 refl (omega arith) in
+    ((less, all_above c e cs less behind.0), behind)
+
+any_default : (cs : List Const) (i : ℕ) (d e : Const) → i < length cs → get_or cs i d ≡ get_or cs i e
+any_default [] i d e less = absurd (omega arith)
+any_default (c ∷ cs) zero d e less = refl
+any_default (c ∷ cs) (suc i) d e less = any_default cs i d e (omega arith)
+
+-- one more neighbour
+pub neighbours_more : (cs : List Const) (i : ℕ) (a b : Const) → 0 < i → i < length cs → a ≡ get_or cs (i - 1) a → b ≡ get_or cs i b →
+    order (place a) (place b) ≡ Less → AreNeighbours i cs → AreNeighbours (i + 1) cs
+neighbours_more cs i a b some within a_is b_is less before d j k is most = elim (cases_lt k i) [
+  | inl earlier ↦ before d j k is earlier
+  | inr later ↦
+      let here : k ≡ i = omega arith in
+      let front : j ≡ i - 1 = omega arith in
+      subst (λ (n : ℕ). order (place (get_or cs j d)) (place (get_or cs n d)) ≡ Less) (sym here)
+      (subst (λ (n : ℕ). order (place (get_or cs n d)) (place (get_or cs i d)) ≡ Less) (sym front)
+      (subst (λ (x : Const). order (place x) (place (get_or cs i d)) ≡ Less) (a_is ∙ any_default cs (i - 1) a d (omega arith))
+      (subst (λ (x : Const). order (place a) (place x) ≡ Less) (b_is ∙ any_default cs i b d within) less)))
+]
 
 same_or_less : (i j : ℕ) → i ≤ j → (i ≡ j) ⊎ (i < j)
 same_or_less zero zero p = inl refl

@@ -38,6 +38,7 @@ pub record HaveTheirValues (u : Universe) : Type 0 where
 pub record IsSignatureOfDescription (d : Description) (signature : Signature) : Type 0 where
   pub fluents : signature.fluents ≡ d.universe.fluents
   pub actions : signature.actions ≡ d.universe.actions
+  pub numbers : signature.numbers ≡ d.universe.numbers
 
 -- ---- ground laws, by their kinds: fluents have the first numbers, the actions those behind them
 

@@ -1,5 +1,5 @@
 -- The faults of declarations, each judged by what is declared to its left, and of all of them together.
-use Rattle.std.specs.Prelude.{ℕ, ◌+◌, ◌-◌, Bool, true, false, ◌&&◌, ◌||◌, ◌==◌, not, nat_lt, if◌then◌else◌, List, [], ◌∷◌, ◌++◌, length, map, Option, Some, None}
+use Rattle.std.specs.Prelude.{ℕ, ◌+◌, ◌-◌, Bool, true, false, ◌&&◌, ◌||◌, ◌==◌, not, nat_lt, if◌then◌else◌, List, [], ◌∷◌, ◌++◌, length, map, Option, Some, None, is_none}
 use Rattle.std.specs.List.{list_any, list_all, find}
 use Rattle.std.specs.Cmp.Lexicographic.{pointwise}
 use Rattle.cc_defs.specs.declared.refusal.LimitAt.{LimitAt}
@@ -12,7 +12,7 @@ use Rattle.cc_defs.specs.Refusals.{refused, past_at, past, least}
 use Rattle.cc_defs.specs.Trees.{PlainShape, PlainKind, PlainStatement}
 use Rattle.cc_defs.specs.Trees as trees
 use Rattle.cc_defs.specs.Grammar.{same_text}
-use Rattle.cc_defs.specs.Declarations.{Declaration, Sort, Link, Subsort, Object, Variable, Constant, Kinds, Declared, Pair, declarations_of, boolean, sort_names, pairs, is_below, objects, variables, constants, constant_names, value_sort, kind_of_constant, is_action, ground_of, ground_fluents, ground_actions}
+use Rattle.cc_defs.specs.Declarations.{Declaration, Sort, Link, Subsort, Object, Span, Number, Put, puts, Variable, Constant, Kinds, Declared, Pair, declarations_of, boolean, sort_names, pairs, is_below, variables, constants, constant_names, value_sort, kind_of_constant, is_action, ground_of, ground_fluents, ground_actions}
 
 abbrev pub is_sort : List Declaration → List ℕ → Bool
 is_sort left name = list_any (same_text name) (sort_names left)
@@ -20,17 +20,27 @@ is_sort left name = list_any (same_text name) (sort_names left)
 -- objects, variables and constants share one set of names
 abbrev pub is_taken : List Declaration → List ℕ → Bool
 is_taken left name =
-    list_any (λ object. same_text name object.0) (objects left) || (list_any (λ variable. same_text name variable.0) (variables left) || list_any (same_text name) (constant_names left))
+    list_any (λ put. is_none put.number && same_text name put.name) (puts left) || (list_any (λ variable. same_text name variable.0) (variables left) || list_any (same_text name) (constant_names left))
 
 abbrev pub same_pair : Pair → Pair → Bool
 same_pair pair other = same_text pair.0 other.0 && same_text pair.1 other.1
 
--- 4: the name is taken, or the pair is there already
+-- a number was put into the sort itself
+abbrev pub is_that : ℕ → Option ℕ → Bool
+is_that value (Some number) = number == value
+is_that value None = false
+
+abbrev pub has_put : ℕ → List ℕ → Put → Bool
+has_put value sort put = is_that value put.number && same_text sort put.sort
+
+-- 4: the name is taken, the pair is there already, or the number is in the sort already
 abbrev pub is_twice : List Declaration → Declaration → Bool
 is_twice left (Sort name) = is_sort left name
 is_twice left (Link name) = false
 is_twice left (Subsort upper lower) = list_any (same_pair (upper, lower)) (pairs left)
 is_twice left (Object name sort) = is_taken left name
+is_twice left (Span low high sort) = false
+is_twice left (Number value sort) = list_any (has_put value sort) (puts left)
 is_twice left (Variable name sort) = is_taken left name
 is_twice left (Constant shape kind file line) = is_taken left shape.name
 is_twice left (Kinds shapes kind) = false
@@ -51,6 +61,7 @@ has_unknown left (trees.Attribute sort action) = lacks_sort left sort || (lacks_
 -- 5: a sort, or the action of an attribute, is not declared
 abbrev pub is_unknown : List Declaration → Declaration → Bool
 is_unknown left (Object name sort) = lacks_sort left sort
+is_unknown left (Span low high sort) = lacks_sort left sort
 is_unknown left (Variable name sort) = lacks_sort left sort
 is_unknown left (Constant shape kind file line) = lacks_any left shape.sorts
 is_unknown left (Kinds shapes kind) = has_unknown left kind
@@ -97,12 +108,14 @@ has_other_sorts left shapes (trees.Attribute sort action) =
     in not (is_boolean_action (constant_named left action.name))
     || (not (same_sorts action.sorts own) || list_any (λ shape. not (same_sorts shape.sorts own)) shapes)
 
--- 7: a sort would stand below itself; `boolean` in a chain; objects of `boolean`; an attribute whose action is no Boolean
+-- 7: a sort would stand below itself; `boolean` in a chain; objects or numbers of `boolean`; a range whose end is before its
+-- beginning; an attribute whose action is no Boolean
 -- action, or that has arguments of other sorts
 abbrev pub has_wrong_sort : List Declaration → Declaration → Bool
 has_wrong_sort left (Link name) = same_text name boolean
 has_wrong_sort left (Subsort upper lower) = is_below (pairs left) upper lower
 has_wrong_sort left (Object name sort) = same_text sort boolean
+has_wrong_sort left (Span low high sort) = same_text sort boolean || nat_lt high low
 has_wrong_sort left (Kinds shapes kind) = has_other_sorts left shapes kind
 has_wrong_sort left declaration = false
 
@@ -120,9 +133,9 @@ declaration_fault left new = least (
     ∷ (7, any_has has_wrong_sort left new)
     ∷ [])
 
--- the objects that count: `false` and `true` do not
+-- what is put into sorts counts: `false` and `true` do not
 abbrev pub object_count : List Declaration → ℕ
-object_count declarations = length (objects declarations) - 2
+object_count declarations = length (puts declarations) - 2
 
 abbrev pub refusal_for : ℕ → ℕ → Bool → Option ℕ → Option Refusal
 refusal_for file line many (Some number) = Some (refused number file line)

@@ -1,16 +1,21 @@
 -- What statements declare: sorts, objects, variables and constants, as filters of a list of single declarations.
-use Rattle.std.specs.Prelude.{ℕ, ◌+◌, Bool, true, false, not, ◌&&◌, ◌||◌, if◌then◌else◌, List, [], ◌∷◌, ◌++◌, map, flat_map, reverse, codes, position, unwrap_or, Option, Some, None}
-use Rattle.std.specs.List.{list_any}
+use Rattle.std.specs.Prelude.{ℕ, zero, suc, ◌+◌, ◌-◌, ◌==◌, decimal, Bool, true, false, not, ◌&&◌, ◌||◌, if◌then◌else◌, List, [], ◌∷◌, ◌++◌, map, flat_map, reverse, codes, position, unwrap_or, slice_get, Option, Some, None}
+use Rattle.std.specs.List.{list_any, filter}
 use Rattle.cc_defs.specs.declared.signature.Const.{Const}
 use Rattle.cc_defs.specs.declared.signature.Kind.{Kind}
 use Rattle.cc_defs.specs.declared.signature.Kind.TheVariants as kinds
 use Rattle.cc_defs.specs.declared.signature.Symbol.{Symbol}
 use Rattle.cc_defs.specs.declared.tree.KindWord.{KindWord}
 use Rattle.cc_defs.specs.declared.tree.KindWord.TheVariants as kind_words
-use Rattle.cc_defs.specs.Trees.{PlainShape, PlainSortItem, PlainListItem, PlainKind, PlainConstItem, PlainPart, PlainStatement}
+use Rattle.cc_defs.specs.Trees.{PlainShape, PlainSortItem, PlainListItem, PlainMember, PlainObjItem, PlainKind, PlainConstItem, PlainPart, PlainStatement}
 use Rattle.cc_defs.specs.Trees as trees
 use Rattle.cc_defs.specs.Grammar.{same_text}
 use Rattle.cc_defs.specs.Signatures.{none_value}
+
+-- 0, 1, .., n - 1
+abbrev pub upto : ℕ → List ℕ
+upto zero = []
+upto (suc n) = upto n ++ n ∷ []
 
 -- one declaration, a constant's with the place of its statement. The kind of constants stands behind their shapes, so that
 -- their names are to its left.
@@ -19,6 +24,9 @@ pub data Declaration : Type 0 where
   Link : (name : List ℕ) → Declaration
   Subsort : (upper lower : List ℕ) → Declaration
   Object : (name sort : List ℕ) → Declaration
+  -- `low..high :: sort`, judged as a whole; the numbers themselves stand behind it one by one
+  Span : (low high : ℕ) → (sort : List ℕ) → Declaration
+  Number : (value : ℕ) → (sort : List ℕ) → Declaration
   Variable : (name sort : List ℕ) → Declaration
   Constant : PlainShape → PlainKind → (file line : ℕ) → Declaration
   Kinds : List PlainShape → PlainKind → Declaration
@@ -34,8 +42,16 @@ sort_declarations (trees.Names names) = map Sort names
 sort_declarations (trees.Chain []) = []
 sort_declarations (trees.Chain (first ∷ chain)) = Link first ∷ chain_behind first chain
 
-abbrev pub object_declarations : PlainListItem → List Declaration
-object_declarations item = map (λ name. Object name item.sort) item.names
+-- from the one to the other, none where the second is less
+abbrev pub from_to : ℕ → ℕ → List ℕ
+from_to low high = map (λ more. low + more) (upto (high + 1 - low))
+
+abbrev pub member_declarations : List ℕ → PlainMember → List Declaration
+member_declarations sort (trees.Name name) = Object name sort ∷ []
+member_declarations sort (trees.Numbers low high) = Span low high sort ∷ map (λ value. Number value sort) (from_to low high)
+
+abbrev pub object_declarations : PlainObjItem → List Declaration
+object_declarations item = flat_map (member_declarations item.sort) item.members
 
 abbrev pub variable_declarations : PlainListItem → List Declaration
 variable_declarations item = map (λ name. Variable name item.sort) item.names
@@ -91,18 +107,45 @@ abbrev pub is_below : List Pair → List ℕ → List ℕ → Bool
 is_below [] lower upper = same_text lower upper
 is_below (pair ∷ pairs) lower upper = is_below pairs lower upper || (is_below pairs lower pair.1 && is_below pairs pair.0 upper)
 
--- ---- objects and variables, with the names of their sorts
+-- ---- what is put into sorts, and variables
 
 abbrev pub Named : Type 0
 Named = List ℕ × List ℕ
 
-abbrev pub object_declared : Declaration → List Named
-object_declared (Object name sort) = (name, sort) ∷ []
-object_declared declaration = []
+-- what is put into a sort: a name, or a number by its digits
+pub record Put : Type 0 where
+  pub name : List ℕ
+  pub number : Option ℕ
+  pub sort : List ℕ
 
--- by number: `false`, `true`, and those that are declared
+abbrev pub named_put : List ℕ → List ℕ → Put
+named_put name sort = record { name = name; number = None; sort = sort }
+
+abbrev pub put_declared : Declaration → List Put
+put_declared (Object name sort) = named_put name sort ∷ []
+put_declared (Number value sort) = record { name = decimal value; number = Some value; sort = sort } ∷ []
+put_declared declaration = []
+
+-- in the order of the text; `false` and `true` are there from the beginning
+abbrev pub puts : List Declaration → List Put
+puts declarations = named_put (codes "false") boolean ∷ named_put (codes "true") boolean ∷ flat_map put_declared declarations
+
+-- each object at its first put: a number that is put more than once is one object
+abbrev pub first_puts_behind : List (List ℕ) → List Put → List Put
+first_puts_behind seen [] = []
+first_puts_behind seen (put ∷ others) =
+    if list_any (same_text put.name) seen then first_puts_behind seen others else put ∷ first_puts_behind (put.name ∷ seen) others
+
+abbrev pub first_puts : List Declaration → List Put
+first_puts declarations = first_puts_behind [] (puts declarations)
+
+-- the objects, by number, each with the sort of its first put
 abbrev pub objects : List Declaration → List Named
-objects declarations = (codes "false", boolean) ∷ (codes "true", boolean) ∷ flat_map object_declared declarations
+objects declarations = map (λ put. (put.name, put.sort)) (first_puts declarations)
+
+-- the number that each object is, where it is one
+abbrev pub numbers : List Declaration → List (Option ℕ)
+numbers declarations = map (λ put. put.number) (first_puts declarations)
 
 abbrev pub variable_declared : Declaration → List Named
 variable_declared (Variable name sort) = (name, sort) ∷ []
@@ -174,9 +217,26 @@ abbrev pub numbers_where : {X : Type 0} → (X → Bool) → ℕ → List X → 
 numbers_where test number [] = []
 numbers_where test number (x ∷ xs) = if test x then number ∷ numbers_where test (number + 1) xs else numbers_where test (number + 1) xs
 
--- the objects of a sort and of all sorts below it, in declared order
+-- the object that is put by the put of this number
+abbrev pub object_of : List Put → Option Put → ℕ
+object_of firsts (Some put) = unwrap_or (position (λ other. same_text put.name other.name) firsts) 0
+object_of firsts None = 0
+
+abbrev pub object_at : List Declaration → ℕ → ℕ
+object_at declarations number = object_of (first_puts declarations) (slice_get (puts declarations) number)
+
+-- the numbers of the puts into a sort and into all sorts below it, in the order of the text
+abbrev pub placed : List Declaration → List ℕ → List ℕ
+placed declarations sort = numbers_where (λ put. is_below (pairs declarations) put.sort sort) 0 (puts declarations)
+
+-- each number at its first place
+abbrev pub firsts : List ℕ → List ℕ
+firsts [] = []
+firsts (number ∷ numbers) = number ∷ filter (λ other. not (other == number)) (firsts numbers)
+
+-- the objects of a sort and of all sorts below it, in the order in which they are put, each at its first place
 abbrev pub members : List Declaration → List ℕ → List ℕ
-members declarations sort = numbers_where (λ object. is_below (pairs declarations) object.1 sort) 0 (objects declarations)
+members declarations sort = firsts (map (object_at declarations) (placed declarations sort))
 
 -- the values of a constant, in order
 abbrev pub domain_of : List Declaration → PlainKind → List ℕ

@@ -1,5 +1,5 @@
 -- The three forms of causal laws, by the kinds of the constants that stand in them.
-use Rattle.std.specs.Prelude.{◌≡◌, ℕ, ◌<◌, Bool, true, false, List, [], ◌∷◌, ◌++◌, length, slice_get, Option, Some, None, IsTrue, IsFalse, IsNone}
+use Rattle.std.specs.Prelude.{◌≡◌, ℕ, ◌<◌, Bool, true, false, ◌&&◌, List, [], ◌∷◌, ◌++◌, length, slice_get, Option, Some, None, IsTrue, IsFalse, IsNone}
 use Rattle.std.specs.List.{AllByRecursion, list_any}
 use Rattle.cc_defs.specs.declared.signature.Kind.{Kind}
 use Rattle.cc_defs.specs.declared.signature.Kind.TheVariants as kinds
@@ -19,6 +19,9 @@ abbrev mutual
   term_symbols (resolved.Object number) = []
   term_symbols (resolved.Variable number) = []
   term_symbols resolved.Nothing = []
+  term_symbols (resolved.Number number) = []
+  term_symbols (resolved.Plus s t) = term_symbols s ++ term_symbols t
+  term_symbols (resolved.Minus s t) = term_symbols s ++ term_symbols t
 
   pub terms_symbols : Terms → List ℕ
   terms_symbols resolved.NoTerms = []
@@ -28,6 +31,8 @@ abbrev pub formula_symbols : Formula → List ℕ
 formula_symbols resolved.Truth = []
 formula_symbols resolved.Falsehood = []
 formula_symbols (resolved.Equal s t) = term_symbols s ++ term_symbols t
+formula_symbols (resolved.Less s t) = term_symbols s ++ term_symbols t
+formula_symbols (resolved.AtMost s t) = term_symbols s ++ term_symbols t
 formula_symbols (resolved.Not f) = formula_symbols f
 formula_symbols (resolved.Both f g) = formula_symbols f ++ formula_symbols g
 formula_symbols (resolved.Either f g) = formula_symbols f ++ formula_symbols g
@@ -124,13 +129,16 @@ HasForm symbols (resolved.NoConcurrency file line) = Unit {0}
 abbrev pub HaveForms : List Symbol → List BaseLaw → Type 0
 HaveForms symbols laws = AllByRecursion (HasForm symbols) laws
 
--- ---- definite laws: an atom whose value is no constant, or falsity
+-- ---- definite laws: an atom whose value has no constant, or falsity
 
 abbrev pub is_value : Term → Bool
 is_value (resolved.Constant symbol args) = false
 is_value (resolved.Object number) = true
 is_value (resolved.Variable number) = true
 is_value resolved.Nothing = true
+is_value (resolved.Number number) = true
+is_value (resolved.Plus s t) = is_value s && is_value t
+is_value (resolved.Minus s t) = is_value s && is_value t
 
 abbrev pub is_definite_head : Head → Bool
 is_definite_head (resolved.Atom symbol args value) = is_value value

@@ -12,7 +12,7 @@ use Rattle.cc_defs.specs.declared.token.TokenKind.TheVariants as kinds
 use Rattle.cc_defs.specs.declared.tree.KindWord.{KindWord}
 use Rattle.cc_defs.specs.declared.tree.KindWord.TheVariants as kind_words
 use Rattle.cc_defs.specs.Tokens.{TokenView, first_line}
-use Rattle.cc_defs.specs.Trees.{PlainTerm, PlainTerms, PlainTree, PlainShape, PlainSortItem, PlainListItem, PlainKind, PlainConstItem, PlainQueryItem, PlainLaw, PlainPart, PlainStatement}
+use Rattle.cc_defs.specs.Trees.{PlainTerm, PlainSums, PlainSum, PlainPiece, PlainAddends, PlainTree, PlainMember, PlainObjItem, Comparison, PlainShape, PlainSortItem, PlainListItem, PlainKind, PlainConstItem, PlainQueryItem, PlainLaw, PlainPart, PlainStatement}
 use Rattle.cc_defs.specs.Trees as trees
 
 -- what the grammar sees of a token
@@ -120,23 +120,45 @@ module _ {X : Type 0} where
   optional item text None = empty
   optional item text (Some x) = word text ▸ item x
 
--- ---- terms and formulas
+-- ---- terms, sums and formulas
+
+abbrev pub additive : (minus : Bool) → Mark
+additive true = marks.Minus
+additive false = marks.Plus
 
 abbrev mutual
   pub term : PlainTerm → Spelling
-  term (trees.Applied text trees.NoTerms) tokens rest = IsTrue (is_name text || is_value_word text) × (tokens ≡ Word text ∷ rest)
-  term (trees.Applied text (trees.MoreTerms first others)) tokens rest = (name text ▸ sign marks.LeftParen ▸ term first ▸ other_terms others) tokens rest
+  term (trees.Applied text trees.NoSums) tokens rest = IsTrue (is_name text || is_value_word text) × (tokens ≡ Word text ∷ rest)
+  term (trees.Applied text (trees.MoreSums first others)) tokens rest = (name text ▸ sign marks.LeftParen ▸ sum first ▸ other_sums others) tokens rest
 
-  pub other_terms : PlainTerms → Spelling
-  other_terms trees.NoTerms tokens rest = sign marks.RightParen tokens rest
-  other_terms (trees.MoreTerms first others) tokens rest = (sign marks.Comma ▸ term first ▸ other_terms others) tokens rest
+  pub other_sums : PlainSums → Spelling
+  other_sums trees.NoSums tokens rest = sign marks.RightParen tokens rest
+  other_sums (trees.MoreSums first others) tokens rest = (sign marks.Comma ▸ sum first ▸ other_sums others) tokens rest
+
+  pub sum : PlainSum → Spelling
+  sum (trees.Summed first addends) tokens rest = (piece first ▸ other_pieces addends) tokens rest
+
+  pub piece : PlainPiece → Spelling
+  piece (trees.Numeral number) tokens rest = numeral number tokens rest
+  piece (trees.Called t) tokens rest = term t tokens rest
+
+  pub other_pieces : PlainAddends → Spelling
+  other_pieces trees.NoAddends tokens rest = tokens ≡ rest
+  other_pieces (trees.MoreAddends minus first others) tokens rest = (sign (additive minus) ▸ piece first ▸ other_pieces others) tokens rest
+
+abbrev pub comparing : Comparison → Mark
+comparing trees.IsEqual = marks.Equal
+comparing trees.Differs = marks.NotEqual
+comparing trees.IsLess = marks.Less
+comparing trees.IsAtMost = marks.AtMost
+comparing trees.IsMore = marks.More
+comparing trees.IsAtLeast = marks.AtLeast
 
 -- A formula where one of a strength is asked for: 0 for `unary`, 1 for `both`, 2 for `either`, 3 for `implied` and 4 for
 -- `formula`. One of less strength may stand there too.
 abbrev pub formula_of : ℕ → PlainTree → Spelling
 formula_of strength (trees.Bare s) = term s
-formula_of strength (trees.Equal s t) = term s ▸ sign marks.Equal ▸ term t
-formula_of strength (trees.Differ s t) = term s ▸ sign marks.NotEqual ▸ term t
+formula_of strength (trees.Compared comparison s t) = sum s ▸ sign (comparing comparison) ▸ sum t
 formula_of strength (trees.Paren f) = sign marks.LeftParen ▸ formula_of 4 f ▸ sign marks.RightParen
 formula_of strength (trees.Not f) = sign marks.Minus ▸ formula_of 0 f
 formula_of strength (trees.Both f g) = where_it (1 ≤ strength) (formula_of 1 f ▸ sign marks.And ▸ formula_of 0 g)
@@ -155,6 +177,14 @@ abbrev pub sort_item : PlainSortItem → Spelling
 sort_item (trees.Names names) = listed name marks.Comma names
 sort_item (trees.Chain []) = never
 sort_item (trees.Chain (x ∷ xs)) = name x ▸ sign marks.Above ▸ listed name marks.Above xs
+
+-- `n` is `n..n`
+abbrev pub member : PlainMember → Spelling
+member (trees.Name text) = name text
+member (trees.Numbers low high) = one_of (where_it (low ≡ high) (numeral low)) (numeral low ▸ sign marks.DotDot ▸ numeral high)
+
+abbrev pub obj_item : PlainObjItem → Spelling
+obj_item item = listed member marks.Comma item.members ▸ sign marks.DoubleColon ▸ name item.sort
 
 abbrev pub list_item : PlainListItem → Spelling
 list_item item = listed name marks.Comma item.names ▸ sign marks.DoubleColon ▸ name item.sort
@@ -232,7 +262,7 @@ quoted text tokens rest = tokens ≡ Quoted (39 ∷ text ++ 39 ∷ []) ∷ rest
 
 abbrev pub part : PlainPart → Spelling
 part (trees.Sorts items) = directive (codes "sorts") (listed sort_item marks.Semicolon items)
-part (trees.Objects items) = directive (codes "objects") (listed list_item marks.Semicolon items)
+part (trees.Objects items) = directive (codes "objects") (listed obj_item marks.Semicolon items)
 part (trees.Variables items) = directive (codes "variables") (listed list_item marks.Semicolon items)
 part (trees.Constants items) = directive (codes "constants") (listed const_item marks.Semicolon items)
 part (trees.Query items) = directive (codes "query") (listed query_item marks.Semicolon items)

@@ -1,7 +1,7 @@
 -- The limits, by name and number.
 use Rattle.std.specs.Prelude.{ℕ, List, codes}
 use Rattle.cc_defs.specs.declared.refusal.LimitAt.{LimitAt}
-use Rattle.cc_defs.specs.declared.refusal.LimitAt.TheVariants.{FileBytes, TotalBytes, IncludeDepth, TokenBytes, NumberDigits, DeclarationTokens, StatementTokens, Objects, DomainValues, GroundConstants, LawInstances, GroundNodes, Horizon, Rules, Variables, AxiomClauses, AxiomLiterals, Histories, LogBytes}
+use Rattle.cc_defs.specs.declared.refusal.LimitAt.TheVariants.{FileBytes, TotalBytes, IncludeDepth, TokenBytes, NumberDigits, DeclarationTokens, StatementTokens, Objects, DomainValues, GroundConstants, LawInstances, Choices, GroundNodes, Horizon, Rules, Variables, AxiomClauses, AxiomLiterals, Histories, LogBytes}
 
 -- what is counted, in words
 abbrev pub limit_name : LimitAt → List ℕ
@@ -16,6 +16,7 @@ limit_name Objects = codes "objects"
 limit_name DomainValues = codes "domain values"
 limit_name GroundConstants = codes "ground constants"
 limit_name LawInstances = codes "law instances"
+limit_name Choices = codes "choices"
 limit_name GroundNodes = codes "ground nodes"
 limit_name Horizon = codes "horizon"
 limit_name Rules = codes "rules"
@@ -38,6 +39,7 @@ limit_number Objects = 4096
 limit_number DomainValues = 1000
 limit_number GroundConstants = 20000
 limit_number LawInstances = 1000000
+limit_number Choices = 16000000
 limit_number GroundNodes = 16000000
 limit_number Horizon = 1000
 limit_number Rules = 8000000

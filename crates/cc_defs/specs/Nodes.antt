@@ -1,11 +1,12 @@
 -- The terms of formulas whose variables have values.
-use Rattle.std.specs.Prelude.{ℕ, ◌+◌, ◌==◌, nat_eq, if◌then◌else◌, List, [], ◌∷◌, ◌++◌, map, position, slice_get, Option, Some, None}
+use Rattle.std.specs.Prelude.{ℕ, ◌+◌, ◌==◌, ◌||◌, nat_eq, if◌then◌else◌, List, [], ◌∷◌, ◌++◌, map, position, slice_get, Option, Some, None}
 use Rattle.cc_defs.specs.declared.node.Node.{Node}
 use Rattle.cc_defs.specs.declared.signature.Const.{Const}
 use Rattle.cc_defs.specs.Signatures.{none_value}
 use Rattle.cc_defs.specs.Resolved.{Term, Terms, Formula}
 use Rattle.cc_defs.specs.Resolved as resolved
-use Rattle.cc_defs.specs.Satisfaction.{Environment, bind, constant_meant}
+use Rattle.cc_defs.specs.Judged.{constants_of, is_sum, judged}
+use Rattle.cc_defs.specs.Satisfaction.{Environment, bind, constant_meant, object_given}
 use Rattle.cc_defs.specs.Terms.{Ground, all_of, any_of, postfix}
 use Rattle.cc_defs.specs.Terms as terms
 use Rattle.cc_defs.specs.Universe.{Universe, constants_in, objects_of}
@@ -33,6 +34,9 @@ side u env (resolved.Constant symbol args) = numbered_side u (constant_meant u e
 side u env (resolved.Object object) = Value object
 side u env (resolved.Variable variable) = value_side (env variable)
 side u env resolved.Nothing = Value none_value
+side u env (resolved.Number number) = value_side (object_given u env (resolved.Number number))
+side u env (resolved.Plus s t) = value_side (object_given u env (resolved.Plus s t))
+side u env (resolved.Minus s t) = value_side (object_given u env (resolved.Minus s t))
 
 -- ---- equations
 
@@ -71,7 +75,10 @@ equation Absent other = terms.Falsehood
 abbrev pub term_of : Universe → Environment → Formula → Ground
 term_of u env resolved.Truth = terms.Truth
 term_of u env resolved.Falsehood = terms.Falsehood
-term_of u env (resolved.Equal s t) = equation (side u env s) (side u env t)
+term_of u env (resolved.Equal s t) =
+    if is_sum s || is_sum t then judged u env (resolved.Equal s t) (constants_of s ++ constants_of t) else equation (side u env s) (side u env t)
+term_of u env (resolved.Less s t) = judged u env (resolved.Less s t) (constants_of s ++ constants_of t)
+term_of u env (resolved.AtMost s t) = judged u env (resolved.AtMost s t) (constants_of s ++ constants_of t)
 term_of u env (resolved.Not f) = terms.Not (term_of u env f)
 term_of u env (resolved.Both f g) = all_of (term_of u env f ∷ term_of u env g ∷ [])
 term_of u env (resolved.Either f g) = any_of (term_of u env f ∷ term_of u env g ∷ [])

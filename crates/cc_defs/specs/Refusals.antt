@@ -33,11 +33,11 @@ IsRefusedBy refusal faults.OutOfMemory = Unit {0}
 
 -- ---- names
 
--- the names of the refusals, from number 1 on
+-- the names of the refusals, from number 1 on; none has the number 13
 abbrev pub refusal_names : List (List ℕ)
 refusal_names =
     codes "Words" ∷ codes "Byte" ∷ codes "Syntax" ∷ codes "TwiceDeclared" ∷ codes "UnknownName" ∷ codes "Arity" ∷ codes "Sort"
-    ∷ codes "Unbound" ∷ codes "LawForm" ∷ codes "SdInDynamicHead" ∷ codes "NotDefinite" ∷ codes "EmptyDomain" ∷ codes "NotYet"
+    ∷ codes "Unbound" ∷ codes "LawForm" ∷ codes "SdInDynamicHead" ∷ codes "NotDefinite" ∷ codes "EmptyDomain" ∷ []
     ∷ codes "Limit" ∷ codes "NoQuery" ∷ codes "Step" ∷ codes "Include" ∷ codes "Key" ∷ []
 
 abbrev pub refusal_name : ℕ → List ℕ

@@ -15,12 +15,15 @@ use Rattle.cc_defs.specs.declared.law.Condition.{Condition as ConditionTree}
 use Rattle.cc_defs.specs.declared.law.Query.{Query as QueryTree}
 
 mutual
-  -- a constant with its arguments, an object, a variable, or `none`
+  -- a constant with its arguments, an object, a variable, `none`, a number, a sum, or a difference
   pub data Term : Type 0 where
     Constant : (symbol : ℕ) → (args : Terms) → Term
     Object : ℕ → Term
     Variable : ℕ → Term
     Nothing : Term
+    Number : ℕ → Term
+    Plus : Term → Term → Term
+    Minus : Term → Term → Term
 
   pub data Terms : Type 0 where
     NoTerms : Terms
@@ -35,6 +38,8 @@ pub data Formula : Type 0 where
   Truth : Formula
   Falsehood : Formula
   Equal : Term → Term → Formula
+  Less : Term → Term → Formula
+  AtMost : Term → Term → Formula
   Not : Formula → Formula
   Both : Formula → Formula → Formula
   Either : Formula → Formula → Formula
@@ -81,6 +86,9 @@ abbrev mutual
   plain_term (terms.Object object) = Object object
   plain_term (terms.Variable variable) = Variable variable
   plain_term terms.Nothing = Nothing
+  plain_term (terms.Number number) = Number number
+  plain_term (terms.Plus' one s other t) = Plus (plain_term s) (plain_term t)
+  plain_term (terms.Minus' one s other t) = Minus (plain_term s) (plain_term t)
 
   pub plain_row : {m : _} → terms.Row_of-Term m → Terms
   plain_row terms.end_of-Term = NoTerms
@@ -90,6 +98,8 @@ abbrev pub plain_formula : formulas.Formula → Formula
 plain_formula formulas.True = Truth
 plain_formula formulas.False = Falsehood
 plain_formula (formulas.Equal s t) = Equal (plain_term s) (plain_term t)
+plain_formula (formulas.Less s t) = Less (plain_term s) (plain_term t)
+plain_formula (formulas.AtMost s t) = AtMost (plain_term s) (plain_term t)
 plain_formula (formulas.Not' box f) = Not (plain_formula f)
 plain_formula (formulas.Both' one f other g) = Both (plain_formula f) (plain_formula g)
 plain_formula (formulas.Either' one f other g) = Either (plain_formula f) (plain_formula g)

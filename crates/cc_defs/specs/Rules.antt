@@ -1,20 +1,16 @@
 -- The causal theory of a horizon.
-use Rattle.std.specs.Prelude.{ℕ, ◌+◌, ◌&&◌, ◌==◌, if◌then◌else◌, nat_lt, List, [], ◌∷◌, ◌++◌, length, map, flat_map, zero, suc, slice_index, Option, Some, None, true, false, Bool}
+use Rattle.std.specs.Prelude.{ℕ, ◌+◌, ◌&&◌, ◌==◌, if◌then◌else◌, nat_lt, List, [], ◌∷◌, ◌++◌, length, map, flat_map, slice_index, Option, Some, None, true, false, Bool}
 use Rattle.cc_defs.specs.declared.signature.Const.{Const}
 use Rattle.cc_defs.specs.declared.signature.Kind.{Kind}
 use Rattle.cc_defs.specs.declared.signature.Kind.TheVariants as kinds
 use Rattle.cc_defs.specs.declared.signature.LawKind.{LawKind}
 use Rattle.cc_defs.specs.declared.signature.LawKind.TheVariants as law_kinds
+pub use Rattle.cc_defs.specs.Declarations.{upto}
 use Rattle.cc_defs.specs.Description.{Description, values_at}
 use Rattle.cc_defs.specs.Environments.{Instance, Under, Together, instances}
 use Rattle.cc_defs.specs.Resolved.{Formula, Law}
 use Rattle.cc_defs.specs.Satisfaction.{Environment, giving, satisfied, head_satisfied}
 use Rattle.cc_defs.specs.Theories.{Rule}
-
--- 0, 1, .., n - 1
-abbrev pub upto : ℕ → List ℕ
-upto zero = []
-upto (suc n) = upto n ++ n ∷ []
 
 -- Each value of a simple fluent at step 0 is a cause of itself.
 abbrev pub initial_rule : ℕ → ℕ → Rule

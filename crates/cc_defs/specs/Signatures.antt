@@ -1,5 +1,5 @@
 -- Signatures: the ground constants of a description, and where they stand at a horizon.
-use Rattle.std.specs.Prelude.{ℕ, ◌+◌, ◌*◌, ◌^◌, ◌<◌, ◌==◌, ◌&&◌, nat_eq, List, ◌∷◌, ◌++◌, length, map, position, Option}
+use Rattle.std.specs.Prelude.{ℕ, ◌+◌, ◌*◌, ◌^◌, ◌<◌, ◌==◌, ◌&&◌, nat_eq, List, ◌∷◌, ◌++◌, length, map, position, slice_get, Option, option_and_then}
 use Rattle.std.specs.Ordering.{nat_cmp}
 use Rattle.std.specs.Cmp.Lexicographic.{pointwise, slice_cmp}
 use Rattle.std.specs.List.{AllByRecursion}
@@ -13,6 +13,12 @@ none_value = 4294967295
 pub record Signature : Type 0 where
   pub fluents : List Const
   pub actions : List Const
+  -- the number that each object is, where it is one
+  pub numbers : List (Option ℕ)
+
+-- the number that an object is
+abbrev pub number_at : List (Option ℕ) → ℕ → Option ℕ
+number_at numbers object = option_and_then (λ number. number) (slice_get numbers object)
 
 -- by number: the fluents, then the actions
 abbrev pub ground_constants : Signature → List Const
@@ -36,10 +42,8 @@ AreOrdered constants = IsStrictlySortedBy (slice_cmp nat_cmp) (map place constan
 abbrev pub AreShort : List Const → Type 0
 AreShort constants = AllByRecursion (λ constant. length constant.domain < 2 ^ 32) constants
 
--- the constants are in order, and their numbers and value indexes fit in 32 bits
+-- the numbers of constants and their value indexes fit in 32 bits
 pub record IsSignature (signature : Signature) : Type 0 where
-  pub fluents_ordered : AreOrdered signature.fluents
-  pub actions_ordered : AreOrdered signature.actions
   pub few : length signature.fluents + length signature.actions < 2 ^ 32
   pub fluents_short : AreShort signature.fluents
   pub actions_short : AreShort signature.actions

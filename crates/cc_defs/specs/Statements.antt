@@ -1,16 +1,14 @@
--- What is wrong with a statement before its names are looked up: it is too long, it has what the language does not have
--- yet, or no tree spells it.
-use Rattle.std.specs.Prelude.{◌≡◌, ◌⊎◌, ℕ, Bool, true, false, ◌||◌, nat_lt, if◌then◌else◌, IsTrue, IsFalse, List, [], ◌∷◌, length, codes, Option, Some, None}
+-- What is wrong with a statement before its names are looked up: it is too long, or no tree spells it.
+use Rattle.std.specs.Prelude.{◌≡◌, ◌⊎◌, ℕ, Bool, false, nat_lt, if◌then◌else◌, IsTrue, IsFalse, List, [], ◌∷◌, length, codes, Option, Some, None}
 use Rattle.std.specs.List.{list_any}
 use Rattle.cc_defs.specs.declared.refusal.LimitAt.{LimitAt}
 use Rattle.cc_defs.specs.declared.refusal.LimitAt.TheVariants.{DeclarationTokens, StatementTokens}
 use Rattle.cc_defs.specs.declared.refusal.Refusal.{Refusal}
-use Rattle.cc_defs.specs.declared.token.Mark.{Mark}
 use Rattle.cc_defs.specs.declared.token.Mark.TheVariants as marks
 use Rattle.cc_defs.specs.Limits.{limit_number}
 use Rattle.cc_defs.specs.Tokens.{TokenView, first_line}
 use Rattle.cc_defs.specs.Trees.{PlainStatement}
-use Rattle.cc_defs.specs.Grammar.{Terminal, Word, Number, Sign, terminals, same_text, Spells}
+use Rattle.cc_defs.specs.Grammar.{Terminal, Word, Sign, terminals, same_text, Spells}
 
 -- the tokens begin with `:-` and one of these words
 abbrev pub begins_directive : List (List ℕ) → List Terminal → Bool
@@ -30,32 +28,6 @@ token_limit tokens = if is_declaration tokens then DeclarationTokens else Statem
 abbrev pub is_too_long : List Terminal → Bool
 is_too_long tokens = nat_lt (limit_number (token_limit tokens)) (length tokens)
 
--- a sign of arithmetic or of an order of numbers
-abbrev pub is_number_sign : Mark → Bool
-is_number_sign marks.Plus = true
-is_number_sign marks.Less = true
-is_number_sign marks.AtMost = true
-is_number_sign marks.More = true
-is_number_sign marks.AtLeast = true
-is_number_sign mark = false
-
-abbrev pub is_range_sign : Mark → Bool
-is_range_sign marks.DotDot = true
-is_range_sign mark = false
-
--- what the language does not have yet, in a query and elsewhere: a query has numbers and ranges
-abbrev pub is_not_yet_in_query : Terminal → Bool
-is_not_yet_in_query (Sign mark) = is_number_sign mark
-is_not_yet_in_query terminal = false
-
-abbrev pub is_not_yet : Terminal → Bool
-is_not_yet (Number digits) = true
-is_not_yet (Sign mark) = is_number_sign mark || is_range_sign mark
-is_not_yet terminal = false
-
-abbrev pub has_not_yet : List Terminal → Bool
-has_not_yet tokens = if is_query tokens then list_any is_not_yet_in_query tokens else list_any is_not_yet tokens
-
 abbrev pub NoTree : List TokenView → Type 0
 NoTree tokens = (tree : PlainStatement) → Spells tree tokens → ⊥
 
@@ -67,20 +39,15 @@ abbrev pub TooLong : ℕ → List TokenView → Refusal → Type 0
 TooLong file tokens refusal =
     IsTrue (is_too_long (terminals tokens)) × (refusal ≡ refusal_at 14 file (Some (token_limit (terminals tokens))) tokens)
 
-abbrev pub NotYet : ℕ → List TokenView → Refusal → Type 0
-NotYet file tokens refusal =
-    IsFalse (is_too_long (terminals tokens)) × IsTrue (has_not_yet (terminals tokens)) × (refusal ≡ refusal_at 13 file None tokens)
-
 abbrev pub NoSyntax : ℕ → List TokenView → Refusal → Type 0
 NoSyntax file tokens refusal =
-    IsFalse (is_too_long (terminals tokens)) × IsFalse (has_not_yet (terminals tokens)) × NoTree tokens × (refusal ≡ refusal_at 3 file None tokens)
+    IsFalse (is_too_long (terminals tokens)) × NoTree tokens × (refusal ≡ refusal_at 3 file None tokens)
 
 -- the statement is refused before its names are looked up
 abbrev pub IsRefused : ℕ → List TokenView → Refusal → Type 0
-IsRefused file tokens refusal = TooLong file tokens refusal ⊎ (NotYet file tokens refusal ⊎ NoSyntax file tokens refusal)
+IsRefused file tokens refusal = TooLong file tokens refusal ⊎ NoSyntax file tokens refusal
 
 -- it is not refused, and this is its tree
 pub record IsParsed (tokens : List TokenView) (tree : PlainStatement) : Type 0 where
   pub short : IsFalse (is_too_long (terminals tokens))
-  pub known : IsFalse (has_not_yet (terminals tokens))
   pub spelled : Spells tree tokens

@@ -3,12 +3,17 @@ use Rattle.std.specs.Prelude.{ℕ, Bool, List, map, Option}
 use Rattle.std.specs.Option.{option_map}
 use Rattle.cc_defs.specs.declared.signature.At.{At}
 use Rattle.cc_defs.specs.declared.tree.KindWord.{KindWord}
-use Rattle.cc_defs.specs.declared.tree.TermTree.{TermTree, TermTree', Row_of-TermTree, end_of-TermTree, more_of-TermTree}
+use Rattle.cc_defs.specs.declared.tree.TermTree.{TermTree, TermTree', Row_of-SumTree, end_of-SumTree, more_of-SumTree}
+use Rattle.cc_defs.specs.declared.tree.SumTree.{SumTree, SumTree', Row_of-Addend, end_of-Addend, more_of-Addend}
+use Rattle.cc_defs.specs.declared.tree.Piece as pieces
 use Rattle.cc_defs.specs.declared.tree.Tree as trees
 use Rattle.cc_defs.specs.declared.tree.Shape.{Shape}
 use Rattle.cc_defs.specs.declared.tree.SortItem.{SortItem}
 use Rattle.cc_defs.specs.declared.tree.SortItem.TheVariants as sort_items
 use Rattle.cc_defs.specs.declared.tree.ListItem.{ListItem}
+use Rattle.cc_defs.specs.declared.tree.Member.{Member}
+use Rattle.cc_defs.specs.declared.tree.Member.TheVariants as members
+use Rattle.cc_defs.specs.declared.tree.ObjItem.{ObjItem}
 use Rattle.cc_defs.specs.declared.tree.KindTree.{KindTree}
 use Rattle.cc_defs.specs.declared.tree.KindTree.TheVariants as kind_trees
 use Rattle.cc_defs.specs.declared.tree.ConstItem.{ConstItem}
@@ -23,16 +28,36 @@ use Rattle.cc_defs.specs.declared.tree.Statement.{Statement}
 mutual
   -- a constant, an object or a variable with its arguments; also `true`, `false` and `none`
   pub data PlainTerm : Type 0 where
-    Applied : (name : List ℕ) → (args : PlainTerms) → PlainTerm
+    Applied : (name : List ℕ) → (args : PlainSums) → PlainTerm
 
-  pub data PlainTerms : Type 0 where
-    NoTerms : PlainTerms
-    MoreTerms : (first : PlainTerm) → (others : PlainTerms) → PlainTerms
+  pub data PlainSums : Type 0 where
+    NoSums : PlainSums
+    MoreSums : (first : PlainSum) → (others : PlainSums) → PlainSums
+
+  -- a piece, and those that are added to it or taken from it, from left to right
+  pub data PlainSum : Type 0 where
+    Summed : (first : PlainPiece) → (rest : PlainAddends) → PlainSum
+
+  pub data PlainPiece : Type 0 where
+    Numeral : ℕ → PlainPiece
+    Called : PlainTerm → PlainPiece
+
+  pub data PlainAddends : Type 0 where
+    NoAddends : PlainAddends
+    MoreAddends : (minus : Bool) → PlainPiece → PlainAddends → PlainAddends
+
+-- the signs between two sums
+pub data Comparison : Type 0 where
+  IsEqual : Comparison
+  Differs : Comparison
+  IsLess : Comparison
+  IsAtMost : Comparison
+  IsMore : Comparison
+  IsAtLeast : Comparison
 
 pub data PlainTree : Type 0 where
   Bare : PlainTerm → PlainTree
-  Equal : PlainTerm → PlainTerm → PlainTree
-  Differ : PlainTerm → PlainTerm → PlainTree
+  Compared : Comparison → PlainSum → PlainSum → PlainTree
   Paren : PlainTree → PlainTree
   Not : PlainTree → PlainTree
   Both : PlainTree → PlainTree → PlainTree
@@ -49,6 +74,15 @@ pub record PlainShape : Type 0 where
 pub data PlainSortItem : Type 0 where
   Names : List (List ℕ) → PlainSortItem
   Chain : List (List ℕ) → PlainSortItem
+
+-- a name, or the numbers from one to another
+pub data PlainMember : Type 0 where
+  Name : List ℕ → PlainMember
+  Numbers : (low high : ℕ) → PlainMember
+
+pub record PlainObjItem : Type 0 where
+  pub members : List PlainMember
+  pub sort : List ℕ
 
 pub record PlainListItem : Type 0 where
   pub names : List (List ℕ)
@@ -81,7 +115,7 @@ pub data PlainLaw : Type 0 where
 
 pub data PlainPart : Type 0 where
   Sorts : List PlainSortItem → PlainPart
-  Objects : List PlainListItem → PlainPart
+  Objects : List PlainObjItem → PlainPart
   Variables : List PlainListItem → PlainPart
   Constants : List PlainConstItem → PlainPart
   Query : List PlainQueryItem → PlainPart
@@ -96,16 +130,31 @@ pub record PlainStatement : Type 0 where
 
 abbrev mutual
   pub plain_term : TermTree → PlainTerm
-  plain_term (TermTree' name shape args) = Applied name.now (plain_row args)
+  plain_term (TermTree' name shape args) = Applied name.now (plain_args args)
 
-  pub plain_row : {m : _} → Row_of-TermTree m → PlainTerms
-  plain_row end_of-TermTree = NoTerms
-  plain_row (more_of-TermTree term rest) = MoreTerms (plain_term term) (plain_row rest)
+  pub plain_args : {m : _} → Row_of-SumTree m → PlainSums
+  plain_args end_of-SumTree = NoSums
+  plain_args (more_of-SumTree sum rest) = MoreSums (plain_sum sum) (plain_args rest)
+
+  pub plain_sum : SumTree → PlainSum
+  plain_sum (SumTree' first shape rest) = Summed (plain_piece first) (plain_addends rest)
+
+  pub plain_addends : {m : _} → Row_of-Addend m → PlainAddends
+  plain_addends end_of-Addend = NoAddends
+  plain_addends (more_of-Addend minus piece rest) = MoreAddends minus (plain_piece piece) (plain_addends rest)
+
+  pub plain_piece : pieces.Piece → PlainPiece
+  plain_piece (pieces.Number number) = Numeral number
+  plain_piece (pieces.Name term) = Called (plain_term term)
 
 abbrev pub plain_tree : trees.Tree → PlainTree
 plain_tree (trees.Bare term) = Bare (plain_term term)
-plain_tree (trees.Equal s t) = Equal (plain_term s) (plain_term t)
-plain_tree (trees.Differ s t) = Differ (plain_term s) (plain_term t)
+plain_tree (trees.Equal s t) = Compared IsEqual (plain_sum s) (plain_sum t)
+plain_tree (trees.Differ s t) = Compared Differs (plain_sum s) (plain_sum t)
+plain_tree (trees.Less s t) = Compared IsLess (plain_sum s) (plain_sum t)
+plain_tree (trees.AtMost s t) = Compared IsAtMost (plain_sum s) (plain_sum t)
+plain_tree (trees.More s t) = Compared IsMore (plain_sum s) (plain_sum t)
+plain_tree (trees.AtLeast s t) = Compared IsAtLeast (plain_sum s) (plain_sum t)
 plain_tree (trees.Paren' box f) = Paren (plain_tree f)
 plain_tree (trees.Not' box f) = Not (plain_tree f)
 plain_tree (trees.Both' one f other g) = Both (plain_tree f) (plain_tree g)
@@ -121,6 +170,13 @@ plain_shape shape = record { name = shape.name.now; sorts = map (λ sort. sort.n
 abbrev pub plain_sort_item : SortItem → PlainSortItem
 plain_sort_item (sort_items.Names names) = Names (map (λ name. name.now) names)
 plain_sort_item (sort_items.Chain names) = Chain (map (λ name. name.now) names)
+
+abbrev pub plain_member : Member → PlainMember
+plain_member (members.Name name) = Name name.now
+plain_member (members.Numbers low high) = Numbers low high
+
+abbrev pub plain_obj_item : ObjItem → PlainObjItem
+plain_obj_item item = record { members = map plain_member item.members; sort = item.sort.now }
 
 abbrev pub plain_list_item : ListItem → PlainListItem
 plain_list_item item = record { names = map (λ name. name.now) item.names; sort = item.sort.now }
@@ -151,7 +207,7 @@ plain_law law_trees.NoConcurrency = NoConcurrency
 
 abbrev pub plain_part : Part → PlainPart
 plain_part (parts.Sorts items) = Sorts (map plain_sort_item items)
-plain_part (parts.Objects items) = Objects (map plain_list_item items)
+plain_part (parts.Objects items) = Objects (map plain_obj_item items)
 plain_part (parts.Variables items) = Variables (map plain_list_item items)
 plain_part (parts.Constants items) = Constants (map plain_const_item items)
 plain_part (parts.Query items) = Query (map plain_query_item items)

@@ -1,6 +1,6 @@
 //! Formulas whose names are resolved: numbers of symbols, objects, variables and sorts in place of names.
 
-/// A constant, an object, a variable, or `none`. An argument of a constant is an object or a variable.
+/// A constant, an object, a variable, `none`, a number, or a sum or difference. An argument of a constant has no constant.
 #[derive(Drop)]
 pub enum Term {
     /// A constant's symbol and its arguments.
@@ -11,6 +11,12 @@ pub enum Term {
     Variable(u32),
     /// `none`, the value of an attribute whose action is not done.
     Nothing,
+    /// A number of the text, which need not be an object.
+    Number(u32),
+    /// `s+t`
+    Plus(Box<Term>, Box<Term>),
+    /// `s-t`
+    Minus(Box<Term>, Box<Term>),
 }
 
 /// A formula. A bracket has the number of its variable and the sort that it goes over.
@@ -20,6 +26,10 @@ pub enum Formula {
     False,
     /// Both terms have the same value.
     Equal(Term, Term),
+    /// Both terms are numbers, and the first is less.
+    Less(Term, Term),
+    /// Both terms are numbers, and the first is not greater.
+    AtMost(Term, Term),
     Not(Box<Formula>),
     Both(Box<Formula>, Box<Formula>),
     Either(Box<Formula>, Box<Formula>),

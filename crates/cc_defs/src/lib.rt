@@ -35,6 +35,6 @@ pub use sig::Sig;
 pub use signature::{At, Const, Kind, LawKind, Symbol};
 pub use token::{Mark, Token, TokenKind};
 pub use tree::{
-    ConstItem, KindTree, KindWord, LawTree, ListItem, Part, QueryItem, Shape, SortItem, Statement,
-    TermTree, Tree,
+    Addend, ConstItem, KindTree, KindWord, LawTree, ListItem, Member, ObjItem, Part, Piece,
+    QueryItem, Shape, SortItem, Statement, SumTree, TermTree, Tree,
 };

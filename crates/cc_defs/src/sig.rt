@@ -1,8 +1,9 @@
 //! The ground constants of a description.
-ghost use Rattle.std.specs.Prelude.{◌≡◌, ◌+◌, ◌<◌, ◌∷◌, ◌++◌, ◌%◌, length, slice_get, option_map, Some};
+ghost use Rattle.std.specs.Prelude.{◌≡◌, ◌+◌, ◌<◌, ◌∷◌, ◌++◌, ◌%◌, length, slice_get, option_map, Some, true};
 ghost use Rattle.std.specs.Ordering.{nat_cmp};
+ghost use Rattle.std.specs.declared.cmp.Ordering.TheVariants.{Less};
 ghost use Rattle.std.specs.Cmp.Lexicographic.{slice_cmp};
-ghost use Rattle.cc_defs.specs.Signatures.{Signature, IsSignature, AreOrdered, place, ground_constants, ground_number, position_count};
+ghost use Rattle.cc_defs.specs.Signatures.{Signature, IsSignature, AreOrdered, place, ground_constants, ground_number, position_count, number_at};
 
 use crate::Const;
 use std::cmp::Ordering;
@@ -15,25 +16,50 @@ use std::marker::Model;
 pub struct Sig {
     fluents: Vec<Const>,
     actions: Vec<Const>,
+    // The number that each object is, where it is one.
+    numbers: Vec<Option<u32>>,
+    // Whether the constants of a kind stand in the order of their symbols and arguments; then one is found by halves.
+    fluents_ordered: bool,
+    actions_ordered: bool,
 }
 
 impl Model for Sig {
-    ghost use Rattle.cc_defs.specs.Signatures.{Signature, IsSignature};
+    ghost use Rattle.std.specs.Prelude.{◌≡◌, true};
+    ghost use Rattle.cc_defs.specs.Signatures.{Signature, IsSignature, AreOrdered};
 
     ghost Value = { Signature };
 
-    ghost view = { λ sig. record { fluents = sig.fluents.items; actions = sig.actions.items } };
+    ghost view = { λ sig. record { fluents = sig.fluents.items; actions = sig.actions.items; numbers = sig.numbers.items } };
 
-    ghost invariant = { λ sig. IsSignature (record { fluents = sig.fluents.items; actions = sig.actions.items }) };
+    ghost invariant = { λ sig. IsSignature (record { fluents = sig.fluents.items; actions = sig.actions.items; numbers = sig.numbers.items })
+        × (sig.fluents_ordered ≡ true → AreOrdered sig.fluents.items) × (sig.actions_ordered ≡ true → AreOrdered sig.actions.items) };
 }
 
 impl Sig {
-    /// The signature of these fluents and actions. It takes no memory.
-    pub fn of(fluents: Vec<Const>, actions: Vec<Const>) -> Sig
-        requires { IsSignature (record { fluents = fluents.items; actions = actions.items }) }
-        ensures { result ≡ record { fluents = fluents.items; actions = actions.items } }
+    /// The signature of these fluents and actions, and of objects that are these numbers. It takes no memory.
+    pub fn of(fluents: Vec<Const>, actions: Vec<Const>, numbers: Vec<Option<u32>>) -> Sig
+        requires { IsSignature (record { fluents = fluents.items; actions = actions.items; numbers = numbers.items }) }
+        ensures { result ≡ record { fluents = fluents.items; actions = actions.items; numbers = numbers.items } }
     {
-        Sig { fluents, actions }
+        let fluents_ordered = are_ordered(&fluents);
+        let actions_ordered = are_ordered(&actions);
+        Sig {
+            fluents,
+            actions,
+            numbers,
+            fluents_ordered,
+            actions_ordered,
+        }
+    }
+
+    /// The number that an object is; none where it is no number.
+    pub fn number_of(&self, object: u32) -> Option<u32>
+        ensures { result ≡ number_at self.now.numbers object }
+    {
+        match self.numbers.get(object as usize) {
+            Some(number) => *number,
+            None => None,
+        }
     }
 
     /// How many ground fluents there are.
@@ -83,35 +109,79 @@ impl Sig {
         constant.domain.items().len() as u32
     }
 
-    /// The number of the ground constant of this symbol with these arguments, if there is one. It is searched for by
-    /// halves.
+    /// The number of the ground constant of this symbol with these arguments, if there is one. Where the constants of its kind are in
+    /// order it is searched for by halves, and else in turn.
     pub fn ground_number(&self, symbol: u32, args: &[u32]) -> Option<u32>
         ensures { result ≡ ground_number (ground_constants self.now) symbol args.now }
     {
-        match number_of(&self.fluents, &self.actions, symbol, args) {
+        match place_of(
+            &self.fluents,
+            self.fluents_ordered,
+            &self.actions,
+            self.actions_ordered,
+            symbol,
+            args,
+        ) {
             Some(number) => Some(number as u32),
             None => None,
         }
     }
 }
 
-/// The number of the constant of this symbol with these arguments, where the actions stand behind the fluents.
-fn number_of(fluents: &[Const], actions: &[Const], symbol: u32, args: &[u32]) -> Option<usize>
-    requires fluents { AreOrdered fluents.now }
-    requires actions { AreOrdered actions.now }
+/// Where the constant of this symbol with these arguments stands, where the actions stand behind the fluents.
+fn place_of(
+    fluents: &[Const],
+    fluents_ordered: bool,
+    actions: &[Const],
+    actions_ordered: bool,
+    symbol: u32,
+    args: &[u32],
+) -> Option<usize>
+    requires fluents { fluents_ordered ≡ true → AreOrdered fluents.now }
+    requires actions { actions_ordered ≡ true → AreOrdered actions.now }
     ensures { result ≡ ground_number (fluents.now ++ actions.now) symbol args.now }
 {
-    match find(fluents, symbol, args) {
+    match find(fluents, fluents_ordered, symbol, args) {
         Some(number) => Some(number),
-        None => match find(actions, symbol, args) {
+        None => match find(actions, actions_ordered, symbol, args) {
             Some(number) => Some(fluents.len() + number),
             None => None,
         },
     }
 }
 
-/// The place of the constant of this symbol with these arguments among constants in order.
-fn find(constants: &[Const], symbol: u32, args: &[u32]) -> Option<usize>
+/// Whether constants stand in the order of their symbols and arguments.
+fn are_ordered(constants: &[Const]) -> bool
+    ensures { result ≡ true → AreOrdered constants.now }
+{
+    for i in 1..constants.len() {
+        if !is_before(&constants[i - 1], &constants[i]) {
+            return false;
+        }
+    }
+    true
+}
+
+/// Whether a constant stands before another.
+fn is_before(constant: &Const, other: &Const) -> bool
+    ensures { result ≡ true → slice_cmp nat_cmp (place constant.now) (place other.now) ≡ Less }
+{
+    compare(constant, other.symbol, other.args.items()) == Ordering::Less
+}
+
+/// The place of the constant of this symbol with these arguments among constants, which may be in order.
+fn find(constants: &[Const], ordered: bool, symbol: u32, args: &[u32]) -> Option<usize>
+    requires { ordered ≡ true → AreOrdered constants.now }
+    ensures { result ≡ ground_number constants.now symbol args.now }
+{
+    if ordered {
+        find_by_halves(constants, symbol, args)
+    } else {
+        find_in_turn(constants, symbol, args)
+    }
+}
+
+fn find_by_halves(constants: &[Const], symbol: u32, args: &[u32]) -> Option<usize>
     requires { AreOrdered constants.now }
     ensures { result ≡ ground_number constants.now symbol args.now }
 {
@@ -119,6 +189,12 @@ fn find(constants: &[Const], symbol: u32, args: &[u32]) -> Option<usize>
         Ok(number) => Some(number),
         Err(_) => None,
     }
+}
+
+fn find_in_turn(constants: &[Const], symbol: u32, args: &[u32]) -> Option<usize>
+    ensures { result ≡ ground_number constants.now symbol args.now }
+{
+    constants.iter().position(|constant| constant.symbol == symbol && constant.args.items() == args)
 }
 
 /// Where a constant stands to one with this symbol and these arguments.

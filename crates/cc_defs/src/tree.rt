@@ -2,10 +2,35 @@
 use crate::{At, List};
 
 /// A constant, an object or a variable, with arguments or without; also `true`, `false` and `none`.
+#[cycle(terms)]
 #[derive(Drop)]
 pub struct TermTree<'s> {
     pub name: &'s str,
-    pub args: Vec<TermTree<'s>>,
+    pub args: Vec<SumTree<'s>>,
+}
+
+/// A piece alone, or a sum or difference of pieces, grouped to the left.
+#[cycle(terms)]
+#[derive(Drop)]
+pub struct SumTree<'s> {
+    pub first: Piece<'s>,
+    pub rest: Vec<Addend<'s>>,
+}
+
+/// A piece that is added, or taken away.
+#[cycle(terms)]
+#[derive(Drop)]
+pub struct Addend<'s> {
+    pub minus: bool,
+    pub piece: Piece<'s>,
+}
+
+/// A number, or a term.
+#[cycle(terms)]
+#[derive(Drop)]
+pub enum Piece<'s> {
+    Number(u32),
+    Name(TermTree<'s>),
 }
 
 /// A formula.
@@ -14,9 +39,17 @@ pub enum Tree<'s> {
     /// A term alone.
     Bare(TermTree<'s>),
     /// `s=t`
-    Equal(TermTree<'s>, TermTree<'s>),
+    Equal(SumTree<'s>, SumTree<'s>),
     /// `s\=t`
-    Differ(TermTree<'s>, TermTree<'s>),
+    Differ(SumTree<'s>, SumTree<'s>),
+    /// `s<t`
+    Less(SumTree<'s>, SumTree<'s>),
+    /// `s=<t`
+    AtMost(SumTree<'s>, SumTree<'s>),
+    /// `s>t`
+    More(SumTree<'s>, SumTree<'s>),
+    /// `s>=t`
+    AtLeast(SumTree<'s>, SumTree<'s>),
     /// `(F)`
     Paren(Box<Tree<'s>>),
     /// `-F`
@@ -49,7 +82,21 @@ pub enum SortItem<'s> {
     Chain(List<&'s str>),
 }
 
-/// Objects or variables of a sort.
+/// An object by its name; or the numbers from one to another, which may be the same.
+#[derive(Drop)]
+pub enum Member<'s> {
+    Name(&'s str),
+    Numbers(u32, u32),
+}
+
+/// Objects of a sort.
+#[derive(Drop)]
+pub struct ObjItem<'s> {
+    pub members: List<Member<'s>>,
+    pub sort: &'s str,
+}
+
+/// Variables of a sort.
 #[derive(Drop)]
 pub struct ListItem<'s> {
     pub names: List<&'s str>,
@@ -134,7 +181,7 @@ pub enum Part<'s> {
     /// `:- sorts ..`
     Sorts(List<SortItem<'s>>),
     /// `:- objects ..`
-    Objects(List<ListItem<'s>>),
+    Objects(List<ObjItem<'s>>),
     /// `:- variables ..`
     Variables(List<ListItem<'s>>),
     /// `:- constants ..`

@@ -2,7 +2,7 @@
 use Rattle.std.proofs.Common.{◌≡◌, ℕ, zero, suc, ◌+◌, List, [], ◌∷◌, ◌++◌, length, Option, Some, None, if◌then◌else◌, sym, ap, subst, ◌∙◌, inl, inr}
 use Rattle.cc_defs.specs.declared.refusal.Refusal.{Refusal}
 use Rattle.cc_defs.specs.Grammar.{terminals}
-use Rattle.cc_defs.specs.Statements.{is_too_long, has_not_yet, token_limit, refusal_at, IsRefused, IsParsed}
+use Rattle.cc_defs.specs.Statements.{is_too_long, token_limit, refusal_at, IsRefused, IsParsed}
 use Rattle.cc_defs.specs.Tokens.{TokenView, statements}
 use Rattle.cc_defs.specs.Trees.{PlainStatement}
 use Rattle.cc_text.specs.Laws.{OneCut, OneStop, CutsOrStops}
@@ -17,24 +17,21 @@ HasOne Inside = (number : ℕ) (name : List ℕ) (places other : List Place) →
 abbrev refused_as : ℕ → List TokenView → Refusal
 refused_as file tokens =
     if is_too_long (terminals tokens) then refusal_at 14 file (Some (token_limit (terminals tokens))) tokens
-    else (if has_not_yet (terminals tokens) then refusal_at 13 file None tokens else refusal_at 3 file None tokens)
+    else refusal_at 3 file None tokens
 
 refused_is : (file : ℕ) (tokens : List TokenView) (refusal : Refusal) → IsRefused file tokens refusal → refusal ≡ refused_as file tokens
 refused_is file tokens refusal refused =
     elim refused [
       | inl long ↦ rw long.0 long.1
-      | inr (inl not_yet) ↦ rw (not_yet.0, not_yet.1) not_yet.2
-      | inr (inr no_tree) ↦ rw (no_tree.0, no_tree.1) no_tree.3
+      | inr no_tree ↦ rw no_tree.0 no_tree.2
     ]
 
 refused_or_parsed : (file : ℕ) (tokens : List TokenView) (refusal : Refusal) (tree : PlainStatement) → IsRefused file tokens refusal → IsParsed tokens tree → ⊥
 refused_or_parsed file tokens refusal tree refused parsed =
     let short = parsed.short in
-    let known = parsed.known in
     elim refused [
       | inl long ↦ let e = long.0 in cc
-      | inr (inl not_yet) ↦ let e = not_yet.1 in cc
-      | inr (inr no_tree) ↦ no_tree.2 tree parsed.spelled
+      | inr no_tree ↦ no_tree.1 tree parsed.spelled
     ]
 
 one_behind : (Inside : ℕ → List ℕ → List Place → Type 0) → HasOne Inside → (number : ℕ) (name : Option (List ℕ)) (places other : List Place) →

@@ -1,10 +1,12 @@
 -- The base laws of places without a refusal have the forms of their kinds, and what queries ask are formulas of declared constants.
-use Rattle.std.proofs.Common.{◌≡◌, ◌∙◌, ℕ, List, [], ◌∷◌, ◌++◌, map, None, refl, sym, ap, subst, append_assoc, append-nil}
+use Rattle.std.proofs.Common.{◌≡◌, ◌∙◌, ℕ, List, [], ◌∷◌, ◌++◌, map, Option, None, Some, refl, sym, ap, subst, append_assoc, append-nil}
 use Rattle.std.specs.List.{AllByRecursion}
+use Rattle.std.specs.Option.{option_or}
 use Rattle.std.proofs.lemmas.List.Concat.{flat_map-cons}
 use Rattle.cc_defs.specs.declared.signature.Symbol.{Symbol}
 use Rattle.cc_defs.specs.Declarations.{Declaration, Declared, constants, part_declarations, symbol_of, symbols}
 use Rattle.cc_defs.specs.Forms.{HasForm, HaveForms}
+use Rattle.cc_defs.specs.declared.refusal.Refusal.{Refusal}
 use Rattle.cc_defs.specs.Resolved.{BaseLaw, Query, plain_base_law, plain_query}
 use Rattle.cc_defs.specs.Trees.{PlainPart, PlainStatement}
 use Rattle.cc_defs.specs.Trees as trees
@@ -17,9 +19,15 @@ use Rattle.cc_describe.specs.declared.description.Described.{Described}
 use Rattle.cc_describe.specs.Describing.{AsksFormulas, HasForms, IsDescribed, asked_in, laws_at, laws_behind, queries_at, queries_behind}
 use Rattle.cc_describe.specs.FirstRefusal.{declared_at, declared_in, refusal_at, statement_refusal, first_behind}
 use Rattle.cc_describe.specs.Places.{Place, Opened, Barred, Said}
-use Rattle.cc_describe.proofs.HeadsBehind.{both_none}
-use Rattle.cc_describe.proofs.Members.{each_of_both}
 use Rattle.cc_describe.proofs.PlacesAppended.{declared_in_behind}
+
+both_none : (one other : Option Refusal) → option_or one other ≡ None → (one ≡ None) × (other ≡ None)
+both_none None other e = (refl, e)
+both_none (Some refusal) other e = absurd cc
+
+each_of_both : {X : Type 0} (P : X → Type 0) (xs ys : List X) → AllByRecursion P xs → AllByRecursion P ys → AllByRecursion P (xs ++ ys)
+each_of_both P [] ys first second = second
+each_of_both P (x ∷ xs) ys first second = (first.0, each_of_both P xs ys first.1 second)
 
 -- what is declared before a place, at it and behind it
 whole_is : (before : List Place) (place : Place) (places : List Place) → (declared_in before ++ declared_at place) ++ declared_in places ≡ declared_in before ++ declared_in (place ∷ places)

@@ -1,8 +1,6 @@
 //! Laws over the definitions. Their functions call the laws that they rest on.
-ghost use Rattle.cc_describe.specs.Heads.{HeadsAreThere};
 ghost use Rattle.cc_describe.specs.Places.{HasPlaces, OneListOfPlaces};
 
-use cc_sorts::laws::{below_goes_on, declared_is_known, numbers_are_places, numbers_stay};
 use cc_syntax::laws::{one_tree, tree_or_refusal};
 use cc_text::laws::{cut_or_stop, cuts_or_stops, one_cut, one_stop, statements_are_tokens};
 
@@ -23,14 +21,4 @@ pub fn has_places()
     cut_or_stop();
     statements_are_tokens();
     tree_or_refusal();
-}
-
-/// Each base law of a description that is not refused has a head, whatever values its variables have.
-pub fn heads_are_there()
-    ensures { HeadsAreThere }
-{
-    below_goes_on();
-    declared_is_known();
-    numbers_are_places();
-    numbers_stay();
 }

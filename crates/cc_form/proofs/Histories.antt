@@ -33,15 +33,16 @@ domain_behind : (xs ys : List Const) → domain_sizes (xs ++ ys) ≡ domain_size
 domain_behind [] ys = refl
 domain_behind (x ∷ xs) ys = ap (λ (l : List ℕ). length x.domain ∷ l) (domain_behind xs ys)
 
-sizes_own : (d : Description) (h : ℕ) → (let own : Signature = record { fluents = d.universe.fluents; actions = d.universe.actions } in position_sizes own h) ≡ sizes_at d h
+sizes_own : (d : Description) (h : ℕ) → (let own : Signature = record { fluents = d.universe.fluents; actions = d.universe.actions; numbers = d.universe.numbers } in position_sizes own h) ≡ sizes_at d h
 sizes_own d zero = refl
-sizes_own d (suc h) = ap (λ (l : List ℕ). l ++ (let own : Signature = record { fluents = d.universe.fluents; actions = d.universe.actions } in position_sizes own h)) (domain_behind d.universe.fluents d.universe.actions)
+sizes_own d (suc h) = ap (λ (l : List ℕ). l ++ (let own : Signature = record { fluents = d.universe.fluents; actions = d.universe.actions; numbers = d.universe.numbers } in position_sizes own h)) (domain_behind d.universe.fluents d.universe.actions)
     ∙ ap (λ (l : List ℕ). domain_sizes d.universe.fluents ++ domain_sizes d.universe.actions ++ l) (sizes_own d h)
 
-signature_is : (d : Description) (signature : Signature) → IsSignatureOfDescription d signature → signature ≡ record { fluents = d.universe.fluents; actions = d.universe.actions }
+signature_is : (d : Description) (signature : Signature) → IsSignatureOfDescription d signature → signature ≡ record { fluents = d.universe.fluents; actions = d.universe.actions; numbers = d.universe.numbers }
 signature_is d signature of =
-    ap (λ (f : List Const). let s : Signature = record { fluents = f; actions = signature.actions } in s) of.fluents
-    ∙ ap (λ (a : List Const). let s : Signature = record { fluents = d.universe.fluents; actions = a } in s) of.actions
+    ap (λ (f : List Const). let s : Signature = record { fluents = f; actions = signature.actions; numbers = signature.numbers } in s) of.fluents
+    ∙ ap (λ (a : List Const). let s : Signature = record { fluents = d.universe.fluents; actions = a; numbers = signature.numbers } in s) of.actions
+    ∙ ap (λ (n : List (Option ℕ)). let s : Signature = record { fluents = d.universe.fluents; actions = d.universe.actions; numbers = n } in s) of.numbers
 
 pub sizes_are : (d : Description) (signature : Signature) (h : ℕ) → IsSignatureOfDescription d signature → position_sizes signature h ≡ sizes_at d h
 sizes_are d signature h of = ap (λ (s : Signature). position_sizes s h) (signature_is d signature of) ∙ sizes_own d h

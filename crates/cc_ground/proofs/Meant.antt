@@ -25,13 +25,13 @@ pub constant_by_args : (term : Term) (symbol : ℕ) (args : Vec Term) (terms : L
 constant_by_args term symbol args terms is same =
     ap (λ (l : List Term). resolved.Constant symbol (terms_of (map plain_term l))) same ∙ sym (plain_constant symbol args) ∙ sym (ap plain_term is)
 
-pub all_is : (tree inner : kept.Formula) (variable sort : ℕ) (box : Box kept.Formula) → tree ≡ kept.ForAll variable sort box → inner ≡ box.value →
-    plain_formula tree ≡ resolved.ForAll variable sort (plain_formula inner)
-all_is tree inner variable sort box is same = ap plain_formula is ∙ ap (λ f. resolved.ForAll variable sort (plain_formula f)) (sym same)
+pub all_is : (whole inner : kept.Formula) (variable sort : ℕ) (box : Box kept.Formula) → whole ≡ kept.ForAll variable sort box → inner ≡ box.value →
+    plain_formula whole ≡ resolved.ForAll variable sort (plain_formula inner)
+all_is whole inner variable sort box is same = ap plain_formula is ∙ ap (λ f. resolved.ForAll variable sort (plain_formula f)) (sym same)
 
-pub some_is : (tree inner : kept.Formula) (variable sort : ℕ) (box : Box kept.Formula) → tree ≡ kept.Exists variable sort box → inner ≡ box.value →
-    plain_formula tree ≡ resolved.Exists variable sort (plain_formula inner)
-some_is tree inner variable sort box is same = ap plain_formula is ∙ ap (λ f. resolved.Exists variable sort (plain_formula f)) (sym same)
+pub some_is : (whole inner : kept.Formula) (variable sort : ℕ) (box : Box kept.Formula) → whole ≡ kept.Exists variable sort box → inner ≡ box.value →
+    plain_formula whole ≡ resolved.Exists variable sort (plain_formula inner)
+some_is whole inner variable sort box is same = ap plain_formula is ∙ ap (λ f. resolved.Exists variable sort (plain_formula f)) (sym same)
 
 -- the head that a constant's side and a value's have
 pub head_as : (u : Universe) (env : Environment) (symbol : ℕ) (args given : List Term) (value : Term) (tree : HeadTree) (left right : Side) → tree ≡ head_trees.Atom symbol args value → given ≡ args →

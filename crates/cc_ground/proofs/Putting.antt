@@ -1,23 +1,20 @@
 -- Nodes that are put behind others, and the room that is left for them.
-use Rattle.std.proofs.Common.{◌≡◌, ◌∙◌, ℕ, ◌+◌, ◌<◌, ◌≤◌, List, [], ◌∷◌, ◌++◌, length, drop, map, get_or, position, nat_eq, slice_get, Option, Some, None, Result, Ok, Err, zero, suc, refl, sym, ap, subst, append_assoc, append-nil, length-append, arith}
+use Rattle.std.proofs.Common.{◌≡◌, ◌∙◌, ℕ, ◌+◌, ◌<◌, ◌≤◌, List, [], ◌∷◌, ◌++◌, length, drop, map, get_or, position, nat_eq, Option, Some, None, Result, Ok, Err, refl, sym, ap, subst, append_assoc, append-nil, length-append, arith}
 use Rattle.std.proofs.lemmas.List.{at_drop_more}
-use Rattle.std.specs.List.{AllByRecursion}
 use Rattle.std.specs.Result.{IfErr, OnOk, IsErrAnd}
 use Rattle.cc_defs.specs.Terms.{Ground, Operands, all_of, nothing, and_then, operand_count, operands_behind, postfix, postfixes}
 use Rattle.cc_defs.specs.Terms as terms
 use Rattle.cc_defs.specs.declared.node.Node.{Node}
-use Rattle.cc_defs.specs.declared.signature.Const.{Const}
 use Rattle.cc_defs.specs.Resolved.{Term, Formula}
-use Rattle.cc_defs.specs.Resolved as resolved
 use Rattle.cc_ground.specs.declared.maker.Halt.{Halt}
 use Rattle.cc_ground.specs.declared.maker.Halt.TheVariants as halts
 use Rattle.cc_ground.specs.declared.maker.Maker.{Maker}
 use Rattle.cc_defs.specs.Nodes.{nodes_of}
-use Rattle.cc_defs.specs.Nodes.{Side, both_have, common_values, equation, constant_side, numbered_side, side, term_of, value_side}
-use Rattle.cc_defs.specs.Universe.{Universe, constants_in, objects_of}
-use Rattle.cc_defs.specs.Satisfaction.{Environment, bind, constant_meant}
+use Rattle.cc_defs.specs.Nodes.{Side, both_have, common_values, equation, side, term_of}
+use Rattle.cc_defs.specs.Universe.{Universe, objects_of}
+use Rattle.cc_defs.specs.Satisfaction.{Environment, bind}
 use Rattle.cc_ground.specs.Bindings.{BindingsView, environment_of, with_bound}
-use Rattle.cc_ground.specs.Views.{AreSearchable, HasPut, IsLike, IsSearchable, IsSideSearchable, LacksRoom, universe_in, universe_of}
+use Rattle.cc_ground.specs.Views.{HasPut, IsLike, LacksRoom, universe_in, universe_of}
 
 -- ---- one behind another
 
@@ -40,10 +37,6 @@ put_both {xs} {ys} {a} {b} {c} f g = record {
 
 pub put_as : {xs ys : List Node} {a b : Maker} → xs ≡ ys → HasPut xs a b → HasPut ys a b
 put_as {xs} {ys} {a} {b} e f = subst (λ (l : List Node). HasPut l a b) e f
-
-pub puts_as : {T : Type 0} {xs ys : List Node} (a b : Maker) (result : Result T Halt) → OnOk result (HasPut xs a b) → xs ≡ ys → OnOk result (HasPut ys a b)
-puts_as a b (Ok done) put e = put_as e put
-puts_as a b (Err halt) put e = tt
 
 -- makers that are alike speak of the same
 pub same_universe : (a b : Maker) → b.table.now ≡ a.table.now → b.sig.now ≡ a.sig.now → universe_in a ≡ universe_in b
@@ -249,27 +242,7 @@ commons_lack {constant} {values} {other} {others} {i} found halt so within at la
     let whole = ap (λ (l : Operands). length (postfixes l)) (common_rest (Some found) so within at) in
     lacks_behind _ _ halt so.put (omega (arith, whole, length-append (postfixes so.made) (postfix one), commons_grow (and_then so.made one) constant (i + 1) (drop (i + 1) values) other others)) lacks
 
--- ---- values that can be searched
-
-found_searchable : (number : ℕ) (constants : List Const) (place : ℕ) → AllByRecursion (λ constant. IsSearchable constant.domain) constants →
-    IsSideSearchable (constant_side number (slice_get constants place))
-found_searchable number [] place all = tt
-found_searchable number (constant ∷ constants) zero all = all.0
-found_searchable number (constant ∷ constants) (suc place) all = found_searchable number constants place all.1
-
-numbered_searchable : (u : Universe) (found : Option ℕ) → AreSearchable u → IsSideSearchable (numbered_side u found)
-numbered_searchable u None all = tt
-numbered_searchable u (Some number) all = found_searchable number (constants_in u) number all
-
-value_searchable : (found : Option ℕ) → IsSideSearchable (value_side found)
-value_searchable None = tt
-value_searchable (Some value) = tt
-
-pub side_searchable : (u : Universe) (env : Environment) (term : Term) → AreSearchable u → IsSideSearchable (side u env term)
-side_searchable u env (resolved.Constant symbol args) all = numbered_searchable u (constant_meant u env symbol args) all
-side_searchable u env (resolved.Object object) all = tt
-side_searchable u env (resolved.Variable variable) all = value_searchable (env variable)
-side_searchable u env resolved.Nothing all = tt
+-- ---- two sides
 
 pub sides_as : (u : Universe) (env one other : Environment) (s t : Term) (left right : Side) → one ≡ env → other ≡ env → left ≡ side u one s → right ≡ side u other t →
     equation left right ≡ equation (side u env s) (side u env t)

@@ -1,11 +1,13 @@
 -- The conditions of a query, one behind another.
-use Rattle.std.proofs.Common.{◌≡◌, ◌∙◌, ℕ, ◌+◌, ◌<◌, ◌≤◌, List, ◌∷◌, ◌++◌, length, drop, map, get_or, Option, Some, None, unwrap_or, sym, ap, subst, arith, rules, tests}
+use Rattle.std.proofs.Common.{◌≡◌, ◌∙◌, ℕ, ◌+◌, ◌<◌, ◌≤◌, List, ◌∷◌, ◌++◌, length, drop, map, get_or, min, Option, Some, None, unwrap_or, sym, ap, subst, arith, rules, tests}
 use Rattle.std.proofs.lemmas.List.{at_drop_more}
 use Rattle.cc_arena.specs.declared.ground_laws.GroundCondition.{GroundCondition}
 use Rattle.cc_defs.specs.declared.law.Condition.{Condition as ConditionTree}
 use Rattle.cc_defs.specs.declared.refusal.Fault.{Fault}
 use Rattle.cc_defs.specs.declared.refusal.Fault.TheVariants as faults
 use Rattle.cc_defs.specs.declared.refusal.LimitAt.TheVariants as limits
+use Rattle.cc_defs.specs.declared.refusal.Refusal.{Refusal}
+use Rattle.std.specs.Option.{option_or}
 use Rattle.cc_defs.specs.Declarations.{Declaration}
 use Rattle.cc_defs.specs.Limits.{limit_number}
 use Rattle.cc_defs.specs.Resolved.{Query, plain_condition}
@@ -14,7 +16,7 @@ use Rattle.cc_sorts.specs.Tables.{TableView, IsTable, IsSignatureOf}
 use Rattle.cc_ground.specs.declared.maker.Halt.{Halt}
 use Rattle.cc_ground.specs.declared.maker.Halt.TheVariants as halts
 use Rattle.cc_ground.specs.declared.maker.Maker.{Maker}
-use Rattle.cc_ground.specs.Counting.{node_refusal, nodes_of_conditions}
+use Rattle.cc_ground.specs.Counting.{choice_refusal, node_refusal, nodes_of_conditions}
 use Rattle.cc_defs.specs.GroundLaws.{PlainGroundCondition, ground_condition, ground_query}
 use Rattle.cc_arena.specs.GroundViews.{plain_ground_condition}
 use Rattle.cc_defs.specs.Universe.{Universe, universe}
@@ -71,3 +73,21 @@ many_of count room fault many is refused = search (rules, tests)
 pub many_nodes : (count room : ℕ) (halt : Halt) (fault : Fault) → LacksRoom count room halt → halt ≡ halts.Full → room ≡ limit_number limits.GroundNodes →
     fault ≡ faults.Refused (past limits.GroundNodes) → IsRefusedBy (node_refusal count) fault
 many_nodes count room halt fault lacks full is refused = many_of count room fault (subst (LacksRoom count room) full lacks) is refused
+
+-- ---- lists of values
+
+pub few_choices : (count counted room : ℕ) → counted ≡ min count 16000001 → counted ≤ room → room ≡ limit_number limits.Choices → choice_refusal count ≡ None
+few_choices count counted room e few is = let small : count ≤ 16000000 = omega arith in search (rules, tests)
+
+pub many_choices : (count counted room : ℕ) → counted ≡ min count 16000001 → room < counted → room ≡ limit_number limits.Choices → choice_refusal count ≡ Some (past limits.Choices)
+many_choices count counted room e many is = let large : 16000000 < count = omega arith in search (rules, tests)
+
+pub both_unrefused : (choices nodes : ℕ) → choice_refusal choices ≡ None → node_refusal nodes ≡ None → option_or (choice_refusal choices) (node_refusal nodes) ≡ None
+both_unrefused choices nodes few e = ap (λ (o : Option Refusal). option_or o (node_refusal nodes)) few ∙ e
+
+pub nodes_refused : (choices nodes : ℕ) (fault : Fault) → choice_refusal choices ≡ None → IsRefusedBy (node_refusal nodes) fault → IsRefusedBy (option_or (choice_refusal choices) (node_refusal nodes)) fault
+nodes_refused choices nodes fault few refused = subst (λ (o : Option Refusal). IsRefusedBy (option_or o (node_refusal nodes)) fault) (sym few) refused
+
+pub choices_refused : (choices nodes : ℕ) (refusal : Refusal) → choice_refusal choices ≡ Some (past limits.Choices) → refusal ≡ past limits.Choices →
+    option_or (choice_refusal choices) (node_refusal nodes) ≡ Some refusal
+choices_refused choices nodes refusal many is = ap (λ (o : Option Refusal). option_or o (node_refusal nodes)) many ∙ ap Some (sym is)

@@ -1,4 +1,6 @@
 pub mod Bindings
+pub mod Choices
 pub mod Counting
 pub mod Laws
+pub mod Pieces
 pub mod Views

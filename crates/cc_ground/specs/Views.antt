@@ -1,43 +1,46 @@
 -- What a table and a signature are about, and what the makers of terms leave.
-use Rattle.std.specs.Prelude.{◌≡◌, ℕ, Bool, ◌+◌, ◌<◌, List, [], ◌∷◌, ◌++◌, length, map, flat_map, ◌==◌, if◌then◌else◌}
-use Rattle.std.specs.List.{AllByRecursion, filter}
-use Rattle.std.specs.List.Sorted.{IsStrictlySortedBy}
-use Rattle.std.specs.Ordering.{nat_cmp}
+use Rattle.std.specs.Prelude.{◌≡◌, ℕ, Bool, ◌+◌, ◌<◌, List, [], ◌++◌, length, map, flat_map}
+use Rattle.std.specs.List.{filter}
 use Rattle.cc_arena.specs.declared.ground_laws.GroundLaw.{GroundLaw}
 use Rattle.cc_defs.specs.declared.law.Range.{Range}
 use Rattle.cc_defs.specs.declared.node.Node.{Node}
 use Rattle.cc_defs.specs.Resolved.{BaseLaw, Formula, Law}
-use Rattle.cc_defs.specs.Satisfaction.{Environment, satisfied}
-use Rattle.cc_defs.specs.Signatures.{Signature, none_value}
+use Rattle.cc_defs.specs.Satisfaction.{Environment, Value as Meant, Thing, Whole, satisfied}
+use Rattle.cc_defs.specs.Signatures.{Signature}
 use Rattle.cc_sorts.specs.Tables.{TableView}
 use Rattle.cc_ground.specs.declared.maker.Halt.{Halt}
 use Rattle.cc_ground.specs.declared.maker.Halt.TheVariants as halts
 use Rattle.cc_ground.specs.declared.maker.Maker.{Maker}
 use Rattle.cc_ground.specs.declared.sides.Side.{Side as SideKept}
 use Rattle.cc_ground.specs.declared.sides.Side.TheVariants as sides
+use Rattle.cc_ground.specs.declared.sums.Value.{Value}
+use Rattle.cc_ground.specs.declared.sums.Value.TheVariants as values
 use Rattle.cc_ground.specs.Counting.{nodes_in}
 use Rattle.cc_defs.specs.Environments.{Under, choices, has_instance, instances_from, instances_of, range_values, without_constants}
 use Rattle.cc_defs.specs.GroundLaws.{PlainGroundLaw, law_of_instance}
 use Rattle.cc_arena.specs.GroundViews.{plain_ground_law}
-use Rattle.cc_defs.specs.Nodes.{Side, Constant, Value, Absent}
-use Rattle.cc_defs.specs.Universe.{Universe, constants_in}
+use Rattle.cc_defs.specs.Nodes.{Side, Constant, Value as ValueSide, Absent}
+use Rattle.cc_defs.specs.Universe.{Universe}
 
 -- what a table and a signature are about
 abbrev pub universe_of : TableView → Signature → Universe
 universe_of table signature = record {
   sorts = table.sorts.members;
+  numbers = table.numbers;
   symbols = map (λ placed. placed.symbol) table.symbols;
   fluents = signature.fluents;
   actions = signature.actions;
 }
 
--- values that can be searched by halves: objects in ascending order, with `none` before them or without
-abbrev pub IsSearchable : List ℕ → Type 0
-IsSearchable [] = Unit {0}
-IsSearchable (value ∷ values) = IsStrictlySortedBy nat_cmp (if value == none_value then values else value ∷ values)
-
-abbrev pub AreSearchable : Universe → Type 0
-AreSearchable u = AllByRecursion (λ constant. IsSearchable constant.domain) (constants_in u)
+-- what a table alone is about: there is no constant
+abbrev pub bare_universe : TableView → Universe
+bare_universe table = record {
+  sorts = table.sorts.members;
+  numbers = table.numbers;
+  symbols = map (λ placed. placed.symbol) table.symbols;
+  fluents = [];
+  actions = [];
+}
 
 -- what a maker of terms speaks of
 abbrev pub universe_in : Maker → Universe
@@ -45,12 +48,12 @@ universe_in maker = universe_of maker.table.now maker.sig.now
 
 abbrev pub plain_side : SideKept → Side
 plain_side (sides.Constant number values) = Constant number values.now
-plain_side (sides.Value value) = Value value
+plain_side (sides.Value value) = ValueSide value
 plain_side sides.Absent = Absent
 
-abbrev pub IsSideSearchable : Side → Type 0
-IsSideSearchable (Constant number values) = IsSearchable values
-IsSideSearchable other = Unit {0}
+abbrev pub plain_value : Value → Meant
+plain_value (values.Thing object) = Thing object
+plain_value (values.Whole plus minus) = Whole plus minus
 
 -- only the nodes and the room for more change
 pub record IsLike (old new : Maker) : Type 0 where

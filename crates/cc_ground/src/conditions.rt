@@ -1,51 +1,90 @@
 //! Whether the test of a law is true for values of its variables. No constant has a value in it.
-ghost use Rattle.std.specs.Prelude.{◌≡◌, IfOk, OnOk};
+ghost use Rattle.std.specs.Prelude.{◌≡◌, IfOk, OnOk, option_map};
 ghost use Rattle.std.specs.List.{list_all, list_any};
-ghost use Rattle.cc_defs.specs.Satisfaction.{bind, same_value};
+ghost use Rattle.cc_defs.specs.Satisfaction.{at_most_value, bind, less_value, same_value, satisfied};
 ghost use Rattle.cc_defs.specs.Resolved.{plain_formula, plain_term};
 ghost use Rattle.cc_defs.specs.Resolved as resolved;
-ghost use Rattle.cc_defs.specs.Signatures.{Signature};
-ghost use Rattle.cc_defs.specs.Environments.{without_constants};
-ghost use Rattle.cc_defs.specs.Satisfaction as words;
 ghost use Rattle.cc_defs.specs.Universe.{objects_of as objects_in};
 ghost use Rattle.cc_ground.specs.Bindings.{environment_of};
-ghost use Rattle.cc_ground.specs.Views.{passes_in, universe_of};
-ghost use Rattle.cc_sorts.specs.Tables.{TableView};
+ghost use Rattle.cc_ground.specs.Views.{bare_universe, plain_value};
 
 use crate::bindings::Bindings;
-use crate::values::{NONE, objects_of};
+use crate::sums::{Value, given_value, sum_of};
+use crate::values::objects_of;
 use cc_defs::{Formula, OutOfMemory, Term};
 use cc_sorts::Table;
 
-/// The value of a term that is no constant.
-fn term_value(env: &Bindings, term: &Term) -> Option<u32>
-    ensures { (table : TableView) (signature : Signature) →
-        result ≡ words.term_value (without_constants (universe_of table signature)) (environment_of env.now) (λ number. 0) (plain_term term.now) }
+/// Whether there are both values, and they are the same.
+fn is_same(one: Option<Value>, other: Option<Value>) -> Result<bool, OutOfMemory>
+    ensures { IfOk result (λ same. same ≡ same_value (option_map plain_value one) (option_map plain_value other)) }
 {
-    match term {
-        Term::Object(object) => Some(*object),
-        Term::Variable(variable) => env.value(*variable),
-        Term::Nothing => Some(NONE),
-        Term::Constant { .. } => None,
+    match (one, other) {
+        (Some(Value::Thing(one)), Some(Value::Thing(other))) => Ok(one == other),
+        (Some(Value::Whole(plus, minus)), Some(Value::Whole(other, another))) => {
+            Ok(sum_of(plus, another)? == sum_of(other, minus)?)
+        }
+        _ => Ok(false),
     }
 }
 
-/// Whether there are both values, and they are the same.
-fn is_same(one: Option<u32>, other: Option<u32>) -> bool
-    ensures { result ≡ same_value one other }
+/// Whether both are numbers, and the first is less.
+fn is_less(one: Option<Value>, other: Option<Value>) -> Result<bool, OutOfMemory>
+    ensures { IfOk result (λ less. less ≡ less_value (option_map plain_value one) (option_map plain_value other)) }
 {
     match (one, other) {
-        (Some(one), Some(other)) => one == other,
-        _ => false,
+        (Some(Value::Whole(plus, minus)), Some(Value::Whole(other, another))) => {
+            Ok(sum_of(plus, another)? < sum_of(other, minus)?)
+        }
+        _ => Ok(false),
+    }
+}
+
+/// Whether both are numbers, and the first is not greater.
+fn is_at_most(one: Option<Value>, other: Option<Value>) -> Result<bool, OutOfMemory>
+    ensures { IfOk result (λ at_most. at_most ≡ at_most_value (option_map plain_value one) (option_map plain_value other)) }
+{
+    match (one, other) {
+        (Some(Value::Whole(plus, minus)), Some(Value::Whole(other, another))) => {
+            Ok(sum_of(plus, another)? <= sum_of(other, minus)?)
+        }
+        _ => Ok(false),
     }
 }
 
 /// Whether both terms have a value, and the same.
-fn are_same(env: &Bindings, left: &Term, right: &Term) -> bool
-    ensures { (table : TableView) (signature : Signature) →
-        result ≡ passes_in (universe_of table signature) (resolved.Equal (plain_term left.now) (plain_term right.now)) (environment_of env.now) }
+#[tactic(auto, using(crate::proofs::Bare::bare_value))]
+fn are_same(table: &Table, env: &Bindings, left: &Term, right: &Term) -> Result<bool, OutOfMemory>
+    ensures { IfOk result (λ passed. passed ≡ satisfied (bare_universe table.now) (λ number. 0) (environment_of env.now) (resolved.Equal (plain_term left.now) (plain_term right.now))) }
 {
-    is_same(term_value(env, left), term_value(env, right))
+    is_same(
+        given_value(table, env, left)?,
+        given_value(table, env, right)?,
+    )
+}
+
+#[tactic(auto, using(crate::proofs::Bare::bare_value))]
+fn are_less(table: &Table, env: &Bindings, left: &Term, right: &Term) -> Result<bool, OutOfMemory>
+    ensures { IfOk result (λ passed. passed ≡ satisfied (bare_universe table.now) (λ number. 0) (environment_of env.now) (resolved.Less (plain_term left.now) (plain_term right.now))) }
+{
+    is_less(
+        given_value(table, env, left)?,
+        given_value(table, env, right)?,
+    )
+}
+
+#[tactic(auto, using(crate::proofs::Bare::bare_value))]
+fn are_at_most(
+    table: &Table,
+    env: &Bindings,
+    left: &Term,
+    right: &Term,
+) -> Result<bool, OutOfMemory>
+    ensures { IfOk result (λ passed. passed ≡ satisfied (bare_universe table.now) (λ number. 0) (environment_of env.now) (resolved.AtMost (plain_term left.now) (plain_term right.now))) }
+{
+    is_at_most(
+        given_value(table, env, left)?,
+        given_value(table, env, right)?,
+    )
 }
 
 /// Whether a formula is true for each object of a sort, or for one.
@@ -57,8 +96,8 @@ fn each_passes(
     sort: u32,
     formula: &Formula,
 ) -> Result<bool, OutOfMemory>
-    ensures passed { (signature : Signature) → IfOk result (λ passed. passed ≡
-        list_all (λ object. passes_in (universe_of table.now signature) (plain_formula formula.now) (bind variable object (environment_of env.old))) (objects_in (universe_of table.now signature) sort)) }
+    ensures passed { IfOk result (λ passed. passed ≡
+        list_all (λ object. satisfied (bare_universe table.now) (λ number. 0) (bind variable object (environment_of env.old)) (plain_formula formula.now)) (objects_in (bare_universe table.now) sort)) }
     ensures env { OnOk result (env.new ≡ env.old) }
 {
     for object in objects_of(table, sort) {
@@ -80,8 +119,8 @@ fn some_passes(
     sort: u32,
     formula: &Formula,
 ) -> Result<bool, OutOfMemory>
-    ensures passed { (signature : Signature) → IfOk result (λ passed. passed ≡
-        list_any (λ object. passes_in (universe_of table.now signature) (plain_formula formula.now) (bind variable object (environment_of env.old))) (objects_in (universe_of table.now signature) sort)) }
+    ensures passed { IfOk result (λ passed. passed ≡
+        list_any (λ object. satisfied (bare_universe table.now) (λ number. 0) (bind variable object (environment_of env.old)) (plain_formula formula.now)) (objects_in (bare_universe table.now) sort)) }
     ensures env { OnOk result (env.new ≡ env.old) }
 {
     for object in objects_of(table, sort) {
@@ -102,13 +141,15 @@ pub(crate) fn passes(
     env: &mut Bindings,
     formula: &Formula,
 ) -> Result<bool, OutOfMemory>
-    ensures passed { (signature : Signature) → IfOk result (λ passed. passed ≡ passes_in (universe_of table.now signature) (plain_formula formula.now) (environment_of env.old)) }
+    ensures passed { IfOk result (λ passed. passed ≡ satisfied (bare_universe table.now) (λ number. 0) (environment_of env.old) (plain_formula formula.now)) }
     ensures env { OnOk result (env.new ≡ env.old) }
 {
     match formula {
         Formula::True => Ok(true),
         Formula::False => Ok(false),
-        Formula::Equal(left, right) => Ok(are_same(env, left, right)),
+        Formula::Equal(left, right) => are_same(table, env, left, right),
+        Formula::Less(left, right) => are_less(table, env, left, right),
+        Formula::AtMost(left, right) => are_at_most(table, env, left, right),
         Formula::Not(inner) => Ok(!passes(table, env, inner)?),
         Formula::Both(left, right) => Ok(passes(table, env, left)? && passes(table, env, right)?),
         Formula::Either(left, right) => Ok(passes(table, env, left)? || passes(table, env, right)?),

@@ -9,68 +9,34 @@ ghost use Rattle.cc_defs.specs.Forms.{HaveForms};
 ghost use Rattle.cc_defs.specs.GroundLaws as words;
 ghost use Rattle.cc_defs.specs.Nodes.{nodes_of};
 ghost use Rattle.cc_defs.specs.Refusals.{IsRefusedBy};
-ghost use Rattle.cc_defs.specs.Resolved.{plain_base_law, plain_formula, plain_head, plain_law};
+ghost use Rattle.cc_defs.specs.Resolved.{plain_base_law, plain_formula, plain_law};
 ghost use Rattle.cc_defs.specs.Universe.{boolean_actions, universe};
 ghost use Rattle.cc_sorts.specs.Tables.{IsTable, IsSignatureOf};
 ghost use Rattle.cc_ground.specs.Bindings.{environment_of, no_bindings};
 ghost use Rattle.cc_ground.specs.Counting.{length_of_part, laws_refusal, nodes_in};
-ghost use Rattle.cc_ground.specs.Views.{AreSearchable, HasMade, IsLike, IsSideSearchable, LacksRoom, laws_behind, laws_of, laws_under, plain_side, universe_in, universe_of};
+ghost use Rattle.cc_ground.specs.Views.{HasMade, IsLike, LacksRoom, laws_behind, laws_of, laws_under, universe_in, universe_of};
 ghost use Rattle.cc_sorts.specs.Tables.{IsSignatureFor};
 
+use crate::choosing::choices_of_laws;
 use crate::conditions::passes;
 use crate::counting::{choice_count, count_all};
+use crate::heads::head_under;
 use crate::laws::{
     declared_have_own_values, declared_have_their_kinds, declared_have_their_values,
 };
 use crate::maker::{Halt, Maker, narrow};
 use crate::pairs::boolean_actions_of;
-use crate::sides::{Side, constant_side, term_side};
-use crate::values::{index_in, values_in_range};
+use crate::values::values_in_range;
 use cc_arena::laws::{ground_laws_fit, ground_laws_mean_laws, heads_there_are_ground};
 use cc_arena::{GroundLaw, Laws, Terms};
 use cc_defs::{
-    BaseLaw, BaseLaws, Fault, Formula, GroundHead, Head, Law, LimitAt, Node, OutOfMemory, Range,
-    Refusal, Sig,
+    BaseLaw, BaseLaws, Fault, Formula, GroundHead, Law, LimitAt, Node, OutOfMemory, Range, Refusal,
+    Sig,
 };
 use cc_sorts::Table;
 use std::alloc::Global;
 
-/// The head that a constant has a value.
-fn head_of_sides(left: Side<'_>, right: Side<'_>) -> Result<Option<GroundHead>, OutOfMemory>
-    requires { IsSideSearchable (plain_side left) }
-    ensures { IfOk result (λ head. head ≡ words.head_of_sides (plain_side left.entry) (plain_side right.entry)) }
-{
-    let (Side::Constant { number, values }, Side::Value(value)) = (left, right) else {
-        return Ok(None);
-    };
-    let Some(index) = index_in(values, value) else {
-        return Ok(None);
-    };
-    Ok(Some(GroundHead::Atom {
-        constant: number,
-        value: narrow(index)?,
-    }))
-}
-
 impl<'t> Maker<'t> {
-    /// The head of a law under the environment, if there is one.
-    fn head(&self, alloc: Global, head: &Head) -> Result<Option<GroundHead>, OutOfMemory>
-        requires { AreSearchable (universe_in self.now) }
-        ensures { IfOk result (λ found. found ≡ words.ground_head (universe_in self.now) (environment_of self.now.env) (plain_head head.now)) }
-    {
-        let Head::Atom {
-            symbol,
-            args,
-            value,
-        } = head
-        else {
-            return Ok(Some(GroundHead::Falsity));
-        };
-        let left = constant_side(alloc, self.sig, &self.env, *symbol, args.items())?;
-        let right = term_side(alloc, self.sig, &self.env, value)?;
-        head_of_sides(left, right)
-    }
-
     /// The term of a part of a law that may be missing.
     fn part<'a>(
         &mut self,
@@ -78,7 +44,6 @@ impl<'t> Maker<'t> {
         terms: Terms<'a>,
         part: &Option<Formula>,
     ) -> Result<Option<&'a [Node]>, Halt>
-        requires { AreSearchable (universe_in self.now) }
         ensures term { IfOk result (λ term. option_map (λ nodes. nodes.now) term ≡ option_map (λ f. nodes_of (universe_in self.old) (environment_of self.old.env) (plain_formula f)) part.now) }
         ensures room { OnOk result (self.new.room + length_of_part (option_map (λ f. nodes_of (universe_in self.old) (environment_of self.old.env) (plain_formula f)) part.now) ≡ self.old.room) }
         ensures like { OnOk result (IsLike self.old self.new) }
@@ -100,7 +65,6 @@ impl<'t> Maker<'t> {
         law: &Law,
         head: GroundHead,
     ) -> Result<(), Halt>
-        requires { AreSearchable (universe_in self.now) }
         ensures made { OnOk result (HasMade (words.law_with (universe_in self.old) base (plain_law law.now) (environment_of self.old.env) (Some head)) made.old.items made.new.items self.old self.new) }
         ensures full { IfErr result (LacksRoom (nodes_in (words.law_with (universe_in self.old) base (plain_law law.now) (environment_of self.old.env) (Some head))) self.old.room) }
     {
@@ -126,8 +90,7 @@ impl<'t> Maker<'t> {
         base: u32,
         law: &Law,
     ) -> Result<(), Halt>
-        requires searchable { AreSearchable (universe_in self.now) }
-        requires unbound { self.now.env.bound ≡ [] }
+        requires { self.now.env.bound ≡ [] }
         ensures made { OnOk result (HasMade (laws_under (universe_in self.old) base (plain_law law.now) (self.old.env.values ∷ [])) made.old.items made.new.items self.old self.new) }
         ensures full { IfErr result (LacksRoom (nodes_in (laws_under (universe_in self.old) base (plain_law law.now) (self.old.env.values ∷ []))) self.old.room) }
     {
@@ -135,7 +98,7 @@ impl<'t> Maker<'t> {
         if !passes(self.table, &mut self.env, &law.test)? {
             return Ok(());
         }
-        match self.head(alloc, &law.head)? {
+        match head_under(alloc, self.table, self.sig, &self.env, &law.head)? {
             Some(head) => self.add_law(alloc, terms, made, base, law, head),
             None => Ok(()),
         }
@@ -151,8 +114,7 @@ impl<'t> Maker<'t> {
         law: &Law,
         ranges: &[Range],
     ) -> Result<(), Halt>
-        requires searchable { AreSearchable (universe_in self.now) }
-        requires unbound { self.now.env.bound ≡ [] }
+        requires { self.now.env.bound ≡ [] }
         ensures made { OnOk result (HasMade (laws_behind (universe_in self.old) base (plain_law law.now) self.old.env.values ranges.now) made.old.items made.new.items self.old self.new) }
         ensures full { IfErr result (LacksRoom (nodes_in (laws_behind (universe_in self.old) base (plain_law law.now) self.old.env.values ranges.now)) self.old.room) }
     {
@@ -177,8 +139,7 @@ impl<'t> Maker<'t> {
         base: u32,
         law: &Law,
     ) -> Result<(), Halt>
-        requires searchable { AreSearchable (universe_in self.now) }
-        requires empty { self.now.env ≡ no_bindings }
+        requires { self.now.env ≡ no_bindings }
         ensures made { OnOk result (HasMade (laws_behind (universe_in self.old) base (plain_law law.now) [] law.now.ranges) made.old.items made.new.items self.old self.new) }
         ensures full { IfErr result (LacksRoom (nodes_in (laws_behind (universe_in self.old) base (plain_law law.now) [] law.now.ranges)) self.old.room) }
     {
@@ -198,7 +159,6 @@ impl<'t> Maker<'t> {
         actions: &[u32],
         law: &BaseLaw,
     ) -> Result<(), Halt>
-        requires searchable { AreSearchable (universe_in self.now) }
         requires empty { self.now.env ≡ no_bindings }
         requires actions { actions.now ≡ boolean_actions (universe_in self.now) }
         ensures made { OnOk result (HasMade (laws_of (universe_in self.old) base (plain_base_law law.now)) made.old.items made.new.items self.old self.new) }
@@ -219,7 +179,6 @@ impl<'t> Maker<'t> {
         actions: &[u32],
         laws: &[BaseLaw],
     ) -> Result<(), Halt>
-        requires searchable { AreSearchable (universe_in self.now) }
         requires empty { self.now.env ≡ no_bindings }
         requires actions { actions.now ≡ boolean_actions (universe_in self.now) }
         ensures made { OnOk result (HasMade (words.ground_laws (universe_in self.old) (map plain_base_law laws.now)) made.old.items made.new.items self.old self.new) }
@@ -249,6 +208,9 @@ fn ground_laws<'a>(
     if count_all(table, sig, &actions, laws.items()) > LimitAt::LawInstances.number() as usize {
         return Err(Fault::Refused(Refusal::past(LimitAt::LawInstances)));
     }
+    if choices_of_laws(alloc, table, sig, laws.items())? > LimitAt::Choices.number() as usize {
+        return Err(Fault::Refused(Refusal::past(LimitAt::Choices)));
+    }
     let mut made = Vec::new(alloc);
     let mut maker = Maker::new(alloc, table, sig, LimitAt::GroundNodes.number() as usize);
     match maker.add_all(alloc, *terms, &mut made, &actions, laws.items()) {
@@ -264,8 +226,8 @@ fn ground_laws<'a>(
 /// `noconcurrency` has one for each two Boolean actions. Each part of a ground law is true exactly where that of its base law
 /// is satisfied. Laws of base laws that have the forms of their kinds have these forms too.
 /// Terms are placed in the arena; none is longer than what is left of the limit of ground nodes.
-/// Refuses more than 1,000,000 lists of values before the tests (14, law instances), then more than 16,000,000 nodes (14,
-/// ground nodes).
+/// Refuses more than 1,000,000 lists of values before the tests (14, law instances), then more than 16,000,000 lists of values of
+/// the constants of equations with sums and of comparisons (14, choices), then more than 16,000,000 nodes (14, ground nodes).
 pub fn ground<'a>(
     alloc: Global,
     table: &Table,

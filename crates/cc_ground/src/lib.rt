@@ -4,14 +4,19 @@
 #![tactic(auto)]
 
 mod bindings;
+mod choosing;
 mod conditions;
 mod counting;
+mod heads;
 mod instances;
+mod judged;
 pub mod laws;
 mod maker;
 mod pairs;
+mod pieces;
 mod queries;
 mod sides;
+mod sums;
 mod values;
 
 pub use instances::ground;

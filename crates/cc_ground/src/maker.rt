@@ -9,9 +9,10 @@ ghost use Rattle.cc_defs.specs.Nodes as words;
 ghost use Rattle.cc_defs.specs.Universe.{objects_of as objects_in};
 ghost use Rattle.cc_defs.specs.Satisfaction.{bind};
 ghost use Rattle.cc_ground.specs.Bindings.{environment_of, no_bindings};
-ghost use Rattle.cc_ground.specs.Views.{AreSearchable, HasPut, IsLike, IsSearchable, IsSideSearchable, LacksRoom, plain_side, universe_in};
+ghost use Rattle.cc_ground.specs.Views.{HasPut, IsLike, LacksRoom, plain_side, universe_in};
 
 use crate::bindings::Bindings;
+use crate::pieces::{Sign, has_sum};
 use crate::sides::{Side, term_side};
 use crate::values::{index_in, objects_of};
 use cc_arena::Terms;
@@ -101,7 +102,6 @@ impl<'t> Maker<'t> {
 
     /// A constant has a value, which may be none of its own.
     fn put_atom(&mut self, constant: u32, values: &[u32], value: u32) -> Result<(), Halt>
-        requires { IsSearchable values.now }
         ensures put { OnOk result (HasPut (postfix (words.atom constant values.now value)) self.old self.new) }
         ensures full { IfErr result (LacksRoom (length (postfix (words.atom constant values.now value))) self.old.room) }
     {
@@ -141,7 +141,6 @@ impl<'t> Maker<'t> {
         other: u32,
         others: &[u32],
     ) -> Result<u32, Halt>
-        requires { IsSearchable others.now }
         ensures put { OnOk result (HasPut (postfixes (operands_behind nothing (words.common_values constant 0 values.now other others.now))) self.old self.new) }
         ensures count { IfOk result (λ count. count ≡ operand_count (operands_behind nothing (words.common_values constant 0 values.now other others.now))) }
         ensures full { IfErr result (LacksRoom (length (postfixes (operands_behind nothing (words.common_values constant 0 values.now other others.now)))) self.old.room) }
@@ -164,7 +163,6 @@ impl<'t> Maker<'t> {
         other: u32,
         others: &[u32],
     ) -> Result<(), Halt>
-        requires { IsSearchable others.now }
         ensures put { OnOk result (HasPut (postfix (words.equation (words.Constant constant values.now) (words.Constant other others.now))) self.old self.new) }
         ensures full { IfErr result (LacksRoom (length (postfix (words.equation (words.Constant constant values.now) (words.Constant other others.now)))) self.old.room) }
     {
@@ -174,8 +172,6 @@ impl<'t> Maker<'t> {
 
     /// The equation of two sides.
     fn put_sides(&mut self, left: Side<'_>, right: Side<'_>) -> Result<(), Halt>
-        requires left { IsSideSearchable (plain_side left) }
-        requires right { IsSideSearchable (plain_side right) }
         ensures put { OnOk result (HasPut (postfix (words.equation (plain_side left.entry) (plain_side right.entry))) self.old self.new) }
         ensures full { IfErr result (LacksRoom (length (postfix (words.equation (plain_side left.entry) (plain_side right.entry)))) self.old.room) }
     {
@@ -186,8 +182,10 @@ impl<'t> Maker<'t> {
             } else {
                 Node::False
             }),
-            (Side::Constant { number, values }, Side::Value(value))
-            | (Side::Value(value), Side::Constant { number, values }) => {
+            (Side::Constant { number, values }, Side::Value(value)) => {
+                self.put_atom(number, values, value)
+            }
+            (Side::Value(value), Side::Constant { number, values }) => {
                 self.put_atom(number, values, value)
             }
             (
@@ -201,13 +199,23 @@ impl<'t> Maker<'t> {
     }
 
     fn put_equation(&mut self, alloc: Global, left: &Term, right: &Term) -> Result<(), Halt>
-        requires { AreSearchable (universe_in self.now) }
+        ensures put { OnOk result (HasPut (postfix (words.equation (words.side (universe_in self.old) (environment_of self.old.env) (plain_term left.now)) (words.side (universe_in self.old) (environment_of self.old.env) (plain_term right.now)))) self.old self.new) }
+        ensures full { IfErr result (LacksRoom (length (postfix (words.equation (words.side (universe_in self.old) (environment_of self.old.env) (plain_term left.now)) (words.side (universe_in self.old) (environment_of self.old.env) (plain_term right.now))))) self.old.room) }
+    {
+        let left = term_side(alloc, self.table, self.sig, &self.env, left)?;
+        let right = term_side(alloc, self.table, self.sig, &self.env, right)?;
+        self.put_sides(left, right)
+    }
+
+    /// An equation, which is judged where it has a sum.
+    fn put_equal(&mut self, alloc: Global, left: &Term, right: &Term) -> Result<(), Halt>
         ensures put { OnOk result (HasPut (nodes_of (universe_in self.old) (environment_of self.old.env) (resolved.Equal (plain_term left.now) (plain_term right.now))) self.old self.new) }
         ensures full { IfErr result (LacksRoom (length (nodes_of (universe_in self.old) (environment_of self.old.env) (resolved.Equal (plain_term left.now) (plain_term right.now)))) self.old.room) }
     {
-        let left = term_side(alloc, self.sig, &self.env, left)?;
-        let right = term_side(alloc, self.sig, &self.env, right)?;
-        self.put_sides(left, right)
+        if has_sum(left, right) {
+            return self.put_judged(alloc, Sign::Equal, left, right);
+        }
+        self.put_equation(alloc, left, right)
     }
 
     /// The instances of a formula, one for each object of a sort. Answers how many there are.
@@ -219,7 +227,6 @@ impl<'t> Maker<'t> {
         sort: u32,
         formula: &Formula,
     ) -> Result<u32, Halt>
-        requires { AreSearchable (universe_in self.now) }
         ensures put { OnOk result (HasPut (postfixes (operands_behind nothing (map (λ object. words.term_of (universe_in self.old) (bind variable object (environment_of self.old.env)) (plain_formula formula.now)) (objects_in (universe_in self.old) sort)))) self.old self.new) }
         ensures count { IfOk result (λ count. count ≡ length (objects_in (universe_in self.old) sort)) }
         ensures full { IfErr result (LacksRoom (length (postfixes (operands_behind nothing (map (λ object. words.term_of (universe_in self.old) (bind variable object (environment_of self.old.env)) (plain_formula formula.now)) (objects_in (universe_in self.old) sort))))) self.old.room) }
@@ -236,14 +243,15 @@ impl<'t> Maker<'t> {
     /// The nodes of a formula under the environment, behind those that are there.
     #[cycle(formula)]
     pub(crate) fn put(&mut self, alloc: Global, formula: &Formula) -> Result<(), Halt>
-        requires { AreSearchable (universe_in self.now) }
         ensures put { OnOk result (HasPut (nodes_of (universe_in self.old) (environment_of self.old.env) (plain_formula formula.now)) self.old self.new) }
         ensures full { IfErr result (LacksRoom (length (nodes_of (universe_in self.old) (environment_of self.old.env) (plain_formula formula.now))) self.old.room) }
     {
         match formula {
             Formula::True => self.push(Node::True),
             Formula::False => self.push(Node::False),
-            Formula::Equal(left, right) => self.put_equation(alloc, left, right),
+            Formula::Equal(left, right) => self.put_equal(alloc, left, right),
+            Formula::Less(left, right) => self.put_judged(alloc, Sign::Less, left, right),
+            Formula::AtMost(left, right) => self.put_judged(alloc, Sign::AtMost, left, right),
             Formula::Not(inner) => {
                 self.put(alloc, inner)?;
                 self.push(Node::Not)
@@ -287,7 +295,6 @@ impl<'t> Maker<'t> {
         terms: Terms<'a>,
         formula: &Formula,
     ) -> Result<&'a [Node], Halt>
-        requires { AreSearchable (universe_in self.now) }
         ensures term { IfOk result (λ term. term.now ≡ nodes_of (universe_in self.old) (environment_of self.old.env) (plain_formula formula.now)) }
         ensures room { OnOk result (self.new.room + length (nodes_of (universe_in self.old) (environment_of self.old.env) (plain_formula formula.now)) ≡ self.old.room) }
         ensures like { OnOk result (IsLike self.old self.new) }

@@ -7,14 +7,15 @@ ghost use Rattle.cc_sorts.specs.Tables.{IsTable, IsSignatureOf};
 ghost use Rattle.cc_defs.specs.Conditions.{IsGroundQuery};
 ghost use Rattle.cc_defs.specs.Refusals.{IsRefusedBy};
 ghost use Rattle.cc_ground.specs.Bindings.{no_bindings};
-ghost use Rattle.cc_ground.specs.Counting.{node_refusal, nodes_in_query, nodes_of_claim, nodes_of_conditions};
+ghost use Rattle.cc_ground.specs.Counting.{nodes_in_query, nodes_of_claim, nodes_of_conditions, query_refusal};
 ghost use Rattle.cc_defs.specs.GroundLaws as words;
 ghost use Rattle.cc_arena.specs.Meanings.{MeansQuery};
 ghost use Rattle.cc_defs.specs.Universe.{universe};
 ghost use Rattle.cc_arena.specs.GroundViews.{plain_ground_condition, plain_ground_query};
-ghost use Rattle.cc_ground.specs.Views.{AreSearchable, IsLike, LacksRoom, universe_in, universe_of};
+ghost use Rattle.cc_ground.specs.Views.{IsLike, LacksRoom, universe_in, universe_of};
 ghost use Rattle.cc_sorts.specs.Tables.{IsSignatureFor};
 
+use crate::choosing::choices_of_asked;
 use crate::laws::declared_have_own_values;
 use crate::maker::{Halt, Maker};
 use cc_arena::laws::{ground_queries_fit, ground_queries_mean_queries};
@@ -31,8 +32,7 @@ impl<'t> Maker<'t> {
         terms: Terms<'a>,
         condition: &Condition,
     ) -> Result<GroundCondition<'a>, Halt>
-        requires searchable { AreSearchable (universe_in self.now) }
-        requires empty { self.now.env ≡ no_bindings }
+        requires { self.now.env ≡ no_bindings }
         ensures made { IfOk result (λ made. plain_ground_condition made ≡ words.ground_condition (universe_in self.old) (plain_condition condition.now)) }
         ensures room { OnOk result (self.new.room + length (words.ground_condition (universe_in self.old) (plain_condition condition.now)).nodes ≡ self.old.room) }
         ensures like { OnOk result (IsLike self.old self.new) }
@@ -51,8 +51,7 @@ impl<'t> Maker<'t> {
         terms: Terms<'a>,
         conditions: &[Condition],
     ) -> Result<Vec<GroundCondition<'a>>, Halt>
-        requires searchable { AreSearchable (universe_in self.now) }
-        requires empty { self.now.env ≡ no_bindings }
+        requires { self.now.env ≡ no_bindings }
         ensures made { IfOk result (λ made. map plain_ground_condition made.items ≡ map (words.ground_condition (universe_in self.old)) (map plain_condition conditions.now)) }
         ensures room { OnOk result (self.new.room + nodes_of_conditions (map (words.ground_condition (universe_in self.old)) (map plain_condition conditions.now)) ≡ self.old.room) }
         ensures like { OnOk result (IsLike self.old self.new) }
@@ -72,8 +71,7 @@ impl<'t> Maker<'t> {
         terms: Terms<'a>,
         claim: &Option<Condition>,
     ) -> Result<Option<GroundCondition<'a>>, Halt>
-        requires searchable { AreSearchable (universe_in self.now) }
-        requires empty { self.now.env ≡ no_bindings }
+        requires { self.now.env ≡ no_bindings }
         ensures made { IfOk result (λ made. option_map plain_ground_condition made ≡ option_map (words.ground_condition (universe_in self.old)) (option_map plain_condition claim.now)) }
         ensures full { IfErr result (LacksRoom (nodes_of_claim (option_map (words.ground_condition (universe_in self.old)) (option_map plain_condition claim.now))) self.old.room) }
         ensures within { OnOk result (nodes_of_claim (option_map (words.ground_condition (universe_in self.old)) (option_map plain_condition claim.now)) ≤ self.old.room) }
@@ -92,8 +90,7 @@ impl<'t> Maker<'t> {
         range: (u32, u32),
         query: &Query,
     ) -> Result<GroundQuery<'a>, Halt>
-        requires searchable { AreSearchable (universe_in self.now) }
-        requires empty { self.now.env ≡ no_bindings }
+        requires { self.now.env ≡ no_bindings }
         ensures made { IfOk result (λ made. plain_ground_query made ≡ words.ground_query (universe_in self.old) range (plain_query query.now)) }
         ensures within { OnOk result (nodes_in_query (words.ground_query (universe_in self.old) range (plain_query query.now)) ≤ self.old.room) }
         ensures full { IfErr result (LacksRoom (nodes_in_query (words.ground_query (universe_in self.old) range (plain_query query.now))) self.old.room) }
@@ -111,7 +108,8 @@ impl<'t> Maker<'t> {
 
 /// The ground query of a query that has its range of horizons. Its conditions and its claim have the terms of their formulas,
 /// which are true exactly where these are satisfied.
-/// Refuses more than 16,000,000 nodes of these (14, ground nodes).
+/// Refuses more than 16,000,000 lists of values of the constants of equations with sums and of comparisons (14, choices), then more than
+/// 16,000,000 nodes of these (14, ground nodes).
 pub fn ground_query<'a>(
     alloc: Global,
     table: &Table,
@@ -124,9 +122,9 @@ pub fn ground_query<'a>(
     ensures made { (declarations : Items Declaration) (range : ℕ × ℕ) → IsTable table.now declarations → IsSignatureOf declarations sig.now → query.now.range ≡ Some range →
         IfOk result (λ made. plain_ground_query made ≡ words.ground_query (universe declarations) range (plain_query query.now)) }
     ensures unrefused { (declarations : Items Declaration) (range : ℕ × ℕ) → IsTable table.now declarations → IsSignatureOf declarations sig.now → query.now.range ≡ Some range →
-        OnOk result (node_refusal (nodes_in_query (words.ground_query (universe declarations) range (plain_query query.now))) ≡ None) }
+        OnOk result (query_refusal (universe declarations) range (plain_query query.now) ≡ None) }
     ensures refused { (declarations : Items Declaration) (range : ℕ × ℕ) → IsTable table.now declarations → IsSignatureOf declarations sig.now → query.now.range ≡ Some range →
-        IfErr result (IsRefusedBy (node_refusal (nodes_in_query (words.ground_query (universe declarations) range (plain_query query.now))))) }
+        IfErr result (IsRefusedBy (query_refusal (universe declarations) range (plain_query query.now))) }
     ensures meant { (declarations : Items Declaration) (range : ℕ × ℕ) → IsTable table.now declarations → IsSignatureOf declarations sig.now → query.now.range ≡ Some range →
         IfOk result (λ made. MeansQuery (universe declarations) (plain_query query.now) (plain_ground_query made)) }
     ensures fits { (declarations : Items Declaration) (range : ℕ × ℕ) → IsTable table.now declarations → IsSignatureOf declarations sig.now → query.now.range ≡ Some range →
@@ -136,6 +134,9 @@ pub fn ground_query<'a>(
     ground_queries_mean_queries();
     ground_queries_fit();
     let range = query.range.unwrap_or((0, 0));
+    if choices_of_asked(alloc, table, sig, query)? > LimitAt::Choices.number() as usize {
+        return Err(Fault::Refused(Refusal::past(LimitAt::Choices)));
+    }
     let mut maker = Maker::new(alloc, table, sig, LimitAt::GroundNodes.number() as usize);
     match maker.query(alloc, *terms, range, query) {
         Ok(made) => Ok(made),

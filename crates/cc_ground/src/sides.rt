@@ -1,15 +1,16 @@
 //! Terms under an environment, and the sides of equations.
-ghost use Rattle.std.specs.Prelude.{◌≡◌, IfOk, length, map, nat_lt, option_map};
+ghost use Rattle.std.specs.Prelude.{◌≡◌, IfOk, length, map, nat_lt, option_and_then, option_map};
 ghost use Rattle.cc_defs.specs.Signatures.{ground_constants};
 ghost use Rattle.cc_defs.specs.Resolved.{plain_term, terms_of};
 ghost use Rattle.cc_defs.specs.Resolved as resolved;
-ghost use Rattle.cc_defs.specs.Nodes.{side as side_of, numbered_side as numbered};
+ghost use Rattle.cc_defs.specs.Nodes.{side as side_of, numbered_side as numbered, value_side as side_with};
 ghost use Rattle.cc_sorts.specs.Tables.{TableView};
 ghost use Rattle.cc_defs.specs.Satisfaction as words;
 ghost use Rattle.cc_ground.specs.Bindings.{environment_of};
-ghost use Rattle.cc_ground.specs.Views.{universe_of, plain_side};
+ghost use Rattle.cc_ground.specs.Views.{bare_universe, universe_of, plain_side};
 
 use crate::bindings::Bindings;
+use crate::sums::object_given;
 use crate::values::NONE;
 use cc_defs::{OutOfMemory, Sig, Term};
 use cc_sorts::Table;
@@ -27,23 +28,32 @@ pub(crate) enum Side<'t> {
 }
 
 /// The object that an argument stands for.
-fn argument(env: &Bindings, term: &Term) -> Option<u32>
-    ensures { result ≡ words.argument (environment_of env.now) (plain_term term.now) }
+fn argument(table: &Table, env: &Bindings, term: &Term) -> Result<Option<u32>, OutOfMemory>
+    ensures { IfOk result (λ found. found ≡ words.argument (bare_universe table.now) (environment_of env.now) (plain_term term.now)) }
 {
     match term {
-        Term::Object(object) => Some(*object),
-        Term::Variable(variable) => env.value(*variable),
-        Term::Constant { .. } | Term::Nothing => None,
+        Term::Object(object) => Ok(Some(*object)),
+        Term::Variable(variable) => Ok(env.value(*variable)),
+        Term::Constant { .. } => Ok(None),
+        Term::Nothing => Ok(None),
+        Term::Number(_) => object_given(table, env, term),
+        Term::Plus(..) => object_given(table, env, term),
+        Term::Minus(..) => object_given(table, env, term),
     }
 }
 
 /// The objects that arguments stand for, where all of them stand for one.
-fn arguments(alloc: Global, env: &Bindings, terms: &[Term]) -> Result<Option<Vec<u32>>, OutOfMemory>
-    ensures { IfOk result (λ found. option_map (λ args. args.items) found ≡ words.arguments (environment_of env.now) (terms_of (map plain_term terms.now))) }
+fn arguments(
+    alloc: Global,
+    table: &Table,
+    env: &Bindings,
+    terms: &[Term],
+) -> Result<Option<Vec<u32>>, OutOfMemory>
+    ensures { IfOk result (λ found. option_map (λ args. args.items) found ≡ words.arguments (bare_universe table.now) (environment_of env.now) (terms_of (map plain_term terms.now))) }
 {
     let mut args = Vec::with_capacity(alloc, terms.len())?;
     for term in terms {
-        let Some(object) = argument(env, term) else {
+        let Some(object) = argument(table, env, term)? else {
             return Ok(None);
         };
         args.push(object)?;
@@ -51,24 +61,26 @@ fn arguments(alloc: Global, env: &Bindings, terms: &[Term]) -> Result<Option<Vec
     Ok(Some(args))
 }
 
-/// The number of the ground constant of this symbol with these arguments, where there is one.
-fn constant_meant(
+/// The number of the ground constant that a constant with its arguments stands for.
+#[tactic(auto, using(crate::proofs::Bare::arguments_same))]
+pub(crate) fn constant_meant(
     alloc: Global,
+    table: &Table,
     sig: &Sig,
     env: &Bindings,
     symbol: u32,
     terms: &[Term],
 ) -> Result<Option<u32>, OutOfMemory>
-    ensures { (table : TableView) → IfOk result (λ found. found ≡ words.constant_meant (universe_of table sig.now) (environment_of env.now) symbol (terms_of (map plain_term terms.now))) }
+    ensures { IfOk result (λ found. found ≡ words.constant_meant (universe_of table.now sig.now) (environment_of env.now) symbol (terms_of (map plain_term terms.now))) }
 {
-    match arguments(alloc, env, terms)? {
+    match arguments(alloc, table, env, terms)? {
         Some(args) => Ok(sig.ground_number(symbol, &args)),
         None => Ok(None),
     }
 }
 
 /// Whether there is a ground constant with the number.
-fn is_constant(sig: &Sig, number: u32) -> bool
+pub(crate) fn is_constant(sig: &Sig, number: u32) -> bool
     ensures { result ≡ nat_lt number (length (ground_constants sig.now)) }
 {
     u64::from(number) < u64::from(sig.fluents()) + u64::from(sig.actions())
@@ -90,32 +102,57 @@ fn numbered_side<'t>(sig: &'t Sig, found: Option<u32>) -> Side<'t>
 /// The side that a constant with arguments stands for.
 pub(crate) fn constant_side<'t>(
     alloc: Global,
+    table: &Table,
     sig: &'t Sig,
     env: &Bindings,
     symbol: u32,
     terms: &[Term],
 ) -> Result<Side<'t>, OutOfMemory>
-    ensures { (table : TableView) → IfOk result (λ side. plain_side side ≡ side_of (universe_of table sig.now) (environment_of env.now) (resolved.Constant symbol (terms_of (map plain_term terms.now)))) }
+    ensures { IfOk result (λ side. plain_side side ≡ side_of (universe_of table.now sig.now) (environment_of env.now) (resolved.Constant symbol (terms_of (map plain_term terms.now)))) }
 {
-    Ok(numbered_side(sig, constant_meant(alloc, sig, env, symbol, terms)?))
+    Ok(numbered_side(sig, constant_meant(alloc, table, sig, env, symbol, terms)?))
+}
+
+/// The side that a value is, if there is one.
+fn value_side<'t>(value: Option<u32>) -> Side<'t>
+    ensures { plain_side result ≡ side_with value }
+{
+    match value {
+        Some(value) => Side::Value(value),
+        None => Side::Absent,
+    }
+}
+
+/// The side that a number or a sum stands for.
+#[tactic(auto, using(crate::proofs::Bare::given_same))]
+fn sum_side<'t>(
+    table: &Table,
+    sig: &Sig,
+    env: &Bindings,
+    term: &Term,
+) -> Result<Side<'t>, OutOfMemory>
+    ensures { IfOk result (λ side. plain_side side ≡ side_with (option_and_then (words.object_of_value (universe_of table.now sig.now)) (words.given_value (universe_of table.now sig.now) (environment_of env.now) (plain_term term.now)))) }
+{
+    Ok(value_side(object_given(table, env, term)?))
 }
 
 /// What a term stands for as a side.
 pub(crate) fn term_side<'t>(
     alloc: Global,
+    table: &Table,
     sig: &'t Sig,
     env: &Bindings,
     term: &Term,
 ) -> Result<Side<'t>, OutOfMemory>
-    ensures { (table : TableView) → IfOk result (λ side. plain_side side ≡ side_of (universe_of table sig.now) (environment_of env.now) (plain_term term.now)) }
+    ensures { IfOk result (λ side. plain_side side ≡ side_of (universe_of table.now sig.now) (environment_of env.now) (plain_term term.now)) }
 {
     match term {
-        Term::Constant { symbol, args } => constant_side(alloc, sig, env, *symbol, args),
+        Term::Constant { symbol, args } => constant_side(alloc, table, sig, env, *symbol, args),
         Term::Object(object) => Ok(Side::Value(*object)),
-        Term::Variable(variable) => Ok(match env.value(*variable) {
-            Some(value) => Side::Value(value),
-            None => Side::Absent,
-        }),
+        Term::Variable(variable) => Ok(value_side(env.value(*variable))),
         Term::Nothing => Ok(Side::Value(NONE)),
+        Term::Number(_) => sum_side(table, sig, env, term),
+        Term::Plus(..) => sum_side(table, sig, env, term),
+        Term::Minus(..) => sum_side(table, sig, env, term),
     }
 }

@@ -1,11 +1,9 @@
 //! Lists of values: the objects of a sort, and for an attribute `none` before them.
-ghost use Rattle.std.specs.Prelude.{◌≡◌, ◌<◌, length, position, nat_eq, slice_get, slice_index_or, Some, IfSome, []};
-ghost use Rattle.std.specs.List.Sorted.{IsStrictlySortedBy};
-ghost use Rattle.std.specs.Ordering.{nat_cmp};
+ghost use Rattle.std.specs.Prelude.{◌≡◌, ◌<◌, length, position, nat_eq, slice_get, slice_index_or, Some, []};
 ghost use Rattle.cc_defs.specs.Signatures.{none_value};
 ghost use Rattle.cc_defs.specs.Environments.{range_values};
 ghost use Rattle.cc_defs.specs.Universe.{objects_of, values_of as values_in};
-ghost use Rattle.cc_ground.specs.Views.{universe_of, IsSearchable};
+ghost use Rattle.cc_ground.specs.Views.{universe_of};
 
 use cc_defs::{Range, Sig};
 use cc_sorts::Table;
@@ -90,29 +88,9 @@ pub(crate) fn values_in_range<'t>(table: &'t Table, sig: &Sig, range: Range) -> 
     }
 }
 
-/// The index of a value among objects in ascending order, found by halves.
-fn index_among(objects: &[u32], value: u32) -> Option<usize>
-    requires { IsStrictlySortedBy nat_cmp objects.now }
-    ensures found { result ≡ position (nat_eq value) objects.now }
-    ensures below { IfSome result (λ index. index < length objects.now) }
-{
-    objects.binary_search(&value).ok()
-}
-
-/// The index of a value among those of a constant, found by halves.
+/// The index of a value among those of a constant, which is looked for in turn.
 pub(crate) fn index_in(values: &[u32], value: u32) -> Option<usize>
-    requires { IsSearchable values.now }
     ensures { result ≡ position (nat_eq value) values.now }
 {
-    let (first, objects) = values.split_first()?;
-    if *first != NONE {
-        return index_among(values, value);
-    }
-    if value == NONE {
-        return Some(0);
-    }
-    match index_among(objects, value) {
-        Some(index) => Some(index + 1),
-        None => None,
-    }
+    values.iter().position(|other| value == *other)
 }

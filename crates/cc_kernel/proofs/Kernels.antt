@@ -83,7 +83,7 @@ sound_started kernel empty id clause sound numbered =
     let facts = clause_there kernel empty id clause sound numbered in
     sound_staged kernel empty clause (id ∷ []) sound (clause, numbered, refl) (facts.0) (facts.1)
 
-over_at : (variables : ℕ) (clause : List Literal) (literal : Literal) → IsOver variables clause → Contains clause literal →
+pub over_at : (variables : ℕ) (clause : List Literal) (literal : Literal) → IsOver variables clause → Contains clause literal →
     (0 < literal.variable) × (literal.variable ≤ variables)
 over_at variables [] literal over (k, below, is) = absurd (omega arith)
 over_at variables (first ∷ clause) literal over (zero, below, is) =

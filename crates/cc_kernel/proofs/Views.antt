@@ -39,8 +39,8 @@ module _ (inside : Inside) (old : KernelView) (is : view_of inside ≡ old) wher
       let within = slice_get_within inside.clauses (id - 1) clause ((numbered_inside id clause numbered).1) in
       omega arith
 
-  pub staged_inside : (staged : List Literal) → old.staged ≡ Some staged → (inside.is_staged ≡ true) × (inside.stage.items ≡ staged)
-  staged_inside staged staged_is = flag_cases inside.is_staged inside.stage.items staged (ap (λ (v : KernelView). v.staged) is ∙ staged_is)
+  pub staged_inside : (staged : List Literal) → old.staged ≡ Some staged → (inside.is_staged ≡ true) × (inside.stage ≡ staged)
+  staged_inside staged staged_is = flag_cases inside.is_staged inside.stage staged (ap (λ (v : KernelView). v.staged) is ∙ staged_is)
 
   pub sound_here : (empty : Option ℕ) → IsSound (view_of inside) empty → IsSound old empty
   sound_here empty sound = subst (λ (v : KernelView). IsSound v empty) is sound
@@ -87,7 +87,7 @@ module _ (inside : Inside) (old : KernelView) (is : view_of inside ≡ old) wher
       rw (flag, chain_is) (ap (λ (v : KernelView). let w : KernelView = record v { staged = Some r; chain = v.chain ++ more } in w) is)
 
   -- what is read as the stage and as the clause of a number is what clashes
-  module _ (pivot id : ℕ) (stage other : List Literal) (clash : ClashesWith old pivot id) (stage_is : stage ≡ inside.stage.items)
+  module _ (pivot id : ℕ) (stage other : List Literal) (clash : ClashesWith old pivot id) (stage_is : stage ≡ inside.stage)
       (numbered : IsNumbered inside.clauses id other) where
     read_stage : clash.0 ≡ stage
     read_stage = sym (stage_is ∙ (staged_inside (clash.0) (clash.2)).1)

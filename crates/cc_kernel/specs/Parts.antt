@@ -28,7 +28,7 @@ abbrev pub view_of : Inside → KernelView
 view_of kernel = record {
   variables = kernel.variables;
   entries = entries_of kernel.clauses kernel.later.items;
-  staged = if kernel.is_staged then Some kernel.stage.items else None;
+  staged = if kernel.is_staged then Some kernel.stage else None;
   chain = kernel.chain.items;
 }
 

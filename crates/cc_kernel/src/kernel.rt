@@ -1,16 +1,16 @@
 //! A kernel of clauses: axioms and blocks are given, and a derived clause is only ever the resolvent of a chain.
-ghost use Rattle.std.specs.Prelude.{◌≡◌, ℕ, ◌+◌, ◌<◌, ◌≤◌, ◌++◌, ◌∷◌, [], length, All, Some, None, IfOk, IfSome, OnOk, OnErr, IsTrue, IsSome, ◌↔◌, Ok};
-ghost use Rattle.cc_defs.specs.Clauses.{IsClause, IsOver, IsNumbered, Reaches};
+ghost use Rattle.std.specs.Prelude.{◌≡◌, ℕ, ◌+◌, ◌<◌, ◌≤◌, ◌++◌, ◌∷◌, [], length, All, Contains, Some, None, IfOk, IfSome, OnOk, OnErr, IsTrue, IsSome, ◌↔◌, Ok};
+ghost use Rattle.cc_defs.specs.Clauses.{Literal, Clash, IsClause, IsOver, IsNumbered, IsResolvent, Reaches};
 ghost use Rattle.cc_defs.specs.Limits.{most_variables};
-ghost use Rattle.cc_kernel.specs.Kernels.{KernelView, Entry, clauses_of, added, axioms_of, IsThere, AreAxioms, IsStarted, ClashesWith, IsStepped, IsFinished, first_empty, DerivedFollow, empty_after};
+ghost use Rattle.cc_kernel.specs.Kernels.{KernelView, Entry, clauses_of, added, axioms_of, IsThere, AreAxioms, IsStarted, ClashesWith, IsStepped, IsFinished, first_empty, DerivedFollow, empty_after, StageIsReached};
 ghost use Rattle.cc_kernel.specs.Parts.{entries_of};
 
+use cc_clauses::ClauseArena;
 use cc_clauses::laws::resolvents_are_sound;
-use cc_clauses::{ClauseArena, clash_on, resolve_into};
 use cc_defs::{Lit, OutOfMemory};
+use cc_stage::Stage;
 use std::alloc::Global;
 use std::marker::Model;
-use std::mem;
 
 /// Where a clause comes from.
 #[derive(Clone, Copy, Debug, PartialEq, Eq)]
@@ -39,8 +39,8 @@ pub struct Kernel {
     // Where each clause behind the axioms comes from.
     later: Vec<Later>,
     is_staged: bool,
-    stage: Vec<Lit>,
-    // Room for the next stage.
+    stage: Stage,
+    // Where the staged clause is written when it is added.
     spare: Vec<Lit>,
     chain: Vec<u32>,
     // The number of the first empty clause.
@@ -101,23 +101,46 @@ fn first_empty_of(clauses: &ClauseArena) -> Option<u32>
     None
 }
 
-// Begins a chain with the number of a clause, in the place of an old chain.
-fn begin(chain: &mut Vec<u32>, id: u32) -> Result<(), OutOfMemory>
-    ensures begun { OnOk result (chain.new.items ≡ id ∷ []) }
-    ensures kept { OnErr result (chain.new.items ≡ chain.old.items) }
+// Begins a chain with the number of a clause, in the place of an old chain, and a stage with that clause.
+fn begin_with(
+    stage: &mut Stage,
+    chain: &mut Vec<u32>,
+    clause: &[Lit],
+    id: u32,
+) -> Result<(), OutOfMemory>
+    requires clause { IsClause clause.now }
+    requires some { (literal : Literal) → Contains clause.now literal → 0 < literal.variable }
+    ensures stage { OnOk result (stage.new ≡ clause.now) }
+    ensures chain { OnOk result (chain.new.items ≡ id ∷ []) }
+    ensures stage_kept { OnErr result (stage.new ≡ stage.old) }
+    ensures chain_kept { OnErr result (chain.new.items ≡ chain.old.items) }
 {
+    chain.reserve(1)?;
+    stage.begin(clause)?;
+    chain.clear();
     chain.push(id)?;
-    chain[0] = id;
-    chain.truncate(1);
     Ok(())
 }
 
-// Writes a clause in the place of what is there.
-fn copy_into(clause: &[Lit], out: &mut Vec<Lit>) -> Result<(), OutOfMemory>
-    ensures { OnOk result (out.new.items ≡ clause.now) }
+// Resolves a stage with a clause on the pivot, and writes the pair behind its chain.
+fn resolve_with(
+    stage: &mut Stage,
+    chain: &mut Vec<u32>,
+    clause: &[Lit],
+    pivot: u32,
+    id: u32,
+) -> Result<(), OutOfMemory>
+    requires clause { IsClause clause.now }
+    requires clash { Clash stage.old clause.now pivot }
+    ensures stage { OnOk result (IsResolvent stage.old clause.now pivot stage.new) }
+    ensures chain { OnOk result (chain.new.items ≡ chain.old.items ++ pivot ∷ id ∷ []) }
+    ensures stage_kept { OnErr result (stage.new ≡ stage.old) }
+    ensures chain_kept { OnErr result (chain.new.items ≡ chain.old.items) }
 {
-    out.clear();
-    out.extend_from_slice(clause)?;
+    chain.reserve(2)?;
+    stage.resolve(clause, pivot)?;
+    chain.push(pivot)?;
+    chain.push(id)?;
     Ok(())
 }
 
@@ -157,7 +180,7 @@ impl Kernel {
             clauses: axioms,
             later: Vec::new(alloc),
             is_staged: false,
-            stage: Vec::new(alloc),
+            stage: Stage::new(alloc),
             spare: Vec::new(alloc),
             chain: Vec::new(alloc),
             empty: first,
@@ -168,6 +191,7 @@ impl Kernel {
     pub fn variables(&self) -> u32
         ensures variables { result ≡ self.now.variables }
         ensures most { result ≤ most_variables }
+        ensures reached { StageIsReached self.now }
     {
         self.variables
     }
@@ -229,9 +253,7 @@ impl Kernel {
         ensures kept { OnErr result (self.new ≡ self.old) }
     {
         let clause = numbered(&self.clauses, id);
-        copy_into(clause, &mut self.spare)?;
-        begin(&mut self.chain, id)?;
-        mem::swap(&mut self.stage, &mut self.spare);
+        begin_with(&mut self.stage, &mut self.chain, clause, id)?;
         self.is_staged = true;
         Ok(())
     }
@@ -244,8 +266,7 @@ impl Kernel {
         requires most { pivot ≤ self.now.variables }
         ensures { IsTrue result ↔ ClashesWith self.now pivot id }
     {
-        let _ = &self.variables;
-        clash_on(self.current(), self.clause(id), pivot)
+        self.stage.clashes(numbered(&self.clauses, id), pivot)
     }
 
     /// Resolves the staged clause with the clause of a number on the pivot.
@@ -255,21 +276,16 @@ impl Kernel {
         ensures kept { OnErr result (self.new ≡ self.old) }
     {
         let other = numbered(&self.clauses, id);
-        resolve_into(&self.stage, other, pivot, &mut self.spare)?;
-        self.chain.extend_from_slice(&[pivot, id])?;
-        mem::swap(&mut self.stage, &mut self.spare);
+        resolve_with(&mut self.stage, &mut self.chain, other, pivot, id)?;
         Ok(())
     }
 
-    /// The staged clause.
-    pub fn current(&self) -> &[Lit]
+    /// Whether the staged clause has a literal.
+    pub fn stages(&self, lit: Lit) -> bool
         requires { IsSome self.now.staged }
-        ensures staged { self.now.staged ≡ Some result.now }
-        ensures is_clause { IsClause result.now }
-        ensures over { IsOver self.now.variables result.now }
-        ensures reached { Reaches (clauses_of self.now) self.now.chain result.now }
+        ensures { IfSome self.now.staged (λ clause. IsTrue result ↔ Contains clause lit) }
     {
-        &self.stage
+        self.stage.has(lit)
     }
 
     /// The chain of the staged clause, or else of the last one that was finished: the number of the clause that it
@@ -292,7 +308,8 @@ impl Kernel {
     {
         resolvents_are_sound();
         let number = self.count() + 1;
-        let stage = self.stage.as_slice();
+        self.stage.write_to(&mut self.spare)?;
+        let stage = self.spare.as_slice();
         add(&mut self.clauses, &mut self.later, stage, Later::Derived)?;
         self.empty = empty_with(self.empty, stage, number);
         self.is_staged = false;

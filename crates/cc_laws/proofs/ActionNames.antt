@@ -37,3 +37,8 @@ constant_names symbols symbol args =
 
 pub names_by_args : (symbols : List Symbol) (term : Term) (symbol : ℕ) (args : Vec Term) → term ≡ Constant symbol args → is_action_symbol symbols symbol ≡ false → names_action symbols term ≡ some_names_action symbols args.items
 names_by_args symbols term symbol args e h = ap (names_action symbols) e ∙ constant_names symbols symbol args ∙ ap (λ (b : Bool). b || some_names_action symbols args.items) h
+
+-- a sum names an action in one of its two parts
+pub names_in_plus : (symbols : List Symbol) (first second : resolved.Term) →
+    list_any (is_action_symbol symbols) (term_symbols (resolved.Plus first second)) ≡ (list_any (is_action_symbol symbols) (term_symbols first) || list_any (is_action_symbol symbols) (term_symbols second))
+names_in_plus symbols first second = list_any-append (is_action_symbol symbols) (term_symbols first) (term_symbols second)

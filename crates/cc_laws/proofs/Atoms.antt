@@ -10,7 +10,7 @@ use Rattle.cc_defs.specs.Resolved.{Term, Terms, Head, Atom, plain_head, plain_te
 use Rattle.cc_defs.specs.Resolved as resolved
 use Rattle.cc_defs.specs.Trees.{PlainTerm, Applied}
 use Rattle.cc_laws.specs.Heads.{listed, atom, atom_meant, both_heads}
-use Rattle.cc_laws.specs.Resolving.{Binding, number_in, variable_at, term_meant, resolve_term, resolve_terms}
+use Rattle.cc_laws.specs.Resolving.{Binding, number_in, variable_at, term_meant, resolve_term, resolve_sums}
 use Rattle.cc_laws.specs.Vocabulary.{Vocabulary, Meaning, Unknown, Nothing, Object, Variable, Constant, meaning}
 use Rattle.cc_laws.proofs.ActionNames.{plain_constant}
 use Rattle.cc_laws.proofs.Rows.{listed_rows}
@@ -31,7 +31,7 @@ atom_of scope (Variable number sort) args value = no_atom (number_in scope numbe
 atom_of scope (Constant number symbol) args value = refl
 
 atom_is : (v : Vocabulary) (scope : List Binding) (term : PlainTerm) (value : Term) → atom_by (resolve_term v scope term) value ≡ atom v scope term value
-atom_is v scope (Applied name args) value = atom_of scope (meaning v name) (resolve_terms v scope args) value
+atom_is v scope (Applied name args) value = atom_of scope (meaning v name) (resolve_sums v scope args) value
 
 pub atom_added : (v : Vocabulary) (scope : List Binding) (term : PlainTerm) (value made : kept.Term) (symbol : ℕ) (args : Vec kept.Term) (given : List kept.Term) (old new : List HeadTree) →
     made ≡ kept.Constant symbol args → plain_term made ≡ resolve_term v scope term → given ≡ args.items →

@@ -7,7 +7,7 @@ use Rattle.cc_defs.specs.Resolved.{Term, Terms, MoreTerms, BaseLaw}
 use Rattle.cc_defs.specs.Resolved as resolved
 use Rattle.cc_defs.specs.Trees as trees
 use Rattle.cc_laws.specs.Expansion.{Frame, Persistence, value_law, subject_meant, subject_laws, places}
-use Rattle.cc_laws.specs.Resolving.{number_in, variable_at, term_meant, resolve_term, resolve_terms}
+use Rattle.cc_laws.specs.Resolving.{number_in, variable_at, term_meant, resolve_term, resolve_sums}
 use Rattle.cc_laws.specs.Views.{row_terms}
 use Rattle.cc_laws.specs.Vocabulary.{Vocabulary, Meaning, Unknown, Nothing, Object, Variable, Constant, meaning}
 use Rattle.cc_laws.proofs.ActionNames.{plain_constant}
@@ -51,7 +51,7 @@ subject_of v frame p (Variable number sort) args = no_subject v frame p (number_
 subject_of v frame p (Constant number symbol) args = refl
 
 subject_is : (v : Vocabulary) (frame : Frame) (p : Persistence) (term : trees.PlainTerm) → subject_by v frame p (resolve_term v frame.scope term) ≡ subject_laws v frame p term
-subject_is v frame p (trees.Applied name args) = subject_of v frame p (meaning v name) (resolve_terms v frame.scope args)
+subject_is v frame p (trees.Applied name args) = subject_of v frame p (meaning v name) (resolve_sums v frame.scope args)
 
 pub subject_made : (v : Vocabulary) (frame : Frame) (p : Persistence) (term : trees.PlainTerm) (made : kept.Term) (symbol : ℕ) (args : Vec kept.Term) (law : BaseLaw) →
     made ≡ kept.Constant symbol args → resolved.plain_term made ≡ resolve_term v frame.scope term → law ≡ value_law v frame p symbol (row_terms args.items) →

@@ -1,6 +1,6 @@
 -- The base laws of declared constants have the forms of their kinds: the name of each means the constant that is declared there.
 use Rattle.std.proofs.Common.{◌≡◌, ◌∙◌, ℕ, zero, suc, ◌+◌, ◌<◌, cond, Bool, true, false, List, [], ◌∷◌, ◌++◌, length, map, flat_map, slice_get, Option, Some, None, refl, sym, ap, subst, arith, append_assoc}
-use Rattle.std.specs.Prelude.{if◌then◌else◌, codes, find, nat_lt, unwrap_or}
+use Rattle.std.specs.Prelude.{if◌then◌else◌, ◌&&◌, codes, find, is_none, nat_lt, unwrap_or}
 use Rattle.std.specs.Cmp.Lexicographic.{bytes_decides}
 use Rattle.std.specs.List.{AllByRecursion, list_any, position_from, position_or_len}
 use Rattle.std.proofs.lemmas.Bool.{ltb-true, or_parts}
@@ -12,7 +12,7 @@ use Rattle.cc_defs.specs.declared.signature.Symbol.{Symbol}
 use Rattle.cc_defs.specs.declared.tree.KindWord.{KindWord}
 use Rattle.cc_defs.specs.declared.tree.KindWord.TheVariants as kind_words
 use Rattle.cc_defs.specs.DeclarationFaults.{any_has, constant_named, declaration_fault, is_twice, refusal_for}
-use Rattle.cc_defs.specs.Declarations.{Declaration, Sort, Link, Subsort, Object, Variable, Constant, Kinds, Declared, action_of, constant_declarations, constant_declared, constant_names, constants, kind_of_constant, kind_of_word, number_in, objects, symbol_of, symbols, variables}
+use Rattle.cc_defs.specs.Declarations.{Declaration, Sort, Link, Subsort, Object, Span, Number, Variable, Constant, Kinds, Declared, action_of, constant_declarations, constant_declared, constant_names, constants, kind_of_constant, kind_of_word, number_in, puts, symbol_of, symbols, variables}
 use Rattle.cc_defs.specs.Forms.{IsDeclared, HasForm, HaveForms, is_simple, terms_symbols}
 use Rattle.cc_defs.specs.Grammar.{same_text}
 use Rattle.cc_defs.specs.Resolved.{Terms}
@@ -53,7 +53,7 @@ first_itself : (before others : List Declaration) (declaration : Declaration) �
 first_itself before others (Constant shape kind file line) new =
     let own : Declared = record { shape = shape; kind = kind; file = file; line = line } in
     let named = or_parts (list_any (λ variable. same_text shape.name variable.0) (variables before)) (list_any (same_text shape.name) (constant_names before))
-    (or_parts (list_any (λ object. same_text shape.name object.0) (objects before)) _ new).1 in
+    (or_parts (list_any (λ put. is_none put.number && same_text shape.name put.name) (puts before)) _ new).1 in
     let whole : constants (before ++ Constant shape kind file line ∷ others) ≡ constants before ++ own ∷ constants others =
     flat_map-append constant_declared before (Constant shape kind file line ∷ others) in (
       ap (find (called shape.name)) whole ∙ found_behind shape.name (constants before) (constants others) own named.1 (same_as_itself shape.name),
@@ -63,6 +63,8 @@ first_itself before others (Sort name) new = tt
 first_itself before others (Link name) new = tt
 first_itself before others (Subsort upper lower) new = tt
 first_itself before others (Object name sort) new = tt
+first_itself before others (Span low high sort) new = tt
+first_itself before others (Number value sort) new = tt
 first_itself before others (Variable name sort) new = tt
 first_itself before others (Kinds shapes kind) new = tt
 

@@ -16,7 +16,7 @@ use Rattle.cc_laws.specs.Expansion.{Frame, caused, both, part, part_acts, part_b
 use Rattle.cc_laws.specs.FormulaFaults.{mention_has, leaf_has, has_action, has_fluent, has_determined, is_fluent_formula, is_action_formula}
 use Rattle.cc_laws.specs.FreeVariables.{optional}
 use Rattle.cc_laws.specs.LawFaults.{has_plain_form, has_fluent_form}
-use Rattle.cc_laws.specs.Leaves.{Leaf, Bare, Equation, Bracket, leaves, Mention, mentions}
+use Rattle.cc_laws.specs.Leaves.{Leaf, Bare, Compared, Bracket, leaves, Mention, mentions, sum_mentions}
 use Rattle.cc_laws.specs.Resolving.{Binding, resolve}
 use Rattle.cc_laws.specs.Vocabulary.{Vocabulary, Meaning, is_action_constant, is_fluent_constant, is_determined_constant, is_determined_kind}
 use Rattle.cc_laws.proofs.EachOf.{each_so, each_twice, each_mapped, none_passes}
@@ -52,7 +52,7 @@ nothing_named v (x ∷ xs) = nothing_named v xs
 nothing_at : (v : Vocabulary) (xs : List Leaf) → list_any (leaf_has v (named no_meaning)) xs ≡ false
 nothing_at v [] = refl
 nothing_at v (Bare term ∷ xs) = rw (nothing_named v (mentions term)) (nothing_at v xs)
-nothing_at v (Equation s t ∷ xs) = rw (nothing_named v (mentions s), nothing_named v (mentions t)) (nothing_at v xs)
+nothing_at v (Compared comparison s t ∷ xs) = rw (nothing_named v (sum_mentions s), nothing_named v (sum_mentions t)) (nothing_at v xs)
 nothing_at v (Bracket name ∷ xs) = nothing_at v xs
 
 module _ (v : Vocabulary) (symbols : List Symbol) (goes : GoesOn v.symbols symbols) where

@@ -1,5 +1,5 @@
 -- The base laws about each value of a constant have the forms of their kinds.
-use Rattle.std.proofs.Common.{◌≡◌, ◌∙◌, ℕ, Bool, true, false, List, [], ◌∷◌, ◌++◌, length, slice_get, Option, Some, None, refl, sym, ap, subst, arith}
+use Rattle.std.proofs.Common.{◌≡◌, ◌∙◌, ℕ, Bool, true, false, ◌||◌, List, [], ◌∷◌, ◌++◌, length, slice_get, Some, refl, sym, ap, subst, arith}
 use Rattle.std.specs.List.{AllByRecursion, list_any}
 use Rattle.std.proofs.lemmas.Bool.{eqb-true, not-false, or_parts}
 use Rattle.cc_defs.specs.declared.signature.Kind.{Kind}
@@ -9,38 +9,39 @@ use Rattle.cc_defs.specs.Declarations.{is_action}
 use Rattle.cc_defs.specs.Forms.{IsDeclared, IsFormula, IsFluentFormula, HasForm, HaveForms, formula_symbols, term_symbols, terms_symbols, is_action_at, is_action_symbol, is_simple}
 use Rattle.cc_defs.specs.Resolved.{Terms, Formula}
 use Rattle.cc_defs.specs.Resolved as resolved
-use Rattle.cc_defs.specs.Trees.{PlainTerm, Applied, PlainTerms, NoTerms, MoreTerms}
+use Rattle.cc_defs.specs.Trees.{PlainTerm, Applied, PlainSums, NoSums, MoreSums, PlainSum}
 use Rattle.cc_laws.specs.Expansion.{Frame, Persistence, Exogenous, Inertial, Rigid, value_law, subject_meant, subject_laws}
-use Rattle.cc_laws.specs.FormulaFaults.{argument_misfits, some_argument_misfits, arguments_misfit, is_miscounted, term_has, term_meaning, term_misfits}
-use Rattle.cc_laws.specs.Leaves.{term_count}
-use Rattle.cc_laws.specs.Resolving.{Binding, number_in, variable_at, term_meant, resolve_term, resolve_terms}
-use Rattle.cc_laws.specs.Vocabulary.{Vocabulary, Meaning, Unknown, Nothing, Object, Variable, Constant, meaning}
+use Rattle.cc_laws.specs.FormulaFaults.{sum_has, sum_misfits, name_misfits, lone_meaning, argument_misfits, some_argument_misfits, arguments_misfit, is_miscounted, term_has, term_meaning, term_misfits}
+use Rattle.cc_laws.specs.Leaves.{sum_count}
+use Rattle.cc_laws.specs.Resolving.{Binding, resolve_sum, resolve_sums}
+use Rattle.cc_laws.specs.Vocabulary.{Vocabulary, Meaning, Unknown, Nothing, Object, Variable, Constant, meaning, is_constant}
 use Rattle.cc_laws.proofs.FormsOfSplits.{GoesOn, action_at, simple_at, declared_at}
-use Rattle.cc_laws.proofs.SymbolsMeant.{IsIn, meaning_in}
+use Rattle.cc_laws.proofs.SymbolsMeant.{IsIn, meaning_in, symbols_of_sum}
 
 -- ---- arguments that fit have no symbols
 
-no_variable_symbols : (found : Option ℕ) → term_symbols (variable_at found) ≡ []
-no_variable_symbols None = refl
-no_variable_symbols (Some number) = refl
+-- nothing is so
+abbrev Nowhere : ℕ → Type 0
+Nowhere number = ⊥
+
+none_there : (symbols : List ℕ) → AllByRecursion Nowhere symbols → symbols ≡ []
+none_there [] all = refl
+none_there (symbol ∷ symbols) all = absurd all.0
 
 module _ (v : Vocabulary) (scope : List Binding) where
-  no_symbols_meant : (sort : ℕ) (means : Meaning) (args : Terms) → argument_misfits v sort means ≡ false → term_symbols (term_meant scope means args) ≡ []
-  no_symbols_meant sort (Object number own) args e = refl
-  no_symbols_meant sort (Variable number own) args e = no_variable_symbols (number_in scope number)
-  no_symbols_meant sort Unknown args e = absurd cc
-  no_symbols_meant sort Nothing args e = absurd cc
-  no_symbols_meant sort (Constant number symbol) args e = absurd cc
+  no_constant : (sum : PlainSum) → sum_has v (λ means count. is_constant means) sum ≡ false → term_symbols (resolve_sum v scope sum) ≡ []
+  no_constant sum e = none_there (term_symbols (resolve_sum v scope sum)) (symbols_of_sum v is_constant Nowhere (λ number symbol is no. absurd cc) scope sum e)
 
-  no_symbols_in : (sort : ℕ) (term : PlainTerm) → argument_misfits v sort (term_meaning v term) ≡ false → term_symbols (resolve_term v scope term) ≡ []
-  no_symbols_in sort (Applied name args) e = no_symbols_meant sort (meaning v name) (resolve_terms v scope args) e
+  no_symbols_in : (sort : ℕ) (sum : PlainSum) → argument_misfits v sort sum ≡ false → term_symbols (resolve_sum v scope sum) ≡ []
+  no_symbols_in sort sum e =
+      no_constant sum (or_parts (sum_has v (λ means count. is_constant means) sum) (sum_misfits v sum || name_misfits v sort (lone_meaning v sum)) e).0
 
-  no_symbols : (sorts : List ℕ) (args : PlainTerms) → term_count args ≡ length sorts → some_argument_misfits v sorts args ≡ false → terms_symbols (resolve_terms v scope args) ≡ []
-  no_symbols sorts NoTerms count e = refl
-  no_symbols [] (MoreTerms first others) count e = absurd (omega arith)
-  no_symbols (sort ∷ sorts) (MoreTerms first others) count e =
-      let parts = or_parts (argument_misfits v sort (term_meaning v first)) (some_argument_misfits v sorts others) e in
-      ap (λ (w : List ℕ). w ++ terms_symbols (resolve_terms v scope others)) (no_symbols_in sort first parts.0) ∙ no_symbols sorts others (omega arith) parts.1
+  no_symbols : (sorts : List ℕ) (args : PlainSums) → sum_count args ≡ length sorts → some_argument_misfits v sorts args ≡ false → terms_symbols (resolve_sums v scope args) ≡ []
+  no_symbols sorts NoSums count e = refl
+  no_symbols [] (MoreSums first others) count e = absurd (omega arith)
+  no_symbols (sort ∷ sorts) (MoreSums first others) count e =
+      let parts = or_parts (argument_misfits v sort first) (some_argument_misfits v sorts others) e in
+      ap (λ (w : List ℕ). w ++ terms_symbols (resolve_sums v scope others)) (no_symbols_in sort first parts.0) ∙ no_symbols sorts others (omega arith) parts.1
 
 -- ---- the laws
 
@@ -103,22 +104,22 @@ module _ (v : Vocabulary) (symbols : List Symbol) (goes : GoesOn v.symbols symbo
 
   -- ---- what is exogenous or inertial
 
-  subject_meant_forms : (frame : Frame) (persistence : Persistence) (means : Meaning) (args : PlainTerms) → IsIn v means →
-      is_miscounted means (term_count args) ≡ false → arguments_misfit v means args ≡ false →
+  subject_meant_forms : (frame : Frame) (persistence : Persistence) (means : Meaning) (args : PlainSums) → IsIn v means →
+      is_miscounted means (sum_count args) ≡ false → arguments_misfit v means args ≡ false →
       ((number : ℕ) (symbol : Symbol) → means ≡ Constant number symbol → MayLast persistence symbol) →
-      HaveForms symbols (subject_meant v frame persistence means (resolve_terms v frame.scope args))
+      HaveForms symbols (subject_meant v frame persistence means (resolve_sums v frame.scope args))
   subject_meant_forms frame persistence Unknown args is count fit may = tt
   subject_meant_forms frame persistence Nothing args is count fit may = tt
   subject_meant_forms frame persistence (Object number sort) args is count fit may = tt
   subject_meant_forms frame persistence (Variable number sort) args is count fit may = tt
   subject_meant_forms frame persistence (Constant number symbol) args is count fit may =
-      let as_many : term_count args ≡ length symbol.sorts = eqb-true (term_count args) (length symbol.sorts) (not-false _ count) in
+      let as_many : sum_count args ≡ length symbol.sorts = eqb-true (sum_count args) (length symbol.sorts) (not-false _ count) in
       let bare = no_symbols v frame.scope symbol.sorts args as_many fit in
-      (value_form number symbol is (resolve_terms v frame.scope args) bare frame persistence (may number symbol refl), tt)
+      (value_form number symbol is (resolve_sums v frame.scope args) bare frame persistence (may number symbol refl), tt)
 
   pub subject_forms : (frame : Frame) (persistence : Persistence) (c : PlainTerm) → term_has v is_miscounted c ≡ false → term_misfits v c ≡ false →
       ((number : ℕ) (symbol : Symbol) → term_meaning v c ≡ Constant number symbol → MayLast persistence symbol) →
       HaveForms symbols (subject_laws v frame persistence c)
   subject_forms frame persistence (Applied name args) count fit may =
       subject_meant_forms frame persistence (meaning v name) args (meaning_in v name)
-      (or_parts (is_miscounted (meaning v name) (term_count args)) _ count).0 fit may
+      (or_parts (is_miscounted (meaning v name) (sum_count args)) _ count).0 fit may

@@ -1,18 +1,19 @@
 -- The symbols of definite heads: each is declared, and means what no test fails that fails nowhere in the head's text.
-use Rattle.std.proofs.Common.{◌≡◌, ℕ, Bool, true, false, not, ◌&&◌, ◌||◌, List, [], ◌∷◌, Option, Some, None}
+use Rattle.std.proofs.Common.{◌≡◌, ◌∙◌, ℕ, Bool, true, false, not, ◌&&◌, ◌||◌, List, [], ◌∷◌, Option, Some, None, sym, ap}
 use Rattle.std.specs.Prelude.{unwrap_or}
 use Rattle.std.specs.List.{AllByRecursion, list_any}
 use Rattle.std.proofs.lemmas.Bool.{or_parts}
+use Rattle.std.proofs.lemmas.List.{append-nil}
 use Rattle.cc_defs.specs.Resolved.{Term, Terms, Head}
 use Rattle.cc_defs.specs.Resolved as resolved
-use Rattle.cc_defs.specs.Trees.{PlainTerm, Applied, PlainTree}
+use Rattle.cc_defs.specs.Trees.{PlainTerm, Applied, PlainSum, Summed, Numeral, Called, NoAddends, MoreAddends, PlainTree}
 use Rattle.cc_defs.specs.Trees as trees
 use Rattle.cc_laws.specs.Expansion.{head_parts}
-use Rattle.cc_laws.specs.FormulaFaults.{mention_has, term_has, formula_has}
-use Rattle.cc_laws.specs.Heads.{is_constant_term, is_boolean_term, is_truth_term, is_falsity_term, atom_meant, atom, opposite, only_if, or_else, both_heads, denied_heads, definite_heads}
-use Rattle.cc_laws.specs.Leaves.{leaves, argument_mentions}
-use Rattle.cc_laws.specs.Resolving.{Binding, resolve_term, resolve_terms}
-use Rattle.cc_laws.specs.Vocabulary.{Vocabulary, Meaning, Unknown, Nothing, Object, Variable, Constant, meaning}
+use Rattle.cc_laws.specs.FormulaFaults.{mention_has, term_has, sum_has, formula_has}
+use Rattle.cc_laws.specs.Heads.{is_constant_term, is_boolean_term, is_truth_term, is_falsity_term, atom_meant, atom, opposite, only_if, or_else, both_heads, value_heads, boolean_heads, denied_heads, definite_heads}
+use Rattle.cc_laws.specs.Leaves.{lone, leaves, mentions, argument_mentions}
+use Rattle.cc_laws.specs.Resolving.{Binding, resolve_sum, resolve_sums}
+use Rattle.cc_laws.specs.Vocabulary.{Vocabulary, Meaning, Unknown, Nothing, Object, Variable, Constant, meaning, is_constant}
 use Rattle.cc_laws.proofs.EachOf.{each_of_both}
 use Rattle.cc_laws.proofs.SymbolsMeant.{IsIn, meaning_in, named, IsSo, leaf_parted}
 
@@ -53,25 +54,43 @@ module _ (v : Vocabulary) (test : Meaning → Bool) (P : ℕ → Type 0) (so : I
 
   atom_so : (term : PlainTerm) (value : Term) → term_has v (named test) term ≡ false → AreSo P (atom v scope term value)
   atom_so (Applied name args) value e =
-      atom_meant_so (meaning v name) (resolve_terms v scope args) value (meaning_in v name) (or_parts (test (meaning v name)) (list_any (mention_has v (named test)) (argument_mentions args)) e).0
+      atom_meant_so (meaning v name) (resolve_sums v scope args) value (meaning_in v name) (or_parts (test (meaning v name)) (list_any (mention_has v (named test)) (argument_mentions args)) e).0
 
-  -- no test fails in a side of an equation
-  sides : (s t : PlainTerm) → (term_has v (named test) s || term_has v (named test) t) || false ≡ false → (term_has v (named test) s ≡ false) × (term_has v (named test) t ≡ false)
-  sides s t e = or_parts (term_has v (named test) s) (term_has v (named test) t) (or_parts _ false e).0
+  -- no test fails in a side of a comparison
+  sides : (s t : PlainSum) → (sum_has v (named test) s || sum_has v (named test) t) || false ≡ false → (sum_has v (named test) s ≡ false) × (sum_has v (named test) t ≡ false)
+  sides s t e = or_parts (sum_has v (named test) s) (sum_has v (named test) t) (or_parts _ false e).0
 
-  one_of_sides : (s t : PlainTerm) (first second : Bool) (left right : Term) → (term_has v (named test) s || term_has v (named test) t) || false ≡ false →
-      AreSo P (or_else (only_if first (atom v scope s left)) (only_if second (atom v scope t right)))
-  one_of_sides s t first second left right e =
-      let parts = sides s t e in
-      or_else_so P (only_if first (atom v scope s left)) (only_if second (atom v scope t right))
-      (only_if_so P first (atom v scope s left) (atom_so s left parts.0))
-      (only_if_so P second (atom v scope t right) (atom_so t right parts.1))
+  -- nor in the term that a side is
+  abbrev LoneSo : Option PlainTerm → Type 0
+  LoneSo None = Unit {0}
+  LoneSo (Some term) = term_has v (named test) term ≡ false
+
+  lone_so : (sum : PlainSum) → sum_has v (named test) sum ≡ false → LoneSo (lone sum)
+  lone_so (Summed (Called term) NoAddends) e = sym (ap (list_any (mention_has v (named test))) (append-nil (mentions term))) ∙ e
+  lone_so (Summed (Called term) (MoreAddends minus piece others)) e = tt
+  lone_so (Summed (Numeral number) _) e = tt
+
+  value_so : (c : Option PlainTerm) (sum : PlainSum) → LoneSo c → AreSo P (value_heads v scope c sum)
+  value_so None sum e = tt
+  value_so (Some c) sum e =
+      only_if_so P (is_constant_term v c && not (sum_has v (λ means count. is_constant means) sum)) (atom v scope c (resolve_sum v scope sum)) (atom_so c (resolve_sum v scope sum) e)
+
+  boolean_so : (c value : Option PlainTerm) → LoneSo c → AreSo P (boolean_heads v scope c value)
+  boolean_so None value e = tt
+  boolean_so (Some c) None e = tt
+  boolean_so (Some c) (Some value) e = only_if_so P (is_boolean_term v c && is_truth_term v value) (atom v scope c (opposite v value)) (atom_so c (opposite v value) e)
 
   denied_so : (f : PlainTree) → formula_has v (named test) f ≡ false → AreSo P (denied_heads v scope f)
   denied_so (trees.Bare c) e = only_if_so P (is_boolean_term v c) (atom v scope c (resolved.Object 0)) (atom_so c (resolved.Object 0) (or_parts _ false e).0)
-  denied_so (trees.Equal s t) e =
-      one_of_sides s t (is_boolean_term v s && is_truth_term v t) (is_truth_term v s && is_boolean_term v t) (opposite v t) (opposite v s) e
-  denied_so (trees.Differ s t) e = tt
+  denied_so (trees.Compared trees.IsEqual s t) e =
+      let parts = sides s t e in
+      or_else_so P (boolean_heads v scope (lone s) (lone t)) (boolean_heads v scope (lone t) (lone s))
+      (boolean_so (lone s) (lone t) (lone_so s parts.0)) (boolean_so (lone t) (lone s) (lone_so t parts.1))
+  denied_so (trees.Compared trees.Differs s t) e = tt
+  denied_so (trees.Compared trees.IsLess s t) e = tt
+  denied_so (trees.Compared trees.IsAtMost s t) e = tt
+  denied_so (trees.Compared trees.IsMore s t) e = tt
+  denied_so (trees.Compared trees.IsAtLeast s t) e = tt
   denied_so (trees.Paren f) e = denied_so f e
   denied_so (trees.Not f) e = tt
   denied_so (trees.Both f g) e = tt
@@ -86,10 +105,14 @@ module _ (v : Vocabulary) (test : Meaning → Bool) (P : ℕ → Type 0) (so : I
       or_else_so P (only_if (is_falsity_term v c) (Some (resolved.Falsity ∷ []))) (only_if (is_boolean_term v c) (atom v scope c (resolved.Object 1)))
       (only_if_so P (is_falsity_term v c) (Some (resolved.Falsity ∷ [])) (tt, tt))
       (only_if_so P (is_boolean_term v c) (atom v scope c (resolved.Object 1)) (atom_so c (resolved.Object 1) (or_parts _ false e).0))
-  definite_so (trees.Equal s t) e =
-      one_of_sides s t (is_constant_term v s && not (is_constant_term v t)) (is_constant_term v t && not (is_constant_term v s)) (resolve_term v scope t) (resolve_term v scope s) e
-  definite_so (trees.Differ s t) e =
-      only_if_so P (is_boolean_term v s && is_truth_term v t) (atom v scope s (opposite v t)) (atom_so s (opposite v t) (sides s t e).0)
+  definite_so (trees.Compared trees.IsEqual s t) e =
+      let parts = sides s t e in
+      or_else_so P (value_heads v scope (lone s) t) (value_heads v scope (lone t) s) (value_so (lone s) t (lone_so s parts.0)) (value_so (lone t) s (lone_so t parts.1))
+  definite_so (trees.Compared trees.Differs s t) e = boolean_so (lone s) (lone t) (lone_so s (sides s t e).0)
+  definite_so (trees.Compared trees.IsLess s t) e = tt
+  definite_so (trees.Compared trees.IsAtMost s t) e = tt
+  definite_so (trees.Compared trees.IsMore s t) e = tt
+  definite_so (trees.Compared trees.IsAtLeast s t) e = tt
   definite_so (trees.Paren f) e = definite_so f e
   definite_so (trees.Not f) e = denied_so f e
   definite_so (trees.Both f g) e =

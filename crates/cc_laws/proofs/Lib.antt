@@ -16,6 +16,7 @@ pub mod HeadLaws
 pub mod HeadSymbols
 pub mod HeadTests
 pub mod ItemLaws
+pub mod LoneTerms
 pub mod Meant
 pub mod Mentions
 pub mod MoreSymbols

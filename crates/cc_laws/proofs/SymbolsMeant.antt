@@ -9,11 +9,11 @@ use Rattle.cc_defs.specs.Forms.{term_symbols, terms_symbols, formula_symbols}
 use Rattle.cc_defs.specs.Grammar.{same_text}
 use Rattle.cc_defs.specs.Resolved.{Term, Terms, Formula}
 use Rattle.cc_defs.specs.Resolved as resolved
-use Rattle.cc_defs.specs.Trees.{PlainTerm, Applied, PlainTerms, NoTerms, MoreTerms, PlainTree}
+use Rattle.cc_defs.specs.Trees.{Comparison, PlainTerm, Applied, PlainSums, NoSums, MoreSums, PlainSum, Summed, PlainPiece, Numeral, Called, PlainAddends, NoAddends, MoreAddends, PlainTree}
 use Rattle.cc_defs.specs.Trees as trees
-use Rattle.cc_laws.specs.FormulaFaults.{NameTest, mention_has, term_has, leaf_has, formula_has}
-use Rattle.cc_laws.specs.Leaves.{Leaf, leaves, Mention, mentions, argument_mentions}
-use Rattle.cc_laws.specs.Resolving.{Binding, number_in, variable_at, term_meant, resolve_term, resolve_terms, alone, resolve_bracket, resolve, brackets}
+use Rattle.cc_laws.specs.FormulaFaults.{NameTest, mention_has, term_has, sum_has, leaf_has, formula_has}
+use Rattle.cc_laws.specs.Leaves.{Leaf, leaves, Mention, argument_mentions, sum_mentions, piece_mentions, addend_mentions}
+use Rattle.cc_laws.specs.Resolving.{Binding, number_in, variable_at, term_meant, joined, resolve_term, resolve_sums, resolve_sum, resolve_piece, resolve_addends, alone, compared, resolve_bracket, resolve, brackets}
 use Rattle.cc_laws.specs.Vocabulary.{Vocabulary, Meaning, Unknown, Nothing, Object, Variable, Constant, meaning, as_object, as_variable, as_constant, constant_at}
 use Rattle.cc_sorts.specs.Dictionaries.{number_of, names_of}
 use Rattle.cc_laws.proofs.EachOf.{each_of_both}
@@ -77,17 +77,39 @@ module _ (v : Vocabulary) (test : Meaning → Bool) (P : ℕ → Type 0) (so : I
   parted first others e =
       or_parts (list_any (mention_has v (named test)) first) (list_any (mention_has v (named test)) others) (sym (list_any-append (mention_has v (named test)) first others) ∙ e)
 
+  -- of a sum that is made, and one piece more
+  joined_symbols : (minus : Bool) (made piece : Term) → AllByRecursion P (term_symbols made) → AllByRecursion P (term_symbols piece) → AllByRecursion P (term_symbols (joined minus made piece))
+  joined_symbols true made piece all other = each_of_both P (term_symbols made) (term_symbols piece) all other
+  joined_symbols false made piece all other = each_of_both P (term_symbols made) (term_symbols piece) all other
+
   mutual
     pub symbols_of_term : (scope : List Binding) (term : PlainTerm) → term_has v (named test) term ≡ false → AllByRecursion P (term_symbols (resolve_term v scope term))
     symbols_of_term scope (Applied name args) e =
         let parts = or_parts (test (meaning v name)) (list_any (mention_has v (named test)) (argument_mentions args)) e in
-        meant_symbols scope (meaning v name) (resolve_terms v scope args) (meaning_in v name) parts.0 (symbols_of_terms scope args parts.1)
+        meant_symbols scope (meaning v name) (resolve_sums v scope args) (meaning_in v name) parts.0 (symbols_of_sums scope args parts.1)
 
-    pub symbols_of_terms : (scope : List Binding) (args : PlainTerms) → list_any (mention_has v (named test)) (argument_mentions args) ≡ false → AllByRecursion P (terms_symbols (resolve_terms v scope args))
-    symbols_of_terms scope NoTerms e = tt
-    symbols_of_terms scope (MoreTerms first others) e =
-        let parts = parted (mentions first) (argument_mentions others) e in
-        each_of_both P (term_symbols (resolve_term v scope first)) (terms_symbols (resolve_terms v scope others)) (symbols_of_term scope first parts.0) (symbols_of_terms scope others parts.1)
+    pub symbols_of_sums : (scope : List Binding) (args : PlainSums) → list_any (mention_has v (named test)) (argument_mentions args) ≡ false → AllByRecursion P (terms_symbols (resolve_sums v scope args))
+    symbols_of_sums scope NoSums e = tt
+    symbols_of_sums scope (MoreSums first others) e =
+        let parts = parted (sum_mentions first) (argument_mentions others) e in
+        each_of_both P (term_symbols (resolve_sum v scope first)) (terms_symbols (resolve_sums v scope others)) (symbols_of_sum scope first parts.0) (symbols_of_sums scope others parts.1)
+
+    pub symbols_of_sum : (scope : List Binding) (sum : PlainSum) → sum_has v (named test) sum ≡ false → AllByRecursion P (term_symbols (resolve_sum v scope sum))
+    symbols_of_sum scope (Summed first addends) e =
+        let parts = parted (piece_mentions first) (addend_mentions addends) e in
+        symbols_of_addends scope (resolve_piece v scope first) addends (symbols_of_piece scope first parts.0) parts.1
+
+    pub symbols_of_piece : (scope : List Binding) (piece : PlainPiece) → list_any (mention_has v (named test)) (piece_mentions piece) ≡ false → AllByRecursion P (term_symbols (resolve_piece v scope piece))
+    symbols_of_piece scope (Numeral number) e = tt
+    symbols_of_piece scope (Called term) e = symbols_of_term scope term e
+
+    pub symbols_of_addends : (scope : List Binding) (made : Term) (addends : PlainAddends) → AllByRecursion P (term_symbols made) → list_any (mention_has v (named test)) (addend_mentions addends) ≡ false →
+        AllByRecursion P (term_symbols (resolve_addends v scope made addends))
+    symbols_of_addends scope made NoAddends all e = all
+    symbols_of_addends scope made (MoreAddends minus piece others) all e =
+        let parts = parted (piece_mentions piece) (addend_mentions others) e in
+        symbols_of_addends scope (joined minus made (resolve_piece v scope piece)) others
+        (joined_symbols minus made (resolve_piece v scope piece) all (symbols_of_piece scope piece parts.0)) parts.1
 
   -- ---- formulas
 
@@ -103,6 +125,9 @@ module _ (v : Vocabulary) (test : Meaning → Bool) (P : ℕ → Type 0) (so : I
   alone_symbols (resolved.Constant symbol args) all = (all.0, each_of_both P (terms_symbols args) [] all.1 tt)
   alone_symbols (resolved.Variable number) all = tt
   alone_symbols resolved.Nothing all = tt
+  alone_symbols (resolved.Number number) all = tt
+  alone_symbols (resolved.Plus s t) all = each_of_both P (term_symbols s ++ term_symbols t) [] all tt
+  alone_symbols (resolved.Minus s t) all = each_of_both P (term_symbols s ++ term_symbols t) [] all tt
 
   bracket_symbols : (make : ℕ → ℕ → Formula → Formula) → ((variable sort : ℕ) (f : Formula) → formula_symbols (make variable sort f) ≡ formula_symbols f) →
       (scope : List Binding) (number : ℕ) (means : Meaning) (inside : List Binding → Formula) →
@@ -115,16 +140,23 @@ module _ (v : Vocabulary) (test : Meaning → Bool) (P : ℕ → Type 0) (so : I
   bracket_symbols make same scope number (Object object sort) inside all = tt
   bracket_symbols make same scope number (Constant other symbol) inside all = tt
 
-  sides_symbols : (scope : List Binding) (s t : PlainTerm) → (term_has v (named test) s || term_has v (named test) t) || false ≡ false →
-      AllByRecursion P (term_symbols (resolve_term v scope s) ++ term_symbols (resolve_term v scope t))
-  sides_symbols scope s t e =
-      let parts = or_parts (term_has v (named test) s) (term_has v (named test) t) (or_parts _ false e).0 in
-      each_of_both P (term_symbols (resolve_term v scope s)) (term_symbols (resolve_term v scope t)) (symbols_of_term scope s parts.0) (symbols_of_term scope t parts.1)
+  compared_symbols : (comparison : Comparison) (s t : Term) → AllByRecursion P (term_symbols s) → AllByRecursion P (term_symbols t) → AllByRecursion P (formula_symbols (compared comparison s t))
+  compared_symbols trees.IsEqual s t all other = each_of_both P (term_symbols s) (term_symbols t) all other
+  compared_symbols trees.Differs s t all other = each_of_both P (term_symbols s) (term_symbols t) all other
+  compared_symbols trees.IsLess s t all other = each_of_both P (term_symbols s) (term_symbols t) all other
+  compared_symbols trees.IsAtMost s t all other = each_of_both P (term_symbols s) (term_symbols t) all other
+  compared_symbols trees.IsMore s t all other = each_of_both P (term_symbols t) (term_symbols s) other all
+  compared_symbols trees.IsAtLeast s t all other = each_of_both P (term_symbols t) (term_symbols s) other all
+
+  sides_symbols : (scope : List Binding) (comparison : Comparison) (s t : PlainSum) → (sum_has v (named test) s || sum_has v (named test) t) || false ≡ false →
+      AllByRecursion P (formula_symbols (compared comparison (resolve_sum v scope s) (resolve_sum v scope t)))
+  sides_symbols scope comparison s t e =
+      let parts = or_parts (sum_has v (named test) s) (sum_has v (named test) t) (or_parts _ false e).0 in
+      compared_symbols comparison (resolve_sum v scope s) (resolve_sum v scope t) (symbols_of_sum scope s parts.0) (symbols_of_sum scope t parts.1)
 
   pub symbols_of_formula : (scope : List Binding) (next : ℕ) (f : PlainTree) → formula_has v (named test) f ≡ false → AllByRecursion P (formula_symbols (resolve v scope next f))
   symbols_of_formula scope next (trees.Bare term) e = alone_symbols (resolve_term v scope term) (symbols_of_term scope term (or_parts _ false e).0)
-  symbols_of_formula scope next (trees.Equal s t) e = sides_symbols scope s t e
-  symbols_of_formula scope next (trees.Differ s t) e = sides_symbols scope s t e
+  symbols_of_formula scope next (trees.Compared comparison s t) e = sides_symbols scope comparison s t e
   symbols_of_formula scope next (trees.Paren f) e = symbols_of_formula scope next f e
   symbols_of_formula scope next (trees.Not f) e = symbols_of_formula scope next f e
   symbols_of_formula scope next (trees.Both f g) e =

@@ -5,14 +5,16 @@ use Rattle.std.specs.Prelude.{Vec}
 use Rattle.cc_defs.specs.declared.formula.Term as kept
 use Rattle.cc_defs.specs.declared.formula.Term.{items-the_row-Term, items_hidden-the_row-Term-0}
 use Rattle.cc_defs.specs.declared.formula.Term.TheBlock.{hidden-the_row-Term-0}
+use Rattle.cc_defs.specs.declared.tree.Addend.{Addend}
+use Rattle.cc_defs.specs.declared.tree.SumTree.{SumTree, out-SumTree}
 use Rattle.cc_defs.specs.declared.tree.TermTree.{TermTree, out-TermTree}
 use Rattle.cc_defs.specs.Resolved.{Term, Terms, NoTerms, MoreTerms, plain_term}
 use Rattle.cc_defs.specs.Resolved as resolved
 use Rattle.cc_defs.specs.Trees as trees
-use Rattle.cc_laws.specs.Resolving.{Binding, resolve_term, resolve_terms, term_meant}
-use Rattle.cc_laws.specs.Views.{plain_terms, row_terms}
+use Rattle.cc_laws.specs.Resolving.{Binding, resolve_term, resolve_sums, resolve_sum, resolve_piece, resolve_addends, term_meant}
+use Rattle.cc_laws.specs.Views.{plain_sums, plain_added, row_terms}
 use Rattle.cc_laws.specs.Vocabulary.{Vocabulary, Meaning, meaning}
-use Rattle.cc_laws.proofs.Mentions.{plain_parts}
+use Rattle.cc_laws.proofs.Mentions.{term_parts, sum_parts}
 
 pub next_item : {X Y : Type 0} (F : List X → Y) (xs : List X) (i : ℕ) (d : X) → i < length xs → d ≡ get_or xs i d → F (drop i xs) ≡ F (d ∷ drop (i + 1) xs)
 next_item F xs i d within is = at_drop_more F xs i d within ∙ ap (λ x. F (x ∷ drop (i + 1) xs)) (sym is)
@@ -30,24 +32,24 @@ pub behind_none : (terms : Terms) → behind terms NoTerms ≡ terms
 behind_none NoTerms = refl
 behind_none (MoreTerms first others) = ap (MoreTerms first) (behind_none others)
 
-pub resolved_more : (v : Vocabulary) (scope : List Binding) (args : List TermTree) (i : ℕ) (d : TermTree) (made pushed : List kept.Term) (one : kept.Term) (whole : Terms) →
-    i < length args → d ≡ get_or args i d → pushed ≡ made ++ one ∷ [] → plain_term one ≡ resolve_term v scope (trees.plain_term d) →
-    behind (row_terms made) (resolve_terms v scope (plain_terms (drop i args))) ≡ whole →
-    behind (row_terms pushed) (resolve_terms v scope (plain_terms (drop (i + 1) args))) ≡ whole
+pub resolved_more : (v : Vocabulary) (scope : List Binding) (args : List SumTree) (i : ℕ) (d : SumTree) (made pushed : List kept.Term) (one : kept.Term) (whole : Terms) →
+    i < length args → d ≡ get_or args i d → pushed ≡ made ++ one ∷ [] → plain_term one ≡ resolve_sum v scope (trees.plain_sum d) →
+    behind (row_terms made) (resolve_sums v scope (plain_sums (drop i args))) ≡ whole →
+    behind (row_terms pushed) (resolve_sums v scope (plain_sums (drop (i + 1) args))) ≡ whole
 resolved_more v scope args i d made pushed one whole within is push e q =
-    let rest = resolve_terms v scope (plain_terms (drop (i + 1) args)) in
+    let rest = resolve_sums v scope (plain_sums (drop (i + 1) args)) in
     ap (λ (l : List kept.Term). behind (row_terms l) rest) push
     ∙ behind_last made one rest
     ∙ ap (λ (t : Term). behind (row_terms made) (MoreTerms t rest)) e
-    ∙ ap (behind (row_terms made)) (sym (next_item (λ (l : List TermTree). resolve_terms v scope (plain_terms l)) args i d within is))
+    ∙ ap (behind (row_terms made)) (sym (next_item (λ (l : List SumTree). resolve_sums v scope (plain_sums l)) args i d within is))
     ∙ q
 
-pub resolved_all : (v : Vocabulary) (scope : List Binding) (args : List TermTree) (i : ℕ) (made : List kept.Term) (whole : Terms) → length args ≤ i →
-    behind (row_terms made) (resolve_terms v scope (plain_terms (drop i args))) ≡ whole →
+pub resolved_all : (v : Vocabulary) (scope : List Binding) (args : List SumTree) (i : ℕ) (made : List kept.Term) (whole : Terms) → length args ≤ i →
+    behind (row_terms made) (resolve_sums v scope (plain_sums (drop i args))) ≡ whole →
     row_terms made ≡ whole
 resolved_all v scope args i made whole past q =
     sym (behind_none (row_terms made))
-    ∙ ap (behind (row_terms made)) (sym (at_drop_all (λ (l : List TermTree). resolve_terms v scope (plain_terms l)) args i past))
+    ∙ ap (behind (row_terms made)) (sym (at_drop_all (λ (l : List SumTree). resolve_sums v scope (plain_sums l)) args i past))
     ∙ q
 
 -- ---- the vector of a term
@@ -61,9 +63,18 @@ row_made args = search (rules, row_kept, items_hidden-the_row-Term-0)
 
 pub term_resolved : (v : Vocabulary) (scope : List Binding) (term : TermTree) (means : Meaning) (args : Terms) →
     means ≡ meaning v (out-TermTree term).name.now →
-    args ≡ resolve_terms v scope (plain_terms (out-TermTree term).args.items) →
+    args ≡ resolve_sums v scope (plain_sums (out-TermTree term).args.items) →
     term_meant scope means args ≡ resolve_term v scope (trees.plain_term term)
 term_resolved v scope term means args p q =
     ap (λ (m : Meaning). term_meant scope m args) p
     ∙ ap (term_meant scope (meaning v (out-TermTree term).name.now)) q
-    ∙ sym (ap (resolve_term v scope) (plain_parts term))
+    ∙ sym (ap (resolve_term v scope) (term_parts term))
+
+-- a sum whose first piece was made, and the others are left
+pub sum_begun : (v : Vocabulary) (scope : List Binding) (sum : SumTree) (made : Term) (items : List Addend) →
+    made ≡ resolve_piece v scope (trees.plain_piece (out-SumTree sum).first) → items ≡ (out-SumTree sum).rest.items →
+    resolve_addends v scope made (plain_added items) ≡ resolve_sum v scope (trees.plain_sum sum)
+sum_begun v scope sum made items p q =
+    ap (λ (one : Term). resolve_addends v scope one (plain_added items)) p
+    ∙ ap (λ (addends : List Addend). resolve_addends v scope (resolve_piece v scope (trees.plain_piece (out-SumTree sum).first)) (plain_added addends)) q
+    ∙ sym (ap (resolve_sum v scope) (sum_parts sum))

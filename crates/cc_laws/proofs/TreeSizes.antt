@@ -5,8 +5,7 @@ use Rattle.cc_defs.specs.Trees as trees
 
 abbrev pub tree_size : PlainTree → ℕ
 tree_size (trees.Bare term) = 1
-tree_size (trees.Equal s t) = 1
-tree_size (trees.Differ s t) = 1
+tree_size (trees.Compared comparison s t) = 1
 tree_size (trees.Paren f) = tree_size f + 1
 tree_size (trees.Not f) = tree_size f + 2
 tree_size (trees.Both f g) = tree_size f + tree_size g + 2

@@ -17,7 +17,7 @@ use Rattle.cc_defs.specs.Resolved as resolved
 use Rattle.cc_laws.specs.FormulaFaults.{has_action, is_fluent_formula}
 use Rattle.cc_laws.specs.Heads.{definite_heads, listed}
 use Rattle.cc_laws.specs.LawFaults.{law_refusal, law_variables}
-use Rattle.cc_laws.specs.Resolving.{Binding, numbered_from, brackets, alone, resolve, resolve_terms}
+use Rattle.cc_laws.specs.Resolving.{Binding, numbered_from, brackets, alone, resolve, resolve_sums}
 use Rattle.cc_laws.specs.Vocabulary.{Vocabulary, vocabulary, Meaning, Constant, meaning, sort_of_entry}
 
 -- ---- the law `caused F if G after H` that a law is short for
@@ -139,7 +139,7 @@ subject_meant v frame persistence (Constant number symbol) args = value_law v fr
 subject_meant v frame persistence means args = []
 
 abbrev pub subject_laws : Vocabulary → Frame → Persistence → PlainTerm → List BaseLaw
-subject_laws v frame persistence (Applied name args) = subject_meant v frame persistence (meaning v name) (resolve_terms v frame.scope args)
+subject_laws v frame persistence (Applied name args) = subject_meant v frame persistence (meaning v name) (resolve_sums v frame.scope args)
 
 -- ---- the base laws of a law
 

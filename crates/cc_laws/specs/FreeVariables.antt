@@ -1,9 +1,9 @@
 -- The free variables of formulas, by their numbers.
 use Rattle.std.specs.Prelude.{ℕ, Bool, not, if◌then◌else◌, List, [], ◌∷◌, ◌++◌, flat_map, nat_eq, Option, Some, None}
 use Rattle.std.specs.List.{list_any, filter}
-use Rattle.cc_defs.specs.Trees.{PlainTerm, PlainTree}
+use Rattle.cc_defs.specs.Trees.{PlainTerm, PlainSum, PlainTree}
 use Rattle.cc_defs.specs.Trees as trees
-use Rattle.cc_laws.specs.Leaves.{mentions}
+use Rattle.cc_laws.specs.Leaves.{mentions, sum_mentions}
 use Rattle.cc_laws.specs.Vocabulary.{Vocabulary, Meaning, Variable, meaning}
 
 abbrev pub is_among : List ℕ → ℕ → Bool
@@ -22,6 +22,9 @@ optional (Some x) = x ∷ []
 abbrev pub term_variables : Vocabulary → PlainTerm → List ℕ
 term_variables v term = flat_map (λ mention. variable_meant (meaning v mention.name)) (mentions term)
 
+abbrev pub sum_variables : Vocabulary → PlainSum → List ℕ
+sum_variables v sum = flat_map (λ mention. variable_meant (meaning v mention.name)) (sum_mentions sum)
+
 -- those that no bracket around them binds
 abbrev pub unbound : List ℕ → List ℕ → List ℕ
 unbound bound numbers = filter (λ number. not (is_among bound number)) numbers
@@ -29,8 +32,7 @@ unbound bound numbers = filter (λ number. not (is_among bound number)) numbers
 -- The free occurrences of variables in a formula, in the order of its text, inside brackets with these variables.
 abbrev pub free : Vocabulary → List ℕ → PlainTree → List ℕ
 free v bound (trees.Bare term) = unbound bound (term_variables v term)
-free v bound (trees.Equal s t) = unbound bound (term_variables v s) ++ unbound bound (term_variables v t)
-free v bound (trees.Differ s t) = unbound bound (term_variables v s) ++ unbound bound (term_variables v t)
+free v bound (trees.Compared comparison s t) = unbound bound (sum_variables v s) ++ unbound bound (sum_variables v t)
 free v bound (trees.Paren f) = free v bound f
 free v bound (trees.Not f) = free v bound f
 free v bound (trees.Both f g) = free v bound f ++ free v bound g

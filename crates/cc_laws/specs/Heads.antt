@@ -2,10 +2,11 @@
 use Rattle.std.specs.Prelude.{zero, Bool, true, false, not, ◌&&◌, List, [], ◌∷◌, ◌++◌, Option, Some, None}
 use Rattle.cc_defs.specs.Resolved.{Term, Terms, Head}
 use Rattle.cc_defs.specs.Resolved as resolved
-use Rattle.cc_defs.specs.Trees.{PlainTerm, Applied, PlainTree}
+use Rattle.cc_defs.specs.Trees.{PlainTerm, Applied, PlainSum, PlainTree}
 use Rattle.cc_defs.specs.Trees as trees
-use Rattle.cc_laws.specs.FormulaFaults.{term_meaning}
-use Rattle.cc_laws.specs.Resolving.{Binding, resolve_term, resolve_terms}
+use Rattle.cc_laws.specs.FormulaFaults.{sum_has, term_meaning}
+use Rattle.cc_laws.specs.Leaves.{lone}
+use Rattle.cc_laws.specs.Resolving.{Binding, resolve_sum, resolve_sums}
 use Rattle.cc_laws.specs.Vocabulary.{Vocabulary, Meaning, Object, Constant, meaning, is_constant, is_boolean_constant, is_truth_value, is_falsity}
 
 abbrev pub is_constant_term : Vocabulary → PlainTerm → Bool
@@ -32,7 +33,7 @@ atom_meant means args value = None
 
 -- `c=value`, where c is a constant
 abbrev pub atom : Vocabulary → List Binding → PlainTerm → Term → Option (List Head)
-atom v scope (Applied name args) value = atom_meant (meaning v name) (resolve_terms v scope args) value
+atom v scope (Applied name args) value = atom_meant (meaning v name) (resolve_sums v scope args) value
 
 -- the other one of `false` and `true`
 abbrev pub opposite_of : Meaning → Term
@@ -57,13 +58,23 @@ both_heads (Some heads) (Some others) = Some (heads ++ others)
 both_heads (Some heads) None = None
 both_heads None others = None
 
+-- `c=sum`, where c is a constant alone, and the sum has no constant
+abbrev pub value_heads : Vocabulary → List Binding → Option PlainTerm → PlainSum → Option (List Head)
+value_heads v scope None sum = None
+value_heads v scope (Some c) sum =
+    only_if (is_constant_term v c && not (sum_has v (λ means count. is_constant means) sum)) (atom v scope c (resolve_sum v scope sum))
+
+-- that a Boolean constant has not this one of `false` and `true`
+abbrev pub boolean_heads : Vocabulary → List Binding → Option PlainTerm → Option PlainTerm → Option (List Head)
+boolean_heads v scope (Some c) (Some value) = only_if (is_boolean_term v c && is_truth_term v value) (atom v scope c (opposite v value))
+boolean_heads v scope (Some c) None = None
+boolean_heads v scope None value = None
+
 -- What `-` may stand before, and the head that it makes: of a Boolean constant c it is `c=false`; of `c=v` and `v=c`, v one of
 -- `false` and `true`, it is that c has the other one.
 abbrev pub denied_heads : Vocabulary → List Binding → PlainTree → Option (List Head)
 denied_heads v scope (trees.Bare c) = only_if (is_boolean_term v c) (atom v scope c (resolved.Object 0))
-denied_heads v scope (trees.Equal s t) =
-    or_else (only_if (is_boolean_term v s && is_truth_term v t) (atom v scope s (opposite v t)))
-    (only_if (is_truth_term v s && is_boolean_term v t) (atom v scope t (opposite v s)))
+denied_heads v scope (trees.Compared trees.IsEqual s t) = or_else (boolean_heads v scope (lone s) (lone t)) (boolean_heads v scope (lone t) (lone s))
 denied_heads v scope (trees.Paren f) = denied_heads v scope f
 denied_heads v scope formula = None
 
@@ -71,10 +82,8 @@ denied_heads v scope formula = None
 abbrev pub definite_heads : Vocabulary → List Binding → PlainTree → Option (List Head)
 definite_heads v scope (trees.Bare c) =
     or_else (only_if (is_falsity_term v c) (Some (resolved.Falsity ∷ []))) (only_if (is_boolean_term v c) (atom v scope c (resolved.Object 1)))
-definite_heads v scope (trees.Equal s t) =
-    or_else (only_if (is_constant_term v s && not (is_constant_term v t)) (atom v scope s (resolve_term v scope t)))
-    (only_if (is_constant_term v t && not (is_constant_term v s)) (atom v scope t (resolve_term v scope s)))
-definite_heads v scope (trees.Differ s t) = only_if (is_boolean_term v s && is_truth_term v t) (atom v scope s (opposite v t))
+definite_heads v scope (trees.Compared trees.IsEqual s t) = or_else (value_heads v scope (lone s) t) (value_heads v scope (lone t) s)
+definite_heads v scope (trees.Compared trees.Differs s t) = boolean_heads v scope (lone s) (lone t)
 definite_heads v scope (trees.Paren f) = definite_heads v scope f
 definite_heads v scope (trees.Not f) = denied_heads v scope f
 definite_heads v scope (trees.Both f g) = both_heads (definite_heads v scope f) (definite_heads v scope g)

@@ -1,6 +1,6 @@
 -- Formulas with numbers in place of names. A name that means nothing there is refused before, and `none` stands for it.
-use Rattle.std.specs.Prelude.{ℕ, zero, suc, ◌+◌, ◌==◌, if◌then◌else◌, List, [], ◌∷◌, Option, Some, None}
-use Rattle.cc_defs.specs.Trees.{PlainTerm, Applied, PlainTerms, NoTerms, MoreTerms, PlainTree}
+use Rattle.std.specs.Prelude.{Bool, true, false, ℕ, zero, suc, ◌+◌, ◌==◌, if◌then◌else◌, List, [], ◌∷◌, Option, Some, None}
+use Rattle.cc_defs.specs.Trees.{Comparison, PlainTerm, Applied, PlainSums, NoSums, MoreSums, PlainSum, Summed, PlainPiece, Numeral, Called, PlainAddends, NoAddends, MoreAddends, PlainTree}
 use Rattle.cc_defs.specs.Trees as trees
 use Rattle.cc_defs.specs.Resolved.{Term, Terms, Formula}
 use Rattle.cc_defs.specs.Resolved as resolved
@@ -26,8 +26,7 @@ numbered_from number (variable ∷ variables) = record { variable = variable; nu
 -- how many brackets a formula has: each has a number of its own, in the order in which they stand
 abbrev pub brackets : PlainTree → ℕ
 brackets (trees.Bare term) = 0
-brackets (trees.Equal s t) = 0
-brackets (trees.Differ s t) = 0
+brackets (trees.Compared comparison s t) = 0
 brackets (trees.Paren f) = brackets f
 brackets (trees.Not f) = brackets f
 brackets (trees.Both f g) = brackets f + brackets g
@@ -54,13 +53,29 @@ term_meant scope (Object number sort) args = resolved.Object number
 term_meant scope (Variable number sort) args = variable_at (number_in scope number)
 term_meant scope (Constant number symbol) args = resolved.Constant number args
 
+abbrev pub joined : (minus : Bool) → Term → Term → Term
+joined true s t = resolved.Minus s t
+joined false s t = resolved.Plus s t
+
 abbrev mutual
   pub resolve_term : Vocabulary → List Binding → PlainTerm → Term
-  resolve_term v scope (Applied name args) = term_meant scope (meaning v name) (resolve_terms v scope args)
+  resolve_term v scope (Applied name args) = term_meant scope (meaning v name) (resolve_sums v scope args)
 
-  pub resolve_terms : Vocabulary → List Binding → PlainTerms → Terms
-  resolve_terms v scope NoTerms = resolved.NoTerms
-  resolve_terms v scope (MoreTerms first others) = resolved.MoreTerms (resolve_term v scope first) (resolve_terms v scope others)
+  pub resolve_sums : Vocabulary → List Binding → PlainSums → Terms
+  resolve_sums v scope NoSums = resolved.NoTerms
+  resolve_sums v scope (MoreSums first others) = resolved.MoreTerms (resolve_sum v scope first) (resolve_sums v scope others)
+
+  -- a sum is grouped to the left
+  pub resolve_sum : Vocabulary → List Binding → PlainSum → Term
+  resolve_sum v scope (Summed first addends) = resolve_addends v scope (resolve_piece v scope first) addends
+
+  pub resolve_piece : Vocabulary → List Binding → PlainPiece → Term
+  resolve_piece v scope (Numeral number) = resolved.Number number
+  resolve_piece v scope (Called term) = resolve_term v scope term
+
+  pub resolve_addends : Vocabulary → List Binding → Term → PlainAddends → Term
+  resolve_addends v scope made NoAddends = made
+  resolve_addends v scope made (MoreAddends minus piece others) = resolve_addends v scope (joined minus made (resolve_piece v scope piece)) others
 
 -- ---- formulas
 
@@ -70,6 +85,15 @@ alone (resolved.Object zero) = resolved.Falsehood
 alone (resolved.Object (suc zero)) = resolved.Truth
 alone term = resolved.Equal term (resolved.Object 1)
 
+-- a sign of order is one of the two that are less, or not greater
+abbrev pub compared : Comparison → Term → Term → Formula
+compared trees.IsEqual s t = resolved.Equal s t
+compared trees.Differs s t = resolved.Not (resolved.Equal s t)
+compared trees.IsLess s t = resolved.Less s t
+compared trees.IsAtMost s t = resolved.AtMost s t
+compared trees.IsMore s t = resolved.Less t s
+compared trees.IsAtLeast s t = resolved.AtMost t s
+
 -- what stands for a bracket with this number: its variable is seen inside, and hides an outer one of its name
 abbrev pub resolve_bracket : (ℕ → ℕ → Formula → Formula) → List Binding → ℕ → Meaning → (List Binding → Formula) → Formula
 resolve_bracket make scope number (Variable variable sort) inside = make number sort (inside (record { variable = variable; number = number } ∷ scope))
@@ -78,8 +102,7 @@ resolve_bracket make scope number means inside = resolved.Falsehood
 -- a formula whose brackets have the numbers from `next` on
 abbrev pub resolve : Vocabulary → List Binding → (next : ℕ) → PlainTree → Formula
 resolve v scope next (trees.Bare term) = alone (resolve_term v scope term)
-resolve v scope next (trees.Equal s t) = resolved.Equal (resolve_term v scope s) (resolve_term v scope t)
-resolve v scope next (trees.Differ s t) = resolved.Not (resolved.Equal (resolve_term v scope s) (resolve_term v scope t))
+resolve v scope next (trees.Compared comparison s t) = compared comparison (resolve_sum v scope s) (resolve_sum v scope t)
 resolve v scope next (trees.Paren f) = resolve v scope next f
 resolve v scope next (trees.Not f) = resolved.Not (resolve v scope next f)
 resolve v scope next (trees.Both f g) = resolved.Both (resolve v scope next f) (resolve v scope (next + brackets f) g)

@@ -1,12 +1,13 @@
 -- How the code's own types are seen, in the words of the definitions.
-use Rattle.std.specs.Prelude.{ℕ, Bool, ◌||◌, List, [], ◌∷◌, Option, Some, None}
+use Rattle.std.specs.Prelude.{ℕ, Bool, true, false, not, ◌&&◌, ◌||◌, if◌then◌else◌, List, [], ◌∷◌, flat_map, Option, Some, None}
 use Rattle.std.specs.List.{list_any}
 use Rattle.std.specs.Option.{option_map}
 use Rattle.cc_defs.specs.declared.formula.Term as kept_terms
-use Rattle.cc_defs.specs.declared.tree.TermTree.{TermTree}
+use Rattle.cc_defs.specs.declared.tree.Addend.{Addend}
+use Rattle.cc_defs.specs.declared.tree.SumTree.{SumTree}
 use Rattle.cc_defs.specs.Resolved.{Formula, plain_formula}
 use Rattle.cc_defs.specs.Resolved as resolved
-use Rattle.cc_defs.specs.Trees.{PlainTerms, NoTerms, MoreTerms, PlainTree, plain_term, plain_tree}
+use Rattle.cc_defs.specs.Trees.{Comparison, PlainTerm, PlainSums, NoSums, MoreSums, PlainSum, Summed, PlainPiece, Numeral, Called, PlainAddends, NoAddends, MoreAddends, PlainTree, plain_sum, plain_tree}
 use Rattle.cc_defs.specs.Trees as trees
 use Rattle.cc_laws.specs.declared.expansion.Source.{Source}
 use Rattle.cc_laws.specs.declared.meaning.Meaning.{Meaning as KeptMeaning}
@@ -27,19 +28,27 @@ use Rattle.cc_laws.specs.declared.resolving.Bracket.TheVariants as brackets
 use Rattle.cc_laws.specs.declared.values.Persistence.{Persistence as KeptPersistence}
 use Rattle.cc_laws.specs.declared.values.Persistence.TheVariants as kept_persistences
 use Rattle.cc_laws.specs.declared.values.Frame.{Frame as KeptFrame}
+use Rattle.cc_laws.specs.declared.sums.Comparison.{Comparison as KeptComparison}
+use Rattle.cc_laws.specs.declared.sums.Comparison.TheVariants as comparisons
 use Rattle.cc_laws.specs.declared.walk.Check.{Check}
 use Rattle.cc_laws.specs.declared.walk.Check.TheVariants as checks
 use Rattle.cc_laws.specs.Expansion.{Caused, caused, both, Persistence, Exogenous, Inertial, Rigid, Frame, law_frame}
-use Rattle.cc_laws.specs.FormulaFaults.{NameTest, is_unknown_name, is_miscounted, leaf_has, bracket_unknown, leaf_misfits}
-use Rattle.cc_laws.specs.Leaves.{Leaf, leaves}
+use Rattle.cc_laws.specs.FormulaFaults.{NameTest, mention_has, sum_has, is_unknown_name, is_miscounted, leaf_has, bracket_unknown, leaf_misfits}
+use Rattle.cc_laws.specs.FreeVariables.{variable_meant}
+use Rattle.cc_laws.specs.Heads.{is_constant_term, is_boolean_term, is_truth_term}
+use Rattle.cc_laws.specs.Leaves.{Leaf, leaves, piece_mentions}
 use Rattle.cc_laws.specs.Resolving.{Binding}
-use Rattle.cc_laws.specs.Vocabulary.{Vocabulary, Meaning, Unknown, Nothing, Object, Variable, Constant, is_constant, is_action_constant, is_fluent_constant, is_determined_constant}
+use Rattle.cc_laws.specs.Vocabulary.{Vocabulary, Meaning, Unknown, Nothing, Object, Variable, Constant, meaning, is_constant, is_action_constant, is_fluent_constant, is_determined_constant}
 
 -- ---- lists of terms
 
-abbrev pub plain_terms : List TermTree → PlainTerms
-plain_terms [] = NoTerms
-plain_terms (term ∷ terms) = MoreTerms (plain_term term) (plain_terms terms)
+abbrev pub plain_sums : List SumTree → PlainSums
+plain_sums [] = NoSums
+plain_sums (sum ∷ sums) = MoreSums (plain_sum sum) (plain_sums sums)
+
+abbrev pub plain_added : List Addend → PlainAddends
+plain_added [] = NoAddends
+plain_added (addend ∷ addends) = MoreAddends addend.minus (trees.plain_piece addend.piece) (plain_added addends)
 
 abbrev pub row_terms : List kept_terms.Term → resolved.Terms
 row_terms [] = resolved.NoTerms
@@ -71,6 +80,45 @@ leaf_test v checks.Misfits = leaf_misfits v
 
 abbrev pub fails : Vocabulary → Check → PlainTree → Bool
 fails v check formula = list_any (leaf_test v check) (leaves formula)
+
+-- ---- pieces of sums, and signs between them
+
+abbrev pub comparison_of : KeptComparison → Comparison
+comparison_of comparisons.Equal = trees.IsEqual
+comparison_of comparisons.Differs = trees.Differs
+comparison_of comparisons.Less = trees.IsLess
+comparison_of comparisons.AtMost = trees.IsAtMost
+comparison_of comparisons.More = trees.IsMore
+comparison_of comparisons.AtLeast = trees.IsAtLeast
+
+-- whether a sum is one piece
+abbrev pub is_single : PlainSum → Bool
+is_single (Summed first NoAddends) = true
+is_single (Summed first (MoreAddends minus piece others)) = false
+
+-- the term that a piece is
+abbrev pub piece_name : PlainPiece → Option PlainTerm
+piece_name (Numeral number) = None
+piece_name (Called term) = Some term
+
+-- whether a piece has a name of which the test is true
+abbrev pub piece_has : Vocabulary → NameTest → PlainPiece → Bool
+piece_has v test piece = list_any (mention_has v test) (piece_mentions piece)
+
+-- the variables of a piece, in the order of its text
+abbrev pub piece_variables : Vocabulary → PlainPiece → List ℕ
+piece_variables v piece = flat_map (λ mention. variable_meant (meaning v mention.name)) (piece_mentions piece)
+
+-- the term, where it is a constant and the sum beside it has none
+abbrev pub constant_beside : Vocabulary → Option PlainTerm → PlainSum → Option PlainTerm
+constant_beside v None sum = None
+constant_beside v (Some c) sum = if is_constant_term v c && not (sum_has v (λ means count. is_constant means) sum) then Some c else None
+
+-- both terms, where the first is a Boolean constant and the other a truth value
+abbrev pub truth_beside : Vocabulary → Option PlainTerm → Option PlainTerm → Option (PlainTerm × PlainTerm)
+truth_beside v (Some c) (Some value) = if is_boolean_term v c && is_truth_term v value then Some (c, value) else None
+truth_beside v (Some c) None = None
+truth_beside v None value = None
 
 -- ---- what a formula sees: the code keeps the innermost binding last
 

@@ -32,11 +32,15 @@ pub fn classify(table: &Table, law: &Law) -> LawKind
     class(table, &law.head, &law.after)
 }
 
+/// Whether a term has no constant.
 fn is_value(term: &Term) -> bool
     ensures { result ≡ is_no_constant (plain_term term.now) }
 {
     match term {
         Term::Constant { .. } => false,
+        Term::Plus(first, second) | Term::Minus(first, second) => {
+            is_value(first) && is_value(second)
+        }
         _ => true,
     }
 }

@@ -1,18 +1,18 @@
 //! The heads that a definite formula stands for.
 ghost use Rattle.std.specs.Prelude.{◌≡◌, [], Some, map, unwrap_or, IfOk};
 ghost use Rattle.cc_defs.specs.Resolved.{plain_head, plain_term as resolved_term};
-ghost use Rattle.cc_defs.specs.Trees.{plain_term, plain_tree, Bare as bare, Equal as equation, Differ as denial};
+ghost use Rattle.cc_defs.specs.Trees.{plain_sum, plain_term, plain_tree, Bare as bare, Compared as comparison, IsEqual as equal, Differs as differs};
 ghost use Rattle.cc_laws.specs.Heads as words;
 ghost use Rattle.cc_laws.specs.Heads.{both_heads, only_if};
 ghost use Rattle.cc_laws.specs.Resolving as resolving;
 ghost use Rattle.cc_laws.specs.Views.{scope_of};
 ghost use Rattle.cc_laws.specs.Vocabulary.{vocabulary_of};
 
-use crate::heads::{compares_boolean, is_boolean_term, is_constant_term, is_falsity_term};
+use crate::heads::{constant_beside, is_boolean_term, is_falsity_term, truth_beside};
 use crate::meaning::{Meaning, meaning_of_term};
 use crate::names::Names;
-use crate::resolving::resolve_term;
-use cc_defs::{Head, List, OutOfMemory, Term, TermTree, Tree};
+use crate::resolving::{resolve_sum, resolve_term};
+use cc_defs::{Head, List, OutOfMemory, SumTree, Term, TermTree, Tree};
 use cc_sorts::Table;
 use std::alloc::Global;
 
@@ -71,58 +71,71 @@ fn add_bare(
     Ok(false)
 }
 
-/// Adds the head that a constant has the value that a term names.
+/// Adds the head that a constant has the value of a sum.
 fn add_value(
     alloc: Global,
     table: &Table,
     names: &Names,
     constant: &TermTree<'_>,
-    value: &TermTree<'_>,
+    value: &SumTree<'_>,
     found: &mut Vec<Head>,
 ) -> Result<bool, OutOfMemory>
-    ensures { IfOk result (λ definite. only_if definite (Some (map plain_head found.new.items)) ≡ both_heads (Some (map plain_head found.old.items)) (words.atom (vocabulary_of table.now) (scope_of names.now) (plain_term constant.now) (resolving.resolve_term (vocabulary_of table.now) (scope_of names.now) (plain_term value.now)))) }
+    ensures { IfOk result (λ definite. only_if definite (Some (map plain_head found.new.items)) ≡ both_heads (Some (map plain_head found.old.items)) (words.atom (vocabulary_of table.now) (scope_of names.now) (plain_term constant.now) (resolving.resolve_sum (vocabulary_of table.now) (scope_of names.now) (plain_sum value.now)))) }
 {
-    let value = resolve_term(alloc, table, names, value)?;
+    let value = resolve_sum(alloc, table, names, value)?;
     add_atom(alloc, table, names, constant, value, found)
 }
 
-#[tactic(auto, using(crate::proofs::HeadTests::or_none))]
-/// Adds the head of an equation: the constant on one side has the value on the other.
+#[tactic(auto, using(crate::proofs::HeadTests::valued_left, crate::proofs::HeadTests::valued_right))]
+/// Adds the head of an equation: the constant alone on one side has the value on the other, which has no constant.
 fn add_equation(
     alloc: Global,
     table: &Table,
     names: &Names,
-    left: &TermTree<'_>,
-    right: &TermTree<'_>,
+    left: &SumTree<'_>,
+    right: &SumTree<'_>,
     found: &mut Vec<Head>,
 ) -> Result<bool, OutOfMemory>
-    ensures { IfOk result (λ definite. only_if definite (Some (map plain_head found.new.items)) ≡ both_heads (Some (map plain_head found.old.items)) (words.definite_heads (vocabulary_of table.now) (scope_of names.now) (equation (plain_term left.now) (plain_term right.now)))) }
+    ensures { IfOk result (λ definite. only_if definite (Some (map plain_head found.new.items)) ≡ both_heads (Some (map plain_head found.old.items)) (words.definite_heads (vocabulary_of table.now) (scope_of names.now) (comparison equal (plain_sum left.now) (plain_sum right.now)))) }
 {
-    match (
-        is_constant_term(table, left),
-        is_constant_term(table, right),
-    ) {
-        (true, false) => add_value(alloc, table, names, left, right, found),
-        (false, true) => add_value(alloc, table, names, right, left, found),
-        (true, true) | (false, false) => Ok(false),
+    match constant_beside(table, left, right) {
+        Some(first) => add_value(alloc, table, names, first, right, found),
+        None => match constant_beside(table, right, left) {
+            Some(second) => add_value(alloc, table, names, second, left, found),
+            None => Ok(false),
+        },
     }
 }
 
-/// Adds the head of the denial of an equation of a Boolean constant with a truth value.
-fn add_denial(
+/// Adds the head that a Boolean constant has the other one of `false` and `true` than the term beside it.
+fn add_opposite(
     alloc: Global,
     table: &Table,
     names: &Names,
-    left: &TermTree<'_>,
-    right: &TermTree<'_>,
+    constant: &TermTree<'_>,
+    truth: &TermTree<'_>,
     found: &mut Vec<Head>,
 ) -> Result<bool, OutOfMemory>
-    ensures { IfOk result (λ definite. only_if definite (Some (map plain_head found.new.items)) ≡ both_heads (Some (map plain_head found.old.items)) (words.definite_heads (vocabulary_of table.now) (scope_of names.now) (denial (plain_term left.now) (plain_term right.now)))) }
+    ensures { IfOk result (λ definite. only_if definite (Some (map plain_head found.new.items)) ≡ both_heads (Some (map plain_head found.old.items)) (words.atom (vocabulary_of table.now) (scope_of names.now) (plain_term constant.now) (words.opposite (vocabulary_of table.now) (plain_term truth.now)))) }
 {
-    if compares_boolean(table, left, right) {
-        return add_atom(alloc, table, names, left, opposite(table, right), found);
+    add_atom(alloc, table, names, constant, opposite(table, truth), found)
+}
+
+/// Adds the head of the denial of an equation of a Boolean constant with a truth value.
+fn add_denial<'t, 's>(
+    alloc: Global,
+    table: &Table,
+    names: &Names,
+    left: &'t SumTree<'s>,
+    right: &'t SumTree<'s>,
+    found: &mut Vec<Head>,
+) -> Result<bool, OutOfMemory>
+    ensures { IfOk result (λ definite. only_if definite (Some (map plain_head found.new.items)) ≡ both_heads (Some (map plain_head found.old.items)) (words.definite_heads (vocabulary_of table.now) (scope_of names.now) (comparison differs (plain_sum left.now) (plain_sum right.now)))) }
+{
+    match truth_beside(table, left, right) {
+        Some(pair) => add_opposite(alloc, table, names, pair.0, pair.1, found),
+        None => Ok(false),
     }
-    Ok(false)
 }
 
 /// Adds the head of `-c`, c a Boolean constant.
@@ -142,23 +155,23 @@ fn add_denied_term(
 }
 
 /// Adds the head of `-s=t`, one of s and t a Boolean constant and the other a truth value.
-fn add_denied_equation(
+fn add_denied_equation<'t, 's>(
     alloc: Global,
     table: &Table,
     names: &Names,
-    left: &TermTree<'_>,
-    right: &TermTree<'_>,
+    left: &'t SumTree<'s>,
+    right: &'t SumTree<'s>,
     found: &mut Vec<Head>,
 ) -> Result<bool, OutOfMemory>
-    ensures { IfOk result (λ definite. only_if definite (Some (map plain_head found.new.items)) ≡ both_heads (Some (map plain_head found.old.items)) (words.denied_heads (vocabulary_of table.now) (scope_of names.now) (equation (plain_term left.now) (plain_term right.now)))) }
+    ensures { IfOk result (λ definite. only_if definite (Some (map plain_head found.new.items)) ≡ both_heads (Some (map plain_head found.old.items)) (words.denied_heads (vocabulary_of table.now) (scope_of names.now) (comparison equal (plain_sum left.now) (plain_sum right.now)))) }
 {
-    if compares_boolean(table, left, right) {
-        return add_atom(alloc, table, names, left, opposite(table, right), found);
+    match truth_beside(table, left, right) {
+        Some(pair) => add_opposite(alloc, table, names, pair.0, pair.1, found),
+        None => match truth_beside(table, right, left) {
+            Some(pair) => add_opposite(alloc, table, names, pair.0, pair.1, found),
+            None => Ok(false),
+        },
     }
-    if compares_boolean(table, right, left) {
-        return add_atom(alloc, table, names, right, opposite(table, left), found);
-    }
-    Ok(false)
 }
 
 /// Adds the head of what a `-` stands before; answers whether it may stand there.

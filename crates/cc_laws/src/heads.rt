@@ -1,15 +1,19 @@
 //! Which formulas are definite: conjunctions of what a head may be.
-ghost use Rattle.std.specs.Prelude.{◌≡◌, ◌&&◌, [], is_some};
-ghost use Rattle.cc_defs.specs.Trees.{plain_term, plain_tree, Bare as bare, Equal as equation, Differ as denial};
+ghost use Rattle.std.specs.Prelude.{◌≡◌, [], is_some, option_map};
+ghost use Rattle.cc_defs.specs.Trees.{plain_sum, plain_term, plain_tree, Bare as bare, Compared as comparison, IsEqual as equal, Differs as differs};
 ghost use Rattle.cc_laws.specs.Heads as words;
 ghost use Rattle.cc_laws.specs.LawFaults as faults;
+ghost use Rattle.cc_laws.specs.Leaves.{lone as alone};
+ghost use Rattle.cc_laws.specs.Views.{constant_beside as is_beside, truth_beside as are_beside};
 ghost use Rattle.cc_laws.specs.Vocabulary.{vocabulary_of};
 
 use crate::meaning::meaning_of_term;
-use cc_defs::{TermTree, Tree};
+use crate::mention::{Property, sum_has};
+use crate::sums::lone;
+use cc_defs::{SumTree, TermTree, Tree};
 use cc_sorts::Table;
 
-pub(crate) fn is_constant_term(table: &Table, term: &TermTree<'_>) -> bool
+fn is_constant_term(table: &Table, term: &TermTree<'_>) -> bool
     ensures { result ≡ words.is_constant_term (vocabulary_of table.now) (plain_term term.now) }
 {
     meaning_of_term(table, term).is_constant()
@@ -33,11 +37,66 @@ pub(crate) fn is_falsity_term(table: &Table, term: &TermTree<'_>) -> bool
     meaning_of_term(table, term).is_falsity()
 }
 
-/// Whether a Boolean constant is compared with `false` or `true`.
-pub(crate) fn compares_boolean(table: &Table, constant: &TermTree<'_>, value: &TermTree<'_>) -> bool
-    ensures { result ≡ words.is_boolean_term (vocabulary_of table.now) (plain_term constant.now) && words.is_truth_term (vocabulary_of table.now) (plain_term value.now) }
+/// The constant that a sum is alone, where the other sum has no constant.
+pub(crate) fn constant_beside<'t, 's>(
+    table: &Table,
+    constant: &'t SumTree<'s>,
+    value: &SumTree<'_>,
+) -> Option<&'t TermTree<'s>>
+    ensures { option_map (λ term. plain_term term.now) result ≡ is_beside (vocabulary_of table.now) (alone (plain_sum constant.now)) (plain_sum value.now) }
 {
-    is_boolean_term(table, constant) && is_truth_term(table, value)
+    match lone(constant) {
+        Some(term) => {
+            if is_constant_term(table, term) && !sum_has(table, Property::Constant, value) {
+                Some(term)
+            } else {
+                None
+            }
+        }
+        None => None,
+    }
+}
+
+fn has_constant_beside(table: &Table, constant: &SumTree<'_>, value: &SumTree<'_>) -> bool
+    ensures { result ≡ is_some (is_beside (vocabulary_of table.now) (alone (plain_sum constant.now)) (plain_sum value.now)) }
+{
+    match constant_beside(table, constant, value) {
+        Some(_) => true,
+        None => false,
+    }
+}
+
+/// Both terms, where a Boolean constant is compared with `false` or `true`.
+pub(crate) fn truth_beside<'t, 's>(
+    table: &Table,
+    constant: &'t SumTree<'s>,
+    value: &'t SumTree<'s>,
+) -> Option<(&'t TermTree<'s>, &'t TermTree<'s>)>
+    ensures { option_map (λ pair. (plain_term pair.0.now, plain_term pair.1.now)) result ≡ are_beside (vocabulary_of table.now) (alone (plain_sum constant.now)) (alone (plain_sum value.now)) }
+{
+    match (lone(constant), lone(value)) {
+        (Some(term), Some(truth)) => {
+            if is_boolean_term(table, term) && is_truth_term(table, truth) {
+                Some((term, truth))
+            } else {
+                None
+            }
+        }
+        (Some(_), None) | (None, _) => None,
+    }
+}
+
+fn has_truth_beside<'t, 's>(
+    table: &Table,
+    constant: &'t SumTree<'s>,
+    value: &'t SumTree<'s>,
+) -> bool
+    ensures { result ≡ is_some (are_beside (vocabulary_of table.now) (alone (plain_sum constant.now)) (alone (plain_sum value.now))) }
+{
+    match truth_beside(table, constant, value) {
+        Some(_) => true,
+        None => false,
+    }
 }
 
 /// Whether a term alone is a head: `false` or a Boolean constant.
@@ -48,21 +107,20 @@ fn is_definite_term(table: &Table, term: &TermTree<'_>) -> bool
     is_falsity_term(table, term) || is_boolean_term(table, term)
 }
 
-/// Whether an equation is an atom: one side is a constant and the other is none.
+/// Whether an equation is an atom: one side is a constant alone and the other has none.
 #[tactic(auto, using(crate::proofs::HeadTests::equation_definite))]
-fn is_atom(table: &Table, left: &TermTree<'_>, right: &TermTree<'_>) -> bool
-    ensures { result ≡ faults.is_definite (vocabulary_of table.now) (equation (plain_term left.now) (plain_term right.now)) }
+fn is_atom(table: &Table, left: &SumTree<'_>, right: &SumTree<'_>) -> bool
+    ensures { result ≡ faults.is_definite (vocabulary_of table.now) (comparison equal (plain_sum left.now) (plain_sum right.now)) }
 {
-    (is_constant_term(table, left) && !is_constant_term(table, right))
-        || (is_constant_term(table, right) && !is_constant_term(table, left))
+    has_constant_beside(table, left, right) || has_constant_beside(table, right, left)
 }
 
 /// Whether the denial of an equation is a head: a Boolean constant is compared with `false` or `true`.
 #[tactic(auto, using(crate::proofs::HeadTests::denial_definite))]
-fn is_definite_denial(table: &Table, left: &TermTree<'_>, right: &TermTree<'_>) -> bool
-    ensures { result ≡ faults.is_definite (vocabulary_of table.now) (denial (plain_term left.now) (plain_term right.now)) }
+fn is_definite_denial<'t, 's>(table: &Table, left: &'t SumTree<'s>, right: &'t SumTree<'s>) -> bool
+    ensures { result ≡ faults.is_definite (vocabulary_of table.now) (comparison differs (plain_sum left.now) (plain_sum right.now)) }
 {
-    compares_boolean(table, left, right)
+    has_truth_beside(table, left, right)
 }
 
 #[tactic(auto, using(crate::proofs::HeadTests::bare_deniable))]
@@ -73,10 +131,14 @@ fn is_deniable_term(table: &Table, term: &TermTree<'_>) -> bool
 }
 
 #[tactic(auto, using(crate::proofs::HeadTests::equation_deniable))]
-fn is_deniable_equation(table: &Table, left: &TermTree<'_>, right: &TermTree<'_>) -> bool
-    ensures { result ≡ is_some (words.denied_heads (vocabulary_of table.now) [] (equation (plain_term left.now) (plain_term right.now))) }
+fn is_deniable_equation<'t, 's>(
+    table: &Table,
+    left: &'t SumTree<'s>,
+    right: &'t SumTree<'s>,
+) -> bool
+    ensures { result ≡ is_some (words.denied_heads (vocabulary_of table.now) [] (comparison equal (plain_sum left.now) (plain_sum right.now))) }
 {
-    compares_boolean(table, left, right) || compares_boolean(table, right, left)
+    has_truth_beside(table, left, right) || has_truth_beside(table, right, left)
 }
 
 /// Whether a head may be the denial of the formula.

@@ -16,6 +16,7 @@ mod pieces;
 mod questions;
 mod resolving;
 mod steps;
+mod sums;
 mod values;
 mod variables;
 mod walk;

@@ -1,12 +1,12 @@
-//! The names in a term.
+//! The names in terms and sums.
 ghost use Rattle.std.specs.Prelude.{◌≡◌};
-ghost use Rattle.cc_defs.specs.Trees.{plain_term};
+ghost use Rattle.cc_defs.specs.Trees.{plain_piece, plain_sum, plain_term};
 ghost use Rattle.cc_laws.specs.FormulaFaults as faults;
-ghost use Rattle.cc_laws.specs.Views.{asks};
+ghost use Rattle.cc_laws.specs.Views.{asks, piece_has as has_named};
 ghost use Rattle.cc_laws.specs.Vocabulary.{vocabulary_of};
 
 use crate::meaning::meaning_of;
-use cc_defs::TermTree;
+use cc_defs::{Piece, SumTree, TermTree};
 use cc_sorts::Table;
 
 /// What is asked of a name.
@@ -27,6 +27,7 @@ pub(crate) enum Property {
 }
 
 /// Whether a term has a name with the property, in its arguments too.
+#[cycle(has)]
 pub(crate) fn term_has(table: &Table, property: Property, term: &TermTree<'_>) -> bool
     ensures { result ≡ faults.term_has (vocabulary_of table.now) (asks property) (plain_term term.now) }
 {
@@ -34,9 +35,36 @@ pub(crate) fn term_has(table: &Table, property: Property, term: &TermTree<'_>) -
         return true;
     }
     for argument in &term.args {
-        if term_has(table, property, argument) {
+        if sum_has(table, property, argument) {
             return true;
         }
     }
     false
+}
+
+/// Whether a sum has such a name.
+#[cycle(has)]
+pub(crate) fn sum_has(table: &Table, property: Property, sum: &SumTree<'_>) -> bool
+    ensures { result ≡ faults.sum_has (vocabulary_of table.now) (asks property) (plain_sum sum.now) }
+{
+    if piece_has(table, property, &sum.first) {
+        return true;
+    }
+    for addend in &sum.rest {
+        if piece_has(table, property, &addend.piece) {
+            return true;
+        }
+    }
+    false
+}
+
+/// Whether a piece has such a name; a number has none.
+#[cycle(has)]
+fn piece_has(table: &Table, property: Property, piece: &Piece<'_>) -> bool
+    ensures { result ≡ has_named (vocabulary_of table.now) (asks property) (plain_piece piece.now) }
+{
+    match piece {
+        Piece::Number(_) => false,
+        Piece::Name(term) => term_has(table, property, term),
+    }
 }

@@ -1,14 +1,17 @@
 //! Terms and brackets that stand where their sort or kind does not fit.
-ghost use Rattle.std.specs.Prelude.{◌≡◌};
-ghost use Rattle.cc_defs.specs.Trees.{plain_term};
+ghost use Rattle.std.specs.Prelude.{◌≡◌, option_map};
+ghost use Rattle.std.specs.List.{list_any};
+ghost use Rattle.cc_defs.specs.Trees.{plain_piece, plain_sum, plain_term};
 ghost use Rattle.cc_laws.specs.FormulaFaults as faults;
-ghost use Rattle.cc_laws.specs.Leaves.{Bare, Equation};
-ghost use Rattle.cc_laws.specs.Views.{plain_meaning, plain_terms};
+ghost use Rattle.cc_laws.specs.Leaves.{Bare, Compared, pieces};
+ghost use Rattle.cc_laws.specs.Views.{comparison_of, plain_meaning, plain_sums};
 ghost use Rattle.cc_laws.specs.Vocabulary as words;
 ghost use Rattle.cc_laws.specs.Vocabulary.{vocabulary_of};
 
 use crate::meaning::{Meaning, meaning_of, meaning_of_term};
-use cc_defs::{Symbol, TermTree};
+use crate::mention::{Property, sum_has};
+use crate::sums::{Comparison, is_single, lone_meaning};
+use cc_defs::{Piece, SumTree, Symbol, TermTree};
 use cc_sorts::Table;
 
 /// Whether a sort is the other or below it; one that is not there is below none.
@@ -23,25 +26,81 @@ fn sort_below(table: &Table, lower: u32, upper: u32) -> bool
     }
 }
 
-/// Whether a term with this meaning is no argument of the sort.
-fn argument_misfits(table: &Table, sort: u32, argument: &Meaning<'_>) -> bool
-    ensures { result ≡ faults.argument_misfits (vocabulary_of table.now) sort (plain_meaning argument.now) }
+/// Whether a term with this meaning may be no part of a sum of two or more, and no side of an order.
+fn part_misfits(means: &Meaning<'_>) -> bool
+    ensures { result ≡ faults.part_misfits (plain_meaning means.now) }
 {
-    match argument {
-        Meaning::Object(_, own) | Meaning::Variable(_, own) => !sort_below(table, *own, sort),
-        _ => true,
+    match means {
+        Meaning::Nothing | Meaning::Object(..) => true,
+        Meaning::Constant(..) => means.is_boolean_constant(),
+        _ => false,
     }
 }
 
+fn piece_misfits(table: &Table, piece: &Piece<'_>) -> bool
+    ensures { result ≡ faults.piece_misfits (vocabulary_of table.now) (plain_piece piece.now) }
+{
+    match piece {
+        Piece::Number(_) => false,
+        Piece::Name(term) => part_misfits(&meaning_of_term(table, term)),
+    }
+}
+
+fn some_piece_misfits(table: &Table, sum: &SumTree<'_>) -> bool
+    ensures { result ≡ list_any (faults.piece_misfits (vocabulary_of table.now)) (pieces (plain_sum sum.now)) }
+{
+    if piece_misfits(table, &sum.first) {
+        return true;
+    }
+    for addend in &sum.rest {
+        if piece_misfits(table, &addend.piece) {
+            return true;
+        }
+    }
+    false
+}
+
+/// Whether a sum of two pieces or more has one that may be no part of it.
+fn sum_misfits(table: &Table, sum: &SumTree<'_>) -> bool
+    ensures { result ≡ faults.sum_misfits (vocabulary_of table.now) (plain_sum sum.now) }
+{
+    if is_single(sum) {
+        return false;
+    }
+    some_piece_misfits(table, sum)
+}
+
+/// Whether a name alone with this meaning is no argument of the sort; what is no name alone has none.
+fn name_misfits(table: &Table, sort: u32, name: &Option<Meaning<'_>>) -> bool
+    ensures { result ≡ faults.name_misfits (vocabulary_of table.now) sort (option_map plain_meaning name.now) }
+{
+    match name {
+        None => false,
+        Some(Meaning::Object(_, own)) | Some(Meaning::Variable(_, own)) => {
+            !sort_below(table, *own, sort)
+        }
+        Some(_) => true,
+    }
+}
+
+/// Whether a sum is no argument of the sort.
+fn argument_misfits(table: &Table, sort: u32, argument: &SumTree<'_>) -> bool
+    ensures { result ≡ faults.argument_misfits (vocabulary_of table.now) sort (plain_sum argument.now) }
+{
+    sum_has(table, Property::Constant, argument)
+        || (sum_misfits(table, argument)
+            || name_misfits(table, sort, &lone_meaning(table, argument)))
+}
+
 /// Whether an argument does not fit its sort, as far as there are sorts.
-fn some_argument_misfits(table: &Table, sorts: &[u32], args: &[TermTree<'_>]) -> bool
-    ensures { result ≡ faults.some_argument_misfits (vocabulary_of table.now) sorts.now (plain_terms args.now) }
+fn some_argument_misfits(table: &Table, sorts: &[u32], args: &[SumTree<'_>]) -> bool
+    ensures { result ≡ faults.some_argument_misfits (vocabulary_of table.now) sorts.now (plain_sums args.now) }
 {
     for place in 0..sorts.len() {
         let Some(argument) = args.get(place) else {
             return false;
         };
-        if argument_misfits(table, sorts[place], &meaning_of_term(table, argument)) {
+        if argument_misfits(table, sorts[place], argument) {
             return true;
         }
     }
@@ -49,8 +108,8 @@ fn some_argument_misfits(table: &Table, sorts: &[u32], args: &[TermTree<'_>]) ->
 }
 
 /// Whether an argument of a name with this meaning does not fit.
-fn arguments_misfit(table: &Table, means: &Meaning<'_>, args: &[TermTree<'_>]) -> bool
-    ensures { result ≡ faults.arguments_misfit (vocabulary_of table.now) (plain_meaning means.now) (plain_terms args.now) }
+fn arguments_misfit(table: &Table, means: &Meaning<'_>, args: &[SumTree<'_>]) -> bool
+    ensures { result ≡ faults.arguments_misfit (vocabulary_of table.now) (plain_meaning means.now) (plain_sums args.now) }
 {
     match means {
         Meaning::Constant(_, symbol) => some_argument_misfits(table, symbol.sorts.items(), args),
@@ -63,6 +122,37 @@ pub(crate) fn term_misfits(table: &Table, term: &TermTree<'_>) -> bool
     ensures { result ≡ faults.term_misfits (vocabulary_of table.now) (plain_term term.now) }
 {
     arguments_misfit(table, &meaning_of_term(table, term), &term.args)
+}
+
+fn piece_term_misfits(table: &Table, piece: &Piece<'_>) -> bool
+    ensures { result ≡ faults.piece_term_misfits (vocabulary_of table.now) (plain_piece piece.now) }
+{
+    match piece {
+        Piece::Number(_) => false,
+        Piece::Name(term) => term_misfits(table, term),
+    }
+}
+
+/// Whether an argument of a piece does not fit.
+fn some_term_misfits(table: &Table, sum: &SumTree<'_>) -> bool
+    ensures { result ≡ list_any (faults.piece_term_misfits (vocabulary_of table.now)) (pieces (plain_sum sum.now)) }
+{
+    if piece_term_misfits(table, &sum.first) {
+        return true;
+    }
+    for addend in &sum.rest {
+        if piece_term_misfits(table, &addend.piece) {
+            return true;
+        }
+    }
+    false
+}
+
+/// Whether a piece of a sum does not fit, or an argument of one.
+fn side_misfits(table: &Table, sum: &SumTree<'_>) -> bool
+    ensures { result ≡ faults.side_misfits (vocabulary_of table.now) (plain_sum sum.now) }
+{
+    sum_misfits(table, sum) || some_term_misfits(table, sum)
 }
 
 /// Whether a term with this meaning is no value of the symbol.
@@ -98,6 +188,53 @@ fn sides_misfit(table: &Table, left: &Meaning<'_>, right: &Meaning<'_>) -> bool
     }
 }
 
+/// Whether two sums, of which a name alone has a meaning, may not be said to be equal.
+fn equal_sides_misfit(
+    table: &Table,
+    left: &Option<Meaning<'_>>,
+    right: &Option<Meaning<'_>>,
+) -> bool
+    ensures { result ≡ faults.equal_sides_misfit (vocabulary_of table.now) (option_map plain_meaning left.now) (option_map plain_meaning right.now) }
+{
+    match (left, right) {
+        (Some(one), Some(other)) => sides_misfit(table, one, other),
+        (Some(one), None) => nothing_misfits(one),
+        (None, Some(other)) => nothing_misfits(other),
+        (None, None) => false,
+    }
+}
+
+fn is_part_misfit(name: &Option<Meaning<'_>>) -> bool
+    ensures { result ≡ faults.is_part_misfit (option_map plain_meaning name.now) }
+{
+    match name {
+        Some(means) => part_misfits(means),
+        None => false,
+    }
+}
+
+/// Whether an order may not stand between them.
+fn order_sides_misfit(left: &Option<Meaning<'_>>, right: &Option<Meaning<'_>>) -> bool
+    ensures { result ≡ faults.order_sides_misfit (option_map plain_meaning left.now) (option_map plain_meaning right.now) }
+{
+    is_part_misfit(left) || is_part_misfit(right)
+}
+
+/// Whether the sign may not stand between them.
+fn compared_misfit(
+    table: &Table,
+    comparison: Comparison,
+    left: &Option<Meaning<'_>>,
+    right: &Option<Meaning<'_>>,
+) -> bool
+    ensures { result ≡ faults.compared_misfit (comparison_of comparison) (vocabulary_of table.now) (option_map plain_meaning left.now) (option_map plain_meaning right.now) }
+{
+    match comparison {
+        Comparison::Equal | Comparison::Differs => equal_sides_misfit(table, left, right),
+        _ => order_sides_misfit(left, right),
+    }
+}
+
 /// Whether a term does not fit as a formula.
 pub(crate) fn bare_misfits(table: &Table, term: &TermTree<'_>) -> bool
     ensures { result ≡ faults.leaf_misfits (vocabulary_of table.now) (Bare (plain_term term.now)) }
@@ -105,15 +242,21 @@ pub(crate) fn bare_misfits(table: &Table, term: &TermTree<'_>) -> bool
     !meaning_of_term(table, term).stands_alone() || term_misfits(table, term)
 }
 
-/// Whether an equation of two terms does not fit.
-pub(crate) fn equation_misfits(table: &Table, left: &TermTree<'_>, right: &TermTree<'_>) -> bool
-    ensures { result ≡ faults.leaf_misfits (vocabulary_of table.now) (Equation (plain_term left.now) (plain_term right.now)) }
+/// Whether two sums with a sign between them do not fit.
+pub(crate) fn comparison_misfits(
+    table: &Table,
+    comparison: Comparison,
+    left: &SumTree<'_>,
+    right: &SumTree<'_>,
+) -> bool
+    ensures { result ≡ faults.leaf_misfits (vocabulary_of table.now) (Compared (comparison_of comparison) (plain_sum left.now) (plain_sum right.now)) }
 {
-    sides_misfit(
+    compared_misfit(
         table,
-        &meaning_of_term(table, left),
-        &meaning_of_term(table, right),
-    ) || (term_misfits(table, left) || term_misfits(table, right))
+        comparison,
+        &lone_meaning(table, left),
+        &lone_meaning(table, right),
+    ) || (side_misfits(table, left) || side_misfits(table, right))
 }
 
 /// Whether a bracket's name does not fit.

@@ -2,15 +2,16 @@
 ghost use Rattle.std.specs.Prelude.{◌≡◌, ◌+◌, ◌∷◌, IfOk, OnOk};
 ghost use Rattle.cc_defs.specs.Resolved.{plain_term as resolved_term, plain_formula};
 ghost use Rattle.cc_defs.specs.Resolved as resolved;
-ghost use Rattle.cc_defs.specs.Trees.{plain_term, plain_tree};
+ghost use Rattle.cc_defs.specs.Trees.{plain_piece, plain_sum, plain_term, plain_tree};
 ghost use Rattle.cc_laws.specs.Resolving as words;
-ghost use Rattle.cc_laws.specs.Views.{bracket_over, joined_by, plain_binding, plain_meaning, row_terms, scope_of};
+ghost use Rattle.cc_laws.specs.Views.{bracket_over, comparison_of, joined_by, plain_binding, plain_meaning, row_terms, scope_of};
 ghost use Rattle.cc_laws.specs.Vocabulary as vocabulary;
 ghost use Rattle.cc_laws.specs.Vocabulary.{vocabulary_of};
 
 use crate::meaning::{Meaning, meaning_of};
 use crate::names::{Binding, Names};
-use cc_defs::{Formula, OutOfMemory, Term, TermTree, Tree};
+use crate::sums::Comparison;
+use cc_defs::{Formula, OutOfMemory, Piece, SumTree, Term, TermTree, Tree};
 use cc_sorts::Table;
 use std::alloc::Global;
 
@@ -30,7 +31,21 @@ fn term_meant(names: &Names, means: Meaning<'_>, args: Vec<Term>) -> Term
     }
 }
 
+/// A term with another that is added, or taken away.
+fn joined(alloc: Global, made: Term, minus: bool, piece: Term) -> Result<Term, OutOfMemory>
+    ensures { IfOk result (λ sum. resolved_term sum ≡ words.joined minus (resolved_term made) (resolved_term piece)) }
+{
+    let made = Box::new(alloc, made)?;
+    let piece = Box::new(alloc, piece)?;
+    Ok(if minus {
+        Term::Minus(made, piece)
+    } else {
+        Term::Plus(made, piece)
+    })
+}
+
 /// The term with numbers in place of names.
+#[cycle(terms)]
 pub(crate) fn resolve_term(
     alloc: Global,
     table: &Table,
@@ -41,9 +56,47 @@ pub(crate) fn resolve_term(
 {
     let mut args = Vec::with_capacity(alloc, term.args.len())?;
     for argument in &term.args {
-        args.push(resolve_term(alloc, table, names, argument)?)?;
+        args.push(resolve_sum(alloc, table, names, argument)?)?;
     }
     Ok(term_meant(names, meaning_of(table, term.name), args))
+}
+
+/// The sum with numbers in place of names, grouped to the left.
+#[cycle(terms)]
+pub(crate) fn resolve_sum(
+    alloc: Global,
+    table: &Table,
+    names: &Names,
+    sum: &SumTree<'_>,
+) -> Result<Term, OutOfMemory>
+    ensures { IfOk result (λ made. resolved_term made ≡ words.resolve_sum (vocabulary_of table.now) (scope_of names.now) (plain_sum sum.now)) }
+{
+    let mut made = resolve_piece(alloc, table, names, &sum.first)?;
+    for addend in &sum.rest {
+        made = joined(
+            alloc,
+            made,
+            addend.minus,
+            resolve_piece(alloc, table, names, &addend.piece)?,
+        )?;
+    }
+    Ok(made)
+}
+
+/// The piece with numbers in place of names. A number asks no table.
+#[cycle(terms)]
+fn resolve_piece(
+    alloc: Global,
+    table: &Table,
+    names: &Names,
+    piece: &Piece<'_>,
+) -> Result<Term, OutOfMemory>
+    ensures { IfOk result (λ made. resolved_term made ≡ words.resolve_piece (vocabulary_of table.now) (scope_of names.now) (plain_piece piece.now)) }
+{
+    match piece {
+        Piece::Number(number) => Ok(Term::Number(*number)),
+        Piece::Name(term) => resolve_term(alloc, table, names, term),
+    }
 }
 
 /// The formula that a term alone is.
@@ -55,20 +108,6 @@ fn alone(term: Term) -> Formula
         Term::Object(1) => Formula::True,
         term => Formula::Equal(term, Term::Object(1)),
     }
-}
-
-fn resolve_equal(
-    alloc: Global,
-    table: &Table,
-    names: &Names,
-    left: &TermTree<'_>,
-    right: &TermTree<'_>,
-) -> Result<Formula, OutOfMemory>
-    ensures { IfOk result (λ made. plain_formula made ≡ resolved.Equal (words.resolve_term (vocabulary_of table.now) (scope_of names.now) (plain_term left.now)) (words.resolve_term (vocabulary_of table.now) (scope_of names.now) (plain_term right.now))) }
-{
-    let left = resolve_term(alloc, table, names, left)?;
-    let right = resolve_term(alloc, table, names, right)?;
-    Ok(Formula::Equal(left, right))
 }
 
 pub(crate) fn negated(alloc: Global, formula: Formula) -> Result<Formula, OutOfMemory>
@@ -109,18 +148,39 @@ fn bracket_of(
     })
 }
 
-/// The denial of an equation.
-fn resolve_differ(
+/// Two terms with a sign between them: an order is said by the two that are less, or not greater.
+fn compared(
+    alloc: Global,
+    comparison: Comparison,
+    left: Term,
+    right: Term,
+) -> Result<Formula, OutOfMemory>
+    ensures { IfOk result (λ made. plain_formula made ≡ words.compared (comparison_of comparison) (resolved_term left) (resolved_term right)) }
+{
+    match comparison {
+        Comparison::Equal => Ok(Formula::Equal(left, right)),
+        Comparison::Differs => negated(alloc, Formula::Equal(left, right)),
+        Comparison::Less => Ok(Formula::Less(left, right)),
+        Comparison::AtMost => Ok(Formula::AtMost(left, right)),
+        Comparison::More => Ok(Formula::Less(right, left)),
+        Comparison::AtLeast => Ok(Formula::AtMost(right, left)),
+    }
+}
+
+#[inline(never)]
+fn resolve_compared(
     alloc: Global,
     table: &Table,
     names: &Names,
-    left: &TermTree<'_>,
-    right: &TermTree<'_>,
+    comparison: Comparison,
+    left: &SumTree<'_>,
+    right: &SumTree<'_>,
 ) -> Result<Formula, OutOfMemory>
-    ensures { IfOk result (λ made. plain_formula made ≡ resolved.Not (resolved.Equal (words.resolve_term (vocabulary_of table.now) (scope_of names.now) (plain_term left.now)) (words.resolve_term (vocabulary_of table.now) (scope_of names.now) (plain_term right.now)))) }
+    ensures { IfOk result (λ made. plain_formula made ≡ words.compared (comparison_of comparison) (words.resolve_sum (vocabulary_of table.now) (scope_of names.now) (plain_sum left.now)) (words.resolve_sum (vocabulary_of table.now) (scope_of names.now) (plain_sum right.now))) }
 {
-    let equal = resolve_equal(alloc, table, names, left, right)?;
-    negated(alloc, equal)
+    let left = resolve_sum(alloc, table, names, left)?;
+    let right = resolve_sum(alloc, table, names, right)?;
+    compared(alloc, comparison, left, right)
 }
 
 fn resolve_alone(
@@ -238,8 +298,24 @@ pub(crate) fn resolve(
 {
     match formula {
         Tree::Bare(term) => resolve_alone(alloc, table, names, term),
-        Tree::Equal(left, right) => resolve_equal(alloc, table, names, left, right),
-        Tree::Differ(left, right) => resolve_differ(alloc, table, names, left, right),
+        Tree::Equal(left, right) => {
+            resolve_compared(alloc, table, names, Comparison::Equal, left, right)
+        }
+        Tree::Differ(left, right) => {
+            resolve_compared(alloc, table, names, Comparison::Differs, left, right)
+        }
+        Tree::Less(left, right) => {
+            resolve_compared(alloc, table, names, Comparison::Less, left, right)
+        }
+        Tree::AtMost(left, right) => {
+            resolve_compared(alloc, table, names, Comparison::AtMost, left, right)
+        }
+        Tree::More(left, right) => {
+            resolve_compared(alloc, table, names, Comparison::More, left, right)
+        }
+        Tree::AtLeast(left, right) => {
+            resolve_compared(alloc, table, names, Comparison::AtLeast, left, right)
+        }
         Tree::Paren(inner) => resolve(alloc, table, names, inner),
         Tree::Not(inner) => resolve_not(alloc, table, names, inner),
         Tree::Both(first, second) => {

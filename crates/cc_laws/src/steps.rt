@@ -38,6 +38,9 @@ fn term_names_action(table: &Table, term: &Term) -> bool
             }
             false
         }
+        Term::Plus(first, second) | Term::Minus(first, second) => {
+            term_names_action(table, first) || term_names_action(table, second)
+        }
         _ => false,
     }
 }
@@ -48,7 +51,7 @@ fn names_action(table: &Table, formula: &Formula) -> bool
 {
     match formula {
         Formula::True | Formula::False => false,
-        Formula::Equal(left, right) => {
+        Formula::Equal(left, right) | Formula::Less(left, right) | Formula::AtMost(left, right) => {
             term_names_action(table, left) || term_names_action(table, right)
         }
         Formula::Not(inner) => names_action(table, inner),

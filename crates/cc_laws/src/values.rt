@@ -77,6 +77,17 @@ pub(crate) fn copy_term(alloc: Global, term: &Term) -> Result<Term, OutOfMemory>
         Term::Object(number) => Ok(Term::Object(*number)),
         Term::Variable(place) => Ok(Term::Variable(*place)),
         Term::Nothing => Ok(Term::Nothing),
+        Term::Number(number) => Ok(Term::Number(*number)),
+        Term::Plus(first, second) => {
+            let first = Box::new(alloc, copy_term(alloc, first)?)?;
+            let second = Box::new(alloc, copy_term(alloc, second)?)?;
+            Ok(Term::Plus(first, second))
+        }
+        Term::Minus(first, second) => {
+            let first = Box::new(alloc, copy_term(alloc, first)?)?;
+            let second = Box::new(alloc, copy_term(alloc, second)?)?;
+            Ok(Term::Minus(first, second))
+        }
     }
 }
 

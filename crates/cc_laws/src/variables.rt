@@ -1,13 +1,13 @@
 //! The free variables of formulas, by their numbers in the table.
 ghost use Rattle.std.specs.Prelude.{◌≡◌, ◌++◌, [], IfOk, OnOk};
-ghost use Rattle.cc_defs.specs.Trees.{plain_term, plain_tree};
+ghost use Rattle.cc_defs.specs.Trees.{plain_piece, plain_sum, plain_term, plain_tree};
 ghost use Rattle.cc_laws.specs.FreeVariables as words;
-ghost use Rattle.cc_laws.specs.Views.{plain_meaning};
+ghost use Rattle.cc_laws.specs.Views.{piece_variables, plain_meaning};
 ghost use Rattle.cc_laws.specs.Vocabulary as vocabulary;
 ghost use Rattle.cc_laws.specs.Vocabulary.{vocabulary_of};
 
 use crate::meaning::{Meaning, meaning_of};
-use cc_defs::{OutOfMemory, TermTree, Tree};
+use cc_defs::{OutOfMemory, Piece, SumTree, TermTree, Tree};
 use cc_sorts::Table;
 use std::alloc::Global;
 
@@ -52,6 +52,7 @@ fn add_name(
 }
 
 /// Adds the variables of a term that no bracket binds.
+#[cycle(unbound)]
 pub(crate) fn add_unbound(
     table: &Table,
     bound: &[u32],
@@ -62,9 +63,56 @@ pub(crate) fn add_unbound(
 {
     add_name(table, bound, term.name, found)?;
     for argument in &term.args {
-        add_unbound(table, bound, argument, found)?;
+        add_unbound_sum(table, bound, argument, found)?;
     }
     Ok(())
+}
+
+/// Adds those of a sum.
+#[cycle(unbound)]
+fn add_unbound_sum(
+    table: &Table,
+    bound: &[u32],
+    sum: &SumTree<'_>,
+    found: &mut Vec<u32>,
+) -> Result<(), OutOfMemory>
+    ensures { OnOk result (found.new.items ≡ found.old.items ++ words.unbound bound.now (words.sum_variables (vocabulary_of table.now) (plain_sum sum.now))) }
+{
+    add_unbound_piece(table, bound, &sum.first, found)?;
+    for addend in &sum.rest {
+        add_unbound_piece(table, bound, &addend.piece, found)?;
+    }
+    Ok(())
+}
+
+/// Adds those of a piece.
+#[cycle(unbound)]
+fn add_unbound_piece(
+    table: &Table,
+    bound: &[u32],
+    piece: &Piece<'_>,
+    found: &mut Vec<u32>,
+) -> Result<(), OutOfMemory>
+    ensures { OnOk result (found.new.items ≡ found.old.items ++ words.unbound bound.now (piece_variables (vocabulary_of table.now) (plain_piece piece.now))) }
+{
+    match piece {
+        Piece::Number(_) => Ok(()),
+        Piece::Name(term) => add_unbound(table, bound, term, found),
+    }
+}
+
+/// Adds those of two sums, one after the other.
+fn add_unbound_sides(
+    table: &Table,
+    bound: &[u32],
+    left: &SumTree<'_>,
+    right: &SumTree<'_>,
+    found: &mut Vec<u32>,
+) -> Result<(), OutOfMemory>
+    ensures { OnOk result (found.new.items ≡ found.old.items ++ (words.unbound bound.now (words.sum_variables (vocabulary_of table.now) (plain_sum left.now)) ++ words.unbound bound.now (words.sum_variables (vocabulary_of table.now) (plain_sum right.now)))) }
+{
+    add_unbound_sum(table, bound, left, found)?;
+    add_unbound_sum(table, bound, right, found)
 }
 
 /// Adds the free occurrences of variables in a formula, in the order of its text, inside brackets with these variables.
@@ -79,10 +127,12 @@ pub(crate) fn add_free(
 {
     match formula {
         Tree::Bare(term) => add_unbound(table, bound, term, found),
-        Tree::Equal(left, right) | Tree::Differ(left, right) => {
-            add_unbound(table, bound, left, found)?;
-            add_unbound(table, bound, right, found)
-        }
+        Tree::Equal(left, right)
+        | Tree::Differ(left, right)
+        | Tree::Less(left, right)
+        | Tree::AtMost(left, right)
+        | Tree::More(left, right)
+        | Tree::AtLeast(left, right) => add_unbound_sides(table, bound, left, right, found),
         Tree::Paren(inner) | Tree::Not(inner) => add_free(table, bound, inner, found),
         Tree::Both(first, second)
         | Tree::Either(first, second)

@@ -1,15 +1,16 @@
 //! A walk over the terms and brackets of a formula.
-ghost use Rattle.std.specs.Prelude.{◌≡◌};
-ghost use Rattle.cc_defs.specs.Trees.{plain_term, plain_tree};
-ghost use Rattle.cc_laws.specs.FormulaFaults.{leaf_has};
-ghost use Rattle.cc_laws.specs.Leaves.{Bare, Equation, Bracket};
-ghost use Rattle.cc_laws.specs.Views.{asks, fails, leaf_test};
+ghost use Rattle.std.specs.Prelude.{◌≡◌, ◌||◌};
+ghost use Rattle.cc_defs.specs.Trees.{plain_sum, plain_term, plain_tree};
+ghost use Rattle.cc_laws.specs.FormulaFaults as faults;
+ghost use Rattle.cc_laws.specs.Leaves.{Bare, Compared, Bracket};
+ghost use Rattle.cc_laws.specs.Views.{asks, comparison_of, fails, leaf_test};
 ghost use Rattle.cc_laws.specs.Vocabulary.{vocabulary_of};
 
 use crate::meaning::meaning_of;
-use crate::mention::{Property, term_has};
-use crate::misfits::{bare_misfits, bracket_misfits, equation_misfits};
-use cc_defs::{TermTree, Tree};
+use crate::mention::{Property, sum_has, term_has};
+use crate::misfits::{bare_misfits, bracket_misfits, comparison_misfits};
+use crate::sums::Comparison;
+use cc_defs::{SumTree, TermTree, Tree};
 use cc_sorts::Table;
 
 /// What is asked of the terms and brackets of a formula.
@@ -33,25 +34,26 @@ fn bare_fails(table: &Table, check: Check, term: &TermTree<'_>) -> bool
     }
 }
 
-/// Whether one of two terms has a name with the property.
-fn equation_has(
-    table: &Table,
-    property: Property,
-    left: &TermTree<'_>,
-    right: &TermTree<'_>,
-) -> bool
-    ensures { result ≡ leaf_has (vocabulary_of table.now) (asks property) (Equation (plain_term left.now) (plain_term right.now)) }
+/// Whether one of two sums has a name with the property.
+fn sides_have(table: &Table, property: Property, left: &SumTree<'_>, right: &SumTree<'_>) -> bool
+    ensures { result ≡ faults.sum_has (vocabulary_of table.now) (asks property) (plain_sum left.now) || faults.sum_has (vocabulary_of table.now) (asks property) (plain_sum right.now) }
 {
-    term_has(table, property, left) || term_has(table, property, right)
+    sum_has(table, property, left) || sum_has(table, property, right)
 }
 
-fn equation_fails(table: &Table, check: Check, left: &TermTree<'_>, right: &TermTree<'_>) -> bool
-    ensures { result ≡ leaf_test (vocabulary_of table.now) check (Equation (plain_term left.now) (plain_term right.now)) }
+fn comparison_fails(
+    table: &Table,
+    check: Check,
+    comparison: Comparison,
+    left: &SumTree<'_>,
+    right: &SumTree<'_>,
+) -> bool
+    ensures { result ≡ leaf_test (vocabulary_of table.now) check (Compared (comparison_of comparison) (plain_sum left.now) (plain_sum right.now)) }
 {
     match check {
-        Check::Mentions(property) => equation_has(table, property, left, right),
-        Check::Unknown => equation_has(table, Property::Unknown, left, right),
-        Check::Misfits => equation_misfits(table, left, right),
+        Check::Mentions(property) => sides_have(table, property, left, right),
+        Check::Unknown => sides_have(table, Property::Unknown, left, right),
+        Check::Misfits => comparison_misfits(table, comparison, left, right),
     }
 }
 
@@ -71,8 +73,19 @@ pub(crate) fn formula_fails(table: &Table, check: Check, formula: &Tree<'_>) -> 
 {
     match formula {
         Tree::Bare(term) => bare_fails(table, check, term),
-        Tree::Equal(left, right) | Tree::Differ(left, right) => {
-            equation_fails(table, check, left, right)
+        Tree::Equal(left, right) => {
+            comparison_fails(table, check, Comparison::Equal, left, right)
+        }
+        Tree::Differ(left, right) => {
+            comparison_fails(table, check, Comparison::Differs, left, right)
+        }
+        Tree::Less(left, right) => { comparison_fails(table, check, Comparison::Less, left, right) }
+        Tree::AtMost(left, right) => {
+            comparison_fails(table, check, Comparison::AtMost, left, right)
+        }
+        Tree::More(left, right) => { comparison_fails(table, check, Comparison::More, left, right) }
+        Tree::AtLeast(left, right) => {
+            comparison_fails(table, check, Comparison::AtLeast, left, right)
         }
         Tree::Paren(inner) | Tree::Not(inner) => formula_fails(table, check, inner),
         Tree::Both(first, second)

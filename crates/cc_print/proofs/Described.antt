@@ -49,9 +49,9 @@ universe_is : (table : TableView) (left : List Declaration) (s : Signature) → 
 universe_is table left s is of =
     let made = of.1 in
     let symbols_are : map (λ placed. placed.symbol) table.symbols ≡ symbols left = ap (map (λ placed. placed.symbol)) is.symbols_are ∙ symbols_again left (constants left) in
-    ap (λ sorts. record { sorts = sorts; symbols = map (λ placed. placed.symbol) table.symbols; fluents = s.fluents; actions = s.actions }) is.members_are
-    ∙ ap (λ all. record { sorts = (universe left).sorts; symbols = all; fluents = s.fluents; actions = s.actions }) symbols_are
-    ∙ ap (λ signature. record { sorts = (universe left).sorts; symbols = symbols left; fluents = signature.fluents; actions = signature.actions }) made
+    ap (λ sorts. record { sorts = sorts; numbers = s.numbers; symbols = map (λ placed. placed.symbol) table.symbols; fluents = s.fluents; actions = s.actions }) is.members_are
+    ∙ ap (λ all. record { sorts = (universe left).sorts; numbers = s.numbers; symbols = all; fluents = s.fluents; actions = s.actions }) symbols_are
+    ∙ ap (λ signature. record { sorts = (universe left).sorts; numbers = signature.numbers; symbols = symbols left; fluents = signature.fluents; actions = signature.actions }) made
 
 pub same_text_of : (table : TableView) (left : List Declaration) (s : Signature) (d : Description) → IsTable table left → IsSignatureOf left s →
     d.universe ≡ universe left → d.objects ≡ map (λ object. object.0) (objects left) →

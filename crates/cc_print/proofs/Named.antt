@@ -1,13 +1,15 @@
 -- The constants of a table's signature have names in the table, and are few.
-use Rattle.std.proofs.Common.{◌≡◌, ◌∙◌, ℕ, ◌+◌, ◌<◌, ◌≤◌, Bool, true, false, if◌then◌else◌, not, nat_lt, List, [], ◌∷◌, ◌++◌, length, map, flat_map, Option, Some, None, inl, inr, refl, sym, ap, subst, arith, length-append}
+use Rattle.std.proofs.Common.{◌≡◌, ◌∙◌, ℕ, ◌+◌, ◌<◌, ◌≤◌, Bool, true, false, if◌then◌else◌, not, cond, filter, nat_lt, ◌==◌, position, slice_get, unwrap_or, List, [], ◌∷◌, ◌++◌, length, map, flat_map, Option, Some, None, inl, inr, refl, sym, ap, subst, arith, length-append}
 use Rattle.std.proofs.lemmas.Bool.{lt-ltb, cases_lt}
 use Rattle.std.proofs.lemmas.List.{length-map}
+use Rattle.std.proofs.lemmas.List.Quantifiers.{position-Some}
 use Rattle.std.specs.List.{AllByRecursion, find}
 use Rattle.cc_defs.specs.declared.refusal.Refusal.{Refusal}
 use Rattle.cc_defs.specs.declared.signature.Const.{Const}
 use Rattle.cc_defs.specs.declared.signature.Kind.{Kind}
 use Rattle.cc_defs.specs.DeclarationFaults.{count_refusal, declared_ground, empty_or, is_empty, passes_domain_values}
-use Rattle.cc_defs.specs.Declarations.{Declaration, Declared, domain_of, ground_actions, ground_fluents, ground_from, ground_of, instances, is_action, is_below, kind_of_constant, members, numbers_where, objects, constants, pairs}
+use Rattle.cc_defs.specs.Declarations.{Declaration, Declared, domain_of, ground_actions, ground_fluents, ground_from, ground_of, instances, is_action, kind_of_constant, members, Put, puts, first_puts, firsts, object_at, object_of, placed, objects, constants}
+use Rattle.cc_defs.specs.Grammar.{same_text}
 use Rattle.cc_defs.specs.Signatures.{Signature}
 use Rattle.cc_defs.specs.Trees.{PlainKind}
 use Rattle.cc_defs.specs.Trees as trees
@@ -18,13 +20,20 @@ all_append : {X : Type 0} (P : X → Type 0) (xs ys : List X) → AllByRecursion
 all_append P [] ys a b = b
 all_append P (x ∷ xs) ys a b = (a.0, all_append P xs ys a.1 b)
 
-all_where : {X : Type 0} {P : ℕ → Type 0} (test : X → Bool) (number : ℕ) (xs : List X) → ((k : ℕ) → k < number + length xs → P k) → AllByRecursion P (numbers_where test number xs)
-all_where test number [] each = tt
-all_where {X} {P} test number (x ∷ xs) each = here (test x) (all_where test (number + 1) xs (λ k below. each k (omega arith)))
+all_kept : (P : ℕ → Type 0) (test : ℕ → Bool) (xs : List ℕ) → AllByRecursion P xs → AllByRecursion P (filter test xs)
+all_kept P test [] all = tt
+all_kept P test (x ∷ xs) all = here (test x) (all_kept P test xs all.1)
   where
-    here : (b : Bool) → AllByRecursion P (numbers_where test (number + 1) xs) → AllByRecursion P (if b then number ∷ numbers_where test (number + 1) xs else numbers_where test (number + 1) xs)
-    here true others = (each number (omega arith), others)
+    here : (b : Bool) → AllByRecursion P (filter test xs) → AllByRecursion P (cond b (x ∷ filter test xs) (filter test xs))
+    here true others = (all.0, others)
     here false others = others
+
+all_firsts : (P : ℕ → Type 0) (xs : List ℕ) → AllByRecursion P xs → AllByRecursion P (firsts xs)
+all_firsts P [] all = tt
+all_firsts P (x ∷ xs) all = (all.0, all_kept P (λ other. not (other == x)) (firsts xs) (all_firsts P xs all.1))
+
+no_put : Put
+no_put = record { name = []; number = None; sort = [] }
 
 module _ (table : TableView) (left : List Declaration) (is : IsTable table left) where
   abbrev Value : ℕ → Type 0
@@ -36,8 +45,23 @@ module _ (table : TableView) (left : List Declaration) (is : IsTable table left)
   many_symbols : length table.symbols ≡ length (constants left)
   many_symbols = ap length is.symbols_are ∙ length-map (constants left) _
 
+  many_firsts : length table.objects ≡ length (first_puts left)
+  many_firsts = many_objects ∙ length-map (first_puts left) (λ (put : Put). (put.name, put.sort))
+
+  place_named : (test : Put → Bool) (found : Option ℕ) → position test (first_puts left) ≡ found → unwrap_or found 0 < length table.objects
+  place_named test None e = omega (arith, many_firsts)
+  place_named test (Some i) e = let within = (position-Some test (first_puts left) i no_put e).0 in omega (arith, many_firsts)
+
+  object_named : (put : Option Put) → object_of (first_puts left) put < length table.objects
+  object_named (Some put) = place_named (λ other. same_text put.name other.name) (position (λ other. same_text put.name other.name) (first_puts left)) refl
+  object_named None = omega (arith, many_firsts)
+
+  objects_named : (places : List ℕ) → AllByRecursion Value (map (object_at left) places)
+  objects_named [] = tt
+  objects_named (place ∷ places) = (inr (object_named (slice_get (puts left) place)), objects_named places)
+
   members_named : (sort : List ℕ) → AllByRecursion Value (members left sort)
-  members_named sort = all_where (λ object. is_below (pairs left) object.1 sort) 0 (objects left) (λ k below. inr (omega (arith, many_objects)))
+  members_named sort = all_firsts Value (map (object_at left) (placed left sort)) (objects_named (placed left sort))
 
   domain_named : (kind : PlainKind) → AllByRecursion Value (domain_of left kind)
   domain_named (trees.Plain word sort) = members_named _

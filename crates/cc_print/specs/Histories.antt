@@ -13,6 +13,7 @@ described table signature = record {
   objects = names_of table.objects;
   universe = record {
     sorts = table.sorts.members;
+    numbers = signature.numbers;
     symbols = map (λ placed. placed.symbol) table.symbols;
     fluents = signature.fluents;
     actions = signature.actions;
@@ -22,7 +23,7 @@ described table signature = record {
 
 -- what names alone say of it
 abbrev pub named_by : TableView → Description
-named_by table = described table (record { fluents = []; actions = [] })
+named_by table = described table (record { fluents = []; actions = []; numbers = [] })
 
 -- `none`, or an object of the table
 abbrev pub IsNamedValue : TableView → ℕ → Type 0

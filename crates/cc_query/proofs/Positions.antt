@@ -26,21 +26,21 @@ sizes_are d signature is (suc horizon) =
 abbrev with_signature : Signature → Description
 with_signature signature = record {
   objects = [];
-  universe = record { sorts = []; symbols = []; fluents = signature.fluents; actions = signature.actions };
+  universe = record { sorts = []; numbers = signature.numbers; symbols = []; fluents = signature.fluents; actions = signature.actions };
   laws = [];
 }
 
 pub size_count : PositionsHaveSizes → (signature : Signature) (horizon : ℕ) → length (position_sizes signature horizon) ≡ position_count signature horizon
 size_count law signature horizon =
-    ap (λ (l : List ℕ). length l) (sizes_are (with_signature signature) signature (record { fluents = refl; actions = refl }) horizon)
-    ∙ (law (with_signature signature) signature (record { fluents = refl; actions = refl }) horizon).0
+    ap (λ (l : List ℕ). length l) (sizes_are (with_signature signature) signature (record { fluents = refl; actions = refl; numbers = refl }) horizon)
+    ∙ (law (with_signature signature) signature (record { fluents = refl; actions = refl; numbers = refl }) horizon).0
 
 pub size_at : PositionsHaveSizes → (signature : Signature) (horizon position size : ℕ) → position < position_count signature horizon →
     option_map (λ (constant : Const). length constant.domain) (slice_get (ground_constants signature) (position % length (ground_constants signature))) ≡ Some size →
     slice_get (position_sizes signature horizon) position ≡ Some size
 size_at law signature horizon position size low is =
-    ap (λ (l : List ℕ). slice_get l position) (sizes_are (with_signature signature) signature (record { fluents = refl; actions = refl }) horizon)
-    ∙ (law (with_signature signature) signature (record { fluents = refl; actions = refl }) horizon).1 position low ∙ is
+    ap (λ (l : List ℕ). slice_get l position) (sizes_are (with_signature signature) signature (record { fluents = refl; actions = refl; numbers = refl }) horizon)
+    ∙ (law (with_signature signature) signature (record { fluents = refl; actions = refl; numbers = refl }) horizon).1 position low ∙ is
 
 pub some_constants : (signature : Signature) (horizon position : ℕ) → position < position_count signature horizon → 0 < length (ground_constants signature)
 some_constants signature horizon position low = some_of signature.fluents signature.actions low

@@ -17,7 +17,7 @@ use Rattle.cc_defs.specs.Refusals.{IsRefusedBy}
 use Rattle.cc_defs.specs.Resolved.{Condition, Query}
 use Rattle.cc_defs.specs.Universe.{Universe}
 use Rattle.cc_describe.specs.declared.description.Described.{Described}
-use Rattle.cc_asked.specs.Descriptions.{IsDescriptionOf, nodes_refusal}
+use Rattle.cc_asked.specs.Descriptions.{IsDescriptionOf, ground_refusal}
 use Rattle.cc_ground.specs.Counting.{laws_refusal}
 use Rattle.cc_laws.specs.Questions.{first, steps_refusal}
 use Rattle.cc_print.specs.Keys.{IsKeyText}
@@ -77,7 +77,7 @@ refused_found : (d : Description) (found : List Symbol) (q : Option Query) (faul
     IsRefusedBy (query_refusal d q) fault
 refused_found d found None fault same is = is
 refused_found d found (Some q) fault same is =
-    refused_in_front (steps_refusal d.universe.symbols q) (nodes_refusal d q) fault (subst (λ w. IsRefusedBy (steps_refusal w q) fault) same is)
+    refused_in_front (steps_refusal d.universe.symbols q) (ground_refusal d q) fault (subst (λ w. IsRefusedBy (steps_refusal w q) fault) same is)
 
 pub exit_found : {X : Type 0} (d : Description) (found : List Symbol) (q : Option Query) (fault : Fault) (s : Result X Fault) → IsErrAnd s (λ e. e ≡ fault) →
     found ≡ d.universe.symbols → IsRefusedBy (found_refusal found q) fault → IfErr s (IsRefusedBy (query_refusal d q))
@@ -86,22 +86,22 @@ exit_found d found q fault (Err e) err same is = subst (λ w. IsRefusedBy (query
 
 -- a query whose steps are not refused
 pub refused_nodes : (d : Description) (found : List Symbol) (named : Option Query) (q : Query) (fault : Fault) → found ≡ d.universe.symbols → named ≡ Some q →
-    steps_refusal found q ≡ None → IsRefusedBy (nodes_refusal d q) fault → IsRefusedBy (query_refusal d named) fault
+    steps_refusal found q ≡ None → IsRefusedBy (ground_refusal d q) fault → IsRefusedBy (query_refusal d named) fault
 refused_nodes d found named q fault same is none refused =
     subst (λ w. IsRefusedBy (query_refusal d w) fault) (sym is)
-    (refused_behind (steps_refusal d.universe.symbols q) (nodes_refusal d q) fault (subst (λ w. steps_refusal w q ≡ None) same none) refused)
+    (refused_behind (steps_refusal d.universe.symbols q) (ground_refusal d q) fault (subst (λ w. steps_refusal w q ≡ None) same none) refused)
 
 asked_as : (d : Description) (found : List Symbol) (queries : List Query) (label : Option Text) (q : Query) (made : PlainGroundQuery) → found ≡ d.universe.symbols →
-    query_named label queries ≡ Some q → steps_refusal found q ≡ None → nodes_refusal d q ≡ None → StandsForQuery made d q → IsAskedAs d queries label made
+    query_named label queries ≡ Some q → steps_refusal found q ≡ None → ground_refusal d q ≡ None → StandsForQuery made d q → IsAskedAs d queries label made
 asked_as d found queries label q made same is none few stands = record {
   query = q;
   named_is = is;
-  unrefused = ap (λ r. option_or r (nodes_refusal d q)) (subst (λ w. steps_refusal w q ≡ None) same none) ∙ few;
+  unrefused = ap (λ r. option_or r (ground_refusal d q)) (subst (λ w. steps_refusal w q ≡ None) same none) ∙ few;
   stands = stands;
 }
 
 pub asked_ok : {X : Type 0} (view : X → PlainGroundQuery) (d : Description) (found : List Symbol) (queries : List Query) (label : Option Text) (q : Query) (r : Result X Fault) →
-    found ≡ d.universe.symbols → query_named label queries ≡ Some q → steps_refusal found q ≡ None → OnOk r (nodes_refusal d q ≡ None) →
+    found ≡ d.universe.symbols → query_named label queries ≡ Some q → steps_refusal found q ≡ None → OnOk r (ground_refusal d q ≡ None) →
     IfOk r (λ made. StandsForQuery (view made) d q) → IfOk r (λ made. IsAskedAs d queries label (view made))
 asked_ok view d found queries label q (Ok made) same is none few stands = asked_as d found queries label q (view made) same is none few stands
 asked_ok view d found queries label q (Err fault) same is none few stands = tt
@@ -193,4 +193,4 @@ exit_no_key d q after fault (Err e) err is = subst (IsKeyFault d q after) (sym e
 
 pub signature_of : (described : Described) (d : Description) → IsDescriptionOf described d → IsSignatureOfDescription d described.sig
 signature_of described d of = subst (λ (x : Description). IsSignatureOfDescription x described.sig) (sym of.is)
-    (record { fluents = ap (λ s. s.fluents) of.signature.1; actions = ap (λ s. s.actions) of.signature.1 })
+    (record { fluents = ap (λ s. s.fluents) of.signature.1; actions = ap (λ s. s.actions) of.signature.1; numbers = ap (λ s. s.numbers) of.signature.1 })

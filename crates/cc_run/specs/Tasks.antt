@@ -2,7 +2,7 @@
 -- refused of these, in order.
 use Rattle.std.specs.Prelude.{◌≡◌, ℕ, ◌≤◌, ◌⊎◌, Bool, false, List, [], Option, Some, None, IsNone, codes, find, option_and_then}
 use Rattle.std.specs.Option.{option_or, option_map_or}
-use Rattle.cc_asked.specs.Descriptions.{description_of, nodes_refusal}
+use Rattle.cc_asked.specs.Descriptions.{description_of, ground_refusal}
 use Rattle.cc_defs.specs.declared.lists.Key.{Key}
 use Rattle.cc_defs.specs.declared.refusal.Refusal.{Refusal}
 use Rattle.cc_defs.specs.Description.{Description, sizes_at}
@@ -88,7 +88,7 @@ refusal_without_place number = record { number = number; file = 0; line = 0; lim
 -- 15 where there is no such query; then the refusal of its steps, and of its nodes
 abbrev pub query_refusal : Description → Option Query → Option Refusal
 query_refusal d None = Some (refusal_without_place 15)
-query_refusal d (Some q) = option_or (steps_refusal d.universe.symbols q) (nodes_refusal d q)
+query_refusal d (Some q) = option_or (steps_refusal d.universe.symbols q) (ground_refusal d q)
 
 -- that of the laws, then that of the query
 abbrev pub asked_refusal : Description → Option Query → Option Refusal

@@ -9,6 +9,7 @@ fn show_variable(out: &mut String, number: u32) -> Result<(), OutOfMemory> {
     Ok(())
 }
 
+/// A term; a sum stands in parentheses, so that its groups are seen.
 pub(crate) fn show_term(out: &mut String, table: &Table, term: &Term) -> Result<(), OutOfMemory> {
     match term {
         Term::Constant { symbol, args } => {
@@ -24,8 +25,35 @@ pub(crate) fn show_term(out: &mut String, table: &Table, term: &Term) -> Result<
         Term::Object(object) => out.push_str(object_name(table, *object))?,
         Term::Variable(number) => show_variable(out, *number)?,
         Term::Nothing => out.push_str("none")?,
+        Term::Number(number) => write!(out, "{number}")?,
+        Term::Plus(left, right) => {
+            out.push_str("(")?;
+            show_term(out, table, left)?;
+            out.push_str("+")?;
+            show_term(out, table, right)?;
+            out.push_str(")")?;
+        }
+        Term::Minus(left, right) => {
+            out.push_str("(")?;
+            show_term(out, table, left)?;
+            out.push_str("-")?;
+            show_term(out, table, right)?;
+            out.push_str(")")?;
+        }
     }
     Ok(())
+}
+
+fn show_sides(
+    out: &mut String,
+    table: &Table,
+    left: &Term,
+    sign: &str,
+    right: &Term,
+) -> Result<(), OutOfMemory> {
+    show_term(out, table, left)?;
+    out.push_str(sign)?;
+    show_term(out, table, right)
 }
 
 /// The operator between two formulas, or what a bracket begins with.
@@ -37,7 +65,7 @@ fn sign_of(formula: &Formula) -> &'static str {
         Formula::Same(..) => " <-> ",
         Formula::ForAll(..) => "[/\\",
         Formula::Exists(..) => "[\\/",
-        Formula::True | Formula::False | Formula::Equal(..) | Formula::Not(_) => "",
+        _ => "",
     }
 }
 
@@ -65,11 +93,9 @@ pub(crate) fn show_formula(
     match formula {
         Formula::True => out.push_str("true")?,
         Formula::False => out.push_str("false")?,
-        Formula::Equal(left, right) => {
-            show_term(out, table, left)?;
-            out.push_str("=")?;
-            show_term(out, table, right)?;
-        }
+        Formula::Equal(left, right) => show_sides(out, table, left, "=", right)?,
+        Formula::Less(left, right) => show_sides(out, table, left, "<", right)?,
+        Formula::AtMost(left, right) => show_sides(out, table, left, "=<", right)?,
         Formula::Not(inner) => {
             out.push_str("-")?;
             show_formula(out, table, inner)?;

@@ -3,12 +3,13 @@ ghost use Rattle.std.specs.Prelude.{List as Items, ℕ};
 ghost use Rattle.cc_text.specs.Reading.{HasRead};
 
 use cc_defs::{
-    At, ConstItem, Fault, KindTree, KindWord, LawTree, List, ListItem, OutOfMemory, Part,
-    QueryItem, Shape, SortItem, Statement, TermTree, Tree,
+    Addend, At, ConstItem, Fault, KindTree, KindWord, LawTree, List, ListItem, Member, ObjItem,
+    OutOfMemory, Part, Piece, QueryItem, Shape, SortItem, Statement, SumTree, TermTree, Tree,
 };
 use cc_syntax::parse;
 use cc_text::Tokens;
 use std::alloc::Global;
+use std::fmt::Write;
 
 fn show_names(
     out: &mut String,
@@ -27,11 +28,43 @@ fn show_names(
     Ok(())
 }
 
+#[cycle(shown)]
 fn show_term(out: &mut String, term: &TermTree) -> Result<(), OutOfMemory> {
     out.push_str(term.name)?;
     for arg in term.args.iter() {
         out.push_str("(")?;
-        show_term(out, arg)?;
+        show_sum(out, arg)?;
+        out.push_str(")")?;
+    }
+    Ok(())
+}
+
+#[cycle(shown)]
+fn show_piece(out: &mut String, piece: &Piece) -> Result<(), OutOfMemory> {
+    match piece {
+        Piece::Number(number) => {
+            write!(out, "{number}")?;
+            Ok(())
+        }
+        Piece::Name(term) => show_term(out, term),
+    }
+}
+
+/// The signs of a sum, each before its group, the last one first.
+fn show_signs(out: &mut String, addends: &[Addend]) -> Result<(), OutOfMemory> {
+    for addend in addends.iter().rev() {
+        out.push_str(if addend.minus { "(- " } else { "(+ " })?;
+    }
+    Ok(())
+}
+
+#[cycle(shown)]
+fn show_sum(out: &mut String, sum: &SumTree) -> Result<(), OutOfMemory> {
+    show_signs(out, &sum.rest)?;
+    show_piece(out, &sum.first)?;
+    for addend in sum.rest.iter() {
+        out.push_str(" ")?;
+        show_piece(out, &addend.piece)?;
         out.push_str(")")?;
     }
     Ok(())
@@ -40,13 +73,13 @@ fn show_term(out: &mut String, term: &TermTree) -> Result<(), OutOfMemory> {
 fn show_sides(
     out: &mut String,
     sign: &str,
-    left: &TermTree,
-    right: &TermTree,
+    left: &SumTree,
+    right: &SumTree,
 ) -> Result<(), OutOfMemory> {
     out.push_str(sign)?;
-    show_term(out, left)?;
+    show_sum(out, left)?;
     out.push_str(" ")?;
-    show_term(out, right)?;
+    show_sum(out, right)?;
     out.push_str(")")?;
     Ok(())
 }
@@ -62,7 +95,7 @@ fn sign_of(tree: &Tree) -> &'static str {
         Tree::Same(..) => "(<-> ",
         Tree::ForAll(..) => "(all ",
         Tree::Exists(..) => "(some ",
-        Tree::Bare(_) | Tree::Equal(..) | Tree::Differ(..) => "",
+        _ => "",
     }
 }
 
@@ -71,6 +104,10 @@ fn show_tree(out: &mut String, tree: &Tree) -> Result<(), OutOfMemory> {
         Tree::Bare(term) => show_term(out, term)?,
         Tree::Equal(left, right) => show_sides(out, "(= ", left, right)?,
         Tree::Differ(left, right) => show_sides(out, "(\\= ", left, right)?,
+        Tree::Less(left, right) => show_sides(out, "(< ", left, right)?,
+        Tree::AtMost(left, right) => show_sides(out, "(=< ", left, right)?,
+        Tree::More(left, right) => show_sides(out, "(> ", left, right)?,
+        Tree::AtLeast(left, right) => show_sides(out, "(>= ", left, right)?,
         Tree::Paren(inner) | Tree::Not(inner) => {
             out.push_str(sign_of(tree))?;
             show_tree(out, inner)?;
@@ -117,6 +154,28 @@ fn show_sort_item(out: &mut String, item: &SortItem) -> Result<(), OutOfMemory> 
         SortItem::Names(names) => show_names(out, " [", names, "]"),
         SortItem::Chain(names) => show_names(out, " [>> ", names, "]"),
     }
+}
+
+fn show_member(out: &mut String, member: &Member) -> Result<(), OutOfMemory> {
+    match member {
+        Member::Name(name) => out.push_str(name)?,
+        Member::Numbers(low, high) => write!(out, "{low}..{high}")?,
+    }
+    Ok(())
+}
+
+fn show_obj_item(out: &mut String, item: &ObjItem) -> Result<(), OutOfMemory> {
+    out.push_str(" [")?;
+    for (i, member) in item.members.items().iter().enumerate() {
+        if i > 0 {
+            out.push_str(" ")?;
+        }
+        show_member(out, member)?;
+    }
+    out.push_str(" :: ")?;
+    out.push_str(item.sort)?;
+    out.push_str("]")?;
+    Ok(())
 }
 
 fn show_list_item(out: &mut String, item: &ListItem) -> Result<(), OutOfMemory> {
@@ -251,6 +310,14 @@ fn show_sorts(out: &mut String, items: &[SortItem]) -> Result<(), OutOfMemory> {
     Ok(())
 }
 
+fn show_objects(out: &mut String, items: &[ObjItem]) -> Result<(), OutOfMemory> {
+    out.push_str("objects")?;
+    for item in items {
+        show_obj_item(out, item)?;
+    }
+    Ok(())
+}
+
 fn show_lists(out: &mut String, word: &str, items: &[ListItem]) -> Result<(), OutOfMemory> {
     out.push_str(word)?;
     for item in items {
@@ -282,7 +349,7 @@ fn show_statement(
 ) -> Result<(), OutOfMemory> {
     match &statement.part {
         Part::Sorts(items) => show_sorts(out, items.items()),
-        Part::Objects(items) => show_lists(out, "objects", items.items()),
+        Part::Objects(items) => show_objects(out, items.items()),
         Part::Variables(items) => show_lists(out, "variables", items.items()),
         Part::Constants(items) => show_constants(out, items.items()),
         Part::Query(items) => show_query(alloc, out, items.items()),

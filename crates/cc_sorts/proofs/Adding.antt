@@ -7,19 +7,23 @@ use Rattle.std.proofs.Math.Seq.{take-suc}
 use Rattle.cc_defs.specs.Declarations.{Declaration, Link, Subsort, chain_behind}
 use Rattle.cc_sorts.specs.declared.declaration.Declaration.{Declaration as Declared}
 
+-- an entry behind the others
+pub pushed-last : {D X : Type 0} (plain : D → List X) (old new : List D) (x : D) → new ≡ old ++ x ∷ [] → flat_map plain new ≡ flat_map plain old ++ plain x
+pushed-last {D} {X} plain old new x is =
+    ap (flat_map plain) is ∙ flat_map-append plain old (x ∷ []) ∙ ap (λ (w : List X). flat_map plain old ++ w) (append-nil (plain x))
+
 -- another name was declared
-pub added-more : {D X N : Type 0} (plain : D → X) (declare : N → X) (start found pushed : List D) (names : List N) (i : ℕ) (x : D) (n : N) →
-    i < length names → pushed ≡ found ++ x ∷ [] → plain x ≡ declare (get_or names i n) →
-    map plain found ≡ map plain start ++ map declare (take i names) →
-    map plain pushed ≡ map plain start ++ map declare (take (i + 1) names)
+pub added-more : {D X N : Type 0} (plain : D → List X) (declare : N → X) (start found pushed : List D) (names : List N) (i : ℕ) (x : D) (n : N) →
+    i < length names → pushed ≡ found ++ x ∷ [] → plain x ≡ declare (get_or names i n) ∷ [] →
+    flat_map plain found ≡ flat_map plain start ++ map declare (take i names) →
+    flat_map plain pushed ≡ flat_map plain start ++ map declare (take (i + 1) names)
 added-more plain declare start found pushed names i x n within is_pushed is_plain so_far =
-    ap (map plain) is_pushed
-    ∙ map-append plain found (x ∷ [])
-    ∙ ap (λ xs. xs ++ plain x ∷ []) so_far
-    ∙ append_assoc (map plain start) (map declare (take i names)) (plain x ∷ [])
-    ∙ ap (λ y. map plain start ++ (map declare (take i names) ++ y ∷ [])) is_plain
-    ∙ ap (λ xs. map plain start ++ xs) (sym (map-append declare (take i names) (get_or names i n ∷ [])))
-    ∙ ap (λ xs. map plain start ++ map declare xs) (sym (take-suc names i n within) ∙ ap (λ k. take k names) (sym (add-one i)))
+    pushed-last plain found pushed x is_pushed
+    ∙ ap (λ xs. xs ++ plain x) so_far
+    ∙ append_assoc (flat_map plain start) (map declare (take i names)) (plain x)
+    ∙ ap (λ y. flat_map plain start ++ (map declare (take i names) ++ y)) is_plain
+    ∙ ap (λ xs. flat_map plain start ++ xs) (sym (map-append declare (take i names) (get_or names i n ∷ [])))
+    ∙ ap (λ xs. flat_map plain start ++ map declare xs) (sym (take-suc names i n within) ∙ ap (λ k. take k names) (sym (add-one i)))
 
 -- the declarations of another item were added
 pub parts-more : {X T N : Type 0} (parts : N → List X) (view : T → N) (start found pushed : List X) (items : List T) (i : ℕ) (item : T) →
@@ -36,29 +40,29 @@ parts-more parts view start found pushed items i item within is_item is_pushed s
     ∙ ap (λ x. start ++ flat_map parts (map view (take i items ++ x ∷ []))) is_item
     ∙ ap (λ xs. start ++ flat_map parts (map view xs)) (sym (take-suc items i item within) ∙ ap (λ k. take k items) (sym (add-one i)))
 
-pub added-all : {D X N Y : Type 0} (plain : D → X) (declare : Y → X) (view : N → Y) (start found : List D) (names : List N) (i : ℕ) →
-    length names ≤ i → map plain found ≡ map plain start ++ map (λ name. declare (view name)) (take i names) →
-    map plain found ≡ map plain start ++ map declare (map view names)
+pub added-all : {D X N Y : Type 0} (plain : D → List X) (declare : Y → X) (view : N → Y) (start found : List D) (names : List N) (i : ℕ) →
+    length names ≤ i → flat_map plain found ≡ flat_map plain start ++ map (λ name. declare (view name)) (take i names) →
+    flat_map plain found ≡ flat_map plain start ++ map declare (map view names)
 added-all plain declare view start found names i past so_far =
     so_far
-    ∙ ap (λ xs. map plain start ++ map (λ name. declare (view name)) xs) (take_all i names past)
-    ∙ ap (λ xs. map plain start ++ xs) (sym (map-map declare view names))
+    ∙ ap (λ xs. flat_map plain start ++ map (λ name. declare (view name)) xs) (take_all i names past)
+    ∙ ap (λ xs. flat_map plain start ++ xs) (sym (map-map declare view names))
 
 pub parts-all : {X T N : Type 0} (parts : N → List X) (view : T → N) (start found : List X) (items : List T) (i : ℕ) →
     length items ≤ i → found ≡ start ++ flat_map parts (map view (take i items)) → found ≡ start ++ flat_map parts (map view items)
 parts-all parts view start found items i past so_far = so_far ∙ ap (λ xs. start ++ flat_map parts (map view xs)) (take_all i items past)
 
 -- a chain whose links are all there
-pub chain-all : (start first found : List Declared) {N : Type 0} (view : N → List ℕ) (plain : Declared → Declaration) (head last : N) (links : List N) (x : Declared) (i : ℕ) →
-    length links ≤ i → first ≡ start ++ x ∷ [] → plain x ≡ Link (view head) →
-    map plain found ++ chain_behind (view last) (map view (drop i links)) ≡ map plain first ++ chain_behind (view head) (map view links) →
-    map plain found ≡ map plain start ++ Link (view head) ∷ chain_behind (view head) (map view links)
+pub chain-all : (start first found : List Declared) {N : Type 0} (view : N → List ℕ) (plain : Declared → List Declaration) (head last : N) (links : List N) (x : Declared) (i : ℕ) →
+    length links ≤ i → first ≡ start ++ x ∷ [] → plain x ≡ Link (view head) ∷ [] →
+    flat_map plain found ++ chain_behind (view last) (map view (drop i links)) ≡ flat_map plain first ++ chain_behind (view head) (map view links) →
+    flat_map plain found ≡ flat_map plain start ++ Link (view head) ∷ chain_behind (view head) (map view links)
 chain-all start first found view plain head last links x i past is_first is_link so_far =
-    sym (append-nil (map plain found))
-    ∙ ap (λ xs. map plain found ++ chain_behind (view last) (map view xs)) (sym (drop_all i links past))
+    sym (append-nil (flat_map plain found))
+    ∙ ap (λ xs. flat_map plain found ++ chain_behind (view last) (map view xs)) (sym (drop_all i links past))
     ∙ so_far
-    ∙ ap (λ xs. xs ++ chain_behind (view head) (map view links)) (ap (map plain) is_first ∙ map-append plain start (x ∷ []) ∙ ap (λ y. map plain start ++ y ∷ []) is_link)
-    ∙ append_assoc (map plain start) (Link (view head) ∷ []) (chain_behind (view head) (map view links))
+    ∙ ap (λ xs. xs ++ chain_behind (view head) (map view links)) (pushed-last plain start first x is_first ∙ ap (λ y. flat_map plain start ++ y) is_link)
+    ∙ append_assoc (flat_map plain start) (Link (view head) ∷ []) (chain_behind (view head) (map view links))
 
 -- another link was added to a chain
 pub chain-more : (found pushed whole : List Declaration) {N : Type 0} (view : N → List ℕ) (upper name other : N) (links : List N) (i : ℕ) →

@@ -13,7 +13,7 @@ use Rattle.cc_defs.specs.declared.signature.Kind.{Kind}
 use Rattle.cc_defs.specs.DeclarationFaults.{is_empty, declared_from, declared_ground, empty_or, passes_domain_values, count_refusal, limit_refusal, signature_refusal}
 use Rattle.cc_defs.specs.Refusals.{refused}
 use Rattle.cc_defs.specs.Declarations.{Declaration, Declared, Named, sort_names, constants, constant_names, members, number_in, domain_of, instances, ground_of, ground_from, is_action, kind_of_constant, value_sort, ground_fluents, ground_actions, objects}
-use Rattle.cc_defs.specs.Signatures.{Signature, IsSignature, AreOrdered, AreShort, none_value}
+use Rattle.cc_defs.specs.Signatures.{Signature, IsSignature, AreShort, none_value}
 use Rattle.cc_defs.specs.Trees.{PlainKind}
 use Rattle.cc_defs.specs.Trees as trees
 use Rattle.cc_sorts.specs.declared.table.Placed.{Placed}
@@ -24,7 +24,7 @@ use Rattle.cc_sorts.specs.Steps.{action_in}
 use Rattle.cc_sorts.specs.Tables.{TableView, Numbered, IsTable, IsSignatureOf}
 use Rattle.cc_sorts.proofs.Names.{is_among, and_true, or_false, is_there}
 use Rattle.cc_sorts.proofs.Wheres.{at_map}
-use Rattle.cc_sorts.proofs.Grown.{has_of, placed_by, AreShaped, HaveValues}
+use Rattle.cc_sorts.proofs.Grown.{placed_same, placed_by, AreShaped, HaveValues}
 
 -- ---- the declaration of the first ground constant without a value
 
@@ -126,7 +126,7 @@ module _ (table : TableView) (left : List Declaration) (is : IsTable table left)
       ∙ ap (λ (w : List Const). (if passes actions (kind_of_constant c.kind) then ground_of left number c else []) ++ w) (all_constants actions (number + 1) cs p.1 q.1)
 
   symbols_of : table.symbols ≡ map (placed_by (sort_names left) (constant_names left)) (constants left)
-  symbols_of = (has_of table left is).symbols_are
+  symbols_of = is.symbols_are ∙ placed_same left (constants left)
 
   pub fluents_are : instances_from table.sorts false 0 table.symbols ≡ ground_fluents left
   fluents_are = ap (λ (w : List Placed). instances_from table.sorts false 0 w) symbols_of ∙ all_constants false 0 (constants left) is.known.of_arguments is.known.of_values
@@ -182,8 +182,8 @@ short_all (c ∷ cs) e =
     short n m = elim (cases_lt 1000 n) [ inl less ↦ absurd (cc (m, lt-ltb 1000 n less)) | inr least ↦ omega arith ]
 
 pub signature_of : (table : TableView) (fluents actions : List Const) → refusal_by table ≡ None → fluents ≡ instances_from table.sorts false 0 table.symbols →
-    actions ≡ instances_from table.sorts true 0 table.symbols → AreOrdered fluents → AreOrdered actions → IsSignature (record { fluents = fluents; actions = actions })
-signature_of table fluents actions none f a fo ao =
+    actions ≡ instances_from table.sorts true 0 table.symbols → (numbers : List (Option ℕ)) → IsSignature (record { fluents = fluents; actions = actions; numbers = numbers })
+signature_of table fluents actions none f a numbers =
     let same : all_instances table ≡ fluents ++ actions =
     ap (λ (w : List Const). w ++ instances_from table.sorts true 0 table.symbols) (sym f) ∙ ap (λ (w : List Const). fluents ++ w) (sym a) in
     let c = counted (all_instances table) (unrefused table.symbols (all_instances table) (find is_empty (all_instances table)) none) in
@@ -192,8 +192,6 @@ signature_of table fluents actions none f a fo ao =
     (sym (list_any-append (λ (c : Const). nat_lt 1000 (length c.domain)) fluents actions) ∙ wide) in
     let count : length (all_instances table) ≡ length fluents + length actions = ap (λ (w : List Const). length w) same ∙ length-append fluents actions in
     record {
-      fluents_ordered = fo;
-      actions_ordered = ao;
       few = omega (arith, c.1, count);
       fluents_short = short_all fluents parts.0;
       actions_short = short_all actions parts.1;
@@ -202,13 +200,18 @@ signature_of table fluents actions none f a fo ao =
 pub refused_of : (table : TableView) (refusal : Refusal) → Some refusal ≡ refusal_by table → (left : List Declaration) → IsTable table left → signature_refusal left ≡ Some refusal
 refused_of table refusal e left is = sym (refusal_is table left is) ∙ sym e
 
-pub made_of : (table : TableView) (signature : Signature) (fluents actions : List Const) → refusal_by table ≡ None → signature ≡ record { fluents = fluents; actions = actions } →
+abbrev signature_with : List Const → List Const → List (Option ℕ) → Signature
+signature_with fluents actions numbers = record { fluents = fluents; actions = actions; numbers = numbers }
+
+pub made_of : (table : TableView) (signature : Signature) (fluents actions : List Const) (known : List (Option ℕ)) → refusal_by table ≡ None →
+    signature ≡ record { fluents = fluents; actions = actions; numbers = known } → known ≡ table.numbers →
     fluents ≡ instances_from table.sorts false 0 table.symbols → actions ≡ instances_from table.sorts true 0 table.symbols → length table.objects ≤ none_value →
     (left : List Declaration) → IsTable table left → IsSignatureOf left signature
-made_of table signature fluents actions none s f a numbered_all left is = (
+made_of table signature fluents actions known none s k f a numbered_all left is = (
   sym (refusal_is table left is) ∙ none,
-  s ∙ ap (λ (w : List Const). record { fluents = w; actions = actions }) (f ∙ fluents_are table left is)
-      ∙ ap (λ (w : List Const). record { fluents = ground_fluents left; actions = w }) (a ∙ actions_are table left is),
+  s ∙ ap (λ (w : List Const). signature_with w actions known) (f ∙ fluents_are table left is)
+      ∙ ap (λ (w : List Const). signature_with (ground_fluents left) w known) (a ∙ actions_are table left is)
+      ∙ ap (λ (w : List (Option ℕ)). signature_with (ground_fluents left) (ground_actions left) w) (k ∙ is.numbers_are),
   let there : length table.objects ≡ length (objects left) =
       ap (λ (w : List Numbered). length w) is.objects_are ∙ length-map (objects left) (λ (o : Named). (o.0, number_in (sort_names left) o.1))
       in omega (arith, numbered_all, there),

@@ -6,7 +6,7 @@ use Rattle.std.specs.List.{list_any, AllByRecursion}
 use Rattle.cc_defs.specs.Declarations.{Pair, is_below}
 use Rattle.cc_defs.specs.Grammar.{same_text}
 use Rattle.cc_sorts.specs.Laws.{IsOrderOf, BelowIsLeast}
-use Rattle.cc_sorts.proofs.Lefts.{or_false, same_swap}
+use Rattle.cc_sorts.proofs.Swaps.{or_false, same_swap}
 
 pub and_false : (a : Bool) → (a && false) ≡ false
 and_false true = refl

@@ -3,10 +3,10 @@ use Rattle.std.proofs.Common.{◌≡◌, ◌∙◌, ℕ, Bool, true, false, not,
 use Rattle.std.specs.Prelude.{if◌then◌else◌}
 use Rattle.std.specs.List.{list_any, list_all, find}
 use Rattle.std.proofs.lemmas.List.{append-nil}
-use Rattle.cc_defs.specs.Declarations.{Declaration, Sort, Link, Subsort, Object, Variable, Constant, Kinds, Declared, constants, constant_names, constant_declared, value_sort, chain_behind, sort_declarations, object_declarations, variable_declarations, constant_declarations, part_declarations, declarations_of}
+use Rattle.cc_defs.specs.Declarations.{Declaration, Sort, Link, Subsort, Object, Span, Number, member_declarations, from_to, Variable, Constant, Kinds, Declared, constants, constant_names, constant_declared, value_sort, chain_behind, sort_declarations, object_declarations, variable_declarations, constant_declarations, part_declarations, declarations_of}
 use Rattle.cc_defs.specs.DeclarationFaults.{is_sort, are_sorts, is_taken, is_twice, is_unknown, has_unknown, has_wrong_count, has_wrong_sort, any_has, declaration_fault, constant_named, declared_sorts, same_sorts, is_plain, is_boolean_action}
 use Rattle.cc_defs.specs.Grammar.{same_text}
-use Rattle.cc_defs.specs.Trees.{PlainShape, PlainSortItem, PlainListItem, PlainKind, PlainConstItem, PlainPart, PlainStatement}
+use Rattle.cc_defs.specs.Trees.{PlainShape, PlainSortItem, PlainMember, PlainListItem, PlainKind, PlainConstItem, PlainPart, PlainStatement}
 use Rattle.cc_defs.specs.Trees as trees
 use Rattle.cc_sorts.specs.Steps.{IsClearPair, IsClearName, IsClearConstant, AllClear}
 use Rattle.cc_sorts.specs.Tables.{has_action}
@@ -54,7 +54,7 @@ or_same : (a b c : Bool) → a || (b || c) ≡ ((a || b) || c)
 or_same true b c = refl
 or_same false b c = refl
 
-has_append : (fault : List Declaration → Declaration → Bool) (left xs ys : List Declaration) → any_has fault left (xs ++ ys) ≡ (any_has fault left xs || any_has fault (left ++ xs) ys)
+pub has_append : (fault : List Declaration → Declaration → Bool) (left xs ys : List Declaration) → any_has fault left (xs ++ ys) ≡ (any_has fault left xs || any_has fault (left ++ xs) ys)
 has_append fault left [] ys = ap (λ (w : List Declaration). any_has fault w ys) (sym (append-nil left))
 has_append fault left (x ∷ xs) ys =
     ap (λ (b : Bool). fault left x || b) (has_append fault (left ++ x ∷ []) xs ys)
@@ -112,13 +112,19 @@ sort_item_clear left (trees.Chain (first ∷ chain)) n =
 
 -- ---- objects and variables
 
-objects_clear : (left : List Declaration) (names : List (List ℕ)) (sort : List ℕ) → NoFault left (map (λ name. Object name sort) names) → AllClear left (map (λ name. Object name sort) names)
-objects_clear left [] sort n = tt
-objects_clear left (name ∷ names) sort n =
-    let rest = map (λ (name : List ℕ). Object name sort) names in
-    let first = no_fault_first left (Object name sort) rest n in
+numbers_clear : (left : List Declaration) (sort : List ℕ) (values : List ℕ) → is_sort left sort ≡ true → AllClear left (map (λ value. Number value sort) values)
+numbers_clear left sort [] known = tt
+numbers_clear left sort (value ∷ values) known =
+    (known, numbers_clear (left ++ Number value sort ∷ []) sort values (known_more left (Number value sort) sort known))
+
+member_clear : (sort : List ℕ) (left : List Declaration) (member : PlainMember) → NoFault left (member_declarations sort member) → AllClear left (member_declarations sort member)
+member_clear sort left (trees.Name name) n =
+    let first = no_fault_first left (Object name sort) [] n in
     let clear : IsClearName left name sort = record { is_new = first.0; sort_known = not_false (is_sort left sort) first.1 } in
-    (clear, objects_clear (left ++ Object name sort ∷ []) names sort (no_fault_rest left (Object name sort) rest n))
+    (clear, tt)
+member_clear sort left (trees.Numbers low high) n =
+    let first = no_fault_first left (Span low high sort) (map (λ (value : ℕ). Number value sort) (from_to low high)) n in
+    (tt, numbers_clear (left ++ Span low high sort ∷ []) sort (from_to low high) (known_more left (Span low high sort) sort (not_false (is_sort left sort) first.1)))
 
 variables_clear : (left : List Declaration) (names : List (List ℕ)) (sort : List ℕ) → NoFault left (map (λ name. Variable name sort) names) → AllClear left (map (λ name. Variable name sort) names)
 variables_clear left [] sort n = tt
@@ -214,7 +220,7 @@ constants_clear left kind file line (shape ∷ shapes) all n =
 
 part_clear : (left : List Declaration) (file line : ℕ) (part : PlainPart) → NoFault left (part_declarations file line part) → AllClear left (part_declarations file line part)
 part_clear left file line (trees.Sorts items) n = all_items sort_declarations sort_item_clear left items n
-part_clear left file line (trees.Objects items) n = all_items object_declarations (λ l item m. objects_clear l item.names item.sort m) left items n
+part_clear left file line (trees.Objects items) n = all_items object_declarations (λ l item m. all_items (member_declarations item.sort) (member_clear item.sort) l item.members m) left items n
 part_clear left file line (trees.Variables items) n = all_items variable_declarations (λ l item m. variables_clear l item.names item.sort m) left items n
 part_clear left file line (trees.Constants items) n = all_items (constant_declarations file line) (λ l item m. constants_clear l item.kind file line item.shapes item.shapes m) left items n
 part_clear left file line (trees.Query items) n = tt

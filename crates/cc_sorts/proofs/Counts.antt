@@ -11,10 +11,12 @@ use Rattle.cc_defs.specs.DeclarationFaults.{constant_named, sorts_of_constant, d
 use Rattle.cc_defs.specs.Declarations.{Declaration, Declared, constants, symbol_of, number_in, sort_names}
 use Rattle.cc_defs.specs.Grammar.{same_text}
 use Rattle.cc_sorts.specs.Lefts.{Shaped, shaped, arguments_of, plain_constant, left_constant, table_symbol, IsLeft}
-use Rattle.cc_sorts.specs.Tables.{TableView, placed_of, IsTable}
+use Rattle.cc_sorts.specs.Entered.{IsEntered}
+use Rattle.cc_sorts.specs.Tables.{TableView, placed_of}
 use Rattle.cc_sorts.specs.declared.left.Constant.{Constant as Constant'}
 use Rattle.cc_sorts.specs.declared.left.Left.{Left}
-use Rattle.cc_sorts.proofs.Lefts.{or_none, same_swap}
+use Rattle.cc_sorts.proofs.Lefts.{or_none}
+use Rattle.cc_sorts.proofs.Swaps.{same_swap}
 
 -- ---- the constant of a name
 
@@ -36,7 +38,7 @@ placed_find base name (constant ∷ found) = here (same_text name constant.shape
     here true more = refl
     here false more = more
 
-pub symbol_known : (table : TableView) (base : List Declaration) (name : List ℕ) → IsTable table base → table_symbol table name ≡ option_map (symbol_of base) (constant_named base name)
+pub symbol_known : (table : TableView) (base : List Declaration) (name : List ℕ) → IsEntered table base → table_symbol table name ≡ option_map (symbol_of base) (constant_named base name)
 symbol_known table base name is_table =
     ap (λ symbols. option_map (λ placed. placed.symbol) (find (λ placed. same_text name placed.symbol.name) symbols)) is_table.symbols_are
     ∙ placed_find base name (constants base)

@@ -1,12 +1,10 @@
 -- Whether an action has the sorts of an attribute's action, by names and by numbers.
-use Rattle.std.proofs.Common.{◌≡◌, ◌≢◌, ◌⊎◌, inl, inr, eqb, ◌∙◌, ℕ, zero, suc, ◌==◌, ◌&&◌, Bool, true, false, cond, List, [], ◌∷◌, map, length, get_or, drop, Option, Some, None, is_none, is_some, IsTrue, unwrap_or, refl, sym, ap, subst, ◌<◌, ◌+◌, add-one, drop-cons}
-use Rattle.std.specs.Cmp.Lexicographic.{pointwise, bytes_decides}
+use Rattle.std.proofs.Common.{◌≡◌, ◌∙◌, ℕ, zero, suc, ◌==◌, ◌&&◌, Bool, true, false, cond, List, [], ◌∷◌, map, length, get_or, drop, Option, Some, None, is_none, IsTrue, refl, sym, ap, subst, ◌<◌, ◌+◌, add-one, drop-cons}
+use Rattle.std.specs.Cmp.Lexicographic.{pointwise}
 use Rattle.std.specs.List.{list_all, list_any, find, AllByRecursion}
 use Rattle.std.specs.Option.{option_map}
-use Rattle.std.proofs.lemmas.Bool.Decides.{eqb_tells}
 use Rattle.std.proofs.lemmas.Iterator.Adapters.{position_from-zero}
 use denote.Bor.{Bor}
-use Rattle.std.proofs.lemmas.List.Quantifiers.{position-Some}
 use Rattle.std.proofs.Math.Dec.{eqb-suc-zero, eqb-zero-suc}
 use Rattle.cc_defs.specs.declared.signature.Symbol.{Symbol}
 use Rattle.cc_defs.specs.DeclarationFaults.{is_sort, are_sorts, constant_named, same_sorts, is_plain}
@@ -19,8 +17,8 @@ use Rattle.cc_sorts.specs.Lefts.{shaped, left_constant, table_symbol, IsLeft, ac
 use Rattle.cc_sorts.specs.Tables.{TableView}
 use Rattle.cc_sorts.specs.declared.left.Left.{Left}
 use Rattle.cc_sorts.proofs.Counts.{of_table, new_known}
-use Rattle.cc_sorts.proofs.Lefts.{same_swap}
-use Rattle.cc_sorts.proofs.Decided.{is_some_number}
+use Rattle.cc_sorts.proofs.Lefts.{numbered_same}
+use Rattle.cc_sorts.proofs.Swaps.{same_swap}
 
 -- ---- the action by its shape and its kind
 
@@ -34,28 +32,6 @@ new_fits left declarations name is_left e sorts shapes =
     ap (λ found. shaped_fits found sorts shapes) (sym (new_known left declarations name is_left e)) ∙ fits_shaped (constant_named declarations name) sorts shapes
 
 -- ---- sorts by number
-
-one_number : (names : List (List ℕ)) (sort other : List ℕ) (k : ℕ) → number_of names sort ≡ Some k → number_of names other ≡ Some k → sort ≡ other
-one_number names sort other k e f =
-    (bytes_decides sort (get_or names k [])).0 (position-Some (same_text sort) names k [] e).1
-    ∙ sym ((bytes_decides other (get_or names k [])).0 (position-Some (same_text other) names k [] f).1)
-
-numbered_same : (names : List (List ℕ)) (sort other : List ℕ) → list_any (same_text other) names ≡ true →
-    is_numbered (number_of names sort) (number_in names other) ≡ same_text sort other
-numbered_same names sort other there = here (number_of names other) (number_of names sort) refl refl (is_some_number names other ∙ there)
-  where
-    distinct : (same : Bool) → same_text sort other ≡ same → (sort ≢ other) → false ≡ same
-    distinct true e differ = absurd (differ ((bytes_decides sort other).0 e))
-    distinct false e differ = refl
-
-    at : (m k : ℕ) → number_of names other ≡ Some m → number_of names sort ≡ Some k → ((eqb k m ≡ true) × (k ≡ m)) ⊎ ((eqb k m ≡ false) × (k ≢ m)) → eqb k m ≡ same_text sort other
-    at m k e f (inl same) = same.0 ∙ sym ((bytes_decides sort other).1 (one_number names sort other m (f ∙ ap Some same.1) e))
-    at m k e f (inr differ) = differ.0 ∙ distinct (same_text sort other) refl (λ s. differ.1 (cc (sym f ∙ ap (number_of names) s ∙ e))) ∙ refl
-
-    here : (o p : Option ℕ) → number_of names other ≡ o → number_of names sort ≡ p → is_some (number_of names other) ≡ true → is_numbered p (unwrap_or o 0) ≡ same_text sort other
-    here None p e f some = absurd (cc (ap is_some (sym e) ∙ some))
-    here (Some m) None e f some = distinct (same_text sort other) refl (λ s. cc (sym f ∙ ap (number_of names) s ∙ e))
-    here (Some m) (Some k) e f some = at m k e f (eqb_tells k m)
 
 are_same : (names sorts own : List (List ℕ)) → list_all (λ sort. list_any (same_text sort) names) own ≡ true → are_numbered names sorts (map (number_in names) own) ≡ same_sorts sorts own
 are_same names [] [] there = refl

@@ -1,31 +1,50 @@
 -- A table behind one more declaration without a fault is the table of the declarations with it.
-use Rattle.std.proofs.Common.{◌≡◌, ◌∙◌, ℕ, ◌+◌, ◌<◌, Bool, true, false, ◌&&◌, ◌||◌, List, [], ◌∷◌, ◌++◌, length, map, Option, Some, slice_index_or, refl, sym, ap, subst, arith}
+use Rattle.std.proofs.Common.{◌≡◌, ◌∙◌, ℕ, ◌+◌, ◌<◌, Bool, true, false, ◌&&◌, ◌||◌, List, [], ◌∷◌, ◌++◌, length, map, Option, Some, slice_index_or, unwrap_or, cond, refl, sym, ap, subst, arith}
 use Rattle.std.specs.Prelude.{if◌then◌else◌, IsTrue}
-use Rattle.std.specs.List.{AllByRecursion, list_all}
+use Rattle.std.specs.List.{AllByRecursion, list_all, position_from}
+use Rattle.std.proofs.lemmas.Iterator.Adapters.{position_from-zero}
 use Rattle.std.proofs.lemmas.List.{append-nil, map-append, length-map}
-use Rattle.cc_defs.specs.Declarations.{Declaration, Declared, Named, Pair, sort_names, pairs, objects, variables, constants, constant_names, symbol_of, action_of, number_in, numbers_where, is_below, value_sort}
+use Rattle.cc_defs.specs.Declarations.{Declaration, Declared, Named, Pair, Put, sort_names, pairs, puts, first_puts, first_puts_behind, object_of, variables, constants, constant_names, symbol_of, action_of, number_in, numbers_where, is_below, value_sort}
 use Rattle.cc_defs.specs.Grammar.{same_text}
 use Rattle.cc_defs.specs.Trees.{PlainShape, PlainKind}
 use Rattle.cc_defs.specs.Trees as trees
 use Rattle.cc_sorts.specs.declared.table.Placed.{Placed}
 use Rattle.cc_sorts.specs.Numbers.{union}
 use Rattle.cc_sorts.specs.SortViews.{name_at, members_at, with_sort, with_pair, with_implied, changed_above}
-use Rattle.cc_sorts.specs.Steps.{with_sorts, new_object, new_variable, new_symbol, placed_in, symbol_in, action_in}
-use Rattle.cc_sorts.specs.Tables.{TableView, Numbered, IsTable, has_action, placed_of, symbol_names}
-use Rattle.cc_sorts.proofs.Names.{is_among, any_front, and_true, number_front, AreAmong, below_other}
+use Rattle.cc_sorts.specs.declared.table.PutAt.{PutAt}
+use Rattle.cc_sorts.specs.Entered.{IsEntered}
+use Rattle.cc_sorts.specs.Steps.{with_sorts, new_put, new_object, new_variable, new_symbol, placed_in, symbol_in, action_in}
+use Rattle.cc_sorts.specs.Tables.{TableView, Numbered, has_action, placed_of, put_at, symbol_names}
+use Rattle.cc_sorts.proofs.Names.{is_among, any_front, and_true, or_left, or_right, or_turn, same_self, number_front, number_end, AreAmong, below_other}
 use Rattle.cc_sorts.proofs.Below.{implied_same}
 use Rattle.cc_sorts.proofs.Wheres.{where_end, where_same, where_none, where_or, changed_map, at_map}
 
--- ---- a table by its names, pairs, objects, variables and constants
+-- ---- a table by its names, pairs, puts, variables and constants
 
 abbrev pub placed_by : List (List ℕ) → List (List ℕ) → Declared → Placed
 placed_by names others c = record { symbol = symbol_in names others c.shape c.kind; file = c.file; line = c.line }
 
-abbrev pub members_by : List Pair → List Named → List ℕ → List ℕ
-members_by pairs objects sort = numbers_where (λ object. is_below pairs object.1 sort) 0 objects
+abbrev pub members_by : List Pair → List Put → List ℕ → List ℕ
+members_by pairs puts sort = numbers_where (λ put. is_below pairs put.sort sort) 0 puts
 
 abbrev pub numbered_by : List (List ℕ) → List Named → List Numbered
 numbered_by names named = map (λ entry. (entry.0, number_in names entry.1)) named
+
+abbrev pub put_names : List Put → List (List ℕ)
+put_names puts = map (λ put. put.name) puts
+
+abbrev pub named_of : List Put → List Named
+named_of puts = map (λ put. (put.name, put.sort)) puts
+
+abbrev pub first_by : List Put → List Put
+first_by puts = first_puts_behind [] puts
+
+-- a put by the names of sorts and of objects
+abbrev pub put_by : List (List ℕ) → List (List ℕ) → Put → PutAt
+put_by names owners put = record { object = number_in owners put.name; sort = number_in names put.sort; number = put.number }
+
+abbrev pub ArePut : List (List ℕ) → List Put → Type 0
+ArePut names puts = AllByRecursion (λ put. IsTrue (is_among names put.sort)) puts
 
 abbrev pub AreSorted : List (List ℕ) → List Named → Type 0
 AreSorted names named = AllByRecursion (λ entry. IsTrue (is_among names entry.1)) named
@@ -42,14 +61,16 @@ HaveValues names constants = AllByRecursion (λ constant. IsTrue (is_among names
 abbrev pub HaveActions : List (List ℕ) → List Declared → Type 0
 HaveActions names constants = AllByRecursion (λ constant. IsTrue (has_action names constant.kind)) constants
 
-pub record Has (table : TableView) (names : List (List ℕ)) (pairs : List Pair) (objects variables : List Named) (constants : List Declared) : Type 0 where
+pub record Has (table : TableView) (names : List (List ℕ)) (pairs : List Pair) (puts : List Put) (variables : List Named) (constants : List Declared) : Type 0 where
   pub names_are : table.sorts.names ≡ names
   pub pairs_are : table.sorts.pairs ≡ pairs
-  pub members_are : table.sorts.members ≡ map (members_by pairs objects) names
-  pub objects_are : table.objects ≡ numbered_by names objects
+  pub members_are : table.sorts.members ≡ map (members_by pairs puts) names
+  pub puts_are : table.puts ≡ map (put_by names (put_names (first_by puts))) puts
+  pub objects_are : table.objects ≡ numbered_by names (named_of (first_by puts))
+  pub numbers_are : table.numbers ≡ map (λ put. put.number) (first_by puts)
   pub variables_are : table.variables ≡ numbered_by names variables
   pub symbols_are : table.symbols ≡ map (placed_by names (names_in constants)) constants
-  pub of_objects : AreSorted names objects
+  pub of_puts : ArePut names puts
   pub of_variables : AreSorted names variables
   pub of_arguments : AreShaped names constants
   pub of_values : HaveValues names constants
@@ -73,22 +94,43 @@ with_action left c action = record {
   line = c.line;
 }
 
-placed_same : (left : List Declaration) (constants : List Declared) →
+pub placed_same : (left : List Declaration) (constants : List Declared) →
     placed_of left constants ≡ map (placed_by (sort_names left) (constant_names left)) constants
 placed_same left [] = refl
 placed_same left (c ∷ cs) =
     ap (λ (action : Option ℕ). with_action left c action ∷ placed_of left cs) (action_same left c.kind)
     ∙ ap (λ (w : List Placed). placed_by (sort_names left) (constant_names left) c ∷ w) (placed_same left cs)
 
-pub has_of : (table : TableView) (left : List Declaration) → IsTable table left → Has table (sort_names left) (pairs left) (objects left) (variables left) (constants left)
+-- the place of a name among those of puts
+place_from : (name : List ℕ) (n : ℕ) (firsts : List Put) → position_from (λ put. same_text name put.name) n firsts ≡ position_from (same_text name) n (put_names firsts)
+place_from name n [] = refl
+place_from name n (put ∷ firsts) = ap (λ (w : Option ℕ). cond (same_text name put.name) (Some n) w) (place_from name (n + 1) firsts)
+
+pub object_is_number : (firsts : List Put) (put : Put) → object_of firsts (Some put) ≡ number_in (put_names firsts) put.name
+object_is_number firsts put =
+    ap (λ (found : Option ℕ). unwrap_or found 0)
+    (position_from-zero (λ (other : Put). same_text put.name other.name) firsts ∙ place_from put.name 0 firsts ∙ sym (position_from-zero (same_text put.name) (put_names firsts)))
+
+abbrev put_as : Put → ℕ → ℕ → PutAt
+put_as put object sort = record { object = object; sort = sort; number = put.number }
+
+puts_same : (left : List Declaration) (os : List Put) → map (put_at left) os ≡ map (put_by (sort_names left) (put_names (first_puts left))) os
+puts_same left [] = refl
+puts_same left (o ∷ os) =
+    ap (λ (n : ℕ). put_as o n (number_in (sort_names left) o.sort) ∷ map (put_at left) os) (object_is_number (first_puts left) o)
+    ∙ ap (λ (w : List PutAt). put_by (sort_names left) (put_names (first_puts left)) o ∷ w) (puts_same left os)
+
+pub has_of : (table : TableView) (left : List Declaration) → IsEntered table left → Has table (sort_names left) (pairs left) (puts left) (variables left) (constants left)
 has_of table left is = record {
   names_are = is.names;
   pairs_are = is.pairs_are;
   members_are = is.members_are;
+  puts_are = is.puts_are ∙ puts_same left (puts left);
   objects_are = is.objects_are;
+  numbers_are = is.numbers_are;
   variables_are = is.variables_are;
   symbols_are = is.symbols_are ∙ placed_same left (constants left);
-  of_objects = is.known.of_objects;
+  of_puts = is.known.of_puts;
   of_variables = is.known.of_variables;
   of_arguments = is.known.of_arguments;
   of_values = is.known.of_values;
@@ -96,16 +138,18 @@ has_of table left is = record {
   of_pairs = is.known.of_pairs;
 }
 
-is_of : (table : TableView) (left : List Declaration) → Has table (sort_names left) (pairs left) (objects left) (variables left) (constants left) → IsTable table left
+is_of : (table : TableView) (left : List Declaration) → Has table (sort_names left) (pairs left) (puts left) (variables left) (constants left) → IsEntered table left
 is_of table left has = record {
   names = has.names_are;
   pairs_are = has.pairs_are;
   members_are = has.members_are;
+  puts_are = has.puts_are ∙ sym (puts_same left (puts left));
   objects_are = has.objects_are;
+  numbers_are = has.numbers_are;
   variables_are = has.variables_are;
   symbols_are = has.symbols_are ∙ sym (placed_same left (constants left));
   known = record {
-    of_objects = has.of_objects;
+    of_puts = has.of_puts;
     of_variables = has.of_variables;
     of_arguments = has.of_arguments;
     of_values = has.of_values;
@@ -114,15 +158,99 @@ is_of table left has = record {
   };
 }
 
-pub table_of : (table : TableView) (left : List Declaration) (names : List (List ℕ)) (ps : List Pair) (os vs : List Named) (cs : List Declared) →
-    sort_names left ≡ names → pairs left ≡ ps → objects left ≡ os → variables left ≡ vs → constants left ≡ cs → Has table names ps os vs cs → IsTable table left
+pub table_of : (table : TableView) (left : List Declaration) (names : List (List ℕ)) (ps : List Pair) (os : List Put) (vs : List Named) (cs : List Declared) →
+    sort_names left ≡ names → pairs left ≡ ps → puts left ≡ os → variables left ≡ vs → constants left ≡ cs → Has table names ps os vs cs → IsEntered table left
 table_of table left names ps os vs cs a b c d e has =
     let A : List (List ℕ) → Type 0 = λ w. Has table w ps os vs cs in
     let B : List Pair → Type 0 = λ w. Has table (sort_names left) w os vs cs in
-    let C : List Named → Type 0 = λ w. Has table (sort_names left) (pairs left) w vs cs in
-    let D : List Named → Type 0 = λ w. Has table (sort_names left) (pairs left) (objects left) w cs in
-    let E : List Declared → Type 0 = λ w. Has table (sort_names left) (pairs left) (objects left) (variables left) w in
+    let C : List Put → Type 0 = λ w. Has table (sort_names left) (pairs left) w vs cs in
+    let D : List Named → Type 0 = λ w. Has table (sort_names left) (pairs left) (puts left) w cs in
+    let E : List Declared → Type 0 = λ w. Has table (sort_names left) (pairs left) (puts left) (variables left) w in
     is_of table left (subst E (sym e) (subst D (sym d) (subst C (sym c) (subst B (sym b) (subst A (sym a) has)))))
+
+-- ---- the first puts
+
+abbrev pub if_new_put : Bool → Put → List Put
+if_new_put known put = if known then [] else put ∷ []
+
+first_end : (seen : List (List ℕ)) (os : List Put) (o : Put) →
+    first_puts_behind seen (os ++ o ∷ []) ≡ first_puts_behind seen os ++ if_new_put (is_among seen o.name || is_among (put_names (first_puts_behind seen os)) o.name) o
+first_end seen [] o =
+    elim (is_among seen o.name) as (λ known. (if known then [] else o ∷ []) ≡ if_new_put (known || false) o) [ true ↦ refl | false ↦ refl ]
+first_end seen (x ∷ os) o = step (is_among seen x.name) (first_end seen os o) (first_end (x.name ∷ seen) os o)
+  where
+    step : (known : Bool) →
+        first_puts_behind seen (os ++ o ∷ []) ≡ first_puts_behind seen os ++ if_new_put (is_among seen o.name || is_among (put_names (first_puts_behind seen os)) o.name) o →
+        first_puts_behind (x.name ∷ seen) (os ++ o ∷ [])
+        ≡ first_puts_behind (x.name ∷ seen) os ++ if_new_put (is_among (x.name ∷ seen) o.name || is_among (put_names (first_puts_behind (x.name ∷ seen) os)) o.name) o →
+        (if known then first_puts_behind seen (os ++ o ∷ []) else x ∷ first_puts_behind (x.name ∷ seen) (os ++ o ∷ []))
+        ≡ (if known then first_puts_behind seen os else x ∷ first_puts_behind (x.name ∷ seen) os)
+        ++ if_new_put (is_among seen o.name || is_among (put_names (if known then first_puts_behind seen os else x ∷ first_puts_behind (x.name ∷ seen) os)) o.name) o
+    step true p q = p
+    step false p q =
+        ap (λ (w : List Put). x ∷ w)
+        (q ∙ ap (λ (known : Bool). first_puts_behind (x.name ∷ seen) os ++ if_new_put known o)
+        (or_turn (same_text o.name x.name) (is_among seen o.name) (is_among (put_names (first_puts_behind (x.name ∷ seen) os)) o.name)))
+
+pub first_more : (os : List Put) (o : Put) → first_by (os ++ o ∷ []) ≡ first_by os ++ if_new_put (is_among (put_names (first_by os)) o.name) o
+first_more os o = first_end [] os o
+
+-- the names of puts are among those of the first ones
+abbrev IsOwned : List (List ℕ) → List (List ℕ) → Put → Type 0
+IsOwned names seen put = (is_among names put.name || is_among seen put.name) ≡ true
+
+turned : (a s b : Bool) → (a || (s || b)) ≡ true → ((s || a) || b) ≡ true
+turned true true b e = refl
+turned true false b e = refl
+turned false true b e = refl
+turned false false b e = e
+
+turn_owned : (name : List ℕ) (seen names : List (List ℕ)) (xs : List Put) → AllByRecursion (IsOwned names (name ∷ seen)) xs → AllByRecursion (IsOwned (name ∷ names) seen) xs
+turn_owned name seen names [] all = tt
+turn_owned name seen names (x ∷ xs) all = (turned (is_among names x.name) (same_text x.name name) (is_among seen x.name) all.0, turn_owned name seen names xs all.1)
+
+owned_step : (seen : List (List ℕ)) (o : Put) (os : List Put) (known : Bool) → is_among seen o.name ≡ known → AllByRecursion (IsOwned (put_names (first_puts_behind seen os)) seen) os →
+    AllByRecursion (IsOwned (put_names (first_puts_behind (o.name ∷ seen) os)) (o.name ∷ seen)) os →
+    AllByRecursion (IsOwned (put_names (if known then first_puts_behind seen os else o ∷ first_puts_behind (o.name ∷ seen) os)) seen) (o ∷ os)
+owned_step seen o os true e p q = (or_right (is_among (put_names (first_puts_behind seen os)) o.name) (is_among seen o.name) e, p)
+owned_step seen o os false e p q = (
+  or_left (same_text o.name o.name || is_among (put_names (first_puts_behind (o.name ∷ seen) os)) o.name) (is_among seen o.name)
+      (or_left (same_text o.name o.name) (is_among (put_names (first_puts_behind (o.name ∷ seen) os)) o.name) (same_self o.name)),
+  turn_owned o.name seen (put_names (first_puts_behind (o.name ∷ seen) os)) os q,
+)
+
+owned_behind : (seen : List (List ℕ)) (os : List Put) → AllByRecursion (IsOwned (put_names (first_puts_behind seen os)) seen) os
+owned_behind seen [] = tt
+owned_behind seen (o ∷ os) = owned_step seen o os (is_among seen o.name) refl (owned_behind seen os) (owned_behind (o.name ∷ seen) os)
+
+abbrev pub AreOwned : List (List ℕ) → List Put → Type 0
+AreOwned owners os = AllByRecursion (λ o. is_among owners o.name ≡ true) os
+
+or_nothing : (b : Bool) → (b || false) ≡ true → b ≡ true
+or_nothing true e = refl
+or_nothing false e = absurd cc
+
+plain_owned : (names : List (List ℕ)) (xs : List Put) → AllByRecursion (IsOwned names []) xs → AreOwned names xs
+plain_owned names [] all = tt
+plain_owned names (x ∷ xs) all = (or_nothing (is_among names x.name) all.0, plain_owned names xs all.1)
+
+pub owned_by : (os : List Put) → AreOwned (put_names (first_by os)) os
+owned_by os = plain_owned (put_names (first_by os)) os (owned_behind [] os)
+
+first_put : (P : Put → Type 0) (seen : List (List ℕ)) (os : List Put) → AllByRecursion P os → AllByRecursion P (first_puts_behind seen os)
+first_put P seen [] all = tt
+first_put P seen (o ∷ os) all =
+    elim (is_among seen o.name) as (λ known. AllByRecursion P (if known then first_puts_behind seen os else o ∷ first_puts_behind (o.name ∷ seen) os)) [
+      | true ↦ first_put P seen os all.1
+      | false ↦ (all.0, first_put P (o.name ∷ seen) os all.1)
+    ]
+
+sorted_named : (names : List (List ℕ)) (os : List Put) → ArePut names os → AreSorted names (named_of os)
+sorted_named names [] all = tt
+sorted_named names (o ∷ os) all = (all.0, sorted_named names os all.1)
+
+sorted_firsts : (names : List (List ℕ)) (os : List Put) → ArePut names os → AreSorted names (named_of (first_by os))
+sorted_firsts names os all = sorted_named names (first_by os) (first_put (λ (o : Put). IsTrue (is_among names o.sort)) [] os all)
 
 -- ---- what is known stays known, and numbers stay
 
@@ -179,6 +307,23 @@ numbered_more names more (o ∷ os) all =
     ap (λ (n : ℕ). (o.0, n) ∷ numbered_by names os) (sym (number_front names more o.1 all.0))
     ∙ ap (λ (w : List Numbered). (o.0, number_in (names ++ more) o.1) ∷ w) (numbered_more names more os all.1)
 
+puts_more : (names more : List (List ℕ)) (os : List Put) → ArePut names os → ArePut (names ++ more) os
+puts_more names more os all =
+    let P : Put → Type 0 = λ o. IsTrue (is_among names o.sort) in let Q : Put → Type 0 = λ o. IsTrue (is_among (names ++ more) o.sort) in
+    all_more P Q os (λ o e. among_more names more o.sort e) all
+
+put_more : (names more owners : List (List ℕ)) (os : List Put) → ArePut names os → map (put_by names owners) os ≡ map (put_by (names ++ more) owners) os
+put_more names more owners [] all = refl
+put_more names more owners (o ∷ os) all =
+    ap (λ (n : ℕ). put_as o (number_in owners o.name) n ∷ map (put_by names owners) os) (sym (number_front names more o.sort all.0))
+    ∙ ap (λ (w : List PutAt). put_by (names ++ more) owners o ∷ w) (put_more names more owners os all.1)
+
+owner_more : (names owners more : List (List ℕ)) (os : List Put) → AreOwned owners os → map (put_by names owners) os ≡ map (put_by names (owners ++ more)) os
+owner_more names owners more [] all = refl
+owner_more names owners more (o ∷ os) all =
+    ap (λ (n : ℕ). put_as o n (number_in names o.sort) ∷ map (put_by names owners) os) (sym (number_front owners more o.name all.0))
+    ∙ ap (λ (w : List PutAt). put_by names (owners ++ more) o ∷ w) (owner_more names owners more os all.1)
+
 numbers_more : (names more sorts : List (List ℕ)) → IsTrue (list_all (is_among names) sorts) → map (number_in names) sorts ≡ map (number_in (names ++ more)) sorts
 numbers_more names more [] e = refl
 numbers_more names more (sort ∷ sorts) e =
@@ -214,24 +359,26 @@ placed_more_names names others more (c ∷ cs) a =
 
 -- ---- each step
 
-none_below : (names : List (List ℕ)) (ps : List Pair) (os : List Named) (name : List ℕ) → is_among names name ≡ false → AreAmong names ps → AreSorted names os → members_by ps os name ≡ []
+none_below : (names : List (List ℕ)) (ps : List Pair) (os : List Put) (name : List ℕ) → is_among names name ≡ false → AreAmong names ps → ArePut names os → members_by ps os name ≡ []
 none_below names ps os name new known all =
-    let P : Named → Type 0 = λ o. IsTrue (is_among names o.1) in let Q : Named → Type 0 = λ o. is_below ps o.1 name ≡ false in
-    where_none (λ (o : Named). is_below ps o.1 name) 0 os (all_more P Q os (λ o e. below_other names ps o.1 name new e known) all)
+    let P : Put → Type 0 = λ o. IsTrue (is_among names o.sort) in let Q : Put → Type 0 = λ o. is_below ps o.sort name ≡ false in
+    where_none (λ (o : Put). is_below ps o.sort name) 0 os (all_more P Q os (λ o e. below_other names ps o.sort name new e known) all)
 
-pub has_sort : (table : TableView) (names : List (List ℕ)) (ps : List Pair) (os vs : List Named) (cs : List Declared) (name : List ℕ) → is_among names name ≡ false →
+pub has_sort : (table : TableView) (names : List (List ℕ)) (ps : List Pair) (os : List Put) (vs : List Named) (cs : List Declared) (name : List ℕ) → is_among names name ≡ false →
     Has table names ps os vs cs → Has (with_sorts table (with_sort table.sorts name)) (names ++ name ∷ []) ps os vs cs
 has_sort table names ps os vs cs name new has = record {
   names_are = ap (λ (w : List (List ℕ)). w ++ name ∷ []) has.names_are;
   pairs_are = has.pairs_are;
   members_are =
       ap (λ (w : List (List ℕ)). w ++ [] ∷ []) has.members_are
-      ∙ ap (λ (w : List ℕ). map (members_by ps os) names ++ w ∷ []) (sym (none_below names ps os name new has.of_pairs has.of_objects))
+      ∙ ap (λ (w : List ℕ). map (members_by ps os) names ++ w ∷ []) (sym (none_below names ps os name new has.of_pairs has.of_puts))
       ∙ sym (map-append (members_by ps os) names (name ∷ []));
-  objects_are = has.objects_are ∙ numbered_more names (name ∷ []) os has.of_objects;
+  puts_are = has.puts_are ∙ put_more names (name ∷ []) (put_names (first_by os)) os has.of_puts;
+  objects_are = has.objects_are ∙ numbered_more names (name ∷ []) (named_of (first_by os)) (sorted_firsts names os has.of_puts);
+  numbers_are = has.numbers_are;
   variables_are = has.variables_are ∙ numbered_more names (name ∷ []) vs has.of_variables;
   symbols_are = has.symbols_are ∙ placed_more_sorts names (name ∷ []) (names_in cs) cs has.of_arguments has.of_values;
-  of_objects = sorted_more names (name ∷ []) os has.of_objects;
+  of_puts = puts_more names (name ∷ []) os has.of_puts;
   of_variables = sorted_more names (name ∷ []) vs has.of_variables;
   of_arguments = shaped_more names (name ∷ []) cs has.of_arguments;
   of_values = values_more names (name ∷ []) cs has.of_values;
@@ -249,25 +396,25 @@ or_all true b = refl
 or_all false true = refl
 or_all false false = refl
 
-members_pair : (ps : List Pair) (os : List Named) (upper lower sort : List ℕ) →
+members_pair : (ps : List Pair) (os : List Put) (upper lower sort : List ℕ) →
     (if is_below ps upper sort then union (members_by ps os sort) (members_by ps os lower) else members_by ps os sort) ≡ members_by ((upper, lower) ∷ ps) os sort
 members_pair ps os upper lower sort = step ps os lower sort (is_below ps upper sort)
   where
-    step : (ps : List Pair) (os : List Named) (lower sort : List ℕ) (above : Bool) →
+    step : (ps : List Pair) (os : List Put) (lower sort : List ℕ) (above : Bool) →
         (if above then union (members_by ps os sort) (members_by ps os lower) else members_by ps os sort)
-        ≡ numbers_where (λ (o : Named). is_below ps o.1 sort || (is_below ps o.1 lower && above)) 0 os
+        ≡ numbers_where (λ (o : Put). is_below ps o.sort sort || (is_below ps o.sort lower && above)) 0 os
     step ps os lower sort true =
-        where_or (λ (o : Named). is_below ps o.1 sort) (λ (o : Named). is_below ps o.1 lower) 0 os
-        ∙ where_same (λ (o : Named). is_below ps o.1 sort || is_below ps o.1 lower) (λ (o : Named). is_below ps o.1 sort || (is_below ps o.1 lower && true)) 0 os
-        (λ o. or_all (is_below ps o.1 sort) (is_below ps o.1 lower))
+        where_or (λ (o : Put). is_below ps o.sort sort) (λ (o : Put). is_below ps o.sort lower) 0 os
+        ∙ where_same (λ (o : Put). is_below ps o.sort sort || is_below ps o.sort lower) (λ (o : Put). is_below ps o.sort sort || (is_below ps o.sort lower && true)) 0 os
+        (λ o. or_all (is_below ps o.sort sort) (is_below ps o.sort lower))
     step ps os lower sort false =
-        where_same (λ (o : Named). is_below ps o.1 sort) (λ (o : Named). is_below ps o.1 sort || (is_below ps o.1 lower && false)) 0 os
-        (λ o. or_none (is_below ps o.1 sort) (is_below ps o.1 lower))
+        where_same (λ (o : Put). is_below ps o.sort sort) (λ (o : Put). is_below ps o.sort sort || (is_below ps o.sort lower && false)) 0 os
+        (λ o. or_none (is_below ps o.sort sort) (is_below ps o.sort lower))
 
-abbrev changed_by : List Pair → List Named → List ℕ → List ℕ → List (List ℕ) → List (List ℕ) → List (List ℕ)
+abbrev changed_by : List Pair → List Put → List ℕ → List ℕ → List (List ℕ) → List (List ℕ) → List (List ℕ)
 changed_by ps os sort list names lists = changed_above ps sort (λ (w : List ℕ). union w list) names lists
 
-pub has_pair : (table : TableView) (names : List (List ℕ)) (ps : List Pair) (os vs : List Named) (cs : List Declared) (upper lower : ℕ) (above under : List ℕ) →
+pub has_pair : (table : TableView) (names : List (List ℕ)) (ps : List Pair) (os : List Put) (vs : List Named) (cs : List Declared) (upper lower : ℕ) (above under : List ℕ) →
     slice_index_or names upper [] ≡ above → slice_index_or names lower [] ≡ under → lower < length names → is_among names above ≡ true → is_among names under ≡ true →
     Has table names ps os vs cs → Has (with_sorts table (with_pair table.sorts upper lower)) names ((above, under) ∷ ps) os vs cs
 has_pair table names ps os vs cs upper lower above under a u within p q has =
@@ -285,10 +432,12 @@ has_pair table names ps os vs cs upper lower above under a u within p q has =
           ∙ ap (λ (w : List (List ℕ)). changed_by ps os above (members_by ps os under) w table.sorts.members) has.names_are
           ∙ ap (λ (w : List (List ℕ)). changed_by ps os above (members_by ps os under) names w) has.members_are
           ∙ changed_map ps above (λ (w : List ℕ). union w (members_by ps os under)) (members_by ps os) (members_by ((above, under) ∷ ps) os) names (members_pair ps os above under);
+      puts_are = has.puts_are;
       objects_are = has.objects_are;
+      numbers_are = has.numbers_are;
       variables_are = has.variables_are;
       symbols_are = has.symbols_are;
-      of_objects = has.of_objects;
+      of_puts = has.of_puts;
       of_variables = has.of_variables;
       of_arguments = has.of_arguments;
       of_values = has.of_values;
@@ -300,7 +449,7 @@ map_same : (f g : List ℕ → List ℕ) (names : List (List ℕ)) → ((name : 
 map_same f g [] e = refl
 map_same f g (name ∷ names) e = ap (λ (w : List ℕ). w ∷ map f names) (e name) ∙ ap (λ (w : List (List ℕ)). g name ∷ w) (map_same f g names e)
 
-pub has_implied : (table : TableView) (names : List (List ℕ)) (ps : List Pair) (os vs : List Named) (cs : List Declared) (upper lower : ℕ) (above under : List ℕ) →
+pub has_implied : (table : TableView) (names : List (List ℕ)) (ps : List Pair) (os : List Put) (vs : List Named) (cs : List Declared) (upper lower : ℕ) (above under : List ℕ) →
     slice_index_or names upper [] ≡ above → slice_index_or names lower [] ≡ under → is_below ps under above ≡ true → is_among names above ≡ true → is_among names under ≡ true →
     Has table names ps os vs cs → Has (with_sorts table (with_implied table.sorts upper lower)) names ((above, under) ∷ ps) os vs cs
 has_implied table names ps os vs cs upper lower above under a u implied p q has =
@@ -310,11 +459,13 @@ has_implied table names ps os vs cs upper lower above under a u implied p q has 
       names_are = has.names_are;
       pairs_are = ap (λ (w : List ℕ). (w, name_at table.sorts lower) ∷ table.sorts.pairs) upper_name ∙ ap (λ (w : List ℕ). (above, w) ∷ table.sorts.pairs) lower_name ∙ ap (λ (w : List Pair). (above, under) ∷ w) has.pairs_are;
       members_are = has.members_are ∙ map_same (members_by ps os) (members_by ((above, under) ∷ ps) os) names
-          (λ sort. where_same (λ (o : Named). is_below ps o.1 sort) (λ (o : Named). is_below ((above, under) ∷ ps) o.1 sort) 0 os (λ o. sym (implied_same ps above under o.1 sort implied)));
+          (λ sort. where_same (λ (o : Put). is_below ps o.sort sort) (λ (o : Put). is_below ((above, under) ∷ ps) o.sort sort) 0 os (λ o. sym (implied_same ps above under o.sort sort implied)));
+      puts_are = has.puts_are;
       objects_are = has.objects_are;
+      numbers_are = has.numbers_are;
       variables_are = has.variables_are;
       symbols_are = has.symbols_are;
-      of_objects = has.of_objects;
+      of_puts = has.of_puts;
       of_variables = has.of_variables;
       of_arguments = has.of_arguments;
       of_values = has.of_values;
@@ -322,12 +473,12 @@ has_implied table names ps os vs cs upper lower above under a u implied p q has 
       of_pairs = (and_both (is_among names above) (is_among names under) p q, has.of_pairs);
     }
 
-members_object : (ps : List Pair) (os : List Named) (o : Named) (number : ℕ) (sort : List ℕ) → number ≡ length os →
-    (if is_below ps o.1 sort then members_by ps os sort ++ number ∷ [] else members_by ps os sort) ≡ members_by ps (os ++ o ∷ []) sort
-members_object ps os o number sort e =
-    step (members_by ps os sort) number (is_below ps o.1 sort)
-    ∙ ap (λ (n : ℕ). members_by ps os sort ++ (if is_below ps o.1 sort then n ∷ [] else [])) from_zero
-    ∙ sym (where_end (λ (x : Named). is_below ps x.1 sort) 0 os o)
+members_put : (ps : List Pair) (os : List Put) (o : Put) (number : ℕ) (sort : List ℕ) → number ≡ length os →
+    (if is_below ps o.sort sort then members_by ps os sort ++ number ∷ [] else members_by ps os sort) ≡ members_by ps (os ++ o ∷ []) sort
+members_put ps os o number sort e =
+    step (members_by ps os sort) number (is_below ps o.sort sort)
+    ∙ ap (λ (n : ℕ). members_by ps os sort ++ (if is_below ps o.sort sort then n ∷ [] else [])) from_zero
+    ∙ sym (where_end (λ (x : Put). is_below ps x.sort sort) 0 os o)
   where
     from_zero : number ≡ 0 + length os
     from_zero = omega (arith, e)
@@ -339,38 +490,104 @@ members_object ps os o number sort e =
 abbrev appended_by : List Pair → List ℕ → ℕ → List (List ℕ) → List (List ℕ) → List (List ℕ)
 appended_by ps sort number names lists = changed_above ps sort (λ (w : List ℕ). w ++ number ∷ []) names lists
 
-pub has_object : (table : TableView) (names : List (List ℕ)) (ps : List Pair) (os vs : List Named) (cs : List Declared) (name sort : List ℕ) (number : ℕ) →
-    slice_index_or names number [] ≡ sort → number_in names sort ≡ number → is_among names sort ≡ true →
-    Has table names ps os vs cs → Has (new_object table name number) names ps (os ++ (name, sort) ∷ []) vs cs
-has_object table names ps os vs cs name sort number a b p has =
-    let sort_name : name_at table.sorts number ≡ sort = ap (λ (w : List (List ℕ)). slice_index_or w number []) has.names_are ∙ a in
-    let count : length table.objects ≡ length os = ap (λ (w : List Numbered). length w) has.objects_are ∙ length-map os (λ (o : Named). (o.0, number_in names o.1)) in
-    let Q : Named → Type 0 = λ o. IsTrue (is_among names o.1) in
-    record {
-      names_are = has.names_are;
-      pairs_are = has.pairs_are;
-      members_are =
-          ap (λ (w : List Pair). appended_by w (name_at table.sorts number) (length table.objects) table.sorts.names table.sorts.members) has.pairs_are
-          ∙ ap (λ (w : List ℕ). appended_by ps w (length table.objects) table.sorts.names table.sorts.members) sort_name
-          ∙ ap (λ (w : List (List ℕ)). appended_by ps sort (length table.objects) w table.sorts.members) has.names_are
-          ∙ ap (λ (w : List (List ℕ)). appended_by ps sort (length table.objects) names w) has.members_are
-          ∙ changed_map ps sort (λ (w : List ℕ). w ++ length table.objects ∷ []) (members_by ps os) (members_by ps (os ++ (name, sort) ∷ [])) names
-          (λ (n : List ℕ). members_object ps os (name, sort) (length table.objects) n count);
-      objects_are =
-          ap (λ (w : List Numbered). w ++ (name, number) ∷ []) has.objects_are
-          ∙ ap (λ (n : ℕ). numbered_by names os ++ (name, n) ∷ []) (sym b)
-          ∙ sym (map-append (λ (o : Named). (o.0, number_in names o.1)) os ((name, sort) ∷ []));
-      variables_are = has.variables_are;
-      symbols_are = has.symbols_are;
-      of_objects = all_end Q Q os (name, sort) (λ o e. e) has.of_objects p;
-      of_variables = has.of_variables;
-      of_arguments = has.of_arguments;
-      of_values = has.of_values;
-      of_actions = has.of_actions;
-      of_pairs = has.of_pairs;
-    }
+-- the table with a put, by what its objects become
+module _ (table : TableView) (names : List (List ℕ)) (ps : List Pair) (os : List Put) (vs : List Named) (cs : List Declared) (o : Put) (sort : ℕ)
+    (a : slice_index_or names sort [] ≡ o.sort) (b : number_in names o.sort ≡ sort) (p : is_among names o.sort ≡ true) (has : Has table names ps os vs cs) where
+  abbrev named_before : List Put
+  named_before = first_by os
 
-pub has_variable : (table : TableView) (names : List (List ℕ)) (ps : List Pair) (os vs : List Named) (cs : List Declared) (name sort : List ℕ) (number : ℕ) →
+  count_puts : length table.puts ≡ length os
+  count_puts = ap (λ (w : List PutAt). length w) has.puts_are ∙ length-map os (put_by names (put_names (first_by os)))
+
+  count_objects : length table.objects ≡ length (first_by os)
+  count_objects =
+      ap (λ (w : List Numbered). length w) has.objects_are ∙ length-map (named_of (first_by os)) (λ (o : Named). (o.0, number_in names o.1))
+      ∙ length-map (first_by os) (λ (put : Put). (put.name, put.sort))
+
+  sort_name : name_at table.sorts sort ≡ o.sort
+  sort_name = ap (λ (w : List (List ℕ)). slice_index_or w sort []) has.names_are ∙ a
+
+  members_more : appended_by table.sorts.pairs (name_at table.sorts sort) (length table.puts) table.sorts.names table.sorts.members ≡ map (members_by ps (os ++ o ∷ [])) names
+  members_more =
+      ap (λ (w : List Pair). appended_by w (name_at table.sorts sort) (length table.puts) table.sorts.names table.sorts.members) has.pairs_are
+      ∙ ap (λ (w : List ℕ). appended_by ps w (length table.puts) table.sorts.names table.sorts.members) sort_name
+      ∙ ap (λ (w : List (List ℕ)). appended_by ps o.sort (length table.puts) w table.sorts.members) has.names_are
+      ∙ ap (λ (w : List (List ℕ)). appended_by ps o.sort (length table.puts) names w) has.members_are
+      ∙ changed_map ps o.sort (λ (w : List ℕ). w ++ length table.puts ∷ []) (members_by ps os) (members_by ps (os ++ o ∷ [])) names
+      (λ (n : List ℕ). members_put ps os o (length table.puts) n count_puts)
+
+  -- the puts with another, of this object
+  puts_end : (owners : List (List ℕ)) (object : ℕ) → map (put_by names (put_names (first_by os))) os ≡ map (put_by names owners) os → number_in owners o.name ≡ object →
+      table.puts ++ record { object = object; sort = sort; number = o.number } ∷ [] ≡ map (put_by names owners) (os ++ o ∷ [])
+  puts_end owners object same is =
+      ap (λ (w : List PutAt). w ++ put_as o object sort ∷ []) (has.puts_are ∙ same)
+      ∙ ap (λ (n : ℕ). map (put_by names owners) os ++ put_as o n sort ∷ []) (sym is)
+      ∙ ap (λ (n : ℕ). map (put_by names owners) os ++ put_as o (number_in owners o.name) n ∷ []) (sym b)
+      ∙ sym (map-append (put_by names owners) os (o ∷ []))
+
+  sorted_end : ArePut names (os ++ o ∷ [])
+  sorted_end =
+      let Q : Put → Type 0 = λ o. IsTrue (is_among names o.sort) in
+      all_end Q Q os o (λ o e. e) has.of_puts p
+
+  -- of an object that is there
+  pub has_again : (object : ℕ) → is_among (put_names (first_by os)) o.name ≡ true → number_in (put_names (first_by os)) o.name ≡ object →
+      Has (new_put table object sort o.number) names ps (os ++ o ∷ []) vs cs
+  has_again object known is =
+      let same : first_by (os ++ o ∷ []) ≡ first_by os = first_more os o ∙ ap (λ (k : Bool). first_by os ++ if_new_put k o) known ∙ append-nil (first_by os) in
+      record {
+        names_are = has.names_are;
+        pairs_are = has.pairs_are;
+        members_are = members_more;
+        puts_are = puts_end (put_names (first_by os)) object refl is ∙ ap (λ (w : List Put). map (put_by names (put_names w)) (os ++ o ∷ [])) (sym same);
+        objects_are = has.objects_are ∙ ap (λ (w : List Put). numbered_by names (named_of w)) (sym same);
+        numbers_are = has.numbers_are ∙ ap (λ (w : List Put). map (λ (put : Put). put.number) w) (sym same);
+        variables_are = has.variables_are;
+        symbols_are = has.symbols_are;
+        of_puts = sorted_end;
+        of_variables = has.of_variables;
+        of_arguments = has.of_arguments;
+        of_values = has.of_values;
+        of_actions = has.of_actions;
+        of_pairs = has.of_pairs;
+      }
+
+  -- of a new one
+  pub has_object : is_among (put_names (first_by os)) o.name ≡ false → Has (new_object table o.name sort o.number) names ps (os ++ o ∷ []) vs cs
+  has_object new =
+      let same : first_by (os ++ o ∷ []) ≡ first_by os ++ o ∷ [] = first_more os o ∙ ap (λ (k : Bool). first_by os ++ if_new_put k o) new in
+      let grown : put_names (first_by os ++ o ∷ []) ≡ put_names (first_by os) ++ o.name ∷ [] = map-append (λ (put : Put). put.name) (first_by os) (o ∷ []) in
+      let last : number_in (put_names (first_by os) ++ o.name ∷ []) o.name ≡ length table.objects =
+      number_end (put_names (first_by os)) o.name new ∙ length-map (first_by os) (λ (put : Put). put.name) ∙ sym count_objects in
+      record {
+        names_are = has.names_are;
+        pairs_are = has.pairs_are;
+        members_are = members_more;
+        puts_are =
+            puts_end (put_names (first_by os) ++ o.name ∷ []) (length table.objects) (owner_more names (put_names (first_by os)) (o.name ∷ []) os (owned_by os)) last
+            ∙ ap (λ (w : List (List ℕ)). map (put_by names w) (os ++ o ∷ [])) (sym grown)
+            ∙ ap (λ (w : List Put). map (put_by names (put_names w)) (os ++ o ∷ [])) (sym same);
+        objects_are =
+            ap (λ (w : List Numbered). w ++ (o.name, sort) ∷ []) has.objects_are
+            ∙ ap (λ (n : ℕ). numbered_by names (named_of (first_by os)) ++ (o.name, n) ∷ []) (sym b)
+            ∙ sym (map-append (λ (n : Named). (n.0, number_in names n.1)) (named_of (first_by os)) ((o.name, o.sort) ∷ []))
+            ∙ ap (λ (w : List Named). numbered_by names w) (sym (map-append (λ (put : Put). (put.name, put.sort)) (first_by os) (o ∷ [])))
+            ∙ ap (λ (w : List Put). numbered_by names (named_of w)) (sym same);
+        numbers_are =
+            ap (λ (w : List (Option ℕ)). w ++ o.number ∷ []) has.numbers_are
+            ∙ sym (map-append (λ (put : Put). put.number) (first_by os) (o ∷ []))
+            ∙ ap (λ (w : List Put). map (λ (put : Put). put.number) w) (sym same);
+        variables_are = has.variables_are;
+        symbols_are = has.symbols_are;
+        of_puts = sorted_end;
+        of_variables = has.of_variables;
+        of_arguments = has.of_arguments;
+        of_values = has.of_values;
+        of_actions = has.of_actions;
+        of_pairs = has.of_pairs;
+      }
+
+pub has_variable : (table : TableView) (names : List (List ℕ)) (ps : List Pair) (os : List Put) (vs : List Named) (cs : List Declared) (name sort : List ℕ) (number : ℕ) →
     number_in names sort ≡ number → is_among names sort ≡ true →
     Has table names ps os vs cs → Has (new_variable table name number) names ps os (vs ++ (name, sort) ∷ []) cs
 has_variable table names ps os vs cs name sort number b p has =
@@ -379,13 +596,15 @@ has_variable table names ps os vs cs name sort number b p has =
       names_are = has.names_are;
       pairs_are = has.pairs_are;
       members_are = has.members_are;
+      puts_are = has.puts_are;
       objects_are = has.objects_are;
+      numbers_are = has.numbers_are;
       variables_are =
           ap (λ (w : List Numbered). w ++ (name, number) ∷ []) has.variables_are
           ∙ ap (λ (n : ℕ). numbered_by names vs ++ (name, n) ∷ []) (sym b)
           ∙ sym (map-append (λ (o : Named). (o.0, number_in names o.1)) vs ((name, sort) ∷ []));
       symbols_are = has.symbols_are;
-      of_objects = has.of_objects;
+      of_puts = has.of_puts;
       of_variables = all_end Q Q vs (name, sort) (λ o e. e) has.of_variables p;
       of_arguments = has.of_arguments;
       of_values = has.of_values;
@@ -397,10 +616,10 @@ symbols_named : (names others : List (List ℕ)) (cs : List Declared) → map (�
 symbols_named names others [] = refl
 symbols_named names others (c ∷ cs) = ap (λ (w : List (List ℕ)). c.shape.name ∷ w) (symbols_named names others cs)
 
-pub named_symbols : (table : TableView) (names : List (List ℕ)) (ps : List Pair) (os vs : List Named) (cs : List Declared) → Has table names ps os vs cs → symbol_names table ≡ names_in cs
+pub named_symbols : (table : TableView) (names : List (List ℕ)) (ps : List Pair) (os : List Put) (vs : List Named) (cs : List Declared) → Has table names ps os vs cs → symbol_names table ≡ names_in cs
 named_symbols table names ps os vs cs has = ap (λ (w : List Placed). map (λ (p : Placed). p.symbol.name) w) has.symbols_are ∙ symbols_named names (names_in cs) cs
 
-pub has_symbol : (table : TableView) (names : List (List ℕ)) (ps : List Pair) (os vs : List Named) (cs : List Declared) (c : Declared) →
+pub has_symbol : (table : TableView) (names : List (List ℕ)) (ps : List Pair) (os : List Put) (vs : List Named) (cs : List Declared) (c : Declared) →
     IsTrue (list_all (is_among names) c.shape.sorts) → IsTrue (is_among names (value_sort c.kind)) → IsTrue (has_action (names_in cs) c.kind) →
     Has table names ps os vs cs → Has (new_symbol table (placed_in table c.shape c.kind c.file c.line)) names ps os vs (cs ++ c ∷ [])
 has_symbol table names ps os vs cs c p q r has =
@@ -419,14 +638,16 @@ has_symbol table names ps os vs cs c p q r has =
       names_are = has.names_are;
       pairs_are = has.pairs_are;
       members_are = has.members_are;
+      puts_are = has.puts_are;
       objects_are = has.objects_are;
+      numbers_are = has.numbers_are;
       variables_are = has.variables_are;
       symbols_are =
           ap (λ (w : List Placed). w ++ placed_in table c.shape c.kind c.file c.line ∷ []) (has.symbols_are ∙ placed_more_names names (names_in cs) more cs has.of_actions)
           ∙ ap (λ (w : Placed). map (placed_by names (names_in cs ++ more)) cs ++ w ∷ []) placed
           ∙ sym (map-append (placed_by names (names_in cs ++ more)) cs (c ∷ []))
           ∙ ap (λ (w : List (List ℕ)). map (placed_by names w) (cs ++ c ∷ [])) (sym grown);
-      of_objects = has.of_objects;
+      of_puts = has.of_puts;
       of_variables = has.of_variables;
       of_arguments = all_end A A cs c (λ d e. e) has.of_arguments p;
       of_values = all_end B B cs c (λ d e. e) has.of_values q;

@@ -1,27 +1,30 @@
 -- What is left of a declaration, and another declaration behind it.
-use Rattle.std.proofs.Common.{◌≡◌, ◌∙◌, ℕ, Bool, true, false, cond, ◌||◌, ◌&&◌, List, [], ◌∷◌, ◌++◌, map, flat_map, reverse, if◌then◌else◌, Option, Some, None, codes, refl, sym, ap, subst}
+use Rattle.std.proofs.Common.{◌≡◌, ◌≢◌, ◌⊎◌, inl, inr, eqb, get_or, unwrap_or, is_none, is_some, ◌∙◌, ℕ, Bool, true, false, cond, ◌||◌, ◌&&◌, List, [], ◌∷◌, ◌++◌, map, flat_map, reverse, if◌then◌else◌, Option, Some, None, codes, refl, sym, ap, subst}
 use Rattle.std.specs.Cmp.Lexicographic.{bytes_decides}
 use Rattle.std.specs.List.{list_any, list_all, find}
 use Rattle.std.specs.Map.{lookup}
 use Rattle.std.specs.Option.{option_map, option_or}
 use Rattle.std.proofs.lemmas.Grind.{flat_map-append}
-use Rattle.std.proofs.lemmas.List.{map-append, append-nil, reverse-append}
+use Rattle.std.proofs.lemmas.List.{map-append, reverse-append}
 use Rattle.std.proofs.lemmas.List.Folds.{list_any-append, find-append}
 use Rattle.cc_defs.specs.DeclarationFaults.{is_sort, are_sorts, is_taken, same_pair, constant_named}
-use Rattle.cc_defs.specs.Declarations.{Declaration, Sort, Link, Subsort, Object, Variable, Constant, Kinds, Declared, Named, Pair, boolean, firsts_behind, sort_named, pair_declared, pairs, object_declared, objects, variable_declared, variables, constant_declared, constants, constant_names}
+use Rattle.cc_defs.specs.Declarations.{Declaration, sort_names, number_in, Declared, Named, Pair, Put, named_put, boolean, firsts_behind, sort_named, pair_declared, pairs, put_declared, puts, variable_declared, variables, constant_declared, constants, constant_names}
 use Rattle.cc_defs.specs.Grammar.{same_text}
-use Rattle.cc_sorts.specs.Dictionaries.{names_of}
-use Rattle.cc_sorts.specs.Tables.{TableView, numbered, placed_of, IsTable}
-use Rattle.cc_sorts.specs.Lefts.{plain_pair, uppers_in, has_sort, has_name, left_has_sort, IsLeft, Adds, takes, shaped, plain_constant, left_constant}
+use Rattle.std.proofs.lemmas.Bool.Decides.{eqb_tells}
+use Rattle.std.proofs.lemmas.List.Quantifiers.{position-Some}
+use Rattle.cc_sorts.specs.declared.table.PutAt.{PutAt}
+use Rattle.cc_sorts.specs.Dictionaries.{names_of, number_of}
+use Rattle.cc_sorts.specs.Entered.{IsEntered}
+use Rattle.cc_sorts.specs.Tables.{TableView, Numbered, numbered, placed_of}
+use Rattle.cc_sorts.proofs.Grown.{has_of, put_by, put_names, named_of, first_by, numbered_by, ArePut, AreOwned, owned_by}
+use Rattle.cc_sorts.proofs.Decided.{is_some_number}
+use Rattle.cc_sorts.proofs.Swaps.{or_false, same_swap}
+use Rattle.cc_sorts.specs.Lefts.{is_numbered, is_number_from, is_put_as, is_put_from, has_put_from, table_has_from, meets, plain_pair, uppers_in, has_sort, has_name, left_has_sort, IsLeft, Adds, takes, shaped, plain_constant, left_constant}
 use Rattle.cc_sorts.specs.declared.left.Constant.{Constant as Constant'}
 use Rattle.cc_sorts.specs.declared.left.Left.{Left}
 use denote.Bor.{Bor}
 
 -- ---- tests
-
-pub or_false : (a : Bool) → (a || false) ≡ a
-or_false true = refl
-or_false false = refl
 
 or_true : (a : Bool) → (a || true) ≡ true
 or_true true = refl
@@ -71,17 +74,12 @@ sort_among left name =
     sym (or_false (is_sort left name)) ∙ firsts_have name [] (boolean ∷ flat_map sort_named left)
     ∙ or_false (list_any (same_text name) (boolean ∷ flat_map sort_named left))
 
-behind : {X : Type 0} (f : Declaration → List X) (left : List Declaration) (declaration : Declaration) →
-    flat_map f (left ++ declaration ∷ []) ≡ flat_map f left ++ f declaration
-behind f left declaration = flat_map-append f left (declaration ∷ []) ∙ ap (λ xs. flat_map f left ++ xs) (append-nil (f declaration))
-
-pub sort_more : (left : List Declaration) (declaration : Declaration) (name : List ℕ) →
-    is_sort (left ++ declaration ∷ []) name ≡ (is_sort left name || list_any (same_text name) (sort_named declaration))
-sort_more left declaration name =
-    sort_among (left ++ declaration ∷ []) name
-    ∙ ap (λ names. list_any (same_text name) (boolean ∷ names)) (behind sort_named left declaration)
-    ∙ list_any-append (same_text name) (boolean ∷ flat_map sort_named left) (sort_named declaration)
-    ∙ ap (λ had. had || list_any (same_text name) (sort_named declaration)) (sym (sort_among left name))
+pub sort_more : (left ds : List Declaration) (name : List ℕ) → is_sort (left ++ ds) name ≡ (is_sort left name || list_any (same_text name) (flat_map sort_named ds))
+sort_more left ds name =
+    sort_among (left ++ ds) name
+    ∙ ap (λ names. list_any (same_text name) (boolean ∷ names)) (flat_map-append sort_named left ds)
+    ∙ list_any-append (same_text name) (boolean ∷ flat_map sort_named left) (flat_map sort_named ds)
+    ∙ ap (λ had. had || list_any (same_text name) (flat_map sort_named ds)) (sym (sort_among left name))
 
 -- ---- the names
 
@@ -89,39 +87,40 @@ join : (x y z a b c x' y' z' : Bool) → x' ≡ (x || a) → y' ≡ (y || b) →
 join x y z a b c x' y' z' e f g =
     ap (λ t. t || (y' || z')) e ∙ ap (λ t. (x || a) || (t || z')) f ∙ ap (λ t. (x || a) || ((y || b) || t)) g ∙ three_more x y z a b c
 
-pub taken_more : (left : List Declaration) (declaration : Declaration) (name : List ℕ) →
-    is_taken (left ++ declaration ∷ []) name ≡ (is_taken left name || takes name declaration)
-taken_more left declaration name =
-    join (list_any of_pair (objects left)) (list_any of_pair (variables left)) (list_any (same_text name) (constant_names left))
-    (list_any of_pair (object_declared declaration)) (list_any of_pair (variable_declared declaration))
-    (list_any (same_text name) (map (λ constant. constant.shape.name) (constant_declared declaration))) _ _ _
-    (ap (list_any of_pair) (ap (λ xs. (codes "false", boolean) ∷ (codes "true", boolean) ∷ xs) (behind object_declared left declaration)) ∙ list_any-append of_pair (objects left) (object_declared declaration))
-    (ap (list_any of_pair) (behind variable_declared left declaration) ∙ list_any-append of_pair (variables left) (variable_declared declaration))
-    (ap (list_any (same_text name)) (ap (map (λ constant. constant.shape.name)) (behind constant_declared left declaration) ∙ map-append (λ (constant : Declared). constant.shape.name) (constants left) (constant_declared declaration))
-    ∙ list_any-append (same_text name) (constant_names left) (map (λ constant. constant.shape.name) (constant_declared declaration)))
-  where
-    of_pair : Named → Bool
-    of_pair named = same_text name named.0
+pub put_more : (left ds : List Declaration) (test : Put → Bool) → list_any test (puts (left ++ ds)) ≡ (list_any test (puts left) || list_any test (flat_map put_declared ds))
+put_more left ds test =
+    ap (λ (xs : List Put). list_any test (named_put (codes "false") boolean ∷ named_put (codes "true") boolean ∷ xs)) (flat_map-append put_declared left ds)
+    ∙ list_any-append test (puts left) (flat_map put_declared ds)
+
+pub taken_more : (left ds : List Declaration) (name : List ℕ) → is_taken (left ++ ds) name ≡ (is_taken left name || takes name ds)
+taken_more left ds name =
+    join (list_any (λ (put : Put). is_none put.number && same_text name put.name) (puts left)) (list_any (λ (named : Named). same_text name named.0) (variables left)) (list_any (same_text name) (constant_names left))
+    (list_any (λ (put : Put). is_none put.number && same_text name put.name) (flat_map put_declared ds)) (list_any (λ (named : Named). same_text name named.0) (flat_map variable_declared ds))
+    (list_any (same_text name) (map (λ constant. constant.shape.name) (flat_map constant_declared ds))) _ _ _
+    (put_more left ds (λ (put : Put). is_none put.number && same_text name put.name))
+    (ap (list_any (λ (named : Named). same_text name named.0)) (flat_map-append variable_declared left ds) ∙ list_any-append (λ (named : Named). same_text name named.0) (variables left) (flat_map variable_declared ds))
+    (ap (list_any (same_text name)) (ap (map (λ constant. constant.shape.name)) (flat_map-append constant_declared left ds) ∙ map-append (λ (constant : Declared). constant.shape.name) (constants left) (flat_map constant_declared ds))
+    ∙ list_any-append (same_text name) (constant_names left) (map (λ constant. constant.shape.name) (flat_map constant_declared ds)))
 
 -- ---- the pairs
 
-one_pair : (test : Pair → Bool) (declaration : Declaration) → list_any test (reverse (pair_declared declaration)) ≡ list_any test (pair_declared declaration)
-one_pair test (Sort name) = refl
-one_pair test (Link name) = refl
-one_pair test (Subsort upper lower) = refl
-one_pair test (Object name sort) = refl
-one_pair test (Variable name sort) = refl
-one_pair test (Constant shape kind file line) = refl
-one_pair test (Kinds shapes kind) = refl
+any_reverse : (test : Pair → Bool) (ps : List Pair) → list_any test (reverse ps) ≡ list_any test ps
+any_reverse test [] = refl
+any_reverse test (p ∷ ps) =
+    ap (list_any test) (reverse-append (p ∷ []) ps)
+    ∙ list_any-append test (reverse ps) (p ∷ [])
+    ∙ or_swap (list_any test (reverse ps)) (test p || false)
+    ∙ ap (λ t. t || list_any test (reverse ps)) (or_false (test p))
+    ∙ ap (λ t. test p || t) (any_reverse test ps)
 
-pub pair_more : (left : List Declaration) (declaration : Declaration) (test : Pair → Bool) →
-    list_any test (pairs (left ++ declaration ∷ [])) ≡ (list_any test (pairs left) || list_any test (pair_declared declaration))
-pair_more left declaration test =
-    ap (λ xs. list_any test (reverse xs)) (behind pair_declared left declaration)
-    ∙ ap (list_any test) (reverse-append (flat_map pair_declared left) (pair_declared declaration))
-    ∙ list_any-append test (reverse (pair_declared declaration)) (pairs left)
-    ∙ ap (λ had. had || list_any test (pairs left)) (one_pair test declaration)
-    ∙ or_swap (list_any test (pair_declared declaration)) (list_any test (pairs left))
+pub pair_more : (left ds : List Declaration) (test : Pair → Bool) →
+    list_any test (pairs (left ++ ds)) ≡ (list_any test (pairs left) || list_any test (flat_map pair_declared ds))
+pair_more left ds test =
+    ap (λ xs. list_any test (reverse xs)) (flat_map-append pair_declared left ds)
+    ∙ ap (list_any test) (reverse-append (flat_map pair_declared left) (flat_map pair_declared ds))
+    ∙ list_any-append test (reverse (flat_map pair_declared ds)) (pairs left)
+    ∙ ap (λ had. had || list_any test (pairs left)) (any_reverse test (flat_map pair_declared ds))
+    ∙ or_swap (list_any test (flat_map pair_declared ds)) (list_any test (pairs left))
 
 -- ---- the constants
 
@@ -137,12 +136,12 @@ pub or_none : {X : Type 0} (o : Option X) → option_or o None ≡ o
 or_none None = refl
 or_none (Some x) = refl
 
-constant_more : (left : List Declaration) (declaration : Declaration) (name : List ℕ) →
-    option_map shaped (constant_named (left ++ declaration ∷ []) name)
-    ≡ option_or (option_map shaped (constant_named left name)) (option_map shaped (find (λ constant. same_text name constant.shape.name) (constant_declared declaration)))
-constant_more left declaration name =
-    ap (λ found. option_map shaped (find (λ constant. same_text name constant.shape.name) found)) (behind constant_declared left declaration)
-    ∙ ap (option_map shaped) (find-append (λ constant. same_text name constant.shape.name) (constants left) (constant_declared declaration))
+constant_more : (left ds : List Declaration) (name : List ℕ) →
+    option_map shaped (constant_named (left ++ ds) name)
+    ≡ option_or (option_map shaped (constant_named left name)) (option_map shaped (find (λ constant. same_text name constant.shape.name) (flat_map constant_declared ds)))
+constant_more left ds name =
+    ap (λ found. option_map shaped (find (λ constant. same_text name constant.shape.name) found)) (flat_map-append constant_declared left ds)
+    ∙ ap (option_map shaped) (find-append (λ constant. same_text name constant.shape.name) (constants left) (flat_map constant_declared ds))
     ∙ map_or shaped _ _
 
 -- ---- what is left
@@ -150,22 +149,29 @@ constant_more left declaration name =
 or_joins : (whole old new added : Bool) → whole ≡ old → new ≡ (old || added) → (whole || added) ≡ new
 or_joins whole old new added e f = ap (λ t. t || added) e ∙ sym f
 
-pub left_more : (old new : Left) (left : List Declaration) (declaration : Declaration) → IsLeft old left → Adds old new declaration → IsLeft new (left ++ declaration ∷ [])
-left_more old new left declaration is_left adds = record {
-  sorts_are = λ name. sort_more left declaration name ∙ or_joins _ _ _ (list_any (same_text name) (sort_named declaration)) (is_left.sorts_are name) (adds.sorts_are name);
-  names_are = λ name. taken_more left declaration name ∙ or_joins _ _ _ (takes name declaration) (is_left.names_are name) (adds.names_are name);
-  pairs_are = λ pair. pair_more left declaration (same_pair pair) ∙ or_joins _ _ _ (list_any (same_pair pair) (pair_declared declaration)) (is_left.pairs_are pair) (adds.pairs_are pair);
-  uppers_are = λ name. pair_more left declaration (λ pair. same_text name pair.0) ∙ or_joins _ _ _ (list_any (λ pair. same_text name pair.0) (pair_declared declaration)) (is_left.uppers_are name) (adds.uppers_are name);
+pub left_more : (old new : Left) (left ds : List Declaration) → IsLeft old left → Adds old new ds → IsLeft new (left ++ ds)
+left_more old new left ds is_left adds = record {
+  sorts_are = λ name. sort_more left ds name ∙ or_joins _ _ _ (list_any (same_text name) (flat_map sort_named ds)) (is_left.sorts_are name) (adds.sorts_are name);
+  names_are = λ name. taken_more left ds name ∙ or_joins _ _ _ (takes name ds) (is_left.names_are name) (adds.names_are name);
+  numbers_are = λ low high sort. put_more left ds (has_put_from low high sort)
+      ∙ or_joins _ _ _ (list_any (has_put_from low high sort) (flat_map put_declared ds)) (is_left.numbers_are low high sort) (adds.numbers_are low high sort);
+  pairs_are = λ pair. pair_more left ds (same_pair pair) ∙ or_joins _ _ _ (list_any (same_pair pair) (flat_map pair_declared ds)) (is_left.pairs_are pair) (adds.pairs_are pair);
+  uppers_are = λ name. pair_more left ds (λ pair. same_text name pair.0) ∙ or_joins _ _ _ (list_any (λ pair. same_text name pair.0) (flat_map pair_declared ds)) (is_left.uppers_are name) (adds.uppers_are name);
   linked = adds.linked is_left.linked;
   base = is_left.base;
-  is_table = subst (λ (t : Bor TableView). IsTable t.now is_left.base) (sym adds.table_is) is_left.is_table;
-  constants_are = λ name. constant_more left declaration name
-      ∙ ap (λ o. option_or o (option_map shaped (find (λ constant. same_text name constant.shape.name) (constant_declared declaration)))) (is_left.constants_are name)
+  is_table = subst (λ (t : Bor TableView). IsEntered t.now is_left.base) (sym adds.table_is) is_left.is_table;
+  constants_are = λ name. constant_more left ds name
+      ∙ ap (λ o. option_or o (option_map shaped (find (λ constant. same_text name constant.shape.name) (flat_map constant_declared ds)))) (is_left.constants_are name)
       ∙ option_or_assoc (option_map shaped (constant_named is_left.base name)) (left_constant old name) _
       ∙ ap (option_or (option_map shaped (constant_named is_left.base name))) (sym (adds.constants_are name));
 }
 
 -- ---- what a table has
+
+one_number : (names : List (List ℕ)) (sort other : List ℕ) (k : ℕ) → number_of names sort ≡ Some k → number_of names other ≡ Some k → sort ≡ other
+one_number names sort other k e f =
+    (bytes_decides sort (get_or names k [])).0 (position-Some (same_text sort) names k [] e).1
+    ∙ sym ((bytes_decides other (get_or names k [])).0 (position-Some (same_text other) names k [] f).1)
 
 names_numbered : (declarations : List Declaration) (name : List ℕ) (named : List Named) →
     list_any (λ entry. same_text name entry.0) named ≡ list_any (same_text name) (names_of (numbered declarations named))
@@ -180,20 +186,68 @@ names_placed declarations (constant ∷ found) = ap (λ names. constant.shape.na
 both_or : (x y z x' y' z' : Bool) → x ≡ x' → y ≡ y' → z ≡ z' → (x || (y || z)) ≡ (x' || (y' || z'))
 both_or x y z x' y' z' e f g = ap (λ t. t || (y || z)) e ∙ ap (λ t. x' || (t || z)) f ∙ ap (λ t. x' || (y' || t)) g
 
-taken_there : (table : TableView) (left : List Declaration) (name : List ℕ) → IsTable table left → is_taken left name ≡ has_name table name
+-- a sort by its name and by its number
+pub numbered_same : (names : List (List ℕ)) (sort other : List ℕ) → list_any (same_text other) names ≡ true →
+    is_numbered (number_of names sort) (number_in names other) ≡ same_text sort other
+numbered_same names sort other there = here (number_of names other) (number_of names sort) refl refl (is_some_number names other ∙ there)
+  where
+    distinct : (same : Bool) → same_text sort other ≡ same → (sort ≢ other) → false ≡ same
+    distinct true e differ = absurd (differ ((bytes_decides sort other).0 e))
+    distinct false e differ = refl
+
+    at : (m k : ℕ) → number_of names other ≡ Some m → number_of names sort ≡ Some k → ((eqb k m ≡ true) × (k ≡ m)) ⊎ ((eqb k m ≡ false) × (k ≢ m)) → eqb k m ≡ same_text sort other
+    at m k e f (inl same) = same.0 ∙ sym ((bytes_decides sort other).1 (one_number names sort other m (f ∙ ap Some same.1) e))
+    at m k e f (inr differ) = differ.0 ∙ distinct (same_text sort other) refl (λ s. differ.1 (cc (sym f ∙ ap (number_of names) s ∙ e))) ∙ refl
+
+    here : (o p : Option ℕ) → number_of names other ≡ o → number_of names sort ≡ p → is_some (number_of names other) ≡ true → is_numbered p (unwrap_or o 0) ≡ same_text sort other
+    here None p e f some = absurd (cc (ap is_some (sym e) ∙ some))
+    here (Some m) None e f some = distinct (same_text sort other) refl (λ s. cc (sym f ∙ ap (number_of names) s ∙ e))
+    here (Some m) (Some k) e f some = at m k e f (eqb_tells k m)
+
+-- what was put as a name
+named_there : (names owners : List (List ℕ)) (name : List ℕ) (os : List Put) → AreOwned owners os →
+    list_any (λ put. is_none put.number && same_text name put.name) os ≡ list_any (is_put_as (number_of owners name)) (map (put_by names owners) os)
+named_there names owners name [] all = refl
+named_there names owners name (o ∷ os) all =
+    ap (λ t. (is_none o.number && t) || list_any (λ (put : Put). is_none put.number && same_text name put.name) os) (sym (numbered_same owners name o.name all.0))
+    ∙ ap (λ t. (is_none o.number && is_numbered (number_of owners name) (number_in owners o.name)) || t) (named_there names owners name os all.1)
+
+number_there : (names owners : List (List ℕ)) (low high : ℕ) (sort : List ℕ) (os : List Put) → ArePut names os →
+    list_any (has_put_from low high sort) os ≡ list_any (is_put_from low high (number_of names sort)) (map (put_by names owners) os)
+number_there names owners low high sort [] all = refl
+number_there names owners low high sort (o ∷ os) all =
+    ap (λ t. (is_number_from low high o.number && t) || list_any (has_put_from low high sort) os) (sym (numbered_same names sort o.sort all.0))
+    ∙ ap (λ t. (is_number_from low high o.number && is_numbered (number_of names sort) (number_in names o.sort)) || t) (number_there names owners low high sort os all.1)
+
+puts_named : (names : List (List ℕ)) (os : List Put) → names_of (numbered_by names (named_of os)) ≡ put_names os
+puts_named names [] = refl
+puts_named names (o ∷ os) = ap (λ (w : List (List ℕ)). o.name ∷ w) (puts_named names os)
+
+taken_there : (table : TableView) (left : List Declaration) (name : List ℕ) → IsEntered table left → is_taken left name ≡ has_name table name
 taken_there table left name is_table =
+    let has = has_of table left is_table in
     both_or _ _ _ _ _ _
-    (names_numbered left name (objects left) ∙ ap (λ entries. list_any (same_text name) (names_of entries)) (sym is_table.objects_are))
+    (named_there (sort_names left) (put_names (first_by (puts left))) name (puts left) (owned_by (puts left))
+    ∙ ap (λ (w : List PutAt). list_any (is_put_as (number_of (put_names (first_by (puts left))) name)) w) (sym has.puts_are)
+    ∙ ap (λ (w : List (List ℕ)). list_any (is_put_as (number_of w name)) table.puts)
+    (sym (ap (λ (w : List Numbered). names_of w) has.objects_are ∙ puts_named (sort_names left) (first_by (puts left)))))
     (names_numbered left name (variables left) ∙ ap (λ entries. list_any (same_text name) (names_of entries)) (sym is_table.variables_are))
     (ap (list_any (same_text name)) (sym (names_placed left (constants left)))
     ∙ ap (λ symbols. list_any (same_text name) (map (λ placed. placed.symbol.name) symbols)) (sym is_table.symbols_are))
 
+from_there : (table : TableView) (left : List Declaration) (low high : ℕ) (sort : List ℕ) → IsEntered table left → list_any (has_put_from low high sort) (puts left) ≡ table_has_from table low high sort
+from_there table left low high sort is_table =
+    let has = has_of table left is_table in
+    number_there (sort_names left) (put_names (first_by (puts left))) low high sort (puts left) has.of_puts
+    ∙ ap (λ (w : List PutAt). list_any (is_put_from low high (number_of (sort_names left) sort)) w) (sym has.puts_are)
+    ∙ ap (λ (w : List (List ℕ)). list_any (is_put_from low high (number_of w sort)) table.puts) (sym has.names_are)
+
 none_more : {X : Type 0} (test : X → Bool) (has : Bool) (keys : List X) → keys ≡ [] → has ≡ (has || list_any test keys)
 none_more test has keys e = sym (or_false has) ∙ ap (λ xs. has || list_any test xs) (sym e)
 
-pub left_of_table : (left : Left) (declarations : List Declaration) → IsTable left.table.now declarations →
-    left.sorts.keys ≡ [] → left.names.keys ≡ [] → left.constants.entries ≡ [] → left.pairs.keys ≡ [] → left.uppers.keys ≡ [] → left.uppers_of.entries ≡ [] → IsLeft left declarations
-left_of_table left declarations is_table no_sorts no_names no_constants no_pairs no_uppers none_of = record {
+pub left_of_table : (left : Left) (declarations : List Declaration) → IsEntered left.table.now declarations →
+    left.sorts.keys ≡ [] → left.names.keys ≡ [] → left.ranges.items ≡ [] → left.constants.entries ≡ [] → left.pairs.keys ≡ [] → left.uppers.keys ≡ [] → left.uppers_of.entries ≡ [] → IsLeft left declarations
+left_of_table left declarations is_table no_sorts no_names no_ranges no_constants no_pairs no_uppers none_of = record {
   linked = λ pair. ap (list_any (λ other. same_pair pair (plain_pair other))) no_pairs ∙ sym (ap (λ entries. list_any (same_text pair.0) (uppers_in entries pair.1)) none_of);
   uppers_are = λ name. ap (list_any (λ pair. same_text name pair.0)) (sym is_table.pairs_are) ∙ none_more _ (list_any (λ pair. same_text name pair.0) left.table.now.sorts.pairs) left.uppers.keys no_uppers;
   base = declarations;
@@ -203,18 +257,11 @@ left_of_table left declarations is_table no_sorts no_names no_constants no_pairs
       ∙ ap (λ (entries : List (Bor (List ℕ) × Constant')). option_or (option_map shaped (constant_named declarations name)) (option_map plain_constant (lookup (λ (key : Bor (List ℕ)). same_text name key.now) entries))) (sym no_constants);
   sorts_are = λ name. ap (list_any (same_text name)) (sym is_table.names) ∙ none_more _ (has_sort left.table.now name) left.sorts.keys no_sorts;
   names_are = λ name. taken_there left.table.now declarations name is_table ∙ none_more _ (has_name left.table.now name) left.names.keys no_names;
+  numbers_are = λ low high sort. from_there left.table.now declarations low high sort is_table ∙ none_more (meets low high sort) (table_has_from left.table.now low high sort) left.ranges.items no_ranges;
   pairs_are = λ pair. ap (list_any (same_pair pair)) (sym is_table.pairs_are) ∙ none_more _ (list_any (same_pair pair) left.table.now.sorts.pairs) left.pairs.keys no_pairs;
 }
 
 -- ---- what is added
-
-pub same_swap : (x y : List ℕ) → same_text x y ≡ same_text y x
-same_swap x y = both (same_text x y) (same_text y x) refl refl
-  where
-    both : (a b : Bool) → same_text x y ≡ a → same_text y x ≡ b → a ≡ b
-    both true b e f = sym (sym f ∙ subst (λ (z : List ℕ). same_text z x ≡ true) ((bytes_decides x y).0 e) ((bytes_decides x x).1 refl))
-    both false true e f = sym e ∙ subst (λ (z : List ℕ). same_text z y ≡ true) ((bytes_decides y x).0 f) ((bytes_decides y y).1 refl)
-    both false false e f = refl
 
 added : (table old new same : Bool) → new ≡ cond same true old → (table || new) ≡ ((table || old) || same)
 added true old new same e = refl

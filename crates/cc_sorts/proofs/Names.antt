@@ -57,7 +57,7 @@ any_map test f (x ∷ xs) = ap (λ w. test (f x) || w) (any_map test f xs)
 
 -- ---- the first of each name
 
-or_turn : (s a f : Bool) → (s || a) || f ≡ (a || (s || f))
+pub or_turn : (s a f : Bool) → (s || a) || f ≡ (a || (s || f))
 or_turn true true f = refl
 or_turn true false f = refl
 or_turn false true f = refl
@@ -111,6 +111,25 @@ pub number_front : (names more : List (List ℕ)) (name : List ℕ) → is_among
 number_front names more name e =
     let test = same_text name in
     ap (λ (found : Option ℕ). unwrap_or found 0) (position_from-zero test (names ++ more) ∙ from_front test 0 names more e ∙ sym (position_from-zero test names))
+
+-- the number of a name behind others that it is not among
+end_from : (test : List ℕ → Bool) (n : ℕ) (names : List (List ℕ)) (name : List ℕ) → test name ≡ true → list_any test names ≡ false → position_from test n (names ++ name ∷ []) ≡ Some (n + length names)
+end_from test n [] name here e =
+    let same : n ≡ n + 0 = omega arith in ap (λ (h : Bool). cond h (Some n) None) here ∙ ap (λ (k : ℕ). Some k) same
+end_from test n (x ∷ names) name here e = step (test x) e (end_from test (n + 1) names name here)
+  where
+    step : (first : Bool) → first || list_any test names ≡ false → (list_any test names ≡ false → position_from test (n + 1) (names ++ name ∷ []) ≡ Some (n + 1 + length names)) →
+        cond first (Some n) (position_from test (n + 1) (names ++ name ∷ [])) ≡ Some (n + suc (length names))
+    step true e more = absurd cc
+    step false e more = let same : n + 1 + length names ≡ n + suc (length names) = omega arith in more e ∙ ap (λ (k : ℕ). Some k) same
+
+pub number_end : (names : List (List ℕ)) (name : List ℕ) → is_among names name ≡ false → number_in (names ++ name ∷ []) name ≡ length names
+number_end names name e =
+    ap (λ (found : Option ℕ). unwrap_or found 0) (position_from-zero (same_text name) (names ++ name ∷ []) ∙ end_from (same_text name) 0 names name (same_self name) e)
+    ∙ zero_more (length names)
+  where
+    zero_more : (n : ℕ) → 0 + n ≡ n
+    zero_more n = omega arith
 
 pub not_there : (names : List (List ℕ)) (name : List ℕ) → is_among names name ≡ false → number_of names name ≡ None
 not_there names name e = position_from-zero (same_text name) names ∙ none_from (same_text name) 0 names e

@@ -1,16 +1,18 @@
--- The numbers of the objects of each sort stay below a bound and ascend, and each sort has a list of them.
-use Rattle.std.proofs.Common.{◌≡◌, ℕ, zero, suc, ◌+◌, ◌<◌, ◌≤◌, true, false, nat_lt, List, [], ◌∷◌, ◌++◌, length, slice_index_or, Result, Ok, Err, OnOk, OnErr, inl, inr, ◌≢◌, refl, sym, ap, subst, length-append, arith}
+-- The numbers of the puts of each sort stay below a bound, each sort has a list of them, and one of what is shown.
+use Rattle.std.proofs.Common.{◌≡◌, ℕ, zero, suc, ◌+◌, ◌<◌, ◌≤◌, true, false, nat_lt, List, [], ◌∷◌, ◌++◌, length, slice_index_or, take, Option, None, Result, Ok, Err, OnOk, OnErr, ◌∙◌, ◌-◌, refl, sym, ap, subst, length-append, arith}
 use Rattle.std.specs.Prelude.{if◌then◌else◌, ◌==◌}
+use Rattle.std.proofs.lemmas.List.{map-append}
 use Rattle.std.specs.List.{AllByRecursion}
 use Rattle.cc_defs.specs.Declarations.{Pair, is_below}
-use Rattle.std.proofs.lemmas.Bool.{cases_lt, lt-ltb, le-ltb}
-use Rattle.std.proofs.lemmas.Bool.Decides.{eqb_tells}
-use Rattle.cc_sorts.specs.Numbers.{Ascends, put, union}
-use Rattle.cc_sorts.specs.Dictionaries.{values_of}
-use Rattle.cc_sorts.specs.Steps.{HasRoom}
-use Rattle.cc_sorts.specs.Tables.{Fits, Numbered, TableView}
+use Rattle.cc_sorts.specs.Numbers.{put, union}
+use Rattle.cc_sorts.specs.Dictionaries.{number_of}
+use Rattle.cc_sorts.specs.Entered.{Fits}
+use Rattle.cc_sorts.specs.Shown.{shown_list, shown_lists}
+use Rattle.cc_sorts.specs.Steps.{with_sorts, put_sort, new_sort, new_put, new_object}
+use Rattle.cc_sorts.specs.Tables.{Numbered, TableView}
+use Rattle.cc_sorts.specs.declared.table.PutAt.{PutAt}
 use Rattle.cc_sorts.specs.declared.table.Placed.{Placed}
-use Rattle.cc_sorts.specs.SortViews.{SortsView, IsPast, changed_above, with_pair, with_implied, with_object, members_at, name_at, AllAscend}
+use Rattle.cc_sorts.specs.SortViews.{SortsView, IsPast, changed_above, with_sort, with_pair, with_implied, with_object, members_at, name_at}
 
 abbrev pub Below : ℕ → List ℕ → Type 0
 Below bound list = AllByRecursion (λ member. member < bound) list
@@ -37,7 +39,7 @@ below_last : (bound : ℕ) (list : List ℕ) → Below bound list → Below (bou
 below_last bound [] p = (omega arith, tt)
 below_last bound (x ∷ xs) p = let first : x < bound = p.0 in (omega arith, below_last bound xs p.1)
 
-below_at : (bound : ℕ) (lists : List (List ℕ)) (i : ℕ) → AllByRecursion (Below bound) lists → Below bound (slice_index_or lists i [])
+pub below_at : (bound : ℕ) (lists : List (List ℕ)) (i : ℕ) → AllByRecursion (Below bound) lists → Below bound (slice_index_or lists i [])
 below_at bound [] i p = tt
 below_at bound (list ∷ lists) zero p = p.0
 below_at bound (list ∷ lists) (suc i) p = below_at bound lists i p.1
@@ -61,71 +63,7 @@ pub past_object : (bound : ℕ) (sorts : SortsView) (sort : ℕ) → IsPast boun
 past_object bound sorts sort p =
     changed_below bound (bound + 1) sorts.pairs (name_at sorts sort) (λ list. list ++ bound ∷ []) sorts.names sorts.members (below_more bound) (below_last bound) p
 
--- ---- ascending
-
-all_put : (P : ℕ → Type 0) (x : ℕ) (list : List ℕ) → P x → AllByRecursion P list → AllByRecursion P (put x list)
-all_put P x [] p all = (p, tt)
-all_put P x (y ∷ ys) p all = elim (nat_lt x y) as (λ less. AllByRecursion P (if less then x ∷ y ∷ ys else (if x == y then y ∷ ys else y ∷ put x ys))) [
-  | true ↦ (p, all)
-  | false ↦ elim (x == y) as (λ same. AllByRecursion P (if same then y ∷ ys else y ∷ put x ys)) [
-    | true ↦ all
-    | false ↦ (all.0, all_put P x ys p all.1)
-  ]
-]
-
-low_more : (x y : ℕ) (list : List ℕ) → x < y → AllByRecursion (λ z. y < z) list → AllByRecursion (λ z. x < z) list
-low_more x y [] p all = tt
-low_more x y (z ∷ zs) p all = let q : y < z = all.0 in (omega arith, low_more x y zs p all.1)
-
-ascends_put : (x : ℕ) (list : List ℕ) → Ascends list → Ascends (put x list)
-ascends_put x [] asc = (tt, tt)
-ascends_put x (y ∷ ys) asc = elim (cases_lt x y) [
-  | inl less ↦ rw (lt-ltb x y less) ((less, low_more x y ys less asc.0), asc)
-  | inr least ↦ elim (eqb_tells x y) [
-    | inl same ↦ rw (le-ltb x y least, same.0) asc
-    | inr other ↦ rw (le-ltb x y least, other.0) (all_put (λ z. y < z) x ys (past x y least other.1) asc.0, ascends_put x ys asc.1)
-  ]
-]
-  where
-    past : (x y : ℕ) → y ≤ x → (x ≢ y) → y < x
-    past x y p q = omega (arith, q)
-
-ascends_union : (xs ys : List ℕ) → Ascends ys → Ascends (union xs ys)
-ascends_union [] ys asc = asc
-ascends_union (x ∷ xs) ys asc = ascends_put x (union xs ys) (ascends_union xs ys asc)
-
-low_last : (x n : ℕ) (list : List ℕ) → x < n → AllByRecursion (λ z. x < z) list → AllByRecursion (λ z. x < z) (list ++ n ∷ [])
-low_last x n [] p all = (p, tt)
-low_last x n (z ∷ zs) p all = (all.0, low_last x n zs p all.1)
-
-ascends_last : (n : ℕ) (list : List ℕ) → Ascends list → Below n list → Ascends (list ++ n ∷ [])
-ascends_last n [] asc below = (tt, tt)
-ascends_last n (x ∷ xs) asc below = (low_last x n xs below.0 asc.0, ascends_last n xs asc.1 below.1)
-
-all_ascend_at : (lists : List (List ℕ)) (i : ℕ) → AllAscend lists → Ascends (slice_index_or lists i [])
-all_ascend_at [] i p = tt
-all_ascend_at (list ∷ lists) zero p = p.0
-all_ascend_at (list ∷ lists) (suc i) p = all_ascend_at lists i p.1
-
-pub members_ascend : (sorts : SortsView) (sort : ℕ) → AllAscend sorts.members → Ascends (members_at sorts sort)
-members_ascend sorts sort p = all_ascend_at sorts.members sort p
-
-ascend_pair : (pairs : List Pair) (sort others : List ℕ) (names lists : List (List ℕ)) → AllAscend lists → Ascends others → AllAscend (changed_above pairs sort (λ list. union list others) names lists)
-ascend_pair pairs sort others [] lists all asc = tt
-ascend_pair pairs sort others (name ∷ names) [] all asc = tt
-ascend_pair pairs sort others (name ∷ names) (list ∷ lists) all asc = (
-  elim (is_below pairs sort name) as (λ above. Ascends (if above then union list others else list)) [ true ↦ ascends_union list others asc | false ↦ all.0 ],
-  ascend_pair pairs sort others names lists all.1 asc,
-)
-
-ascend_object : (bound : ℕ) (pairs : List Pair) (sort : List ℕ) (names lists : List (List ℕ)) → AllAscend lists → AllByRecursion (Below bound) lists →
-    AllAscend (changed_above pairs sort (λ list. list ++ bound ∷ []) names lists)
-ascend_object bound pairs sort [] lists all below = tt
-ascend_object bound pairs sort (name ∷ names) [] all below = tt
-ascend_object bound pairs sort (name ∷ names) (list ∷ lists) all below = (
-  elim (is_below pairs sort name) as (λ above. Ascends (if above then list ++ bound ∷ [] else list)) [ true ↦ ascends_last bound list all.0 below.0 | false ↦ all.0 ],
-  ascend_object bound pairs sort names lists all.1 below.1,
-)
+-- ---- what a register holds
 
 as_many_changed : (pairs : List Pair) (sort : List ℕ) (change : List ℕ → List ℕ) (names lists : List (List ℕ)) → length lists ≡ length names →
     length (changed_above pairs sort change names lists) ≡ length names
@@ -133,64 +71,185 @@ as_many_changed pairs sort change [] lists e = refl
 as_many_changed pairs sort change (name ∷ names) [] e = absurd (omega (arith, e))
 as_many_changed pairs sort change (name ∷ names) (list ∷ lists) e = ap (λ (n : ℕ). suc n) (as_many_changed pairs sort change names lists (omega (arith, e)))
 
-pub fits_pair : {A E : Type 0} (result : Result A E) (sorts new : SortsView) (objects variables : List Numbered) (symbols : List (List ℕ × Placed)) (upper lower : ℕ) →
-    Fits sorts objects variables symbols → OnOk result (new ≡ with_pair sorts upper lower) → OnErr result (new ≡ sorts) → Fits new objects variables symbols
-fits_pair (Ok x) sorts new objects variables symbols upper lower fits added unchanged =
-    let P : SortsView → Type 0 = λ w. Fits w objects variables symbols in
-    subst P (sym added) (record {
-      few_sorts = fits.few_sorts;
+abbrev pub viewed : SortsView → List PutAt → List Numbered → List (Option ℕ) → List Numbered → List Placed → TableView
+viewed sorts puts objects numbers variables symbols = record { sorts = sorts; puts = puts; objects = objects; numbers = numbers; variables = variables; symbols = symbols }
+
+fits_as : (sorts new : SortsView) (puts other : List PutAt) (lists more : List (List ℕ)) (objects named variables : List Numbered) (symbols : List (List ℕ × Placed)) →
+    new ≡ sorts → other ≡ puts → more ≡ lists → named ≡ objects → Fits sorts puts lists objects variables symbols → Fits new other more named variables symbols
+fits_as sorts new puts other lists more objects named variables symbols e f g h fits =
+    let A : SortsView → Type 0 = λ w. Fits w puts lists objects variables symbols in
+    let B : List PutAt → Type 0 = λ w. Fits new w lists objects variables symbols in
+    let C : List (List ℕ) → Type 0 = λ w. Fits new other w objects variables symbols in
+    let D : List Numbered → Type 0 = λ w. Fits new other more w variables symbols in
+    subst D (sym h) (subst C (sym g) (subst B (sym f) (subst A (sym e) fits)))
+
+past_end : (bound : ℕ) (lists : List (List ℕ)) → AllByRecursion (Below bound) lists → AllByRecursion (Below bound) (lists ++ [] ∷ [])
+past_end bound [] p = (tt, tt)
+past_end bound (list ∷ lists) p = (p.0, past_end bound lists p.1)
+
+pub fits_sort : {A E : Type 0} (result : Result A E) (sorts new : SortsView) (puts : List PutAt) (lists more : List (List ℕ)) (objects variables : List Numbered) (symbols : List (List ℕ × Placed)) (name : List ℕ) →
+    Fits sorts puts lists objects variables symbols → length sorts.names + 1 < 4000000000 → OnOk result (new ≡ with_sort sorts name) → OnErr result (new ≡ sorts) →
+    OnOk result (more ≡ lists ++ [] ∷ []) → OnErr result (more ≡ lists) → Fits new puts more objects variables symbols
+fits_sort (Ok x) sorts new puts lists more objects variables symbols name fits few e _ f _ =
+    fits_as (with_sort sorts name) new puts puts (lists ++ [] ∷ []) more objects objects variables symbols e refl f refl (record {
+      few_sorts = omega (arith, length-append sorts.names (name ∷ []), few);
+      few_puts = fits.few_puts;
       few_objects = fits.few_objects;
       few_variables = fits.few_variables;
       few_symbols = fits.few_symbols;
       named = fits.named;
-      past = past_pair (length objects) sorts upper lower fits.past;
-      ascending = ascend_pair sorts.pairs (name_at sorts upper) (members_at sorts lower) sorts.names sorts.members fits.ascending (all_ascend_at sorts.members lower fits.ascending);
-      as_many = as_many_changed sorts.pairs (name_at sorts upper) (λ list. union list (members_at sorts lower)) sorts.names sorts.members fits.as_many;
+      past = past_end (length puts) sorts.members fits.past;
+      as_many = omega (arith, length-append sorts.members ([] ∷ []), length-append sorts.names (name ∷ []), fits.as_many);
+      shown = ap (λ (w : List (List ℕ)). w ++ [] ∷ []) fits.shown ∙ sym (map-append (shown_list puts) sorts.members ([] ∷ []));
+      owned = fits.owned;
     })
-fits_pair (Err e) sorts new objects variables symbols upper lower fits added unchanged =
-    let P : SortsView → Type 0 = λ w. Fits w objects variables symbols in subst P (sym unchanged) fits
+fits_sort (Err x) sorts new puts lists more objects variables symbols name fits few _ e _ f = fits_as sorts new puts puts lists more objects objects variables symbols e refl f refl fits
 
-pub fits_implied : {A E : Type 0} (result : Result A E) (sorts new : SortsView) (objects variables : List Numbered) (symbols : List (List ℕ × Placed)) (upper lower : ℕ) →
-    Fits sorts objects variables symbols → OnOk result (new ≡ with_implied sorts upper lower) → OnErr result (new ≡ sorts) → Fits new objects variables symbols
-fits_implied (Ok x) sorts new objects variables symbols upper lower fits added unchanged =
-    let P : SortsView → Type 0 = λ w. Fits w objects variables symbols in
-    subst P (sym added) (record {
+pub fits_pair : {A E : Type 0} (result : Result A E) (sorts new : SortsView) (puts : List PutAt) (lists more : List (List ℕ)) (objects variables : List Numbered) (symbols : List (List ℕ × Placed)) (upper lower : ℕ) →
+    Fits sorts puts lists objects variables symbols → OnOk result (new ≡ with_pair sorts upper lower) → OnErr result (new ≡ sorts) → more ≡ shown_lists puts new.members → Fits new puts more objects variables symbols
+fits_pair (Ok x) sorts new puts lists more objects variables symbols upper lower fits e _ f =
+    fits_as (with_pair sorts upper lower) new puts puts (shown_lists puts (with_pair sorts upper lower).members) more objects objects variables symbols e refl
+    (f ∙ ap (λ (w : SortsView). shown_lists puts w.members) e) refl (record {
       few_sorts = fits.few_sorts;
+      few_puts = fits.few_puts;
+      few_objects = fits.few_objects;
+      few_variables = fits.few_variables;
+      few_symbols = fits.few_symbols;
+      named = fits.named;
+      past = past_pair (length puts) sorts upper lower fits.past;
+      as_many = as_many_changed sorts.pairs (name_at sorts upper) (λ list. union list (members_at sorts lower)) sorts.names sorts.members fits.as_many;
+      shown = refl;
+      owned = fits.owned;
+    })
+fits_pair (Err x) sorts new puts lists more objects variables symbols upper lower fits _ e f =
+    fits_as sorts new puts puts lists more objects objects variables symbols e refl (f ∙ ap (λ (w : SortsView). shown_lists puts w.members) e ∙ sym fits.shown) refl fits
+
+pub fits_implied : {A E : Type 0} (result : Result A E) (sorts new : SortsView) (puts : List PutAt) (lists : List (List ℕ)) (objects variables : List Numbered) (symbols : List (List ℕ × Placed)) (upper lower : ℕ) →
+    Fits sorts puts lists objects variables symbols → OnOk result (new ≡ with_implied sorts upper lower) → OnErr result (new ≡ sorts) → Fits new puts lists objects variables symbols
+fits_implied (Ok x) sorts new puts lists objects variables symbols upper lower fits added unchanged =
+    fits_as (with_implied sorts upper lower) new puts puts lists lists objects objects variables symbols added refl refl refl (record {
+      few_sorts = fits.few_sorts;
+      few_puts = fits.few_puts;
       few_objects = fits.few_objects;
       few_variables = fits.few_variables;
       few_symbols = fits.few_symbols;
       named = fits.named;
       past = fits.past;
-      ascending = fits.ascending;
       as_many = fits.as_many;
+      shown = fits.shown;
+      owned = fits.owned;
     })
-fits_implied (Err e) sorts new objects variables symbols upper lower fits added unchanged =
-    let P : SortsView → Type 0 = λ w. Fits w objects variables symbols in subst P (sym unchanged) fits
+fits_implied (Err e) sorts new puts lists objects variables symbols upper lower fits added unchanged =
+    fits_as sorts new puts puts lists lists objects objects variables symbols unchanged refl refl refl fits
 
-fits_numbered : (sorts : SortsView) (objects variables : List Numbered) (symbols : List (List ℕ × Placed)) (table : TableView) (sort object : ℕ) (entry : Numbered) →
-    record { sorts = sorts; objects = objects; variables = variables; symbols = values_of symbols } ≡ table → HasRoom table 1 →
-    Fits sorts objects variables symbols → object ≡ length objects → Fits (with_object sorts sort object) (objects ++ entry ∷ []) variables symbols
-fits_numbered sorts objects variables symbols table sort object entry is room fits number =
-    let more : length (objects ++ entry ∷ []) ≡ length objects + 1 = length-append objects (entry ∷ []) in
-    let same : length objects ≡ length table.objects = ap (λ (t : TableView). length t.objects) is in
-    let Q : ℕ → Type 0 = λ n. IsPast n (with_object sorts sort object) in
-    let S : ℕ → Type 0 = λ n. AllAscend (with_object sorts sort n).members in
-    let R : ℕ → Type 0 = λ n. IsPast (length objects + 1) (with_object sorts sort n) in
+all_owned : (bound more : ℕ) (puts : List PutAt) → bound ≤ more → AllByRecursion (λ put. put.object < bound) puts → AllByRecursion (λ put. put.object < more) puts
+all_owned bound more [] p all = tt
+all_owned bound more (put ∷ puts) p all = let less : put.object < bound = all.0 in (omega (arith, less, p), all_owned bound more puts p all.1)
+
+owned_end : (bound : ℕ) (puts : List PutAt) (put : PutAt) → put.object < bound → AllByRecursion (λ put. put.object < bound) puts → AllByRecursion (λ put. put.object < bound) (puts ++ put ∷ [])
+owned_end bound [] put p all = (p, tt)
+owned_end bound (first ∷ puts) put p all = (all.0, owned_end bound puts put p all.1)
+
+-- a put of an object that is there, or of the last of these
+fits_put : (sorts : SortsView) (puts : List PutAt) (lists : List (List ℕ)) (objects more variables : List Numbered) (symbols : List (List ℕ × Placed)) (put : PutAt) →
+    Fits sorts puts lists objects variables symbols → length puts + 1 < 4000000000 → length more < 4000000000 → length objects ≤ length more → put.object < length more →
+    Fits (with_object sorts put.sort (length puts)) (puts ++ put ∷ []) (shown_lists (puts ++ put ∷ []) (with_object sorts put.sort (length puts)).members) more variables symbols
+fits_put sorts puts lists objects more variables symbols put fits few few_more grows object =
+    let count : length (puts ++ put ∷ []) ≡ length puts + 1 = length-append puts (put ∷ []) in
+    let Q : ℕ → Type 0 = λ n. IsPast n (with_object sorts put.sort (length puts)) in
     record {
       few_sorts = fits.few_sorts;
-      few_objects = omega (arith, more, same, room.for_objects);
+      few_puts = omega (arith, count, few);
+      few_objects = few_more;
       few_variables = fits.few_variables;
       few_symbols = fits.few_symbols;
       named = fits.named;
-      past = subst Q (sym more) (subst R (sym number) (past_object (length objects) sorts sort fits.past));
-      ascending = subst S (sym number) (ascend_object (length objects) sorts.pairs (name_at sorts sort) sorts.names sorts.members fits.ascending fits.past);
-      as_many = as_many_changed sorts.pairs (name_at sorts sort) (λ list. list ++ object ∷ []) sorts.names sorts.members fits.as_many;
+      past = subst Q (sym count) (past_object (length puts) sorts put.sort fits.past);
+      as_many = as_many_changed sorts.pairs (name_at sorts put.sort) (λ list. list ++ length puts ∷ []) sorts.names sorts.members fits.as_many;
+      shown = refl;
+      owned = owned_end (length more) puts put object (all_owned (length objects) (length more) puts grows fits.owned);
     }
 
-pub fits_object : (sorts new : SortsView) (objects more variables : List Numbered) (symbols : List (List ℕ × Placed)) (table : TableView) (sort object : ℕ) (entry : Numbered) →
-    record { sorts = sorts; objects = objects; variables = variables; symbols = values_of symbols } ≡ table → HasRoom table 1 →
-    Fits sorts objects variables symbols → object ≡ length objects → new ≡ with_object sorts sort object → more ≡ objects ++ entry ∷ [] → Fits new more variables symbols
-fits_object sorts new objects more variables symbols table sort object entry is room fits number e f =
-    let P : SortsView → Type 0 = λ w. Fits w more variables symbols in
-    let Q : List Numbered → Type 0 = λ w. Fits (with_object sorts sort object) w variables symbols in
-    subst P (sym e) (subst Q (sym f) (fits_numbered sorts objects variables symbols table sort object entry is room fits number))
+pub fits_again : {A E : Type 0} (result : Result A E) (sorts new : SortsView) (puts more : List PutAt) (lists listed : List (List ℕ)) (objects variables : List Numbered) (symbols : List (List ℕ × Placed)) (put : PutAt) →
+    Fits sorts puts lists objects variables symbols → length puts + 1 < 4000000000 → put.object < length objects →
+    OnOk result (new ≡ with_object sorts put.sort (length puts)) → OnErr result (new ≡ sorts) → OnOk result (more ≡ puts ++ put ∷ []) → OnErr result (more ≡ puts) →
+    listed ≡ shown_lists more new.members → Fits new more listed objects variables symbols
+fits_again (Ok x) sorts new puts more lists listed objects variables symbols put fits few object e _ f _ g =
+    fits_as (with_object sorts put.sort (length puts)) new (puts ++ put ∷ []) more (shown_lists (puts ++ put ∷ []) (with_object sorts put.sort (length puts)).members) listed objects objects variables symbols e f
+    (g ∙ ap (λ (w : List PutAt). shown_lists w new.members) f ∙ ap (λ (w : SortsView). shown_lists (puts ++ put ∷ []) w.members) e) refl
+    (fits_put sorts puts lists objects objects variables symbols put fits few fits.few_objects (omega arith) object)
+fits_again (Err x) sorts new puts more lists listed objects variables symbols put fits few object _ e _ f g =
+    fits_as sorts new puts more lists listed objects objects variables symbols e f
+    (g ∙ ap (λ (w : List PutAt). shown_lists w new.members) f ∙ ap (λ (w : SortsView). shown_lists puts w.members) e ∙ sym fits.shown) refl fits
+
+pub fits_new : (sorts new : SortsView) (puts more : List PutAt) (lists listed : List (List ℕ)) (objects named variables : List Numbered) (symbols : List (List ℕ × Placed)) (put : PutAt) (entry : Numbered) →
+    Fits sorts puts lists objects variables symbols → length puts + 1 < 4000000000 → length objects + 1 < 4000000000 → put.object ≡ length objects → named ≡ objects ++ entry ∷ [] →
+    new ≡ with_object sorts put.sort (length puts) → more ≡ puts ++ put ∷ [] → listed ≡ shown_lists more new.members → Fits new more listed named variables symbols
+fits_new sorts new puts more lists listed objects named variables symbols put entry fits few few_objects is is_named e f g =
+    let count : length (objects ++ entry ∷ []) ≡ length objects + 1 = length-append objects (entry ∷ []) in
+    fits_as (with_object sorts put.sort (length puts)) new (puts ++ put ∷ []) more (shown_lists (puts ++ put ∷ []) (with_object sorts put.sort (length puts)).members) listed (objects ++ entry ∷ []) named variables symbols e f
+    (g ∙ ap (λ (w : List PutAt). shown_lists w new.members) f ∙ ap (λ (w : SortsView). shown_lists (puts ++ put ∷ []) w.members) e) is_named
+    (fits_put sorts puts lists objects (objects ++ entry ∷ []) variables symbols put fits few (omega (arith, count, few_objects)) (omega (arith, count)) (omega (arith, count, is)))
+
+pub fits_back : (sorts new : SortsView) (puts more : List PutAt) (lists listed : List (List ℕ)) (objects named variables : List Numbered) (symbols : List (List ℕ × Placed)) →
+    Fits sorts puts lists objects variables symbols → named ≡ objects → new ≡ sorts → more ≡ puts → listed ≡ shown_lists more new.members → Fits new more listed named variables symbols
+fits_back sorts new puts more lists listed objects named variables symbols fits is_named e f g =
+    fits_as sorts new puts more lists listed objects named variables symbols e f
+    (g ∙ ap (λ (w : List PutAt). shown_lists w new.members) f ∙ ap (λ (w : SortsView). shown_lists puts w.members) e ∙ sym fits.shown) is_named fits
+
+-- ---- what a register is seen as
+
+pub seen_again : {A E : Type 0} (result : Result A E) (sorts new : SortsView) (puts more : List PutAt) (objects : List Numbered) (numbers : List (Option ℕ)) (variables : List Numbered) (symbols : List Placed)
+    (table : TableView) (put : PutAt) → viewed sorts puts objects numbers variables symbols ≡ table →
+    OnOk result (new ≡ with_object sorts put.sort (length puts)) → OnErr result (new ≡ sorts) → OnOk result (more ≡ puts ++ put ∷ []) → OnErr result (more ≡ puts) →
+    OnOk result (viewed new more objects numbers variables symbols ≡ new_put table put.object put.sort put.number) × OnErr result (viewed new more objects numbers variables symbols ≡ table)
+seen_again (Ok x) sorts new puts more objects numbers variables symbols table put is e _ f _ = (
+  ap (λ (w : SortsView). viewed w more objects numbers variables symbols) e ∙ ap (λ (w : List PutAt). viewed (with_object sorts put.sort (length puts)) w objects numbers variables symbols) f
+      ∙ ap (λ (w : TableView). new_put w put.object put.sort put.number) is,
+  tt,
+)
+seen_again (Err x) sorts new puts more objects numbers variables symbols table put is _ e _ f = (
+  tt,
+  ap (λ (w : SortsView). viewed w more objects numbers variables symbols) e ∙ ap (λ (w : List PutAt). viewed sorts w objects numbers variables symbols) f ∙ is,
+)
+
+pub seen_new : (sorts new : SortsView) (puts more : List PutAt) (objects named : List Numbered) (numbers all : List (Option ℕ)) (variables : List Numbered) (symbols : List Placed)
+    (table : TableView) (name : List ℕ) (object sort : ℕ) (number : Option ℕ) → viewed sorts puts objects numbers variables symbols ≡ table → object ≡ length objects →
+    named ≡ objects ++ (name, sort) ∷ [] → all ≡ numbers ++ number ∷ [] → new ≡ with_object sorts sort (length puts) → more ≡ puts ++ record { object = object; sort = sort; number = number } ∷ [] →
+    viewed new more named all variables symbols ≡ new_object table name sort number
+seen_new sorts new puts more objects named numbers all variables symbols table name object sort number is is_object is_named is_all e f =
+    ap (λ (w : SortsView). viewed w more named all variables symbols) e
+    ∙ ap (λ (w : List PutAt). viewed (with_object sorts sort (length puts)) w named all variables symbols)
+    (f ∙ ap (λ (n : ℕ). (let put : PutAt = record { object = n; sort = sort; number = number } in puts ++ put ∷ [])) is_object)
+    ∙ ap (λ (w : List Numbered). viewed (with_object sorts sort (length puts)) (new_object (viewed sorts puts objects numbers variables symbols) name sort number).puts w all variables symbols) is_named
+    ∙ ap (λ (w : List (Option ℕ)). viewed (with_object sorts sort (length puts)) (new_object (viewed sorts puts objects numbers variables symbols) name sort number).puts (objects ++ (name, sort) ∷ []) w variables symbols) is_all
+    ∙ ap (λ (w : TableView). new_object w name sort number) is
+
+pub seen_back : (sorts new : SortsView) (puts more : List PutAt) (objects named : List Numbered) (numbers all : List (Option ℕ)) (variables : List Numbered) (symbols : List Placed)
+    (table : TableView) → viewed sorts puts objects numbers variables symbols ≡ table → named ≡ objects → all ≡ numbers → new ≡ sorts → more ≡ puts → viewed new more named all variables symbols ≡ table
+seen_back sorts new puts more objects named numbers all variables symbols table is is_named is_all e f =
+    ap (λ (w : SortsView). viewed w more named all variables symbols) e
+    ∙ ap (λ (w : List PutAt). viewed sorts w named all variables symbols) f
+    ∙ ap (λ (w : List Numbered). viewed sorts puts w all variables symbols) is_named
+    ∙ ap (λ (w : List (Option ℕ)). viewed sorts puts objects w variables symbols) is_all ∙ is
+
+pub seen_sort : {A E : Type 0} (result : Result A E) (sorts new : SortsView) (puts : List PutAt) (objects : List Numbered) (numbers : List (Option ℕ)) (variables : List Numbered) (symbols : List Placed)
+    (table : TableView) (name : List ℕ) → viewed sorts puts objects numbers variables symbols ≡ table → number_of table.sorts.names name ≡ None →
+    OnOk result (new ≡ with_sort sorts name) → OnErr result (new ≡ sorts) →
+    OnOk result (viewed new puts objects numbers variables symbols ≡ put_sort table name) × OnErr result (viewed new puts objects numbers variables symbols ≡ table)
+seen_sort (Ok x) sorts new puts objects numbers variables symbols table name is none e _ = (
+  ap (λ (w : SortsView). viewed w puts objects numbers variables symbols) e ∙ ap (λ (w : TableView). with_sorts w (with_sort w.sorts name)) is
+      ∙ ap (λ (found : Option ℕ). new_sort table name found) (sym none),
+  tt,
+)
+seen_sort (Err x) sorts new puts objects numbers variables symbols table name is none _ e = (tt, ap (λ (w : SortsView). viewed w puts objects numbers variables symbols) e ∙ is)
+
+-- one of a list taken out again
+pub taken_back : {X : Type 0} (list more back : List X) (x : X) → more ≡ list ++ x ∷ [] → back ≡ take (length more - 1) more → back ≡ list
+taken_back {X} list more back x e f =
+    let count : length (list ++ x ∷ []) - 1 ≡ length list = omega (arith, length-append list (x ∷ [])) in
+    f ∙ ap (λ (w : List X). take (length w - 1) w) e ∙ ap (λ (n : ℕ). take n (list ++ x ∷ [])) count ∙ front list x
+  where
+    front : {X : Type 0} (list : List X) (x : X) → take (length list) (list ++ x ∷ []) ≡ list
+    front [] x = refl
+    front {X} (y ∷ list) x = ap (λ (w : List X). y ∷ w) (front list x)

@@ -26,7 +26,7 @@ use Rattle.cc_sorts.specs.SortViews.{SortsView, name_at}
 use Rattle.cc_sorts.specs.declared.left.Left.{Left}
 use Rattle.cc_sorts.proofs.Below.{and_false, either, both, by_first, below_self, below_through, below_each, closed_above}
 use Rattle.cc_sorts.proofs.Decided.{is_some_number}
-use Rattle.cc_sorts.proofs.Lefts.{same_swap}
+use Rattle.cc_sorts.proofs.Swaps.{same_swap}
 use denote.Bor.{Bor}
 
 abbrev pub Keys : Type 0

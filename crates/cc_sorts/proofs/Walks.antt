@@ -1,165 +1,148 @@
 -- What loops over declarations have done so far.
-use Rattle.std.proofs.Common.{◌≡◌, ◌∙◌, ℕ, zero, suc, ◌+◌, ◌<◌, ◌≤◌, ◌^◌, Bool, true, false, List, [], ◌∷◌, ◌++◌, length, map, flat_map, take, drop, get_or, Option, Some, None, Result, Ok, Err, OnErr, OnOk, Bor, refl, sym, ap, subst, arith, length-append, add-one}
+use Rattle.std.proofs.Common.{◌≡◌, ◌∙◌, ℕ, zero, suc, ◌+◌, ◌<◌, ◌≤◌, List, [], ◌∷◌, ◌++◌, length, map, flat_map, append_assoc, append-nil, take, drop, get_or, min, ◌-◌, Result, Ok, Err, OnErr, OnOk, Bor, refl, sym, ap, subst, arith, length-append, add-one}
 use Rattle.std.proofs.Math.Seq.{take-suc}
 use Rattle.std.proofs.lemmas.List.{map-append, length-map}
 use Rattle.std.proofs.lemmas.Grind.{flat_map-append}
-use Rattle.cc_defs.specs.Declarations.{Declaration, Sort, Link, Subsort, Object, Variable, Constant, Kinds, object_declared, is_below}
-use Rattle.cc_sorts.specs.Declaring.{plain_declaration, plain_declarations}
+use Rattle.cc_defs.specs.Declarations.{Declaration, Span, Number, put_declared, upto, from_to}
+use Rattle.cc_sorts.specs.Declaring.{numbers_of, plain_declaration, plain_declarations}
 use Rattle.cc_sorts.specs.declared.declaration.Declaration as declarations
-use Rattle.cc_sorts.specs.Dictionaries.{number_of, names_of}
-use Rattle.cc_sorts.specs.SortViews.{name_at}
-use Rattle.cc_sorts.specs.Steps.{HasRoom, IsFrontOf, behind, behind_all, new_sort, found_pair, new_pair, found_object, found_variable, found_symbol}
-use Rattle.cc_sorts.specs.Tables.{TableView, symbol_names}
+use Rattle.cc_sorts.specs.Steps.{IsFrontOf, behind, behind_all}
+use Rattle.cc_sorts.specs.Tables.{TableView}
 
 pub mapped_more : {X Y : Type 0} (f : X → Y) (xs : List X) (i : ℕ) (d : X) → i < length xs → map f (take (i + 1) xs) ≡ map f (take i xs) ++ f (get_or xs i d) ∷ []
 mapped_more f xs i d within = rw (add-one, take-suc xs i d within) (map-append f (take i xs) (get_or xs i d ∷ []))
 
--- ---- counting objects
+-- ---- lists of declarations that are joined
 
-single : {X Y : Type 0} (f : X → List Y) (x : X) → length (flat_map f (x ∷ [])) ≡ length (f x)
-single f x = length-append (f x) [] ∙ omega arith
+pub joined_more : {X Y : Type 0} (f : X → List Y) (xs : List X) (i : ℕ) (d x : X) → i < length xs → x ≡ get_or xs i d → flat_map f (take (i + 1) xs) ≡ flat_map f (take i xs) ++ f x
+joined_more {X} {Y} f xs i d x within is =
+    ap (flat_map f) (ap (λ (k : ℕ). take k xs) (add-one i) ∙ take-suc xs i d within) ∙ flat_map-append f (take i xs) (get_or xs i d ∷ [])
+    ∙ ap (λ (w : List Y). flat_map f (take i xs) ++ w) (append-nil (f (get_or xs i d))) ∙ ap (λ (y : X). flat_map f (take i xs) ++ f y) (sym is)
+
+-- ---- counting what is put
+
+stops : (a b count more whole : ℕ) → count ≡ min a 10000 → more ≡ b → whole ≡ a + b → min (count + more) 10000 ≡ min whole 10000
+stops a b count more whole e f g = omega (arith, e, f, g)
 
 pub counted_more : (file line count more : ℕ) (ds : List declarations.Declaration) (i : ℕ) (d : declarations.Declaration) → i < length ds → d ≡ get_or ds i d →
-    count ≡ length (flat_map object_declared (plain_declarations file line (take i ds))) →
-    more ≡ length (object_declared (plain_declaration file line d)) →
-    count + more ≡ length (flat_map object_declared (plain_declarations file line (take (i + 1) ds)))
+    count ≡ min (length (flat_map put_declared (plain_declarations file line (take i ds)))) 10000 →
+    more ≡ length (flat_map put_declared (plain_declaration file line d)) →
+    min (count + more) 10000 ≡ min (length (flat_map put_declared (plain_declarations file line (take (i + 1) ds)))) 10000
 counted_more file line count more ds i d within is p q =
-    let f = plain_declaration file line in
-    let whole : length (flat_map object_declared (plain_declarations file line (take (i + 1) ds))) ≡ length (flat_map object_declared (map f (take i ds))) + length (flat_map object_declared (f (get_or ds i d) ∷ [])) =
-    ap (λ w. length (flat_map object_declared w)) (mapped_more f ds i d within)
-    ∙ ap length (flat_map-append object_declared (map f (take i ds)) (f (get_or ds i d) ∷ []))
-    ∙ length-append (flat_map object_declared (map f (take i ds))) (flat_map object_declared (f (get_or ds i d) ∷ [])) in
-    let last : length (flat_map object_declared (f (get_or ds i d) ∷ [])) ≡ length (object_declared (f (get_or ds i d))) = single object_declared (f (get_or ds i d)) in
-    let same : length (object_declared (f d)) ≡ length (object_declared (f (get_or ds i d))) = ap (λ (w : declarations.Declaration). length (object_declared (f w))) is in
-    omega (arith, whole, last, same, p, q)
+    stops _ _ count more _ p q
+    (ap (λ (w : List Declaration). length (flat_map put_declared w)) (joined_more (plain_declaration file line) ds i d d within is)
+    ∙ ap length (flat_map-append put_declared (plain_declarations file line (take i ds)) (plain_declaration file line d))
+    ∙ length-append (flat_map put_declared (plain_declarations file line (take i ds))) (flat_map put_declared (plain_declaration file line d)))
 
--- ---- room
+length_upto : (n : ℕ) → length (upto n) ≡ n
+length_upto zero = refl
+length_upto (suc n) = length-append (upto n) (n ∷ []) ∙ (let more : length (upto n) ≡ n = length_upto n in omega arith)
 
-len_last : {X : Type 0} (xs : List X) (x : X) → length (xs ++ x ∷ []) ≡ length xs + 1
-len_last xs x = length-append xs (x ∷ [])
+length_numbers : (sort values : List ℕ) → length (flat_map put_declared (numbers_of sort values)) ≡ length values
+length_numbers sort [] = refl
+length_numbers sort (value ∷ values) = ap suc (length_numbers sort values)
 
-room_less : (table : TableView) (n : ℕ) → HasRoom table (n + 1) → HasRoom table n
-room_less table n r = record {
-  for_sorts = let p : length table.sorts.names + (n + 1) < 4000000000 = r.for_sorts in omega arith;
-  for_objects = let p : length table.objects + (n + 1) < 2 ^ 32 = r.for_objects in omega arith;
-  for_variables = let p : length table.variables + (n + 1) < 4000000000 = r.for_variables in omega arith;
-  for_symbols = let p : length table.symbols + (n + 1) < 4000000000 = r.for_symbols in omega arith;
-}
-
--- the lists of a table are longer by one at most
-abbrev Longer : TableView → TableView → Type 0
-Longer new old = (length new.sorts.names ≤ length old.sorts.names + 1) × (length new.objects ≤ length old.objects + 1) × (length new.variables ≤ length old.variables + 1) × (length new.symbols ≤ length old.symbols + 1)
-
-same_longer : (table : TableView) → Longer table table
-same_longer table = (omega arith, omega arith, omega arith, omega arith)
-
-longer : (table : TableView) (declaration : Declaration) → Longer (behind table declaration) table
-longer table (Sort name) = longer_sort table name (number_of table.sorts.names name)
-  where
-    longer_sort : (table : TableView) (name : List ℕ) (found : Option ℕ) → Longer (new_sort table name found) table
-    longer_sort table name (Some number) = same_longer table
-    longer_sort table name None = (omega (arith, len_last table.sorts.names name), omega arith, omega arith, omega arith)
-longer table (Link name) = longer_sort table name (number_of table.sorts.names name)
-  where
-    longer_sort : (table : TableView) (name : List ℕ) (found : Option ℕ) → Longer (new_sort table name found) table
-    longer_sort table name (Some number) = same_longer table
-    longer_sort table name None = (omega (arith, len_last table.sorts.names name), omega arith, omega arith, omega arith)
-longer table (Subsort upper lower) = longer_found table (number_of table.sorts.names upper) (number_of table.sorts.names lower)
-  where
-    longer_pair : (table : TableView) (upper lower : ℕ) (known implied : Bool) → Longer (new_pair table upper lower known implied) table
-    longer_pair table upper lower true implied = same_longer table
-    longer_pair table upper lower false true = (omega arith, omega arith, omega arith, omega arith)
-    longer_pair table upper lower false false = (omega arith, omega arith, omega arith, omega arith)
-
-    longer_found : (table : TableView) (upper lower : Option ℕ) → Longer (found_pair table upper lower) table
-    longer_found table (Some upper) (Some lower) = longer_pair table upper lower (is_below table.sorts.pairs (name_at table.sorts upper) (name_at table.sorts lower)) (is_below table.sorts.pairs (name_at table.sorts lower) (name_at table.sorts upper))
-    longer_found table (Some upper) None = same_longer table
-    longer_found table None lower = same_longer table
-longer table (Object name sort) = longer_object table name (number_of table.sorts.names sort) (number_of (names_of table.objects) name)
-  where
-    longer_object : (table : TableView) (name : List ℕ) (sort number : Option ℕ) → Longer (found_object table name sort number) table
-    longer_object table name (Some sort) None = (omega arith, omega (arith, len_last table.objects (name, sort)), omega arith, omega arith)
-    longer_object table name (Some sort) (Some number) = same_longer table
-    longer_object table name None number = same_longer table
-longer table (Variable name sort) = longer_variable table name (number_of table.sorts.names sort) (number_of (names_of table.variables) name)
-  where
-    longer_variable : (table : TableView) (name : List ℕ) (sort number : Option ℕ) → Longer (found_variable table name sort number) table
-    longer_variable table name (Some sort) None = (omega arith, omega arith, omega (arith, len_last table.variables (name, sort)), omega arith)
-    longer_variable table name (Some sort) (Some number) = same_longer table
-    longer_variable table name None number = same_longer table
-longer table (Constant shape kind file line) = longer_symbol table _ (number_of (symbol_names table) shape.name)
-  where
-    longer_symbol : (table : TableView) (placed : _) (number : Option ℕ) → Longer (found_symbol table placed number) table
-    longer_symbol table placed None = (omega arith, omega arith, omega arith, omega (arith, len_last table.symbols placed))
-    longer_symbol table placed (Some number) = same_longer table
-longer table (Kinds shapes kind) = same_longer table
-
-room_behind : (table : TableView) (declaration : Declaration) (n : ℕ) → HasRoom table (n + 1) → HasRoom (behind table declaration) n
-room_behind table declaration n r =
-    let new = behind table declaration in
-    let l = longer table declaration in
-    record {
-      for_sorts = let p : length table.sorts.names + (n + 1) < 4000000000 = r.for_sorts in let q : length new.sorts.names ≤ length table.sorts.names + 1 = l.0 in omega (arith, p, q);
-      for_objects = let p : length table.objects + (n + 1) < 2 ^ 32 = r.for_objects in let q : length new.objects ≤ length table.objects + 1 = l.1 in omega (arith, p, q);
-      for_variables = let p : length table.variables + (n + 1) < 4000000000 = r.for_variables in let q : length new.variables ≤ length table.variables + 1 = l.2 in omega (arith, p, q);
-      for_symbols = let p : length table.symbols + (n + 1) < 4000000000 = r.for_symbols in let q : length new.symbols ≤ length table.symbols + 1 = l.3 in omega (arith, p, q);
-    }
-
-pub room_behind_all : (table : TableView) (declarations : List Declaration) (n m : ℕ) → n + length declarations ≤ m → HasRoom table m → HasRoom (behind_all table declarations) n
-room_behind_all table [] n m e r = record {
-  for_sorts = omega (arith, r.for_sorts);
-  for_objects = omega (arith, r.for_objects);
-  for_variables = omega (arith, r.for_variables);
-  for_symbols = omega (arith, r.for_symbols);
-}
-room_behind_all table (declaration ∷ declarations) n zero e r = absurd (omega (arith, e))
-room_behind_all table (declaration ∷ declarations) n (suc m) e r =
-    room_behind_all (behind table declaration) declarations n m (omega (arith, e)) (room_behind table declaration m (rw add-one r))
+pub count_numbers : (low high : ℕ) (sort : List ℕ) → high + 1 - low ≡ length (flat_map put_declared (Span low high sort ∷ numbers_of sort (from_to low high)))
+count_numbers low high sort =
+    sym (length_numbers sort (from_to low high) ∙ length-map (upto (high + 1 - low)) (λ (more : ℕ). low + more) ∙ length_upto (high + 1 - low))
 
 -- ---- putting one after another
 
-pub behind_more : (table : TableView) (done : List Declaration) (declaration : Declaration) → behind_all table (done ++ declaration ∷ []) ≡ behind (behind_all table done) declaration
-behind_more table [] declaration = refl
-behind_more table (first ∷ done) declaration = behind_more (behind table first) done declaration
+pub behind_both : (table : TableView) (done more : List Declaration) → behind_all table (done ++ more) ≡ behind_all (behind_all table done) more
+behind_both table [] more = refl
+behind_both table (first ∷ done) more = behind_both (behind table first) done more
 
 pub put_more : (file line : ℕ) (table now new : TableView) (ds : List declarations.Declaration) (i : ℕ) (d : declarations.Declaration) → i < length ds → d ≡ get_or ds i d →
     now ≡ behind_all table (plain_declarations file line (take i ds)) →
-    new ≡ behind now (plain_declaration file line d) →
+    new ≡ behind_all now (plain_declaration file line d) →
     new ≡ behind_all table (plain_declarations file line (take (i + 1) ds))
 put_more file line table now new ds i d within is p q =
-    q ∙ ap (λ (w : declarations.Declaration). behind now (plain_declaration file line w)) is ∙ ap (λ (w : TableView). behind w (plain_declaration file line (get_or ds i d))) p
-    ∙ sym (behind_more table (plain_declarations file line (take i ds)) (plain_declaration file line (get_or ds i d)))
-    ∙ ap (behind_all table) (sym (mapped_more (plain_declaration file line) ds i d within))
+    q ∙ ap (λ (w : TableView). behind_all w (plain_declaration file line d)) p
+    ∙ sym (behind_both table (plain_declarations file line (take i ds)) (plain_declaration file line d))
+    ∙ ap (behind_all table) (sym (joined_more (plain_declaration file line) ds i d d within is))
 
-pub room_at : (file line : ℕ) (table now : TableView) (ds : List declarations.Declaration) (i : ℕ) → i < length ds → HasRoom table (length ds) →
-    now ≡ behind_all table (plain_declarations file line (take i ds)) → HasRoom now 1
-room_at file line table now ds i within r p =
-    let done = plain_declarations file line (take i ds) in
-    let count : length done ≡ length (take i ds) = length-map (take i ds) (plain_declaration file line) in
-    let taken : length (take i ds) ≡ i = take_count ds i (omega arith) in
-    let Q : TableView → Type 0 = λ w. HasRoom w 1 in
-    subst Q (sym p) (room_behind_all table done 1 (length ds) (omega (arith, count, taken)) r)
-  where
-    take_count : {X : Type 0} (xs : List X) (i : ℕ) → i ≤ length xs → length (take i xs) ≡ i
-    take_count [] zero p = refl
-    take_count [] (suc i) p = absurd (omega arith)
-    take_count (x ∷ xs) zero p = refl
-    take_count (x ∷ xs) (suc i) p = ap suc (take_count xs i (omega arith))
-
-pub front_at : (file line : ℕ) (table now : TableView) (ds : List declarations.Declaration) (i : ℕ) →
-    now ≡ behind_all table (plain_declarations file line (take i ds)) → IsFrontOf table (plain_declarations file line ds) now
-front_at file line table now ds i p = record {
-  front = plain_declarations file line (take i ds);
-  rest = plain_declarations file line (drop i ds);
-  whole = sym (sym (map-append (plain_declaration file line) (take i ds) (drop i ds)) ∙ ap (map (plain_declaration file line)) (parts ds i));
-  is_behind = p;
+-- a front of what comes next, behind a front
+pub front_behind : (table now new : TableView) (done next rest : List Declaration) → now ≡ behind_all table done → IsFrontOf now next new → IsFrontOf table (done ++ (next ++ rest)) new
+front_behind table now new done next rest p front = record {
+  front = done ++ front.front;
+  rest = front.rest ++ rest;
+  whole = ap (λ (w : List Declaration). done ++ (w ++ rest)) front.whole ∙ ap (λ (w : List Declaration). done ++ w) (append_assoc front.front front.rest rest)
+      ∙ sym (append_assoc done front.front (front.rest ++ rest));
+  is_behind = front.is_behind ∙ ap (λ (w : TableView). behind_all w front.front) p ∙ sym (behind_both table done front.front);
 }
+
+pub front_at : (file line : ℕ) (table now new : TableView) (ds : List declarations.Declaration) (i : ℕ) (d : declarations.Declaration) → i < length ds → d ≡ get_or ds i d →
+    now ≡ behind_all table (plain_declarations file line (take i ds)) → IsFrontOf now (plain_declaration file line d) new → IsFrontOf table (plain_declarations file line ds) new
+front_at file line table now new ds i d within is p front =
+    let P : List Declaration → Type 0 = λ w. IsFrontOf table w new in
+    subst P
+    (sym (append_assoc (plain_declarations file line (take i ds)) (plain_declaration file line d) (plain_declarations file line (drop (i + 1) ds)))
+    ∙ ap (λ (w : List Declaration). w ++ plain_declarations file line (drop (i + 1) ds)) (sym (joined_more (plain_declaration file line) ds i d d within is))
+    ∙ sym (flat_map-append (plain_declaration file line) (take (i + 1) ds) (drop (i + 1) ds))
+    ∙ ap (plain_declarations file line) (parts ds (i + 1)))
+    (front_behind table now new (plain_declarations file line (take i ds)) (plain_declaration file line d) (plain_declarations file line (drop (i + 1) ds)) p front)
   where
     parts : {X : Type 0} (xs : List X) (i : ℕ) → take i xs ++ drop i xs ≡ xs
     parts [] zero = refl
     parts [] (suc i) = refl
     parts (x ∷ xs) zero = refl
     parts (x ∷ xs) (suc i) = ap (λ w. x ∷ w) (parts xs i)
+
+-- where nothing was changed no declaration is there
+pub front_none : (table new : TableView) (ds : List Declaration) → new ≡ table → IsFrontOf table ds new
+front_none table new ds e = record { front = []; rest = ds; whole = refl; is_behind = e }
+
+pub front_kept : {A E : Type 0} (result : Result A E) (table new : TableView) (ds : List Declaration) → OnErr result (new ≡ table) → OnErr result (IsFrontOf table ds new)
+front_kept (Ok x) table new ds e = tt
+front_kept (Err x) table new ds e = front_none table new ds e
+
+-- a range itself changes nothing
+pub span_front : {A E : Type 0} (result : Result A E) (table new : TableView) (low high : ℕ) (sort : List ℕ) (ds : List Declaration) → OnErr result (IsFrontOf table ds new) →
+    OnErr result (IsFrontOf table (Span low high sort ∷ ds) new)
+span_front (Ok x) table new low high sort ds f = tt
+span_front (Err x) table new low high sort ds f = record {
+  front = Span low high sort ∷ f.front;
+  rest = f.rest;
+  whole = ap (λ (w : List Declaration). Span low high sort ∷ w) f.whole;
+  is_behind = f.is_behind;
+}
+
+-- ---- the numbers of a range, one by one
+
+abbrev pub first_numbers : List ℕ → ℕ → ℕ → List Declaration
+first_numbers sort low count = numbers_of sort (map (λ more. low + more) (upto count))
+
+pub number_next : (sort : List ℕ) (low count : ℕ) → first_numbers sort low (suc count) ≡ first_numbers sort low count ++ Number (low + count) sort ∷ []
+number_next sort low count =
+    ap (numbers_of sort) (map-append (λ (more : ℕ). low + more) (upto count) (count ∷ [])) ∙ map-append (λ (value : ℕ). Number value sort) (map (λ (more : ℕ). low + more) (upto count)) ((low + count) ∷ [])
+
+pub number_put : (table now new : TableView) (sort : List ℕ) (low count value : ℕ) → now ≡ behind_all table (first_numbers sort low count) → value ≡ low + count →
+    new ≡ behind now (Number value sort) → new ≡ behind_all table (first_numbers sort low (count + 1))
+number_put table now new sort low count value p is q =
+    q ∙ ap (λ (n : ℕ). behind now (Number n sort)) is ∙ ap (λ (w : TableView). behind w (Number (low + count) sort)) p
+    ∙ sym (behind_both table (first_numbers sort low count) (Number (low + count) sort ∷ []))
+    ∙ ap (behind_all table) (sym (number_next sort low count) ∙ ap (first_numbers sort low) (sym (add-one count)))
+
+-- the first of them are a front of all
+first_upto : (count n : ℕ) → (rest : List ℕ) × (upto (count + n) ≡ upto count ++ rest)
+first_upto count zero = ([], (let same : count + 0 ≡ count = omega arith in ap upto same) ∙ sym (append-nil (upto count)))
+first_upto count (suc n) =
+    let more = first_upto count n in
+    let same : count + suc n ≡ suc (count + n) = omega arith in
+    (more.0 ++ (count + n) ∷ [], ap upto same ∙ ap (λ (w : List ℕ). w ++ (count + n) ∷ []) more.1 ∙ append_assoc (upto count) more.0 ((count + n) ∷ []))
+
+pub numbers_front : (table new : TableView) (sort : List ℕ) (low count all : ℕ) → count ≤ all → new ≡ behind_all table (first_numbers sort low count) → IsFrontOf table (first_numbers sort low all) new
+numbers_front table new sort low count all p e =
+    let more = first_upto count (all - count) in
+    let same : count + (all - count) ≡ all = omega arith in
+    record {
+      front = first_numbers sort low count;
+      rest = numbers_of sort (map (λ (n : ℕ). low + n) more.0);
+      whole = ap (first_numbers sort low) (sym same) ∙ ap (λ (w : List ℕ). numbers_of sort (map (λ (n : ℕ). low + n) w)) more.1
+          ∙ ap (numbers_of sort) (map-append (λ (n : ℕ). low + n) (upto count) more.0)
+          ∙ map-append (λ (value : ℕ). Number value sort) (map (λ (n : ℕ). low + n) (upto count)) (map (λ (n : ℕ). low + n) more.0);
+      is_behind = e;
+    }
 
 pub numbers_more : (f : List ℕ → ℕ) (xs : List (Bor (List ℕ))) (i : ℕ) (d : Bor (List ℕ)) → i < length xs →
     map f (map (λ x. x.now) (take (i + 1) xs)) ≡ map f (map (λ x. x.now) (take i xs)) ++ f ((get_or xs i d).now) ∷ []

@@ -1,11 +1,14 @@
 pub mod Declaring
 pub mod Dictionaries
+pub mod Entered
 pub mod Instances
 pub mod Laws
 pub mod Lefts
 pub mod Lists
 pub mod Numbers
+pub mod Objects
 pub mod Searches
+pub mod Shown
 pub mod SortParts
 pub mod SortViews
 pub mod Steps

@@ -1,11 +1,11 @@
 -- What a table becomes behind each declaration, and what a declaration without a fault is.
-use Rattle.std.specs.Prelude.{◌≡◌, ℕ, ◌+◌, ◌<◌, ◌^◌, Bool, true, false, nat_lt, IsTrue, List, [], ◌∷◌, ◌++◌, length, map, Option, Some, None}
+use Rattle.std.specs.Prelude.{◌≡◌, ℕ, decimal, Bool, true, false, nat_lt, IsTrue, List, [], ◌∷◌, ◌++◌, length, map, Option, Some, None}
 use Rattle.cc_defs.specs.declared.signature.Symbol.{Symbol}
 use Rattle.cc_defs.specs.declared.refusal.LimitAt.TheVariants as limits
 use Rattle.cc_defs.specs.declared.refusal.Refusal.{Refusal}
 use Rattle.cc_defs.specs.DeclarationFaults.{is_sort, are_sorts, is_taken, refusal_for, object_count, declaration_fault}
 use Rattle.cc_defs.specs.Limits.{limit_number}
-use Rattle.cc_defs.specs.Declarations.{Declaration, Sort, Link, Subsort, Object, Variable, Constant, Kinds, pairs, constant_names, is_below, number_in, kind_of_constant, value_sort}
+use Rattle.cc_defs.specs.Declarations.{Declaration, Sort, Link, Subsort, Object, Span, Number, Variable, Constant, Kinds, pairs, constant_names, is_below, number_in, kind_of_constant, value_sort}
 use Rattle.cc_defs.specs.Trees.{PlainShape, PlainKind, PlainStatement}
 use Rattle.cc_defs.specs.Trees as trees
 use Rattle.cc_sorts.specs.declared.table.Placed.{Placed}
@@ -13,17 +13,17 @@ use Rattle.cc_sorts.specs.Dictionaries.{number_of, names_of}
 use Rattle.cc_sorts.specs.SortViews.{SortsView, name_at, with_sort, with_pair, with_implied, with_object}
 use Rattle.cc_sorts.specs.Tables.{TableView, symbol_names, has_action}
 
--- so many entries more fit
-pub record HasRoom (table : TableView) (more : ℕ) : Type 0 where
-  pub for_sorts : length table.sorts.names + more < 4000000000
-  pub for_objects : length table.objects + more < 2 ^ 32
-  pub for_variables : length table.variables + more < 4000000000
-  pub for_symbols : length table.symbols + more < 4000000000
-
 -- ---- a table behind a declaration. What is there already, or names what is not there, changes nothing.
 
 abbrev pub with_sorts : TableView → SortsView → TableView
-with_sorts table sorts = record { sorts = sorts; objects = table.objects; variables = table.variables; symbols = table.symbols }
+with_sorts table sorts = record {
+  sorts = sorts;
+  puts = table.puts;
+  objects = table.objects;
+  numbers = table.numbers;
+  variables = table.variables;
+  symbols = table.symbols;
+}
 
 abbrev pub new_sort : TableView → List ℕ → Option ℕ → TableView
 new_sort table name (Some number) = table
@@ -48,26 +48,45 @@ found_pair table None lower = table
 abbrev pub put_pair : TableView → List ℕ → List ℕ → TableView
 put_pair table upper lower = found_pair table (number_of table.sorts.names upper) (number_of table.sorts.names lower)
 
-abbrev pub new_object : TableView → List ℕ → ℕ → TableView
-new_object table name sort = record {
-  sorts = with_object table.sorts sort (length table.objects);
-  objects = table.objects ++ (name, sort) ∷ [];
+-- an object is put into a sort
+abbrev pub new_put : TableView → ℕ → ℕ → Option ℕ → TableView
+new_put table object sort number = record {
+  sorts = with_object table.sorts sort (length table.puts);
+  puts = table.puts ++ record { object = object; sort = sort; number = number } ∷ [];
+  objects = table.objects;
+  numbers = table.numbers;
   variables = table.variables;
   symbols = table.symbols;
 }
 
-abbrev pub found_object : TableView → List ℕ → Option ℕ → Option ℕ → TableView
-found_object table name (Some sort) None = new_object table name sort
-found_object table name (Some sort) (Some number) = table
-found_object table name None number = table
+-- an object has a name
+abbrev pub with_named : TableView → List ℕ → ℕ → Option ℕ → TableView
+with_named table name sort number = record {
+  sorts = table.sorts;
+  puts = table.puts;
+  objects = table.objects ++ (name, sort) ∷ [];
+  numbers = table.numbers ++ number ∷ [];
+  variables = table.variables;
+  symbols = table.symbols;
+}
 
-abbrev pub put_object : TableView → List ℕ → List ℕ → TableView
-put_object table name sort = found_object table name (number_of table.sorts.names sort) (number_of (names_of table.objects) name)
+abbrev pub new_object : TableView → List ℕ → ℕ → Option ℕ → TableView
+new_object table name sort number = new_put (with_named table name sort number) (length table.objects) sort number
+
+abbrev pub found_object : TableView → List ℕ → Option ℕ → Option ℕ → Option ℕ → TableView
+found_object table name number (Some sort) None = new_object table name sort number
+found_object table name number (Some sort) (Some object) = new_put table object sort number
+found_object table name number None object = table
+
+abbrev pub put_object : TableView → List ℕ → List ℕ → Option ℕ → TableView
+put_object table name sort number = found_object table name number (number_of table.sorts.names sort) (number_of (names_of table.objects) name)
 
 abbrev pub new_variable : TableView → List ℕ → ℕ → TableView
 new_variable table name sort = record {
   sorts = table.sorts;
+  puts = table.puts;
   objects = table.objects;
+  numbers = table.numbers;
   variables = table.variables ++ (name, sort) ∷ [];
   symbols = table.symbols;
 }
@@ -104,7 +123,9 @@ placed_in table shape kind file line = record {
 abbrev pub new_symbol : TableView → Placed → TableView
 new_symbol table placed = record {
   sorts = table.sorts;
+  puts = table.puts;
   objects = table.objects;
+  numbers = table.numbers;
   variables = table.variables;
   symbols = table.symbols ++ placed ∷ [];
 }
@@ -121,7 +142,9 @@ abbrev pub behind : TableView → Declaration → TableView
 behind table (Sort name) = put_sort table name
 behind table (Link name) = put_sort table name
 behind table (Subsort upper lower) = put_pair table upper lower
-behind table (Object name sort) = put_object table name sort
+behind table (Object name sort) = put_object table name sort None
+behind table (Span low high sort) = table
+behind table (Number value sort) = put_object table (decimal value) sort (Some value)
 behind table (Variable name sort) = put_variable table name sort
 behind table (Constant shape kind file line) = put_symbol table shape kind file line
 behind table (Kinds shapes kind) = table
@@ -159,6 +182,8 @@ IsClear left (Sort name) = is_sort left name ≡ false
 IsClear left (Link name) = Unit {0}
 IsClear left (Subsort upper lower) = IsClearPair left upper lower
 IsClear left (Object name sort) = IsClearName left name sort
+IsClear left (Span low high sort) = Unit {0}
+IsClear left (Number value sort) = IsTrue (is_sort left sort)
 IsClear left (Variable name sort) = IsClearName left name sort
 IsClear left (Constant shape kind file line) = IsClearConstant left shape kind
 IsClear left (Kinds shapes kind) = Unit {0}

@@ -1,11 +1,14 @@
 //! The single declarations of a statement.
 ghost use Rattle.std.specs.Prelude.{◌≡◌, ℕ, IfOk, OnOk, map, flat_map, ◌++◌, ◌∷◌, []};
-ghost use Rattle.cc_defs.specs.Declarations.{declarations_of, chain_behind, sort_declarations, object_declarations, variable_declarations, constant_declarations, Sort, Link, Subsort, Object, Variable, Constant};
-ghost use Rattle.cc_defs.specs.Trees.{plain_statement, plain_sort_item, plain_list_item, plain_const_item, plain_shape, plain_kind, Chain};
+ghost use Rattle.cc_defs.specs.Declarations.{declarations_of, chain_behind, sort_declarations, member_declarations, object_declarations, variable_declarations, constant_declarations, Sort, Link, Subsort, Object, Variable, Constant};
+ghost use Rattle.cc_defs.specs.Trees.{plain_statement, plain_sort_item, plain_member, plain_obj_item, plain_list_item, plain_const_item, plain_shape, plain_kind, Chain};
 ghost use Rattle.cc_sorts.specs.Declaring.{plain_declarations};
 
 use crate::puts::put_last;
-use cc_defs::{ConstItem, KindTree, List, ListItem, OutOfMemory, Part, Shape, SortItem, Statement};
+use cc_defs::{
+    ConstItem, KindTree, List, ListItem, Member, ObjItem, OutOfMemory, Part, Shape, SortItem,
+    Statement,
+};
 use std::alloc::Global;
 
 /// One declaration, in the order of the text. The kind of constants stands behind their shapes.
@@ -19,6 +22,8 @@ pub(crate) enum Declaration<'t, 's> {
     Subsort(&'s str, &'s str),
     /// An object and its sort.
     Object(&'s str, &'s str),
+    /// The numbers from one to another, and their sort: one entry, however many they are.
+    Numbers(u32, u32, &'s str),
     /// A variable and its sort.
     Variable(&'s str, &'s str),
     Constant(&'t Shape<'s>, &'t KindTree<'s>),
@@ -66,12 +71,12 @@ fn add_sort_items<'t, 's>(
 
 fn add_object_items<'t, 's>(
     found: &mut Vec<Declaration<'t, 's>>,
-    items: &'t [ListItem<'s>],
+    items: &'t [ObjItem<'s>],
 ) -> Result<(), OutOfMemory>
-    ensures { (file line : ℕ) → OnOk result (plain_declarations file line found.new.items ≡ plain_declarations file line found.old.items ++ flat_map object_declarations (map plain_list_item items.now)) }
+    ensures { (file line : ℕ) → OnOk result (plain_declarations file line found.new.items ≡ plain_declarations file line found.old.items ++ flat_map object_declarations (map plain_obj_item items.now)) }
 {
     for item in items {
-        add_objects(found, item.names.items(), item.sort)?;
+        add_members(found, item.members.items(), item.sort)?;
     }
     Ok(())
 }
@@ -164,17 +169,30 @@ fn add_link<'t, 's>(
     put_last(found, Declaration::Subsort(upper, name))
 }
 
-fn add_objects<'t, 's>(
+fn add_members<'t, 's>(
     found: &mut Vec<Declaration<'t, 's>>,
-    names: &[&'s str],
+    members: &[Member<'s>],
     sort: &'s str,
 ) -> Result<(), OutOfMemory>
-    ensures { (file line : ℕ) → OnOk result (plain_declarations file line found.new.items ≡ plain_declarations file line found.old.items ++ map (λ name. Object name sort.now) (map (λ name. name.now) names.now)) }
+    ensures { (file line : ℕ) → OnOk result (plain_declarations file line found.new.items ≡ plain_declarations file line found.old.items ++ flat_map (member_declarations sort.now) (map plain_member members.now)) }
 {
-    for name in names {
-        put_last(found, Declaration::Object(name, sort))?;
+    for member in members {
+        add_member(found, member, sort)?;
     }
     Ok(())
+}
+
+fn add_member<'t, 's>(
+    found: &mut Vec<Declaration<'t, 's>>,
+    member: &Member<'s>,
+    sort: &'s str,
+) -> Result<(), OutOfMemory>
+    ensures { (file line : ℕ) → OnOk result (plain_declarations file line found.new.items ≡ plain_declarations file line found.old.items ++ member_declarations sort.now (plain_member member.now)) }
+{
+    match member {
+        Member::Name(name) => put_last(found, Declaration::Object(name, sort)),
+        Member::Numbers(low, high) => put_last(found, Declaration::Numbers(*low, *high, sort)),
+    }
 }
 
 fn add_variables<'t, 's>(

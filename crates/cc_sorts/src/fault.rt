@@ -4,7 +4,7 @@ ghost use Rattle.cc_defs.specs.DeclarationFaults.{any_has, declaration_fault};
 ghost use Rattle.cc_defs.specs.Declarations.{Declaration as Declared};
 ghost use Rattle.cc_sorts.specs.Declaring.{plain_declaration, plain_declarations};
 ghost use Rattle.cc_sorts.specs.Lefts.{IsLeft, fault_of};
-ghost use Rattle.cc_sorts.specs.Tables.{IsTable};
+ghost use Rattle.cc_sorts.specs.Entered.{IsEntered};
 
 use crate::declaration::Declaration;
 use crate::left::Left;
@@ -31,7 +31,7 @@ pub(crate) fn least_fault(
     table: &Register,
     new: &[Declaration],
 ) -> Result<Option<u8>, OutOfMemory>
-    ensures { (file line : ℕ) (left : Items Declared) → IsTable table.now left → IfOk result (λ fault. fault ≡ declaration_fault left (plain_declarations file line new.now)) }
+    ensures { (file line : ℕ) (left : Items Declared) → IsEntered table.now left → IfOk result (λ fault. fault ≡ declaration_fault left (plain_declarations file line new.now)) }
 {
     if any_in(alloc, table, FaultKind::Twice, new)? {
         return Ok(Some(4));
@@ -55,7 +55,7 @@ fn any_in(
     fault: FaultKind,
     new: &[Declaration],
 ) -> Result<bool, OutOfMemory>
-    ensures { (file line : ℕ) (left : Items Declared) → IsTable table.now left → IfOk result (λ any. any ≡ any_has (fault_of fault) left (plain_declarations file line new.now)) }
+    ensures { (file line : ℕ) (left : Items Declared) → IsEntered table.now left → IfOk result (λ any. any ≡ any_has (fault_of fault) left (plain_declarations file line new.now)) }
 {
     let mut left = Left::new(alloc, table);
     let any = any_behind(alloc, &mut left, fault, new);
@@ -88,7 +88,7 @@ fn has<'t, 's>(
     fault: FaultKind,
     declaration: &Declaration<'t, 's>,
 ) -> Result<bool, OutOfMemory>
-    ensures { (file line : ℕ) (declared : Items Declared) → IsLeft left.now declared → IfOk result (λ has. has ≡ fault_of fault declared (plain_declaration file line declaration.now)) }
+    ensures { (file line : ℕ) (declared : Items Declared) → IsLeft left.now declared → IfOk result (λ has. has ≡ any_has (fault_of fault) declared (plain_declaration file line declaration.now)) }
 {
     match fault {
         FaultKind::Twice => Ok(left.is_twice(declaration)),

@@ -1,19 +1,19 @@
 //! What stands to the left of a declaration.
 ghost use Rattle.std.specs.Prelude.{◌≡◌, ◌++◌, ◌∷◌, ◌&&◌, ◌==◌, [], ℕ, length, map, IfOk, OnOk, Some, List as Items};
-ghost use Rattle.std.specs.List.{list_all};
+ghost use Rattle.std.specs.List.{list_all, list_any};
 ghost use Rattle.std.specs.Option.{option_map};
-ghost use Rattle.cc_defs.specs.DeclarationFaults.{is_sort, are_sorts, is_taken, is_twice, is_unknown, has_unknown, declared_sorts, has_other_count, has_wrong_count, has_wrong_sort, has_other_sorts, constant_named, same_sorts};
-ghost use Rattle.cc_defs.specs.Declarations.{Declaration as Declared, Link, Subsort, Object, Variable, Constant as ConstantOf};
+ghost use Rattle.cc_defs.specs.DeclarationFaults.{is_sort, are_sorts, is_taken, is_unknown, has_unknown, declared_sorts, has_other_count, has_wrong_count, has_wrong_sort, has_other_sorts, constant_named, same_sorts};
+ghost use Rattle.cc_defs.specs.Declarations.{Declaration as Declared, Link, Subsort, Object, Span, from_to, Variable, Constant as ConstantOf};
 ghost use Rattle.cc_defs.specs.Declarations.{is_below, pairs, boolean};
 ghost use Rattle.cc_defs.specs.Grammar.{same_text};
 ghost use Rattle.cc_defs.specs.Trees.{plain_shape, plain_kind};
-ghost use Rattle.cc_sorts.specs.Declaring.{plain_declaration};
+ghost use Rattle.cc_sorts.specs.Declaring.{numbers_of, plain_head, plain_declaration};
 ghost use Rattle.cc_sorts.specs.Dictionaries.{number_of};
-ghost use Rattle.cc_sorts.specs.Lefts.{IsLeft, Adds, AddsUpper, new_uppers, has_sort as table_has_sort, has_name as table_has_name, left_has_sort, left_has_name, left_has_pair, left_has_upper, table_symbol, left_constant, arguments_of, plain_constant, action_fits, shaped_fits, numbers_fit, is_boolean_kind, is_boolean_action_symbol, is_numbered, are_numbered};
+ghost use Rattle.cc_sorts.specs.Lefts.{twice_by, left_has_from, meets as have_together, IsLeft, Adds, AddsUpper, new_uppers, has_sort as table_has_sort, has_name as table_has_name, left_has_sort, left_has_name, left_has_pair, left_has_upper, table_symbol, left_constant, arguments_of, plain_constant, action_fits, shaped_fits, numbers_fit, is_boolean_kind, is_boolean_action_symbol, is_numbered, are_numbered};
 ghost use Rattle.cc_sorts.specs.Lists.{AreBelow};
 ghost use Rattle.cc_sorts.specs.Searches.{Grows, IsClosed, AreClosed, table_uppers, all_uppers};
 ghost use Rattle.cc_sorts.specs.SortViews.{name_at};
-ghost use Rattle.cc_sorts.specs.Tables.{IsTable};
+ghost use Rattle.cc_sorts.specs.Entered.{IsEntered};
 
 use crate::declaration::Declaration;
 use crate::puts::{put_entry, put_key, put_last};
@@ -37,13 +37,22 @@ pub(crate) struct Constant<'t, 's> {
     kind: &'t KindTree<'s>,
 }
 
+/// The numbers from one to another, and their sort.
+#[derive(Clone, Copy, Drop)]
+pub(crate) struct Range<'s> {
+    low: u32,
+    high: u32,
+    sort: &'s str,
+}
+
 /// The declarations of a table, and those of a statement that were added. A name is found by its hash.
 #[derive(Drop)]
 pub(crate) struct Left<'d, 't, 's> {
     table: &'d Register,
     sorts: IndexSet<&'s str>,
-    /// Of objects, variables and constants.
+    /// Of objects that are no numbers, variables and constants.
     names: IndexSet<&'s str>,
+    ranges: Vec<Range<'s>>,
     /// Each at its first declaration.
     constants: IndexMap<&'s str, Constant<'t, 's>>,
     pairs: IndexSet<SortPair<'s>>,
@@ -56,12 +65,13 @@ pub(crate) struct Left<'d, 't, 's> {
 impl<'d, 't, 's> Left<'d, 't, 's> {
     /// The declarations of the table.
     pub(crate) fn new(alloc: Global, table: &'d Register) -> Self
-        ensures { (left : Items Declared) → IsTable table.now left → IsLeft result left }
+        ensures { (left : Items Declared) → IsEntered table.now left → IsLeft result left }
     {
         Left {
             table,
             sorts: IndexSet::new(alloc),
             names: IndexSet::new(alloc),
+            ranges: Vec::new(alloc),
             constants: IndexMap::new(alloc),
             pairs: IndexSet::new(alloc),
             uppers: IndexSet::new(alloc),
@@ -88,15 +98,24 @@ impl<'d, 't, 's> Left<'d, 't, 's> {
         table.sorts.has_named(upper, lower) || self.pairs.contains(&SortPair { upper, lower })
     }
 
-    /// Whether the declaration was made before.
+    /// Whether one of the numbers was put into the sort itself.
+    fn has_from(&self, low: u32, high: u32, sort: &str) -> bool
+        ensures { result ≡ left_has_from self.now low high sort.now }
+    {
+        let table: &Register = self.table;
+        table.has_put_from(low, high, sort) || any_meets(&self.ranges, low, high, sort)
+    }
+
+    /// Whether the declaration, or one of the numbers of a range, was made before.
     pub(crate) fn is_twice(&self, declaration: &Declaration<'_, 's>) -> bool
-        ensures { (file line : ℕ) (left : Items Declared) → IsLeft self.now left → result ≡ is_twice left (plain_declaration file line declaration.now) }
+        ensures { result ≡ twice_by self.now declaration.now }
     {
         match declaration {
             Declaration::Sort(name) => self.is_sort(name),
             Declaration::Link(_) => false,
             Declaration::Subsort(upper, lower) => self.has_pair(upper, lower),
             Declaration::Object(name, _) => self.is_taken(name),
+            Declaration::Numbers(low, high, sort) => self.has_from(*low, *high, sort),
             Declaration::Variable(name, _) => self.is_taken(name),
             Declaration::Constant(shape, _) => self.is_taken(shape.name),
             Declaration::Kinds(_, _) => false,
@@ -139,10 +158,11 @@ impl<'d, 't, 's> Left<'d, 't, 's> {
 
     /// Whether the declaration names a sort or an action that was not declared.
     pub(crate) fn is_unknown(&self, declaration: &Declaration) -> bool
-        ensures { (file line : ℕ) (left : Items Declared) → IsLeft self.now left → result ≡ is_unknown left (plain_declaration file line declaration.now) }
+        ensures { (file line : ℕ) (left : Items Declared) → IsLeft self.now left → result ≡ is_unknown left (plain_head file line declaration.now) }
     {
         match declaration {
             Declaration::Object(_, sort) => !self.is_sort(sort),
+            Declaration::Numbers(_, _, sort) => !self.is_sort(sort),
             Declaration::Variable(_, sort) => !self.is_sort(sort),
             Declaration::Constant(shape, _) => !self.are_sorts(&shape.sorts),
             Declaration::Kinds(_, kind) => self.has_unknown(kind),
@@ -188,13 +208,13 @@ impl<'d, 't, 's> Left<'d, 't, 's> {
 
     /// Whether an action has another number of arguments than its declaration, or than its attribute.
     pub(crate) fn has_wrong_count(&self, declaration: &Declaration) -> bool
-        ensures { (file line : ℕ) (left : Items Declared) → IsLeft self.now left → result ≡ has_wrong_count left (plain_declaration file line declaration.now) }
+        ensures { (file line : ℕ) (left : Items Declared) → IsLeft self.now left → result ≡ has_wrong_count left (plain_head file line declaration.now) }
     {
         match declaration {
             Declaration::Kinds(shapes, kind) => self.has_other_count(shapes, kind),
             Declaration::Sort(_) | Declaration::Link(_) | Declaration::Subsort(_, _) => false,
-            Declaration::Object(_, _) | Declaration::Variable(_, _) | Declaration::Constant(_, _) =>
-                false,
+            Declaration::Object(_, _) | Declaration::Numbers(_, _, _) => false,
+            Declaration::Variable(_, _) | Declaration::Constant(_, _) => false,
         }
     }
 
@@ -204,12 +224,13 @@ impl<'d, 't, 's> Left<'d, 't, 's> {
         alloc: Global,
         declaration: &Declaration<'t, 's>,
     ) -> Result<bool, OutOfMemory>
-        ensures { (file line : ℕ) (left : Items Declared) → IsLeft self.now left → IfOk result (λ wrong. wrong ≡ has_wrong_sort left (plain_declaration file line declaration.now)) }
+        ensures { (file line : ℕ) (left : Items Declared) → IsLeft self.now left → IfOk result (λ wrong. wrong ≡ has_wrong_sort left (plain_head file line declaration.now)) }
     {
         match declaration {
             Declaration::Link(name) => Ok(is_boolean(name)),
             Declaration::Subsort(upper, lower) => self.is_below(alloc, upper, lower),
             Declaration::Object(_, sort) => Ok(is_boolean(sort)),
+            Declaration::Numbers(low, high, sort) => Ok(is_boolean(sort) || high < low),
             Declaration::Kinds(shapes, kind) => Ok(self.has_other_sorts(shapes, kind)),
             Declaration::Sort(_) | Declaration::Variable(_, _) | Declaration::Constant(_, _) => Ok(
                 false,
@@ -365,6 +386,7 @@ impl<'d, 't, 's> Left<'d, 't, 's> {
             Declaration::Link(name) => self.add_sort(name),
             Declaration::Subsort(upper, lower) => self.add_pair(alloc, upper, lower),
             Declaration::Object(name, _) => self.add_name(name),
+            Declaration::Numbers(low, high, sort) => self.add_range(*low, *high, sort),
             Declaration::Variable(name, _) => self.add_name(name),
             Declaration::Constant(shape, kind) => self.add_constant(shape, kind),
             Declaration::Kinds(_, _) => Ok(()),
@@ -372,16 +394,22 @@ impl<'d, 't, 's> Left<'d, 't, 's> {
     }
 
     fn add_sort(&mut self, name: &'s str) -> Result<(), OutOfMemory>
-        ensures { OnOk result (Adds self.old self.new (Link name.now)) }
+        ensures { OnOk result (Adds self.old self.new (Link name.now ∷ [])) }
     {
         put_key(&mut self.sorts, name)
     }
 
     fn add_name(&mut self, name: &'s str) -> Result<(), OutOfMemory>
-        ensures object { (sort : Items ℕ) → OnOk result (Adds self.old self.new (Object name.now sort)) }
-        ensures variable { (sort : Items ℕ) → OnOk result (Adds self.old self.new (Variable name.now sort)) }
+        ensures object { (sort : Items ℕ) → OnOk result (Adds self.old self.new (Object name.now sort ∷ [])) }
+        ensures variable { (sort : Items ℕ) → OnOk result (Adds self.old self.new (Variable name.now sort ∷ [])) }
     {
         put_key(&mut self.names, name)
+    }
+
+    fn add_range(&mut self, low: u32, high: u32, sort: &'s str) -> Result<(), OutOfMemory>
+        ensures { OnOk result (Adds self.old self.new (Span low high sort.now ∷ numbers_of sort.now (from_to low high))) }
+    {
+        put_last(&mut self.ranges, Range { low, high, sort })
     }
 
     fn add_constant(
@@ -389,7 +417,7 @@ impl<'d, 't, 's> Left<'d, 't, 's> {
         shape: &'t Shape<'s>,
         kind: &'t KindTree<'s>,
     ) -> Result<(), OutOfMemory>
-        ensures { (file line : ℕ) → OnOk result (Adds self.old self.new (ConstantOf (plain_shape shape.now) (plain_kind kind.now) file line)) }
+        ensures { (file line : ℕ) → OnOk result (Adds self.old self.new (ConstantOf (plain_shape shape.now) (plain_kind kind.now) file line ∷ [])) }
     {
         put_key(&mut self.names, shape.name)?;
         if self.constants.contains_key(shape.name) {
@@ -399,12 +427,31 @@ impl<'d, 't, 's> Left<'d, 't, 's> {
     }
 
     fn add_pair(&mut self, alloc: Global, upper: &'s str, lower: &'s str) -> Result<(), OutOfMemory>
-        ensures { OnOk result (Adds self.old self.new (Subsort upper.now lower.now)) }
+        ensures { OnOk result (Adds self.old self.new (Subsort upper.now lower.now ∷ [])) }
     {
         put_key(&mut self.pairs, SortPair { upper, lower })?;
         put_key(&mut self.uppers, upper)?;
         add_upper(alloc, &mut self.uppers_of, upper, lower)
     }
+}
+
+/// Whether two ranges of one sort have a number together.
+fn meets(range: &Range<'_>, low: u32, high: u32, sort: &str) -> bool
+    ensures { result ≡ have_together low high sort.now range.now }
+{
+    (low <= high && range.low <= range.high)
+        && (low <= range.high && range.low <= high && sort == range.sort)
+}
+
+fn any_meets(ranges: &[Range<'_>], low: u32, high: u32, sort: &str) -> bool
+    ensures { result ≡ list_any (have_together low high sort.now) ranges.now }
+{
+    for range in ranges {
+        if meets(range, low, high, sort) {
+            return true;
+        }
+    }
+    false
 }
 
 /// Adds a pair to the upper sorts by lower sort.
@@ -473,7 +520,7 @@ fn has_sort(table: &Register, name: &str) -> bool
 fn has_name(table: &Register, name: &str) -> bool
     ensures { result ≡ table_has_name table.now name.now }
 {
-    table.object(name).is_some() || table.variable(name).is_some() || table.symbol(name).is_some()
+    table.has_put_as(name) || table.variable(name).is_some() || table.symbol(name).is_some()
 }
 
 /// The symbol of a constant of a table.

@@ -4,10 +4,12 @@ ghost use Rattle.std.specs.List.{find, list_any};
 ghost use Rattle.cc_defs.specs.DeclarationFaults.{is_empty, passes_domain_values, signature_refusal};
 ghost use Rattle.cc_defs.specs.Declarations.{Declaration as Declared};
 ghost use Rattle.cc_defs.specs.Refusals.{IsRefusedBy};
-ghost use Rattle.cc_defs.specs.Signatures.{AreOrdered, none_value};
+ghost use Rattle.cc_defs.specs.Signatures.{none_value};
 ghost use Rattle.cc_sorts.specs.Instances.{values_by, rows_by, constant_by, passes as is_passed, instances_by, instances_from, all_instances, refusal_at, refusal_by};
-ghost use Rattle.cc_sorts.specs.SortViews.{members_at, AllAscend};
-ghost use Rattle.cc_sorts.specs.Tables.{IsTable, IsSignatureOf};
+ghost use Rattle.cc_sorts.specs.Entered.{IsEntered};
+ghost use Rattle.cc_sorts.specs.Shown.{shown};
+ghost use Rattle.cc_sorts.specs.SortViews.{members_at};
+ghost use Rattle.cc_sorts.specs.Tables.{IsSignatureOf};
 
 use crate::puts::put_last;
 use crate::register::Register;
@@ -74,21 +76,20 @@ fn with_objects(alloc: Global, rows: &[Nums], objects: &[u32]) -> Result<Vec<Num
 impl Register {
     /// The objects of a sort; none, where there is no such sort.
     pub(crate) fn members(&self, sort: u32) -> &[u32]
-        ensures { result.now ≡ members_at self.now.sorts sort }
+        ensures { result.now ≡ members_at (shown self.now).sorts sort }
     {
         let sort = sort as usize;
         if sort < self.sorts.len() {
-            self.sorts.members(sort)
+            &self.lists[sort]
         } else {
             &[]
         }
     }
 
-    /// How many symbols there are. The objects of each sort ascend, and none has the number that stands for `none`.
+    /// How many symbols there are. No object has the number that stands for `none`.
     pub(crate) fn symbol_count(&self) -> usize
         ensures count { result ≡ length self.now.symbols }
         ensures few { result < 4000000000 }
-        ensures ascending { AllAscend self.now.sorts.members }
         ensures numbered { length self.now.objects ≤ none_value }
     {
         self.symbols.len()
@@ -104,7 +105,7 @@ impl Register {
 
     /// How many rows of arguments there are; counting stops at MANY.
     fn row_count(&self, sorts: &[u32]) -> usize
-        ensures { result ≡ min (length (rows_by self.now.sorts sorts.now)) 20001 }
+        ensures { result ≡ min (length (rows_by (shown self.now).sorts sorts.now)) 20001 }
     {
         let mut count = 1;
         for sort in sorts {
@@ -115,7 +116,7 @@ impl Register {
 
     /// How many instances a symbol has among the actions or the fluents; counting stops at MANY.
     fn count(&self, actions: bool, placed: &Placed) -> usize
-        ensures { (number : ℕ) → result ≡ min (length (instances_by self.now.sorts actions number placed.now)) 20001 }
+        ensures { (number : ℕ) → result ≡ min (length (instances_by (shown self.now).sorts actions number placed.now)) 20001 }
     {
         if passes(actions, placed.symbol.kind) {
             self.row_count(placed.symbol.sorts.items())
@@ -126,7 +127,7 @@ impl Register {
 
     /// Whether a symbol has more values than this number.
     fn has_more_values(&self, symbol: &Symbol, number: usize) -> bool
-        ensures { result ≡ nat_lt number (length (values_by self.now.sorts symbol.now)) }
+        ensures { result ≡ nat_lt number (length (values_by (shown self.now).sorts symbol.now)) }
     {
         let objects = self.members(symbol.domain).len();
         match symbol.attribute {
@@ -137,14 +138,14 @@ impl Register {
 
     /// Whether a symbol has an instance without a value.
     fn has_empty(&self, actions: bool, placed: &Placed) -> bool
-        ensures { (number : ℕ) → result ≡ list_any is_empty (instances_by self.now.sorts actions number placed.now) }
+        ensures { (number : ℕ) → result ≡ list_any is_empty (instances_by (shown self.now).sorts actions number placed.now) }
     {
         self.count(actions, placed) > 0 && !self.has_more_values(&placed.symbol, 0)
     }
 
     /// Whether a symbol has an instance with too many values.
     fn has_wide(&self, actions: bool, placed: &Placed) -> bool
-        ensures { (number : ℕ) → result ≡ passes_domain_values (instances_by self.now.sorts actions number placed.now) }
+        ensures { (number : ℕ) → result ≡ passes_domain_values (instances_by (shown self.now).sorts actions number placed.now) }
     {
         let most = LimitAt::DomainValues.number() as usize;
         self.count(actions, placed) > 0 && self.has_more_values(&placed.symbol, most)
@@ -152,7 +153,7 @@ impl Register {
 
     /// The symbol of the first instance without a value.
     fn first_empty(&self, actions: bool) -> Option<usize>
-        ensures { result ≡ option_map (λ constant. constant.symbol) (find is_empty (instances_from self.now.sorts actions 0 self.now.symbols)) }
+        ensures { result ≡ option_map (λ constant. constant.symbol) (find is_empty (instances_from (shown self.now).sorts actions 0 self.now.symbols)) }
     {
         for number in 0..self.symbol_count() {
             if self.has_empty(actions, self.placed_at(number)) {
@@ -164,7 +165,7 @@ impl Register {
 
     /// Whether an instance has too many values.
     fn any_wide(&self, actions: bool) -> bool
-        ensures { result ≡ passes_domain_values (instances_from self.now.sorts actions 0 self.now.symbols) }
+        ensures { result ≡ passes_domain_values (instances_from (shown self.now).sorts actions 0 self.now.symbols) }
     {
         for number in 0..self.symbol_count() {
             if self.has_wide(actions, self.placed_at(number)) {
@@ -176,7 +177,7 @@ impl Register {
 
     /// How many instances there are; counting stops at MANY.
     fn total(&self, actions: bool) -> usize
-        ensures { result ≡ min (length (instances_from self.now.sorts actions 0 self.now.symbols)) 20001 }
+        ensures { result ≡ min (length (instances_from (shown self.now).sorts actions 0 self.now.symbols)) 20001 }
     {
         let mut total = 0;
         for number in 0..self.symbol_count() {
@@ -198,7 +199,7 @@ impl Register {
 
     /// The first symbol, fluents before actions, with an instance that has no value.
     fn empty_symbol(&self) -> Option<usize>
-        ensures { result ≡ option_map (λ constant. constant.symbol) (find is_empty (all_instances self.now)) }
+        ensures { result ≡ option_map (λ constant. constant.symbol) (find is_empty (all_instances (shown self.now))) }
     {
         match self.first_empty(false) {
             Some(number) => Some(number),
@@ -208,14 +209,14 @@ impl Register {
 
     /// Whether any instance has too many values.
     fn is_wide(&self) -> bool
-        ensures { result ≡ passes_domain_values (all_instances self.now) }
+        ensures { result ≡ passes_domain_values (all_instances (shown self.now)) }
     {
         self.any_wide(false) || self.any_wide(true)
     }
 
     /// Whether there are too many instances.
     fn is_many(&self) -> bool
-        ensures { result ≡ nat_lt 20000 (length (all_instances self.now)) }
+        ensures { result ≡ nat_lt 20000 (length (all_instances (shown self.now))) }
     {
         let most = LimitAt::GroundConstants.number() as usize;
         self.total(false) + self.total(true) > most
@@ -223,7 +224,7 @@ impl Register {
 
     /// The refusal of all declarations together, if there is one. Nothing is made.
     fn refusal(&self) -> Option<Refusal>
-        ensures { result ≡ refusal_by self.now }
+        ensures { result ≡ refusal_by (shown self.now) }
     {
         if let Some(number) = self.empty_symbol() {
             return Some(self.empty_refusal(number));
@@ -239,7 +240,7 @@ impl Register {
 
     /// The values of a symbol.
     fn values(&self, alloc: Global, symbol: &Symbol) -> Result<Nums, OutOfMemory>
-        ensures { IfOk result (λ values. values ≡ values_by self.now.sorts symbol.now) }
+        ensures { IfOk result (λ values. values ≡ values_by (shown self.now).sorts symbol.now) }
     {
         let mut values = Vec::new(alloc);
         if symbol.attribute.is_some() {
@@ -251,7 +252,7 @@ impl Register {
 
     /// All rows of arguments, the first argument slowest.
     fn rows(&self, alloc: Global, sorts: &[u32]) -> Result<Vec<Nums>, OutOfMemory>
-        ensures { IfOk result (λ rows. rows.items ≡ rows_by self.now.sorts sorts.now) }
+        ensures { IfOk result (λ rows. rows.items ≡ rows_by (shown self.now).sorts sorts.now) }
     {
         let mut rows = Vec::new(alloc);
         put_last(&mut rows, Nums::of(Vec::new(alloc)))?;
@@ -270,7 +271,7 @@ impl Register {
         symbol: &Symbol,
         rows: Vec<Nums>,
     ) -> Result<(), OutOfMemory>
-        ensures { OnOk result (written.new.items ≡ written.old.items ++ map (constant_by self.now.sorts number symbol.now) rows.items) }
+        ensures { OnOk result (written.new.items ≡ written.old.items ++ map (constant_by (shown self.now).sorts number symbol.now) rows.items) }
     {
         for args in rows {
             let constant = Const {
@@ -293,7 +294,7 @@ impl Register {
         number: u32,
         placed: &Placed,
     ) -> Result<(), OutOfMemory>
-        ensures { OnOk result (written.new.items ≡ written.old.items ++ instances_by self.now.sorts actions number placed.now) }
+        ensures { OnOk result (written.new.items ≡ written.old.items ++ instances_by (shown self.now).sorts actions number placed.now) }
     {
         let sorts = placed.symbol.sorts.items();
         if !passes(actions, placed.symbol.kind) || self.row_count(sorts) == 0 {
@@ -305,8 +306,7 @@ impl Register {
 
     /// The instances of all actions or of all fluents, in order.
     fn instances(&self, alloc: Global, actions: bool) -> Result<Vec<Const>, OutOfMemory>
-        ensures made { IfOk result (λ made. made.items ≡ instances_from self.now.sorts actions 0 self.now.symbols) }
-        ensures ordered { IfOk result (λ made. AreOrdered made.items) }
+        ensures made { IfOk result (λ made. made.items ≡ instances_from (shown self.now).sorts actions 0 self.now.symbols) }
         ensures numbered { length self.now.objects ≤ none_value }
     {
         let mut made = Vec::new(alloc);
@@ -319,14 +319,15 @@ impl Register {
 
     /// The ground constants of all that was declared, or their refusal: `Table::signature`.
     pub(crate) fn signature(&self, alloc: Global) -> Result<Sig, Fault>
-        ensures made { (declarations : Items Declared) → IsTable self.now declarations → IfOk result (IsSignatureOf declarations) }
-        ensures refused { (declarations : Items Declared) → IsTable self.now declarations → IfErr result (IsRefusedBy (signature_refusal declarations)) }
+        ensures made { (declarations : Items Declared) → IsEntered self.now declarations → IfOk result (IsSignatureOf declarations) }
+        ensures refused { (declarations : Items Declared) → IsEntered self.now declarations → IfErr result (IsRefusedBy (signature_refusal declarations)) }
     {
         if let Some(refusal) = self.refusal() {
             return Err(Fault::Refused(refusal));
         }
         let fluents = self.instances(alloc, false)?;
         let actions = self.instances(alloc, true)?;
-        Ok(Sig::of(fluents, actions))
+        let numbers = Vec::from_slice(alloc, self.objects.numbers())?;
+        Ok(Sig::of(fluents, actions, numbers))
     }
 }

@@ -1,11 +1,13 @@
 //! What a description declares: sorts, objects, variables and constants, each by number.
-ghost use Rattle.std.specs.Prelude.{◌≡◌, ◌<◌, [], List as Items, Some, length, slice_get, option_map, IfOk, IfErr, OnOk};
+ghost use Rattle.std.specs.Prelude.{◌≡◌, ◌<◌, [], List as Items, Some, length, slice_get, option_map, position, IfOk, IfErr, OnOk};
 ghost use Rattle.cc_defs.specs.Declarations.{is_below};
 ghost use Rattle.cc_defs.specs.Declarations.{Declaration as Declared};
 ghost use Rattle.cc_defs.specs.DeclarationFaults.{signature_refusal};
 ghost use Rattle.cc_defs.specs.Refusals.{IsRefusedBy};
 ghost use Rattle.cc_defs.specs.Trees.{plain_statement};
 ghost use Rattle.cc_sorts.specs.Dictionaries.{number_of, names_of, values_of};
+ghost use Rattle.cc_defs.specs.DeclarationFaults.{is_that};
+ghost use Rattle.cc_defs.specs.Signatures.{number_at};
 ghost use Rattle.cc_sorts.specs.SortViews.{name_at, members_at};
 ghost use Rattle.cc_sorts.specs.Tables.{symbol_names, IsTable, IsOfDeclarations, Declares, HasRefused, IsUnchangedBy, IsSignatureOf, IsSignatureFor};
 
@@ -22,6 +24,14 @@ pub(crate) struct Placed {
     pub(crate) line: u32,
 }
 
+/// What was put into a sort: an object, and which number it is, where it was put as one.
+#[derive(Clone, Copy)]
+pub(crate) struct PutAt {
+    pub(crate) object: u32,
+    pub(crate) sort: u32,
+    pub(crate) number: Option<u32>,
+}
+
 /// The sorts, objects, variables and constants of a description, each by its number in declared order: `boolean` is sort 0,
 /// `false` is object 0 and `true` object 1. Objects, variables and constants share one set of names.
 #[derive(Drop)]
@@ -31,13 +41,15 @@ pub struct Table {
 }
 
 impl Model for Table {
-    ghost use Rattle.cc_sorts.specs.Tables.{TableView, IsOfDeclarations};
+    ghost use Rattle.cc_sorts.specs.Entered.{IsOfEntered};
+    ghost use Rattle.cc_sorts.specs.Shown.{shown};
+    ghost use Rattle.cc_sorts.specs.Tables.{TableView};
 
     ghost Value = { TableView };
 
-    ghost view = { λ table. table.register };
+    ghost view = { λ table. shown table.register };
 
-    ghost invariant = { λ table. IsOfDeclarations table.register };
+    ghost invariant = { λ table. IsOfEntered table.register };
 }
 
 impl Table {
@@ -110,7 +122,8 @@ impl Table {
         self.register.symbol(name)
     }
 
-    /// The objects of a sort and of all sorts below it, in declared order. It takes no memory.
+    /// The objects of a sort and of all sorts below it, in the order in which they were put there, each at its first place. It takes no
+    /// memory.
     pub fn objects(&self, sort: u32) -> &[u32]
         requires { sort < length self.now.sorts.names }
         ensures { result.now ≡ members_at self.now.sorts sort }
@@ -123,6 +136,20 @@ impl Table {
         ensures { result.now ≡ members_at self.now.sorts sort }
     {
         self.register.members(sort)
+    }
+
+    /// The number that an object is; none where it is no number.
+    pub fn number_of(&self, object: u32) -> Option<u32>
+        ensures { result ≡ number_at self.now.numbers object }
+    {
+        self.register.number_of(object)
+    }
+
+    /// The object that is this number, if there is one.
+    pub fn numbered(&self, number: u32) -> Option<u32>
+        ensures { result ≡ position (is_that number) self.now.numbers }
+    {
+        self.register.numbered(number)
     }
 
     /// The name of a sort.

@@ -1,16 +1,16 @@
 -- The readers of declarations.
-use Rattle.std.proofs.Common.{◌≡◌, ℕ, ◌<◌, Bool, true, ◌&&◌, List, [], ◌∷◌, length, Option, Some, None, refl, ap, subst, arith, inl, inr}
+use Rattle.std.proofs.Common.{◌≡◌, ℕ, ◌<◌, Bool, true, ◌&&◌, List, [], ◌∷◌, length, Option, Some, None, refl, ap, subst, ◌∙◌, arith, inl, inr}
 use Rattle.std.specs.Prelude.{codes}
 use Rattle.std.proofs.lemmas.Bool.{and_parts}
 use Rattle.cc_defs.specs.declared.token.Mark.TheVariants as marks
 use Rattle.cc_defs.specs.declared.tree.KindWord.{KindWord}
 use Rattle.cc_defs.specs.declared.tree.KindWord.TheVariants as kind_words
-use Rattle.cc_defs.specs.Trees.{PlainShape, PlainSortItem, Names, Chain, PlainListItem, PlainKind, Plain, Attribute, PlainConstItem}
-use Rattle.cc_defs.specs.Grammar.{Terminal, Spelling, ◌▸◌, sign, word, name, in_parentheses, chained, listed, sort_item, list_item, sorts_of, shape, kind_word, kind, const_item}
-use Rattle.cc_syntax.specs.Readers.{given, ◌>>=◌, name_at, sign_at, word_at, listed_at, paired}
-use Rattle.cc_syntax.specs.Declarations.{names_at, sort_item_at, list_item_of, list_item_at, shape_of, sorts_at, shape_at, kind_word_at, sort_at, attribute_at, kind_at, const_item_of, const_item_at}
+use Rattle.cc_defs.specs.Trees.{PlainShape, PlainSortItem, Names, Chain, PlainMember, Name, Numbers, PlainObjItem, PlainListItem, PlainKind, Plain, Attribute, PlainConstItem}
+use Rattle.cc_defs.specs.Grammar.{Terminal, Spelling, ◌▸◌, sign, word, name, numeral, in_parentheses, chained, listed, sort_item, member, obj_item, list_item, sorts_of, shape, kind_word, kind, const_item}
+use Rattle.cc_syntax.specs.Readers.{given, ◌>>=◌, name_at, numeral_at, sign_at, word_at, listed_at, paired}
+use Rattle.cc_syntax.specs.Declarations.{names_at, sort_item_at, numbers_at, member_at, obj_item_of, obj_item_at, list_item_of, list_item_at, shape_of, sorts_at, shape_at, kind_word_at, sort_at, attribute_at, kind_at, const_item_of, const_item_at}
 use Rattle.cc_syntax.proofs.IsReader.{IsReader, anywhere}
-use Rattle.cc_syntax.proofs.Singles.{bind_some, given_cases, some-is, sign-literal, word-literal, name-reader}
+use Rattle.cc_syntax.proofs.Singles.{bind_some, given_cases, some-is, sign-literal, word-literal, name-reader, numeral-reader}
 use Rattle.cc_syntax.proofs.Combined.{IsPart, as_part, respelled, part_respelled, lacks, lacks-none, regroup, group, behind, before, made_by, made, paired_by, pair, by_choice, choice, nothing_for, nothing, or_nothing, or_else, none_for, refusing, items, parenthesized}
 
 -- ---- sorts
@@ -74,7 +74,81 @@ sort_item_shorter (Chain (x ∷ xs)) tokens rest p =
 pub sort_item-reader : IsReader sort_item_at sort_item ends_sorts
 sort_item-reader = record { takes = sort_item_takes; again = sort_item_again; shorter = sort_item_shorter }
 
--- ---- objects and variables
+-- ---- objects
+
+-- a member may end where no `..` follows
+abbrev pub ends_member : List Terminal → Bool
+ends_member rest = lacks (sign_at marks.DotDot) rest
+
+-- behind the number that was read
+abbrev numbers_of : ℕ → PlainMember → Spelling
+numbers_of low = or_nothing (sign marks.DotDot) (Numbers low low) (made_by (λ high. Numbers low high) numeral)
+
+numbers-part : (low : ℕ) → IsPart (numbers_at low) (numbers_of low) ends_member
+numbers-part low = or_else (Numbers low low) (sign-literal marks.DotDot) (as_part (made (λ high. Numbers low high) numeral-reader))
+
+member_takes : (tokens : List Terminal) (read : PlainMember × List Terminal) → member_at tokens ≡ Some read → member read.0 tokens read.1
+unfolding member_at
+member_takes tokens read e =
+    elim (given_cases (numeral_at tokens) _ _ _ e) [
+      | inl low ↦ as_numbers low.0.0 tokens low.0.1 read.0 read.1 (numeral-reader.takes tokens low.0 low.1) ((numbers-part low.0.0).takes low.0.1 read low.2)
+      | inr named ↦
+          let text = bind_some (name_at tokens) (λ text. Some (Name text.0, text.1)) read named.1 in
+          subst (λ (r : PlainMember × List Terminal). member r.0 tokens r.1) (some-is (Name text.0.0, text.0.1) read text.2) (name-reader.takes tokens text.0 text.1)
+    ]
+  where
+    as_numbers : (low : ℕ) (tokens between : List Terminal) (m : PlainMember) (rest : List Terminal) → numeral low tokens between → numbers_of low m between rest → member m tokens rest
+    as_numbers low tokens between m rest n (inl p) = subst (λ (z : PlainMember). member z tokens rest) p.2.1 (inr (between, n, (p.0, p.1, p.2.2)))
+    as_numbers low tokens between m rest n (inr p) =
+        let ends : numeral low tokens rest = subst (λ (l : List Terminal). numeral low tokens l) p.1 n in
+        subst (λ (z : PlainMember). member z tokens rest) p.0 (inl (refl, ends))
+
+member_again : (m : PlainMember) (tokens rest : List Terminal) → member m tokens rest → ends_member rest ≡ true → member_at tokens ≡ Some (m, rest)
+unfolding member_at
+member_again (Name text) tokens rest p s =
+    let none : numeral_at tokens ≡ None = ap numeral_at p.1 in
+    let named : name_at tokens ≡ Some (text, rest) = name-reader.again text tokens rest p refl in
+    rw (none, named) refl
+member_again (Numbers low high) tokens rest (inl p) s =
+    let read : numeral_at tokens ≡ Some (low, rest) = numeral-reader.again low tokens rest p.1 refl in
+    let more : numbers_at low rest ≡ Some (Numbers low low, rest) = (numbers-part low).again (Numbers low low) rest rest (inr (refl, refl)) s in
+    rw read (more ∙ ap (λ (n : ℕ). Some (Numbers low n, rest)) p.0)
+member_again (Numbers low high) tokens rest (inr p) s =
+    let read : numeral_at tokens ≡ Some (low, p.0) = numeral-reader.again low tokens p.0 p.1 refl in
+    let more : numbers_at low p.0 ≡ Some (Numbers low high, rest) =
+    (numbers-part low).again (Numbers low high) p.0 rest (inl (p.2.0, p.2.1, (high, refl, p.2.2))) s in
+    rw read more
+
+member_shorter : (m : PlainMember) (tokens rest : List Terminal) → member m tokens rest → length rest < length tokens
+member_shorter (Name text) tokens rest p = name-reader.shorter text tokens rest p
+member_shorter (Numbers low high) tokens rest (inl p) = numeral-reader.shorter low tokens rest p.1
+member_shorter (Numbers low high) tokens rest (inr p) =
+    let a = numeral-reader.shorter low tokens p.0 p.1 in
+    let b = (sign-literal marks.DotDot).shorter p.0 p.2.0 p.2.1 in
+    let c = numeral-reader.shorter high p.2.0 rest p.2.2 in
+    omega arith
+
+pub member-reader : IsReader member_at member ends_member
+member-reader = record { takes = member_takes; again = member_again; shorter = member_shorter }
+
+abbrev ends_members : List Terminal → Bool
+ends_members rest = ends_member rest && lacks (sign_at marks.Comma) rest
+
+members-reader : IsReader (listed_at member_at marks.Comma) (listed member marks.Comma) ends_members
+members-reader = items marks.Comma member-reader (λ rest. refl)
+
+pub obj_item-reader : IsReader obj_item_at obj_item anywhere
+unfolding obj_item_at
+obj_item-reader =
+    respelled (pair obj_item_of (before (as_part members-reader) (sign-literal marks.DoubleColon) (λ tokens rest p. ap ends_members p)) (as_part name-reader) (λ y tokens rest p s. refl)) to from
+  where
+    to : (item : PlainObjItem) (tokens rest : List Terminal) → paired_by obj_item_of (λ members. listed member marks.Comma members ▸ sign marks.DoubleColon) name item tokens rest → obj_item item tokens rest
+    to item tokens rest p = subst (λ (z : PlainObjItem). obj_item z tokens rest) p.2 (regroup (listed member marks.Comma p.0) (sign marks.DoubleColon) (name p.1) tokens rest p.3)
+
+    from : (item : PlainObjItem) (tokens rest : List Terminal) → obj_item item tokens rest → paired_by obj_item_of (λ members. listed member marks.Comma members ▸ sign marks.DoubleColon) name item tokens rest
+    from item tokens rest p = (item.members, item.sort, refl, group (listed member marks.Comma item.members) (sign marks.DoubleColon) (name item.sort) tokens rest p)
+
+-- ---- variables
 
 pub list_item-reader : IsReader list_item_at list_item anywhere
 unfolding list_item_at

@@ -4,17 +4,18 @@ use Rattle.std.proofs.Common.{◌≡◌, ℕ, zero, suc, ◌<◌, ◌≤◌, tru
 use Rattle.std.proofs.lemmas.Bool.{le-leb}
 use Rattle.cc_defs.specs.declared.token.Mark.{Mark}
 use Rattle.cc_defs.specs.declared.token.Mark.TheVariants as marks
-use Rattle.cc_defs.specs.Trees.{PlainTerm, PlainTree, Applied, NoTerms, MoreTerms}
+use Rattle.cc_defs.specs.Trees.{PlainTerm, Applied, NoSums, MoreSums, PlainPiece, Numeral, Called, PlainSum, Summed, NoAddends, PlainTree, Comparison, IsEqual, Differs, IsLess, IsAtMost, IsMore, IsAtLeast}
 use Rattle.cc_defs.specs.Trees as trees
-use Rattle.cc_defs.specs.Grammar.{Terminal, Sign, sign, name, term, ◌▸◌, formula_of}
+use Rattle.cc_defs.specs.Grammar.{Terminal, Sign, sign, name, term, sum, piece, comparing, ◌▸◌, formula_of}
 use Rattle.cc_syntax.specs.declared.operators.Operator.{Operator}
 use Rattle.cc_syntax.specs.declared.operators.Operator.TheVariants as operators
 use Rattle.cc_syntax.specs.Readers.{given, ◌>>=◌, sign_at}
-use Rattle.cc_syntax.specs.Operators.{operator_at, strength, left_strength, right_strength, joined}
-use Rattle.cc_syntax.specs.Formulas.{PlainFrame, Not, Paren, ForAll, Exists, Left, filled, ends_before, PlainTurn, Wants, Has, Ends, variable_at, frame_at, side_at, atom_at, Held, begun, gone_on, run_from}
-use Rattle.cc_syntax.proofs.IsReader.{ends_term}
+use Rattle.cc_syntax.specs.Operators.{comparison_at, operator_at, strength, left_strength, right_strength, joined}
+use Rattle.cc_syntax.specs.Formulas.{PlainFrame, Not, Paren, ForAll, Exists, Left, filled, ends_before, PlainTurn, Wants, Has, Ends, variable_at, frame_at, side_at, bare_at, atom_at, Held, begun, gone_on, run_from}
+use Rattle.cc_syntax.proofs.Comparisons.{comparison-here}
+use Rattle.cc_syntax.proofs.IsReader.{ends_sum}
 use Rattle.cc_syntax.proofs.Singles.{some-is, sign-literal, name-reader}
-use Rattle.cc_syntax.proofs.TermReader.{term-reader}
+use Rattle.cc_syntax.proofs.TermReader.{sum-reader}
 use Rattle.cc_syntax.proofs.Strengths.{mark_of, operator-here, strength-most, left-least, right-least, joined-parts, room, stays, formula-shorter}
 
 sign-again : (mark : Mark) (tokens rest : List Terminal) → sign mark tokens rest → sign_at mark tokens ≡ Some rest
@@ -67,66 +68,68 @@ has-next frames others f tokens rest turn result e short gives (suc n) lt = rw e
 -- what follows does not go on with a formula of the strength
 abbrev pub Follows : ℕ → List Terminal → Type 0
 Follows s rest =
-    (ends_term rest ≡ true) × (sign_at marks.Equal rest ≡ None) × (sign_at marks.NotEqual rest ≡ None)
+    (ends_sum rest ≡ true) × (comparison_at rest ≡ None)
     × ((read : Operator × List Terminal) → operator_at rest ≡ Some read → s ≤ left_strength read.0)
 
 follows-less : (s t : ℕ) (rest : List Terminal) → s ≤ t → Follows t rest → Follows s rest
-follows-less s t rest le p = (p.0, p.1, p.2, λ read e. let more = p.3 read e in omega arith)
+follows-less s t rest le p = (p.0, p.1, λ read e. let more = p.2 read e in omega arith)
 
 operator-follows : (op : Operator) (rest : List Terminal) → Follows (left_strength op) (Sign (mark_of op) ∷ rest)
-operator-follows op rest = (at_operator op, at_equal op, at_differ op, λ read e. let same = some-is (op, rest) read (sym (operator-here op rest) ∙ e) in subst (λ (r : Operator × List Terminal). left_strength op ≤ left_strength r.0) same (omega arith))
+operator-follows op rest = (at_operator op, at_comparison op, λ read e. let same = some-is (op, rest) read (sym (operator-here op rest) ∙ e) in subst (λ (r : Operator × List Terminal). left_strength op ≤ left_strength r.0) same (omega arith))
   where
-    at_operator : (op : Operator) → ends_term (Sign (mark_of op) ∷ rest) ≡ true
+    at_operator : (op : Operator) → ends_sum (Sign (mark_of op) ∷ rest) ≡ true
     at_operator operators.Both = refl
     at_operator operators.Either = refl
     at_operator operators.Implies = refl
     at_operator operators.Same = refl
 
-    at_equal : (op : Operator) → sign_at marks.Equal (Sign (mark_of op) ∷ rest) ≡ None
-    at_equal operators.Both = refl
-    at_equal operators.Either = refl
-    at_equal operators.Implies = refl
-    at_equal operators.Same = refl
-
-    at_differ : (op : Operator) → sign_at marks.NotEqual (Sign (mark_of op) ∷ rest) ≡ None
-    at_differ operators.Both = refl
-    at_differ operators.Either = refl
-    at_differ operators.Implies = refl
-    at_differ operators.Same = refl
+    at_comparison : (op : Operator) → comparison_at (Sign (mark_of op) ∷ rest) ≡ None
+    at_comparison operators.Both = refl
+    at_comparison operators.Either = refl
+    at_comparison operators.Implies = refl
+    at_comparison operators.Same = refl
 
 paren-follows : (rest : List Terminal) → Follows 4 (Sign marks.RightParen ∷ rest)
-paren-follows rest = (refl, refl, refl, λ read e. absurd cc)
+paren-follows rest = (refl, refl, λ read e. absurd cc)
 
 bracket-follows : (rest : List Terminal) → Follows 4 (Sign marks.RightBracket ∷ rest)
-bracket-follows rest = (refl, refl, refl, λ read e. absurd cc)
+bracket-follows rest = (refl, refl, λ read e. absurd cc)
 
 -- ---- atoms
 
--- a term begins with a word
+-- a sum begins with a word or a number
 term-begins : (t : PlainTerm) (tokens rest : List Terminal) → term t tokens rest → frame_at tokens ≡ None
-term-begins (Applied text NoTerms) tokens rest p = subst (λ (l : List Terminal). frame_at l ≡ None) (sym p.1) refl
-term-begins (Applied text (MoreTerms first others)) tokens rest p = subst (λ (l : List Terminal). frame_at l ≡ None) (sym p.1.1) refl
+term-begins (Applied text NoSums) tokens rest p = subst (λ (l : List Terminal). frame_at l ≡ None) (sym p.1) refl
+term-begins (Applied text (MoreSums first others)) tokens rest p = subst (λ (l : List Terminal). frame_at l ≡ None) (sym p.1.1) refl
+
+piece-begins : (x : PlainPiece) (tokens rest : List Terminal) → piece x tokens rest → frame_at tokens ≡ None
+piece-begins (Numeral n) tokens rest p = subst (λ (l : List Terminal). frame_at l ≡ None) (sym p.1) refl
+piece-begins (Called t) tokens rest p = term-begins t tokens rest p
+
+sum-begins : (s : PlainSum) (tokens rest : List Terminal) → sum s tokens rest → frame_at tokens ≡ None
+sum-begins (Summed first others) tokens rest p = piece-begins first tokens p.0 p.1
 
 bare-again : (t : PlainTerm) (s : ℕ) (tokens rest : List Terminal) → term t tokens rest → Follows s rest → atom_at tokens ≡ Some (trees.Bare t, rest)
 unfolding atom_at
-bare-again t s tokens rest p follows = rw (term-reader.again t tokens rest p follows.0, follows.1, follows.2) refl
+bare-again t s tokens rest p follows =
+    let spelled : sum (Summed (Called t) NoAddends) tokens rest = (rest, p, refl) in
+    rw (sum-reader.again (Summed (Called t) NoAddends) tokens rest spelled follows.0, follows.1) refl
 
-side-again : (left : PlainTerm) (make : PlainTerm → PlainTerm → PlainTree) (t : PlainTerm) (s : ℕ) (tokens rest : List Terminal) → term t tokens rest → Follows s rest
-    → side_at left make tokens ≡ Some (make left t, rest)
-side-again left make t s tokens rest p follows = rw (term-reader.again t tokens rest p follows.0) refl
+comparison-ends : (comparison : Comparison) (rest : List Terminal) → ends_sum (Sign (comparing comparison) ∷ rest) ≡ true
+comparison-ends IsEqual rest = refl
+comparison-ends Differs rest = refl
+comparison-ends IsLess rest = refl
+comparison-ends IsAtMost rest = refl
+comparison-ends IsMore rest = refl
+comparison-ends IsAtLeast rest = refl
 
-equal-again : (t u : PlainTerm) (s : ℕ) (tokens rest : List Terminal) → (term t ▸ sign marks.Equal ▸ term u) tokens rest → Follows s rest → atom_at tokens ≡ Some (trees.Equal t u, rest)
+compared-again : (comparison : Comparison) (x y : PlainSum) (s : ℕ) (tokens rest : List Terminal) → (sum x ▸ sign (comparing comparison) ▸ sum y) tokens rest → Follows s rest
+    → atom_at tokens ≡ Some (trees.Compared comparison x y, rest)
 unfolding atom_at
-equal-again t u s tokens rest p follows =
-    let ends : ends_term p.0 ≡ true = rw p.2.1 refl in
-    rw (term-reader.again t tokens p.0 p.1 ends, sign-again marks.Equal p.0 p.2.0 p.2.1) (side-again t trees.Equal u s p.2.0 rest p.2.2 follows)
-
-differ-again : (t u : PlainTerm) (s : ℕ) (tokens rest : List Terminal) → (term t ▸ sign marks.NotEqual ▸ term u) tokens rest → Follows s rest → atom_at tokens ≡ Some (trees.Differ t u, rest)
-unfolding atom_at
-differ-again t u s tokens rest p follows =
-    let ends : ends_term p.0 ≡ true = rw p.2.1 refl in
-    let other : sign_at marks.Equal p.0 ≡ None = rw p.2.1 refl in
-    rw (term-reader.again t tokens p.0 p.1 ends, other, sign-again marks.NotEqual p.0 p.2.0 p.2.1) (side-again t trees.Differ u s p.2.0 rest p.2.2 follows)
+compared-again comparison x y s tokens rest p follows =
+    let ends : ends_sum p.0 ≡ true = ap ends_sum p.2.1 ∙ comparison-ends comparison p.2.0 in
+    let here : comparison_at p.0 ≡ Some (comparison, p.2.0) = ap comparison_at p.2.1 ∙ comparison-here comparison p.2.0 in
+    rw (sum-reader.again x tokens p.0 p.1 ends, here, sum-reader.again y p.2.0 rest p.2.2 follows.0) refl
 
 -- ---- formulas
 
@@ -140,15 +143,10 @@ bare-claim : (t : PlainTerm) → Claim (trees.Bare t)
 bare-claim t s frames tokens rest result p le follows gives =
     wants-atom (trees.Bare t) frames tokens rest result (term-begins t tokens rest p) (bare-again t s tokens rest p follows) (formula-shorter (trees.Bare t) s tokens rest p) gives
 
-equal-claim : (t u : PlainTerm) → Claim (trees.Equal t u)
-equal-claim t u s frames tokens rest result p le follows gives =
-    wants-atom (trees.Equal t u) frames tokens rest result (term-begins t tokens p.0 p.1) (equal-again t u s tokens rest p follows)
-    (formula-shorter (trees.Equal t u) s tokens rest p) gives
-
-differ-claim : (t u : PlainTerm) → Claim (trees.Differ t u)
-differ-claim t u s frames tokens rest result p le follows gives =
-    wants-atom (trees.Differ t u) frames tokens rest result (term-begins t tokens p.0 p.1) (differ-again t u s tokens rest p follows)
-    (formula-shorter (trees.Differ t u) s tokens rest p) gives
+compared-claim : (comparison : Comparison) (x y : PlainSum) → Claim (trees.Compared comparison x y)
+compared-claim comparison x y s frames tokens rest result p le follows gives =
+    wants-atom (trees.Compared comparison x y) frames tokens rest result (sum-begins x tokens p.0 p.1) (compared-again comparison x y s tokens rest p follows)
+    (formula-shorter (trees.Compared comparison x y) s tokens rest p) gives
 
 -- a frame that ends before each operator that may follow is closed there
 gone_on-filled : (frame : PlainFrame) (frames : List PlainFrame) (tree : PlainTree) (rest : List Terminal) → ends_before 4 frame ≡ true
@@ -229,7 +227,7 @@ binary-claim op f g left right s frames tokens rest result p le follows gives =
     let goes : gone_on frames f between ≡ Some (Left op f ∷ frames, Wants after) = rw (at_sign, operator-here op after, stays op frames f (omega arith)) refl in
     let same : gone_on (Left op f ∷ frames) g rest ≡ gone_on frames (joined op f g) rest =
     gone_on-filled (Left op f) frames g rest (le-leb (strength op) 4 (strength-most op))
-    (λ read q. let more = follows.3 read q in le-leb (strength op) (left_strength read.0) (omega arith)) in
+    (λ read q. let more = follows.2 read q in le-leb (strength op) (left_strength read.0) (omega arith)) in
     left (left_strength op) frames tokens between result first (omega arith) may
     (has-next frames (Left op f ∷ frames) f between after (Wants after) result goes ((sign-literal (mark_of op)).shorter between after at_sign)
     (right (right_strength op) (Left op f ∷ frames) after rest result parts.1.2.2 (omega arith) (follows-less (right_strength op) s rest (omega arith) follows)
@@ -237,8 +235,7 @@ binary-claim op f g left right s frames tokens rest result p le follows gives =
 
 pub claim : (tree : PlainTree) → Claim tree
 claim (trees.Bare t) = bare-claim t
-claim (trees.Equal t u) = equal-claim t u
-claim (trees.Differ t u) = differ-claim t u
+claim (trees.Compared comparison x y) = compared-claim comparison x y
 claim (trees.Paren f) = paren-claim f (claim f)
 claim (trees.Not f) = not-claim f (claim f)
 claim (trees.Both f g) = binary-claim operators.Both f g (claim f) (claim g)

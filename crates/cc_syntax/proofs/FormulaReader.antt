@@ -1,21 +1,39 @@
 -- The reader of formulas reads what the grammar spells.
 use Rattle.std.proofs.Common.{◌≡◌, zero, suc, true, false, List, [], ◌∷◌, length, Some, None, refl, ap, arith}
 use Rattle.cc_defs.specs.declared.token.Mark.TheVariants as marks
-use Rattle.cc_defs.specs.Trees.{PlainTree}
-use Rattle.cc_defs.specs.Grammar.{Terminal, Sign, formula}
+use Rattle.cc_defs.specs.Trees.{PlainTree, Comparison, IsEqual, Differs, IsLess, IsAtMost, IsMore, IsAtLeast}
+use Rattle.cc_defs.specs.Grammar.{Terminal, Sign, comparing, formula}
 use Rattle.cc_syntax.specs.declared.operators.Operator.{Operator}
 use Rattle.cc_syntax.specs.declared.operators.Operator.TheVariants as operators
-use Rattle.cc_syntax.specs.Operators.{operator_at}
+use Rattle.cc_syntax.specs.Operators.{comparison_at, operator_at}
 use Rattle.cc_syntax.specs.Formulas.{Wants, Has, gone_on, run_from, formula_at}
-use Rattle.cc_syntax.proofs.IsReader.{IsReader, ends_term, ends_formula}
-use Rattle.cc_syntax.proofs.TermReader.{none-of, sign-none}
+use Rattle.cc_syntax.proofs.IsReader.{IsReader, ends_sum, ends_formula}
+use Rattle.cc_syntax.proofs.Comparisons.{comparison-takes}
+use Rattle.cc_syntax.proofs.TermReader.{none-of}
 use Rattle.cc_syntax.proofs.Strengths.{mark_of, operator-takes, formula-shorter}
 use Rattle.cc_syntax.proofs.FormulaTakes.{run-takes}
 use Rattle.cc_syntax.proofs.FormulaAgain.{Gives, Follows, claim}
 
-ends-term : (rest : List Terminal) → ends_formula rest ≡ true → ends_term rest ≡ true
-ends-term (Sign marks.LeftParen ∷ rest) e = absurd cc
-ends-term rest e = refl
+pub formula-sum : (rest : List Terminal) → ends_formula rest ≡ true → ends_sum rest ≡ true
+formula-sum (Sign marks.LeftParen ∷ rest) e = absurd cc
+formula-sum (Sign marks.Plus ∷ rest) e = absurd cc
+formula-sum (Sign marks.Minus ∷ rest) e = absurd cc
+formula-sum rest e = refl
+
+comparison-bars : (comparison : Comparison) (rest : List Terminal) → ends_formula (Sign (comparing comparison) ∷ rest) ≡ false
+comparison-bars IsEqual rest = refl
+comparison-bars Differs rest = refl
+comparison-bars IsLess rest = refl
+comparison-bars IsAtMost rest = refl
+comparison-bars IsMore rest = refl
+comparison-bars IsAtLeast rest = refl
+
+no-comparison : (rest : List Terminal) → ends_formula rest ≡ true → comparison_at rest ≡ None
+no-comparison rest e =
+    none-of (comparison_at rest) (λ read q.
+    let same = ap ends_formula (comparison-takes rest read q) in
+    let bar = comparison-bars read.0 read.1 in
+    absurd cc)
 
 operator-bars : (op : Operator) (rest : List Terminal) → ends_formula (Sign (mark_of op) ∷ rest) ≡ false
 operator-bars operators.Both rest = refl
@@ -31,12 +49,7 @@ no-operator rest e =
     absurd cc)
 
 end-follows : (rest : List Terminal) → ends_formula rest ≡ true → Follows 4 rest
-end-follows rest e = (
-  ends-term rest e,
-  sign-none ends_formula marks.Equal rest (λ after. refl) e,
-  sign-none ends_formula marks.NotEqual rest (λ after. refl) e,
-  λ read q. let none = no-operator rest e in absurd cc,
-)
+end-follows rest e = (formula-sum rest e, no-comparison rest e, λ read q. let none = no-operator rest e in absurd cc)
 
 end-gives : (f : PlainTree) (rest : List Terminal) → ends_formula rest ≡ true → Gives [] (Has f rest) (Some (f, rest))
 unfolding run_from gone_on

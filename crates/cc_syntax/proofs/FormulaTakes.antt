@@ -3,16 +3,17 @@ use Rattle.std.proofs.Common.{◌≡◌, ◌⊎◌, ℕ, zero, suc, ◌≤◌, B
 use Rattle.std.proofs.lemmas.Bool.{leb-true, leb-false}
 use Rattle.cc_defs.specs.declared.token.Mark.{Mark}
 use Rattle.cc_defs.specs.declared.token.Mark.TheVariants as marks
-use Rattle.cc_defs.specs.Trees.{PlainTerm, PlainTree}
+use Rattle.cc_defs.specs.Trees.{PlainTerm, PlainPiece, Numeral, Called, PlainSum, Summed, NoAddends, MoreAddends, PlainTree, Comparison}
 use Rattle.cc_defs.specs.Trees as trees
-use Rattle.cc_defs.specs.Grammar.{Terminal, Sign, Spelling, sign, name, term, ◌▸◌, where_it, formula_of}
+use Rattle.cc_defs.specs.Grammar.{Terminal, Sign, Spelling, sign, name, term, sum, piece, comparing, ◌▸◌, where_it, formula_of}
 use Rattle.cc_syntax.specs.declared.operators.Operator.{Operator}
 use Rattle.cc_syntax.specs.Readers.{◌>>=◌, name_at, sign_at, ◌◁◌}
-use Rattle.cc_syntax.specs.Terms.{term_at}
-use Rattle.cc_syntax.specs.Operators.{operator_at, strength, left_strength, right_strength}
-use Rattle.cc_syntax.specs.Formulas.{PlainFrame, Not, Paren, ForAll, Exists, Left, filled, ends_before, closed, closing, Wants, Has, Ends, variable_at, quantifier_at, bracket_at, frame_at, side_at, atom_at, Held, begun, shut, pushed, gone_on, run_from}
+use Rattle.cc_syntax.specs.Terms.{sum_at}
+use Rattle.cc_syntax.specs.Operators.{comparison_at, operator_at, strength, left_strength, right_strength}
+use Rattle.cc_syntax.specs.Formulas.{PlainFrame, Not, Paren, ForAll, Exists, Left, filled, ends_before, closed, closing, Wants, Has, Ends, variable_at, quantifier_at, bracket_at, frame_at, named_of, alone_of, side_at, bare_at, atom_at, Held, begun, shut, pushed, gone_on, run_from}
 use Rattle.cc_syntax.proofs.Singles.{bind_some, given_cases, some-is, sign-literal, name-reader}
-use Rattle.cc_syntax.proofs.TermReader.{term-reader}
+use Rattle.cc_syntax.proofs.Comparisons.{comparison-takes}
+use Rattle.cc_syntax.proofs.TermReader.{sum-reader}
 use Rattle.cc_syntax.proofs.Strengths.{mark_of, operator-takes, strength-most, parts-joined, room_of, room, frame-tells, weaker}
 
 sign-takes : (mark : Mark) (tokens rest : List Terminal) → sign_at mark tokens ≡ Some rest → sign mark tokens rest
@@ -69,35 +70,39 @@ frame-takes most tokens read e =
           ]
     ]
 
-side-takes : (left : PlainTerm) (make : PlainTerm → PlainTerm → PlainTree) (tokens : List Terminal) (read : PlainTree × List Terminal) → side_at left make tokens ≡ Some read
-    → (right : PlainTerm) × (read.0 ≡ make left right) × term right tokens read.1
-side-takes left make tokens read e =
-    let right = bind_some (term_at tokens) (λ right. Some (make left right.0, right.1)) read e in
-    let same = some-is (make left right.0.0, right.0.1) read right.2 in (
+side-takes : (comparison : Comparison) (left : PlainSum) (tokens : List Terminal) (read : PlainTree × List Terminal) → side_at comparison left tokens ≡ Some read
+    → (right : PlainSum) × (read.0 ≡ trees.Compared comparison left right) × sum right tokens read.1
+side-takes comparison left tokens read e =
+    let right = bind_some (sum_at tokens) (λ right. Some (trees.Compared comparison left right.0, right.1)) read e in
+    let same = some-is (trees.Compared comparison left right.0.0, right.0.1) read right.2 in (
       right.0.0,
       sym (ap (λ (r : PlainTree × List Terminal). r.0) same),
-      subst (λ (l : List Terminal). term right.0.0 tokens l) (ap (λ (r : PlainTree × List Terminal). r.1) same) (term-reader.takes tokens right.0 right.1),
+      subst (λ (l : List Terminal). sum right.0.0 tokens l) (ap (λ (r : PlainTree × List Terminal). r.1) same) (sum-reader.takes tokens right.0 right.1),
     )
+
+-- a sum that is one term is spelled as the term
+alone-spelled : (s : PlainSum) (t : PlainTerm) (tokens rest : List Terminal) → alone_of s ≡ Some t → sum s tokens rest → term t tokens rest
+alone-spelled (Summed (Called u) NoAddends) t tokens rest e p =
+    subst (λ (l : List Terminal). term t tokens l) p.2 (subst (λ (z : PlainTerm). term z tokens p.0) (some-is u t e) p.1)
+alone-spelled (Summed (Numeral n) NoAddends) t tokens rest e p = absurd cc
+alone-spelled (Summed first (MoreAddends minus second others)) t tokens rest e p = absurd cc
+
+bare-takes : (s : PlainSum) (tokens after : List Terminal) (read : PlainTree × List Terminal) → bare_at s after ≡ Some read → sum s tokens after → formula_of 0 read.0 tokens read.1
+bare-takes s tokens after read e p =
+    let t = bind_some (alone_of s) (λ t. Some (trees.Bare t, after)) read e in
+    subst (λ (r : PlainTree × List Terminal). formula_of 0 r.0 tokens r.1) (some-is (trees.Bare t.0, after) read t.2) (alone-spelled s t.0 tokens after t.1 p)
 
 atom-takes : (tokens : List Terminal) (read : PlainTree × List Terminal) → atom_at tokens ≡ Some read → formula_of 0 read.0 tokens read.1
 unfolding atom_at
 atom-takes tokens read e =
-    let left = bind_some (term_at tokens) _ read e in
-    let spelled = term-reader.takes tokens left.0 left.1 in
-    elim (given_cases (sign_at marks.Equal left.0.1) _ _ _ left.2) [
-      | inl equal ↦
-          let right = side-takes left.0.0 trees.Equal equal.0 read equal.2 in
+    let left = bind_some (sum_at tokens) _ read e in
+    let spelled = sum-reader.takes tokens left.0 left.1 in
+    elim (given_cases (comparison_at left.0.1) _ _ _ left.2) [
+      | inl compared ↦
+          let right = side-takes compared.0.0 left.0.0 compared.0.1 read compared.2 in
           subst (λ (f : PlainTree). formula_of 0 f tokens read.1) (sym right.1)
-          (left.0.1, spelled, (equal.0, sign-takes marks.Equal left.0.1 equal.0 equal.1, right.2))
-      | inr other ↦
-          elim (given_cases (sign_at marks.NotEqual left.0.1) _ _ _ other.1) [
-            | inl differ ↦
-                let right = side-takes left.0.0 trees.Differ differ.0 read differ.2 in
-                subst (λ (f : PlainTree). formula_of 0 f tokens read.1) (sym right.1)
-                (left.0.1, spelled, (differ.0, sign-takes marks.NotEqual left.0.1 differ.0 differ.1, right.2))
-            | inr bare ↦
-                subst (λ (r : PlainTree × List Terminal). formula_of 0 r.0 tokens r.1) (some-is (trees.Bare left.0.0, left.0.1) read bare.1) spelled
-          ]
+          (left.0.1, spelled, (compared.0.1, comparison-takes left.0.1 compared.0 compared.1, right.2))
+      | inr alone ↦ bare-takes left.0.0 tokens left.0.1 read alone.1 spelled
     ]
 
 -- ---- what is held

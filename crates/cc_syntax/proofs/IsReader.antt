@@ -25,11 +25,24 @@ abbrev pub ends_term : List Terminal → Bool
 ends_term (Sign marks.LeftParen ∷ rest) = false
 ends_term rest = true
 
+-- a sum may end before this
+abbrev pub ends_sum : List Terminal → Bool
+ends_sum (Sign marks.LeftParen ∷ rest) = false
+ends_sum (Sign marks.Plus ∷ rest) = false
+ends_sum (Sign marks.Minus ∷ rest) = false
+ends_sum rest = true
+
 -- a formula may end before this
 abbrev pub ends_formula : List Terminal → Bool
 ends_formula (Sign marks.LeftParen ∷ rest) = false
+ends_formula (Sign marks.Plus ∷ rest) = false
+ends_formula (Sign marks.Minus ∷ rest) = false
 ends_formula (Sign marks.Equal ∷ rest) = false
 ends_formula (Sign marks.NotEqual ∷ rest) = false
+ends_formula (Sign marks.Less ∷ rest) = false
+ends_formula (Sign marks.AtMost ∷ rest) = false
+ends_formula (Sign marks.More ∷ rest) = false
+ends_formula (Sign marks.AtLeast ∷ rest) = false
 ends_formula (Sign marks.And ∷ rest) = false
 ends_formula (Sign marks.Or ∷ rest) = false
 ends_formula (Sign marks.Arrow ∷ rest) = false

@@ -4,17 +4,17 @@ use Rattle.std.specs.Prelude.{codes}
 use Rattle.std.specs.Cmp.Derive.{both_true}
 use Rattle.std.proofs.lemmas.Bool.{and_parts}
 use Rattle.cc_defs.specs.declared.token.Mark.TheVariants as marks
-use Rattle.cc_defs.specs.Trees.{PlainTerm, Applied, NoTerms, MoreTerms, PlainTree, PlainLaw, Caused, Constraint, Always, Nonexecutable, Default, Exogenous, Inertial, Causes, MayCause, NoConcurrency, PlainPart, Law}
+use Rattle.cc_defs.specs.Trees.{PlainTerm, Applied, NoSums, MoreSums, PlainPiece, Numeral, Called, PlainSum, Summed, PlainTree, PlainLaw, Caused, Constraint, Always, Nonexecutable, Default, Exogenous, Inertial, Causes, MayCause, NoConcurrency, PlainPart, Law}
 use Rattle.cc_defs.specs.Trees as trees
-use Rattle.cc_defs.specs.Grammar.{Terminal, Word, Sign, Spelling, ◌▸◌, never, word, optional, is_name, is_value_word, term, formula_of, formula, law, tested_law}
+use Rattle.cc_defs.specs.Grammar.{Terminal, Word, Sign, Spelling, ◌▸◌, never, word, optional, is_name, is_value_word, term, sum, piece, formula_of, formula, law, tested_law}
 use Rattle.cc_syntax.specs.Readers.{Literal, word_at, optional_at}
 use Rattle.cc_syntax.specs.Formulas.{formula_at}
 use Rattle.cc_syntax.specs.Laws.{if_at, caused_at, effect_at, alone_at, of_term_at, worded_at, acting_at, opens_formula, law_at, tested_law_at}
 use Rattle.cc_syntax.proofs.IsReader.{IsReader, IsLiteral, ends_term, ends_formula}
 use Rattle.cc_syntax.proofs.Singles.{word-literal}
 use Rattle.cc_syntax.proofs.Combined.{IsPart, as_part, respelled, stopped, part_stopped, lacks, behind, made_by, made, made_part, paired_by, pair, led_by, leading, leading_part, by_choice, choice, nothing_for, nothing, none_for, refusing, option}
-use Rattle.cc_syntax.proofs.FormulaReader.{formula-reader}
-use Rattle.cc_syntax.proofs.TermReader.{term-reader}
+use Rattle.cc_syntax.proofs.FormulaReader.{formula-sum, formula-reader}
+use Rattle.cc_syntax.proofs.TermReader.{sum-term, term-reader}
 
 -- ---- where laws end
 
@@ -39,8 +39,7 @@ law-after rest s =
     (and_parts (ends_if rest) (lacks (word_at (codes "after")) rest) s).1
 
 formula-term : (rest : List Terminal) → ends_formula rest ≡ true → ends_term rest ≡ true
-formula-term (Sign marks.LeftParen ∷ rest) e = e
-formula-term rest e = refl
+formula-term rest e = sum-term rest (formula-sum rest e)
 
 -- what may end before the word and before the rest may end before what is optional
 ends-before : (ends : List Terminal → Bool) (text : List ℕ) → ((rest : List Terminal) → ends (Word text ∷ rest) ≡ true)
@@ -228,13 +227,19 @@ or_left true b e = refl
 or_left false b e = absurd cc
 
 term-opens : (t : PlainTerm) (tokens rest : List Terminal) → term t tokens rest → opens_formula tokens ≡ true
-term-opens (Applied text NoTerms) tokens rest p = ap opens_formula p.1 ∙ p.0
-term-opens (Applied text (MoreTerms first others)) tokens rest p = ap opens_formula p.1.1 ∙ or_left (is_name text) (is_value_word text) p.1.0
+term-opens (Applied text NoSums) tokens rest p = ap opens_formula p.1 ∙ p.0
+term-opens (Applied text (MoreSums first others)) tokens rest p = ap opens_formula p.1.1 ∙ or_left (is_name text) (is_value_word text) p.1.0
+
+piece-opens : (x : PlainPiece) (tokens rest : List Terminal) → piece x tokens rest → opens_formula tokens ≡ true
+piece-opens (Numeral n) tokens rest p = ap opens_formula p.1
+piece-opens (Called t) tokens rest p = term-opens t tokens rest p
+
+sum-opens : (s : PlainSum) (tokens rest : List Terminal) → sum s tokens rest → opens_formula tokens ≡ true
+sum-opens (Summed first others) tokens rest p = piece-opens first tokens p.0 p.1
 
 pub formula-opens : (strength : ℕ) (f : PlainTree) (tokens rest : List Terminal) → formula_of strength f tokens rest → opens_formula tokens ≡ true
 formula-opens strength (trees.Bare s) tokens rest p = term-opens s tokens rest p
-formula-opens strength (trees.Equal s t) tokens rest p = term-opens s tokens p.0 p.1
-formula-opens strength (trees.Differ s t) tokens rest p = term-opens s tokens p.0 p.1
+formula-opens strength (trees.Compared comparison s t) tokens rest p = sum-opens s tokens p.0 p.1
 formula-opens strength (trees.Paren f) tokens rest p = ap opens_formula p.1
 formula-opens strength (trees.Not f) tokens rest p = ap opens_formula p.1
 formula-opens strength (trees.Both f g) tokens rest p = formula-opens 1 f tokens p.1.0 p.1.1

@@ -1,5 +1,7 @@
+pub mod Addends
 pub mod Arguments
 pub mod Combined
+pub mod Comparisons
 pub mod DeclarationReaders
 pub mod FormulaAgain
 pub mod FormulaReader
@@ -13,7 +15,6 @@ pub mod Places
 pub mod QueryReaders
 pub mod QuotedNames
 pub mod Quotes
-pub mod Seen
 pub mod Singles
 pub mod Stacks
 pub mod Statements

@@ -4,14 +4,14 @@ use Rattle.std.specs.Prelude.{codes}
 use Rattle.cc_defs.specs.declared.token.Mark.TheVariants as marks
 use Rattle.cc_defs.specs.Tokens.{TokenView, AreTokens}
 use Rattle.cc_defs.specs.Trees.{PlainTree, PlainLaw, PlainPart, PlainStatement, Sorts, Objects, Variables, Constants, Query, Include, Law, Caused, Constraint, Always, Nonexecutable, Default, Exogenous, Inertial, Causes, MayCause, NoConcurrency}
-use Rattle.cc_defs.specs.Grammar.{Terminal, Word, Quoted, Sign, Spelling, ◌▸◌, sign, word, listed, terminals, sort_item, list_item, const_item, query_item, tested_law, directive, part}
+use Rattle.cc_defs.specs.Grammar.{Terminal, Word, Quoted, Sign, Spelling, ◌▸◌, sign, word, listed, terminals, sort_item, obj_item, list_item, const_item, query_item, tested_law, directive, part}
 use Rattle.cc_syntax.specs.Readers.{Reader, ◌>>=◌, sign_at, word_at, ◌◁◌}
 use Rattle.cc_syntax.specs.Laws.{opens_formula}
 use Rattle.cc_syntax.specs.Parsing.{items_at, include_at, directive_at, part_at, nothing_left, statement_at, OneTree}
 use Rattle.cc_syntax.proofs.IsReader.{IsReader, anywhere}
 use Rattle.cc_syntax.proofs.Singles.{bind_some, some-is, sign-literal, word-literal}
 use Rattle.cc_syntax.proofs.Combined.{as_part, respelled, stopped, lacks, before, made_by, made, by_choice, choice, none_for, refusing, items}
-use Rattle.cc_syntax.proofs.DeclarationReaders.{sort_item-reader, list_item-reader, const_item-reader}
+use Rattle.cc_syntax.proofs.DeclarationReaders.{sort_item-reader, obj_item-reader, list_item-reader, const_item-reader}
 use Rattle.cc_syntax.proofs.QueryReaders.{query_item-reader}
 use Rattle.cc_syntax.proofs.LawReaders.{formula-opens, tested_part, tested_law-reader, opening-lacks}
 use Rattle.cc_syntax.proofs.QuotedNames.{in_quotes, unquoted-is, quoted-among, quoted_token, quoted-reader}
@@ -57,7 +57,7 @@ read_part (Law l test) = part (Law l test)
 abbrev some_directive : PlainPart → Spelling
 some_directive =
     by_choice (word_at (codes "sorts")) (word (codes "sorts")) (made_by Sorts (listed sort_item marks.Semicolon))
-    (by_choice (word_at (codes "objects")) (word (codes "objects")) (made_by Objects (listed list_item marks.Semicolon))
+    (by_choice (word_at (codes "objects")) (word (codes "objects")) (made_by Objects (listed obj_item marks.Semicolon))
     (by_choice (word_at (codes "variables")) (word (codes "variables")) (made_by Variables (listed list_item marks.Semicolon))
     (by_choice (word_at (codes "constants")) (word (codes "constants")) (made_by Constants (listed const_item marks.Semicolon))
     (by_choice (word_at (codes "query")) (word (codes "query")) (made_by Query (listed query_item marks.Semicolon))
@@ -67,7 +67,7 @@ directive-reader : IsReader directive_at some_directive at_dot
 unfolding directive_at
 directive-reader =
     choice (word-literal (codes "sorts")) (as_part (listed-reader Sorts sort_item-reader (λ rest. refl) (λ rest. refl)))
-    (choice (word-literal (codes "objects")) (as_part (listed-reader Objects list_item-reader (λ rest. refl) (λ rest. refl)))
+    (choice (word-literal (codes "objects")) (as_part (listed-reader Objects obj_item-reader (λ rest. refl) (λ rest. refl)))
     (choice (word-literal (codes "variables")) (as_part (listed-reader Variables list_item-reader (λ rest. refl) (λ rest. refl)))
     (choice (word-literal (codes "constants")) (as_part (listed-reader Constants const_item-reader (λ rest. refl) (λ rest. refl)))
     (choice (word-literal (codes "query")) (as_part (listed-reader Query query_item-reader (λ rest. refl) (λ rest. refl)))

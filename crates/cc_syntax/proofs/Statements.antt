@@ -13,7 +13,7 @@ use Rattle.cc_defs.specs.declared.token.Token.{Token}
 use Rattle.cc_defs.specs.declared.tree.Part.{Part}
 use Rattle.cc_defs.specs.Grammar.{Terminal, terminals}
 use Rattle.cc_defs.specs.Limits.{limit_number}
-use Rattle.cc_defs.specs.Statements.{token_limit, is_too_long, has_not_yet, refusal_at, NoTree, IsParsed, IsRefused}
+use Rattle.cc_defs.specs.Statements.{token_limit, is_too_long, refusal_at, NoTree, IsParsed, IsRefused}
 use Rattle.cc_defs.specs.Tokens.{TokenView, AreTokens, first_line}
 use Rattle.cc_defs.specs.Trees.{PlainPart, PlainStatement, plain_part, plain_statement}
 use Rattle.cc_syntax.specs.declared.stop.Stop.{Stop}
@@ -57,41 +57,34 @@ line_of [] other some = absurd (omega (arith, some))
 line_of (token ∷ tokens) other some = refl
 
 pub is_parsed : (tokens : List Token) (part : Part) (other : Token) → 0 < length tokens → AreTokens (token_views tokens) →
-    IsFalse (is_too_long (seen tokens)) → IsFalse (has_not_yet (seen tokens)) → statement_at (seen tokens) ≡ Some (plain_part part) →
+    IsFalse (is_too_long (seen tokens)) → statement_at (seen tokens) ≡ Some (plain_part part) →
     IsParsed (token_views tokens) (plain_statement record { part = part; line = (slice_index_or tokens 0 other).line })
-is_parsed tokens part other some are short known found = record {
+is_parsed tokens part other some are short found = record {
   short = short;
-  known = known;
   spelled = record { whole = statement-takes (token_views tokens) are (plain_part part) found; line = sym (line_of tokens other some) };
 }
 
-pub is_refused : (tokens : List Token) (file : ℕ) (fault : Fault) → IsFalse (is_too_long (seen tokens)) → IsFalse (has_not_yet (seen tokens)) →
+pub is_refused : (tokens : List Token) (file : ℕ) (fault : Fault) → IsFalse (is_too_long (seen tokens)) →
     statement_at (seen tokens) ≡ None → fault ≡ faults.Refused (refusal_at 3 file None (token_views tokens)) →
     HasRefused file (token_views tokens) fault
-is_refused tokens file fault short known nothing is_fault =
-    subst (HasRefused file (token_views tokens)) (sym is_fault) (inr (inr (short, known, nothing_spells (token_views tokens) nothing, refl)))
+is_refused tokens file fault short nothing is_fault =
+    subst (HasRefused file (token_views tokens)) (sym is_fault) (inr (short, nothing_spells (token_views tokens) nothing, refl))
 
 -- ---- each list of tokens has a tree, or is refused
 
-read-or-refused : (file : ℕ) (tokens : List TokenView) → AreTokens tokens → IsFalse (is_too_long (terminals tokens)) → IsFalse (has_not_yet (terminals tokens)) →
+read-or-refused : (file : ℕ) (tokens : List TokenView) → AreTokens tokens → IsFalse (is_too_long (terminals tokens)) →
     (read : Option PlainPart) → statement_at (terminals tokens) ≡ read →
     ((tree : PlainStatement) × IsParsed tokens tree) ⊎ ((refusal : Refusal) × IsRefused file tokens refusal)
-read-or-refused file tokens are short known (Some p) found =
-    inl (record { part = p; line = first_line tokens }, record { short = short; known = known; spelled = record { whole = statement-takes tokens are p found; line = refl } })
-read-or-refused file tokens are short known None nothing =
-    inr (refusal_at 3 file None tokens, inr (inr (short, known, nothing_spells tokens nothing, refl)))
-
-known-or-refused : (file : ℕ) (tokens : List TokenView) → AreTokens tokens → IsFalse (is_too_long (terminals tokens)) →
-    (not_yet : Bool) → has_not_yet (terminals tokens) ≡ not_yet →
-    ((tree : PlainStatement) × IsParsed tokens tree) ⊎ ((refusal : Refusal) × IsRefused file tokens refusal)
-known-or-refused file tokens are short true unknown = inr (refusal_at 13 file None tokens, inr (inl (short, unknown, refl)))
-known-or-refused file tokens are short false known = read-or-refused file tokens are short known (statement_at (terminals tokens)) refl
+read-or-refused file tokens are short (Some p) found =
+    inl (record { part = p; line = first_line tokens }, record { short = short; spelled = record { whole = statement-takes tokens are p found; line = refl } })
+read-or-refused file tokens are short None nothing =
+    inr (refusal_at 3 file None tokens, inr (short, nothing_spells tokens nothing, refl))
 
 short-or-refused : (file : ℕ) (tokens : List TokenView) → AreTokens tokens → (long : Bool) → is_too_long (terminals tokens) ≡ long →
     ((tree : PlainStatement) × IsParsed tokens tree) ⊎ ((refusal : Refusal) × IsRefused file tokens refusal)
 short-or-refused file tokens are true long =
     inr (refusal_at 14 file (Some (token_limit (terminals tokens))) tokens, inl (long, refl))
-short-or-refused file tokens are false short = known-or-refused file tokens are short (has_not_yet (terminals tokens)) refl
+short-or-refused file tokens are false short = read-or-refused file tokens are short (statement_at (terminals tokens)) refl
 
 pub tree-or-refusal : TreeOrRefusal
 tree-or-refusal file tokens are = short-or-refused file tokens are (is_too_long (terminals tokens)) refl

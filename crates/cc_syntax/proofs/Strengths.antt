@@ -5,13 +5,13 @@ use Rattle.cc_defs.specs.declared.token.Mark.{Mark}
 use Rattle.cc_defs.specs.declared.token.Mark.TheVariants as marks
 use Rattle.cc_defs.specs.Trees.{PlainTree}
 use Rattle.cc_defs.specs.Trees as trees
-use Rattle.cc_defs.specs.Grammar.{Terminal, Sign, Spelling, sign, name, term, ◌▸◌, formula_of}
+use Rattle.cc_defs.specs.Grammar.{Terminal, Sign, Spelling, sign, name, sum, comparing, ◌▸◌, formula_of}
 use Rattle.cc_syntax.specs.declared.operators.Operator.{Operator}
 use Rattle.cc_syntax.specs.declared.operators.Operator.TheVariants as operators
 use Rattle.cc_syntax.specs.Operators.{operator_at, strength, left_strength, right_strength, joined}
 use Rattle.cc_syntax.specs.Formulas.{PlainFrame, Not, Paren, ForAll, Exists, Left, ends_before, closed}
 use Rattle.cc_syntax.proofs.Singles.{some-is, sign-literal, name-reader}
-use Rattle.cc_syntax.proofs.TermReader.{term-shorter}
+use Rattle.cc_syntax.proofs.TermReader.{term-shorter, sum-shorter}
 
 -- ---- operators
 
@@ -131,8 +131,7 @@ stays op (frame ∷ frames) tree le =
 
 pub weaker : (f : PlainTree) (s t : ℕ) (tokens rest : List Terminal) → formula_of s f tokens rest → s ≤ t → formula_of t f tokens rest
 weaker (trees.Bare x) s t tokens rest p le = p
-weaker (trees.Equal x y) s t tokens rest p le = p
-weaker (trees.Differ x y) s t tokens rest p le = p
+weaker (trees.Compared comparison x y) s t tokens rest p le = p
 weaker (trees.Paren f) s t tokens rest p le = p
 weaker (trees.Not f) s t tokens rest p le = p
 weaker (trees.Both f g) s t tokens rest p le = let least = p.0 in (omega arith, p.1)
@@ -170,8 +169,7 @@ quantifier-shortens inner mark x one =
 
 pub formula-shorter : (f : PlainTree) (s : ℕ) → Shortens (formula_of s f)
 formula-shorter (trees.Bare x) s = term-shorter x
-formula-shorter (trees.Equal x y) s = binary-shortens (term x) (term y) marks.Equal (term-shorter x) (term-shorter y)
-formula-shorter (trees.Differ x y) s = binary-shortens (term x) (term y) marks.NotEqual (term-shorter x) (term-shorter y)
+formula-shorter (trees.Compared comparison x y) s = binary-shortens (sum x) (sum y) (comparing comparison) (sum-shorter x) (sum-shorter y)
 formula-shorter (trees.Paren f) s =
     behind (sign marks.LeftParen) (formula_of 4 f ▸ sign marks.RightParen) (sign-shortens marks.LeftParen)
     (behind (formula_of 4 f) (sign marks.RightParen) (formula-shorter f 4) (sign-shortens marks.RightParen))

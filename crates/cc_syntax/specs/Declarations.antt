@@ -3,8 +3,8 @@ use Rattle.std.specs.Prelude.{ℕ, List, [], ◌∷◌, Option, Some, None, code
 use Rattle.cc_defs.specs.declared.token.Mark.TheVariants as marks
 use Rattle.cc_defs.specs.declared.tree.KindWord.{KindWord}
 use Rattle.cc_defs.specs.declared.tree.KindWord.TheVariants as kind_words
-use Rattle.cc_defs.specs.Trees.{PlainShape, PlainSortItem, Names, Chain, PlainListItem, PlainKind, Plain, Attribute, PlainConstItem}
-use Rattle.cc_syntax.specs.Readers.{Reader, given, ◌>>=◌, name_at, sign_at, word_at, listed_at, parenthesized_at, paired, ◌▷◌, ◌◁◌}
+use Rattle.cc_defs.specs.Trees.{PlainShape, PlainSortItem, Names, Chain, PlainMember, Name, Numbers, PlainObjItem, PlainListItem, PlainKind, Plain, Attribute, PlainConstItem}
+use Rattle.cc_syntax.specs.Readers.{Reader, given, ◌>>=◌, name_at, numeral_at, sign_at, word_at, listed_at, parenthesized_at, paired, ◌▷◌, ◌◁◌}
 
 abbrev pub names_at : Reader (List (List ℕ))
 names_at = listed_at name_at marks.Comma
@@ -16,6 +16,21 @@ sort_item_at tokens =
     given (sign_at marks.Above first.1)
     (names_at tokens >>= λ names. Some (Names names.0, names.1))
     (λ rest. listed_at name_at marks.Above rest >>= λ names. Some (Chain (first.0 ∷ names.0), names.1))
+
+-- behind a number: the number that it goes to, if the mark is there
+abbrev pub numbers_at : ℕ → Reader PlainMember
+numbers_at low tokens =
+    given (sign_at marks.DotDot tokens) (Some (Numbers low low, tokens)) (λ rest. numeral_at rest >>= λ high. Some (Numbers low high.0, high.1))
+
+unfoldable pub member_at : Reader PlainMember
+member_at tokens =
+    given (numeral_at tokens) (name_at tokens >>= λ text. Some (Name text.0, text.1)) (λ low. numbers_at low.0 low.1)
+
+abbrev pub obj_item_of : List PlainMember → List ℕ → PlainObjItem
+obj_item_of members sort = record { members = members; sort = sort }
+
+unfoldable pub obj_item_at : Reader PlainObjItem
+obj_item_at = paired obj_item_of (listed_at member_at marks.Comma ◁ sign_at marks.DoubleColon) name_at
 
 abbrev pub list_item_of : List (List ℕ) → List ℕ → PlainListItem
 list_item_of names sort = record { names = names; sort = sort }

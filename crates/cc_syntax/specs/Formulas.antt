@@ -3,15 +3,15 @@
 use Rattle.std.specs.Prelude.{ℕ, zero, suc, Bool, true, false, nat_le, if◌then◌else◌, List, [], ◌∷◌, length, map, reverse, Option, Some, None}
 use Rattle.cc_defs.specs.declared.token.Mark.{Mark}
 use Rattle.cc_defs.specs.declared.token.Mark.TheVariants as marks
-use Rattle.cc_defs.specs.Trees.{PlainTerm, PlainTree, plain_tree}
+use Rattle.cc_defs.specs.Trees.{PlainTerm, PlainPiece, Numeral, Called, PlainSum, Summed, PlainAddends, NoAddends, MoreAddends, PlainTree, Comparison, plain_tree}
 use Rattle.cc_defs.specs.Trees as trees
 use Rattle.cc_defs.specs.Grammar.{Terminal}
 use Rattle.cc_syntax.specs.declared.operators.Operator.{Operator}
 use Rattle.cc_syntax.specs.declared.frames.Frame.{Frame}
 use Rattle.cc_syntax.specs.declared.frames.Frame.TheVariants as frames
 use Rattle.cc_syntax.specs.Readers.{Reader, given, ◌>>=◌, name_at, sign_at, ◌◁◌}
-use Rattle.cc_syntax.specs.Terms.{term_at}
-use Rattle.cc_syntax.specs.Operators.{operator_at, strength, left_strength, joined}
+use Rattle.cc_syntax.specs.Terms.{sum_at}
+use Rattle.cc_syntax.specs.Operators.{operator_at, strength, left_strength, joined, comparison_at}
 
 pub data PlainFrame : Type 0 where
   Not : PlainFrame
@@ -82,16 +82,30 @@ bracket_at tokens = given (sign_at marks.LeftParen tokens) (quantifier_at tokens
 abbrev pub frame_at : Reader PlainFrame
 frame_at tokens = given (sign_at marks.Minus tokens) (bracket_at tokens) (λ rest. Some (Not, rest))
 
--- a term, or two with a sign between them
-abbrev pub side_at : PlainTerm → (PlainTerm → PlainTerm → PlainTree) → Reader PlainTree
-side_at left make tokens = term_at tokens >>= λ right. Some (make left right.0, right.1)
+-- whether a sum has pieces behind its first
+abbrev pub has_more : PlainAddends → Bool
+has_more NoAddends = false
+has_more (MoreAddends minus second others) = true
 
+-- the term that a piece is, and that a sum of one piece is
+abbrev pub named_of : PlainPiece → Option PlainTerm
+named_of (Numeral number) = None
+named_of (Called term) = Some term
+
+abbrev pub alone_of : PlainSum → Option PlainTerm
+alone_of (Summed first others) = if has_more others then None else named_of first
+
+-- behind the sign of a comparison
+abbrev pub side_at : Comparison → PlainSum → Reader PlainTree
+side_at comparison left tokens = sum_at tokens >>= λ right. Some (trees.Compared comparison left right.0, right.1)
+
+abbrev pub bare_at : PlainSum → Reader PlainTree
+bare_at sum tokens = alone_of sum >>= λ term. Some (trees.Bare term, tokens)
+
+-- two sums with the sign of a comparison between them, or a term alone
 unfoldable pub atom_at : Reader PlainTree
 atom_at tokens =
-    term_at tokens >>= λ left.
-    given (sign_at marks.Equal left.1)
-    (given (sign_at marks.NotEqual left.1) (Some (trees.Bare left.0, left.1)) (side_at left.0 trees.Differ))
-    (side_at left.0 trees.Equal)
+    sum_at tokens >>= λ left. given (comparison_at left.1) (bare_at left.0 left.1) (λ sign. side_at sign.0 left.0 sign.1)
 
 -- what is held, and where the reading is
 abbrev pub Held : Type 0

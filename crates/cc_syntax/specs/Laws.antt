@@ -2,7 +2,7 @@
 use Rattle.std.specs.Prelude.{Bool, true, false, ◌||◌, if◌then◌else◌, List, ◌∷◌, Option, Some, None, codes}
 use Rattle.cc_defs.specs.declared.token.Mark.TheVariants as marks
 use Rattle.cc_defs.specs.Trees.{PlainTerm, PlainTree, PlainLaw, PlainPart, Caused, Constraint, Always, Nonexecutable, Default, Exogenous, Inertial, Causes, MayCause, NoConcurrency, Law}
-use Rattle.cc_defs.specs.Grammar.{Terminal, Word, Sign, is_name, is_value_word}
+use Rattle.cc_defs.specs.Grammar.{Terminal, Word, Number, Sign, is_name, is_value_word}
 use Rattle.cc_syntax.specs.Readers.{Reader, given, ◌>>=◌, word_at, optional_at, paired}
 use Rattle.cc_syntax.specs.Terms.{term_at}
 use Rattle.cc_syntax.specs.Formulas.{formula_at}
@@ -51,6 +51,7 @@ abbrev pub opens_formula : List Terminal → Bool
 opens_formula (Sign marks.Minus ∷ rest) = true
 opens_formula (Sign marks.LeftParen ∷ rest) = true
 opens_formula (Sign marks.LeftBracket ∷ rest) = true
+opens_formula (Number digits ∷ rest) = true
 opens_formula (Word text ∷ rest) = is_name text || is_value_word text
 opens_formula tokens = false
 

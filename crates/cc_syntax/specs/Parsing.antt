@@ -9,7 +9,7 @@ use Rattle.cc_defs.specs.Trees.{PlainPart, PlainStatement, Sorts, Objects, Varia
 use Rattle.cc_defs.specs.Grammar.{Terminal, Spells}
 use Rattle.cc_defs.specs.Statements.{IsRefused, IsParsed}
 use Rattle.cc_syntax.specs.Readers.{Reader, given, ◌>>=◌, quoted_at, sign_at, word_at, listed_at, ◌◁◌}
-use Rattle.cc_syntax.specs.Declarations.{sort_item_at, list_item_at, const_item_at}
+use Rattle.cc_syntax.specs.Declarations.{sort_item_at, obj_item_at, list_item_at, const_item_at}
 use Rattle.cc_syntax.specs.Queries.{query_item_at}
 use Rattle.cc_syntax.specs.Laws.{tested_law_at}
 
@@ -30,7 +30,7 @@ directive_at tokens =
     given (word_at (codes "query") tokens) (
     given (word_at (codes "include") tokens) None
     include_at) (items_at Query query_item_at)) (items_at Constants const_item_at)) (items_at Variables list_item_at))
-    (items_at Objects list_item_at)) (items_at Sorts sort_item_at)
+    (items_at Objects obj_item_at)) (items_at Sorts sort_item_at)
 
 unfoldable pub part_at : Reader PlainPart
 part_at tokens = given (sign_at marks.Turn tokens) (tested_law_at tokens) directive_at

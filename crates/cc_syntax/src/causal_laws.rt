@@ -2,6 +2,7 @@
 ghost use Rattle.std.specs.Prelude.{◌≡◌, Err, drop, codes, IfOk, None, Option};
 ghost use Rattle.std.specs.Option.{option_map};
 ghost use Rattle.std.specs.Result.{MatchResult};
+ghost use Rattle.cc_defs.specs.Tokens.{AreTokens};
 ghost use Rattle.cc_defs.specs.Trees.{PlainTree, PlainLaw, plain_tree, plain_law, plain_part, plain_term};
 ghost use Rattle.cc_defs.specs.Trees as trees;
 ghost use Rattle.cc_syntax.specs.Formulas.{formula_at};
@@ -9,6 +10,7 @@ ghost use Rattle.cc_syntax.specs.Laws.{caused_at, effect_at, worded_at, acting_a
 ghost use Rattle.cc_syntax.specs.Readers.{given, word_at, optional_at};
 ghost use Rattle.cc_syntax.specs.Terms.{term_at};
 ghost use Rattle.cc_syntax.specs.Views.{seen, Reads, Passes};
+ghost use Rattle.cc_text.specs.Views.{token_views};
 
 use crate::formulas::formula;
 use crate::reading::{made, placed};
@@ -32,6 +34,7 @@ fn optional<'s>(
     at: usize,
     text: &str,
 ) -> Result<(Option<Tree<'s>>, usize), Stop>
+    requires { AreTokens (token_views tokens.now) }
     ensures { Reads (λ read. option_map plain_tree read) tokens.now result (optional_at formula_at text.now (drop at (seen tokens.now))) }
 {
     let Ok(next) = word(tokens, at, text) else {
@@ -49,6 +52,7 @@ fn optional_behind<'s, K: Drop>(
     read: Result<(K, usize), Stop>,
     text: &str,
 ) -> Result<((K, Option<Tree<'s>>), usize), Stop>
+    requires { AreTokens (token_views tokens.now) }
     ensures { MatchResult read
         (λ r. IfOk result (λ both. both.0.0 ≡ r.0) × Reads (λ both. option_map plain_tree both.1) tokens.now result (optional_at formula_at text.now (drop r.1 (seen tokens.now))))
         (λ stop. result ≡ Err stop) }
@@ -61,6 +65,7 @@ fn optional_behind<'s, K: Drop>(
 /// `F if G`, for any law that has it behind its word.
 #[tactic(auto, unfolding(crate::specs::Laws::effect_at))]
 fn effect<'s>(alloc: Global, tokens: &[Token<'s>], at: usize) -> Result<(Effect<'s>, usize), Stop>
+    requires { AreTokens (token_views tokens.now) }
     ensures { (make : PlainTree → Option PlainTree → PlainLaw) →
         Reads (λ read. make (plain_tree read.0) (option_map plain_tree read.1)) tokens.now result (effect_at make (drop at (seen tokens.now))) }
 {
@@ -70,6 +75,7 @@ fn effect<'s>(alloc: Global, tokens: &[Token<'s>], at: usize) -> Result<(Effect<
 /// `F if G after H`, for any law that has it behind its word.
 #[tactic(auto, unfolding(crate::specs::Laws::caused_at))]
 fn caused<'s>(alloc: Global, tokens: &[Token<'s>], at: usize) -> Result<(Caused<'s>, usize), Stop>
+    requires { AreTokens (token_views tokens.now) }
     ensures { (make : PlainTree → Option PlainTree → Option PlainTree → PlainLaw) →
         Reads (λ read. make (plain_tree read.0.0) (option_map plain_tree read.0.1) (option_map plain_tree read.1)) tokens.now result (caused_at make (drop at (seen tokens.now))) }
 {
@@ -108,6 +114,7 @@ fn inertial<'s>(
     tokens: &[Token<'s>],
     at: usize,
 ) -> Result<(TermTree<'s>, usize), Stop>
+    requires { AreTokens (token_views tokens.now) }
     ensures { Reads plain_term tokens.now result (given (word_at (codes "inertial") (drop at (seen tokens.now))) None term_at) }
 {
     let next = word(tokens, at, "inertial")?;
@@ -117,6 +124,7 @@ fn inertial<'s>(
 /// A law that begins with its word.
 #[tactic(auto, unfolding(crate::specs::Laws::worded_at, crate::specs::Laws::alone_at, crate::specs::Laws::of_term_at))]
 fn worded<'s>(alloc: Global, tokens: &[Token<'s>], at: usize) -> Result<(LawTree<'s>, usize), Stop>
+    requires { AreTokens (token_views tokens.now) }
     ensures { Reads plain_law tokens.now result (worded_at (drop at (seen tokens.now))) }
 {
     if let Ok(next) = word(tokens, at, "caused") {
@@ -147,6 +155,7 @@ fn effect_behind<'s, K: Drop>(
     at: usize,
     kept: K,
 ) -> Result<((K, Effect<'s>), usize), Stop>
+    requires { AreTokens (token_views tokens.now) }
     ensures kept { IfOk result (λ read. read.0.0 ≡ kept) }
     ensures read { (make : PlainTree → Option PlainTree → PlainLaw) →
         Reads (λ read. make (plain_tree read.1.0) (option_map plain_tree read.1.1)) tokens.now result (effect_at make (drop at (seen tokens.now))) }
@@ -182,6 +191,7 @@ fn may_cause_words(tokens: &[Token], at: usize) -> Result<usize, Stop>
 /// A law that begins with a formula.
 #[tactic(auto, unfolding(crate::specs::Laws::acting_at))]
 fn acting<'s>(alloc: Global, tokens: &[Token<'s>], at: usize) -> Result<(LawTree<'s>, usize), Stop>
+    requires { AreTokens (token_views tokens.now) }
     ensures { Reads plain_law tokens.now result (acting_at (drop at (seen tokens.now))) }
 {
     let (action, next) = formula(alloc, tokens, at)?;
@@ -203,6 +213,7 @@ fn opens_formula(tokens: &[Token], at: usize) -> bool
     };
     match token.kind {
         TokenKind::Mark(Mark::Minus | Mark::LeftParen | Mark::LeftBracket) => true,
+        TokenKind::Number => true,
         TokenKind::Word => !is_reserved_word(token.text) || is_word_of_value(token.text),
         _ => false,
     }
@@ -210,6 +221,7 @@ fn opens_formula(tokens: &[Token], at: usize) -> bool
 
 /// A law, apart from its test; not `noconcurrency`.
 fn law<'s>(alloc: Global, tokens: &[Token<'s>], at: usize) -> Result<(LawTree<'s>, usize), Stop>
+    requires { AreTokens (token_views tokens.now) }
     ensures { Reads plain_law tokens.now result (law_at (drop at (seen tokens.now))) }
 {
     if opens_formula(tokens, at) {
@@ -240,6 +252,7 @@ pub(crate) fn tested_law<'s>(
     tokens: &[Token<'s>],
     at: usize,
 ) -> Result<(Part<'s>, usize), Stop>
+    requires { AreTokens (token_views tokens.now) }
     ensures { Reads plain_part tokens.now result (tested_law_at (drop at (seen tokens.now))) }
 {
     if let Ok(next) = word(tokens, at, "noconcurrency") {

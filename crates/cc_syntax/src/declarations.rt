@@ -2,14 +2,18 @@
 ghost use Rattle.std.specs.Prelude.{◌≡◌, drop, map};
 ghost use Rattle.std.specs.Option.{option_map};
 ghost use Rattle.cc_defs.specs.declared.token.Mark.TheVariants as marks;
-ghost use Rattle.cc_defs.specs.Trees.{plain_shape, plain_sort_item, plain_list_item, plain_kind, plain_const_item};
-ghost use Rattle.cc_syntax.specs.Declarations.{names_at, sort_item_at, list_item_at, sorts_at, shape_at, kind_word_at, sort_at, attribute_at, kind_at, const_item_at};
+ghost use Rattle.cc_defs.specs.Tokens.{AreTokens};
+ghost use Rattle.cc_defs.specs.Trees.{plain_shape, plain_sort_item, plain_member, plain_obj_item, plain_list_item, plain_kind, plain_const_item};
+ghost use Rattle.cc_syntax.specs.Declarations.{names_at, sort_item_at, numbers_at, member_at, obj_item_at, list_item_at, sorts_at, shape_at, kind_word_at, sort_at, attribute_at, kind_at, const_item_at};
 ghost use Rattle.cc_syntax.specs.Readers.{name_at, listed_at};
 ghost use Rattle.cc_syntax.specs.Views.{seen, Reads};
+ghost use Rattle.cc_text.specs.Views.{token_views};
 
 use crate::stop::Stop;
-use crate::tokens::{name, sign, word};
-use cc_defs::{ConstItem, KindTree, KindWord, List, ListItem, Mark, Shape, SortItem, Token};
+use crate::tokens::{name, numeral, sign, word};
+use cc_defs::{
+    ConstItem, KindTree, KindWord, List, ListItem, Mark, Member, ObjItem, Shape, SortItem, Token,
+};
 use std::alloc::Global;
 
 /// Names with the mark between them.
@@ -54,7 +58,80 @@ pub(crate) fn sort_item<'s>(
     Ok((SortItem::Names(List::of(names)), next))
 }
 
-/// Names of a sort.
+/// The numbers from one that was read to another, or that one alone.
+fn numbers<'s>(tokens: &[Token<'s>], at: usize, low: u32) -> Result<(Member<'s>, usize), Stop>
+    requires { AreTokens (token_views tokens.now) }
+    ensures { Reads plain_member tokens.now result (numbers_at low (drop at (seen tokens.now))) }
+{
+    let Ok(next) = sign(tokens, at, Mark::DotDot) else {
+        return Ok((Member::Numbers(low, low), at));
+    };
+    let (high, next) = numeral(tokens, next)?;
+    Ok((Member::Numbers(low, high), next))
+}
+
+/// An object by its name, or numbers.
+#[tactic(auto, unfolding(crate::specs::Declarations::member_at))]
+fn member<'s>(tokens: &[Token<'s>], at: usize) -> Result<(Member<'s>, usize), Stop>
+    requires { AreTokens (token_views tokens.now) }
+    ensures { Reads plain_member tokens.now result (member_at (drop at (seen tokens.now))) }
+{
+    match numeral(tokens, at) {
+        Ok((low, next)) => numbers(tokens, next, low),
+        Err(Stop::NoTree) => {
+            let (text, next) = name(tokens, at)?;
+            Ok((Member::Name(text), next))
+        }
+        Err(Stop::OutOfMemory) => Err(Stop::OutOfMemory),
+    }
+}
+
+/// Members with commas between them.
+#[tactic(auto, using(crate::proofs::Lists::listed_steps))]
+fn members<'s>(
+    alloc: Global,
+    tokens: &[Token<'s>],
+    at: usize,
+) -> Result<(Vec<Member<'s>>, usize), Stop>
+    requires { AreTokens (token_views tokens.now) }
+    ensures { Reads (λ members. map plain_member members.items) tokens.now result (listed_at member_at marks.Comma (drop at (seen tokens.now))) }
+{
+    let mut members = Vec::new(alloc);
+    let mut next = at;
+    for _ in at..tokens.len() {
+        let (item, after) = member(tokens, next)?;
+        members.push(item)?;
+        match sign(tokens, after, Mark::Comma) {
+            Ok(behind) => next = behind,
+            Err(_) => return Ok((members, after)),
+        }
+    }
+    Err(Stop::NoTree)
+}
+
+/// Objects of a sort.
+#[tactic(auto, unfolding(crate::specs::Declarations::obj_item_at))]
+fn obj_item<'s>(
+    alloc: Global,
+    tokens: &[Token<'s>],
+    at: usize,
+) -> Result<(ObjItem<'s>, usize), Stop>
+    requires { AreTokens (token_views tokens.now) }
+    ensures { Reads plain_obj_item tokens.now result (obj_item_at (drop at (seen tokens.now))) }
+{
+    let (members, next) = members(alloc, tokens, at)?;
+    let next = sign(tokens, next, Mark::DoubleColon)?;
+    let (sort, next) = name(tokens, next)?;
+    Ok((
+        ObjItem {
+            members: List::of(members),
+            sort,
+        },
+        next,
+    ))
+}
+
+/// Variables of a sort.
 #[tactic(auto, unfolding(crate::specs::Declarations::list_item_at))]
 pub(crate) fn list_item<'s>(
     alloc: Global,
@@ -235,7 +312,30 @@ pub(crate) fn sort_items<'s>(
     Err(Stop::NoTree)
 }
 
-/// Objects or variables with semicolons between the items.
+/// Objects with semicolons between the items.
+#[tactic(auto, using(crate::proofs::Lists::listed_steps))]
+pub(crate) fn obj_items<'s>(
+    alloc: Global,
+    tokens: &[Token<'s>],
+    at: usize,
+) -> Result<(Vec<ObjItem<'s>>, usize), Stop>
+    requires { AreTokens (token_views tokens.now) }
+    ensures { Reads (λ items. map plain_obj_item items.items) tokens.now result (listed_at obj_item_at marks.Semicolon (drop at (seen tokens.now))) }
+{
+    let mut items = Vec::new(alloc);
+    let mut next = at;
+    for _ in at..tokens.len() {
+        let (item, after) = obj_item(alloc, tokens, next)?;
+        items.push(item)?;
+        match sign(tokens, after, Mark::Semicolon) {
+            Ok(behind) => next = behind,
+            Err(_) => return Ok((items, after)),
+        }
+    }
+    Err(Stop::NoTree)
+}
+
+/// Variables with semicolons between the items.
 #[tactic(auto, using(crate::proofs::Lists::listed_steps))]
 pub(crate) fn list_items<'s>(
     alloc: Global,

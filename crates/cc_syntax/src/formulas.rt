@@ -1,19 +1,25 @@
 //! Readers of formulas. What is open is held in a list, so that no sign, bracket or operator costs a nested call.
-ghost use Rattle.std.specs.Prelude.{◌≡◌, suc, List, ◌∷◌, length, drop};
+ghost use Rattle.std.specs.Prelude.{◌≡◌, suc, List, ◌∷◌, length, drop, map, option_map, IfOk};
 ghost use Rattle.cc_syntax.specs.declared.frames.Frame.{Frame};
-ghost use Rattle.cc_defs.specs.Trees.{plain_tree};
+ghost use Rattle.cc_defs.specs.Tokens.{AreTokens};
+ghost use Rattle.cc_defs.specs.Trees.{Summed, plain_piece, plain_sum, plain_term, plain_tree};
 ghost use Rattle.cc_defs.specs.declared.token.Mark.TheVariants as marks;
-ghost use Rattle.cc_syntax.specs.Formulas.{plain_frame, stack, closed, frame_at, atom_at, begun, shut, gone_on, run_from, Wants, formula_at};
+ghost use Rattle.cc_defs.specs.Trees as trees;
+ghost use Rattle.cc_syntax.specs.Formulas.{plain_frame, stack, closed, frame_at, has_more as HasMore, alone_of, side_at, bare_at, atom_at, begun, shut, gone_on, run_from, Wants, formula_at};
+ghost use Rattle.cc_syntax.specs.Operators.{compared_as};
 ghost use Rattle.cc_syntax.specs.Readers.{name_at, sign_at, ◌◁◌};
+ghost use Rattle.cc_syntax.specs.Terms.{plain_addend, addends_of, sum_at};
 ghost use Rattle.cc_syntax.specs.Turns.{Turns, plain_turn, turn_of};
 ghost use Rattle.cc_syntax.specs.Views.{seen, Reads};
+ghost use Rattle.cc_text.specs.Views.{token_views};
 
 use crate::frames::{Frame, Frames, close};
-use crate::operators::next_operator;
+use crate::operators::{Comparing, next_comparison, next_operator};
+use crate::reading::made;
 use crate::stop::Stop;
-use crate::terms::term;
+use crate::terms::{Parts, parts, sum, sum_of};
 use crate::tokens::{name, sign, sign_behind};
-use cc_defs::{Mark, Token, Tree};
+use cc_defs::{Addend, Mark, Piece, SumTree, TermTree, Token, Tree};
 use smallvec::SmallVec;
 use std::alloc::Global;
 
@@ -60,21 +66,89 @@ fn opening<'s>(tokens: &[Token<'s>], at: usize) -> Result<(Frame<'s>, usize), St
     Ok((Frame::Exists(variable), next))
 }
 
-/// A term, or two with a sign between them.
+/// Whether a sum has pieces behind its first.
+#[tactic(auto, using(crate::proofs::Trees::more_seen))]
+fn has_more(rest: &[Addend]) -> bool
+    ensures { result ≡ HasMore (addends_of (map plain_addend rest.now)) }
+{
+    !rest.is_empty()
+}
+
+/// The term that a sum is, where it has one piece and this is no number.
+fn alone<'s>(parts: Parts<'s>) -> Option<TermTree<'s>>
+    ensures { option_map plain_term result ≡ alone_of (Summed (plain_piece parts.entry.0) (addends_of (map plain_addend parts.entry.1.items))) }
+{
+    let (first, rest) = parts;
+    if has_more(&rest) {
+        return None;
+    }
+    match first {
+        Piece::Name(term) => Some(term),
+        Piece::Number(_) => None,
+    }
+}
+
+/// A term alone, that was read as a sum.
+fn bare<'s>(tokens: &[Token<'s>], parts: Parts<'s>, at: usize) -> Result<(Tree<'s>, usize), Stop>
+    ensures { Reads plain_tree tokens.now result (bare_at (Summed (plain_piece parts.entry.0) (addends_of (map plain_addend parts.entry.1.items))) (drop at (seen tokens.now))) }
+{
+    match alone(parts) {
+        Some(term) => Ok((Tree::Bare(term), at)),
+        None => Err(Stop::NoTree),
+    }
+}
+
+/// A sum, while something else is kept: of any type, so that its drop is one call.
+fn sum_behind<'s, K: Drop>(
+    alloc: Global,
+    tokens: &[Token<'s>],
+    at: usize,
+    kept: K,
+) -> Result<((K, SumTree<'s>), usize), Stop>
+    requires { AreTokens (token_views tokens.now) }
+    ensures kept { IfOk result (λ read. read.0.0 ≡ kept) }
+    ensures read { Reads (λ read. plain_sum read.1) tokens.now result (sum_at (drop at (seen tokens.now))) }
+{
+    let (right, next) = sum(alloc, tokens, at)?;
+    Ok(((kept, right), next))
+}
+
+/// A comparison of its sign and its sums.
+fn compared_tree<'s>(read: ((Comparing, SumTree<'s>), SumTree<'s>)) -> Tree<'s>
+    ensures { plain_tree result ≡ trees.Compared (compared_as read.entry.0.0) (plain_sum read.entry.0.1) (plain_sum read.entry.1) }
+{
+    let ((comparing, left), right) = read;
+    comparing.compared(left, right)
+}
+
+/// A comparison, behind its sign.
+fn compared<'s>(
+    alloc: Global,
+    tokens: &[Token<'s>],
+    at: usize,
+    comparing: Comparing,
+    left: SumTree<'s>,
+) -> Result<(Tree<'s>, usize), Stop>
+    requires { AreTokens (token_views tokens.now) }
+    ensures { Reads plain_tree tokens.now result (side_at (compared_as comparing) (plain_sum left.entry) (drop at (seen tokens.now))) }
+{
+    made(
+        sum_behind(alloc, tokens, at, (comparing, left)),
+        compared_tree,
+    )
+}
+
+/// Two sums with the sign of a comparison between them, or a term alone.
 #[tactic(auto, unfolding(crate::specs::Formulas::atom_at))]
 fn atom<'s>(alloc: Global, tokens: &[Token<'s>], at: usize) -> Result<(Tree<'s>, usize), Stop>
+    requires { AreTokens (token_views tokens.now) }
     ensures { Reads plain_tree tokens.now result (atom_at (drop at (seen tokens.now))) }
 {
-    let (left, next) = term(alloc, tokens, at)?;
-    if let Ok(next) = sign(tokens, next, Mark::Equal) {
-        let (right, next) = term(alloc, tokens, next)?;
-        return Ok((Tree::Equal(left, right), next));
+    let (left, next) = parts(alloc, tokens, at)?;
+    match next_comparison(tokens, next) {
+        Some((comparing, behind)) => compared(alloc, tokens, behind, comparing, sum_of(left)),
+        None => bare(tokens, left, next),
     }
-    if let Ok(next) = sign(tokens, next, Mark::NotEqual) {
-        let (right, next) = term(alloc, tokens, next)?;
-        return Ok((Tree::Differ(left, right), next));
-    }
-    Ok((Tree::Bare(left), next))
 }
 
 /// An operand is wanted: opens a frame, or reads an atom.
@@ -85,6 +159,7 @@ fn begin<'s>(
     frames: &mut Frames<'s>,
     at: usize,
 ) -> Result<Turn<'s>, Stop>
+    requires { AreTokens (token_views tokens.now) }
     ensures { Turns tokens.now frames.new.items result (begun (stack frames.old.items) (drop at (seen tokens.now))) }
 {
     match opening(tokens, at) {
@@ -162,6 +237,7 @@ fn turned<'s>(
     frames: &mut Frames<'s>,
     turn: Turn<'s>,
 ) -> Result<Turn<'s>, Stop>
+    requires { AreTokens (token_views tokens.now) }
     ensures { Turns tokens.now frames.new.items result (turn_of (stack frames.old.items, plain_turn tokens.now turn.entry)) }
 {
     match turn {
@@ -179,6 +255,7 @@ fn run<'s>(
     frames: &mut Frames<'s>,
     at: usize,
 ) -> Result<(Tree<'s>, usize), Stop>
+    requires { AreTokens (token_views tokens.now) }
     ensures { Reads plain_tree tokens.now result (run_from (suc (length (drop at (seen tokens.now)))) (stack frames.old.items, Wants (drop at (seen tokens.now)))) }
 {
     let mut turn = Turn::Wants(at);
@@ -202,6 +279,7 @@ pub(crate) fn formula<'s>(
     tokens: &[Token<'s>],
     at: usize,
 ) -> Result<(Tree<'s>, usize), Stop>
+    requires { AreTokens (token_views tokens.now) }
     ensures { Reads plain_tree tokens.now result (formula_at (drop at (seen tokens.now))) }
 {
     let mut frames = SmallVec::new(alloc);

@@ -1,11 +1,12 @@
-//! The operators of formulas, and a table of their strengths.
+//! The operators of formulas, a table of their strengths, and the signs of comparisons.
 ghost use Rattle.std.specs.Prelude.{◌≡◌, drop, option_map, IfOk};
-ghost use Rattle.cc_defs.specs.Trees.{plain_tree};
-ghost use Rattle.cc_syntax.specs.Operators.{operator_at, strength, left_strength, joined};
+ghost use Rattle.cc_defs.specs.Trees.{plain_sum, plain_tree};
+ghost use Rattle.cc_defs.specs.Trees as trees;
+ghost use Rattle.cc_syntax.specs.Operators.{operator_at, strength, left_strength, joined, compared_as, comparison_at};
 ghost use Rattle.cc_syntax.specs.Views.{seen};
 
 use crate::tokens::token_at;
-use cc_defs::{Mark, Token, TokenKind, Tree};
+use cc_defs::{Mark, SumTree, Token, TokenKind, Tree};
 use std::alloc::{AllocError, Global};
 
 /// An operator between two formulas. The strength of one that binds less is greater: `&` groups first, `<->` last.
@@ -85,6 +86,54 @@ pub(crate) fn next_operator(tokens: &[Token], at: usize) -> Option<(Operator, us
         TokenKind::Mark(Mark::Or) => Some((Operator::Either, at + 1)),
         TokenKind::Mark(Mark::Arrow) => Some((Operator::Implies, at + 1)),
         TokenKind::Mark(Mark::DoubleArrow) => Some((Operator::Same, at + 1)),
+        _ => None,
+    }
+}
+
+/// The sign of a comparison.
+#[derive(Clone, Copy)]
+pub(crate) enum Comparing {
+    /// `=`
+    Equal,
+    /// `\=`
+    Differ,
+    /// `<`
+    Less,
+    /// `=<`
+    AtMost,
+    /// `>`
+    More,
+    /// `>=`
+    AtLeast,
+}
+
+impl Comparing {
+    /// The formula that it makes of its sums.
+    pub(crate) fn compared<'s>(self, left: SumTree<'s>, right: SumTree<'s>) -> Tree<'s>
+        ensures { plain_tree result ≡ trees.Compared (compared_as self) (plain_sum left.entry) (plain_sum right.entry) }
+    {
+        match self {
+            Comparing::Equal => Tree::Equal(left, right),
+            Comparing::Differ => Tree::Differ(left, right),
+            Comparing::Less => Tree::Less(left, right),
+            Comparing::AtMost => Tree::AtMost(left, right),
+            Comparing::More => Tree::More(left, right),
+            Comparing::AtLeast => Tree::AtLeast(left, right),
+        }
+    }
+}
+
+/// The sign of a comparison at the place, and the place behind it.
+pub(crate) fn next_comparison(tokens: &[Token], at: usize) -> Option<(Comparing, usize)>
+    ensures { option_map (λ read. (compared_as read.0, drop read.1 (seen tokens.now))) result ≡ comparison_at (drop at (seen tokens.now)) }
+{
+    match token_at(tokens, at)?.kind {
+        TokenKind::Mark(Mark::Equal) => Some((Comparing::Equal, at + 1)),
+        TokenKind::Mark(Mark::NotEqual) => Some((Comparing::Differ, at + 1)),
+        TokenKind::Mark(Mark::Less) => Some((Comparing::Less, at + 1)),
+        TokenKind::Mark(Mark::AtMost) => Some((Comparing::AtMost, at + 1)),
+        TokenKind::Mark(Mark::More) => Some((Comparing::More, at + 1)),
+        TokenKind::Mark(Mark::AtLeast) => Some((Comparing::AtLeast, at + 1)),
         _ => None,
     }
 }

@@ -22,6 +22,7 @@ fn formulas<'s>(
     tokens: &[Token<'s>],
     at: usize,
 ) -> Result<(Vec<Tree<'s>>, usize), Stop>
+    requires { AreTokens (token_views tokens.now) }
     ensures { Reads (λ formulas. map plain_tree formulas.items) tokens.now result (listed_at formula_at marks.Comma (drop at (seen tokens.now))) }
 {
     let mut formulas = Vec::new(alloc);
@@ -45,6 +46,7 @@ fn condition<'s>(
     claim: bool,
     step: At,
 ) -> Result<(QueryItem<'s>, usize), Stop>
+    requires { AreTokens (token_views tokens.now) }
     ensures { Reads plain_query_item tokens.now result (condition_at claim step (drop at (seen tokens.now))) }
 {
     let next = sign(tokens, at, Mark::Colon)?;

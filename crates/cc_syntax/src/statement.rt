@@ -4,26 +4,26 @@ ghost use Rattle.std.specs.Bool.{then_some};
 ghost use Rattle.std.specs.List.{list_any};
 ghost use Rattle.cc_defs.specs.declared.refusal.Fault.TheVariants as faults;
 ghost use Rattle.cc_defs.specs.declared.token.Mark.TheVariants as marks;
-ghost use Rattle.cc_defs.specs.Grammar.{same_text, terminal, Spells};
-ghost use Rattle.cc_defs.specs.Statements.{IsParsed, begins_directive, is_query as IsQuery, token_limit as limit_of, is_not_yet_in_query as IsNotYetInQuery, is_not_yet as IsNotYet, has_not_yet as HasNotYet, refusal_at};
+ghost use Rattle.cc_defs.specs.Grammar.{same_text, Spells};
+ghost use Rattle.cc_defs.specs.Statements.{IsParsed, begins_directive, token_limit as limit_of, refusal_at};
 ghost use Rattle.cc_defs.specs.Tokens.{AreTokens};
-ghost use Rattle.cc_defs.specs.Trees.{PlainPart, PlainStatement, plain_part, plain_statement, plain_sort_item, plain_list_item, plain_const_item, plain_query_item};
+ghost use Rattle.cc_defs.specs.Trees.{PlainPart, PlainStatement, plain_part, plain_statement, plain_sort_item, plain_obj_item, plain_list_item, plain_const_item, plain_query_item};
 ghost use Rattle.cc_defs.specs.Trees as trees;
 ghost use Rattle.cc_syntax.specs.Parsing.{HasRefused, directive_at, part_at, nothing_left, statement_at};
 ghost use Rattle.cc_syntax.specs.Readers.{given, sign_at, word_at, quoted_at};
 ghost use Rattle.cc_syntax.specs.Views.{seen, Reads};
 ghost use Rattle.cc_syntax.specs.declared.stop.Stop.TheVariants as stops;
-ghost use Rattle.cc_text.specs.Views.{token_view, token_views};
+ghost use Rattle.cc_text.specs.Views.{token_views};
 
 use crate::causal_laws::tested_law;
-use crate::declarations::{const_items, list_items, sort_items};
+use crate::declarations::{const_items, list_items, obj_items, sort_items};
 use crate::queries::query_items;
 use crate::reading::made;
 use crate::stop::Stop;
 use crate::tokens::{quoted, sign, token_at, word};
 use cc_defs::{
-    ConstItem, Fault, LimitAt, List, ListItem, Mark, Part, QueryItem, Refusal, SortItem, Statement,
-    Token, TokenKind,
+    ConstItem, Fault, LimitAt, List, ListItem, Mark, ObjItem, Part, QueryItem, Refusal, SortItem,
+    Statement, Token, TokenKind,
 };
 use std::alloc::Global;
 
@@ -35,8 +35,8 @@ fn sorts_part<'s>(items: Vec<SortItem<'s>>) -> Part<'s>
 }
 
 /// Objects that are declared.
-fn objects_part<'s>(items: Vec<ListItem<'s>>) -> Part<'s>
-    ensures { plain_part result ≡ trees.Objects (map plain_list_item items.entry.items) }
+fn objects_part<'s>(items: Vec<ObjItem<'s>>) -> Part<'s>
+    ensures { plain_part result ≡ trees.Objects (map plain_obj_item items.entry.items) }
 {
     Part::Objects(List::of(items))
 }
@@ -81,7 +81,7 @@ fn directive<'s>(alloc: Global, tokens: &[Token<'s>], at: usize) -> Result<(Part
         return made(sort_items(alloc, tokens, next), sorts_part);
     }
     if let Ok(next) = word(tokens, at, "objects") {
-        return made(list_items(alloc, tokens, next), objects_part);
+        return made(obj_items(alloc, tokens, next), objects_part);
     }
     if let Ok(next) = word(tokens, at, "variables") {
         return made(list_items(alloc, tokens, next), variables_part);
@@ -154,59 +154,6 @@ fn token_limit(tokens: &[Token]) -> LimitAt
     }
 }
 
-fn is_query(tokens: &[Token]) -> bool
-    ensures { result ≡ IsQuery (seen tokens.now) }
-{
-    match directive_word(tokens) {
-        Some(text) => text == "query",
-        None => false,
-    }
-}
-
-/// Whether the language does not have the token yet, in a query.
-fn is_not_yet_in_query(token: &Token) -> bool
-    ensures { result ≡ IsNotYetInQuery (terminal (token_view token.now)) }
-{
-    matches!(
-        token.kind,
-        TokenKind::Mark(Mark::Plus | Mark::Less | Mark::AtMost | Mark::More | Mark::AtLeast)
-    )
-}
-
-/// Whether the language does not have the token yet, outside of queries.
-fn is_not_yet(token: &Token) -> bool
-    ensures { result ≡ IsNotYet (terminal (token_view token.now)) }
-{
-    match token.kind {
-        TokenKind::Number | TokenKind::Mark(Mark::DotDot) => true,
-        _ => is_not_yet_in_query(token),
-    }
-}
-
-fn any_not_yet_in_query(tokens: &[Token]) -> bool
-    ensures { result ≡ list_any (λ token. IsNotYetInQuery (terminal (token_view token))) tokens.now }
-{
-    tokens.iter().any(|token| is_not_yet_in_query(token))
-}
-
-fn any_not_yet(tokens: &[Token]) -> bool
-    ensures { result ≡ list_any (λ token. IsNotYet (terminal (token_view token))) tokens.now }
-{
-    tokens.iter().any(|token| is_not_yet(token))
-}
-
-/// Whether a token is one that the language does not have yet, in such a statement.
-#[tactic(auto, using(crate::proofs::Seen::any_seen))]
-fn has_not_yet(tokens: &[Token]) -> bool
-    ensures { result ≡ HasNotYet (seen tokens.now) }
-{
-    if is_query(tokens) {
-        any_not_yet_in_query(tokens)
-    } else {
-        any_not_yet(tokens)
-    }
-}
-
 /// A refusal without a limit, at the line of the first token.
 fn refusal(number: u8, file: u32, tokens: &[Token]) -> Fault
     requires { 0 < length tokens.now }
@@ -225,8 +172,7 @@ fn too_long(limit: LimitAt, file: u32, tokens: &[Token]) -> Fault
 
 /// The one tree that spells the tokens of a statement, its dot among them; its names are slices of the source. Refuses, at
 /// the statement's first line and in this order, what has too many tokens (14, with the limit declaration tokens or
-/// statement tokens), what has a sign that the language does not have yet (13), and what no tree spells (3). `file` is the
-/// number of the file in refusals.
+/// statement tokens), and what no tree spells (3). `file` is the number of the file in refusals.
 pub fn parse<'s>(alloc: Global, file: u32, tokens: &[Token<'s>]) -> Result<Statement<'s>, Fault>
     requires some { 0 < length tokens.now }
     requires are { AreTokens (token_views tokens.now) }
@@ -237,9 +183,6 @@ pub fn parse<'s>(alloc: Global, file: u32, tokens: &[Token<'s>]) -> Result<State
     let limit = token_limit(tokens);
     if tokens.len() > limit.number() as usize {
         return Err(too_long(limit, file, tokens));
-    }
-    if has_not_yet(tokens) {
-        return Err(refusal(13, file, tokens));
     }
     let line = tokens[0].line;
     match whole(alloc, tokens) {

@@ -1,4 +1,5 @@
 //! Why a reader gives nothing.
+use cc_defs::OutOfMemory;
 use std::alloc::{AllocError, AllocFailed};
 
 /// Why a reader gives nothing.
@@ -27,6 +28,17 @@ impl<T: Drop> From<AllocFailed<T>> for Stop {
     ghost from_gives = { λ _ stop. stop ≡ stops.OutOfMemory };
 
     fn from(_: AllocFailed<T>) -> Self {
+        Stop::OutOfMemory
+    }
+}
+
+impl From<OutOfMemory> for Stop {
+    ghost use Rattle.std.specs.Prelude.{◌≡◌};
+    ghost use Rattle.cc_syntax.specs.declared.stop.Stop.TheVariants as stops;
+
+    ghost from_gives = { λ _ stop. stop ≡ stops.OutOfMemory };
+
+    fn from(_: OutOfMemory) -> Self {
         Stop::OutOfMemory
     }
 }

@@ -1,14 +1,20 @@
-//! Readers of terms.
-ghost use Rattle.std.specs.Prelude.{◌≡◌, drop};
-ghost use Rattle.cc_defs.specs.Trees.{plain_term};
-ghost use Rattle.cc_syntax.specs.Terms.{call_at, leaf_at, term_from, term_at};
+//! Readers of terms and sums.
+ghost use Rattle.std.specs.Prelude.{◌≡◌, drop, map, option_map};
+ghost use Rattle.cc_defs.specs.Tokens.{AreTokens};
+ghost use Rattle.cc_defs.specs.Trees.{Summed, plain_piece, plain_sum, plain_term};
+ghost use Rattle.cc_syntax.specs.Terms.{plain_addend, addends_of, call_at, leaf_at, additive_at, piece_by, addends_by, sum_by, term_from, term_at, sum_at};
 ghost use Rattle.cc_syntax.specs.Views.{seen, Reads};
+ghost use Rattle.cc_text.specs.Views.{token_views};
 
+use crate::reading::put_last;
 use crate::stop::Stop;
-use crate::tokens::{name, sign, token_at};
+use crate::tokens::{name, numeral, sign, token_at};
 use crate::words::{is_reserved_word, is_word_of_value};
-use cc_defs::{Mark, TermTree, Token, TokenKind};
+use cc_defs::{Addend, Mark, Piece, SumTree, TermTree, Token, TokenKind};
 use std::alloc::Global;
+
+/// The first piece of a sum, and those behind it.
+pub(crate) type Parts<'s> = (Piece<'s>, Vec<Addend<'s>>);
 
 /// A name and the bracket behind it.
 fn call<'s>(tokens: &[Token<'s>], at: usize) -> Result<(&'s str, usize), Stop>
@@ -39,8 +45,82 @@ fn leaf<'s>(alloc: Global, tokens: &[Token<'s>], at: usize) -> Result<(TermTree<
     }
 }
 
+/// The sign before a piece: whether it takes the piece away, and the place behind it.
+fn additive(tokens: &[Token], at: usize) -> Option<(bool, usize)>
+    ensures { option_map (λ read. (read.0, drop read.1 (seen tokens.now))) result ≡ additive_at (drop at (seen tokens.now)) }
+{
+    match token_at(tokens, at)?.kind {
+        TokenKind::Mark(Mark::Plus) => Some((false, at + 1)),
+        TokenKind::Mark(Mark::Minus) => Some((true, at + 1)),
+        _ => None,
+    }
+}
+
+/// A number, or a term in so many steps.
+#[cycle(terms)]
+fn piece_within<'s>(
+    alloc: Global,
+    tokens: &[Token<'s>],
+    at: usize,
+    steps: usize,
+) -> Result<(Piece<'s>, usize), Stop>
+    requires { AreTokens (token_views tokens.now) }
+    ensures { Reads plain_piece tokens.now result (piece_by (term_from steps) (drop at (seen tokens.now))) }
+{
+    match numeral(tokens, at) {
+        Ok((number, next)) => Ok((Piece::Number(number), next)),
+        Err(Stop::NoTree) => {
+            let (term, next) = term_within(alloc, tokens, at, steps)?;
+            Ok((Piece::Name(term), next))
+        }
+        Err(Stop::OutOfMemory) => Err(Stop::OutOfMemory),
+    }
+}
+
+/// Pieces behind the first, each with its sign, and terms in so many steps.
+#[cycle(terms)]
+fn addends_within<'s>(
+    alloc: Global,
+    tokens: &[Token<'s>],
+    at: usize,
+    steps: usize,
+) -> Result<(Vec<Addend<'s>>, usize), Stop>
+    requires { AreTokens (token_views tokens.now) }
+    ensures { Reads (λ addends. map plain_addend addends.items) tokens.now result (addends_by (term_from steps) (drop at (seen tokens.now))) }
+{
+    let mut addends = Vec::new(alloc);
+    let mut next = at;
+    for _ in at..tokens.len() {
+        let Some((minus, behind)) = additive(tokens, next) else {
+            return Ok((addends, next));
+        };
+        let (piece, after) = piece_within(alloc, tokens, behind, steps)?;
+        put_last(&mut addends, Addend { minus, piece })?;
+        next = after;
+    }
+    Ok((addends, next))
+}
+
+/// A sum, with terms in so many steps.
+#[cycle(terms)]
+#[tactic(auto, using(crate::proofs::Trees::sum_made))]
+fn sum_within<'s>(
+    alloc: Global,
+    tokens: &[Token<'s>],
+    at: usize,
+    steps: usize,
+) -> Result<(SumTree<'s>, usize), Stop>
+    requires { AreTokens (token_views tokens.now) }
+    ensures { Reads plain_sum tokens.now result (sum_by (term_from steps) (drop at (seen tokens.now))) }
+{
+    let (first, next) = piece_within(alloc, tokens, at, steps)?;
+    let (rest, next) = addends_within(alloc, tokens, next, steps)?;
+    Ok((SumTree { first, rest }, next))
+}
+
 /// A term, in at most so many steps down into its arguments and on to the next one. A step takes a token, so that as many
 /// as there are tokens always do.
+#[cycle(terms)]
 #[tactic(auto, unfolding(crate::specs::Terms::term_from, crate::specs::Terms::args_from))]
 fn term_within<'s>(
     alloc: Global,
@@ -48,6 +128,7 @@ fn term_within<'s>(
     at: usize,
     steps: usize,
 ) -> Result<(TermTree<'s>, usize), Stop>
+    requires { AreTokens (token_views tokens.now) }
     ensures { Reads plain_term tokens.now result (term_from steps (drop at (seen tokens.now))) }
 {
     if steps == 0 {
@@ -60,8 +141,8 @@ fn term_within<'s>(
     };
     let mut args = Vec::new(alloc);
     for left in (0..steps - 1).rev() {
-        let (arg, after) = term_within(alloc, tokens, next, left)?;
-        args.push(arg)?;
+        let (arg, after) = sum_within(alloc, tokens, next, left)?;
+        put_last(&mut args, arg)?;
         match sign(tokens, after, Mark::Comma) {
             Ok(behind) => next = behind,
             Err(_) => {
@@ -73,13 +154,62 @@ fn term_within<'s>(
     Err(Stop::NoTree)
 }
 
-/// A term. An argument's bracket costs a nested call.
+/// A term. An argument's bracket costs nested calls.
 pub(crate) fn term<'s>(
     alloc: Global,
     tokens: &[Token<'s>],
     at: usize,
 ) -> Result<(TermTree<'s>, usize), Stop>
+    requires { AreTokens (token_views tokens.now) }
     ensures { Reads plain_term tokens.now result (term_at (drop at (seen tokens.now))) }
 {
     term_within(alloc, tokens, at, tokens.len().saturating_sub(at))
+}
+
+/// The parts of a sum, with terms in so many steps.
+fn parts_within<'s>(
+    alloc: Global,
+    tokens: &[Token<'s>],
+    at: usize,
+    steps: usize,
+) -> Result<(Parts<'s>, usize), Stop>
+    requires { AreTokens (token_views tokens.now) }
+    ensures { Reads (λ parts. Summed (plain_piece parts.0) (addends_of (map plain_addend parts.1.items))) tokens.now result (sum_by (term_from steps) (drop at (seen tokens.now))) }
+{
+    let (first, next) = piece_within(alloc, tokens, at, steps)?;
+    let (rest, next) = addends_within(alloc, tokens, next, steps)?;
+    Ok(((first, rest), next))
+}
+
+/// The parts of a sum.
+pub(crate) fn parts<'s>(
+    alloc: Global,
+    tokens: &[Token<'s>],
+    at: usize,
+) -> Result<(Parts<'s>, usize), Stop>
+    requires { AreTokens (token_views tokens.now) }
+    ensures { Reads (λ parts. Summed (plain_piece parts.0) (addends_of (map plain_addend parts.1.items))) tokens.now result (sum_at (drop at (seen tokens.now))) }
+{
+    parts_within(alloc, tokens, at, tokens.len().saturating_sub(at))
+}
+
+/// The sum that has the parts.
+#[tactic(auto, using(crate::proofs::Trees::sum_made))]
+pub(crate) fn sum_of<'s>(parts: Parts<'s>) -> SumTree<'s>
+    ensures { plain_sum result ≡ Summed (plain_piece parts.entry.0) (addends_of (map plain_addend parts.entry.1.items)) }
+{
+    let (first, rest) = parts;
+    SumTree { first, rest }
+}
+
+/// A sum.
+pub(crate) fn sum<'s>(
+    alloc: Global,
+    tokens: &[Token<'s>],
+    at: usize,
+) -> Result<(SumTree<'s>, usize), Stop>
+    requires { AreTokens (token_views tokens.now) }
+    ensures { Reads plain_sum tokens.now result (sum_at (drop at (seen tokens.now))) }
+{
+    sum_within(alloc, tokens, at, tokens.len().saturating_sub(at))
 }

@@ -16,7 +16,7 @@ use Rattle.cc_tests_clauses.proofs.Nothing.{empty}
 use Rattle.cc_tests_clauses.specs.Digits.{axioms_behind, no_description, no_question, only_row}
 
 empty_of : AreLawsOf empty [] no_description
-empty_of = record { signature_is = record { fluents = refl; actions = refl }; laws_are = refl }
+empty_of = record { signature_is = record { fluents = refl; actions = refl; numbers = refl }; laws_are = refl }
 
 pub laws_of : (signature : Signature) (laws : List GroundLaw) → signature ≡ empty → laws ≡ [] → AreLawsOf signature laws no_description
 laws_of signature laws is none =

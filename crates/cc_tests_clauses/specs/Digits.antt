@@ -9,7 +9,7 @@ use Rattle.cc_form.specs.Forms.{form_of}
 
 -- a description without constants and laws, and a query that asks nothing of it
 abbrev pub no_description : Description
-no_description = record { objects = []; universe = record { sorts = []; symbols = []; fluents = []; actions = [] }; laws = [] }
+no_description = record { objects = []; universe = record { sorts = []; numbers = []; symbols = []; fluents = []; actions = [] }; laws = [] }
 
 abbrev pub no_question : Query
 no_question = record { label = None; range = Some (0, 0); conditions = []; claim = None; file = 0; line = 0 }

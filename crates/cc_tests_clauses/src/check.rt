@@ -101,9 +101,9 @@ fn logs_are_misread(rt: HostRuntime) {
 
 // That of a description without constants.
 pub(crate) fn no_signature(alloc: Global) -> Sig
-    ensures { result ≡ record { fluents = []; actions = [] } }
+    ensures { result ≡ record { fluents = []; actions = []; numbers = [] } }
 {
-    Sig::of(Vec::new(alloc), Vec::new(alloc))
+    Sig::of(Vec::new(alloc), Vec::new(alloc), Vec::new(alloc))
 }
 
 pub(crate) fn no_laws<'a>(alloc: Global) -> Laws<'a>

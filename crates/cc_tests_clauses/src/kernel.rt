@@ -16,9 +16,10 @@ fn axioms_are_refuted(rt: HostRuntime) -> Result<(), Fail> {
     kernel.start(1)?;
     assert!(rt; kernel.clashes(1, 2));
     kernel.step(1, 2)?;
+    assert!(rt; kernel.stages(Lit::positive(2)));
     assert!(rt; kernel.clashes(2, 3));
     kernel.step(2, 3)?;
-    assert!(rt; kernel.current().is_empty());
+    assert!(rt; !kernel.stages(Lit::positive(2)));
     assert_eq!(rt; kernel.finish()?, 4);
     assert_eq!(rt; kernel.refuted(), Some(4));
     assert_eq!(rt; kernel.chain(), [1, 1, 2, 2, 3].as_slice());

@@ -180,7 +180,7 @@ fn refusals_are_written(rt: HostRuntime) -> Result<(), Fail> {
     let alloc = rt.alloc();
     for (number, line, limit, text) in [
         (1, 0, None, "ccalc: 1 Words\n"),
-        (13, 0, None, "ccalc: 13 NotYet\n"),
+        (12, 0, None, "ccalc: 12 EmptyDomain\n"),
         (5, 12, None, "ccalc: f.cc:12: 5 UnknownName\n"),
         (
             14,

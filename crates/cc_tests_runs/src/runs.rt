@@ -326,6 +326,25 @@ fn nodes_have_their_limit(rt: HostRuntime) -> Result<(), Fail> {
     Ok(())
 }
 
+/// A constant q, and a law whose body denies it so many times.
+fn with_denials(alloc: Global, count: usize) -> Result<String, OutOfMemory> {
+    let mut out = String::from_str(alloc, ":- constants q :: simpleFluent. caused q if ")?;
+    for _ in 0..count {
+        out.push_str("-")?;
+    }
+    out.push_str("q.")?;
+    Ok(out)
+}
+
+// The deepest formula that a statement can have, one inside another 1,995 times.
+#[test]
+fn the_deepest_formula_is_ground(rt: HostRuntime) -> Result<(), Fail> {
+    let alloc = rt.alloc();
+    let text = with_denials(alloc, 1995)?;
+    assert_eq!(rt; count_ground_of(alloc, &text), Some(1));
+    Ok(())
+}
+
 /// A law with this head and this `after` part.
 fn law(alloc: Global, head: Head, after: Option<Formula>) -> Law {
     Law {

@@ -1,5 +1,5 @@
 -- Small descriptions whose states and transitions are known beforehand: they show what the definitions say.
-use Rattle.std.specs.Prelude.{◌≡◌, ℕ, List, [], ◌∷◌, ◌++◌, length, Option, Some, None, codes}
+use Rattle.std.specs.Prelude.{◌≡◌, ℕ, List, [], ◌∷◌, ◌++◌, length, map, Option, Some, None, codes}
 use Rattle.cc_defs.specs.declared.law.Range.TheVariants as ranges
 use Rattle.cc_defs.specs.declared.node.GroundHead.TheVariants as ground_heads
 use Rattle.cc_defs.specs.declared.node.Node.TheVariants as nodes
@@ -26,7 +26,7 @@ use Rattle.cc_defs.specs.Rules.{rules_at}
 use Rattle.cc_defs.specs.Signatures.{none_value}
 use Rattle.cc_defs.specs.Texts.{key_text, history_text, shown}
 use Rattle.cc_defs.specs.Universe.{Universe, boolean_actions}
-use Rattle.cc_defs.specs.Trees.{Sorts, Objects, Constants, Names, Chain, Plain, Attribute}
+use Rattle.cc_defs.specs.Trees.{Name, Sorts, Objects, Constants, Names, Chain, Plain, Attribute}
 
 -- a constant without arguments, of the values `false` and `true`
 abbrev pub boolean : ℕ → Kind → Const
@@ -59,7 +59,7 @@ abbrev pub caused : ℕ → ℕ → Formula → BaseLaw
 caused symbol value body = law law_kinds.Static symbol value body None
 
 abbrev pub universe_with : List Symbol → List Const → List Const → Universe
-universe_with symbols fluents actions = record { sorts = (0 ∷ 1 ∷ []) ∷ []; symbols = symbols; fluents = fluents; actions = actions }
+universe_with symbols fluents actions = record { sorts = (0 ∷ 1 ∷ []) ∷ []; numbers = []; symbols = symbols; fluents = fluents; actions = actions }
 
 abbrev pub booleans : List (List ℕ)
 booleans = codes "false" ∷ codes "true" ∷ []
@@ -188,6 +188,7 @@ of_object object = record { symbol = 0; args = object ∷ []; kind = kinds.Simpl
 abbrev pub two_objects : Universe
 two_objects = record {
   sorts = (0 ∷ 1 ∷ []) ∷ (2 ∷ 3 ∷ []) ∷ [] ∷ [];
+  numbers = [];
   symbols = record { name = codes "p"; sorts = 1 ∷ []; kind = kinds.Simple; domain = 0; attribute = None } ∷ [];
   fluents = of_object 2 ∷ of_object 3 ∷ [];
   actions = [];
@@ -315,8 +316,8 @@ abbrev pub sorts_and_objects : List Declaration
 sorts_and_objects =
     part_declarations 0 1 (Sorts (Chain (codes "s" ∷ codes "t" ∷ []) ∷ Chain (codes "s" ∷ codes "u" ∷ []) ∷ []))
     ++ part_declarations 0 1 (Objects (
-    record { names = codes "a" ∷ []; sort = codes "t" } ∷ record { names = codes "b" ∷ []; sort = codes "u" }
-    ∷ record { names = codes "c" ∷ []; sort = codes "s" } ∷ record { names = codes "d" ∷ []; sort = codes "t" } ∷ []))
+    record { members = map Name (codes "a" ∷ []); sort = codes "t" } ∷ record { members = map Name (codes "b" ∷ []); sort = codes "u" }
+    ∷ record { members = map Name (codes "c" ∷ []); sort = codes "s" } ∷ record { members = map Name (codes "d" ∷ []); sort = codes "t" } ∷ []))
 
 -- A sort has its own objects and those of the sorts below it, in declared order; `false` and `true` are 0 and 1.
 abbrev pub SortsHaveObjects : Type 0
@@ -329,7 +330,7 @@ abbrev pub DeclarationsAreRefused : Type 0
 DeclarationsAreRefused =
     (declaration_fault sorts_and_objects (part_declarations 0 1 (Sorts (Chain (codes "t" ∷ codes "s" ∷ []) ∷ []))) ≡ Some 7)
     × (declaration_fault sorts_and_objects (part_declarations 0 1 (Objects (
-    record { names = codes "e" ∷ []; sort = codes "v" } ∷ record { names = codes "a" ∷ []; sort = codes "u" } ∷ []))) ≡ Some 4)
+    record { members = map Name (codes "e" ∷ []); sort = codes "v" } ∷ record { members = map Name (codes "a" ∷ []); sort = codes "u" } ∷ []))) ≡ Some 4)
     × (declaration_fault [] (part_declarations 0 1 (Sorts (Names (codes "s" ∷ []) ∷ Names (codes "s" ∷ []) ∷ []))) ≡ Some 4)
     × (declaration_fault sorts_and_objects (part_declarations 0 1 (Sorts (Chain (codes "u" ∷ codes "v" ∷ []) ∷ []))) ≡ None)
 

@@ -7,6 +7,8 @@ mod defs;
 #[cfg(test)]
 mod examples;
 #[cfg(test)]
+mod number_examples;
+#[cfg(test)]
 mod ports;
 #[cfg(test)]
 mod search_examples;

@@ -143,7 +143,7 @@ module _ (signature : Signature) (horizon : ℕ) where
 
 module _ (u : Universe) (horizon : ℕ) where
   abbrev own : Signature
-  own = record { fluents = u.fluents; actions = u.actions }
+  own = record { fluents = u.fluents; actions = u.actions; numbers = u.numbers }
 
   fluent_head : (head : GroundHead) (step : ℕ) → step ≤ horizon → IsGroundFluentHead u head → IsHeadAt own horizon (head_at (stride own horizon) step head)
   fluent_head (heads.Atom number value) step within is = fluent_atom own horizon step number value is.0 within is.1 is.2
@@ -211,7 +211,8 @@ module _ (u : Universe) (horizon : ℕ) where
 
 pub rules_fit : (signature : Signature) (laws : List GroundLaw) (horizon : ℕ) → AreLawsFor signature laws → AreRulesAt signature horizon (rules_for signature laws horizon)
 rules_fit signature laws horizon are =
-    subst (λ (s : Signature). AreRulesAt s horizon (rules_for s laws horizon)) (same are.fluents are.actions) (universe_fits are.u horizon laws are.laws_fit)
+    subst (λ (s : Signature). AreRulesAt s horizon (rules_for s laws horizon)) (same are.fluents are.actions are.numbers) (universe_fits are.u horizon laws are.laws_fit)
   where
-    same : {fluents actions : List Const} → fluents ≡ signature.fluents → actions ≡ signature.actions → record { fluents = fluents; actions = actions } ≡ signature
-    same {fluents} {actions} f a = ap (λ (g : List Const). let s : Signature = record { fluents = g; actions = actions } in s) f ∙ ap (λ (b : List Const). let s : Signature = record { fluents = signature.fluents; actions = b } in s) a
+    same : {fluents actions : List Const} {numbers : List (Option ℕ)} → fluents ≡ signature.fluents → actions ≡ signature.actions → numbers ≡ signature.numbers →
+        record { fluents = fluents; actions = actions; numbers = numbers } ≡ signature
+    same {fluents} {actions} {numbers} f a n i = record { fluents = f i; actions = a i; numbers = n i }

@@ -11,7 +11,10 @@ use Rattle.cc_defs.specs.Conditions.{AreGroundLaws, IsGroundFluentHead, IsGround
 use Rattle.cc_defs.specs.Description.{Description}
 use Rattle.cc_defs.specs.GroundLaws.{PlainGroundLaw}
 use Rattle.cc_defs.specs.Signatures.{Signature}
-use Rattle.cc_defs.specs.Universe.{Universe, HaveOwnValues}
+use Rattle.cc_defs.specs.Universe.{Universe, AreOwnNumbers}
+use Rattle.cc_defs.specs.Signatures.{none_value}
+use Rattle.std.specs.List.{AllByRecursion, IsDistinct}
+use Rattle.std.specs.Prelude.{ℕ, ◌≤◌, ◌++◌, length, nat_eq, Option}
 use Rattle.cc_theory.specs.Laws.{IsGroundedWell}
 use Rattle.std.specs.List.{AllZip}
 use Rattle.cc_defs.specs.Conditions.{IsSignatureOfDescription}
@@ -22,6 +25,9 @@ use Rattle.cc_theory.specs.Theories.{AreLawsFor, AreLawsOf, IsRuleOf, IsTheoryOf
 -- what the conditions say of a universe is said of its fluents and actions alone
 abbrev with : Universe → List Const → List Const → Universe
 with w fluents actions = record w { fluents = fluents; actions = actions }
+
+abbrev AreDistinct : List Const → Type 0
+AreDistinct constants = AllByRecursion (λ (constant : Const). IsDistinct nat_eq constant.domain) constants
 
 module _ (u w : Universe) where
   abbrev moved : Universe
@@ -54,10 +60,14 @@ well_grounded signature laws d are of =
     let w = d.universe in
     let fluents : u.fluents ≡ w.fluents = are.fluents ∙ of.signature_is.fluents in
     let actions : u.actions ≡ w.actions = are.actions ∙ of.signature_is.actions in
-    let own : HaveOwnValues (with w u.fluents u.actions) = are.values in
+    let numbers : u.numbers ≡ w.numbers = are.numbers ∙ of.signature_is.numbers in
     let fit : AreGroundLaws (with w u.fluents u.actions) (plain_ground_laws laws) = laws_moved u w (plain_ground_laws laws) are.laws_fit in
     record {
-      values = subst (λ (a : List Const). HaveOwnValues (with w w.fluents a)) actions (subst (λ (f : List Const). HaveOwnValues (with w f u.actions)) fluents own);
+      values = record {
+        values = subst (λ (a : List Const). AreDistinct (w.fluents ++ a)) actions (subst (λ (f : List Const). AreDistinct (f ++ u.actions)) fluents are.values.values);
+        numbers = subst AreOwnNumbers numbers are.values.numbers;
+        few = subst (λ (n : List (Option ℕ)). length n ≤ none_value) numbers are.values.few;
+      };
       laws = subst (AreGroundLaws w) of.laws_are
           (subst (λ (a : List Const). AreGroundLaws (with w w.fluents a) (plain_ground_laws laws)) actions
           (subst (λ (f : List Const). AreGroundLaws (with w f u.actions) (plain_ground_laws laws)) fluents fit));

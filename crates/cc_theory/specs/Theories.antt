@@ -37,6 +37,7 @@ pub record AreLawsFor (signature : Signature) (laws : List GroundLaw) : Type 0 w
   pub u : Universe
   pub fluents : u.fluents ≡ signature.fluents
   pub actions : u.actions ≡ signature.actions
+  pub numbers : u.numbers ≡ signature.numbers
   pub values : HaveOwnValues u
   pub laws_fit : AreGroundLaws u (plain_ground_laws laws)
 

@@ -34,6 +34,10 @@ fits_more trail clauses more fits = record {
   shorts = λ number here.
       let (clause, numbered, short) = fits.shorts number here in
       (clause, numbered_more clauses more number clause numbered, short);
+  met_few = fits.met_few;
+  met = λ number here.
+      let (clause, numbered, literal, member, is) = fits.met number here in
+      (clause, numbered_more clauses more number clause numbered, literal, member, is);
   longs = λ node within.
       let long = fits.longs node within in
       record {

@@ -1,8 +1,8 @@
 -- One clause more is attached: the fit stays.
-use Rattle.std.proofs.Common.{◌≡◌, ◌≢◌, ◌∙◌, ℕ, ◌+◌, ◌*◌, ◌/◌, ◌<◌, ◌≤◌, zero, suc, inl, inr, true, false, List, [], ◌∷◌, ◌++◌, length, get_or, set, take, Result, Ok, Err, sym, subst, ap, arith, length-append}
+use Rattle.std.proofs.Common.{◌≡◌, ◌≢◌, ◌∙◌, ℕ, ◌+◌, ◌*◌, ◌/◌, ◌<◌, ◌≤◌, zero, suc, inl, inr, true, false, List, [], ◌∷◌, ◌++◌, length, get_or, take, Result, Ok, Err, sym, subst, ap, arith, length-append}
 use Rattle.std.specs.Prelude.{◌⊎◌, OnOk, All, Contains}
 use Rattle.std.proofs.lemmas.Bool.Decides.{eqb_tells, leb_tells, nat_tests}
-use Rattle.std.proofs.lemmas.List.{length-map, set-get_or, get_or_append_left, get_or-append-add}
+use Rattle.std.proofs.lemmas.List.{length-map, get_or_append_left, get_or-append-add, take-append-le}
 use Rattle.std.proofs.lemmas.List.Elements.{All-nil, All-cons}
 use Rattle.cc_defs.specs.Clauses.{Literal, opposite, IsClause, IsOver, IsBefore, IsNumbered, IsIn, IsLiteralOver}
 use Rattle.cc_kernel.specs.Kernels.{KernelView, Entry, clauses_of, IsThere}
@@ -34,20 +34,6 @@ first_two [] one two d e is long one_is two_is same = absurd (omega arith)
 first_two (a ∷ []) one two d e is long one_is two_is same = absurd (omega arith)
 first_two (a ∷ b ∷ clause) one two d e is long one_is two_is same = different a b is.0 (sym one_is ∙ sym same ∙ two_is)
 
--- what is written in the place of what is there already
-pub written_two : (watched : List Literal) (a b : Literal) (node : ℕ) → node ≡ length watched →
-    set (set (watched ++ a ∷ b ∷ []) node a) (node + 1) b ≡ watched ++ a ∷ b ∷ []
-written_two watched a b node is =
-    let first : get_or (watched ++ a ∷ b ∷ []) (length watched + 0) no_literal ≡ a = get_or-append-add watched (a ∷ b ∷ []) 0 no_literal in
-    let second : get_or (watched ++ a ∷ b ∷ []) (length watched + 1) no_literal ≡ b = get_or-append-add watched (a ∷ b ∷ []) 1 no_literal in
-    let zero_more : length watched + 0 ≡ node = omega arith in
-    let one_more : length watched + 1 ≡ node + 1 = omega arith in
-    ap (λ (ls : List Literal). set ls (node + 1) b) (same_set (watched ++ a ∷ b ∷ []) node a (rw (← zero_more) first)) ∙
-    same_set (watched ++ a ∷ b ∷ []) (node + 1) b (rw (← one_more) second)
-  where
-    same_set : (ls : List Literal) (k : ℕ) (x : Literal) → get_or ls k no_literal ≡ x → set ls k x ≡ ls
-    same_set ls k x at = subst (λ (y : Literal). set ls k y ≡ ls) at (set-get_or ls k no_literal)
-
 -- ---- the fit
 
 module _ (old new : TrailView) (kernel : KernelView) (fits : Fits old kernel) (number : ℕ) (next : number ≡ old.attached + 1) (there : IsThere kernel number)
@@ -74,6 +60,8 @@ module _ (old new : TrailView) (kernel : KernelView) (fits : Fits old kernel) (n
         | inl before ↦ fits.clauses.shorts k before
         | inr same ↦ rw (← same) (clause, numbered, short)
       ];
+      met_few = let few = fits.clauses.met_few in omega (arith, length-append old.shorts (number ∷ []));
+      met = λ k here. fits.clauses.met k (subst (λ (ks : List ℕ). IsIn ks k) (take-append-le old.met old.shorts (number ∷ []) fits.clauses.met_few) here);
       longs = fits.clauses.longs;
       each = λ k some most. elim (each_or k some most) [
         | inl before ↦ elim before [
@@ -164,7 +152,7 @@ module _ (old new : TrailView) (kernel : KernelView) (fits : Fits old kernel) (t
         ]
       ]
 
-  longs_then : (node : ℕ) → node < length new.watched → Watches (clauses_of kernel) (number_of new.longs node) new.watched node
+  longs_then : (node : ℕ) → node < length new.watched → Watches (clauses_of kernel) new.steps (number_of new.longs node) new.watched node
   longs_then node low = elim (which node low) [
     | inl before ↦
         let watches = fits.clauses.longs node before in
@@ -173,7 +161,7 @@ module _ (old new : TrailView) (kernel : KernelView) (fits : Fits old kernel) (t
           numbered = rw (old_number node before) watches.numbered;
           here = rw (old_at node before) watches.here;
           there = rw (old_at (partner node) (old_partner node before)) watches.there;
-          apart = rw (old_at node before, old_at (partner node) (old_partner node before)) watches.apart;
+          apart = rw (old_at node before, old_at (partner node) (old_partner node before), long.steps) watches.apart;
         }
     | inr one_of ↦ elim one_of [
       | inl is ↦ rw is (record {
@@ -181,14 +169,14 @@ module _ (old new : TrailView) (kernel : KernelView) (fits : Fits old kernel) (t
         numbered = rw (half_first (length old.longs), number_at) numbered;
         here = rw first_at first_in;
         there = rw (partner_first (length old.longs), second_at) second_in;
-        apart = rw (partner_first (length old.longs), first_at, second_at) apart;
+        apart = inl (rw (partner_first (length old.longs), first_at, second_at) apart);
       })
       | inr is ↦ rw is (record {
         clause = clause;
         numbered = rw (half_second (length old.longs), number_at) numbered;
         here = rw second_at second_in;
         there = rw (partner_second (length old.longs), first_at) first_in;
-        apart = rw (partner_second (length old.longs), first_at, second_at) (λ same. apart (sym same));
+        apart = inl (rw (partner_second (length old.longs), first_at, second_at) (λ same. apart (sym same)));
       })
     ]
   ]
@@ -215,6 +203,8 @@ module _ (old new : TrailView) (kernel : KernelView) (fits : Fits old kernel) (t
       attached = rw long.attached (within old new kernel fits number next there clause numbered);
       reasons = rw long.steps fits.clauses.reasons;
       shorts = rw long.shorts fits.clauses.shorts;
+      met_few = rw (long.met, long.shorts) fits.clauses.met_few;
+      met = rw (long.met, long.shorts, long.steps) fits.clauses.met;
       longs = longs_then;
       each = rw (long.attached, long.shorts, long.longs) (λ k some most. elim (each_or old new kernel fits number next there clause numbered k some most) [
         | inl before ↦ elim before [

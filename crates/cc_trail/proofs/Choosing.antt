@@ -1,17 +1,18 @@
 -- What a look-up of a literal tells, and which literal of a clause is best to watch.
-use Rattle.std.proofs.Common.{◌≡◌, ◌≢◌, ◌∙◌, ℕ, ◌+◌, ◌<◌, ◌≤◌, inl, inr, eqb, leb, Bool, true, false, not, List, length, get_or, take, Some, None, refl, sym, subst, ap, arith}
-use Rattle.std.specs.Prelude.{All}
+use Rattle.std.proofs.Common.{◌≡◌, ◌≢◌, ◌∙◌, ℕ, ◌+◌, ◌<◌, ◌≤◌, zero, suc, inl, inr, eqb, leb, Bool, true, false, not, List, [], ◌∷◌, length, get_or, take, None, refl, sym, subst, ap, arith}
+use Rattle.std.specs.Prelude.{All, Contains}
 use Rattle.std.proofs.lemmas.Bool.Decides.{eqb_tells, leb_tells}
-use Rattle.std.proofs.lemmas.List.Elements.{All-weaker, All-more}
+use Rattle.std.proofs.lemmas.List.Elements.{All-nil, All-cons, All-weaker, All-more}
 use Rattle.cc_defs.specs.Clauses.{Literal, opposite, IsIn}
 use Rattle.cc_trail.specs.declared.entries.Step.{Step}
 use Rattle.cc_trail.specs.Links.{code_of}
 use Rattle.cc_trail.specs.Steps.{AreApart, AreSteps, step_of}
 use Rattle.cc_trail.specs.Watches.{IsTrueBy, IsFalseBy}
+use Rattle.cc_trail.specs.EntrySteps.{IsValued}
 use Rattle.cc_trail.specs.Visits.{IsFalseAt, IsFalseBut, IsBest, IsValue}
 use Rattle.cc_trail.proofs.Linked.{code_injective}
-use Rattle.cc_trail.proofs.StepLists.{levels_most, same_step, step_found, none_of}
-use Rattle.cc_trail.proofs.Growing.{not_opposite, same_or_opposite}
+use Rattle.cc_trail.proofs.StepLists.{levels_most, same_step, none_of}
+use Rattle.cc_trail.proofs.Growing.{not_opposite}
 
 false_true : false ≡ true → ⊥
 false_true e = cc
@@ -45,38 +46,33 @@ module _ (steps : List Step) (literal : Literal) (variable : ℕ) (variable_is :
   pub open_not_false : None ≡ step_of steps variable → IsFalseBy steps literal → ⊥
   open_not_false none (step, here, is) = none_of steps literal.variable (open_yet none) step here (ap (λ (l : Literal). l.variable) is)
 
-  module _ (step : Step) (found : Some step ≡ step_of steps variable) (r : Bool) (r_is : r ≡ eqb (code_of step.lit) (code_of literal)) where
-    found_in : IsIn steps step × (step.lit.variable ≡ literal.variable)
-    found_in = step_found steps literal.variable step (ap (λ (n : ℕ). step_of steps n) (sym variable_is) ∙ sym found)
-
-    pub is_true : r ≡ true → IsIn steps step × (step.lit ≡ literal)
-    is_true holds = (found_in.0, codes_same step.lit literal r r_is holds)
-
-    pub is_false : r ≡ false → IsIn steps step × (step.lit ≡ opposite literal)
-    is_false fails = elim (same_or_opposite step.lit literal (found_in.1)) [
-      | inl same ↦ absurd (codes_differ step.lit literal r r_is fails same)
-      | inr other ↦ (found_in.0, other)
-    ]
-
-    pub true_not_false : AreApart steps → r ≡ true → IsFalseBy steps literal → ⊥
-    true_not_false apart holds (other, here, is) =
-        let same = same_step steps apart other step here (found_in.0) (ap (λ (l : Literal). l.variable) is ∙ sym (found_in.1)) in
-        not_opposite literal (sym (codes_same step.lit literal r r_is holds) ∙ ap (λ (s : Step). s.lit) (sym same) ∙ is)
-
-pub value_is : (variables level : ℕ) (steps : List Step) (literal : Literal) (step : Step) (r : Bool) → AreSteps variables steps level →
-    (r ≡ true → IsIn steps step × (step.lit ≡ literal)) → (r ≡ false → IsIn steps step × (step.lit ≡ opposite literal)) → IsValue steps level literal r
-value_is variables level steps literal step true are holds fails =
-    let is = holds refl in
-    let low = levels_most 0 steps are.rising step is.0 in
-    let levels = are.levels in
-    (step, is.0, is.1, omega (arith, low, levels))
-value_is variables level steps literal step false are holds fails = let is = fails refl in (step, is.0, is.1)
-
 pub value_true : (steps : List Step) (level : ℕ) (literal : Literal) (r : Bool) → r ≡ true → IsValue steps level literal r → IsTrueBy steps literal level
 value_true steps level literal r holds is = subst (λ (b : Bool). IsValue steps level literal b) holds is
 
 pub value_false : (steps : List Step) (level : ℕ) (literal : Literal) (r : Bool) → r ≡ false → IsValue steps level literal r → IsFalseBy steps literal
 value_false steps level literal r fails is = subst (λ (b : Bool). IsValue steps level literal b) fails is
+
+-- what stands of a literal
+pub valued_true : (steps : List Step) (literal : Literal) (level : ℕ) (r : Bool) → r ≡ true → IsValued steps literal level r →
+    (step : Step) × IsIn steps step × (step.lit ≡ literal) × (step.level ≡ level)
+valued_true steps literal level r holds is = subst (λ (b : Bool). IsValued steps literal level b) holds is
+
+pub valued_false : (steps : List Step) (literal : Literal) (level : ℕ) (r : Bool) → r ≡ false → IsValued steps literal level r →
+    (step : Step) × IsIn steps step × (step.lit ≡ opposite literal) × (step.level ≡ level)
+valued_false steps literal level r fails is = subst (λ (b : Bool). IsValued steps literal level b) fails is
+
+pub valued_value : (variables count level : ℕ) (steps : List Step) (literal : Literal) (r : Bool) → AreSteps variables steps count → IsValued steps literal level r → IsValue steps count literal r
+valued_value variables count level steps literal true are (step, here, is, at) =
+    let low = levels_most 0 steps are.rising step here in
+    let levels = are.levels in
+    (step, here, is, omega (arith, low, levels))
+valued_value variables count level steps literal false are (step, here, is, at) = (step, here, is)
+
+pub valued_not_false : (steps : List Step) → AreApart steps → (literal : Literal) (level : ℕ) (r : Bool) → r ≡ true → IsValued steps literal level r → IsFalseBy steps literal → ⊥
+valued_not_false steps apart literal level r holds is (other, here, other_is) =
+    let step = valued_true steps literal level r holds is in
+    let same = same_step steps apart other (step.0) here (step.1) (ap (λ (l : Literal). l.variable) other_is ∙ sym (ap (λ (l : Literal). l.variable) (step.2))) in
+    not_opposite literal (sym (step.2) ∙ ap (λ (s : Step). s.lit) (sym same) ∙ other_is)
 
 -- ---- the best literal
 
@@ -98,6 +94,36 @@ best_more steps clause index except literal low high within is up all one =
     All-more (IsFalseBut steps except high) clause index literal within
     (All-weaker (IsFalseBut steps except low) (IsFalseBut steps except high) (higher steps except low high up) (take index clause) all)
     (subst (λ (l : Literal). IsFalseBut steps except high l) is one)
+
+-- a clause of two literals has no other one
+pub best_of_two : (steps : List Step) (clause : List Literal) (start except : Literal) (level : ℕ) → length clause ≤ 2 → Contains clause start → Contains clause except → start ≢ except →
+    IsFalseAt steps start level → All (IsFalseBut steps except level) clause
+best_of_two steps [] start except level few there other apart fallen = All-nil (IsFalseBut steps except level)
+best_of_two steps (a ∷ []) start except level few there other apart fallen = absurd (apart (sym (only there) ∙ only other))
+  where
+    only : {literal : Literal} → Contains (a ∷ []) literal → a ≡ literal
+    only (zero, within, is) = is
+    only (suc k, within, is) = absurd (omega (arith, within))
+best_of_two steps (a ∷ b ∷ []) start except level few there other apart fallen =
+    All-cons (IsFalseBut steps except level) a (b ∷ []) (one there other) (All-cons (IsFalseBut steps except level) b [] (two there other) (All-nil (IsFalseBut steps except level)))
+  where
+    start_is : IsFalseBut steps except level start
+    start_is = let (step, here, is, at) = fallen in inr (step, here, is, omega (arith, at))
+
+    one : Contains (a ∷ b ∷ []) start → Contains (a ∷ b ∷ []) except → IsFalseBut steps except level a
+    one (zero, within, is) (k, other_within, other_is) = subst (λ (l : Literal). IsFalseBut steps except level l) (sym is) start_is
+    one (suc k, within, is) (zero, other_within, other_is) = inl other_is
+    one (suc zero, within, is) (suc zero, other_within, other_is) = absurd (apart (sym is ∙ other_is))
+    one (suc (suc k), within, is) (j, other_within, other_is) = absurd (omega (arith, within))
+    one (k, within, is) (suc (suc j), other_within, other_is) = absurd (omega (arith, other_within))
+
+    two : Contains (a ∷ b ∷ []) start → Contains (a ∷ b ∷ []) except → IsFalseBut steps except level b
+    two (suc zero, within, is) (k, other_within, other_is) = subst (λ (l : Literal). IsFalseBut steps except level l) (sym is) start_is
+    two (zero, within, is) (suc zero, other_within, other_is) = inl other_is
+    two (zero, within, is) (zero, other_within, other_is) = absurd (apart (sym is ∙ other_is))
+    two (suc (suc k), within, is) (j, other_within, other_is) = absurd (omega (arith, within))
+    two (k, within, is) (suc (suc j), other_within, other_is) = absurd (omega (arith, other_within))
+best_of_two steps (a ∷ b ∷ c ∷ clause) start except level few there other apart fallen = absurd (omega arith)
 
 pub low_enough : (a b : ℕ) → leb a b ≡ true → a ≤ b
 low_enough a b holds = elim (leb_tells a b) [

@@ -1,20 +1,22 @@
 -- What the holder of entries sees after its parts have changed.
-use Rattle.std.proofs.Common.{◌≡◌, ◌≢◌, ◌∙◌, ℕ, ◌+◌, ◌-◌, ◌<◌, ◌≤◌, zero, suc, [], ◌∷◌, ◌++◌, length, get_or, set, take, Some, None, refl, sym, subst, ap, arith}
+use Rattle.std.proofs.Common.{◌≡◌, ◌≢◌, ◌∙◌, ℕ, ◌+◌, ◌-◌, ◌<◌, ◌≤◌, zero, suc, List, [], ◌∷◌, ◌++◌, length, get_or, set, take, Some, None, refl, sym, subst, ap, arith}
 use Rattle.std.specs.Prelude.{◌⊎◌}
 use Rattle.cc_defs.specs.Clauses.{Literal, IsIn, IsLiteralOver}
 use Rattle.cc_trail.specs.declared.entries.Step.{Step}
 use Rattle.cc_trail.specs.declared.entries.Entries.TheInside.{Inside}
 use Rattle.cc_trail.specs.Links.{no_literal}
-use Rattle.cc_trail.specs.Steps.{EntriesView, step_of, level_after, AreSteps}
-use Rattle.cc_trail.specs.EntryParts.{view_of, AreEntries, IsKept}
+use Rattle.cc_trail.specs.Steps.{EntriesView, AreApart, step_of, level_after, AreSteps}
+use Rattle.cc_trail.specs.EntryParts.{view_of, mark_of, AreMarked, IsKeptIn, IsKept}
 use Rattle.cc_trail.specs.EntrySteps.{IsPopped}
 use Rattle.cc_trail.proofs.Linked.{read_at}
+use Rattle.cc_trail.proofs.Marked.{marked_push, marked_pop}
+use Rattle.cc_trail.proofs.StepLists.{level_count_few}
 use Rattle.cc_trail.proofs.Kept.{found, not_found, place_at, front_length, push_within, pushed, kept_push, popped, last_over, last_level_then, level_falls, kept_pop}
 
 no_step : Step
 no_step = record { lit = no_literal; level = 0; reason = None }
 
-module _ (inside : Inside) (old : EntriesView) (is : view_of inside ≡ old) (kept : AreEntries inside) where
+module _ (inside : Inside) (old : EntriesView) (is : view_of inside ≡ old) (kept : IsKeptIn inside) where
   pub over_here : (literal : Literal) → IsLiteralOver old.variables literal → IsLiteralOver inside.variables literal
   over_here literal over = subst (λ (v : EntriesView). IsLiteralOver v.variables literal) (sym is) over
 
@@ -78,6 +80,28 @@ module _ (inside : Inside) (old : EntriesView) (is : view_of inside ≡ old) (ke
     pushed_here = pushed inside.variables inside.count inside.steps.items inside.literals.items inside.places.items inside.level_count kept step
         (over_here step.lit over) (open_here step.lit.variable open_yet) ∙ ap (λ (v : EntriesView). v.steps ++ step ∷ []) is
 
+    pub marked_then : AreMarked inside.variables (take inside.count inside.steps.items) inside.marks.items → (variable mark : ℕ) → variable ≡ step.lit.variable → mark ≡ mark_of (Some step) →
+        AreMarked inside.variables (take (inside.count + 1) (set inside.steps.items inside.count step)) (set inside.marks.items variable mark)
+    marked_then marked variable mark variable_is mark_is = rw (
+      variable_is,
+      pushed inside.variables inside.count inside.steps.items inside.literals.items inside.places.items inside.level_count kept step
+          (over_here step.lit over) (open_here step.lit.variable open_yet),
+    )
+        (marked_push inside.variables (take inside.count inside.steps.items) step ((over_here step.lit over).1) inside.marks.items mark marked
+        (open_here step.lit.variable open_yet) mark_is)
+
+  pub levels_few : inside.level_count ≤ inside.count
+  levels_few =
+      let levels = level_count_few inside.variables inside.level_count (take inside.count inside.steps.items) kept.are_steps in
+      let front = front_length inside.variables inside.count inside.steps.items inside.literals.items inside.places.items inside.level_count kept in omega arith
+
+  pub mark_here : AreMarked inside.variables (take inside.count inside.steps.items) inside.marks.items → (variable mark : ℕ) → variable ≤ old.variables →
+      mark ≡ get_or inside.marks.items variable mark → mark ≡ mark_of (step_of old.steps variable)
+  mark_here marked variable mark within is_read =
+      let low = within_here variable within in
+      let count = marked.count in
+      read_at inside.marks.items variable mark 0 (omega (arith, low)) is_read ∙ marked.marks_are variable low ∙ ap (λ (v : EntriesView). mark_of (step_of v.steps variable)) is
+
   module _ (some : 0 < old.level_count) where
     pub count_some : inside.count ≡ suc (inside.count - 1)
     count_some = at inside.count refl
@@ -98,6 +122,21 @@ module _ (inside : Inside) (old : EntriesView) (is : view_of inside ≡ old) (ke
       pop_place variable variable_is = rw variable_is
           (place_at inside.variables inside.count inside.steps.items inside.literals.items inside.places.items inside.level_count kept
           (get_or inside.steps.items (inside.count - 1) d).lit.variable (pop_over.1))
+
+      pub marked_popped : AreMarked inside.variables (take inside.count inside.steps.items) inside.marks.items → (variable : ℕ) →
+          variable ≡ (get_or inside.steps.items (inside.count - 1) d).lit.variable → (variable < length inside.marks.items) ×
+          AreMarked inside.variables (take (inside.count - 1) inside.steps.items) (set inside.marks.items variable 0)
+      marked_popped marked variable variable_is =
+          let last : take inside.count inside.steps.items ≡ take (inside.count - 1) inside.steps.items ++ get_or inside.steps.items (inside.count - 1) d ∷ [] =
+          popped inside.variables inside.count inside.steps.items inside.literals.items inside.places.items inside.level_count kept (inside.count - 1) d count_some in
+          let count = marked.count in
+          let over = pop_over.1 in
+          rw variable_is (
+            (omega (arith, over)),
+            marked_pop inside.variables (take (inside.count - 1) inside.steps.items) (get_or inside.steps.items (inside.count - 1) d) over inside.marks.items
+                (subst (λ (ss : List Step). AreMarked inside.variables ss inside.marks.items) last marked)
+                (subst (λ (ss : List Step). AreApart ss) last kept.are_steps.apart),
+          )
 
       pub kept_popped : (variable level : ℕ) → variable ≡ (get_or inside.steps.items (inside.count - 1) d).lit.variable → level ≡ level_after 0 (take (inside.count - 1) inside.steps.items) →
           IsKept inside.variables (inside.count - 1) inside.steps.items inside.literals.items (set inside.places.items variable 0) level

@@ -10,11 +10,11 @@ use Rattle.cc_kernel.specs.Kernels.{KernelView, clauses_of}
 use Rattle.cc_trail.specs.declared.entries.Step.{Step}
 use Rattle.cc_trail.specs.Links.{LinksView, watched_at}
 use Rattle.cc_trail.specs.Steps.{EntriesView, step_of, values_to}
-use Rattle.cc_trail.specs.Watches.{IsTrueBy, IsWatched, HasReason, partner}
-use Rattle.cc_trail.specs.Trails.{IsPropagatedAt}
+use Rattle.cc_trail.specs.Watches.{IsTrueBy, IsWatched, Watches, HasReason, partner}
+use Rattle.cc_trail.specs.Trails.{IsPropagatedAt, number_of}
 use Rattle.cc_trail.specs.Visits.{IsFalseAt, IsFalseBut, AreSound, AreGrown, AreWatched, IsVisiting}
 use Rattle.cc_trail.proofs.StepLists.{in_left, in_right, steps_push}
-use Rattle.cc_trail.proofs.Values.{closed_same, to_front, only_high, reasoned_push, true_more, take_left}
+use Rattle.cc_trail.proofs.Values.{closed_same, to_front, only_high, reasoned_push, true_more, watches_more, take_left}
 use Rattle.cc_trail.proofs.Adding.{get_append}
 
 -- ---- literals
@@ -104,7 +104,8 @@ watched_grown kernel longs visited old new links grown watched = record {
   variables = watched.variables;
   within = let before = watched.within in omega (arith, ap length grown.steps, length-append old.steps grown.more);
   nodes = watched.nodes;
-  watching = watched.watching;
+  watching = λ node low. subst (λ (steps : List Step). Watches (clauses_of kernel) steps (number_of longs node) links.watched node) (sym grown.steps)
+      (watches_more (clauses_of kernel) old.steps grown.more (number_of longs node) links.watched node (watched.watching node low));
   watches = λ node low. watched_more visited old new grown watched.within links.watched node (watched.watches node low);
 }
 
@@ -114,7 +115,7 @@ visiting_grown kernel longs place step old new links grown sound visiting = reco
   sound = sound;
   watched = watched_grown kernel longs place old new links grown visiting.watched;
   here = subst (λ (steps : List Step). slice_get steps place ≡ Some step) (sym grown.steps) (get_append old.steps grown.more place step visiting.here);
-  taken = visiting.taken;
+  ahead = visiting.ahead;
   done = λ node low. elim (visiting.done node low) [
     | inl here ↦ inl here
     | inr is ↦

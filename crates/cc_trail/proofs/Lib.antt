@@ -1,7 +1,9 @@
 mod Chains
+mod LinkViews
 mod Linked
 mod StepLists
 mod Kept
+mod Marked
 mod EntryViews
 mod Backs
 mod Adding

@@ -1,5 +1,5 @@
 -- What the holder of a trail sees after propagation, and that it is closed.
-use Rattle.std.proofs.Common.{◌≡◌, ◌∙◌, ℕ, ◌-◌, ◌*◌, ◌<◌, ◌≤◌, suc, inl, inr, List, [], ◌∷◌, length, get_or, Option, Some, None, option_map, refl, sym, subst, ap, arith}
+use Rattle.std.proofs.Common.{◌≡◌, ◌∙◌, ℕ, ◌-◌, ◌*◌, ◌<◌, ◌≤◌, suc, inl, inr, List, [], ◌∷◌, length, take, get_or, Option, Some, None, option_map, refl, sym, subst, ap, arith}
 use Rattle.std.specs.Prelude.{◌⊎◌, Contains, slice_get, IfNone}
 use Rattle.std.proofs.lemmas.List.{length-map, take_all}
 use Rattle.std.proofs.lemmas.Option.{slice_get-get_or}
@@ -10,14 +10,15 @@ use Rattle.cc_trail.specs.declared.entries.Step.{Step}
 use Rattle.cc_trail.specs.declared.trail.Trail.TheInside.{Inside}
 use Rattle.cc_trail.specs.Links.{LinksView, watched_at}
 use Rattle.cc_trail.specs.Steps.{EntriesView, AreApart, step_of, sign_of, values_of}
-use Rattle.cc_trail.specs.Watches.{IsFalseBy, IsWatched, IsShort, partner}
+use Rattle.cc_trail.specs.Watches.{IsFalseBy, IsWatched, IsShort, IsMetForGood, partner}
 use Rattle.cc_trail.specs.Trails.{TrailView, Fits, IsSettled, number_of}
 use Rattle.cc_trail.specs.TrailParts.{view_of, AreParts}
-use Rattle.cc_trail.specs.Visits.{AreSound, AreWatched, IsMet}
-use Rattle.cc_trail.proofs.StepLists.{step_found, found_step}
+use Rattle.cc_trail.specs.Visits.{AreSound, AreGrown, AreWatched, IsMet}
+use Rattle.cc_trail.proofs.StepLists.{in_take, levels_most, step_found, found_step}
 use Rattle.cc_trail.proofs.Attaching.{half_first, partner_first, partner_second}
 use Rattle.cc_trail.proofs.Adding.{Spares, not_failed, not_unit}
-use Rattle.cc_trail.proofs.Growing.{same_or_opposite}
+use Rattle.cc_trail.proofs.Growing.{same_or_opposite, grown_in, grown_then}
+use Rattle.cc_trail.proofs.Values.{good_more}
 use Rattle.cc_trail.proofs.Visiting.{numbered_same}
 
 -- ---- closed
@@ -75,7 +76,10 @@ module _ (kernel : KernelView) (shorts longs : List ℕ) (visited : ℕ) (entrie
               inl (watched_at links.watched (partner node), two, true_by entries.steps sound.are_steps.apart (watched_at links.watched (partner node)) true_is.0 true_is.1 true_is.2)
         ]
         | inl one_open ↦ elim (value_tells entries.steps (watched_at links.watched (partner node)) (step_of entries.steps (watched_at links.watched (partner node)).variable) refl) [
-          | inl two_open ↦ inr (watched_at links.watched node, watched_at links.watched (partner node), watching.apart, one, two, one_open, two_open)
+          | inl two_open ↦ elim watching.apart [
+            | inl apart ↦ inr (watched_at links.watched node, watched_at links.watched (partner node), apart, one, two, one_open, two_open)
+            | inr is ↦ inl (watched_at links.watched node, one, true_by entries.steps sound.are_steps.apart (watched_at links.watched node) is.0 is.1 is.2)
+          ]
           | inr valued ↦ elim valued [
             | inl (step, among, is) ↦ inl (watched_at links.watched (partner node), two, true_by entries.steps sound.are_steps.apart (watched_at links.watched (partner node)) step among is)
             | inr (step, among, is) ↦
@@ -139,13 +143,44 @@ module _ (inside : Inside) (old : TrailView) (is : view_of inside ≡ old) (part
     watches = fits_here.clauses.watches;
   }
 
+  good_here : (entries : EntriesView) → AreGrown inside.entries entries → (number : ℕ) → IsIn (take inside.met inside.shorts.items) number →
+      IsMetForGood (clauses_of kernel) entries.steps number
+  good_here entries grown number here =
+      subst (λ (steps : List Step). IsMetForGood (clauses_of kernel) steps number) (sym grown.steps)
+      (good_more (clauses_of kernel) inside.entries.steps grown.more number (fits_here.clauses.met number here))
+
+  pub still_good : (entries : EntriesView) → AreGrown inside.entries entries → (inside.met ≤ length inside.shorts.items) ×
+      ((number : ℕ) → IsIn (take inside.met inside.shorts.items) number → IsMetForGood (clauses_of kernel) entries.steps number)
+  still_good entries grown = (fits_here.clauses.met_few, good_here entries grown)
+
+  pub known_here : (number : ℕ) → IsIn (take inside.met inside.shorts.items) number → IsMet (clauses_of kernel) inside.entries.steps number
+  known_here number here =
+      let (clause, numbered, literal, member, is) = fits_here.clauses.met number here in
+      (clause, numbered, literal, member, is.0, is.1, is.2)
+
+  -- so many are met for good, where all are met: at level 0 all
+  pub good_then : (met count : ℕ) (made entries : EntriesView) → (met ≡ inside.met) ⊎ ((met ≡ count) × (made.level_count ≡ 0)) → count ≡ length inside.shorts.items →
+      AreGrown inside.entries made → AreGrown made entries → AreSound kernel made → ((number : ℕ) → IsIn inside.shorts.items number → IsMet (clauses_of kernel) made.steps number) →
+      (met ≤ length inside.shorts.items) × ((number : ℕ) → IsIn (take met inside.shorts.items) number → IsMetForGood (clauses_of kernel) entries.steps number)
+  good_then met count made entries (inl same) count_is one two sound all =
+      rw same (still_good entries (grown_then inside.entries made entries one two))
+  good_then met count made entries (inr (is, none)) count_is one two sound all = (omega arith, now_good)
+    where
+      now_good : (number : ℕ) → IsIn (take met inside.shorts.items) number → IsMetForGood (clauses_of kernel) entries.steps number
+      now_good number here =
+          let (clause, numbered, literal, member, step, among, lit_is) = all number (in_take met inside.shorts.items number here) in
+          let low = levels_most 0 made.steps sound.are_steps.rising step among in
+          let levels = sound.are_steps.levels in
+          (clause, numbered, literal, member, (step, grown_in made entries two step among, lit_is, omega (arith, low)))
+
   each_here : old.attached ≡ length kernel.entries → (number : ℕ) → 0 < number → number ≤ length (clauses_of kernel) → IsIn inside.shorts.items number ⊎ IsIn inside.longs.items number
   each_here attached number some most =
       let here : inside.attached ≡ old.attached = ap (λ (v : TrailView). v.attached) is in
       let count : length (clauses_of kernel) ≡ length kernel.entries = length-map kernel.entries (λ (entry : Entry). entry.clause) in
       fits_here.clauses.each number some (omega arith)
 
-  pub fits_then : (visited : ℕ) (entries : EntriesView) (links : LinksView) → AreSound kernel entries → AreWatched kernel inside.longs.items visited entries links →
+  pub fits_then : (visited met : ℕ) (entries : EntriesView) (links : LinksView) → AreSound kernel entries → AreWatched kernel inside.longs.items visited entries links →
+      (met ≤ length inside.shorts.items) × ((number : ℕ) → IsIn (take met inside.shorts.items) number → IsMetForGood (clauses_of kernel) entries.steps number) →
       Fits (record {
         variables = entries.variables;
         steps = entries.steps;
@@ -153,15 +188,18 @@ module _ (inside : Inside) (old : TrailView) (is : view_of inside ≡ old) (part
         attached = inside.attached;
         shorts = inside.shorts.items;
         longs = inside.longs.items;
+        met = met;
         watched = links.watched;
         visited = visited;
       }) kernel
-  fits_then visited entries links sound watched = record {
+  fits_then visited met entries links sound watched good = record {
     variables = sound.variables;
     clauses = record {
       attached = fits_here.clauses.attached;
       reasons = sound.reasons;
       shorts = fits_here.clauses.shorts;
+      met_few = good.0;
+      met = good.1;
       longs = watched.watching;
       each = fits_here.clauses.each;
       watches = watched.watches;

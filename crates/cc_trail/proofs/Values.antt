@@ -7,8 +7,8 @@ use Rattle.cc_defs.specs.Assignments.{Values, IsClosed}
 use Rattle.cc_trail.specs.declared.entries.Step.{Step}
 use Rattle.cc_trail.specs.Links.{watched_at}
 use Rattle.cc_trail.specs.Steps.{values_of, values_to, steps_to, AreSteps}
-use Rattle.cc_trail.specs.Watches.{IsTrueBy, HasReason, AreReasonedAfter, partner}
-use Rattle.cc_trail.specs.Trails.{TrailView, FitsClauses, IsSettledOver, decided, back_at}
+use Rattle.cc_trail.specs.Watches.{IsTrueBy, IsMetForGood, Watches, HasReason, AreReasonedAfter, partner}
+use Rattle.cc_trail.specs.Trails.{TrailView, FitsClauses, number_of, IsSettledOver, decided, back_at}
 use Rattle.cc_trail.proofs.StepLists.{in_left, in_cases, in_take, levels_most}
 
 -- ---- closed sets that give the same values
@@ -107,6 +107,22 @@ reasoned_front clauses before (step ∷ steps) gone reasoned = (reasoned.0, reas
 pub true_more : (steps more : List Step) (literal : Literal) (level : ℕ) → IsTrueBy steps literal level → IsTrueBy (steps ++ more) literal level
 true_more steps more literal level (step, here, is, low) = (step, in_left steps more step here, is, low)
 
+pub watches_more : (clauses : List (List Literal)) (steps more : List Step) (number : ℕ) (watched : List Literal) (node : ℕ) → Watches clauses steps number watched node →
+    Watches clauses (steps ++ more) number watched node
+watches_more clauses steps more number watched node watches = record {
+  clause = watches.clause;
+  numbered = watches.numbered;
+  here = watches.here;
+  there = watches.there;
+  apart = elim watches.apart [
+    | inl apart ↦ inl apart
+    | inr is ↦ inr (true_more steps more (watched_at watched node) 0 is)
+  ];
+}
+
+pub good_more : (clauses : List (List Literal)) (steps more : List Step) (number : ℕ) → IsMetForGood clauses steps number → IsMetForGood clauses (steps ++ more) number
+good_more clauses steps more number (clause, numbered, literal, member, is) = (clause, numbered, literal, member, true_more steps more literal 0 is)
+
 pub take_left : (n : ℕ) (steps more : List Step) → n ≤ length steps → take n (steps ++ more) ≡ take n steps
 take_left zero steps more within = refl
 take_left (suc n) [] more within = absurd (omega arith)
@@ -120,7 +136,11 @@ fits_decided trail literal clauses visited fits =
       attached = fits.attached;
       reasons = reasoned_push clauses [] trail.steps (record { lit = literal; level = trail.level_count + 1; reason = None }) fits.reasons (λ number is. cc);
       shorts = fits.shorts;
-      longs = fits.longs;
+      met_few = fits.met_few;
+      met = λ number here. good_more clauses trail.steps ((record { lit = literal; level = trail.level_count + 1; reason = None }) ∷ []) number (fits.met number here);
+      longs = λ node within.
+          watches_more clauses trail.steps ((record { lit = literal; level = trail.level_count + 1; reason = None }) ∷ []) (number_of trail.longs node) trail.watched node
+          (fits.longs node within);
       each = fits.each;
       watches = λ node within step here is.
           true_more trail.steps ((record { lit = literal; level = trail.level_count + 1; reason = None }) ∷ []) (watched_at trail.watched (partner node)) step.level
@@ -142,7 +162,22 @@ fits_back trail level gone clauses front high low fits = record {
   attached = fits.attached;
   reasons = reasoned_front clauses [] (steps_to level trail.steps) gone (subst (λ (ss : List Step). AreReasonedAfter clauses [] ss) front fits.reasons);
   shorts = fits.shorts;
-  longs = fits.longs;
+  met_few = fits.met_few;
+  met = λ number here.
+      let (clause, numbered, met_by, member, is) = fits.met number here in
+      (clause, numbered, met_by, member, still 0 (omega arith) met_by is);
+  longs = λ node within.
+      let watches = fits.longs node within in
+      record {
+        clause = watches.clause;
+        numbered = watches.numbered;
+        here = watches.here;
+        there = watches.there;
+        apart = elim watches.apart [
+          | inl apart ↦ inl apart
+          | inr is ↦ inr (still 0 (omega arith) (watched_at trail.watched node) is)
+        ];
+      };
   each = fits.each;
   watches = λ node within step here is.
       let kept_in : IsIn (steps_to level trail.steps) step = in_take (min trail.visited (length (steps_to level trail.steps))) (steps_to level trail.steps) step here in

@@ -162,9 +162,9 @@ module _ (kernel : KernelView) (entries : EntriesView) (sound : AreSound kernel 
 -- ---- the visit of a node
 
 module _ (kernel : KernelView) (longs : List ℕ) (place : ℕ) (step : Step) (entries : EntriesView) (links : LinksView)
-    (visiting : IsVisiting kernel longs place step entries links) (node : ℕ) (begins : BeginsWith links.taken node) where
+    (visiting : IsVisiting kernel longs place step entries links) (node : ℕ) (begins : BeginsWith links.ahead node) where
   mine : (node < length links.watched) × (watched_at links.watched node ≡ opposite step.lit)
-  mine = visiting.taken node (rw (begins.1) (inl refl))
+  mine = visiting.ahead node (rw (begins.1) (inl refl))
 
   pub low : node < length links.watched
   low = mine.0
@@ -178,7 +178,7 @@ module _ (kernel : KernelView) (longs : List ℕ) (place : ℕ) (step : Step) (e
   pub half_low : node / 2 < length longs
   half_low = let nodes = visiting.watched.nodes in half_below node (length longs) (let here = low in omega arith)
 
-  pub watching : Watches (clauses_of kernel) (number_of longs node) links.watched node
+  pub watching : Watches (clauses_of kernel) entries.steps (number_of longs node) links.watched node
   watching = visiting.watched.watching node low
 
   pub there : IsThere kernel (number_of longs node)
@@ -196,10 +196,20 @@ module _ (kernel : KernelView) (longs : List ℕ) (place : ℕ) (step : Step) (e
   pub fallen_at : IsFalseAt entries.steps (opposite step.lit) step.level
   fallen_at = (step, step_in, sym (opposite_twice step.lit), refl)
 
+  -- the watched literals differ, since this one is false
+  really_apart : watched_at links.watched node ≢ watched_at links.watched (partner node)
+  really_apart = elim watching.apart [
+    | inl apart ↦ apart
+    | inr true_is ↦
+        let lit_is : true_is.0.lit ≡ opposite step.lit = true_is.2 ∙ mine.1 in
+        let step_is : true_is.0 ≡ step = same_step entries.steps are.apart true_is.0 step true_is.1 step_in (ap (λ (l : Literal). l.variable) lit_is) in
+        absurd (not_opposite step.lit (ap (λ (t : Step). t.lit) (sym step_is) ∙ lit_is))
+  ]
+
   -- no step made the other one false
   other_not_false : (s : Step) → IsIn (take (suc place) entries.steps) s → s.lit ≡ opposite (watched_at links.watched (partner node)) → ⊥
   other_not_false s here is = elim (take_next place entries.steps step s visiting.here here) [
-    | inr same ↦ watching.apart (mine.1 ∙ ap (λ (t : Step). opposite t.lit) same ∙ ap opposite is ∙ opposite_twice (watched_at links.watched (partner node)))
+    | inr same ↦ really_apart (mine.1 ∙ ap (λ (t : Step). opposite t.lit) same ∙ ap opposite is ∙ opposite_twice (watched_at links.watched (partner node)))
     | inl before ↦
         let true_is = visiting.watched.watches (partner node) (partner_low node low) s before is in
         let lit_is : true_is.0.lit ≡ opposite step.lit = true_is.2 ∙ ap (λ (k : ℕ). watched_at links.watched k) (partner_twice node) ∙ mine.1 in
@@ -224,10 +234,12 @@ module _ (kernel : KernelView) (longs : List ℕ) (place : ℕ) (step : Step) (e
   fallen_mine = subst (λ (l : Literal). Contains watching.clause l) (mine.1) watching.here
 
   pub fallen_apart : opposite step.lit ≢ watched_at links.watched (partner node)
-  fallen_apart e = watching.apart (mine.1 ∙ e)
+  fallen_apart e = really_apart (mine.1 ∙ e)
 
   -- the node watches this literal from now on
-  module _ (once : IsIn (drop 1 links.taken) node → ⊥) (literal : Literal) (member : Contains watching.clause literal) (apart : literal ≢ watched_at links.watched (partner node))
+  module _ (once : IsIn (drop 1 links.ahead) node → ⊥) (literal : Literal) (member : Contains watching.clause literal)
+      (apart : (literal ≢ watched_at links.watched (partner node)) ⊎
+      ((literal ≡ watched_at links.watched (partner node)) × IsTrueBy entries.steps (watched_at links.watched (partner node)) 0))
       (right : (s : Step) → IsIn (take (suc place) entries.steps) s → s.lit ≡ opposite literal → IsTrueBy entries.steps (watched_at links.watched (partner node)) s.level) where
     at_node : watched_at (set links.watched node literal) node ≡ literal
     at_node = get_or-set_same links.watched node literal no_literal low
@@ -241,14 +253,17 @@ module _ (kernel : KernelView) (longs : List ℕ) (place : ℕ) (step : Step) (e
     partner_other : (k : ℕ) → k ≢ partner node → partner k ≢ node
     partner_other k other e = other (sym (partner_twice k) ∙ ap partner e)
 
-    watching_then : (k : ℕ) → k < length links.watched → Watches (clauses_of kernel) (number_of longs k) (set links.watched node literal) k
+    watching_then : (k : ℕ) → k < length links.watched → Watches (clauses_of kernel) entries.steps (number_of longs k) (set links.watched node literal) k
     watching_then k within = elim (eqb_tells k node) [
       | inl same ↦ rw (same.1) (record {
         clause = watching.clause;
         numbered = watching.numbered;
         here = rw at_node member;
         there = rw at_partner watching.there;
-        apart = rw (at_node, at_partner) apart;
+        apart = rw (at_node, at_partner) (elim apart [
+          | inl differ ↦ inl differ
+          | inr same_too ↦ inr (rw (same_too.0) (same_too.1))
+        ]);
       })
       | inr other ↦ elim (eqb_tells k (partner node)) [
         | inl same ↦ rw (same.1) (record {
@@ -256,7 +271,10 @@ module _ (kernel : KernelView) (longs : List ℕ) (place : ℕ) (step : Step) (e
           numbered = rw (partner_half node) watching.numbered;
           here = rw at_partner watching.there;
           there = rw (partner_twice node, at_node) member;
-          apart = rw (partner_twice node, at_node, at_partner) (λ e. apart (sym e));
+          apart = rw (partner_twice node, at_node, at_partner) (elim apart [
+            | inl differ ↦ inl (λ e. differ (sym e))
+            | inr same_too ↦ inr (same_too.1)
+          ]);
         })
         | inr far ↦
             let before = visiting.watched.watching k within in
@@ -281,14 +299,14 @@ module _ (kernel : KernelView) (longs : List ℕ) (place : ℕ) (step : Step) (e
       ]
     ]
 
-    rest_is : drop 1 links.taken ≡ begins.0
+    rest_is : drop 1 links.ahead ≡ begins.0
     rest_is = rw (begins.1) refl
 
     count : length (set links.watched node literal) ≡ length links.watched
     count = length-set links.watched node literal
 
     done_then : (k : ℕ) → k < length links.watched →
-        IsIn (drop 1 links.taken) k ⊎ IsWatched (take (suc place) entries.steps) entries.steps (set links.watched node literal) k
+        IsIn (drop 1 links.ahead) k ⊎ IsWatched (take (suc place) entries.steps) entries.steps (set links.watched node literal) k
     done_then k within = elim (visiting.done k within) [
       | inr is ↦ inr (watches_then (take (suc place) entries.steps) (λ s here. here) k within (λ a b. is))
       | inl here ↦ elim (subst (λ (ks : List ℕ). IsIn ks k) (begins.1) here) [
@@ -297,12 +315,12 @@ module _ (kernel : KernelView) (longs : List ℕ) (place : ℕ) (step : Step) (e
       ]
     ]
 
-    taken_then : (k : ℕ) → IsIn (drop 1 links.taken) k → (k < length links.watched) × (watched_at (set links.watched node literal) k ≡ opposite step.lit)
+    taken_then : (k : ℕ) → IsIn (drop 1 links.ahead) k → (k < length links.watched) × (watched_at (set links.watched node literal) k ≡ opposite step.lit)
     taken_then k here =
-        let before = visiting.taken k (rw (begins.1) (inr (subst (λ (ks : List ℕ). IsIn ks k) rest_is here))) in
-        (before.0, at_other k (λ e. once (subst (λ (j : ℕ). IsIn (drop 1 links.taken) j) e here)) ∙ before.1)
+        let before = visiting.ahead k (rw (begins.1) (inr (subst (λ (ks : List ℕ). IsIn ks k) rest_is here))) in
+        (before.0, at_other k (λ e. once (subst (λ (j : ℕ). IsIn (drop 1 links.ahead) j) e here)) ∙ before.1)
 
-    pub moved : IsVisiting kernel longs place step entries (record links { watched = set links.watched node literal; taken = drop 1 links.taken })
+    pub moved : IsVisiting kernel longs place step entries (record links { watched = set links.watched node literal; ahead = drop 1 links.ahead })
     moved = record {
       sound = visiting.sound;
       watched = record {
@@ -315,7 +333,7 @@ module _ (kernel : KernelView) (longs : List ℕ) (place : ℕ) (step : Step) (e
             (λ a b. visiting.watched.watches k old_within);
       };
       here = visiting.here;
-      taken = λ k here. let is = taken_then k here in (subst (λ (n : ℕ). k < n) (sym count) (is.0), is.1);
+      ahead = λ k here. let is = taken_then k here in (subst (λ (n : ℕ). k < n) (sym count) (is.0), is.1);
       done = λ k within. done_then k (subst (λ (n : ℕ). k < n) count within);
     }
 
@@ -363,23 +381,33 @@ module _ (kernel : KernelView) (longs : List ℕ) (place : ℕ) (step : Step) (e
 
   -- what is there after each of the ways to put it
 
-  module _ (once : IsIn (drop 1 links.taken) node → ⊥) (other : Literal) (other_is : other ≡ watched_at links.watched (partner node)) (literal : Literal) (new : LinksView)
-      (new_is : ◌≡◌ {A = LinksView} new (record links { watched = set links.watched node literal; taken = drop 1 links.taken })) where
+  module _ (once : IsIn (drop 1 links.ahead) node → ⊥) (other : Literal) (other_is : other ≡ watched_at links.watched (partner node)) (literal : Literal) (new : LinksView)
+      (new_is : ◌≡◌ {A = LinksView} new (record links { watched = set links.watched node literal; ahead = drop 1 links.ahead })) where
     pub kept_then : literal ≡ opposite step.lit → IsTrueBy entries.steps other step.level → IsVisiting kernel longs place step entries new
     kept_then is true_is = rw (new_is, is)
-        (moved once (opposite step.lit) fallen_mine fallen_apart (kept_right (subst (λ (l : Literal). IsTrueBy entries.steps l step.level) other_is true_is)))
+        (moved once (opposite step.lit) fallen_mine (inl fallen_apart) (kept_right (subst (λ (l : Literal). IsTrueBy entries.steps l step.level) other_is true_is)))
+
+    -- both watch the other one from now on, which is true at level 0
+    pub gone_then : literal ≡ other → IsTrueBy entries.steps other 0 → IsVisiting kernel longs place step entries new
+    gone_then is true_is =
+        let here : IsTrueBy entries.steps (watched_at links.watched (partner node)) 0 = subst (λ (l : Literal). IsTrueBy entries.steps l 0) other_is true_is in
+        rw (new_is, is, other_is)
+        (moved once (watched_at links.watched (partner node)) watching.there (inr (refl, here)) (λ s _ _. raised s.level here))
+      where
+        raised : (level : ℕ) → IsTrueBy entries.steps (watched_at links.watched (partner node)) 0 → IsTrueBy entries.steps (watched_at links.watched (partner node)) level
+        raised level (t, among, lit_is, low) = (t, among, lit_is, omega (arith, low))
 
     module _ (clause : List Literal) (numbered : IsNumbered (clauses_of kernel) (number_of longs node) clause) (member : Contains clause literal) (apart : literal ≢ other) where
       apart_here : literal ≢ watched_at links.watched (partner node)
       apart_here e = apart (e ∙ sym other_is)
 
       pub open_then : (IsFalseBy entries.steps literal → ⊥) → IsVisiting kernel longs place step entries new
-      open_then not_false = rw new_is (moved once literal (in_watching clause numbered literal member) apart_here (open_right literal not_false))
+      open_then not_false = rw new_is (moved once literal (in_watching clause numbered literal member) (inl apart_here) (open_right literal not_false))
 
       pub fallen_then : (level : ℕ) → IsFalseAt entries.steps literal level → All (IsFalseBut entries.steps other level) clause → IsTrueBy entries.steps other entries.level_count →
           IsVisiting kernel longs place step entries new
       fallen_then level fallen others true_is = rw new_is
-          (moved once literal (in_watching clause numbered literal member) apart_here
+          (moved once literal (in_watching clause numbered literal member) (inl apart_here)
           (fallen_right literal level fallen
           (subst (λ (l : Literal). IsTrueBy entries.steps l level) other_is
           (true_to kernel entries visiting.sound clause (numbered_in (clauses_of kernel) (number_of longs node) clause numbered) other

@@ -1,12 +1,11 @@
--- Walks: over the nodes that were taken out, over the steps, and over the clauses of fewer than two literals.
-use Rattle.std.proofs.Common.{◌≡◌, ◌∙◌, ℕ, ◌+◌, ◌<◌, zero, suc, inl, inr, List, [], ◌∷◌, length, set, take, drop, Some, refl, sym, subst, ap, arith}
+-- Walks: over the nodes that watch a literal, over the steps, and over the clauses of fewer than two literals.
+use Rattle.std.proofs.Common.{◌≡◌, ◌∙◌, ℕ, ◌+◌, ◌<◌, zero, suc, inl, inr, List, [], ◌∷◌, length, take, Some, sym, subst, ap, arith}
 use Rattle.std.specs.Prelude.{◌⊎◌, Contains, slice_get}
-use Rattle.std.proofs.lemmas.List.{set-get_or}
 use Rattle.std.proofs.lemmas.Option.{slice_get_within}
 use Rattle.cc_defs.specs.Clauses.{Literal, opposite, IsNumbered, IsIn, IsLiteralOver}
 use Rattle.cc_kernel.specs.Kernels.{KernelView, clauses_of}
 use Rattle.cc_trail.specs.declared.entries.Step.{Step}
-use Rattle.cc_trail.specs.Links.{LinksView, AreTaken, BeginsWith, no_literal, watched_at}
+use Rattle.cc_trail.specs.Links.{LinksView, AreAhead, watched_at}
 use Rattle.cc_trail.specs.Steps.{EntriesView}
 use Rattle.cc_trail.specs.Watches.{IsFalseBy, IsWatched, HasReason, IsShort}
 use Rattle.cc_trail.specs.Trails.{IsFailedClause}
@@ -15,52 +14,25 @@ use Rattle.cc_trail.proofs.StepLists.{in_take}
 use Rattle.cc_trail.proofs.Growing.{opposite_twice, literals_tell, grown_in}
 use Rattle.cc_trail.proofs.Visiting.{in_get, take_next, numbered_same, false_by}
 
--- ---- nodes are put back
-
-pub record IsPutting (old now : LinksView) (literal : Literal) : Type 0 where
-  pub variables : now.variables ≡ old.variables
-  pub watched : now.watched ≡ old.watched
-  pub taken : (node : ℕ) → IsIn now.taken node → (node < length now.watched) × (watched_at now.watched node ≡ literal)
-
-pub putting_on : (old now : LinksView) (literal : Literal) (node : ℕ) → IsPutting old now literal → BeginsWith now.taken node →
-    IsPutting old (record now { watched = set now.watched node literal; taken = drop 1 now.taken }) literal
-putting_on old now literal node putting begins =
-    let mine = putting.taken node (rw (begins.1) (inl refl)) in
-    let same : set now.watched node literal ≡ now.watched = subst (λ (l : Literal). set now.watched node l ≡ now.watched) (mine.1) (set-get_or now.watched node no_literal) in
-    record {
-      variables = putting.variables;
-      watched = same ∙ putting.watched;
-      taken = rw same (λ k here. putting.taken k (rw (begins.1) (inr (subst (λ (ks : List ℕ). IsIn (drop 1 ks) k) (begins.1) here))));
-    }
-
-pub put_all : (old now : LinksView) (literal : Literal) → IsPutting old now literal → now.taken ≡ [] → ◌≡◌ {A = LinksView} now (record old { taken = [] })
-put_all old now literal putting none =
-    ap (λ (n : ℕ). let w : LinksView = record now { variables = n } in w) putting.variables ∙
-    ap (λ (ls : List Literal). let w : LinksView = record now { variables = old.variables; watched = ls } in w) putting.watched ∙
-    ap (λ (ks : List ℕ). let w : LinksView = record old { taken = ks } in w) none
-
-pub fewer_taken : (taken now : List ℕ) (node : ℕ) → BeginsWith taken node → now ≡ drop 1 taken → length now < length taken
-fewer_taken taken now node begins is = rw (is, begins.1) (omega arith)
-
 -- ---- a step is visited
 
 module _ (kernel : KernelView) (longs : List ℕ) (place : ℕ) (step : Step) (entries : EntriesView) (here : slice_get entries.steps place ≡ Some step) where
   pub fallen_over : (variables : ℕ) → AreSound kernel entries → variables ≡ kernel.variables → IsLiteralOver variables (opposite step.lit)
   fallen_over variables sound is = rw (is ∙ sym sound.variables) (sound.are_steps.over step (in_take (suc place) entries.steps step (in_get entries.steps place step here)))
 
-  module _ (old new : LinksView) (sound : AreSound kernel entries) (watched : AreWatched kernel longs place entries old) (taken : AreTaken old new (opposite step.lit)) where
+  module _ (old new : LinksView) (sound : AreSound kernel entries) (watched : AreWatched kernel longs place entries old) (begun : AreAhead old new (opposite step.lit)) where
     again : AreWatched kernel longs place entries new
     again = record {
-      variables = taken.variables ∙ watched.variables;
+      variables = begun.variables ∙ watched.variables;
       within = watched.within;
-      nodes = ap length taken.watched ∙ watched.nodes;
-      watching = rw taken.watched watched.watching;
-      watches = rw taken.watched watched.watches;
+      nodes = ap length begun.watched ∙ watched.nodes;
+      watching = rw begun.watched watched.watching;
+      watches = rw begun.watched watched.watches;
     }
 
-    done_yet : (node : ℕ) → node < length old.watched → IsIn new.taken node ⊎ IsWatched (take (suc place) entries.steps) entries.steps old.watched node
+    done_yet : (node : ℕ) → node < length old.watched → IsIn new.ahead node ⊎ IsWatched (take (suc place) entries.steps) entries.steps old.watched node
     done_yet node low = elim (literals_tell (watched_at old.watched node) (opposite step.lit)) [
-      | inl same ↦ inl ((taken.nodes node).1 (low, same))
+      | inl same ↦ inl ((begun.nodes node).1 (low, same))
       | inr other ↦ inr (λ s among is. elim (take_next place entries.steps step s here among) [
         | inl before ↦ watched.watches node low s before is
         | inr same ↦ absurd (other (sym (opposite_twice (watched_at old.watched node)) ∙ ap opposite (sym is) ∙ ap (λ (t : Step). opposite t.lit) (sym same)))
@@ -72,11 +44,11 @@ module _ (kernel : KernelView) (longs : List ℕ) (place : ℕ) (step : Step) (e
       sound = sound;
       watched = again;
       here = here;
-      taken = rw taken.watched (λ node among. (taken.nodes node).0 among);
-      done = rw taken.watched done_yet;
+      ahead = rw begun.watched (λ node among. (begun.nodes node).0 among);
+      done = rw begun.watched done_yet;
     }
 
-pub put_watched : (kernel : KernelView) (longs : List ℕ) (place : ℕ) (entries : EntriesView) (old new : LinksView) → ◌≡◌ {A = LinksView} new (record old { taken = [] }) →
+pub put_watched : (kernel : KernelView) (longs : List ℕ) (place : ℕ) (entries : EntriesView) (old new : LinksView) → ◌≡◌ {A = LinksView} new (record old { ahead = [] }) →
     AreWatched kernel longs place entries old → AreWatched kernel longs place entries new
 put_watched kernel longs place entries old new is watched = rw is (record {
   variables = watched.variables;
@@ -87,7 +59,7 @@ put_watched kernel longs place entries old new is watched = rw is (record {
 })
 
 pub visit_ends : (kernel : KernelView) (longs : List ℕ) (place : ℕ) (step : Step) (entries : EntriesView) (links : LinksView) →
-    IsVisiting kernel longs place step entries links → links.taken ≡ [] → AreWatched kernel longs (place + 1) entries links
+    IsVisiting kernel longs place step entries links → links.ahead ≡ [] → AreWatched kernel longs (place + 1) entries links
 visit_ends kernel longs place step entries links visiting none =
     let within = slice_get_within entries.steps place step visiting.here in
     let next : suc place ≡ place + 1 = omega arith in

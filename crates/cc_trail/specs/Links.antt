@@ -1,12 +1,12 @@
 -- Watch links as their holder sees them. Each node of a link stands for one of the two watched literals of a clause.
-use Rattle.std.specs.Prelude.{◌≡◌, ℕ, ◌+◌, ◌*◌, ◌<◌, ◌≤◌, ◌↔◌, ◌⊎◌, false, if◌then◌else◌, List, [], ◌∷◌, length, get_or}
+use Rattle.std.specs.Prelude.{◌≡◌, ℕ, ◌+◌, ◌*◌, ◌<◌, ◌↔◌, false, if◌then◌else◌, List, ◌∷◌, length, get_or}
 use Rattle.cc_defs.specs.Clauses.{IsIn, Literal}
 
--- the number of variables, the literal that each node watches, and the nodes that were taken out of their links
+-- the number of variables, the literal that each node watches, and the nodes that are ahead of the walk that goes on, in order
 pub record LinksView : Type 0 where
   pub variables : ℕ
   pub watched : List Literal
-  pub taken : List ℕ
+  pub ahead : List ℕ
 
 -- what is read past the end
 abbrev pub no_literal : Literal
@@ -24,8 +24,8 @@ code_of literal = 2 * literal.variable + (if literal.positive then 1 else 0)
 abbrev pub BeginsWith : List ℕ → ℕ → Type 0
 BeginsWith numbers first = (rest : List ℕ) × (numbers ≡ first ∷ rest)
 
--- just the nodes that watch a literal were taken out
-pub record AreTaken (old new : LinksView) (literal : Literal) : Type 0 where
+-- a walk begins: just the nodes that watch a literal are ahead of it
+pub record AreAhead (old new : LinksView) (literal : Literal) : Type 0 where
   pub variables : new.variables ≡ old.variables
   pub watched : new.watched ≡ old.watched
-  pub nodes : (node : ℕ) → IsIn new.taken node ↔ ((node < length old.watched) × (watched_at old.watched node ≡ literal))
+  pub nodes : (node : ℕ) → IsIn new.ahead node ↔ ((node < length old.watched) × (watched_at old.watched node ≡ literal))

@@ -11,6 +11,7 @@ view_of trail = record {
   attached = trail.attached;
   shorts = trail.shorts.items;
   longs = trail.longs.items;
+  met = trail.met;
   watched = trail.links.watched;
   visited = trail.visited;
 }
@@ -18,4 +19,4 @@ view_of trail = record {
 pub record AreParts (trail : Inside) : Type 0 where
   pub trail_is : IsTrail (view_of trail)
   pub variables : trail.links.variables ≡ trail.entries.variables
-  pub taken : trail.links.taken ≡ []
+  pub ahead : trail.links.ahead ≡ []

@@ -6,11 +6,12 @@ use Rattle.cc_defs.specs.Assignments.{IsClosed, IsFailed, IsTrueIn, HasNoValue}
 use Rattle.cc_kernel.specs.Kernels.{KernelView, clauses_of}
 use Rattle.cc_trail.specs.declared.entries.Step.{Step}
 use Rattle.cc_trail.specs.Steps.{AreSteps, steps_to, values_of, values_to}
-use Rattle.cc_trail.specs.Watches.{IsWatched, Watches, AreReasoned, IsShort}
+use Rattle.cc_trail.specs.Watches.{IsWatched, Watches, AreReasoned, IsShort, IsMetForGood}
 
 -- The number of variables, the steps in order, how many levels were opened, how many clauses are attached, the numbers of
--- those of fewer than two literals and of the others, the literal that each node of the watch links watches, and how many
--- steps were visited. The nodes of a long clause are twice its place among them, and the next one.
+-- those of fewer than two literals and of the others, how many of the former are known to be met for good, the literal that
+-- each node of the watch links watches, and how many steps were visited. The nodes of a long clause are twice its place among
+-- them, and the next one.
 pub record TrailView : Type 0 where
   pub variables : ℕ
   pub steps : List Step
@@ -18,6 +19,7 @@ pub record TrailView : Type 0 where
   pub attached : ℕ
   pub shorts : List ℕ
   pub longs : List ℕ
+  pub met : ℕ
   pub watched : List Literal
   pub visited : ℕ
 
@@ -36,7 +38,9 @@ pub record FitsClauses (trail : TrailView) (clauses : List (List Literal)) : Typ
   pub attached : trail.attached ≤ length clauses
   pub reasons : AreReasoned clauses trail.steps
   pub shorts : (number : ℕ) → IsIn trail.shorts number → IsShort clauses number
-  pub longs : (node : ℕ) → node < length trail.watched → Watches clauses (number_of trail.longs node) trail.watched node
+  pub met_few : trail.met ≤ length trail.shorts
+  pub met : (number : ℕ) → IsIn (take trail.met trail.shorts) number → IsMetForGood clauses trail.steps number
+  pub longs : (node : ℕ) → node < length trail.watched → Watches clauses trail.steps (number_of trail.longs node) trail.watched node
   pub each : (number : ℕ) → 0 < number → number ≤ trail.attached → IsIn trail.shorts number ⊎ IsIn trail.longs number
   pub watches : (node : ℕ) → node < length trail.watched → IsWatched (take trail.visited trail.steps) trail.steps trail.watched node
 
@@ -100,6 +104,7 @@ pub record IsLong (old new : TrailView) (number : ℕ) (first second : Literal) 
   pub attached : new.attached ≡ number
   pub shorts : new.shorts ≡ old.shorts
   pub longs : new.longs ≡ old.longs ++ number ∷ []
+  pub met : new.met ≡ old.met
   pub watched : new.watched ≡ old.watched ++ first ∷ second ∷ []
   pub fewer : new.visited ≤ old.visited
   pub first_open : (step : Step) → IsIn (take new.visited new.steps) step → step.lit.variable ≢ first.variable
@@ -114,6 +119,7 @@ empty_over variables = record {
   attached = 0;
   shorts = [];
   longs = [];
+  met = 0;
   watched = [];
   visited = 0;
 }

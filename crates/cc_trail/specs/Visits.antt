@@ -51,17 +51,17 @@ pub record AreWatched (kernel : KernelView) (longs : List ℕ) (visited : ℕ) (
   pub variables : links.variables ≡ kernel.variables
   pub within : visited ≤ length entries.steps
   pub nodes : length links.watched ≡ 2 * length longs
-  pub watching : (node : ℕ) → node < length links.watched → Watches (clauses_of kernel) (number_of longs node) links.watched node
+  pub watching : (node : ℕ) → node < length links.watched → Watches (clauses_of kernel) entries.steps (number_of longs node) links.watched node
   pub watches : (node : ℕ) → node < length links.watched → IsWatched (take visited entries.steps) entries.steps links.watched node
 
--- The step at a place is being visited: the nodes that are taken out watch the literal that it made false, and the others
+-- The step at a place is being visited: the nodes that are ahead watch the literal that it made false, and the others
 -- are watched rightly where this step is visited too.
 pub record IsVisiting (kernel : KernelView) (longs : List ℕ) (place : ℕ) (step : Step) (entries : EntriesView) (links : LinksView) : Type 0 where
   pub sound : AreSound kernel entries
   pub watched : AreWatched kernel longs place entries links
   pub here : slice_get entries.steps place ≡ Some step
-  pub taken : (node : ℕ) → IsIn links.taken node → (node < length links.watched) × (watched_at links.watched node ≡ opposite step.lit)
-  pub done : (node : ℕ) → node < length links.watched → IsIn links.taken node ⊎ IsWatched (take (suc place) entries.steps) entries.steps links.watched node
+  pub ahead : (node : ℕ) → IsIn links.ahead node → (node < length links.watched) × (watched_at links.watched node ≡ opposite step.lit)
+  pub done : (node : ℕ) → node < length links.watched → IsIn links.ahead node ⊎ IsWatched (take (suc place) entries.steps) entries.steps links.watched node
 
 -- the clause of this number has a true literal
 abbrev pub IsMet : List (List Literal) → List Step → ℕ → Type 0

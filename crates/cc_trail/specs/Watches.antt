@@ -22,13 +22,13 @@ abbrev pub IsWatched : List Step → List Step → List Literal → ℕ → Type
 IsWatched visited steps watched node =
     (step : Step) → IsIn visited step → step.lit ≡ opposite (watched_at watched node) → IsTrueBy steps (watched_at watched (partner node)) step.level
 
--- a node and its partner watch two literals of the clause of a number
-pub record Watches (clauses : List (List Literal)) (number : ℕ) (watched : List Literal) (node : ℕ) : Type 0 where
+-- a node and its partner watch two literals of the clause of a number, or both of them one that is true at level 0
+pub record Watches (clauses : List (List Literal)) (steps : List Step) (number : ℕ) (watched : List Literal) (node : ℕ) : Type 0 where
   pub clause : List Literal
   pub numbered : IsNumbered clauses number clause
   pub here : Contains clause (watched_at watched node)
   pub there : Contains clause (watched_at watched (partner node))
-  pub apart : watched_at watched node ≢ watched_at watched (partner node)
+  pub apart : (watched_at watched node ≢ watched_at watched (partner node)) ⊎ IsTrueBy steps (watched_at watched node) 0
 
 -- the clause has this literal, and its other literals are the opposites of those of the steps
 abbrev pub HasReason : List (List Literal) → List Step → Literal → ℕ → Type 0
@@ -49,3 +49,8 @@ AreReasoned clauses steps = AreReasonedAfter clauses [] steps
 -- a clause of fewer than two literals
 abbrev pub IsShort : List (List Literal) → ℕ → Type 0
 IsShort clauses number = (clause : List Literal) × IsNumbered clauses number clause × (length clause < 2)
+
+-- the clause of this number has a literal that is true at level 0
+abbrev pub IsMetForGood : List (List Literal) → List Step → ℕ → Type 0
+IsMetForGood clauses steps number =
+    (clause : List Literal) × IsNumbered clauses number clause × (literal : Literal) × Contains clause literal × IsTrueBy steps literal 0

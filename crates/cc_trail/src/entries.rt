@@ -1,10 +1,10 @@
 //! The entries of a trail: the literals that became true, in order, each with its level and its reason.
-ghost use Rattle.std.specs.Prelude.{◌≡◌, ◌≢◌, ℕ, ◌+◌, ◌<◌, ◌≤◌, ◌++◌, [], ◌∷◌, length, map, take, Some, None, IfOk, slice_get};
+ghost use Rattle.std.specs.Prelude.{◌≡◌, ◌≢◌, ℕ, ◌+◌, ◌*◌, ◌<◌, if◌then◌else◌, ◌≤◌, ◌++◌, [], ◌∷◌, length, map, take, Some, None, IfOk, slice_get};
 ghost use Rattle.cc_defs.specs.Clauses.{IsIn, IsLiteralOver};
 ghost use Rattle.cc_defs.specs.Limits.{most_variables};
 ghost use Rattle.cc_trail.specs.Steps.{EntriesView, AreSteps, step_of, level_after};
 ghost use Rattle.cc_trail.specs.EntryParts.{literal_of_step};
-ghost use Rattle.cc_trail.specs.EntrySteps.{IsPopped, IsBack};
+ghost use Rattle.cc_trail.specs.EntrySteps.{IsPopped, IsBack, is_true_by, Stands};
 
 use cc_defs::{Lit, OutOfMemory};
 use std::alloc::Global;
@@ -19,6 +19,13 @@ pub struct Step {
     pub reason: Option<u32>,
 }
 
+/// What a literal is, and at which level it became so.
+#[derive(Clone, Copy)]
+pub struct Standing {
+    pub is_true: bool,
+    pub level: u32,
+}
+
 /// The steps of a trail, with the place of each variable's step. All memory is taken at once.
 #[derive(Drop)]
 pub struct Entries {
@@ -29,6 +36,8 @@ pub struct Entries {
     literals: Vec<Lit>,
     // By variable: one more than the place of its step, or 0.
     places: Vec<u32>,
+    // By variable: 0 where it has no value; else twice one more than the level, and one more where it is true.
+    marks: Vec<u32>,
     level_count: u32,
 }
 
@@ -55,6 +64,25 @@ fn last_level(steps: &[Step], count: usize) -> u32
     }
 }
 
+// The level and the sign of a step in one number.
+fn mark(level: u32, is_positive: bool) -> u32
+    requires { level ≤ 4000001 }
+    ensures { result ≡ 2 * (level + 1) + (if is_positive then 1 else 0) }
+{
+    2 * (level + 1) + u32::from(is_positive)
+}
+
+// Whether a mark tells that the literal of this sign is true.
+fn is_true(mark: u32, is_positive: bool) -> bool
+    ensures { result ≡ is_true_by mark is_positive }
+{
+    if is_positive {
+        mark % 2 == 1
+    } else {
+        mark % 2 == 0
+    }
+}
+
 impl Entries {
     /// No entries, with room for one of each variable.
     pub fn new(alloc: Global, variables: u32) -> Result<Entries, OutOfMemory>
@@ -70,12 +98,14 @@ impl Entries {
         let steps = vec![in alloc; step; variables as usize]?;
         let literals = vec![in alloc; lit; variables as usize]?;
         let places = vec![in alloc; 0u32; variables as usize + 1]?;
+        let marks = vec![in alloc; 0u32; variables as usize + 1]?;
         Ok(Entries {
             variables,
             count: 0,
             steps,
             literals,
             places,
+            marks,
             level_count: 0,
         })
     }
@@ -132,6 +162,22 @@ impl Entries {
         }
     }
 
+    /// Whether a literal is true, and since which level, if its variable has a value.
+    pub fn standing(&self, lit: Lit) -> Option<Standing>
+        requires { lit.variable ≤ self.now.variables }
+        ensures stands { Stands self.now.steps lit result }
+        ensures steps { AreSteps self.now.variables self.now.steps self.now.level_count }
+    {
+        let mark = self.marks[lit.variable() as usize];
+        if mark < 2 {
+            return None;
+        }
+        Some(Standing {
+            is_true: is_true(mark, lit.is_positive()),
+            level: mark / 2 - 1,
+        })
+    }
+
     /// A place before which no step is one of the variable: that of its step, or the end.
     pub fn place(&self, variable: u32) -> usize
         requires { variable ≤ self.now.variables }
@@ -158,6 +204,7 @@ impl Entries {
         self.steps[self.count] = step;
         self.literals[self.count] = lit;
         self.places[lit.variable() as usize] = self.count as u32 + 1;
+        self.marks[lit.variable() as usize] = mark(self.level_count, lit.is_positive());
         self.count += 1;
     }
 
@@ -175,6 +222,7 @@ impl Entries {
         self.steps[self.count] = step;
         self.literals[self.count] = lit;
         self.places[lit.variable() as usize] = self.count as u32 + 1;
+        self.marks[lit.variable() as usize] = mark(self.level_count + 1, lit.is_positive());
         self.count += 1;
         self.level_count += 1;
     }
@@ -187,6 +235,7 @@ impl Entries {
         let last = self.count - 1;
         let step = self.steps[last];
         self.places[step.lit.variable() as usize] = 0;
+        self.marks[step.lit.variable() as usize] = 0;
         self.count = last;
         self.level_count = last_level(&self.steps, last);
     }

@@ -1,8 +1,9 @@
 //! Watch links: for each literal the chain of the nodes that watch it.
-ghost use Rattle.std.specs.Prelude.{◌≡◌, ℕ, ◌+◌, ◌*◌, ◌<◌, ◌≤◌, ◌++◌, [], ◌∷◌, length, set, drop, Contains, IfOk, IfSome, IfNone, OnOk, OnErr, Ok};
+ghost use Rattle.std.specs.Prelude.{◌≡◌, ◌≢◌, ℕ, ◌+◌, ◌*◌, ◌<◌, ◌≤◌, ◌++◌, [], ◌∷◌, length, set, drop, Contains, IfOk, IfSome, IfNone, OnOk, OnErr, Ok};
 ghost use Rattle.cc_defs.specs.Clauses.{Literal, IsIn, IsLiteralOver};
 ghost use Rattle.cc_defs.specs.Limits.{most_variables};
-ghost use Rattle.cc_trail.specs.Links.{LinksView, AreTaken, BeginsWith, code_of, watched_at};
+ghost use Rattle.cc_trail.specs.Links.{LinksView, AreAhead, BeginsWith, code_of, watched_at};
+ghost use Rattle.cc_trail.specs.LinkParts.{link_at, heads_relinked, next_relinked};
 
 use cc_defs::{Lit, OutOfMemory};
 use std::alloc::Global;
@@ -16,10 +17,14 @@ const MOST_NODES: usize = 4294966000;
 #[derive(Drop)]
 pub struct Links {
     variables: u32,
-    // By the code of a literal; at 0 the chain of the nodes that were taken out.
+    // By the code of a literal.
     heads: Vec<u32>,
     next: Vec<u32>,
     watched: Vec<Lit>,
+    // The walk that goes on: the code of the literal whose chain it goes along, and one more than the node that it went past
+    // last; 0 where the head of the chain comes next. At rest both are 0.
+    walked: usize,
+    before: u32,
 }
 
 impl Model for Links {
@@ -41,11 +46,36 @@ fn code(lit: Lit) -> usize
     2 * lit.variable() as usize + usize::from(lit.is_positive())
 }
 
+// The link that a walk has come to: the head of its chain, or what is next of the node before.
+fn link_of(heads: &[u32], next: &[u32], walked: usize, before: u32) -> u32
+    requires walked { walked < length heads.now }
+    requires before { before ≤ length next.now }
+    ensures { result ≡ link_at heads.now next.now walked before }
+{
+    match before.checked_sub(1) {
+        Some(node) => next[node as usize],
+        None => heads[walked],
+    }
+}
+
+// Changes this link.
+fn relink(heads: &mut Vec<u32>, next: &mut Vec<u32>, walked: usize, before: u32, link: u32)
+    requires walked { walked < length heads.old.items }
+    requires before { before ≤ length next.old.items }
+    ensures heads { heads.new.items ≡ heads_relinked heads.old.items walked before link }
+    ensures next { next.new.items ≡ next_relinked next.old.items before link }
+{
+    match before.checked_sub(1) {
+        Some(node) => next[node as usize] = link,
+        None => heads[walked] = link,
+    }
+}
+
 impl Links {
     /// Links of no clause.
     pub fn new(alloc: Global, variables: u32) -> Result<Links, OutOfMemory>
         requires { variables ≤ most_variables }
-        ensures { IfOk result (λ links. links ≡ record { variables = variables; watched = []; taken = [] }) }
+        ensures { IfOk result (λ links. links ≡ record { variables = variables; watched = []; ahead = [] }) }
     {
         let heads = vec![in alloc; 0u32; 2 * variables as usize + 2]?;
         Ok(Links {
@@ -53,6 +83,8 @@ impl Links {
             heads,
             next: Vec::new(alloc),
             watched: Vec::new(alloc),
+            walked: 0,
+            before: 0,
         })
     }
 
@@ -73,57 +105,102 @@ impl Links {
         self.watched[node as usize]
     }
 
-    /// Takes all nodes that watch a literal out of their chain.
-    pub fn take_all(&mut self, lit: Lit)
-        requires none { self.old.taken ≡ [] }
-        requires over { IsLiteralOver self.old.variables lit }
-        ensures { AreTaken self.old self.new lit }
+    /// Begins a walk to all nodes that watch a literal.
+    pub fn begin(&mut self, lit: Lit)
+        requires { IsLiteralOver self.old.variables lit }
+        ensures { AreAhead self.old self.new lit }
     {
-        let code = code(lit);
-        self.heads[0] = self.heads[code];
-        self.heads[code] = 0;
+        self.walked = code(lit);
+        self.before = 0;
     }
 
-    /// The first of the nodes that were taken out.
-    pub fn first_taken(&self) -> Option<u32>
-        ensures some { IfSome result (λ node. BeginsWith self.now.taken node) }
+    /// The node that the walk has come to.
+    pub fn current(&self) -> Option<u32>
+        ensures some { IfSome result (λ node. BeginsWith self.now.ahead node) }
         ensures within { IfSome result (λ node. node < length self.now.watched) }
-        ensures once { IfSome result (λ node. IsIn (drop 1 self.now.taken) node → ⊥) }
-        ensures none { IfNone result (self.now.taken ≡ []) }
+        ensures once { IfSome result (λ node. IsIn (drop 1 self.now.ahead) node → ⊥) }
+        ensures none { IfNone result (self.now.ahead ≡ []) }
     {
-        self.heads[0].checked_sub(1)
+        link_of(&self.heads, &self.next, self.walked, self.before).checked_sub(1)
     }
 
-    /// Puts the first of the nodes that were taken out into the chain of a literal, which it watches then.
-    pub fn put(&mut self, node: u32, lit: Lit)
-        requires first { BeginsWith self.old.taken node }
+    /// Goes on, and leaves the node that the walk has come to where it is.
+    pub fn pass(&mut self, node: u32)
+        requires { BeginsWith self.old.ahead node }
+        ensures { self.new ≡ record self.old { ahead = drop 1 self.old.ahead } }
+    {
+        let _walked = self.walked;
+        self.before = node + 1;
+    }
+
+    // Goes on, and moves the node that the walk has come to into the chain of another literal, which it watches then.
+    fn transfer(&mut self, node: u32, lit: Lit)
+        requires first { BeginsWith self.old.ahead node }
         requires over { IsLiteralOver self.old.variables lit }
-        ensures { self.new ≡ record self.old { watched = set self.old.watched node lit; taken = drop 1 self.old.taken } }
+        requires apart { watched_at self.old.watched node ≢ lit }
+        ensures { self.new ≡ record self.old { watched = set self.old.watched node lit; ahead = drop 1 self.old.ahead } }
     {
         let code = code(lit);
         let place = node as usize;
-        self.heads[0] = self.next[place];
+        let link = self.next[place];
+        relink(
+            &mut self.heads,
+            &mut self.next,
+            self.walked,
+            self.before,
+            link,
+        );
         self.next[place] = self.heads[code];
         self.heads[code] = node + 1;
         self.watched[place] = lit;
     }
 
-    /// Adds two nodes, taken out, that watch these literals.
+    /// Goes on, and lets the node that the walk has come to watch this literal.
+    pub fn put(&mut self, node: u32, lit: Lit)
+        requires first { BeginsWith self.old.ahead node }
+        requires within { node < length self.old.watched }
+        requires over { IsLiteralOver self.old.variables lit }
+        ensures { self.new ≡ record self.old { watched = set self.old.watched node lit; ahead = drop 1 self.old.ahead } }
+    {
+        if self.watched(node) == lit {
+            self.pass(node);
+        } else {
+            self.transfer(node, lit);
+        }
+    }
+
+    /// Ends a walk.
+    pub fn end(&mut self)
+        ensures { self.new ≡ record self.old { ahead = [] } }
+    {
+        self.walked = 0;
+        self.before = 0;
+    }
+
+    /// Adds two nodes that watch these literals. No walk goes on then.
     pub fn add_two(&mut self, a: Lit, b: Lit) -> Result<(), OutOfMemory>
-        requires none { self.old.taken ≡ [] }
+        requires none { self.old.ahead ≡ [] }
         requires a_over { IsLiteralOver self.old.variables a }
         requires b_over { IsLiteralOver self.old.variables b }
-        ensures added { OnOk result (self.new ≡ record self.old { watched = self.old.watched ++ a ∷ b ∷ []; taken = length self.old.watched ∷ (length self.old.watched + 1) ∷ [] }) }
+        requires apart { a ≢ b }
+        ensures added { OnOk result (self.new ≡ record self.old { watched = self.old.watched ++ a ∷ b ∷ [] }) }
         ensures kept { OnErr result (self.new ≡ self.old) }
     {
         let count = self.watched.len();
         if count >= MOST_NODES {
             return Err(OutOfMemory);
         }
+        let first = code(a);
+        let second = code(b);
+        let one = self.heads[first];
+        let two = self.heads[second];
         self.next.reserve(2)?;
         self.watched.extend_from_slice(&[a, b])?;
-        self.next.extend_from_slice(&[count as u32 + 2, 0])?;
-        self.heads[0] = count as u32 + 1;
+        self.next.extend_from_slice(&[one, two])?;
+        self.heads[first] = count as u32 + 1;
+        self.heads[second] = count as u32 + 2;
+        self.walked = 0;
+        self.before = 0;
         Ok(())
     }
 }

@@ -1,5 +1,5 @@
 //! A trail: what is true and false, by levels of decisions, and propagation over the clauses of a kernel.
-ghost use Rattle.std.specs.Prelude.{◌≡◌, ◌+◌, ◌<◌, ◌≤◌, [], ◌∷◌, ◌++◌, length, map, None, IfOk, IfSome, IfNone, OnOk, OnErr, option_map, option_and_then};
+ghost use Rattle.std.specs.Prelude.{◌≡◌, ◌≢◌, ◌+◌, ◌<◌, ◌≤◌, [], ◌∷◌, ◌++◌, length, map, None, IfOk, IfSome, IfNone, OnOk, OnErr, option_map, option_and_then};
 ghost use Rattle.cc_defs.specs.Assignments.{IsClosed};
 ghost use Rattle.cc_defs.specs.Limits.{most_variables};
 ghost use Rattle.cc_kernel.specs.Kernels.{KernelView, clauses_of, IsThere};
@@ -10,7 +10,7 @@ ghost use Rattle.cc_trail.specs.Trails.{TrailView, Fits, IsSettled, IsNew, empty
 
 use crate::entries::Entries;
 use crate::links::Links;
-use crate::propagation::{make_shorts, visit_steps};
+use crate::propagation::{make_shorts, met_for_good, visit_steps};
 use crate::watches::{Pair, best_two};
 use cc_defs::{Lit, OutOfMemory};
 use cc_kernel::Kernel;
@@ -27,6 +27,8 @@ pub struct Trail {
     // The numbers of the attached clauses of fewer than two literals, and of the others.
     shorts: Vec<u32>,
     longs: Vec<u32>,
+    // So many of the short ones have a literal that is true at level 0, and are not looked at any more.
+    met: usize,
     // How many entries have been visited by propagation.
     visited: usize,
 }
@@ -55,6 +57,7 @@ impl Trail {
             attached: 0,
             shorts: Vec::new(alloc),
             longs: Vec::new(alloc),
+            met: 0,
             visited: 0,
         })
     }
@@ -88,14 +91,12 @@ impl Trail {
         requires next { id ≡ self.old.attached + 1 }
         requires first { IsLiteralOver self.old.variables pair.first }
         requires second { IsLiteralOver self.old.variables pair.second }
+        requires apart { pair.first ≢ pair.second }
         ensures attached { OnOk result (IsLong self.old self.new id pair.first pair.second) }
         ensures kept { OnErr result (self.new ≡ self.old) }
     {
-        let node = self.links.count() as u32;
         self.longs.reserve(1)?;
         self.links.add_two(pair.first, pair.second)?;
-        self.links.put(node, pair.first);
-        self.links.put(node + 1, pair.second);
         self.longs.push(id)?;
         self.visited = self
             .visited
@@ -158,9 +159,10 @@ impl Trail {
         ensures failed { IfSome result (λ id. IsFailedClause (clauses_of kernel.now) self.new.steps id) }
         ensures closed { IfNone result (IsClosed (values_of self.new.steps) (clauses_of kernel.now)) }
     {
-        if let Some(number) = make_shorts(kernel, &self.shorts, &mut self.entries) {
+        if let Some(number) = make_shorts(kernel, &self.shorts, self.met, &mut self.entries) {
             return Some(number);
         }
+        self.met = met_for_good(&self.entries, self.met, self.shorts.len());
         visit_steps(
             kernel,
             &self.longs,

@@ -32,8 +32,8 @@ fn is_true_to(entries: &Entries, lit: Lit, level: u32) -> bool
     requires { lit.variable ≤ entries.now.variables }
     ensures { IsTrue result → IsTrueBy entries.now.steps lit level }
 {
-    match entries.find(lit.variable()) {
-        Some(step) => step.lit == lit && step.level <= level,
+    match entries.standing(lit) {
+        Some(standing) => standing.is_true && standing.level <= level,
         None => false,
     }
 }
@@ -45,8 +45,8 @@ pub fn make_true(entries: &mut Entries, lit: Lit, number: u32) -> bool
     ensures sound { (kernel : KernelView) → HasReason (clauses_of kernel) entries.old.steps lit number → AreSound kernel entries.old → AreSound kernel entries.new }
     ensures value { IsValue entries.new.steps entries.new.level_count lit result }
 {
-    match entries.find(lit.variable()) {
-        Some(step) => step.lit == lit,
+    match entries.standing(lit) {
+        Some(standing) => standing.is_true,
         None => {
             entries.push(lit, Some(number));
             true
@@ -72,17 +72,17 @@ fn better(entries: &Entries, clause: &[Lit], index: usize, found: Watch, except:
             ..found
         };
     }
-    match entries.find(lit.variable()) {
-        Some(step) => if step.lit == lit {
+    match entries.standing(lit) {
+        Some(standing) => if standing.is_true {
             Watch {
                 lit,
                 level: 0,
                 is_false: false,
             }
-        } else if step.level > found.level {
+        } else if standing.level > found.level {
             Watch {
                 lit,
-                level: step.level,
+                level: standing.level,
                 is_false: true,
             }
         } else {
@@ -99,10 +99,12 @@ fn better(entries: &Entries, clause: &[Lit], index: usize, found: Watch, except:
     }
 }
 
-// The literal of a clause that is best to watch beside `except`. It begins with one that became false at this level.
+// The literal of a clause that is best to watch beside `except`. It begins with one that became false at this level. In a clause
+// of two there is no other, and it is not read.
 fn best_beside(entries: &Entries, clause: &[Lit], start: Lit, level: u32, except: Lit) -> Watch
     requires over { All (λ literal. IsLiteralOver entries.now.variables literal) clause.now }
     requires member { Contains clause.now start }
+    requires there { Contains clause.now except }
     requires apart { start ≢ except }
     requires fallen { IsFalseAt entries.now.steps start level }
     ensures member { Contains clause.now result.lit }
@@ -114,6 +116,9 @@ fn best_beside(entries: &Entries, clause: &[Lit], start: Lit, level: u32, except
         level,
         is_false: true,
     };
+    if clause.len() <= 2 {
+        return found;
+    }
     for index in 0..clause.len() {
         found = better(entries, clause, index, found, except);
         if !found.is_false {
@@ -130,10 +135,11 @@ fn is_due(count: usize, node: u32) -> bool {
     number.wrapping_mul(0x9E37_79B9_7F4A_7C15) < 0x1000_0000_0000_0000
 }
 
-// Visits the first of the nodes that were taken out. The other watched literal is looked at first, and the clause is mostly
+// Visits the first of the nodes that are ahead. The other watched literal is looked at first, and the clause is mostly
 // left unread where that is true. But clauses that deny rows are met for long and wait at literals that change often, and would
-// be visited ever again: so now and then such a clause is read, and watches a literal that is not false. The number of the
-// clause where it is false, and then no node is moved.
+// be visited ever again: so now and then such a clause is read, and watches a literal that is not false. Where the other one is
+// true at level 0 the clause is met for good: both nodes watch that literal then, so that it is not visited any more. The number
+// of the clause where it is false, and then no node is moved.
 fn visit(
     kernel: &Kernel,
     longs: &[u32],
@@ -144,15 +150,19 @@ fn visit(
     links: &mut Links,
 ) -> Option<u32>
     requires visiting { IsVisiting kernel.now longs.now place step.now entries.old links.old }
-    requires first { BeginsWith links.old.taken node }
-    requires once { IsIn (drop 1 links.old.taken) node → ⊥ }
+    requires first { BeginsWith links.old.ahead node }
+    requires once { IsIn (drop 1 links.old.ahead) node → ⊥ }
     ensures visiting { IsVisiting kernel.now longs.now place step.now entries.new links.new }
     ensures grown { AreGrown entries.old entries.new }
-    ensures fewer { IfNone result (links.new.taken ≡ drop 1 links.old.taken) }
+    ensures fewer { IfNone result (links.new.ahead ≡ drop 1 links.old.ahead) }
     ensures failed { IfSome result (λ number. IsFailedClause (clauses_of kernel.now) entries.new.steps number) }
 {
     let fallen = step.lit.opposite();
     let other = links.watched(partner_of(node));
+    if is_true_to(entries, other, 0) {
+        links.put(node, other);
+        return None;
+    }
     if is_true_to(entries, other, step.level) && !is_due(longs.len(), node) {
         links.put(node, fallen);
         return None;
@@ -170,17 +180,6 @@ fn visit(
     Some(number)
 }
 
-// Puts the nodes that were taken out back into the chain of the literal that they watch.
-fn put_back(links: &mut Links, lit: Lit)
-    requires over { IsLiteralOver links.old.variables lit }
-    requires watch { (node : ℕ) → IsIn links.old.taken node → (node < length links.old.watched) × (watched_at links.old.watched node ≡ lit) }
-    ensures { links.new ≡ record links.old { taken = [] } }
-{
-    while let Some(node) = links.first_taken() {
-        links.put(node, lit);
-    }
-}
-
 /// Visits the nodes that watch the literal that a step made false. The number of a clause that is false, if one is met.
 pub fn visit_step(
     kernel: &Kernel,
@@ -192,20 +191,20 @@ pub fn visit_step(
     requires within { place < length entries.old.steps }
     requires sound { AreSound kernel.now entries.old }
     requires watched { AreWatched kernel.now longs.now place entries.old links.old }
-    requires none { links.old.taken ≡ [] }
+    requires none { links.old.ahead ≡ [] }
     ensures grown { AreGrown entries.old entries.new }
     ensures sound { AreSound kernel.now entries.new }
     ensures here { AreWatched kernel.now longs.now place entries.new links.new }
     ensures next { IfNone result (AreWatched kernel.now longs.now (place + 1) entries.new links.new) }
-    ensures none { links.new.taken ≡ [] }
+    ensures none { links.new.ahead ≡ [] }
     ensures failed { IfSome result (λ number. IsFailedClause (clauses_of kernel.now) entries.new.steps number) }
 {
     let step = entries.step(place);
     let fallen = step.lit.opposite();
-    links.take_all(fallen);
-    while let Some(node) = links.first_taken() {
+    links.begin(fallen);
+    while let Some(node) = links.current() {
         if let Some(number) = visit(kernel, longs, place, &step, node, entries, links) {
-            put_back(links, fallen);
+            links.end();
             return Some(number);
         }
     }

@@ -12,18 +12,26 @@ pub struct Pair {
     pub second: Lit,
 }
 
-// How good it is to watch a literal: best where it is not false, and else the better the higher its level.
-fn rank(entries: &Entries, lit: Lit) -> u32
+// A literal, and how good it is to watch it.
+#[derive(Clone, Copy)]
+struct Ranked {
+    lit: Lit,
+    rank: usize,
+}
+
+// How good it is to watch a literal: best where it is not false, and else the better the later it became so. What watches a
+// literal that became false late is looked at again only from there on.
+fn rank_of(entries: &Entries, lit: Lit) -> Ranked
     requires { lit.variable ≤ entries.now.variables }
+    ensures { result.lit ≡ lit }
 {
-    match entries.find(lit.variable()) {
-        Some(step) => if step.lit == lit {
-            u32::MAX
-        } else {
-            step.level
-        },
-        None => u32::MAX,
-    }
+    let place = entries.place(lit.variable());
+    let rank = if place < entries.count() && entries.step(place).lit != lit {
+        place
+    } else {
+        usize::MAX
+    };
+    Ranked { lit, rank }
 }
 
 // A literal of a clause other than `except` that is best to watch.
@@ -34,34 +42,38 @@ fn best(entries: &Entries, clause: &[Lit], start: Lit, except: Lit) -> Lit
     ensures member { Contains clause.now result }
     ensures apart { result ≢ except }
 {
-    let mut found = start;
+    let mut found = rank_of(entries, start);
     for index in 0..clause.len() {
+        if found.rank == usize::MAX {
+            return found.lit;
+        }
         found = better(entries, clause, index, found, except);
     }
-    found
+    found.lit
 }
 
 // The literal at an index, where it may be watched and is better than what was found.
-fn better(entries: &Entries, clause: &[Lit], index: usize, found: Lit, except: Lit) -> Lit
+fn better(entries: &Entries, clause: &[Lit], index: usize, found: Ranked, except: Lit) -> Ranked
     requires over { All (λ literal. IsLiteralOver entries.now.variables literal) clause.now }
     requires within { index < length clause.now }
-    requires member { Contains clause.now found }
-    requires apart { found ≢ except }
-    ensures member { Contains clause.now result }
-    ensures apart { result ≢ except }
+    requires member { Contains clause.now found.lit }
+    requires apart { found.lit ≢ except }
+    ensures member { Contains clause.now result.lit }
+    ensures apart { result.lit ≢ except }
 {
     let lit = clause[index];
     if lit == except {
         return found;
     }
-    if rank(entries, found) < rank(entries, lit) {
-        lit
+    let other = rank_of(entries, lit);
+    if found.rank < other.rank {
+        other
     } else {
         found
     }
 }
 
-/// The two literals of a clause that are best to watch: those that are not false, and then those of its highest levels.
+/// The two literals of a clause that are best to watch: those that are not false, and then those that became false last.
 pub fn best_two(entries: &Entries, clause: &[Lit]) -> Pair
     requires over { All (λ literal. IsLiteralOver entries.now.variables literal) clause.now }
     requires clause { IsClause clause.now }

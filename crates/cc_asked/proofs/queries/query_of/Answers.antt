@@ -5,7 +5,7 @@ use Rattle.cc_defs.specs.Description.{Description}
 use Rattle.cc_defs.specs.GroundLaws.{StandsForQuery}
 use Rattle.cc_defs.specs.Refusals.{IsRefusedBy}
 use Rattle.cc_defs.specs.Resolved.{plain_base_law, plain_query}
-use Rattle.cc_asked.specs.Descriptions.{description_of, nodes_refusal}
+use Rattle.cc_asked.specs.Descriptions.{description_of, ground_refusal}
 use Rattle.cc_asked.proofs.Grounded.{nodes_are, query_made, range_made, steps_are}
 use Rattle.cc_asked.proofs.queries.query_of.Goals as goal
 
@@ -40,7 +40,7 @@ pub returns-clause-unrefused : goal.returns-clause-unrefused
 returns-clause-unrefused c = λ d of.
     let query = plain_query c.args.query.now in
     let steps = steps_are c.args.described.now.table of.declarations query of.table c.steps_fit.ensures (c.requires.formulas of.declarations of.table) c.requires.steps in
-    subst (λ (x : Description). OnOk c.ground_query.result (nodes_refusal x query ≡ None)) (sym of.is)
+    subst (λ (x : Description). OnOk c.ground_query.result (ground_refusal x query ≡ None)) (sym of.is)
     (subst (λ r. OnOk c.ground_query.result (r ≡ None)) (nodes_are query (description_of of.declarations (map plain_base_law c.args.described.now.laws)) steps.range steps.is)
     (c.ground_query.ensures.unrefused of.declarations steps.range of.table of.signature steps.is))
 
@@ -48,6 +48,6 @@ pub returns-clause-refused : goal.returns-clause-refused
 returns-clause-refused c = λ d of.
     let query = plain_query c.args.query.now in
     let steps = steps_are c.args.described.now.table of.declarations query of.table c.steps_fit.ensures (c.requires.formulas of.declarations of.table) c.requires.steps in
-    subst (λ (x : Description). IfErr c.ground_query.result (IsRefusedBy (nodes_refusal x query))) (sym of.is)
+    subst (λ (x : Description). IfErr c.ground_query.result (IsRefusedBy (ground_refusal x query))) (sym of.is)
     (subst (λ r. IfErr c.ground_query.result (IsRefusedBy r)) (nodes_are query (description_of of.declarations (map plain_base_law c.args.described.now.laws)) steps.range steps.is)
     (c.ground_query.ensures.refused of.declarations steps.range of.table of.signature steps.is))

@@ -1,11 +1,13 @@
 use Rattle.std.proofs.Common.{inr}
-use Rattle.cc_cdcl.proofs.Deriving.{adds, attached_back, back_low, back_mild, clauses_then, count_then, fits_then, learns, on_err}
+use Rattle.cc_cdcl.proofs.Deriving.{adds, attached_back, back_low, back_mild, clauses_then, count_then, fits_then, learns, on_err, read_there}
 use Rattle.cc_cdcl.proofs.analysis.learn.Goals as goal
 
 pub back_to-requires : goal.back_to-requires
 back_to-requires c =
     back_low c.args.trail.now c.args.kernel.now c.derive.new.kernel c.finish.new.self c.level_count-level.ensures.steps c.requires.fits.variables c.derive.ensures.kept
-    c.in_ok-derive.ensures.derived c.in_ok-number.ensures.added c.finish.ensures.reached c.requires.level c.current.result.now c.current.ensures.staged
+    c.in_ok-derive.ensures.derived c.in_ok-number.ensures.added c.finish.ensures.reached c.requires.level c.clause.result.now (read_there c.args.trail.now c.args.kernel.now c.derive.new.kernel c.finish.new.self c.level_count-level.ensures.steps c.requires.fits.variables c.derive.ensures.kept
+    c.in_ok-derive.ensures.derived c.in_ok-number.ensures.added c.finish.ensures.reached c.requires.level _ c.clause.result.now
+    c.in_ok-number.ensures.number c.clause.ensures.clause)
     c.level_count-level.result c.highest_but-back.result c.level_count-level.ensures.level_count c.highest_but-back.ensures
 
 pub attach-requires-clause-fits : goal.attach-requires-clause-fits
@@ -17,31 +19,37 @@ attach-requires-clause-fits c =
 pub returns-clause-learned : goal.returns-clause-learned
 returns-clause-learned c =
     learns c.learned_is_earned.ensures c.args.trail.now c.args.kernel.now c.derive.new.kernel c.finish.new.self c.level_count-level.ensures.steps c.requires.settled
-    c.requires.level c.derive.ensures.kept c.in_ok-derive.ensures.derived
-    (adds c.args.trail.now c.args.kernel.now c.derive.new.kernel c.finish.new.self c.level_count-level.ensures.steps c.requires.fits.variables c.derive.ensures.kept
+    c.requires.level c.in_ok-derive.ensures.derived (adds c.args.trail.now c.args.kernel.now c.derive.new.kernel c.finish.new.self c.level_count-level.ensures.steps c.requires.fits.variables c.derive.ensures.kept
     c.in_ok-derive.ensures.derived c.in_ok-number.ensures.added c.finish.ensures.reached c.requires.level)
-    c.current.result.now c.current.ensures.staged c.current.ensures.is_clause c.current.ensures.over
+    c.clause.result.now (read_there c.args.trail.now c.args.kernel.now c.derive.new.kernel c.finish.new.self c.level_count-level.ensures.steps c.requires.fits.variables c.derive.ensures.kept
+    c.in_ok-derive.ensures.derived c.in_ok-number.ensures.added c.finish.ensures.reached c.requires.level _ c.clause.result.now
+    c.in_ok-number.ensures.number c.clause.ensures.clause) c.clause.ensures.is_clause c.clause.ensures.over
 
 pub returns-clause-back : goal.returns-clause-back
 returns-clause-back c =
     attached_back c.adding_keeps_settled.ensures c.args.trail.now c.back_to.new.self c.attach.new.self c.args.kernel.now c.finish.new.self
     c.in_ok-derive.ensures.derived.derivation.clause c.highest_but-back.result
     (back_low c.args.trail.now c.args.kernel.now c.derive.new.kernel c.finish.new.self c.level_count-level.ensures.steps c.requires.fits.variables c.derive.ensures.kept
-    c.in_ok-derive.ensures.derived c.in_ok-number.ensures.added c.finish.ensures.reached c.requires.level c.current.result.now c.current.ensures.staged
+    c.in_ok-derive.ensures.derived c.in_ok-number.ensures.added c.finish.ensures.reached c.requires.level c.clause.result.now (read_there c.args.trail.now c.args.kernel.now c.derive.new.kernel c.finish.new.self c.level_count-level.ensures.steps c.requires.fits.variables c.derive.ensures.kept
+    c.in_ok-derive.ensures.derived c.in_ok-number.ensures.added c.finish.ensures.reached c.requires.level _ c.clause.result.now
+    c.in_ok-number.ensures.number c.clause.ensures.clause)
     c.level_count-level.result c.highest_but-back.result c.level_count-level.ensures.level_count c.highest_but-back.ensures) c.back_to.ensures.back c.requires.all
     (count_then c.args.trail.now c.args.kernel.now c.derive.new.kernel c.finish.new.self c.level_count-level.ensures.steps c.requires.fits.variables c.derive.ensures.kept
     c.in_ok-derive.ensures.derived c.in_ok-number.ensures.added c.finish.ensures.reached c.requires.level)
     (clauses_then c.args.trail.now c.args.kernel.now c.derive.new.kernel c.finish.new.self c.level_count-level.ensures.steps c.requires.fits.variables c.derive.ensures.kept
     c.in_ok-derive.ensures.derived c.in_ok-number.ensures.added c.finish.ensures.reached c.requires.level)
     (back_mild c.args.trail.now c.args.kernel.now c.derive.new.kernel c.finish.new.self c.level_count-level.ensures.steps c.requires.fits.variables c.derive.ensures.kept
-    c.in_ok-derive.ensures.derived c.in_ok-number.ensures.added c.finish.ensures.reached c.requires.level c.current.result.now c.current.ensures.staged
+    c.in_ok-derive.ensures.derived c.in_ok-number.ensures.added c.finish.ensures.reached c.requires.level c.clause.result.now (read_there c.args.trail.now c.args.kernel.now c.derive.new.kernel c.finish.new.self c.level_count-level.ensures.steps c.requires.fits.variables c.derive.ensures.kept
+    c.in_ok-derive.ensures.derived c.in_ok-number.ensures.added c.finish.ensures.reached c.requires.level _ c.clause.result.now
+    c.in_ok-number.ensures.number c.clause.ensures.clause)
     c.level_count-level.result c.highest_but-back.result c.level_count-level.ensures.level_count c.highest_but-back.ensures c.learned_is_earned.ensures c.requires.settled)
     (c.back_to.ensures.settled c.args.kernel.now c.requires.settled) c.in_ok-attach.ensures.attached c.in_ok-attach.ensures.fits c.in_ok-attach.ensures.settled
 
 pub returns-in_err-attach-clause-broken : goal.returns-in_err-attach-clause-broken
 returns-in_err-attach-clause-broken c =
     on_err _ c.from_residual-in_err-attach.result (inr (learns c.learned_is_earned.ensures c.args.trail.now c.args.kernel.now c.derive.new.kernel c.finish.new.self c.level_count-level.ensures.steps c.requires.settled
-    c.requires.level c.derive.ensures.kept c.in_ok-derive.ensures.derived
-    (adds c.args.trail.now c.args.kernel.now c.derive.new.kernel c.finish.new.self c.level_count-level.ensures.steps c.requires.fits.variables c.derive.ensures.kept
+    c.requires.level c.in_ok-derive.ensures.derived (adds c.args.trail.now c.args.kernel.now c.derive.new.kernel c.finish.new.self c.level_count-level.ensures.steps c.requires.fits.variables c.derive.ensures.kept
     c.in_ok-derive.ensures.derived c.in_ok-number.ensures.added c.finish.ensures.reached c.requires.level)
-    c.current.result.now c.current.ensures.staged c.current.ensures.is_clause c.current.ensures.over))
+    c.clause.result.now (read_there c.args.trail.now c.args.kernel.now c.derive.new.kernel c.finish.new.self c.level_count-level.ensures.steps c.requires.fits.variables c.derive.ensures.kept
+    c.in_ok-derive.ensures.derived c.in_ok-number.ensures.added c.finish.ensures.reached c.requires.level _ c.clause.result.now
+    c.in_ok-number.ensures.number c.clause.ensures.clause) c.clause.ensures.is_clause c.clause.ensures.over))

@@ -26,6 +26,14 @@ clashing_reason-requires-clause-there c =
     (pivot_here c.args.trail.now c.loop-place.kernel c.loop-place.place at (c.loop-place.place - 1) refl c.entries-entries.result.now c.index-entries-place.result
     c.variable-pivot.result c.entries-entries.ensures.entries c.index-entries-place.is c.variable-pivot.ensures)
 
+pub step_counted-requires-clause-within : goal.step_counted-requires-clause-within
+step_counted-requires-clause-within c =
+    let at = at_of c.args.trail.now c.args.kernel.now c.loop-place.kernel c.loop-place.place c.loop-place.invariant.same c.entries-entries.ensures.steps c.requires.fits
+    c.requires.opened c.loop-place.invariant.derivation c.requires.unfinished in
+    (pivot_over c.args.trail.now c.loop-place.kernel c.loop-place.place at (c.loop-place.place - 1) refl c.variable-pivot.result
+    (pivot_here c.args.trail.now c.loop-place.kernel c.loop-place.place at (c.loop-place.place - 1) refl c.entries-entries.result.now c.index-entries-place.result
+    c.variable-pivot.result c.entries-entries.ensures.entries c.index-entries-place.is c.variable-pivot.ensures)).1
+
 pub returns-in-Some-clause-derivation : goal.returns-in-Some-clause-derivation
 returns-in-Some-clause-derivation c =
     let at = at_of c.args.trail.now c.args.kernel.now c.loop-place.kernel c.loop-place.place c.loop-place.invariant.same c.entries-entries.ensures.steps c.requires.fits
@@ -33,7 +41,7 @@ returns-in-Some-clause-derivation c =
     (steps_on c.args.trail.now c.loop-place.kernel c.loop-place.place at (c.loop-place.place - 1) refl c.variable-pivot.result
     (pivot_here c.args.trail.now c.loop-place.kernel c.loop-place.place at (c.loop-place.place - 1) refl c.entries-entries.result.now c.index-entries-place.result
     c.variable-pivot.result c.entries-entries.ensures.entries c.index-entries-place.is c.variable-pivot.ensures)
-    c.step.new.self c.in-Some.id c.in-Some.ensures.reason c.in_ok-step-in-Some.ensures.resolved).0
+    c.step_counted.new.kernel c.in-Some.id c.in-Some.ensures.reason c.in_ok-held-in-Some.ensures.stepped).0
 
 pub loop-place-preserved : goal.loop-place-preserved
 loop-place-preserved c =

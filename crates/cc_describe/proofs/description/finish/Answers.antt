@@ -1,4 +1,5 @@
-use Rattle.std.proofs.Common.{◌∙◌}
+use Rattle.std.proofs.Common.{◌∙◌, map, ap}
+use Rattle.cc_defs.specs.Resolved.{plain_base_law, plain_query}
 use Rattle.cc_describe.specs.FirstRefusal.{declared_in}
 use Rattle.cc_describe.proofs.AsDescribed.{refused_whole, tells_no_fault}
 use Rattle.cc_describe.proofs.description.finish.Goals as goal
@@ -10,3 +11,16 @@ returns-in-Err-clause-refused c places is =
 
 pub returns-in-Err-clause-no_read_fault : goal.returns-in-Err-clause-no_read_fault
 returns-in-Err-clause-no_read_fault c = tells_no_fault c.deref.result.now c.in-Err.fault c.from.result c.stop_of.result c.from.ensures c.stop_of.ensures
+
+pub returns-clause-described : goal.returns-clause-described
+returns-clause-described c = λ places is.
+    let of = c.in-Ok.ensures.made (declared_in places) is.table in (
+      of.0,
+      record {
+        table = is.table;
+        signature = of;
+        laws = ap (map plain_base_law) c.of.ensures ∙ is.laws;
+        queries = ap (map plain_query) c.of-2.ensures ∙ is.queries;
+        names = c.of-3.ensures ∙ is.names;
+      },
+    )

@@ -1,20 +1,17 @@
-use Rattle.std.proofs.Common.{◌≡◌, ◌∙◌, ap, subst, sym}
+use Rattle.std.proofs.Common.{◌≡◌, ◌∙◌, ap, arith, subst, sym}
 use Rattle.cc_defs.specs.declared.refusal.Fault.TheVariants as faults
+use Rattle.cc_defs.specs.declared.refusal.LimitAt.TheVariants as limits
 use Rattle.cc_defs.specs.Resolved.{plain_query}
-use Rattle.cc_ground.specs.Counting.{node_refusal, nodes_in_query}
+use Rattle.cc_ground.specs.Counting.{choice_refusal, choices_of_query, node_refusal, nodes_in_query}
 use Rattle.cc_defs.specs.GroundLaws.{PlainGroundQuery}
 use Rattle.cc_arena.specs.Meanings.{MeansQuery}
 use Rattle.cc_defs.specs.Conditions.{IsGroundQuery}
-use Rattle.cc_defs.specs.Universe.{universe}
-use Rattle.cc_defs.specs.Refusals.{IsRefusedBy}
-use Rattle.std.specs.Prelude.{None}
-use Rattle.cc_ground.proofs.FromDeclarations.{maker_searchable}
-use Rattle.cc_ground.proofs.Querying.{asked_is, few_nodes, many_nodes}
+use Rattle.cc_defs.specs.Universe.{Universe, universe}
+use Rattle.cc_defs.specs.Refusals.{IsRefusedBy, past}
+use Rattle.std.specs.Prelude.{None, Some}
+use Rattle.cc_ground.proofs.FromDeclarations.{universe_is}
+use Rattle.cc_ground.proofs.Querying.{asked_is, both_unrefused, choices_refused, few_choices, few_nodes, many_choices, many_nodes, nodes_refused}
 use Rattle.cc_ground.proofs.queries.ground_query.Goals as goal
-
-pub query-requires-clause-searchable : goal.query-requires-clause-searchable
-query-requires-clause-searchable c =
-    maker_searchable c.new-maker.result c.args.table.now c.args.sig.now c.new-maker.ensures.table c.new-maker.ensures.sig c.requires.signature
 
 pub returns-in-Ok-clause-made : goal.returns-in-Ok-clause-made
 returns-in-Ok-clause-made c = λ declarations range is of e.
@@ -24,17 +21,35 @@ returns-in-Ok-clause-made c = λ declarations range is of e.
 
 pub returns-in-Ok-clause-unrefused : goal.returns-in-Ok-clause-unrefused
 returns-in-Ok-clause-unrefused c = λ declarations range is of e.
-    subst (λ (q : PlainGroundQuery). node_refusal (nodes_in_query q) ≡ None)
-    (asked_is c.new-maker.result c.args.table.now c.args.sig.now declarations c.args.query.now.range c.unwrap_or-range.result range (plain_query c.args.query.now)
+    let query = plain_query c.args.query.now in
+    let same = universe_is c.args.table.now declarations c.args.sig.now is of in
+    both_unrefused (choices_of_query (universe declarations) query) _
+    (subst (λ (u : Universe). choice_refusal (choices_of_query u query) ≡ None) same
+    (few_choices _ c.in_ok-choices_of_asked.field-0 c.number.result c.in_ok-choices_of_asked.ensures (omega arith) c.number.ensures))
+    (subst (λ (q : PlainGroundQuery). node_refusal (nodes_in_query q) ≡ None)
+    (asked_is c.new-maker.result c.args.table.now c.args.sig.now declarations c.args.query.now.range c.unwrap_or-range.result range query
     c.new-maker.ensures.table c.new-maker.ensures.sig is of c.unwrap_or-range.ensures e)
-    (few_nodes _ c.new-maker.result.room c.in-Ok.ensures.within (c.new-maker.ensures.room ∙ c.number.ensures))
+    (few_nodes _ c.new-maker.result.room c.in-Ok.ensures.within (c.new-maker.ensures.room ∙ c.number-2.ensures)))
+
+pub returns-then-branch-number-clause-refused : goal.returns-then-branch-number-clause-refused
+returns-then-branch-number-clause-refused c = λ declarations range is of e.
+    let query = plain_query c.args.query.now in
+    choices_refused (choices_of_query (universe declarations) query) _ c.past.result
+    (subst (λ (u : Universe). choice_refusal (choices_of_query u query) ≡ Some (past limits.Choices)) (universe_is c.args.table.now declarations c.args.sig.now is of)
+    (many_choices _ c.in_ok-choices_of_asked.field-0 c.number.result c.in_ok-choices_of_asked.ensures c.if-branch-number.true c.number.ensures))
+    c.past.ensures
 
 pub returns-in-Err-Full-clause-refused : goal.returns-in-Err-Full-clause-refused
 returns-in-Err-Full-clause-refused c = λ declarations range is of e.
-    subst (λ (q : PlainGroundQuery). IsRefusedBy (node_refusal (nodes_in_query q)) (faults.Refused c.past.result))
-    (asked_is c.new-maker.result c.args.table.now c.args.sig.now declarations c.args.query.now.range c.unwrap_or-range.result range (plain_query c.args.query.now)
+    let query = plain_query c.args.query.now in
+    let same = universe_is c.args.table.now declarations c.args.sig.now is of in
+    nodes_refused (choices_of_query (universe declarations) query) _ (faults.Refused c.past-in-Err-Full.result)
+    (subst (λ (u : Universe). choice_refusal (choices_of_query u query) ≡ None) same
+    (few_choices _ c.in_ok-choices_of_asked.field-0 c.number.result c.in_ok-choices_of_asked.ensures (omega arith) c.number.ensures))
+    (subst (λ (q : PlainGroundQuery). IsRefusedBy (node_refusal (nodes_in_query q)) (faults.Refused c.past-in-Err-Full.result))
+    (asked_is c.new-maker.result c.args.table.now c.args.sig.now declarations c.args.query.now.range c.unwrap_or-range.result range query
     c.new-maker.ensures.table c.new-maker.ensures.sig is of c.unwrap_or-range.ensures e)
-    (many_nodes _ c.new-maker.result.room c.in-Err-Full.field-0 (faults.Refused c.past.result) c.in-Err-Full.ensures.full c.in-Err-Full.field-0-is (c.new-maker.ensures.room ∙ c.number.ensures) (ap faults.Refused c.past.ensures))
+    (many_nodes _ c.new-maker.result.room c.in-Err-Full.field-0 (faults.Refused c.past-in-Err-Full.result) c.in-Err-Full.ensures.full c.in-Err-Full.field-0-is (c.new-maker.ensures.room ∙ c.number-2.ensures) (ap faults.Refused c.past-in-Err-Full.ensures)))
 
 pub returns-in-Ok-clause-meant : goal.returns-in-Ok-clause-meant
 returns-in-Ok-clause-meant c = λ declarations range is of e.

@@ -6,7 +6,7 @@ use Rattle.cc_ground.proofs.Meant.{constant_by_args}
 use Rattle.cc_ground.proofs.sides.term_side.Goals as goal
 
 pub returns-in-Constant : goal.returns-in-Constant
-returns-in-Constant c = λ table.
-    subst (λ term. IfOk c.constant_side.result (λ side. plain_side side ≡ side_of (universe_of table c.args.sig.now) (environment_of c.args.env.now) term))
+returns-in-Constant c =
+    subst (λ term. IfOk c.constant_side.result (λ side. plain_side side ≡ side_of (universe_of c.args.table.now c.args.sig.now) (environment_of c.args.env.now) term))
     (constant_by_args c.args.term.now c.in-Constant.symbol c.in-Constant.args c.deref.result.now c.in-Constant.is c.deref.ensures.value)
-    (c.constant_side.ensures table)
+    c.constant_side.ensures

@@ -8,7 +8,7 @@ pub written-requires-clause-named : goal.written-requires-clause-named
 written-requires-clause-named c = are_named c.args.table.now c.args.sig.now c.requires.signature
 
 pub written-requires-clause-row : goal.written-requires-clause-row
-written-requires-clause-row c = c.requires.row (described c.args.table.now c.args.sig.now) (record { fluents = refl; actions = refl })
+written-requires-clause-row c = c.requires.row (described c.args.table.now c.args.sig.now) (record { fluents = refl; actions = refl; numbers = refl })
 
 pub returns : goal.returns
 returns c = λ d left is of has named.

@@ -1,6 +1,6 @@
 use Rattle.std.proofs.Common.{◌≡◌, List, map, flat_map, OnOk, ◌++◌, ap, sym, subst, ◌∙◌}
 use Rattle.cc_defs.specs.Declarations.{Declaration, declarations_of, part_declarations, sort_declarations, object_declarations, variable_declarations, constant_declarations}
-use Rattle.cc_defs.specs.Trees.{plain_statement, plain_part, plain_sort_item, plain_list_item, plain_const_item}
+use Rattle.cc_defs.specs.Trees.{plain_statement, plain_part, plain_sort_item, plain_obj_item, plain_list_item, plain_const_item}
 use Rattle.cc_sorts.specs.Declaring.{plain_declarations}
 use Rattle.cc_sorts.proofs.declaration.add_declarations.Goals as goal
 
@@ -14,8 +14,8 @@ returns-in-Sorts c = λ file.
 pub returns-in-Objects : goal.returns-in-Objects
 returns-in-Objects c = λ file.
     let line = c.args.statement.now.line
-    in let e : flat_map (object_declarations) (map plain_list_item c.items-in-Objects.result.now) ≡ declarations_of file (plain_statement c.args.statement.now) =
-    ap (λ items. flat_map (object_declarations) (map plain_list_item items)) c.items-in-Objects.ensures ∙ sym (ap (λ part. part_declarations file line (plain_part part)) c.in-Objects.is)
+    in let e : flat_map (object_declarations) (map plain_obj_item c.items-in-Objects.result.now) ≡ declarations_of file (plain_statement c.args.statement.now) =
+    ap (λ items. flat_map (object_declarations) (map plain_obj_item items)) c.items-in-Objects.ensures ∙ sym (ap (λ part. part_declarations file line (plain_part part)) c.in-Objects.is)
     in subst (λ (declarations : List Declaration). OnOk c.add_object_items.result (plain_declarations file line c.add_object_items.new.found.items ≡ plain_declarations file line c.args.found.now.items ++ declarations)) e (c.add_object_items.ensures file line)
 
 pub returns-in-Variables : goal.returns-in-Variables

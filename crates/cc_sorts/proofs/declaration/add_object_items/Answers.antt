@@ -1,19 +1,19 @@
-use Rattle.std.proofs.Common.{arith, ap, ◌∙◌, ◌++◌, map}
-use Rattle.cc_defs.specs.Declarations.{Object, object_declarations}
-use Rattle.cc_defs.specs.Trees.{plain_list_item}
+use Rattle.std.proofs.Common.{arith, ap, ◌∙◌, ◌++◌, map, flat_map}
+use Rattle.cc_defs.specs.Declarations.{member_declarations, object_declarations}
+use Rattle.cc_defs.specs.Trees.{plain_member, plain_obj_item}
 use Rattle.cc_sorts.specs.Declaring.{plain_declarations}
 use Rattle.cc_sorts.proofs.Adding.{parts-more, parts-all}
 use Rattle.cc_sorts.proofs.declaration.add_object_items.Goals as goal
 
 pub loop-item-preserved : goal.loop-item-preserved
 loop-item-preserved c = λ file line.
-    parts-more object_declarations plain_list_item (plain_declarations file line c.args.found.now.items) _ _ c.args.items.now c.loop-item.item-index c.item-item.result
+    parts-more object_declarations plain_obj_item (plain_declarations file line c.args.found.now.items) _ _ c.args.items.now c.loop-item.item-index c.item-item.result
     (omega (arith, c.loop-item-test.true)) c.item-item.is
-    (c.in_ok-add_objects.ensures file line
-    ∙ ap (λ names. plain_declarations file line c.loop-item.found.items ++ map (λ name. Object name c.item-item.result.sort.now) (map (λ name. name.now) names)) c.items.ensures)
+    (c.in_ok-add_members.ensures file line
+    ∙ ap (λ members. plain_declarations file line c.loop-item.found.items ++ flat_map (member_declarations c.item-item.result.sort.now) (map plain_member members)) c.items.ensures)
     (c.loop-item.invariant file line)
 
 pub returns : goal.returns
 returns c = λ file line.
-    parts-all object_declarations plain_list_item (plain_declarations file line c.args.found.now.items) _ c.args.items.now c.loop-item.item-index
+    parts-all object_declarations plain_obj_item (plain_declarations file line c.args.found.now.items) _ c.args.items.now c.loop-item.item-index
     c.loop-item-test.false (c.loop-item.invariant file line)

@@ -1,4 +1,4 @@
-use Rattle.std.proofs.Common.{Err, ap, sym}
+use Rattle.std.proofs.Common.{Err, ap}
 use Rattle.cc_syntax.proofs.Parsing.{one-tree}
 use Rattle.cc_syntax.proofs.Statements.{is_short, is_parsed, is_refused}
 use Rattle.cc_syntax.proofs.statement.parse.Goals as goal
@@ -7,7 +7,7 @@ pub returns-in-Ok-clause-parsed : goal.returns-in-Ok-clause-parsed
 returns-in-Ok-clause-parsed c =
     is_parsed _ _ _ c.requires.some c.requires.are
     (is_short _ _ _ c.token_limit-limit.ensures c.number.ensures c.if-tokens-number.false)
-    (sym c.if-has_not_yet.ensures) c.in-Ok.ensures.read
+    c.in-Ok.ensures.read
 
 pub returns-in-Ok-clause-one : goal.returns-in-Ok-clause-one
 returns-in-Ok-clause-one c = λ other spelled. one-tree _ _ other (returns-in-Ok-clause-parsed c).spelled spelled
@@ -16,4 +16,4 @@ pub returns-in-Err-NoTree-clause-refused : goal.returns-in-Err-NoTree-clause-ref
 returns-in-Err-NoTree-clause-refused c =
     is_refused c.args.tokens.now _ _
     (is_short _ _ _ c.token_limit-limit.ensures c.number.ensures c.if-tokens-number.false)
-    (sym c.if-has_not_yet.ensures) (c.in-Err-NoTree.ensures.none (ap Err c.in-Err-NoTree.field-0-is)) c.refusal-in-Err-NoTree.ensures
+    (c.in-Err-NoTree.ensures.none (ap Err c.in-Err-NoTree.field-0-is)) c.refusal.ensures

@@ -1,5 +1,5 @@
-use Rattle.std.proofs.Common.{inl, inr, refl, arith}
-use Rattle.cc_trail.proofs.Choosing.{codes_same, is_false, true_not_false, open_not_false, best_more}
+use Rattle.std.proofs.Common.{inl, inr, refl, sym, arith}
+use Rattle.cc_trail.proofs.Choosing.{codes_same, valued_false, valued_not_false, open_not_false, best_more}
 use Rattle.cc_trail.proofs.visits.better.Goals as goal
 
 pub returns-then-eq-clause-best : goal.returns-then-eq-clause-best
@@ -10,30 +10,29 @@ returns-then-eq-clause-best c = (
       (inl (codes_same c.index-clause-index.result c.args.except c.eq.result c.eq.ensures c.if-eq.true)),
 )
 
-pub returns-then-eq-2-clause-best : goal.returns-then-eq-2-clause-best
-returns-then-eq-2-clause-best c =
-    true_not_false c.args.entries.now.steps c.index-clause-index.result c.variable.result c.variable.ensures c.in-Some.step c.in-Some.ensures.found c.eq-in-Some.result
-    c.eq-in-Some.ensures c.find.ensures.steps.apart c.if-eq-2.true
+pub returns-then-standing-clause-best : goal.returns-then-standing-clause-best
+returns-then-standing-clause-best c =
+    valued_not_false c.args.entries.now.steps c.standing.ensures.steps.apart c.index-clause-index.result c.in-Some.standing.level c.in-Some.standing.is_true c.if-standing.true
+    c.in-Some.ensures.stands
 
-pub returns-then-step-found-clause-best : goal.returns-then-step-found-clause-best
-returns-then-step-found-clause-best c =
-    let is = is_false c.args.entries.now.steps c.index-clause-index.result c.variable.result c.variable.ensures c.in-Some.step c.in-Some.ensures.found c.eq-in-Some.result
-    c.eq-in-Some.ensures c.if-eq-2.false in
-    let above = c.if-step-found.true in (
-      (c.in-Some.step, is.0, is.1, refl),
-      best_more c.args.entries.now.steps c.args.clause.now c.args.index c.args.except c.index-clause-index.result c.args.found.level c.in-Some.step.level c.requires.within
-          c.index-clause-index.is (omega arith) c.requires.best.1 (inr (c.in-Some.step, is.0, is.1, omega arith)),
+pub returns-then-standing-found-clause-best : goal.returns-then-standing-found-clause-best
+returns-then-standing-found-clause-best c =
+    let is = valued_false c.args.entries.now.steps c.index-clause-index.result c.in-Some.standing.level c.in-Some.standing.is_true c.if-standing.false c.in-Some.ensures.stands in
+    let above = c.if-standing-found.true in (
+      is,
+      best_more c.args.entries.now.steps c.args.clause.now c.args.index c.args.except c.index-clause-index.result c.args.found.level c.in-Some.standing.level c.requires.within
+          c.index-clause-index.is (omega arith) c.requires.best.1 (inr (is.0, is.1, is.2, omega (arith, is.3))),
     )
 
-pub returns-else-step-found-clause-best : goal.returns-else-step-found-clause-best
-returns-else-step-found-clause-best c =
-    let is = is_false c.args.entries.now.steps c.index-clause-index.result c.variable.result c.variable.ensures c.in-Some.step c.in-Some.ensures.found c.eq-in-Some.result
-    c.eq-in-Some.ensures c.if-eq-2.false in (
+pub returns-else-standing-found-clause-best : goal.returns-else-standing-found-clause-best
+returns-else-standing-found-clause-best c =
+    let is = valued_false c.args.entries.now.steps c.index-clause-index.result c.in-Some.standing.level c.in-Some.standing.is_true c.if-standing.false c.in-Some.ensures.stands in
+    let low = c.if-standing-found.false in (
       c.requires.best.0,
       best_more c.args.entries.now.steps c.args.clause.now c.args.index c.args.except c.index-clause-index.result c.args.found.level c.args.found.level c.requires.within
-          c.index-clause-index.is (omega arith) c.requires.best.1 (inr (c.in-Some.step, is.0, is.1, c.if-step-found.false)),
+          c.index-clause-index.is (omega arith) c.requires.best.1 (inr (is.0, is.1, is.2, omega (arith, is.3))),
     )
 
 pub returns-in-None-clause-best : goal.returns-in-None-clause-best
 returns-in-None-clause-best c =
-    open_not_false c.args.entries.now.steps c.index-clause-index.result c.variable.result c.variable.ensures c.in-None.ensures.found
+    open_not_false c.args.entries.now.steps c.index-clause-index.result c.index-clause-index.result.variable refl (sym c.in-None.ensures.stands)

@@ -1,4 +1,5 @@
-use Rattle.std.proofs.Common.{◌∙◌, ℕ, ◌<◌, length, sym, subst, ap}
+use Rattle.std.proofs.Common.{◌∙◌, ℕ, ◌<◌, length, refl, sym, subst, ap}
+use Rattle.std.specs.Prelude.{Contains}
 use Rattle.std.proofs.lemmas.List.Elements.{All-contains}
 use Rattle.cc_defs.specs.Clauses.{Literal, IsLiteralOver}
 use Rattle.cc_trail.specs.Links.{watched_at}
@@ -6,7 +7,7 @@ use Rattle.cc_trail.specs.Visits.{IsFalseAt}
 use Rattle.cc_trail.proofs.Attaching.{all_over}
 use Rattle.cc_trail.proofs.Growing.{grown_at}
 use Rattle.cc_trail.proofs.Choosing.{not_true, not_false, best_open, best_false, value_true, value_false}
-use Rattle.cc_trail.proofs.Visiting.{low, partner_low, there, fallen_over, fallen_at, visiting_then, others_then, failed_here, kept_then, open_then, fallen_then}
+use Rattle.cc_trail.proofs.Visiting.{low, partner_low, there, fallen_over, fallen_at, visiting_then, others_then, failed_here, gone_then, kept_then, open_then, fallen_then, fallen_apart, other_in}
 use Rattle.cc_trail.proofs.visits.visit.Goals as goal
 
 pub watched-other-requires : goal.watched-other-requires
@@ -16,15 +17,35 @@ watched-other-requires c =
     (low c.args.kernel.now c.args.longs.now c.args.place c.args.step.now c.args.entries.now c.args.links.now c.requires.visiting c.args.node c.requires.first))
 
 pub put-requires-clause-over : goal.put-requires-clause-over
-put-requires-clause-over c =
+put-requires-clause-over c = c.watched-other.ensures.over
+
+pub returns-then-is_true_to-clause-visiting : goal.returns-then-is_true_to-clause-visiting
+returns-then-is_true_to-clause-visiting c =
+    gone_then c.args.kernel.now c.args.longs.now c.args.place c.args.step.now c.args.entries.now c.args.links.now c.requires.visiting c.args.node c.requires.first c.requires.once
+    c.watched-other.result (c.watched-other.ensures.watched ∙ ap (λ (n : ℕ). watched_at c.args.links.now.watched n) c.partner_of.ensures) c.watched-other.result c.put.new.self
+    c.put.ensures refl (c.is_true_to.ensures c.if-is_true_to.true)
+
+pub put-requires-then-not-is_due-clause-over : goal.put-requires-then-not-is_due-clause-over
+put-requires-then-not-is_due-clause-over c =
     subst (λ (l : Literal). IsLiteralOver c.args.links.now.variables l) (sym c.opposite-fallen.ensures)
     (fallen_over c.args.kernel.now c.args.longs.now c.args.place c.args.step.now c.args.entries.now c.args.links.now c.requires.visiting c.args.node c.requires.first)
 
 pub returns-then-not-is_due-clause-visiting : goal.returns-then-not-is_due-clause-visiting
 returns-then-not-is_due-clause-visiting c =
     kept_then c.args.kernel.now c.args.longs.now c.args.place c.args.step.now c.args.entries.now c.args.links.now c.requires.visiting c.args.node c.requires.first c.requires.once
-    c.watched-other.result (c.watched-other.ensures.watched ∙ ap (λ (n : ℕ). watched_at c.args.links.now.watched n) c.partner_of.ensures) c.opposite-fallen.result c.put.new.self
-    c.put.ensures c.opposite-fallen.ensures (c.is_true_to.ensures c.if-is_true_to.true)
+    c.watched-other.result (c.watched-other.ensures.watched ∙ ap (λ (n : ℕ). watched_at c.args.links.now.watched n) c.partner_of.ensures) c.opposite-fallen.result c.put-then-not-is_due.new.self
+    c.put-then-not-is_due.ensures c.opposite-fallen.ensures (c.is_true_to-2.ensures c.if-is_true_to-2.true)
+
+pub best_beside-watch-requires-clause-there : goal.best_beside-watch-requires-clause-there
+best_beside-watch-requires-clause-there c =
+    subst (λ (l : Literal). Contains c.clause.result.now l)
+    (sym (c.watched-other.ensures.watched ∙ ap (λ (n : ℕ). watched_at c.args.links.now.watched n) c.partner_of.ensures))
+    (other_in c.args.kernel.now c.args.longs.now c.args.place c.args.step.now c.args.entries.now c.args.links.now c.requires.visiting c.args.node c.requires.first c.clause.result.now c.clause.ensures.clause)
+
+pub best_beside-watch-requires-clause-apart : goal.best_beside-watch-requires-clause-apart
+best_beside-watch-requires-clause-apart c e =
+    fallen_apart c.args.kernel.now c.args.longs.now c.args.place c.args.step.now c.args.entries.now c.args.links.now c.requires.visiting c.args.node c.requires.first
+    (sym c.opposite-fallen.ensures ∙ e ∙ c.watched-other.ensures.watched ∙ ap (λ (n : ℕ). watched_at c.args.links.now.watched n) c.partner_of.ensures)
 
 pub clause-requires : goal.clause-requires
 clause-requires c =

@@ -6,4 +6,4 @@ abbrev pub invariant-loop-node : goal.invariant-loop-node
 invariant-loop-node l = IsVisiting l.kernel l.longs l.place l.step l.entries l.links × AreGrown l.fn.entries l.entries
 
 abbrev pub decreases-loop-node : goal.decreases-loop-node
-decreases-loop-node l = length l.links.taken
+decreases-loop-node l = length l.links.ahead

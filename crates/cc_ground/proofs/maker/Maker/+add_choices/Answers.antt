@@ -2,9 +2,9 @@ use Rattle.std.proofs.Common.{List, length, ap, subst, arith}
 use Rattle.cc_defs.specs.Resolved.{plain_law}
 use Rattle.cc_ground.specs.Counting.{nodes_in}
 use Rattle.cc_defs.specs.GroundLaws.{PlainGroundLaw}
-use Rattle.cc_ground.specs.Views.{AreSearchable, LacksRoom, universe_in}
-use Rattle.cc_ground.proofs.Choosing.{behind_range, choice_lacks, choice_more, choices_end, still_unbound}
-use Rattle.cc_ground.proofs.Putting.{lacks_so, same_universe}
+use Rattle.cc_ground.specs.Views.{LacksRoom, universe_in}
+use Rattle.cc_ground.proofs.Ranging.{behind_range, choice_lacks, choice_more, choices_end, still_unbound}
+use Rattle.cc_ground.proofs.Putting.{lacks_so}
 use Rattle.cc_ground.proofs.maker.Maker.+add_choices.Goals as goal
 
 pub returns-in_err-add_choices-clause-full : goal.returns-in_err-add_choices-clause-full
@@ -30,7 +30,5 @@ returns-clause-made t c =
 
 pub add_choices-requires : goal.add_choices-requires
 add_choices-requires t c =
-    let like = c.loop-index.invariant.like in (
-      omega (arith, ap length c.in-Some.ensures.cases.0),
-      (subst AreSearchable (same_universe c.args.self.now c.loop-index.self like.table like.sig) c.requires.searchable, still_unbound c.args.self.now c.loop-index.self _ c.give.new.self c.requires.unbound like c.in_ok-give.ensures),
-    )
+    let like = c.loop-index.invariant.like in
+    (omega (arith, ap length c.in-Some.ensures.cases.0), still_unbound c.args.self.now c.loop-index.self _ c.give.new.self c.requires like c.in_ok-give.ensures)

@@ -1,6 +1,6 @@
 use Rattle.std.proofs.Common.{length}
 use Rattle.cc_defs.specs.Resolved.{plain_law}
-use Rattle.cc_ground.proofs.Choosing.{ChoicesSoFar}
+use Rattle.cc_ground.proofs.Ranging.{ChoicesSoFar}
 use Rattle.cc_ground.proofs.maker.Maker.+add_choices.Given as goal
 
 abbrev pub decreases-add_choices : goal.decreases-add_choices

@@ -1,4 +1,4 @@
-use Rattle.cc_ground.proofs.Choosing.{laws_lack, laws_more, same_actions}
+use Rattle.cc_ground.proofs.Ranging.{laws_lack, laws_more, same_actions}
 use Rattle.cc_ground.proofs.Putting.{lacks_so}
 use Rattle.cc_ground.proofs.maker.Maker.add_all.Goals as goal
 

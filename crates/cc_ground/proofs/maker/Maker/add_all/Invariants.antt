@@ -1,4 +1,4 @@
-use Rattle.cc_ground.proofs.Choosing.{LawsSoFar}
+use Rattle.cc_ground.proofs.Ranging.{LawsSoFar}
 use Rattle.cc_ground.proofs.maker.Maker.add_all.Given as goal
 
 abbrev pub invariant-loop-base : goal.invariant-loop-base

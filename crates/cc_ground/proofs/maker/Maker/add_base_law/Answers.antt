@@ -3,7 +3,7 @@ use Rattle.std.specs.Result.{IfErr, OnOk}
 use Rattle.cc_defs.specs.GroundLaws.{PlainGroundLaw}
 use Rattle.cc_ground.specs.Counting.{nodes_in}
 use Rattle.cc_ground.specs.Views.{HasMade, LacksRoom, universe_in}
-use Rattle.cc_ground.proofs.Choosing.{base_law_is, pairs_are}
+use Rattle.cc_ground.proofs.Ranging.{base_law_is, pairs_are}
 use Rattle.cc_ground.proofs.maker.Maker.add_base_law.Goals as goal
 
 pub returns-in-One-clause-made : goal.returns-in-One-clause-made

@@ -15,7 +15,7 @@ invariant_of-self-2 c =
       sound =
           finished_sound c.self.inside c.args.self.now c.self.view_is c.resolvents_are_sound.ensures c.self.inside.empty c.empty_with-self-inside.result
           c.as_slice-stage.result.now (staged.0) (entries_of c.add.new.clauses c.add.new.later.items) c.count-number.result c.self.invariant.sound (staged.1)
-          c.requires.few (c.as_slice-stage.ensures.value ∙ (staged_inside c.self.inside c.args.self.now c.self.view_is (staged.0) (staged.1)).1) (entries_are.1)
+          c.requires.few (c.as_slice-stage.ensures.value ∙ c.in_ok-write_to.ensures ∙ (staged_inside c.self.inside c.args.self.now c.self.view_is (staged.0) (staged.1)).1) (entries_are.1)
           c.count-number.ensures c.empty_with-self-inside.ensures;
     }
 
@@ -27,7 +27,7 @@ returns-clause-added c =
       staged.0,
       staged.1,
       entries_finished c.self.inside c.args.self.now c.self.view_is (entries_of c.add.new.clauses c.add.new.later.items) c.as_slice-stage.result.now (staged.0)
-          (c.as_slice-stage.ensures.value ∙ (staged_inside c.self.inside c.args.self.now c.self.view_is (staged.0) (staged.1)).1) (entries_are.1),
+          (c.as_slice-stage.ensures.value ∙ c.in_ok-write_to.ensures ∙ (staged_inside c.self.inside c.args.self.now c.self.view_is (staged.0) (staged.1)).1) (entries_are.1),
     )
 
 pub returns-clause-follow : goal.returns-clause-follow

@@ -1,7 +1,8 @@
 use Rattle.std.proofs.Common.{◌∙◌, false, ◌||◌, refl, sym, ap}
 use Rattle.std.proofs.lemmas.Result.{on_ok_weaker}
-use Rattle.cc_sorts.specs.Lefts.{left_constant, left_has_sort, left_has_name, left_has_pair, left_has_upper, has_name}
-use Rattle.cc_sorts.proofs.Lefts.{or_false, or_none, name_added}
+use Rattle.cc_sorts.specs.Lefts.{left_has_from, left_constant, left_has_sort, left_has_name, left_has_pair, left_has_upper, has_name}
+use Rattle.cc_sorts.proofs.Lefts.{or_none, name_added}
+use Rattle.cc_sorts.proofs.Swaps.{or_false}
 use Rattle.cc_defs.specs.Grammar.{same_text}
 use Rattle.cc_sorts.proofs.left.Left.add_name.Goals as goal
 
@@ -14,6 +15,7 @@ returns-clause-object c = λ sort. on_ok_weaker c.put_key.result (λ updates. re
   sorts_are = λ name. sym (or_false (left_has_sort c.args.self.now name));
   names_are = λ name. name_added (has_name c.args.self.now.table.now name) _ _ c.args.name.now name (updates.0 (record { ref_ptr = (0, 0); now = name }))
       ∙ ap (λ t. left_has_name c.args.self.now name || t) (sym (or_false (same_text name c.args.name.now || false)));
+  numbers_are = λ low high sort. sym (or_false (left_has_from c.args.self.now low high sort));
   pairs_are = λ pair. sym (or_false (left_has_pair c.args.self.now pair));
 }) c.put_key.ensures.updates
 
@@ -26,5 +28,6 @@ returns-clause-variable c = λ sort. on_ok_weaker c.put_key.result (λ updates. 
   sorts_are = λ name. sym (or_false (left_has_sort c.args.self.now name));
   names_are = λ name. name_added (has_name c.args.self.now.table.now name) _ _ c.args.name.now name (updates.0 (record { ref_ptr = (0, 0); now = name }))
       ∙ ap (λ t. left_has_name c.args.self.now name || t) (sym (or_false (same_text name c.args.name.now || false)));
+  numbers_are = λ low high sort. sym (or_false (left_has_from c.args.self.now low high sort));
   pairs_are = λ pair. sym (or_false (left_has_pair c.args.self.now pair));
 }) c.put_key.ensures.updates

@@ -1,7 +1,14 @@
-use Rattle.std.proofs.Common.{◌∙◌, ap}
+use Rattle.std.proofs.Common.{◌∙◌, ap, sym, subst}
 use Rattle.cc_defs.specs.Trees.{plain_statement}
 use Rattle.cc_sorts.specs.Declaring.{plain_declarations}
+use Rattle.cc_sorts.specs.Entered.{IsRefusedFor}
+use Rattle.cc_sorts.proofs.Declared.{front_none}
 use Rattle.cc_sorts.proofs.register.Register.declare.Goals as goal
+
+pub returns-in-Err-clause-refused : goal.returns-in-Err-clause-refused
+returns-in-Err-clause-refused c = λ left is.
+    subst (IsRefusedFor c.args.file left (plain_statement c.args.statement.now) c.args.self.now c.args.self.now) (sym c.from.ensures)
+    (front_none c.args.file left (plain_statement c.args.statement.now) c.args.self.now is)
 
 pub returns-clause-declared : goal.returns-clause-declared
 returns-clause-declared c = λ left is.

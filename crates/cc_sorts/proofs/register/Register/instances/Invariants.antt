@@ -1,6 +1,7 @@
 use Rattle.std.proofs.Common.{◌≡◌, take}
 use Rattle.cc_sorts.specs.Instances.{instances_from}
+use Rattle.cc_sorts.specs.Shown.{shown}
 use Rattle.cc_sorts.proofs.register.Register.instances.Given as goal
 
 abbrev pub invariant-loop-number : goal.invariant-loop-number
-invariant-loop-number l = l.made.items ≡ instances_from l.self.sorts l.actions 0 (take l.number l.self.symbols)
+invariant-loop-number l = l.made.items ≡ instances_from (shown l.self).sorts l.actions 0 (take l.number l.self.symbols)

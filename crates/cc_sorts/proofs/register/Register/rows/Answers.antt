@@ -1,7 +1,8 @@
 use Rattle.cc_sorts.proofs.Listed.{rows_step}
+use Rattle.cc_sorts.specs.Shown.{shown}
 use Rattle.cc_sorts.proofs.register.Register.rows.Goals as goal
 
 pub loop-sort-preserved : goal.loop-sort-preserved
 loop-sort-preserved c =
-    rows_step c.args.self.now.sorts c.args.sorts.now c.loop-sort.sort-index c.loop-sort.rows.items c.in_ok-rows.rows.items c.deref.result.now c.members.result.now
+    rows_step (shown c.args.self.now).sorts c.args.sorts.now c.loop-sort.sort-index c.loop-sort.rows.items c.in_ok-rows.rows.items c.deref.result.now c.members.result.now
     c.loop-sort-test.true c.loop-sort.invariant c.deref.ensures.value c.members.ensures c.in_ok-rows.ensures

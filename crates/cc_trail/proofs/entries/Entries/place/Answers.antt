@@ -4,14 +4,14 @@ use Rattle.cc_trail.proofs.entries.Entries.place.Goals as goal
 
 pub returns-in-Some-clause-within : goal.returns-in-Some-clause-within
 returns-in-Some-clause-within c =
-    (place_here c.self.inside c.args.self.now c.self.view_is c.self.invariant c.args.variable c.index.result.now c.requires c.index.ensures c.in-Some.place c.in-Some.ensures).2
+    (place_here c.self.inside c.args.self.now c.self.view_is c.self.invariant.kept c.args.variable c.index.result.now c.requires c.index.ensures c.in-Some.place c.in-Some.ensures).2
 
 pub returns-in-Some-clause-before : goal.returns-in-Some-clause-before
 returns-in-Some-clause-before c =
-    (place_here c.self.inside c.args.self.now c.self.view_is c.self.invariant c.args.variable c.index.result.now c.requires c.index.ensures c.in-Some.place c.in-Some.ensures).1
+    (place_here c.self.inside c.args.self.now c.self.view_is c.self.invariant.kept c.args.variable c.index.result.now c.requires c.index.ensures c.in-Some.place c.in-Some.ensures).1
 
 pub returns-in-None-clause-before : goal.returns-in-None-clause-before
 returns-in-None-clause-before c = λ step here.
     none_of c.args.self.now.steps c.args.variable
-    (not_found_here c.self.inside c.args.self.now c.self.view_is c.self.invariant c.args.variable c.index.result.now c.requires c.index.ensures c.in-None.ensures)
+    (not_found_here c.self.inside c.args.self.now c.self.view_is c.self.invariant.kept c.args.variable c.index.result.now c.requires c.index.ensures c.in-None.ensures)
     step (in_take c.self.inside.count c.args.self.now.steps step here)

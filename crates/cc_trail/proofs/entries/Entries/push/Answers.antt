@@ -1,28 +1,40 @@
-use Rattle.std.proofs.Common.{◌∙◌, ◌+◌, ◌<◌, ℕ, inl, [], ◌∷◌, ◌++◌, refl, sym, subst, ap, arith}
+use Rattle.std.proofs.Common.{◌*◌, Bool, ◌∙◌, ◌+◌, ◌<◌, ℕ, inl, [], ◌∷◌, ◌++◌, refl, sym, subst, ap, arith}
+use Rattle.std.specs.Prelude.{if◌then◌else◌}
 use Rattle.cc_trail.specs.Steps.{EntriesView}
-use Rattle.cc_trail.proofs.EntryViews.{within_push, kept_then, pushed_here, view_kept, level_is}
+use Rattle.cc_trail.proofs.EntryViews.{within_push, kept_then, marked_then, levels_few, pushed_here, view_kept, level_is}
 use Rattle.cc_trail.proofs.entries.Entries.push.Goals as goal
 
 pub index_mut-requires : goal.index_mut-requires
 index_mut-requires c =
     subst (λ (n : ℕ). c.self.inside.count < n) (sym c.self.inside.steps.ok.0)
-    (within_push c.self.inside c.args.self.now c.self.view_is c.self.invariant (record { lit = c.args.lit; level = c.self.inside.level_count; reason = c.args.reason })
+    (within_push c.self.inside c.args.self.now c.self.view_is c.self.invariant.kept (record { lit = c.args.lit; level = c.self.inside.level_count; reason = c.args.reason })
     c.requires.over c.requires.open).1
 
 pub index_mut-requires-2 : goal.index_mut-requires-2
 index_mut-requires-2 c =
     subst (λ (n : ℕ). c.self.inside.count < n) (sym c.self.inside.literals.ok.0)
-    (within_push c.self.inside c.args.self.now c.self.view_is c.self.invariant (record { lit = c.args.lit; level = c.self.inside.level_count; reason = c.args.reason })
+    (within_push c.self.inside c.args.self.now c.self.view_is c.self.invariant.kept (record { lit = c.args.lit; level = c.self.inside.level_count; reason = c.args.reason })
     c.requires.over c.requires.open).2
 
 pub invariant_of-self : goal.invariant_of-self
-invariant_of-self c =
-    kept_then c.self.inside c.args.self.now c.self.view_is c.self.invariant (record { lit = c.args.lit; level = c.self.inside.level_count; reason = c.args.reason })
-    c.requires.over c.requires.open c.variable.result (c.self.inside.count + 1) c.variable.ensures (omega arith) (inl refl)
+invariant_of-self c = record {
+  kept = kept_then c.self.inside c.args.self.now c.self.view_is c.self.invariant.kept (record { lit = c.args.lit; level = c.self.inside.level_count; reason = c.args.reason })
+      c.requires.over c.requires.open c.variable.result (c.self.inside.count + 1) c.variable.ensures (omega arith) (inl refl);
+  marked = marked_then c.self.inside c.args.self.now c.self.view_is c.self.invariant.kept (record { lit = c.args.lit; level = c.self.inside.level_count; reason = c.args.reason })
+      c.requires.over c.requires.open c.self.invariant.marked c.variable-2.result c.mark.result c.variable-2.ensures
+      (c.mark.ensures ∙ ap (λ (b : Bool). 2 * (c.self.inside.level_count + 1) + (if b then 1 else 0)) c.is_positive.ensures);
+}
 
 pub returns : goal.returns
 returns c =
-    view_kept c.self.inside c.args.self.now c.self.view_is c.self.invariant (record { lit = c.args.lit; level = c.self.inside.level_count; reason = c.args.reason })
-    (pushed_here c.self.inside c.args.self.now c.self.view_is c.self.invariant (record { lit = c.args.lit; level = c.self.inside.level_count; reason = c.args.reason }) c.requires.over c.requires.open) ∙
+    view_kept c.self.inside c.args.self.now c.self.view_is c.self.invariant.kept (record { lit = c.args.lit; level = c.self.inside.level_count; reason = c.args.reason })
+    (pushed_here c.self.inside c.args.self.now c.self.view_is c.self.invariant.kept (record { lit = c.args.lit; level = c.self.inside.level_count; reason = c.args.reason }) c.requires.over c.requires.open) ∙
     ap (λ (n : ℕ). let v : EntriesView = record c.args.self.now { steps = c.args.self.now.steps ++ (record { lit = c.args.lit; level = n; reason = c.args.reason }) ∷ [] } in v)
-    (level_is c.self.inside c.args.self.now c.self.view_is c.self.invariant)
+    (level_is c.self.inside c.args.self.now c.self.view_is c.self.invariant.kept)
+
+pub mark-requires : goal.mark-requires
+mark-requires c =
+    let levels = levels_few c.self.inside c.args.self.now c.self.view_is c.self.invariant.kept in
+    let all = within_push c.self.inside c.args.self.now c.self.view_is c.self.invariant.kept (record { lit = c.args.lit; level = c.self.inside.level_count; reason = c.args.reason }) c.requires.over c.requires.open in
+    let most = c.self.invariant.kept.are_steps.variables_few in
+    omega (arith, all.0)

@@ -7,7 +7,7 @@ invariant_of-self c =
     record {
       trail_is = there.0;
       variables = there.1;
-      taken = c.self.invariant.taken;
+      ahead = c.self.invariant.ahead;
     }
 
 pub returns-clause-fits : goal.returns-clause-fits

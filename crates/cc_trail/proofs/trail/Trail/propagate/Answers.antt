@@ -1,24 +1,38 @@
-use Rattle.std.proofs.Common.{ℕ, List, sym, subst}
+use Rattle.std.proofs.Common.{◌∙◌, ℕ, List, sym, subst}
 use Rattle.cc_kernel.specs.Kernels.{clauses_of}
 use Rattle.cc_defs.specs.Clauses.{IsIn}
 use Rattle.cc_trail.specs.Visits.{AreWatched}
 use Rattle.cc_trail.proofs.Growing.{watched_grown}
 use Rattle.cc_trail.proofs.Walking.{met_grown}
-use Rattle.cc_trail.proofs.Propagated.{watched_here, fits_then, all_closed}
+use Rattle.cc_trail.proofs.Propagated.{watched_here, known_here, still_good, good_then, fits_then, all_closed}
 use Rattle.cc_trail.proofs.trail.Trail.propagate.Goals as goal
+
+pub make_shorts-requires-clause-known : goal.make_shorts-requires-clause-known
+make_shorts-requires-clause-known c =
+    rw c.deref.ensures.value (known_here c.self.inside c.args.self.now c.self.view_is c.self.invariant c.args.kernel.now c.requires.fits)
 
 pub returns-in-Some-clause-fits : goal.returns-in-Some-clause-fits
 returns-in-Some-clause-fits c =
-    fits_then c.self.inside c.args.self.now c.self.view_is c.self.invariant c.args.kernel.now c.requires.fits c.self.inside.visited c.make_shorts.new.entries c.self.inside.links
-    c.make_shorts.ensures.sound
+    fits_then c.self.inside c.args.self.now c.self.view_is c.self.invariant c.args.kernel.now c.requires.fits c.self.inside.visited c.self.inside.met c.make_shorts.new.entries
+    c.self.inside.links c.make_shorts.ensures.sound
     (watched_grown c.args.kernel.now c.self.inside.longs.items c.self.inside.visited c.self.inside.entries c.make_shorts.new.entries c.self.inside.links c.make_shorts.ensures.grown
     (watched_here c.self.inside c.args.self.now c.self.view_is c.self.invariant c.args.kernel.now c.requires.fits))
+    (still_good c.self.inside c.args.self.now c.self.view_is c.self.invariant c.args.kernel.now c.requires.fits c.make_shorts.new.entries c.make_shorts.ensures.grown)
 
 pub visit_steps-requires-clause-watched : goal.visit_steps-requires-clause-watched
 visit_steps-requires-clause-watched c =
     rw c.deref-2.ensures.value
     (watched_grown c.args.kernel.now c.self.inside.longs.items c.self.inside.visited c.self.inside.entries c.make_shorts.new.entries c.self.inside.links c.make_shorts.ensures.grown
     (watched_here c.self.inside c.args.self.now c.self.view_is c.self.invariant c.args.kernel.now c.requires.fits))
+
+pub returns-clause-fits : goal.returns-clause-fits
+returns-clause-fits c =
+    fits_then c.self.inside c.args.self.now c.self.view_is c.self.invariant c.args.kernel.now c.requires.fits c.visit_steps.new.visited c.met_for_good-self-inside.result
+    c.visit_steps.new.entries c.visit_steps.new.links c.visit_steps.ensures.sound
+    (subst (λ (ns : List ℕ). AreWatched c.args.kernel.now ns c.visit_steps.new.visited c.visit_steps.new.entries c.visit_steps.new.links) c.deref-2.ensures.value c.visit_steps.ensures.watched)
+    (good_then c.self.inside c.args.self.now c.self.view_is c.self.invariant c.args.kernel.now c.requires.fits c.met_for_good-self-inside.result c.len.result c.make_shorts.new.entries
+    c.visit_steps.new.entries c.met_for_good-self-inside.ensures (c.len.ensures ∙ c.self.inside.shorts.ok.0) c.make_shorts.ensures.grown c.visit_steps.ensures.grown c.make_shorts.ensures.sound
+    (rw (← c.deref.ensures.value) c.in_default.ensures.met))
 
 pub returns-clause-closed : goal.returns-clause-closed
 returns-clause-closed c =

@@ -1,8 +1,0 @@
-use Rattle.std.proofs.Common.{◌≡◌, ℕ, map, ◌++◌, take}
-use Rattle.cc_defs.specs.Declarations.{Object}
-use Rattle.cc_sorts.specs.Declaring.{plain_declarations}
-use Rattle.cc_sorts.proofs.declaration.add_objects.Given as goal
-
-abbrev pub invariant-loop-name : goal.invariant-loop-name
-invariant-loop-name l = (file line : ℕ) →
-    plain_declarations file line l.found.items ≡ plain_declarations file line l.initial.found.items ++ map (λ name. Object name.now l.sort) (take l.name-index l.names)

@@ -1,0 +1,8 @@
+use Rattle.std.proofs.Common.{refl}
+use Rattle.cc_clauses.proofs.Searches.{clash_first}
+use Rattle.cc_stage.specs.Marks.{clause_of}
+use Rattle.cc_stage.proofs.marks.clash_on.Goals as goal
+
+pub returns-then-clash_at : goal.returns-then-clash_at
+returns-then-clash_at c =
+    ((λ _. clash_first (clause_of c.args.marks.now) c.args.clause.now c.args.pivot (rw c.positive.ensures at (c.if-clash_at.ensures.0 refl))), (λ _. refl))
