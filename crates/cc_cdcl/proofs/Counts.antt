@@ -103,11 +103,11 @@ module _ (steps : List Step) (level : ℕ) where
       by no_is (suc k, low, same) rest = rest (k, omega arith, same)
 
   -- one is of the level, and the others are not
-  abbrev OneAlone : List Literal → Type 0
+  abbrev pub OneAlone : List Literal → Type 0
   OneAlone clause = (left : Literal) × Contains clause left × (level_of steps left.variable ≡ Some level) ×
       ((literal : Literal) → Contains clause literal → (literal ≡ left) ⊎ (at_level literal ≡ false))
 
-  one_of : (clause : List Literal) → level_count_in steps level clause ≡ 1 → OneAlone clause
+  pub one_of : (clause : List Literal) → level_count_in steps level clause ≡ 1 → OneAlone clause
   one_of [] one = absurd (omega arith)
   one_of (first ∷ clause) one = elim (count_cases first) [
     | inl (there, at, one_is) ↦ (first, (0, omega arith, refl), at, alone (none_of clause (omega arith)))

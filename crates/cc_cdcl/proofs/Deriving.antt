@@ -94,7 +94,7 @@ module _ (variables : ℕ) (steps : List Step) (level_count : ℕ) (are : AreSte
   pub place_over : IsLiteralOver variables last.lit
   place_over = are.over last (subst (λ (ss : List Step). IsIn ss last) (sym is.split) (behind_front (take place steps) (drop (suc place) steps) last))
 
-  found_last : step_of steps last.lit.variable ≡ Some last
+  pub found_last : step_of steps last.lit.variable ≡ Some last
   found_last = in_found steps are.apart last (subst (λ (ss : List Step). IsIn ss last) (sym is.split) (behind_front (take place steps) (drop (suc place) steps) last))
 
   pub reason_last : (reason : Option ℕ) → option_and_then reason_of_step (step_of steps last.lit.variable) ≡ reason → last.reason ≡ reason
@@ -303,7 +303,7 @@ derives trail old staged new are variables kept derived (clause, staged_is, new_
     chain_is = ap (λ (k : KernelView). k.chain) new_is
 
 pub derived_empty : (trail : TrailView) (kernel : KernelView) (derived : IsDerived kernel trail) → trail.level_count ≡ 0 → derived.derivation.clause ≡ []
-derived_empty trail kernel derived level = by derived.final
+derived_empty trail kernel derived level = by derived.derivation.final
   where
     by : IsFinal trail.steps trail.level_count derived.derivation.clause → derived.derivation.clause ≡ []
     by (inl (zero_is, empty)) = empty
@@ -311,7 +311,7 @@ derived_empty trail kernel derived level = by derived.final
 
 pub derived_one : (trail : TrailView) (kernel : KernelView) (derived : IsDerived kernel trail) → 0 < trail.level_count →
     level_count_in trail.steps trail.level_count derived.derivation.clause ≡ 1
-derived_one trail kernel derived level = by derived.final
+derived_one trail kernel derived level = by derived.derivation.final
   where
     by : IsFinal trail.steps trail.level_count derived.derivation.clause → level_count_in trail.steps trail.level_count derived.derivation.clause ≡ 1
     by (inl (zero_is, empty)) = absurd (omega arith)
@@ -320,7 +320,7 @@ derived_one trail kernel derived level = by derived.final
 pub derived_learned : (trail : TrailView) (kernel : KernelView) → AreSteps trail.variables trail.steps trail.level_count → (derived : IsDerived kernel trail) → 0 < trail.level_count →
     IsLearned trail.steps trail.level_count derived.derivation.clause (highest_but trail.steps trail.level_count derived.derivation.clause)
 derived_learned trail kernel are derived level =
-    learned_at trail.variables trail.steps trail.level_count are derived.place derived.derivation.clause derived.derivation.walking level
+    learned_at trail.variables trail.steps trail.level_count are derived.derivation.clause derived.derivation.failed level
     (derived_one trail kernel derived level)
 
 pub learns : (law : LearnedIsEarned) (trail : TrailView) (old staged new : KernelView) → AreSteps trail.variables trail.steps trail.level_count → IsSettled trail old →

@@ -22,3 +22,4 @@ mod Standing
 mod News
 mod OpenExist
 mod Brought
+mod Shortening

@@ -12,7 +12,7 @@ use Rattle.cc_cdcl.proofs.Levels.{in_found, level_most, same_literal}
 use Rattle.cc_cdcl.proofs.Learning.{level_is, one_level, within}
 use Rattle.cc_cdcl.proofs.Walking.{front_or_last, opens_at}
 
-in_front : (front gone : List Step) (step : Step) → IsIn front step → IsIn (front ++ gone) step
+pub in_front : (front gone : List Step) (step : Step) → IsIn front step → IsIn (front ++ gone) step
 in_front [] gone step none = absurd none
 in_front (first ∷ front) gone step (inl same) = inl same
 in_front (first ∷ front) gone step (inr here) = inr (in_front front gone step here)

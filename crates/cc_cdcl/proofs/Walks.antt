@@ -77,10 +77,9 @@ module _ (variables : ℕ) (steps : List Step) (level_count : ℕ) (are : AreSte
   failed_front place clause falsified = false_failed steps clause are.apart
       (λ literal here. let (step, inside, is) = falsified literal here in (step, in_take place steps step inside, is))
 
-  pub learned_at : (place : ℕ) (clause : List Literal) → IsWalking steps level_count place clause → 0 < level_count → level_count_in steps level_count clause ≡ 1 →
+  pub learned_at : (clause : List Literal) → IsFailed (values_of steps) clause → 0 < level_count → level_count_in steps level_count clause ≡ 1 →
       IsLearned steps level_count clause (highest_but steps level_count clause)
-  learned_at place clause walking some one =
-      let failed = failed_front place clause walking.falsified in
+  learned_at clause failed some one =
       learned_from steps level_count clause failed (up_to_last variables steps level_count clause are failed) some one
 
   module _ (place : ℕ) (last : Step) (is : IsPlace steps place last) (clause : List Literal) (walking : IsWalking steps level_count (suc place) clause) where

@@ -1,9 +1,9 @@
 -- What the parts of conflict analysis do to a kernel and a trail.
 use Rattle.std.specs.Prelude.{◌≡◌, ◌≢◌, ℕ, ◌+◌, ◌*◌, ◌≤◌, List, [], length, Some}
-use Rattle.cc_defs.specs.Assignments.{IsEarned}
+use Rattle.cc_defs.specs.Assignments.{IsEarned, IsFailed}
 use Rattle.cc_defs.specs.Clauses.{Literal, IsClause, IsOver}
 use Rattle.cc_kernel.specs.Kernels.{KernelView, clauses_of}
-use Rattle.cc_trail.specs.Steps.{steps_to}
+use Rattle.cc_trail.specs.Steps.{steps_to, values_of}
 use Rattle.cc_trail.specs.Trails.{TrailView, Fits, IsSettled}
 use Rattle.cc_cdcl.specs.Analysis.{IsFinal, IsWalking}
 use Rattle.cc_cdcl.specs.Solvers.{AddsDerived}
@@ -16,11 +16,19 @@ pub record IsDeriving (kernel : KernelView) (trail : TrailView) (place : ℕ) : 
   pub within : place ≤ length trail.steps
   pub short : length kernel.chain + 2 * place ≤ 2 * length trail.steps + 1
 
+-- The staged clause is what analysis derives, and false; its chain has a pair for each step behind a place at most.
+pub record IsShortening (kernel : KernelView) (trail : TrailView) (place : ℕ) : Type 0 where
+  pub clause : List Literal
+  pub staged : kernel.staged ≡ Some clause
+  pub failed : IsFailed (values_of trail.steps) clause
+  pub final : IsFinal trail.steps trail.level_count clause
+  pub within : place ≤ length trail.steps
+  pub short : length kernel.chain + 2 * place ≤ 2 * length trail.steps + 1
+
 -- the staged clause is what analysis derives
 pub record IsDerived (kernel : KernelView) (trail : TrailView) : Type 0 where
   pub place : ℕ
-  pub derivation : IsDeriving kernel trail place
-  pub final : IsFinal trail.steps trail.level_count derivation.clause
+  pub derivation : IsShortening kernel trail place
 
 -- a trail went back to a level, and all clauses of a kernel are attached to it
 pub record IsBackOver (old new : TrailView) (kernel : KernelView) : Type 0 where

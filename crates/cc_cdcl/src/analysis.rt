@@ -1,5 +1,5 @@
 //! Conflict analysis: from a false clause back along the trail to the first unique implication point.
-ghost use Rattle.std.specs.Prelude.{◌≡◌, ◌≢◌, ◌&&◌, if◌then◌else◌, List, ℕ, ◌+◌, ◌<◌, ◌≤◌, ◌⊎◌, Some, None, IfOk, IfSome, IfNone, OnOk, OnErr, IsSome, [], length, option_and_then};
+ghost use Rattle.std.specs.Prelude.{◌≡◌, ◌≢◌, ◌&&◌, if◌then◌else◌, List, ℕ, ◌+◌, ◌<◌, ◌≤◌, ◌⊎◌, Some, None, IfOk, IfSome, IfNone, OnOk, OnErr, IsSome, IsTrue, [], length, option_and_then};
 ghost use Rattle.std.specs.Bool.{MatchBool};
 ghost use Rattle.cc_defs.specs.Assignments.{IsFailed};
 ghost use Rattle.cc_defs.specs.Clauses.{Literal, IsClause, IsOver};
@@ -8,7 +8,7 @@ ghost use Rattle.cc_trail.specs.Steps.{AreSteps, step_of, steps_to, values_of};
 ghost use Rattle.cc_trail.specs.Trails.{Fits, IsFailedClause, IsMild, IsSettled, reason_of_step};
 ghost use Rattle.cc_cdcl.specs.Analysis.{IsFinal, IsUnfinished, IsWalking, OpenLevels, highest_but, is_level, level_but, level_count_in, level_of};
 ghost use Rattle.cc_cdcl.specs.Brought.{IsCounted, fresh_of, has_literal, is_fresh};
-ghost use Rattle.cc_cdcl.specs.Derivations.{IsBackOver, IsDerived, IsDeriving, Learns};
+ghost use Rattle.cc_cdcl.specs.Derivations.{IsBackOver, IsDerived, IsDeriving, IsShortening, Learns};
 ghost use Rattle.cc_cdcl.specs.Searches.{KeepsEntries};
 ghost use Rattle.cc_cdcl.specs.Solvers.{AddsBlock, AddsDerived};
 
@@ -202,13 +202,13 @@ fn resolve_next(trail: &Trail, kernel: &mut Kernel, start: Walk) -> Result<Walk,
 }
 
 // Resolves the staged clause, which has so many literals of the last level, back along the trail, until it is what analysis
-// derives.
-fn resolve_back(trail: &Trail, kernel: &mut Kernel, held: usize) -> Result<(), OutOfMemory>
+// derives, and returns the place in front of which the walk stands.
+fn resolve_back(trail: &Trail, kernel: &mut Kernel, held: usize) -> Result<usize, OutOfMemory>
     requires fits { Fits trail.now kernel.old }
     requires opened { OpenLevels trail.now.steps }
     requires derivation { IsDeriving kernel.old trail.now (length trail.now.steps) }
     requires counted { IsCounted trail.now.steps trail.now.level_count kernel.old held }
-    ensures derived { OnOk result (IsDerived kernel.new trail.now) }
+    ensures derived { IfOk result (λ place. IsShortening kernel.new trail.now place) }
     ensures kept { KeepsEntries kernel.old kernel.new }
 {
     let mut walk = Walk {
@@ -217,6 +217,72 @@ fn resolve_back(trail: &Trail, kernel: &mut Kernel, held: usize) -> Result<(), O
     };
     while !is_final(trail, kernel, walk.held) {
         walk = resolve_next(trail, kernel, walk)?;
+    }
+    Ok(walk.place)
+}
+
+// Whether a step of resolution with a clause on the pivot brings at most one literal to the staged clause.
+fn brings_few(kernel: &Kernel, pivot: u32, clause: &[Lit]) -> bool
+    requires { IsSome kernel.now.staged }
+{
+    let mut is_first = true;
+    for lit in clause {
+        if lit.variable() == pivot || kernel.stages(*lit) {
+            continue;
+        }
+        if !is_first {
+            return false;
+        }
+        is_first = false;
+    }
+    true
+}
+
+// The reason of a literal that was true before a level was opened, where the staged clause has its opposite, and a step with the
+// reason brings at most one literal.
+fn shortening_reason(trail: &Trail, kernel: &Kernel, lit: Lit) -> Option<u32>
+    requires some { 1 ≤ lit.variable }
+    requires within { lit.variable ≤ trail.now.variables }
+    requires variables { trail.now.variables ≡ kernel.now.variables }
+    requires staged { IsSome kernel.now.staged }
+    requires there { (id : ℕ) → option_and_then reason_of_step (step_of trail.now.steps lit.variable) ≡ Some id → IsThere kernel.now id }
+    ensures clash { IfSome result (λ id. ClashesWith kernel.now lit.variable id) }
+    ensures reason { IfSome result (λ id. option_and_then reason_of_step (step_of trail.now.steps lit.variable) ≡ Some id) }
+    ensures level { IfSome result (λ id. IsTrue (is_level 0 (level_of trail.now.steps lit.variable))) }
+{
+    let pivot = lit.variable();
+    if !kernel.stages(lit.opposite()) {
+        return None;
+    }
+    if !is_of(trail, 0, pivot) {
+        return None;
+    }
+    match clashing_reason(trail, kernel, pivot) {
+        Some(id) => if brings_few(kernel, pivot, kernel.clause(id)) {
+            Some(id)
+        } else {
+            None
+        },
+        None => None,
+    }
+}
+
+// Resolves literals that were false before a level was opened away from what analysis derives, where that brings at most one
+// other literal, which is false earlier. So the clause does not get longer, and each place is looked at once.
+fn shorten(trail: &Trail, kernel: &mut Kernel, start: usize) -> Result<(), OutOfMemory>
+    requires fits { Fits trail.now kernel.old }
+    requires opened { OpenLevels trail.now.steps }
+    requires derivation { IsShortening kernel.old trail.now start }
+    ensures derived { OnOk result (IsDerived kernel.new trail.now) }
+    ensures kept { KeepsEntries kernel.old kernel.new }
+{
+    let entries = trail.entries();
+    for place in (0..start).rev() {
+        let lit = entries[place];
+        match shortening_reason(trail, kernel, lit) {
+            Some(id) => kernel.step(lit.variable(), id)?,
+            None => {},
+        }
     }
     Ok(())
 }
@@ -233,7 +299,8 @@ fn derive(trail: &Trail, kernel: &mut Kernel, id: u32) -> Result<(), OutOfMemory
     kernel.start(id)?;
     let level = trail.level_count();
     let held = level_count_in(trail, level, kernel.clause(id));
-    resolve_back(trail, kernel, held)
+    let place = resolve_back(trail, kernel, held)?;
+    shorten(trail, kernel, place)
 }
 
 /// Derives the empty clause from a clause that is false where no level was opened.
