@@ -10,16 +10,21 @@ Usage: checks/runs.py BOOK..
 import re
 
 from reference import (
-    Refused, check_asked_limits, check_ground_limits, check_steps, described, first_files, is_boolean_constant, run_deep, show_books,
+    Refused, check_asked_limits, check_ground_limits, check_steps, described, first_files, is_boolean_constant, place_text,
+    run_deep, show_books,
 )
-from sections import Theory, clause_list, is_history, judge, paths, split_log
+from sections import Theory, clause_list, is_history, is_path, judge, paths, split_log
 
-USAGE = "usage: ccalc [--mode list|check|make] [--query LABEL] [--count N] [--budget B] [--after KEY] [--log NAME] [--size N] [FILE]"
-OPTIONS = ("--mode", "--query", "--count", "--budget", "--after", "--log", "--size")
+USAGE = (
+    "usage: ccalc [--mode list|check|make|why] [--query LABEL] [--count N] [--budget B] [--after KEY] [--log NAME] [--key KEY] [--size N] "
+    "[FILE]"
+)
+OPTIONS = ("--mode", "--query", "--count", "--budget", "--after", "--log", "--key", "--size")
 NAMES = {1: "Words", 15: "NoQuery", 18: "Key"}
 
 
 LOCKS = 4
+RULES = 8000000
 NOT_READ = ["not read"]
 
 
@@ -55,16 +60,20 @@ class Words:
             "list": {"--query", "--count", "--budget", "--after", "--log"},
             "check": {"--query", "--after", "--log"},
             "make": {"--size", "--budget"},
+            "why": {"--key"},
         }
         if self.mode not in taken or not set(given) <= taken[self.mode] or (self.mode == "make") != (not words):
             refuse(1)
         if self.mode == "check" and "--log" not in given or self.mode == "make" and "--size" not in given:
+            refuse(1)
+        if self.mode == "why" and "--key" not in given:
             refuse(1)
         self.count = number_of(given["--count"], 1000000) if "--count" in given else None
         self.size = number_of(given["--size"], 100) if "--size" in given else None
         number_of(given.get("--budget", "1"), 2000000)
         self.file = words[0] if words else "made"
         self.label, self.after, self.log = given.get("--query"), given.get("--after"), given.get("--log")
+        self.key = given.get("--key")
 
 
 def made_text(size):
@@ -141,18 +150,22 @@ def claiming(description, query):
     return out + ["claim holds" if any_met else "claim holds, no history meets the conditions"], 0
 
 
+def check_row(description, key):
+    sizes = Theory(description, key[0]).sizes
+    if len(key[1]) != len(sizes) or any(index >= size for index, size in zip(key[1], sizes)):
+        refuse(18)
+
+
 def checked_key(description, query, text):
     key = key_of(text)
     if query.claim is not None or not query.range.lo <= key[0] <= query.range.hi:
         refuse(18)
-    sizes = Theory(description, key[0]).sizes
-    if len(key[1]) != len(sizes) or any(index >= size for index, size in zip(key[1], sizes)):
-        refuse(18)
+    check_row(description, key)
     return key
 
 
 def named(asked, files):
-    """The description, the query and the key that words name, or those of the made description."""
+    """The description, the query and the key that words name, or those of the made description; in why mode there is no query."""
     if asked.mode == "make":
         if asked.size > LOCKS:
             raise Large
@@ -164,6 +177,8 @@ def named(asked, files):
         raise Stop(["ccalc: " + stop_line(stop)], 2)
     try:
         check_ground_limits(description.table, description.laws)
+        if asked.mode == "why":
+            return description, None, key_at_most(description, 1000, asked.key)
         query = chosen(description, asked.label)
         check_steps(description.table, query)
         parts = list(query.conditions) + ([query.claim] if query.claim else [])
@@ -171,6 +186,44 @@ def named(asked, files):
     except Refused as refused:
         raise Stop(["ccalc: " + stop_line("refused " + refused.text(description.file_names))], 2)
     return description, query, None if asked.after is None else checked_key(description, query, asked.after)
+
+
+def key_at_most(description, horizon, text):
+    key = key_of(text)
+    if key[0] > horizon:
+        refuse(18)
+    check_row(description, key)
+    return key
+
+
+def cause_of(theory, states, row, position, file_names):
+    """Why the row has its value at the position: the first rule, in order, that has this atom for its head and a true body."""
+    if len(theory.domains[position[1]]) == 1:
+        return "one value"
+    for (head, parts), place in zip(theory.rules, theory.places):
+        if head == (*position, row[position]) and theory.body_holds(parts, states):
+            return "initial" if place is None else place_text(place, file_names)
+    raise AssertionError("a path has a cause for each value")
+
+
+def check_rules(description, horizon):
+    """The number of rules is within its limit."""
+    zero = Theory(description, 0)
+    static = sum(law.kind == "static" for law in zero.laws)
+    initial = len(zero.rules) - static
+    if initial + static * (horizon + 1) + (len(zero.laws) - static) * horizon > RULES:
+        raise Stop([f"ccalc: 14 Limit rules {RULES}"], 2)
+
+
+def explaining(description, key):
+    check_rules(description, key[0])
+    theory = Theory(description, key[0])
+    row = theory.row_of(key[1])
+    if not is_path(description, theory, row):
+        return ["not a history"], 1
+    states = theory.states(row)
+    causes = [cause_of(theory, states, row, position, description.file_names) for position in theory.positions]
+    return [f"{step}: {name}={row[(step, name)]}: {cause}" for (step, name), cause in zip(theory.positions, causes)], 0
 
 
 def summing(description, query, size):
@@ -230,6 +283,8 @@ def answer(words, files):
             if asked.log not in files:
                 raise Stop(["ccalc: read fault"], 4)
             out, code = checking(description, query, key, files[asked.log])
+        elif asked.mode == "why":
+            out, code = explaining(description, key)
         elif asked.mode == "make":
             out, code = summing(description, query, asked.size)
         elif query.claim:
@@ -245,7 +300,7 @@ def answered(words, files):
     """The description, the query and the key of a run that lists; none where it is refused, checks, or is not read here."""
     try:
         asked = Words(words)
-        return named(asked, files) if asked.mode != "check" else None
+        return named(asked, files) if asked.mode in ("list", "make") else None
     except (Stop, Large):
         return None
 

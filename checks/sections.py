@@ -36,8 +36,8 @@ from reference import (
 class Law:
     """A ground law: its head is None for `false`, or a pair of a ground constant and a value."""
 
-    def __init__(self, kind, head, body, after, environment):
-        self.kind, self.head, self.body, self.after, self.environment = kind, head, body, after, environment
+    def __init__(self, kind, head, body, after, environment, place):
+        self.kind, self.head, self.body, self.after, self.environment, self.place = kind, head, body, after, environment, place
 
 
 def ground_laws(table, laws):
@@ -45,11 +45,11 @@ def ground_laws(table, laws):
     for law in laws:
         if isinstance(law, NoConcurrency):
             for a, b in action_pairs(table):
-                found.append(Law("fluent", None, "true", ("pair", a, b), {}))
+                found.append(Law("fluent", None, "true", ("pair", a, b), {}, law.place))
             continue
         for environment in environments(table, law):
             head = (ground_name(table, law.head[0], environment), value_of(table, law.head[1], environment, {})) if law.head else None
-            found.append(Law(law.kind, head, law.body, law.after, environment))
+            found.append(Law(law.kind, head, law.body, law.after, environment, law.place))
     return found
 
 
@@ -74,12 +74,14 @@ class Theory:
         self.rules = self.all_rules()
 
     def all_rules(self):
-        """Rules in order: a head, and a list of (step, formula, environment), which may be (step, (atom, c, v), {})."""
-        rules = []
+        """Rules in order: a head, and a list of (step, formula, environment), which may be (step, (atom, c, v), {}). Beside them,
+        in `self.places`, where the law of each stands; None for an initial one."""
+        rules, self.places = [], []
         for name in self.fluents:
             if self.symbols[name].kind == "simple":
                 for value in self.domains[name]:
                     rules.append(((0, name, value), [(0, ("atom", name, value), {})]))
+                    self.places.append(None)
         for step in range(self.horizon + 1):
             for law in self.laws:
                 if law.kind != "static" and step == self.horizon:
@@ -90,6 +92,7 @@ class Theory:
                 if law.after is not None:
                     parts.append((step, law.after, law.environment))
                 rules.append((head, parts))
+                self.places.append(law.place)
         return rules
 
     def states(self, row):
@@ -132,6 +135,9 @@ class Theory:
             others *= len(values)
         return others == 1
 
+    def row_of(self, indexes):
+        return {position: self.domains[position[1]][index] for position, index in zip(self.positions, indexes)}
+
     def rows(self):
         for values in itertools.product(*[self.domains[name] for _, name in self.positions]):
             yield dict(zip(self.positions, values))
@@ -172,6 +178,15 @@ def paths(description, horizon, conditions=()):
             found = longer
     met = [row for row in found if all(condition_holds(theory, condition, row) for condition in conditions)]
     return theory, sorted(met, key=theory.indexes)
+
+
+def is_path(description, theory, row):
+    """Whether a row is a path, by states and transitions: each window of two steps is a model at horizon 1."""
+    if theory.horizon == 0:
+        return theory.is_model(row)
+    one = Theory(description, 1)
+    windows = [{(at, name): row[(step + at, name)] for at, name in one.positions} for step in range(theory.horizon)]
+    return all(one.is_model(window) for window in windows)
 
 
 def step_at(condition, horizon):

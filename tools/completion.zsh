@@ -8,12 +8,13 @@ _ccalc_labels() { # the labels of the queries in the files among the words
 
 _ccalc() {
     _arguments \
-        '--mode[the mode]:mode:(list check make)' \
+        '--mode[the mode]:mode:(list check make why)' \
         '--query[the query with this label]:label:_ccalc_labels' \
         '--count[at most so many histories]:number:' \
         '--budget[at most so many derived clauses in a section]:number:' \
         '--after[only the histories behind this key]:key:' \
         '--log[the file of the log]:file:_files' \
+        '--key[the history that is explained]:key:' \
         '--size[how many locks a made description has]:number:' \
         '*:description:_files -g "*.cc"'
 }

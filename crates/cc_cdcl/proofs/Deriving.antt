@@ -1,6 +1,6 @@
 -- Conflict analysis: how the staged clause is resolved back along the trail, and what is derived in the end.
 use Rattle.std.proofs.Common.{◌≡◌, ◌≢◌, ◌∙◌, ℕ, ◌+◌, ◌-◌, ◌<◌, ◌≤◌, zero, suc, inl, inr, Bool, true, false, List, [], ◌∷◌, ◌++◌, length, map, take, drop, get_or, Option, Some, option_and_then, refl, sym, subst, ap, arith, length-append}
-use Rattle.std.specs.Prelude.{◌⊎◌, Contains, slice_get, IfSome, OnErr, Result, Ok, Err}
+use Rattle.std.specs.Prelude.{◌⊎◌, Contains, slice_get, IfSome, OnErr, OnOk, Result, Ok, Err}
 use Rattle.std.specs.Bool.{MatchBool}
 use Rattle.std.proofs.lemmas.List.{length-map}
 use Rattle.cc_defs.specs.Assignments.{IsFailed}
@@ -135,6 +135,10 @@ module _ (variables : ℕ) (steps : List Step) (level_count : ℕ) (are : AreSte
         (subst (λ (l : Literal). Contains clause l) (of_last (record { variable = last.lit.variable; positive = sign }) refl here) here)).1 resolvent resolvent_is
 
 -- ---- the staged clause
+
+pub on_ok : {T E : Type 0} (P : Type 0) (result : Result T E) → P → OnOk result P
+on_ok P (Ok value) holds = holds
+on_ok P (Err error) holds = tt
 
 pub on_err : {T E : Type 0} (P : Type 0) (result : Result T E) → P → OnErr result P
 on_err P (Ok value) p = tt

@@ -18,7 +18,7 @@ use Rattle.cc_cdcl.proofs.Resolving.{opens_decided, opens_push}
 no_decision : (level : ℕ) (step : Step) → IsPropagatedAt level step → step.reason ≡ None → ⊥
 no_decision level step (at, reason, is) none = cc
 
-opens_more : (level : ℕ) (steps more : List Step) → AllByRecursion (IsPropagatedAt level) more → OpenLevels steps → OpenLevels (steps ++ more)
+pub opens_more : (level : ℕ) (steps more : List Step) → AllByRecursion (IsPropagatedAt level) more → OpenLevels steps → OpenLevels (steps ++ more)
 opens_more level steps [] each opened = subst OpenLevels (sym (append-nil steps)) opened
 opens_more level steps (step ∷ more) each opened =
     subst OpenLevels (append_assoc steps (step ∷ []) more)

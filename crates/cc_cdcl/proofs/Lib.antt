@@ -23,3 +23,5 @@ mod News
 mod OpenExist
 mod Brought
 mod Shortening
+mod Reasons
+mod Probing

@@ -1,8 +1,8 @@
--- Behind the implication point: a step on a literal that was false before a level was opened leaves a clause that is false, and its one
--- literal of the last level.
-use Rattle.std.proofs.Common.{◌≡◌, ◌≢◌, ◌∙◌, ℕ, ◌-◌, ◌<◌, ◌≤◌, suc, inl, inr, true, false, List, [], ◌∷◌, ◌++◌, length, map, take, drop, get_or, Option, Some, option_and_then, refl, sym, subst, ap, arith, length-append, eqb-true, eq-eqb}
+-- Behind the implication point: a step on a literal of a level below the last one leaves a clause that is false, and its one literal of
+-- the last level.
+use Rattle.std.proofs.Common.{◌≡◌, ◌≢◌, ◌∙◌, ℕ, ◌-◌, ◌<◌, ◌≤◌, suc, inl, inr, true, false, List, [], ◌∷◌, ◌++◌, length, map, take, drop, get_or, Option, Some, option_and_then, refl, sym, subst, ap, arith, length-append, eq-eqb}
 use Rattle.std.specs.Prelude.{◌⊎◌, Contains}
-use Rattle.std.proofs.lemmas.Bool.{cases_lt}
+use Rattle.std.proofs.lemmas.Bool.{cases_lt, ltb-true}
 use Rattle.cc_defs.specs.Assignments.{IsFailed}
 use Rattle.cc_defs.specs.Clauses.{Literal, IsIn, IsResolvent}
 use Rattle.cc_kernel.specs.Kernels.{KernelView, IsStepped, IsThere, clauses_of}
@@ -11,7 +11,7 @@ use Rattle.cc_trail.specs.EntryParts.{literal_of_step}
 use Rattle.cc_trail.specs.Steps.{AreSteps, IsRising, step_of, values_of}
 use Rattle.cc_trail.specs.Trails.{TrailView, Fits, reason_of_step}
 use Rattle.cc_trail.specs.Watches.{AreReasoned, HasReason, IsFalseBy}
-use Rattle.cc_cdcl.specs.Analysis.{IsFinal, OpenLevels, is_level, level_count_in, level_of}
+use Rattle.cc_cdcl.specs.Analysis.{IsFinal, OpenLevels, is_level, is_level_below, level_count_in, level_of}
 use Rattle.cc_cdcl.specs.Derivations.{IsDeriving, IsShortening}
 use Rattle.cc_cdcl.specs.Searches.{KeepsEntries}
 use Rattle.cc_cdcl.proofs.Counts.{OneAlone, at_level, one_of, two_of}
@@ -37,11 +37,11 @@ front_low level (first ∷ front) last gone rising step (inl same) =
     subst (λ (s : Step). s.level ≤ last.level) same (up_to_step first.level front last gone rising.1)
 front_low level (first ∷ front) last gone rising step (inr here) = front_low first.level front last gone rising.1 step here
 
-level_there : (value : Option ℕ) (level other : ℕ) → is_level level value ≡ true → value ≡ Some other → other ≡ level
+level_there : (value : Option ℕ) (level other : ℕ) → is_level_below level value ≡ true → value ≡ Some other → other < level
 level_there value level other is at = by (rw at at is)
   where
-    by : is_level level (Some other) ≡ true → other ≡ level
-    by e = eqb-true other level e
+    by : is_level_below level (Some other) ≡ true → other < level
+    by e = ltb-true other level e
 
 module _ (variables : ℕ) (steps : List Step) (level_count : ℕ) (are : AreSteps variables steps level_count) (place : ℕ) (last : Step) (is : IsPlace steps place last)
     (clauses : List (List Literal)) (clause reason resolvent : List Literal) (failed : IsFailed (values_of steps) clause)
@@ -162,8 +162,8 @@ module _ (trail : TrailView) (kernel : KernelView) (start : ℕ) (are : AreSteps
     reason_there_before id at = let (clause, numbered, there, others) = reason_before id at in numbered_there kernel id clause numbered
 
     pub shortens : (new : KernelView) (id : ℕ) → option_and_then reason_of_step (step_of trail.steps literal.variable) ≡ Some id →
-        is_level 0 (level_of trail.steps literal.variable) ≡ true → IsStepped kernel new literal.variable id → IsShortening new trail (start - 1) × KeepsEntries kernel new
-    shortens new id at level_zero (staged, other, resolvent, staged_is, numbered, resolved, new_is) = by (reason_before id at)
+        is_level_below trail.level_count (level_of trail.steps literal.variable) ≡ true → IsStepped kernel new literal.variable id → IsShortening new trail (start - 1) × KeepsEntries kernel new
+    shortens new id at is_below (staged, other, resolvent, staged_is, numbered, resolved, new_is) = by (reason_before id at)
       where
         staged_same : staged ≡ derivation.clause
         staged_same = some_same staged derivation.clause kernel.staged staged_is derivation.staged
@@ -172,22 +172,14 @@ module _ (trail : TrailView) (kernel : KernelView) (start : ℕ) (are : AreSteps
         last_at = level_is trail.steps step_before.0.lit.variable step_before.0
             (found_last trail.variables trail.steps trail.level_count are (clauses_of kernel) opened fits.clauses.reasons (start - 1) step_before.0 step_before.1)
 
-        last_low : step_before.0.level ≡ 0
-        last_low = level_there (level_of trail.steps step_before.0.lit.variable) 0 step_before.0.level
-            (ap (λ (l : Literal). is_level 0 (level_of trail.steps l.variable)) (sym literal_is) ∙ level_zero) last_at
+        last_low : step_before.0.level < trail.level_count
+        last_low = level_there (level_of trail.steps step_before.0.lit.variable) trail.level_count step_before.0.level
+            (ap (λ (l : Literal). is_level_below trail.level_count (level_of trail.steps l.variable)) (sym literal_is) ∙ is_below) last_at
 
         resolved_here : (reason : List Literal) → other ≡ reason → IsResolvent derivation.clause reason step_before.0.lit.variable resolvent
         resolved_here reason same = subst (λ (l : Literal). IsResolvent derivation.clause reason l.variable resolvent) literal_is
             (subst (λ (c : List Literal). IsResolvent derivation.clause c literal.variable resolvent) same
             (subst (λ (c : List Literal). IsResolvent c other literal.variable resolvent) staged_same resolved))
-
-        none : (l : Literal) → Contains {X = Literal} [] l → ⊥
-        none l (k, below, same) = omega arith
-
-        not_empty : derivation.clause ≢ []
-        not_empty empty =
-            let l : Literal = record { variable = literal.variable; positive = resolved.clash.0 } in
-            none l (subst (λ (c : List Literal). Contains c l) (staged_same ∙ empty) (resolved.clash.1.0))
 
         by : HasReason (clauses_of kernel) (take (start - 1) trail.steps) step_before.0.lit id → IsShortening new trail (start - 1) × KeepsEntries kernel new
         by (reason, reason_is, there, others) = (
@@ -197,11 +189,11 @@ module _ (trail : TrailView) (kernel : KernelView) (start : ℕ) (are : AreSteps
             failed = failed_still trail.variables trail.steps trail.level_count are (start - 1) step_before.0 step_before.1 (clauses_of kernel) derivation.clause reason resolvent
                 derivation.failed others here;
             final = elim derivation.final [
-              | inl (none, empty) ↦ absurd (not_empty empty)
+              | inl (none, empty) ↦ let lower = last_low in absurd (omega arith)
               | inr (levels, one) ↦ inr (
                 levels,
                 one_stays trail.variables trail.steps trail.level_count are (start - 1) step_before.0 step_before.1 (clauses_of kernel)
-                    derivation.clause reason resolvent derivation.failed others here trail.level_count (let zero_is = last_low in omega arith) last_at one,
+                    derivation.clause reason resolvent derivation.failed others here trail.level_count last_low last_at one,
               )
             ];
             within = let within = derivation.within in omega arith;

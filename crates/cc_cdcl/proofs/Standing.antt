@@ -4,6 +4,7 @@ use Rattle.std.specs.Prelude.{Contains, Bool}
 use Rattle.std.specs.List.{sum}
 use Rattle.std.specs.Vec.{with_items}
 use Rattle.std.proofs.Math.Seq.{take-append_seam}
+use Rattle.std.proofs.lemmas.List.{with_items_is}
 use Rattle.std.proofs.lemmas.List.Elements.{Contains-push}
 use Rattle.std.proofs.lemmas.List.Sums.{sum_by-cons}
 use Rattle.cc_defs.specs.Assignments.{IsClosed, IsFailed}
@@ -16,6 +17,7 @@ use Rattle.cc_kernel.specs.Kernels.{KernelView, clauses_of}
 use Rattle.cc_trail.specs.Steps.{AreSteps, steps_to, values_of, values_to}
 use Rattle.cc_trail.specs.Trails.{TrailView, Fits, IsFailedClause, IsNew, IsSettled}
 use Rattle.cc_cdcl.specs.declared.choice.Cursor.{Cursor}
+use Rattle.cc_cdcl.specs.declared.probe.Phase.{Phase}
 use Rattle.cc_cdcl.specs.declared.solver.Solver.TheInside.{Inside}
 use Rattle.cc_cdcl.specs.declared.solver.State.{State}
 use Rattle.cc_cdcl.specs.declared.solver.State.TheVariants as states
@@ -25,10 +27,10 @@ use Rattle.cc_cdcl.specs.Cursors.{IsCursor}
 use Rattle.cc_cdcl.specs.Derivations.{IsBackOver, Learns}
 use Rattle.cc_cdcl.specs.Laws.{LeastRowIsFound}
 use Rattle.cc_cdcl.specs.LeastRows.{row_from, row_of}
-use Rattle.cc_cdcl.specs.Searches.{IsSearching, IsSection}
+use Rattle.cc_cdcl.specs.Searches.{IsInPhase, IsSearching, IsSection, IsTrailOf}
 use Rattle.cc_cdcl.specs.Sets.{IsFull, assignment_of}
 use Rattle.cc_cdcl.specs.SolverParts.{IsOfTrail, IsRunning, IsSolver, Stands, standing_of, view_of}
-use Rattle.cc_cdcl.specs.Solvers.{AddsDerived, Failed, Found, IsStuck, Ready, Refuted, SolverView}
+use Rattle.cc_cdcl.specs.Solvers.{AddsDerived, Failed, Found, IsStuck, Ready, Refuted, SolverView, Standing}
 use Rattle.cc_cdcl.proofs.Closed.{full_met}
 use Rattle.cc_cdcl.proofs.Denials.{denial_failed, denial_is_clause, denial_over}
 use Rattle.cc_cdcl.proofs.Deriving.{clauses_added, contains_numbered}
@@ -152,20 +154,45 @@ module _ (inside : Inside) (old : SolverView) (is : view_of inside ≡ old) (inv
   pub of_found : (found : List ℕ) → old.standing ≡ Found found → IsRunning inside × IsOfTrail inside × (found ≡ inside.row.items)
   of_found found is_found = by_found inside inside.state inside.row.items found (ap (λ (v : SolverView). v.standing) is ∙ is_found) invariant.stands
 
-  -- the cursors after the search went on
-  module _ (ready : old.standing ≡ Ready) (sizes : List ℕ) (sizes_are : sizes ≡ inside.sizes.items) (trail : TrailView) (cursors : List Cursor)
-      (searching : IsSearching sizes inside.kernel trail cursors) where
-    cursors_same : (with_items inside.cursors cursors).items ≡ cursors
-    cursors_same = refilled inside.cursors.len cursors (drop (length cursors) inside.cursors.items)
-        (let before = (running ready).searching.cursors.room in
-        let after = searching.cursors.room in
-        let one = (running ready).searching.fits.variables in
-        let two = searching.fits.variables in
-        let long = inside.cursors.ok.0 in omega arith)
+  pub view_ready : old.standing ≡ Ready → ◌≡◌ {A = SolverView} (record { sizes = inside.sizes.items; kernel = inside.kernel; standing = Ready }) old
+  view_ready ready = ap (λ (v : SolverView). let w : SolverView = record v { standing = Ready } in w) is ∙
+      ap (λ (s : Standing). let w : SolverView = record old { standing = s } in w) (sym ready)
 
-    pub went_on : IsSearching inside.sizes.items inside.kernel trail (with_items inside.cursors cursors).items
-    went_on = subst (λ (cs : List Cursor). IsSearching inside.sizes.items inside.kernel trail cs) (sym cursors_same)
-        (subst (λ (ns : List ℕ). IsSearching ns inside.kernel trail cursors) sizes_are searching)
+  -- what is true where the search began
+  pub begun : old.standing ≡ Ready → (phase : Phase) (trail : TrailView) →
+      ((sizes : List ℕ) (cursors : List Cursor) → IsInPhase inside.probe.phase sizes inside.kernel inside.trail cursors → IsInPhase phase sizes inside.kernel trail cursors) →
+      (sizes : List ℕ) (cursors : List Cursor) → sizes ≡ inside.sizes.items → cursors ≡ inside.cursors.items → IsInPhase phase sizes inside.kernel trail cursors
+  begun ready phase trail begins sizes cursors sizes_are cursors_are =
+      subst (λ (ns : List ℕ). IsInPhase phase ns inside.kernel trail cursors) (sym sizes_are)
+      (subst (λ (cs : List Cursor). IsInPhase phase inside.sizes.items inside.kernel trail cs) (sym cursors_are)
+      (begins inside.sizes.items inside.cursors.items (running ready).in_phase))
+
+  -- the cursors after the search went on
+  module _ (ready : old.standing ≡ Ready) (sizes : List ℕ) (sizes_are : sizes ≡ inside.sizes.items) (phase : Phase) (trail : TrailView) (cursors : List Cursor)
+      (stands : IsInPhase phase sizes inside.kernel trail cursors) where
+    pub went_on : IsInPhase phase inside.sizes.items inside.kernel trail (with_items inside.cursors cursors).items
+    went_on = subst (λ (cs : List Cursor). IsInPhase phase inside.sizes.items inside.kernel trail cs)
+        (sym (with_items_is inside.cursors cursors
+        (let before = (running ready).in_phase.room in
+        let after = stands.room in
+        let one = (running ready).in_phase.of_kernel.fits.variables in
+        let two = stands.of_kernel.fits.variables in
+        let long = inside.cursors.ok.0 in omega arith)))
+        (subst (λ (ns : List ℕ). IsInPhase phase ns inside.kernel trail cursors) sizes_are stands)
+
+  -- the cursors after a line was counted behind that
+  module _ (ready : old.standing ≡ Ready) (before : List Cursor) (kernel : KernelView) (variables_are : kernel.variables ≡ inside.kernel.variables) (phase : Phase)
+      (trail : TrailView) (cursors : List Cursor) (stands : IsInPhase phase inside.sizes.items kernel trail cursors) where
+    pub counted_on : IsInPhase phase inside.sizes.items kernel trail (with_items (with_items inside.cursors before) cursors).items
+    counted_on = subst (λ (cs : List Cursor). IsInPhase phase inside.sizes.items kernel trail cs)
+        (sym (with_items_is (with_items inside.cursors before) cursors
+        (let first = (running ready).in_phase.room in
+        let after = stands.room in
+        let one = (running ready).in_phase.of_kernel.fits.variables in
+        let two = stands.of_kernel.fits.variables in
+        let same = variables_are in
+        let long = inside.cursors.ok.0 in omega arith)))
+        stands
 
   -- the row that was written
   module _ (sizes : List ℕ) (sizes_are : sizes ≡ inside.sizes.items) (trail : TrailView) (row : List ℕ)
@@ -251,17 +278,17 @@ empty_added old new adds = subst (λ (cs : List (List Literal)). Contains cs [])
     (sym (clauses_added old new.entries (record { clause = []; origin = origins.Derived }) adds.entries)) (Contains-push (clauses_of old) [])
 
 -- a false clause behind a decision
-pub stuck : (sizes : List ℕ) (kernel old : KernelView) (trail : TrailView) (cursors : List Cursor) (id : ℕ) → kernel ≡ old → IsSearching sizes kernel trail cursors →
+pub stuck : (kernel old : KernelView) (trail : TrailView) (id : ℕ) → kernel ≡ old → IsTrailOf kernel trail →
     AreSteps trail.variables trail.steps trail.level_count → 0 < trail.level_count → IsFailedClause (clauses_of kernel) trail.steps id →
     IsStuck old.variables (clauses_of old)
-stuck sizes kernel old trail cursors id same searching are decided (clause, numbered, failed) =
+stuck kernel old trail id same is are decided (clause, numbered, failed) =
     subst (λ (k : KernelView). IsStuck k.variables (clauses_of k)) same (record {
       steps = trail.steps;
       levels = trail.level_count;
-      are_steps = subst (λ (n : ℕ). AreSteps n trail.steps trail.level_count) searching.fits.variables are;
+      are_steps = subst (λ (n : ℕ). AreSteps n trail.steps trail.level_count) is.fits.variables are;
       decided = decided;
-      reasoned = searching.fits.clauses.reasons;
-      settled = searching.settled;
+      reasoned = is.fits.clauses.reasons;
+      settled = is.settled;
       clause = clause;
       there = contains_numbered (clauses_of kernel) id clause numbered;
       failed = failed;

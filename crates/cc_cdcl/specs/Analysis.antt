@@ -1,5 +1,5 @@
 -- Conflict analysis: clauses that are false by the steps of a trail, and the clause that is learned from one.
-use Rattle.std.specs.Prelude.{◌≡◌, ◌≢◌, ℕ, ◌+◌, ◌<◌, ◌≤◌, ◌⊎◌, ◌==◌, max, Bool, false, if◌then◌else◌, List, [], ◌∷◌, ◌++◌, Contains, take, Option, Some, None, option_map}
+use Rattle.std.specs.Prelude.{◌≡◌, ◌≢◌, ℕ, ◌+◌, ◌<◌, ◌≤◌, ◌⊎◌, ◌==◌, nat_lt, max, Bool, false, if◌then◌else◌, List, [], ◌∷◌, ◌++◌, Contains, take, Option, Some, None, option_map}
 use Rattle.cc_defs.specs.Assignments.{IsFailed}
 use Rattle.cc_defs.specs.Clauses.{Literal}
 use Rattle.cc_trail.specs.declared.entries.Step.{Step}
@@ -22,6 +22,11 @@ HasOneOf steps level clause = (literal : Literal) × Contains clause literal × 
 abbrev pub is_level : ℕ → Option ℕ → Bool
 is_level level None = false
 is_level level (Some other) = other == level
+
+-- a level is there, and it is below this one
+abbrev pub is_level_below : ℕ → Option ℕ → Bool
+is_level_below level None = false
+is_level_below level (Some other) = nat_lt other level
 
 -- how many literals of the clause are of the level
 abbrev pub level_count_in : List Step → ℕ → List Literal → ℕ

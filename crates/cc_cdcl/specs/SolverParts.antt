@@ -7,7 +7,7 @@ use Rattle.cc_trail.specs.Steps.{values_of}
 use Rattle.cc_cdcl.specs.declared.solver.Solver.TheInside.{Inside}
 use Rattle.cc_cdcl.specs.declared.solver.State.{State}
 use Rattle.cc_cdcl.specs.declared.solver.State.TheVariants as states
-use Rattle.cc_cdcl.specs.Searches.{IsSection, IsSearching}
+use Rattle.cc_cdcl.specs.Searches.{IsInPhase, IsSection}
 use Rattle.cc_cdcl.specs.Sets.{assignment_of}
 use Rattle.cc_cdcl.specs.Solvers.{SolverView, Standing, Ready, Found, Refuted, Failed}
 
@@ -27,7 +27,7 @@ view_of solver = record {
 -- the search may go on from here
 pub record IsRunning (solver : Inside) : Type 0 where
   pub derived : solver.derived ≡ derived_count solver.kernel.entries
-  pub searching : IsSearching solver.sizes.items solver.kernel solver.trail solver.cursors.items
+  pub in_phase : IsInPhase solver.probe.phase solver.sizes.items solver.kernel solver.trail solver.cursors.items
 
 -- the row is that of the trail
 pub record IsOfTrail (solver : Inside) : Type 0 where

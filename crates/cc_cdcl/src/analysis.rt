@@ -6,13 +6,15 @@ ghost use Rattle.cc_defs.specs.Clauses.{Literal, IsClause, IsOver};
 ghost use Rattle.cc_kernel.specs.Kernels.{ClashesWith, IsStepped, IsThere, added, clauses_of};
 ghost use Rattle.cc_trail.specs.Steps.{AreSteps, step_of, steps_to, values_of};
 ghost use Rattle.cc_trail.specs.Trails.{Fits, IsFailedClause, IsMild, IsSettled, reason_of_step};
-ghost use Rattle.cc_cdcl.specs.Analysis.{IsFinal, IsUnfinished, IsWalking, OpenLevels, highest_but, is_level, level_but, level_count_in, level_of};
+ghost use Rattle.cc_cdcl.specs.Analysis.{IsFinal, IsUnfinished, IsWalking, OpenLevels, highest_but, is_level, is_level_below, level_but, level_count_in, level_of};
 ghost use Rattle.cc_cdcl.specs.Brought.{IsCounted, fresh_of, has_literal, is_fresh};
 ghost use Rattle.cc_cdcl.specs.Derivations.{IsBackOver, IsDerived, IsDeriving, IsShortening, Learns};
 ghost use Rattle.cc_cdcl.specs.Searches.{KeepsEntries};
 ghost use Rattle.cc_cdcl.specs.Solvers.{AddsBlock, AddsDerived};
 
 use crate::laws::learned_is_earned;
+use crate::probe::Probe;
+use crate::redundancy::{DEEPEST, Mark, is_redundant};
 use cc_defs::{Lit, OutOfMemory};
 use cc_kernel::{Kernel, Origin};
 use cc_trail::Trail;
@@ -238,28 +240,53 @@ fn brings_few(kernel: &Kernel, pivot: u32, clause: &[Lit]) -> bool
     true
 }
 
-// The reason of a literal that was true before a level was opened, where the staged clause has its opposite, and a step with the
-// reason brings at most one literal.
-fn shortening_reason(trail: &Trail, kernel: &Kernel, lit: Lit) -> Option<u32>
+// Whether a variable got its value at a level below the last one.
+fn is_below_last(trail: &Trail, variable: u32) -> bool
+    requires { variable ≤ trail.now.variables }
+    ensures { result ≡ is_level_below trail.now.level_count (level_of trail.now.steps variable) }
+{
+    match trail.level_of(variable) {
+        Some(level) => level < trail.level_count(),
+        None => false,
+    }
+}
+
+// Whether a step that resolves a literal of a level below the last one away shortens the staged clause: at level 0 where it brings
+// at most one literal, and at another level where the literal is redundant.
+fn is_worth(trail: &Trail, kernel: &Kernel, marks: &mut [Mark], variable: u32, id: u32) -> bool
+    requires fits { Fits trail.now kernel.now }
+    requires staged { IsSome kernel.now.staged }
+    requires within { variable ≤ trail.now.variables }
+    requires there { IsThere kernel.now id }
+{
+    if is_of(trail, 0, variable) {
+        return brings_few(kernel, variable, kernel.clause(id));
+    }
+    is_redundant(trail, kernel, marks, variable, DEEPEST)
+}
+
+// The reason of a literal that is true by a level below the last one, where the staged clause has its opposite, and a step with
+// the reason shortens it.
+fn shortening_reason(trail: &Trail, kernel: &Kernel, marks: &mut [Mark], lit: Lit) -> Option<u32>
+    requires fits { Fits trail.now kernel.now }
     requires some { 1 ≤ lit.variable }
     requires within { lit.variable ≤ trail.now.variables }
-    requires variables { trail.now.variables ≡ kernel.now.variables }
     requires staged { IsSome kernel.now.staged }
     requires there { (id : ℕ) → option_and_then reason_of_step (step_of trail.now.steps lit.variable) ≡ Some id → IsThere kernel.now id }
     ensures clash { IfSome result (λ id. ClashesWith kernel.now lit.variable id) }
     ensures reason { IfSome result (λ id. option_and_then reason_of_step (step_of trail.now.steps lit.variable) ≡ Some id) }
-    ensures level { IfSome result (λ id. IsTrue (is_level 0 (level_of trail.now.steps lit.variable))) }
+    ensures below { IfSome result (λ id. IsTrue (is_level_below trail.now.level_count (level_of trail.now.steps lit.variable))) }
 {
     let pivot = lit.variable();
     if !kernel.stages(lit.opposite()) {
         return None;
     }
-    if !is_of(trail, 0, pivot) {
+    if !is_below_last(trail, pivot) {
         return None;
     }
-    match clashing_reason(trail, kernel, pivot) {
-        Some(id) => if brings_few(kernel, pivot, kernel.clause(id)) {
-            Some(id)
+    match trail.reason(pivot) {
+        Some(id) => if is_worth(trail, kernel, marks, pivot, id) {
+            clashing_reason(trail, kernel, pivot)
         } else {
             None
         },
@@ -267,9 +294,14 @@ fn shortening_reason(trail: &Trail, kernel: &Kernel, lit: Lit) -> Option<u32>
     }
 }
 
-// Resolves literals that were false before a level was opened away from what analysis derives, where that brings at most one
-// other literal, which is false earlier. So the clause does not get longer, and each place is looked at once.
-fn shorten(trail: &Trail, kernel: &mut Kernel, start: usize) -> Result<(), OutOfMemory>
+// Resolves literals of lower levels away from what analysis derives, where the clause gets shorter by it. What a step brings is false
+// earlier, so that each place is looked at once.
+fn shorten(
+    trail: &Trail,
+    kernel: &mut Kernel,
+    marks: &mut [Mark],
+    start: usize,
+) -> Result<(), OutOfMemory>
     requires fits { Fits trail.now kernel.old }
     requires opened { OpenLevels trail.now.steps }
     requires derivation { IsShortening kernel.old trail.now start }
@@ -279,7 +311,7 @@ fn shorten(trail: &Trail, kernel: &mut Kernel, start: usize) -> Result<(), OutOf
     let entries = trail.entries();
     for place in (0..start).rev() {
         let lit = entries[place];
-        match shortening_reason(trail, kernel, lit) {
+        match shortening_reason(trail, kernel, marks, lit) {
             Some(id) => kernel.step(lit.variable(), id)?,
             None => {},
         }
@@ -287,20 +319,41 @@ fn shorten(trail: &Trail, kernel: &mut Kernel, start: usize) -> Result<(), OutOf
     Ok(())
 }
 
+// Derives the clause at the implication point from a false one, leaves it staged, and returns the place of the trail in front of which
+// it is false.
+fn derive_first(trail: &Trail, kernel: &mut Kernel, id: u32) -> Result<usize, OutOfMemory>
+    requires fits { Fits trail.now kernel.old }
+    requires opened { OpenLevels trail.now.steps }
+    requires settled { IsSettled trail.now kernel.old }
+    requires failed { IsFailedClause (clauses_of kernel.old) trail.now.steps id }
+    ensures derived { IfOk result (λ place. IsShortening kernel.new trail.now place) }
+    ensures kept { KeepsEntries kernel.old kernel.new }
+{
+    kernel.start(id)?;
+    let level = trail.level_count();
+    let held = level_count_in(trail, level, kernel.clause(id));
+    resolve_back(trail, kernel, held)
+}
+
 // Derives the clause that is learned from a false one, and leaves it staged.
-fn derive(trail: &Trail, kernel: &mut Kernel, id: u32) -> Result<(), OutOfMemory>
+fn derive(
+    trail: &Trail,
+    kernel: &mut Kernel,
+    marks: &mut [Mark],
+    probe: &mut Probe,
+    id: u32,
+) -> Result<(), OutOfMemory>
     requires fits { Fits trail.now kernel.old }
     requires opened { OpenLevels trail.now.steps }
     requires settled { IsSettled trail.now kernel.old }
     requires failed { IsFailedClause (clauses_of kernel.old) trail.now.steps id }
     ensures derived { OnOk result (IsDerived kernel.new trail.now) }
     ensures kept { KeepsEntries kernel.old kernel.new }
+    ensures phase { probe.new.phase ≡ probe.old.phase }
 {
-    kernel.start(id)?;
-    let level = trail.level_count();
-    let held = level_count_in(trail, level, kernel.clause(id));
-    let place = resolve_back(trail, kernel, held)?;
-    shorten(trail, kernel, place)
+    let place = derive_first(trail, kernel, id)?;
+    probe.note_met(trail, kernel, place);
+    shorten(trail, kernel, marks, place)
 }
 
 /// Derives the empty clause from a clause that is false where no level was opened.
@@ -314,14 +367,21 @@ pub fn refute(trail: &Trail, kernel: &mut Kernel, id: u32) -> Result<(), OutOfMe
     ensures refuted { OnOk result (AddsDerived kernel.old kernel.new []) }
     ensures kept { OnErr result (KeepsEntries kernel.old kernel.new) }
 {
-    derive(trail, kernel, id)?;
+    derive_first(trail, kernel, id)?;
     let _level = trail.level_count();
     kernel.finish()?;
     Ok(())
 }
 
-/// Derives a clause from one that is false, goes back to the level at which it leaves one literal, and attaches it.
-pub fn learn(trail: &mut Trail, kernel: &mut Kernel, id: u32) -> Result<(), OutOfMemory>
+/// Derives a clause from one that is false, goes back to the level at which it leaves one literal, and attaches it. Where there are
+/// marks, redundant literals are resolved away. The probe takes notice of what the line had to do with, and of what is taken back.
+pub fn learn(
+    trail: &mut Trail,
+    kernel: &mut Kernel,
+    marks: &mut [Mark],
+    probe: &mut Probe,
+    id: u32,
+) -> Result<(), OutOfMemory>
     requires level { 0 < trail.old.level_count }
     requires fits { Fits trail.old kernel.old }
     requires all { trail.old.attached ≡ length kernel.old.entries }
@@ -332,14 +392,16 @@ pub fn learn(trail: &mut Trail, kernel: &mut Kernel, id: u32) -> Result<(), OutO
     ensures learned { OnOk result (Learns kernel.old kernel.new) }
     ensures back { OnOk result (IsBackOver trail.old trail.new kernel.new) }
     ensures broken { OnErr result (KeepsEntries kernel.old kernel.new ⊎ Learns kernel.old kernel.new) }
+    ensures phase { probe.new.phase ≡ probe.old.phase }
 {
     learned_is_earned();
     adding_keeps_fit();
     adding_keeps_settled();
-    derive(trail, kernel, id)?;
+    derive(trail, kernel, marks, probe, id)?;
     let level = trail.level_count();
     let number = kernel.finish()?;
     let back = highest_but(trail, level, kernel.clause(number));
+    probe.take_back(trail, back);
     trail.back_to(back);
     trail.attach(kernel, number)?;
     Ok(())

@@ -25,6 +25,19 @@ pub struct Cursor {
     pub variable: u32,
 }
 
+impl Cursor {
+    /// Where it is looked for while no variable has a value.
+    pub fn start() -> Cursor
+        ensures { result ≡ record { position = 0; first = 1; variable = 1 } }
+    {
+        Cursor {
+            position: 0,
+            first: 1,
+            variable: 1,
+        }
+    }
+}
+
 // Whether a variable has this value.
 fn is_given(trail: &Trail, variable: u32, sign: bool) -> bool
     requires some { 1 ≤ variable }
@@ -38,8 +51,8 @@ fn is_given(trail: &Trail, variable: u32, sign: bool) -> bool
     }
 }
 
-// Whether a variable has a value.
-fn has_value(trail: &Trail, variable: u32) -> bool
+/// Whether a variable has a value.
+pub fn has_value(trail: &Trail, variable: u32) -> bool
     requires some { 1 ≤ variable }
     requires within { variable ≤ trail.now.variables }
     requires few { trail.now.variables ≤ most_variables }
@@ -106,8 +119,8 @@ fn pass_positions(trail: &Trail, sizes: &[u32], start: Cursor) -> Cursor
     cursor
 }
 
-// The first variable from this one on that has no value, or the one behind the last.
-fn first_open(trail: &Trail, variables: u32, start: u32) -> u32
+/// The first variable from this one on that has no value, or the one behind the last.
+pub fn first_open(trail: &Trail, variables: u32, start: u32) -> u32
     requires variables { variables ≡ trail.now.variables }
     requires few { trail.now.variables ≤ most_variables }
     requires some { 1 ≤ start }

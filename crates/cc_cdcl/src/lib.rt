@@ -4,6 +4,9 @@
 mod analysis;
 mod choice;
 pub mod laws;
+mod order;
+mod probe;
+mod redundancy;
 mod search;
 mod solver;
 

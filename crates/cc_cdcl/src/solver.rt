@@ -13,7 +13,9 @@ ghost use Rattle.cc_cdcl.specs.Solvers.{AreEarned, HasPositions, IsBroken, IsBro
 use crate::analysis::{block, learn, refute};
 use crate::choice::{Cursor, true_value};
 use crate::laws::{earned_lines_are_few, least_row_is_found};
-use crate::search::descend;
+use crate::probe::Probe;
+use crate::redundancy::Mark;
+use crate::search::{begin, count_line, search_on};
 use cc_defs::{Lit, OutOfMemory};
 use cc_kernel::{Kernel, Origin};
 use cc_trail::Trail;
@@ -50,6 +52,11 @@ pub struct Solver {
     trail: Trail,
     // By level: where the choice behind it is looked for.
     cursors: Vec<Cursor>,
+    // By variable: what was found of its literal; none once a row was denied, since a line that comes from a denial would take
+    // a step more for each literal that it loses.
+    marks: Vec<Mark>,
+    // What is decided first, and whether that is over.
+    probe: Probe,
     // The row that was found; its room is taken at once.
     row: Vec<u32>,
     // Room for the clause that denies the row.
@@ -119,12 +126,8 @@ impl Solver {
     {
         read_clauses(&kernel);
         let trail = Trail::new(alloc, &kernel)?;
-        let start = Cursor {
-            position: 0,
-            first: 1,
-            variable: 1,
-        };
-        let cursors = vec![in alloc; start; kernel.variables() as usize + 1]?;
+        let cursors = vec![in alloc; Cursor::start(); kernel.variables() as usize + 1]?;
+        let marks = vec![in alloc; Mark::none(); kernel.variables() as usize + 1]?;
         let own_sizes = Vec::from_slice(alloc, sizes)?;
         let row = vec![in alloc; 0u32; sizes.len()]?;
         Ok(Solver {
@@ -132,6 +135,8 @@ impl Solver {
             kernel,
             trail,
             cursors,
+            marks,
+            probe: Probe::new(alloc),
             row,
             denial: Vec::new(alloc),
             derived: 0,
@@ -154,9 +159,12 @@ impl Solver {
             self.state = State::Refuted;
             return Ok(Step::Refuted);
         }
-        let failed = descend(
+        self.state = State::Failed;
+        begin(&mut self.trail, &mut self.probe, &self.kernel)?;
+        let failed = search_on(
             &mut self.trail,
             &mut self.cursors,
+            &mut self.probe,
             &self.kernel,
             &self.sizes,
         );
@@ -168,17 +176,23 @@ impl Solver {
             },
             Some(id) => {
                 if self.trail.level_count() == 0 {
-                    self.state = State::Failed;
                     refute(&self.trail, &mut self.kernel, id)?;
                     self.state = State::Refuted;
                     return Ok(Step::Refuted);
                 }
                 if self.derived == budget {
+                    self.state = State::Ready;
                     return Ok(Step::Spent);
                 }
-                self.state = State::Failed;
-                learn(&mut self.trail, &mut self.kernel, id)?;
+                learn(
+                    &mut self.trail,
+                    &mut self.kernel,
+                    &mut self.marks,
+                    &mut self.probe,
+                    id,
+                )?;
                 self.derived += 1;
+                count_line(&mut self.trail, &mut self.cursors, &mut self.probe);
                 self.state = State::Ready;
                 Ok(Step::Line)
             },
@@ -206,6 +220,7 @@ impl Solver {
         let _variables = self.kernel.variables();
         write_denial(&self.sizes, &self.row, &mut self.denial)?;
         let number = block(&mut self.trail, &mut self.kernel, &self.denial)?;
+        self.marks.clear();
         self.state = State::Ready;
         Ok(number)
     }

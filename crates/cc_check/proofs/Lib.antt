@@ -13,3 +13,7 @@ pub mod Parted
 pub mod Headers
 pub mod SilentLogs
 pub mod Refuted
+pub mod NumberBytes
+pub mod ListBytes
+pub mod WrittenBytes
+pub mod EntryBytes

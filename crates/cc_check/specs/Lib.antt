@@ -1,4 +1,5 @@
 pub mod Clauses
+pub mod Entries
 pub mod Laws
 pub mod Parts
 pub mod Reading

@@ -1,11 +1,21 @@
 //! Laws of the reading of logs, each the contract of a function that does nothing.
-ghost use Rattle.cc_check.specs.Laws.{LinesAreUnique, LogsTellTheirLines, MisreadsAreVerdicts, SectionsGiveVerdicts, SilentSectionsHaveNoRows};
+ghost use Rattle.cc_check.specs.Laws.{LinesAreUnique, LogsTellTheirLines, MisreadsAreVerdicts, OneEntry, SectionsGiveVerdicts, SilentSectionsHaveNoRows, WrittenLinesAreEntries};
 
 use cc_clauses::laws::resolvents_are_sound;
 
 /// No text is that of two lines.
 pub fn lines_are_unique()
     ensures { LinesAreUnique }
+{}
+
+/// Bytes begin with one entry of version 2 at most.
+pub fn one_entry()
+    ensures { OneEntry }
+{}
+
+/// What is written of a line in version 2 is an entry, and it says that line.
+pub fn written_lines_are_entries()
+    ensures { WrittenLinesAreEntries }
 {}
 
 /// The text of a log tells its lines.

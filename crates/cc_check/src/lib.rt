@@ -1,8 +1,10 @@
-//! The lines of a log, as they are written and as they are read; a checker of one section of a log, with blocks or without; and a
+//! The lines of a log, as they are written and as they are read, as text or in bytes; a checker of one section of a log, with blocks or without; and a
 //! checker of whole logs whose sections are silent, for each kind of heading. The verdict of a query's log is cc_judge's.
 #![tactic(auto)]
 
+mod binary;
 mod clauses;
+mod entry;
 mod fault;
 mod judge;
 pub mod laws;
@@ -13,6 +15,8 @@ mod sections;
 mod silent;
 mod text;
 
+pub use binary::put_binary;
+pub use entry::{heading_in, read_entry};
 pub use fault::CheckFault;
 pub use judge::{Finding, Verdict, check, check_silent, find, find_silent};
 pub use line::{Heading, Kind, Room, heading_of, read_line};

@@ -4,8 +4,8 @@ ghost use Rattle.std.specs.List.{join_with_byte};
 ghost use Rattle.cc_defs.specs.LogTexts.{IsFormed, end_word_text, line_parts, line_text, literal_text};
 
 use cc_defs::{EndWord, Lit, LogLine, OutOfMemory, Text};
+use itoa::Buffer;
 use std::alloc::Global;
-use std::fmt::Write;
 
 /// The text of a line, its line feed included.
 pub fn put_line(alloc: Global, line: &LogLine) -> Result<Text, OutOfMemory>
@@ -79,8 +79,18 @@ fn push_numbers(text: &mut String, numbers: &[u32]) -> Result<(), OutOfMemory>
     ensures { OnOk result (string_bytes text.new ≡ string_bytes text.old ++ flat_map (λ number. 32 ∷ decimal number) numbers.now) }
 {
     for number in numbers {
-        write!(text, " {number}")?;
+        text.push_str(" ")?;
+        push_number(text, *number)?;
     }
+    Ok(())
+}
+
+// Writes the digits of a number.
+fn push_number(text: &mut String, number: u32) -> Result<(), OutOfMemory>
+    ensures { OnOk result (string_bytes text.new ≡ string_bytes text.old ++ decimal number) }
+{
+    let mut digits = Buffer::new();
+    text.push_str(digits.format(number))?;
     Ok(())
 }
 
@@ -97,11 +107,7 @@ fn push_literals(text: &mut String, literals: &[Lit]) -> Result<(), OutOfMemory>
 fn push_literal(text: &mut String, literal: Lit) -> Result<(), OutOfMemory>
     ensures { OnOk result (string_bytes text.new ≡ string_bytes text.old ++ 32 ∷ literal_text literal) }
 {
-    let variable = literal.variable();
-    if literal.is_positive() {
-        write!(text, " {variable}")?;
-        return Ok(());
-    }
-    write!(text, " -{variable}")?;
-    Ok(())
+    let sign = if literal.is_positive() { " " } else { " -" };
+    text.push_str(sign)?;
+    push_number(text, literal.variable())
 }

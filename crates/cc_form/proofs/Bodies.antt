@@ -52,7 +52,7 @@ bodies_step old now new stride literals more literal rule rest whole so is' buil
       fits = so.fits.1;
     }
 
-rule_rises : (sizes : List ℕ) (stride last : ℕ) (rule : TimedRule) → last ≤ (made_rule sizes stride last rule).last
+pub rule_rises : (sizes : List ℕ) (stride last : ℕ) (rule : TimedRule) → last ≤ (made_rule sizes stride last rule).last
 rule_rises sizes stride last rule = chosen (is_certain sizes (plain_head rule.head))
   where
     chosen : (b : Bool) → last ≤ (if b then plain_made (positive (true_variable sizes)) last else made_nodes sizes last (body_nodes stride rule)).last

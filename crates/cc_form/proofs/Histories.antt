@@ -29,7 +29,7 @@ use Rattle.cc_form.specs.Places.{position_sizes}
 
 -- ---- positions
 
-domain_behind : (xs ys : List Const) → domain_sizes (xs ++ ys) ≡ domain_sizes xs ++ domain_sizes ys
+pub domain_behind : (xs ys : List Const) → domain_sizes (xs ++ ys) ≡ domain_sizes xs ++ domain_sizes ys
 domain_behind [] ys = refl
 domain_behind (x ∷ xs) ys = ap (λ (l : List ℕ). length x.domain ∷ l) (domain_behind xs ys)
 

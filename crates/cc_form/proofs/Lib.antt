@@ -1,13 +1,18 @@
 mod Asserting
+mod Behind
 mod Bodies
 mod Causes
 mod Choices
+mod Completing
+mod Copying
 mod Definitions
 mod Drafting
 mod Extending
+mod Joining
 mod Keeping
 mod Keys
 mod Finishing
+mod Gathering
 mod Good
 mod GoodLists
 mod Histories
@@ -17,11 +22,15 @@ mod Meant
 mod Ordered
 mod Parts
 mod Picking
+mod Placing
 mod Positions
+mod Renaming
 mod RowValues
 mod Running
 pub mod Saying
+mod Spreading
 mod Standing
+mod Stepping
 pub mod Telling
 mod Whole
 mod Written

@@ -26,12 +26,12 @@ use Rattle.cc_form.specs.Places.{position_sizes}
 
 -- ---- lists
 
-front : {X : Type 0} (xs ys : List X) (i : ℕ) → i < length xs → slice_get (xs ++ ys) i ≡ slice_get xs i
+pub front : {X : Type 0} (xs ys : List X) (i : ℕ) → i < length xs → slice_get (xs ++ ys) i ≡ slice_get xs i
 front [] ys i less = absurd (omega arith)
 front (x ∷ xs) ys zero less = refl
 front (x ∷ xs) ys (suc i) less = front xs ys i (omega arith)
 
-back : {X : Type 0} (xs ys : List X) (i : ℕ) → slice_get (xs ++ ys) (length xs + i) ≡ slice_get ys i
+pub back : {X : Type 0} (xs ys : List X) (i : ℕ) → slice_get (xs ++ ys) (length xs + i) ≡ slice_get ys i
 back [] ys i = ap (slice_get ys) (let e : 0 + i ≡ i = omega arith in e)
 back (x ∷ xs) ys i = ap (slice_get (x ∷ xs ++ ys)) (let e : suc (length xs) + i ≡ suc (length xs + i) = omega arith in e) ∙ back xs ys i
 

@@ -12,7 +12,9 @@ use Rattle.cc_defs.specs.Refusals.{past}
 use Rattle.cc_defs.specs.Resolved.{Query}
 use Rattle.cc_defs.specs.Runs.{without_claim}
 use Rattle.cc_defs.specs.Sections.{Axioms}
+use Rattle.std.specs.Option.{option_or}
 use Rattle.cc_clauses.specs.Tells.{Tells}
+use Rattle.cc_theory.specs.Theories.{rules_refusal}
 use Rattle.cc_form.specs.Store.{literal_count_of}
 
 -- the first limit that a clause list passes
@@ -21,6 +23,10 @@ form_refusal list =
     if nat_lt most_variables list.variables then Some (past limits.Variables)
     else (if nat_lt most_clauses (length list.clauses) then Some (past limits.AxiomClauses)
     else (if nat_lt most_literals (literal_count_of list.clauses) then Some (past limits.AxiomLiterals) else None))
+
+-- the first limit that the rules or clauses of a section pass
+abbrev pub section_refusal : Description → Query → ℕ → (with_claim : Bool) → Option Key → Option Refusal
+section_refusal d q horizon with_claim key = option_or (rules_refusal d horizon) (form_refusal (clause_list d q horizon with_claim key))
 
 -- the axioms of a section: those of a query at a horizon, with its claim denied or left out, after a key where there is one
 abbrev pub form_of : Description → Query → ℕ → (with_claim : Bool) → Option Key → Axioms

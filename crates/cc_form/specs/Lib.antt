@@ -4,7 +4,9 @@ pub mod Forms
 pub mod Laws
 pub mod Machine
 pub mod Making
+pub mod Moving
 pub mod Parts
 pub mod Places
 pub mod Queries
+pub mod Steps
 pub mod Store

@@ -188,7 +188,7 @@ fn follow_if(writer: &mut Writer, after: Option<&Key>) -> Result<(), Fault>
 }
 
 /// The clauses of conditions, of a claim where it is asked for, and of a key.
-fn add_query(
+pub(crate) fn add_query(
     writer: &mut Writer,
     stride: u64,
     horizon: u32,

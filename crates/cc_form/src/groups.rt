@@ -1,10 +1,11 @@
 //! The clauses that each position has exactly one value, of the completion, and of denials.
-ghost use Rattle.std.specs.Prelude.{◌≡◌, ℕ, ◌+◌, ◌-◌, ◌≤◌, ◌<◌, [], ◌∷◌, length, map, sum, OnOk, slice_get, slice_index, Some};
+ghost use Rattle.std.specs.Prelude.{◌≡◌, ℕ, ◌+◌, ◌-◌, ◌≤◌, ◌<◌, [], ◌∷◌, drop, length, map, sum, take, OnOk, slice_get, slice_index, Some};
 ghost use Rattle.std.specs.List.{AllByRecursion};
 ghost use Rattle.cc_defs.specs.ClauseForms.{all_written, atom_variable, positive};
 ghost use Rattle.cc_defs.specs.ClauseLists.{completion_from, completion_of, denials_of, bodies_of, exactly_one as exactly_one_of, pairs_denied, position_completion, position_variables, positions_from};
 ghost use Rattle.cc_defs.specs.Clauses.{opposite};
 ghost use Rattle.cc_defs.specs.Limits.{most_variables};
+ghost use Rattle.cc_theory.specs.Theories.{plain_head};
 ghost use Rattle.cc_form.specs.Making.{bodied, picked};
 ghost use Rattle.cc_form.specs.Places.{position_sizes};
 ghost use Rattle.cc_form.specs.Store.{Gives};
@@ -13,7 +14,7 @@ use crate::defining::define_any;
 use crate::places::Places;
 use crate::store::Store;
 use cc_defs::{Lit, OutOfMemory};
-use cc_theory::Theory;
+use cc_theory::{Theory, TimedHead, TimedRule};
 
 /// The clause that a position has some value.
 fn some_value(store: &mut Store, first: u32, size: u32) -> Result<(), OutOfMemory>
@@ -173,6 +174,53 @@ pub(crate) fn deny_falsity(
 {
     for number in theory.denials() {
         store.write_one(bodies[*number as usize].opposite())?;
+    }
+    Ok(())
+}
+
+/// The completion of the positions from one to before another.
+pub(crate) fn complete_between(
+    store: &mut Store,
+    places: &Places,
+    theory: &Theory<'_>,
+    bodies: &[Lit],
+    causes: &mut Vec<Lit>,
+    start: usize,
+    end: usize,
+) -> Result<(), OutOfMemory>
+    requires places { places.now ≡ position_sizes theory.now.signature theory.now.horizon }
+    requires bodies { length bodies.now ≡ length theory.now.rules }
+    requires ordered { start ≤ end }
+    requires within { end ≤ length places.now }
+    ensures { OnOk result (Gives store.old.kept store.new.kept (all_written (completion_from places.now (bodied theory.now.rules bodies.now) start (take (end - start) (drop start places.now))))) }
+{
+    for position in start..end {
+        complete_position(store, places, theory, bodies, causes, position)?;
+    }
+    Ok(())
+}
+
+/// Where the head of a rule is falsity, that it does not have its body.
+fn deny_one(store: &mut Store, head: TimedHead, body: Lit) -> Result<(), OutOfMemory>
+    ensures { OnOk result (Gives store.old.kept store.new.kept (all_written (denials_of (record { head = plain_head head; body = body } ∷ [])))) }
+{
+    match head {
+        TimedHead::Falsity => store.write_one(body.opposite()),
+        TimedHead::Atom { .. } => Ok(()),
+    }
+}
+
+/// No rule of these with head falsity has its body.
+pub(crate) fn deny_each(
+    store: &mut Store,
+    rules: &[TimedRule<'_>],
+    bodies: &[Lit],
+) -> Result<(), OutOfMemory>
+    requires { length bodies.now ≡ length rules.now }
+    ensures { OnOk result (Gives store.old.kept store.new.kept (all_written (denials_of (bodied rules.now bodies.now)))) }
+{
+    for number in 0..rules.len() {
+        deny_one(store, rules[number].head, bodies[number])?;
     }
     Ok(())
 }

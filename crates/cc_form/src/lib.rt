@@ -7,12 +7,16 @@ mod draft;
 mod form;
 mod groups;
 pub mod laws;
+mod moving;
 mod places;
 mod rules;
 mod section;
+mod steps;
 mod store;
+mod template;
 mod writer;
 
 pub use builder::Builder;
 pub use draft::Draft;
 pub use form::{Form, clauses};
+pub use template::Template;

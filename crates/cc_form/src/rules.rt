@@ -139,7 +139,7 @@ pub(crate) fn bodies(
     ensures built { OnOk result (IsBuilt writer.old writer.new (made_bodies writer.old.places stride writer.old.last rules.now).last (made_bodies writer.old.places stride writer.old.last rules.now).clauses) }
     ensures refused { IfErr result (IsPast (made_bodies writer.old.places stride writer.old.last rules.now).last) }
 {
-    let mut bodies = Vec::new(alloc);
+    let mut bodies = Vec::with_capacity(alloc, rules.len())?;
     for rule in rules {
         let literal = made_rule(writer, stride, *rule)?;
         bodies.push(literal)?;

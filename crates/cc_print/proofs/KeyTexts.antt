@@ -1,5 +1,5 @@
 -- What is read as a key is the key of the text, and the laws of keys.
-use Rattle.std.proofs.Common.{◌≡◌, ℕ, ◌+◌, ◌-◌, ◌*◌, ◌^◌, ◌<◌, ◌≤◌, ◌≢◌, ◌&&◌, nat_le, if◌then◌else◌, Bool, true, false, IsTrue, List, [], ◌∷◌, ◌++◌, length, map, fold, get_or, drop, Option, Some, None, All, MatchOption, codes, decimal, eqb, refl, sym, ap, ◌∙◌, subst, arith, rules, append_assoc, append-nil, lit<}
+use Rattle.std.proofs.Common.{◌≡◌, ℕ, ◌+◌, ◌-◌, ◌*◌, ◌^◌, ◌<◌, ◌≢◌, ◌&&◌, nat_le, if◌then◌else◌, Bool, true, false, IsTrue, List, [], ◌∷◌, ◌++◌, length, map, fold, get_or, drop, Option, Some, None, All, MatchOption, codes, decimal, eqb, refl, sym, ap, ◌∙◌, subst, arith, rules, append_assoc, append-nil, lit<}
 use Rattle.std.proofs.lemmas.Bool.{and_parts, and_from, le-leb, leb-true, ne_eqb, eqb-false}
 use Rattle.std.proofs.lemmas.Fmt.{digits_decimal, digits_value-decimal, decimal_injective, length-decimal-le, decimal_nonempty}
 use Rattle.std.proofs.lemmas.List.{at_drop_more, at_drop_all, append_cancel_left}
@@ -12,7 +12,6 @@ use denote.Ref.{Bor}
 use Rattle.cc_defs.specs.declared.lists.Key.{Key}
 use Rattle.cc_defs.specs.Grammar.{number_of}
 use Rattle.cc_defs.specs.LogTexts.{IsShort}
-use Rattle.cc_defs.specs.Texts.{key_text}
 use Rattle.cc_defs.specs.Tokens.{is_digit, is_number}
 use Rattle.cc_print.specs.Keys.{IsNumberText, IsRowText, IsKeyText, IsReadAsKey, number_read, with_first, numbers_read, row_read}
 use Rattle.cc_print.specs.Laws.{OneKey, WrittenIsRead, IsWhole, WrittenApart}

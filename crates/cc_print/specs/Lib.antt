@@ -1,3 +1,4 @@
+pub mod Atoms
 pub mod Histories
 pub mod Keys
 pub mod Laws

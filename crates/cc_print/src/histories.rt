@@ -164,23 +164,35 @@ fn push_shown(
 {
     let value = constant.domain.items()[index as usize];
     if !is_boolean(table, constant.symbol) {
-        push_constant(text, table, constant)?;
+        push_indented(text, table, constant)?;
         text.push_str("=")?;
         text.push_str(object_name(table, value))?;
         Ok(())
     } else if value == 1 {
-        push_constant(text, table, constant)
+        push_indented(text, table, constant)
     } else {
         Ok(())
     }
 }
 
 /// Writes two spaces and a constant.
-fn push_constant(text: &mut String, table: &Table, constant: &Const) -> Result<(), OutOfMemory>
+fn push_indented(text: &mut String, table: &Table, constant: &Const) -> Result<(), OutOfMemory>
     requires { IsNamed table.now constant.now }
     ensures { OnOk result (string_bytes text.new ≡ string_bytes text.old ++ (codes "  " ++ texts.constant_text (named_by table.now) constant.now)) }
 {
     text.push_str("  ")?;
+    push_constant(text, table, constant)
+}
+
+/// Writes a constant.
+pub(crate) fn push_constant(
+    text: &mut String,
+    table: &Table,
+    constant: &Const,
+) -> Result<(), OutOfMemory>
+    requires { IsNamed table.now constant.now }
+    ensures { OnOk result (string_bytes text.new ≡ string_bytes text.old ++ texts.constant_text (named_by table.now) constant.now) }
+{
     text.push_str(symbol_name(table, constant.symbol))?;
     push_arguments(text, table, constant.args.items())
 }
@@ -233,7 +245,7 @@ fn symbol_name<'t>(table: &'t Table, symbol: u32) -> &'t str
 }
 
 /// The name of an object, or `none`.
-fn object_name<'t>(table: &'t Table, object: u32) -> &'t str
+pub(crate) fn object_name<'t>(table: &'t Table, object: u32) -> &'t str
     requires { IsNamedValue table.now object }
     ensures { result.now ≡ texts.object_text (named_by table.now) object }
 {

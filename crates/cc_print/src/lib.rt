@@ -1,6 +1,7 @@
 //! The printed texts of keys, histories, events, refusals, verdicts and summaries, and keys as they are read.
 #![tactic(auto)]
 
+mod atoms;
 mod histories;
 mod keys;
 pub mod laws;
@@ -8,6 +9,7 @@ mod summaries;
 mod texts;
 mod verdicts;
 
+pub use atoms::atom_text;
 pub use histories::history_text;
 pub use keys::read_key;
 pub use summaries::summary_text;

@@ -6,8 +6,8 @@ ghost use Rattle.cc_defs.specs.Texts as texts;
 ghost use Rattle.cc_print.specs.Refusals.{refusal_line, place_text, limit_text};
 
 use cc_defs::{Ending, Event, LimitAt, OutOfMemory, Refusal, Text};
+use itoa::Buffer;
 use std::alloc::Global;
-use std::fmt::Write;
 
 /// A key: the horizon, `:`, and the indexes of the row with `,` between them. It is what `--after` takes.
 pub fn key_text(alloc: Global, horizon: u32, row: &[u32]) -> Result<Text, OutOfMemory>
@@ -166,6 +166,7 @@ pub(crate) fn push_number(text: &mut String, number: u32) -> Result<(), OutOfMem
 pub(crate) fn push_count(text: &mut String, count: u64) -> Result<(), OutOfMemory>
     ensures { OnOk result (string_bytes text.new ≡ string_bytes text.old ++ decimal count) }
 {
-    write!(text, "{count}")?;
+    let mut digits = Buffer::new();
+    text.push_str(digits.format(count))?;
     Ok(())
 }

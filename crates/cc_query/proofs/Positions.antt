@@ -75,6 +75,13 @@ row_within (first ∷ sizes) [] is position size there = absurd is
 row_within (first ∷ sizes) (index ∷ row) is zero size there = let same : first ≡ size = cc in subst (λ (n : ℕ). index < n) same is.0
 row_within (first ∷ sizes) (index ∷ row) is (suc position) size there = row_within sizes row is.1 position size there
 
+pub row_in : (d : Description) (signature : Signature) → IsSignatureOfDescription d signature → (horizon : ℕ) (row : List ℕ) →
+    IsRow (position_sizes signature horizon) row ↔ IsRow (sizes_at d horizon) row
+row_in d signature of horizon row = (
+  (λ is. subst (λ (l : List ℕ). IsRow l row) (sizes_are d signature of horizon) is),
+  (λ is. subst (λ (l : List ℕ). IsRow l row) (sym (sizes_are d signature of horizon)) is),
+)
+
 pub fits_in : (d : Description) (signature : Signature) (query : PlainGroundQuery) (key : Key) → IsSignatureOfDescription d signature →
     Fits signature query key ↔ FitsIn d query key
 fits_in d signature query key of = (
@@ -82,13 +89,13 @@ fits_in d signature query key of = (
     least = fits.least;
     most = fits.most;
     claim = fits.claim;
-    row = subst (λ (l : List ℕ). IsRow l key.row) (sizes_are d signature of key.horizon) fits.row;
+    row = (row_in d signature of key.horizon key.row).0 fits.row;
   }),
   (λ fits. record {
     least = fits.least;
     most = fits.most;
     claim = fits.claim;
-    row = subst (λ (l : List ℕ). IsRow l key.row) (sym (sizes_are d signature of key.horizon)) fits.row;
+    row = (row_in d signature of key.horizon key.row).1 fits.row;
   }),
 )
 

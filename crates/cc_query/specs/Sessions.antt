@@ -1,7 +1,6 @@
 -- What a session holds, and what the events so far leave it to hold.
 use Rattle.std.specs.Prelude.{◌≡◌, ◌≢◌, ℕ, ◌+◌, ◌≤◌, ◌⊎◌, Bool, true, false, not, if◌then◌else◌, IfSome, List, [], ◌∷◌, ◌++◌, map, length, sum, Option, Some, None, IsSome, IsNone, Contains}
 use Rattle.std.specs.List.{AllByRecursion, list_any}
-use Rattle.std.specs.Option.{option_or}
 use Rattle.cc_arena.specs.declared.ground_laws.GroundLaw.{GroundLaw}
 use Rattle.cc_query.specs.Accepted.{AreGoodAxioms}
 use Rattle.cc_cdcl.specs.Solvers.{SolverView, Found, Ready}
@@ -19,7 +18,6 @@ use Rattle.cc_defs.specs.declared.refusal.Fault.{Fault}
 use Rattle.cc_defs.specs.declared.refusal.Fault.TheVariants as faults
 use Rattle.cc_defs.specs.declared.refusal.LimitAt.TheVariants as limits
 use Rattle.cc_defs.specs.declared.refusal.Refusal.{Refusal}
-use Rattle.cc_defs.specs.ClauseLists.{clause_list}
 use Rattle.cc_defs.specs.Clauses.{IsOver}
 use Rattle.cc_defs.specs.Description.{Description, sizes_at}
 use Rattle.cc_defs.specs.GroundLaws.{PlainGroundQuery, StandsForQuery}
@@ -32,7 +30,7 @@ use Rattle.cc_defs.specs.Rows.{IsRow}
 use Rattle.cc_defs.specs.Runs.{Ask, Step, Derive, Tell, Section, Horizon, Histories, Conditions, Claim, Failure, Run, EndsWith, IsFairRun, axioms_of, events_of, first_horizon, horizon_at, key_row, rows_of}
 use Rattle.cc_defs.specs.Sections.{Axioms, row_denial}
 use Rattle.cc_defs.specs.Signatures.{Signature}
-use Rattle.cc_form.specs.Forms.{TellsHistories as ClausesTell, form_refusal}
+use Rattle.cc_form.specs.Forms.{TellsHistories as ClausesTell, section_refusal}
 use Rattle.cc_form.specs.Places.{position_sizes}
 use Rattle.cc_form.specs.Queries.{IsQueryAt}
 use Rattle.cc_kernel.specs.declared.kernel.Origin.TheVariants as origins
@@ -42,7 +40,7 @@ use Rattle.cc_query.specs.declared.phase.Part.TheVariants as parts
 use Rattle.cc_query.specs.declared.phase.Phase.{Phase}
 use Rattle.cc_query.specs.declared.phase.Phase.TheVariants as phases
 use Rattle.cc_query.specs.Parts.{query_of, axioms_at, is_conditions, told_by, section_of, open_section, rows_in, clauses_behind}
-use Rattle.cc_theory.specs.Theories.{AreLawsFor, AreLawsOf, rules_refusal}
+use Rattle.cc_theory.specs.Theories.{AreLawsFor, AreLawsOf}
 
 -- The signature, the laws, the query and what is asked; the horizon that is tried, whether a path met the conditions of a query
 -- with a claim at an earlier one, the last row that was told, and what comes next.
@@ -193,7 +191,7 @@ Tells old new event =
 
 -- the first limit that the rules or the clause list of a section pass
 abbrev pub refusal_at : Description → Query → ℕ → (with_claim : Bool) → Option Key → Option Refusal
-refusal_at d q horizon with_claim key = option_or (rules_refusal d horizon) (form_refusal (clause_list d q horizon with_claim key))
+refusal_at d q horizon with_claim key = section_refusal d q horizon with_claim key
 
 abbrev pub opening_refusal : Description → Query → Ask → ℕ → (conditions : Bool) → Option Refusal
 opening_refusal d q ask horizon conditions = refusal_at d q horizon (not conditions) ask.after

@@ -1,4 +1,4 @@
-//! Keys that a listing can go on after.
+//! Rows of a horizon, and keys that a listing can go on after.
 ghost use Rattle.std.specs.Prelude.{◌≡◌, ℕ, ◌<◌, ◌≤◌, ◌↔◌, IsTrue, IsNone, length};
 ghost use Rattle.cc_arena.specs.GroundViews.{plain_ground_query};
 ghost use Rattle.cc_defs.specs.Conditions.{IsSignatureOfDescription};
@@ -11,8 +11,15 @@ use cc_arena::GroundQuery;
 use cc_defs::laws::positions_have_sizes;
 use cc_defs::{Key, Sig};
 
-/// Whether a row has an index for each position of a horizon, below the number of its values.
-fn is_row(sig: &Sig, horizon: u32, row: &[u32]) -> bool
+/// Whether a row has an index for each position of a horizon, below the number of its values. It takes no memory.
+pub fn is_row(sig: &Sig, horizon: u32, row: &[u32]) -> bool
+    ensures is { IsTrue result ↔ IsRow (position_sizes sig.now horizon) row.now }
+    ensures described { (d : Description) → IsSignatureOfDescription d sig.now → IsTrue result ↔ IsRow (sizes_at d horizon) row.now }
+{
+    has_indexes(sig, horizon, row)
+}
+
+fn has_indexes(sig: &Sig, horizon: u32, row: &[u32]) -> bool
     ensures { IsTrue result ↔ IsRow (position_sizes sig.now horizon) row.now }
 {
     positions_have_sizes();

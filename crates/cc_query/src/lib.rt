@@ -5,6 +5,7 @@
 mod ask;
 mod keys;
 pub mod laws;
+mod lists;
 mod opening;
 mod phase;
 mod search;
@@ -13,7 +14,7 @@ mod shared;
 mod stage;
 
 pub use ask::Ask;
-pub use keys::fits;
+pub use keys::{fits, is_row};
 pub use opening::form_at;
 pub use search::Search;
 pub use session::Session;

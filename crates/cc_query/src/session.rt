@@ -32,7 +32,8 @@ ghost use Rattle.cc_theory.specs.Theories.{AreLawsFor};
 
 use crate::ask::Ask;
 use crate::laws::search_laws;
-use crate::opening::{denies_claim, form_at, solver_of};
+use crate::lists::Lists;
+use crate::opening::{denies_claim, solver_of};
 use crate::phase::{Part, Phase};
 use crate::shared::{budget_of, derived_line, is_asked, is_refuted};
 use cc_arena::{GroundQuery, Laws};
@@ -51,8 +52,7 @@ use std::mem;
 #[derive(Drop)]
 pub struct Session<'a> {
     alloc: Global,
-    sig: &'a Sig,
-    laws: &'a Laws<'a>,
+    lists: Lists<'a>,
     query: GroundQuery<'a>,
     ask: Ask,
     // The horizon that is tried.
@@ -70,9 +70,9 @@ impl<'a> Model for Session<'a> {
 
     ghost Value = { SessionView };
 
-    ghost view = { λ s. record { signature = s.sig.now; laws = s.laws.now; query = plain_ground_query s.query; ask = s.ask; horizon = s.horizon; met = s.met; row = s.row.items; phase = s.phase } };
+    ghost view = { λ s. record { signature = s.lists.signature; laws = s.lists.laws; query = plain_ground_query s.query; ask = s.ask; horizon = s.horizon; met = s.met; row = s.row.items; phase = s.phase } };
 
-    ghost invariant = { λ s. IsSession (record { signature = s.sig.now; laws = s.laws.now; query = plain_ground_query s.query; ask = s.ask; horizon = s.horizon; met = s.met; row = s.row.items; phase = s.phase }) };
+    ghost invariant = { λ s. IsSession (record { signature = s.lists.signature; laws = s.lists.laws; query = plain_ground_query s.query; ask = s.ask; horizon = s.horizon; met = s.met; row = s.row.items; phase = s.phase }) };
 }
 
 /// The line of the clause that was derived last.
@@ -203,8 +203,7 @@ impl<'a> Session<'a> {
         let row = Vec::new(alloc);
         Ok(Session {
             alloc,
-            sig,
-            laws,
+            lists: Lists::new(sig, laws),
             query,
             ask,
             horizon,
@@ -245,10 +244,8 @@ impl<'a> Session<'a> {
         ensures fresh { IfOk result (λ solver. derived_count solver.kernel.entries ≡ 0) }
     {
         let key = key_of(&self.ask);
-        let form = form_at(
+        let form = self.lists.form(
             self.alloc,
-            self.sig,
-            self.laws,
             &self.query,
             key,
             self.horizon,
@@ -278,6 +275,24 @@ impl<'a> Session<'a> {
 
     // The heading of the section of a part, with all that its search needs.
     fn open(&mut self, part: Part) -> Result<Event, Fault>
+        requires { self.old.horizon ≤ last_at self.old.query self.old.ask.after }
+        ensures gives { (phase : PhaseSeen) → opens_at phase ≡ Some part → IfOk result (Gives (record self.old { phase = phase }) self.new) }
+        ensures fault { (phase : PhaseSeen) → opens_at phase ≡ Some part → IfErr result (IsRightFault (record self.old { phase = phase })) }
+    {
+        search_laws();
+        self.prepare()?;
+        self.open_prepared(part)
+    }
+
+    // Makes what the clause lists of longer horizons are put together from.
+    fn prepare(&mut self) -> Result<(), OutOfMemory>
+        ensures { self.new ≡ self.old }
+    {
+        self.lists.prepare(self.alloc, self.horizon)
+    }
+
+    // The same where all is prepared.
+    fn open_prepared(&mut self, part: Part) -> Result<Event, Fault>
         requires { self.old.horizon ≤ last_at self.old.query self.old.ask.after }
         ensures gives { (phase : PhaseSeen) → opens_at phase ≡ Some part → IfOk result (Gives (record self.old { phase = phase }) self.new) }
         ensures fault { (phase : PhaseSeen) → opens_at phase ≡ Some part → IfErr result (IsRightFault (record self.old { phase = phase })) }

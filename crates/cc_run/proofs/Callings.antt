@@ -20,7 +20,7 @@ use Rattle.cc_run.specs.declared.status.Stop.TheVariants as stops
 use Rattle.cc_run.specs.Names.{AreAsked, IsAnswer, MayEndWith}
 use Rattle.cc_run.specs.Promises.{IsEndStatus}
 use Rattle.cc_run.specs.Stops.{Asks, Called, Moment, TellsStop, cut_status, outcome, stop_status}
-use Rattle.cc_words.specs.Requests.{Request, ToCheck, ToList, ToMake}
+use Rattle.cc_words.specs.Requests.{Request, ToCheck, ToExplain, ToList, ToMake}
 use Rattle.cc_words.specs.Words.{Text}
 
 -- ---- names, one after another
@@ -171,6 +171,7 @@ may_be_refused None = refl
 may_be_refused (Some (ToList listing)) = tt
 may_be_refused (Some (ToCheck checking)) = tt
 may_be_refused (Some (ToMake size budget)) = tt
+may_be_refused (Some (ToExplain explaining)) = tt
 
 -- some names are asked for, whatever is asked
 pub some_asked : HasPlaces → (files : Files) (request : Option Request) → (all : List Text) × AreAsked files request all
@@ -182,6 +183,9 @@ some_asked has files (Some (ToCheck checking)) =
     let there = has files checking.file in
     (_, (_, (there.0, there.1, refl), refl))
 some_asked has files (Some (ToMake size budget)) = ([], refl)
+some_asked has files (Some (ToExplain explaining)) =
+    let there = has files explaining.file in
+    (_, (there.0, there.1, refl))
 
 pub some_asked_of : HasPlaces → (o : Option Contents) (request : Option Request) → (all : List Text) × IfSome o (λ c. AreAsked c.files request all)
 some_asked_of has None request = ([], tt)

@@ -1,5 +1,7 @@
 pub mod Callings
+pub mod CauseLines
 pub mod EventTexts
+pub mod Explained
 pub mod GivenSteps
 pub mod LineSteps
 pub mod Judged

@@ -24,6 +24,7 @@ use Rattle.cc_run.specs.declared.status.Stop.{Stop}
 use Rattle.cc_run.specs.declared.status.Stop.TheVariants as stops
 use Rattle.cc_run.specs.Answers.{Answered, Answers, Counts, Ended, GaveSoFar, Gives, IsFresh, RefusesWords, RoseTwice, counts, left_in, promise_of}
 use Rattle.cc_run.specs.Modes.Checking.{Checks, MayEndChecking, NamesLog, verdict_status}
+use Rattle.cc_run.specs.Modes.Explaining.{MayEndExplaining}
 use Rattle.cc_run.specs.Modes.Listing.{Lists}
 use Rattle.cc_run.specs.Modes.Making.{Makes, MayEndMaking}
 use Rattle.cc_run.specs.Names.{AreAsked, BeginsAsked, IsAnswer, MayEndWith, OpensAsked, log_asked}
@@ -34,7 +35,7 @@ use Rattle.cc_run.specs.Stops.{Asks, Begins, Called, IsCalm, Leaves, Moment, Pri
 use Rattle.cc_run.specs.Tasks.{IsTask, Task, made_files, made_named, named_by, request_of}
 use Rattle.cc_run.specs.Wholes.{AreFronts, Given, Left, Whole, nothing, only_err, only_out}
 use Rattle.cc_defs.specs.Runs.{Claim, Conditions, Failure, Histories, Horizon, IsFairRun, IsTrueOf, MayEnd, MayEndWithin, Run, first_horizon, horizon_at, last_horizon, optional, rows_of}
-use Rattle.cc_words.specs.Requests.{Checking, Listing, Request, ToCheck, ToList, ToMake}
+use Rattle.cc_words.specs.Requests.{Checking, Listing, Request, ToCheck, ToExplain, ToList, ToMake}
 use Rattle.cc_words.specs.Views.{plain_text}
 use Rattle.cc_words.specs.Words.{Text}
 use Rattle.cc_run.proofs.Callings.{asks_behind, asks_nothing, called_begins, called_none, called_on, first_none, may_be_refused, some_asked_of, stop_answers_nothing, told_answers_nothing}
@@ -90,7 +91,7 @@ told_given words given (Some c) new was begun r told how = λ fresh none.
     subst (λ (n : Option Contents). IsSomeAnd n (λ after. Leaves words c after begun r)) (sym told) (comes_over words c c given begun r fresh refl (how none))
 
 -- what is known of a moment holds of all that follows from it
-known : (o : Option Contents) (P Q : Contents → Type 0) → ((c : Contents) → P c → Q c) → IfSome o P → IfSome o Q
+pub known : (o : Option Contents) (P Q : Contents → Type 0) → ((c : Contents) → P c → Q c) → IfSome o P → IfSome o Q
 known None P Q f h = tt
 known (Some c) P Q f h = f c h
 
@@ -635,11 +636,22 @@ may_end_making statuses.ReadFault is = is
 may_end_making statuses.WriteFault is = is
 may_end_making statuses.OutOfMemory is = is
 
+may_end_explaining : (status : Status) → MayEndExplaining status → IsEndStatus status
+may_end_explaining statuses.Right is = is
+may_end_explaining statuses.Not is = is
+may_end_explaining statuses.Refused is = is
+may_end_explaining statuses.Spent is = absurd is
+may_end_explaining statuses.Asked is = absurd is
+may_end_explaining statuses.ReadFault is = is
+may_end_explaining statuses.WriteFault is = is
+may_end_explaining statuses.OutOfMemory is = is
+
 pub ends_as_it_may : (request : Option Request) (status : Status) → MayEndWith request status → IsEndStatus status
 ends_as_it_may None status is = subst IsEndStatus (sym is) tt
 ends_as_it_may (Some (ToList listing)) status is = is
 ends_as_it_may (Some (ToCheck checking)) status is = may_end_checking status is
 ends_as_it_may (Some (ToMake size budget)) status is = may_end_making status is
+ends_as_it_may (Some (ToExplain explaining)) status is = may_end_explaining status is
 
 answers_ended : (files : Files) (words : List Text) (status : Status) (c : Counts) (l : Left) → IsEndStatus status → Ended files words status l → Answers files words status c l
 answers_ended files words statuses.Right c l ends ended = ended

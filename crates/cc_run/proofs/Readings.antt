@@ -15,17 +15,18 @@ use Rattle.cc_describe.specs.Places.{Files, Place}
 use Rattle.cc_ports.specs.Calls.{Call, names_begun, names_opened, with_calls}
 use Rattle.cc_ports.specs.Contents.{Contents, Rose, with_rest}
 use Rattle.cc_run.specs.Asking.{AreNamed, IsRefusedNamed}
-use Rattle.cc_run.specs.Requested.{IsFileOf, named_of, opens_behind, source_of, OpensDescription, Reads}
+use Rattle.cc_run.specs.Requested.{AsksQuery, IsFileOf, named_of, opens_behind, source_of, OpensDescription, Reads}
 use Rattle.cc_run.specs.Answers.{promise_of}
 use Rattle.cc_run.specs.Names.{names_log}
 use Rattle.cc_run.specs.Stops.{Begins, IsCalm, Moment, Prints}
 use Rattle.cc_run.specs.declared.status.Status.{Status}
 use Rattle.cc_run.specs.declared.status.Stop.{Stop}
-use Rattle.cc_run.specs.Tasks.{AreRead, IsTask, Named, RefusesNamed, Task, asked_refusal, description_in, made_files, made_named, query_named, request_of}
+use Rattle.cc_run.specs.Tasks.{AreRead, IsTask, Named, RefusesDescription, RefusesNamed, Task, asked_refusal, description_in, made_files, made_named, query_named, request_of}
 use Rattle.cc_words.specs.declared.asked.Asked.{Asked}
 use Rattle.cc_words.specs.declared.asked.CheckAsked.{CheckAsked}
+use Rattle.cc_words.specs.declared.asked.ExplainAsked.{ExplainAsked}
 use Rattle.cc_words.specs.declared.asked.ListAsked.{ListAsked}
-use Rattle.cc_words.specs.Requests.{Checking, Listing, Request, ToCheck, ToList, ToMake}
+use Rattle.cc_words.specs.Requests.{Checking, Explaining, Listing, Request, ToCheck, ToExplain, ToList, ToMake}
 use Rattle.cc_words.specs.Views.{plain_request, plain_text}
 use Rattle.cc_words.specs.Words.{Text}
 use Rattle.cc_run.proofs.Callings.{called_none, called_reading, first_all, first_longer}
@@ -49,6 +50,9 @@ checking_by check = record {
   after = plain_text check.after;
   log = check.log.now;
 }
+
+abbrev pub explaining_by : ExplainAsked → Explaining
+explaining_by explain = record { file = explain.file.now; key = explain.key.now }
 
 -- ---- the description of places
 
@@ -126,6 +130,10 @@ pub task_as : (o : Option Contents) (a b : Request) (task : Task) → a ≡ b �
     IfSome o (λ before. IsTask (source_of a before.files) (named_of a) task)
 task_as o a b task same is = subst (λ (r : Request). IfSome o (λ before. IsTask (source_of r before.files) (named_of r) task)) (sym same) is
 
+pub describes_as : (o : Option Contents) (a b : Request) (described : Described) → a ≡ b →
+    IfSome o (λ before. Describes (source_of b before.files) (named_of b).file described) → IfSome o (λ before. Describes (source_of a before.files) (named_of a).file described)
+describes_as o a b described same is = subst (λ (r : Request). IfSome o (λ before. Describes (source_of r before.files) (named_of r).file described)) (sym same) is
+
 pub prints_request : (words : List Text) (a b : Request) (x z : Moment) (r : Result Status Stop) → a ≡ b → Prints words (names_log (Some a)) (opens_behind a) x z r →
     Prints words (names_log (Some b)) (opens_behind b) x z r
 prints_request words a b x z r same prints = subst (λ (request : Request). Prints words (names_log (Some request)) (opens_behind request) x z r) same prints
@@ -145,29 +153,39 @@ refused_as d queries request label after {refusal = refusal} query_is after_is s
 
 -- ---- what is refused
 
--- where what is named is refused, the request is refused so
-pub refused_so : (files : Files) (request : Request) (refusal : Refusal) (file : Text) → RefusesNamed (source_of request files) (named_of request) refusal file →
+-- where a query or a key that is named is refused, the request is refused so
+refused_so : (files : Files) (request : Request) (refusal : Refusal) (file : Text) → AsksQuery request → RefusesNamed (source_of request files) (named_of request) refusal file →
     RefusesRequest files (Some request) refusal file
-refused_so files (ToList listing) refusal file refused = refused
-refused_so files (ToCheck checking) refusal file refused = inl refused
-refused_so files (ToMake size budget) refusal file refused = refused
+refused_so files (ToList listing) refusal file asks refused = refused
+refused_so files (ToCheck checking) refusal file asks refused = inl refused
+refused_so files (ToMake size budget) refusal file asks refused = refused
+refused_so files (ToExplain explaining) refusal file asks refused = absurd asks
 
-pub stopped_refuses : (files : Files) (by : Named) (refusal : Refusal) (file : Text) → HasStopped files by.file (describe_stops.Refused refusal file) →
-    RefusesNamed files by refusal file
+-- and so it is where the description is refused
+unread_so : (files : Files) (request : Request) (refusal : Refusal) (file : Text) → RefusesDescription (source_of request files) (named_of request) refusal file →
+    RefusesRequest files (Some request) refusal file
+unread_so files (ToList listing) refusal file refused = inl refused
+unread_so files (ToCheck checking) refusal file refused = inl (inl refused)
+unread_so files (ToMake size budget) refusal file refused = inl refused
+unread_so files (ToExplain explaining) refusal file refused = inl refused
+
+stopped_refuses : (files : Files) (by : Named) (refusal : Refusal) (file : Text) → HasStopped files by.file (describe_stops.Refused refusal file) →
+    RefusesDescription files by refusal file
 stopped_refuses files by refusal file stopped =
-    inl (record { places = stopped.0; all = stopped.1; refused = stopped.2; there = stopped.4; name = stopped.3 })
+    record { places = stopped.0; all = stopped.1; refused = stopped.2; there = stopped.4; name = stopped.3 }
 
-asked_refuses : (words : List Text) (request : Request) (files : Files) (refusal : Refusal) (file : Text) → request_of words ≡ Some request →
-    RefusesNamed (source_of request files) (named_of request) refusal file → RefusesRequest files (request_of words) refusal file
-asked_refuses words request files refusal file asked refused =
-    subst (λ (o : Option Request). RefusesRequest files o refusal file) (sym asked) (refused_so files request refusal file refused)
+-- what is refused of a request, by the words that ask for it
+pub asked_refuses : (words : List Text) (request : Request) (files : Files) (refusal : Refusal) (file : Text) → request_of words ≡ Some request →
+    RefusesRequest files (Some request) refusal file → RefusesRequest files (request_of words) refusal file
+asked_refuses words request files refusal file asked refused = subst (λ (o : Option Request). RefusesRequest files o refusal file) (sym asked) refused
 
 pub refuses_description : (o : Option Contents) (words : List Text) (request : Request) (refusal : Refusal) (file : Text) → request_of words ≡ Some request →
     IfSome o (λ before. HasStopped (source_of request before.files) (named_of request).file (describe_stops.Refused refusal file)) →
     IfSome o (λ before. RefusesRequest before.files (request_of words) refusal file)
 refuses_description o words request refusal file asked =
     known o (λ before. HasStopped (source_of request before.files) (named_of request).file (describe_stops.Refused refusal file)) (λ before. RefusesRequest before.files (request_of words) refusal file)
-    (λ before stopped. asked_refuses words request before.files refusal file asked (stopped_refuses (source_of request before.files) (named_of request) refusal file stopped))
+    (λ before stopped. asked_refuses words request before.files refusal file asked
+    (unread_so before.files request refusal file (stopped_refuses (source_of request before.files) (named_of request) refusal file stopped)))
 
 pub named_refused : (files : Files) (by : Named) (places : List Place) (described : Described) (refusal : Refusal) (file : Text) → IsDescribed places described →
     AreRead files by.file places → file ≡ file_named described.files refusal →
@@ -190,13 +208,13 @@ named_refused files by places described refusal file said read name (inr (q, nam
 }))
 
 pub refuses_named : (o : Option Contents) (words : List Text) (request : Request) (described : Described) (of : IsRead o (source_of request) (named_of request).file described) (refusal : Refusal)
-    (file : Text) → request_of words ≡ Some request → file ≡ file_named described.files refusal →
+    (file : Text) → request_of words ≡ Some request → AsksQuery request → file ≡ file_named described.files refusal →
     IsRefusedNamed (description_in of.places) (map plain_query described.queries) (named_of request).query (named_of request).after refusal →
     IfSome o (λ before. RefusesRequest before.files (request_of words) refusal file)
-refuses_named o words request described of refusal file asked name refused =
+refuses_named o words request described of refusal file asked asks name refused =
     known o (λ before. AreRead (source_of request before.files) (named_of request).file of.places) (λ before. RefusesRequest before.files (request_of words) refusal file)
-    (λ before read. asked_refuses words request before.files refusal file asked
-    (named_refused (source_of request before.files) (named_of request) of.places described refusal file of.said read name refused)) of.read
+    (λ before read. asked_refuses words request before.files refusal file asked (refused_so before.files request refusal file asks
+    (named_refused (source_of request before.files) (named_of request) of.places described refusal file of.said read name refused))) of.read
 
 -- ---- what is opened
 
@@ -209,6 +227,7 @@ opens_all : (files : Files) (request : Request) (described : Described) (opened 
 opens_all files (ToList listing) described opened are = subst (λ (names : List Text). AreToOpen files listing.file names) (sym (append-nil opened)) are
 opens_all files (ToCheck checking) described opened are = (opened, are, refl)
 opens_all files (ToMake size budget) described opened are = append-nil opened ∙ are
+opens_all files (ToExplain explaining) described opened are = subst (λ (names : List Text). AreToOpen files explaining.file names) (sym (append-nil opened)) are
 
 pub opened_all : (o : Option Contents) (request : Request) (described : Described) (opened : List Text) → IfSome o (λ before. OpensDescription request before.files (Ok described) opened) →
     OpenedAll request o opened
@@ -224,6 +243,7 @@ opens_refused : (files : Files) (request : Request) (refusal : Refusal) (file : 
 opens_refused files (ToList listing) refusal file opened are = subst (λ (names : List Text). AreToOpen files listing.file names) (sym (append-nil opened)) are
 opens_refused files (ToCheck checking) refusal file opened are = (opened, are, refl)
 opens_refused files (ToMake size budget) refusal file opened are = append-nil opened ∙ are
+opens_refused files (ToExplain explaining) refusal file opened are = subst (λ (names : List Text). AreToOpen files explaining.file names) (sym (append-nil opened)) are
 
 pub opened_refused : (o : Option Contents) (request : Request) (refusal : Refusal) (file : Text) (opened : List Text) →
     IfSome o (λ before. OpensDescription request before.files (stopped (describe_stops.Refused refusal file)) opened) → OpenedAll request o opened
@@ -250,6 +270,7 @@ first_in files (ToCheck checking) stop names are =
     let there = first_files files checking.file stop names are in
     (there.0 ++ checking.log ∷ [], (there.0, there.1, refl), first_longer names there.0 (checking.log ∷ []) there.2)
 first_in files (ToMake size budget) stop names are = (names, are, first_all names)
+first_in files (ToExplain explaining) stop names are = first_files files explaining.file stop names are
 
 pub first_of : (o : Option Contents) (request : Request) (stop : DescribeStop) (names : List Text) → IfSome o (λ c. OpensDescription request c.files (stopped stop) names) →
     AreFirstOf o request names
@@ -269,6 +290,7 @@ opens_file None request file r names is opens = tt
 opens_file (Some c) (ToList listing) file r names is opens = subst (λ (f : Text). OpensFor c.files f r names) is opens
 opens_file (Some c) (ToCheck checking) file r names is opens = subst (λ (f : Text). OpensFor c.files f r names) is opens
 opens_file (Some c) (ToMake size budget) file r names is opens = absurd is
+opens_file (Some c) (ToExplain explaining) file r names is opens = subst (λ (f : Text). OpensFor c.files f r names) is opens
 
 describes_file : (o : Option Contents) (request : Request) (file : Text) (r : Outcome) → IsFileOf request file → IfSome o (λ c. IfOk r (Describes c.files file)) →
     IfSome o (λ c. IfOk r (Describes (source_of request c.files) (named_of request).file))
@@ -276,6 +298,7 @@ describes_file None request file r is describes = tt
 describes_file (Some c) (ToList listing) file r is describes = subst (λ (f : Text). IfOk r (Describes c.files f)) is describes
 describes_file (Some c) (ToCheck checking) file r is describes = subst (λ (f : Text). IfOk r (Describes c.files f)) is describes
 describes_file (Some c) (ToMake size budget) file r is describes = absurd is
+describes_file (Some c) (ToExplain explaining) file r is describes = subst (λ (f : Text). IfOk r (Describes c.files f)) is describes
 
 stopped_file : (o : Option Contents) (request : Request) (file : Text) (r : Outcome) → IsFileOf request file → IfSome o (λ c. IfErr r (HasStopped c.files file)) →
     IfSome o (λ c. IfErr r (HasStopped (source_of request c.files) (named_of request).file))
@@ -283,6 +306,7 @@ stopped_file None request file r is describes = tt
 stopped_file (Some c) (ToList listing) file r is describes = subst (λ (f : Text). IfErr r (HasStopped c.files f)) is describes
 stopped_file (Some c) (ToCheck checking) file r is describes = subst (λ (f : Text). IfErr r (HasStopped c.files f)) is describes
 stopped_file (Some c) (ToMake size budget) file r is describes = absurd is
+stopped_file (Some c) (ToExplain explaining) file r is describes = subst (λ (f : Text). IfErr r (HasStopped c.files f)) is describes
 
 pub reads_as : (request : Request) (a b : Outcome) (x y : Moment) → a ≡ b → Reads request a x y → Reads request b x y
 reads_as request a b x y same reads = subst (λ (r : Outcome). Reads request r x y) same reads

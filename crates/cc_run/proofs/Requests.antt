@@ -89,6 +89,10 @@ valued_within modes.Make given request e =
     let size = from_provided (number_up_to 100 text.0) _ request text.2 in
     let budget = from_provided (budget_of given) _ request size.2 in
     subst IsWithin (some_is _ request budget.2) ((number_within 100 size.0 text.0 size.1).0, budget_within given budget.0 budget.1)
+valued_within modes.Why given request e =
+    let file = from_provided given.file _ request e in
+    let key = from_provided given.key _ request file.2 in
+    subst IsWithin (some_is _ request key.2) tt
 
 asked_within : (mode : Mode) (given : Given) (request : Request) → asked_in mode given ≡ Some request → IsWithin request
 asked_within mode given request e = valued_within mode given request (from_suited (suits mode given) (valued mode given) request e)

@@ -6,13 +6,14 @@ use Rattle.cc_ports.specs.Contents.{Contents, IsPrefix, Rose}
 use Rattle.cc_run.specs.declared.status.Status.{Status}
 use Rattle.cc_run.specs.declared.status.Status.TheVariants as statuses
 use Rattle.cc_run.specs.Modes.Checking.{checking_promise}
+use Rattle.cc_run.specs.Modes.Explaining.{explaining_promise}
 use Rattle.cc_run.specs.Modes.Listing.{listing_promise}
 use Rattle.cc_run.specs.Modes.Making.{making_promise}
 use Rattle.cc_run.specs.Promises.{Promise}
 use Rattle.cc_run.specs.Refusing.{IsRefusedWith, memory_line, read_fault_line, write_fault_line}
 use Rattle.cc_run.specs.Tasks.{refusal_without_place, request_of}
 use Rattle.cc_run.specs.Wholes.{IsFrontOf, Left, Whole, left_by, nothing}
-use Rattle.cc_words.specs.Requests.{Request, ToList, ToCheck, ToMake}
+use Rattle.cc_words.specs.Requests.{Request, ToList, ToCheck, ToMake, ToExplain}
 use Rattle.cc_words.specs.Words.{Text}
 
 -- ---- what is promised, by what the words ask for
@@ -21,6 +22,7 @@ abbrev pub promise_of : Request → Promise
 promise_of (ToList listing) = listing_promise listing
 promise_of (ToCheck checking) = checking_promise checking
 promise_of (ToMake size budget) = making_promise size budget
+promise_of (ToExplain explaining) = explaining_promise explaining
 
 -- words that ask for nothing are refused
 abbrev pub RefusesWords : Refusal → Text → Type 0

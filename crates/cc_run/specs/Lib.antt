@@ -1,6 +1,7 @@
 pub mod Answers
 pub mod Asking
 pub mod Codes
+pub mod Explained
 pub mod Laws
 pub mod Modes
 pub mod Names

@@ -7,8 +7,8 @@ use Rattle.cc_describe.specs.Describing.{Describes, HasStopped, OpensFor}
 use Rattle.cc_describe.specs.Places.{Files}
 use Rattle.cc_ports.specs.Contents.{Rose, with_rest}
 use Rattle.cc_run.specs.Stops.{Called, IsCalm, Moment}
-use Rattle.cc_run.specs.Tasks.{Named, made_files, made_named, named_by, named_in}
-use Rattle.cc_words.specs.Requests.{Request, ToList, ToCheck, ToMake}
+use Rattle.cc_run.specs.Tasks.{Named, made_files, made_named, named_by, named_in, named_to}
+use Rattle.cc_words.specs.Requests.{Request, ToList, ToCheck, ToMake, ToExplain}
 use Rattle.cc_words.specs.Words.{Text}
 
 -- the description, the query and the key that it names
@@ -16,36 +16,49 @@ abbrev pub named_of : Request → Named
 named_of (ToList listing) = named_by listing
 named_of (ToCheck checking) = named_in checking
 named_of (ToMake size budget) = made_named
+named_of (ToExplain explaining) = named_to explaining
 
 -- the files that the description is read from
 abbrev pub source_of : Request → Files → Files
 source_of (ToList listing) files = files
 source_of (ToCheck checking) files = files
 source_of (ToMake size budget) files = made_files size
+source_of (ToExplain explaining) files = files
 
 -- the file of the description, where one is named
 abbrev pub IsFileOf : Request → Text → Type 0
 IsFileOf (ToList listing) file = file ≡ listing.file
 IsFileOf (ToCheck checking) file = file ≡ checking.file
 IsFileOf (ToMake size budget) file = ⊥
+IsFileOf (ToExplain explaining) file = file ≡ explaining.file
+
+-- it asks a query of the description
+abbrev pub AsksQuery : Request → Type 0
+AsksQuery (ToList listing) = Unit {0}
+AsksQuery (ToCheck checking) = Unit {0}
+AsksQuery (ToMake size budget) = Unit {0}
+AsksQuery (ToExplain explaining) = ⊥
 
 -- its numbers are within their bounds
 abbrev pub IsWithin : Request → Type 0
 IsWithin (ToList listing) = IfSome listing.count (λ count. 1 ≤ count) × (listing.budget ≤ 2000000)
 IsWithin (ToCheck checking) = Unit {0}
 IsWithin (ToMake size budget) = (1 ≤ size) × (budget ≤ 2000000)
+IsWithin (ToExplain explaining) = Unit {0}
 
 -- the files that it opens behind those of the description
 abbrev pub opens_behind : Request → List Text
 opens_behind (ToList listing) = []
 opens_behind (ToCheck checking) = checking.log ∷ []
 opens_behind (ToMake size budget) = []
+opens_behind (ToExplain explaining) = []
 
 -- these files are opened to read the description
 abbrev pub OpensDescription : Request → Files → Result Described DescribeStop → List Text → Type 0
 OpensDescription (ToList listing) files described names = OpensFor files listing.file described names
 OpensDescription (ToCheck checking) files described names = OpensFor files checking.file described names
 OpensDescription (ToMake size budget) files described names = names ≡ []
+OpensDescription (ToExplain explaining) files described names = OpensFor files explaining.file described names
 
 -- the description of a request was read, or it was not
 pub record Reads (request : Request) (described : Result Described DescribeStop) (old new : Moment) : Type 0 where

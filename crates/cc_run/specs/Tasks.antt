@@ -19,7 +19,7 @@ use Rattle.cc_make.specs.Locks.{made_text}
 use Rattle.cc_make.specs.Single.{each_is}
 use Rattle.cc_print.specs.Keys.{IsKeyText}
 use Rattle.cc_words.specs.Readings.{reading}
-use Rattle.cc_words.specs.Requests.{Checking, Listing, Request, asked_of}
+use Rattle.cc_words.specs.Requests.{Checking, Explaining, Listing, Request, asked_of}
 use Rattle.cc_words.specs.Words.{Text}
 
 -- ---- what is named
@@ -39,6 +39,10 @@ named_by listing = record { file = listing.file; query = listing.query; after = 
 
 abbrev pub named_in : Checking → Named
 named_in checking = record { file = checking.file; query = checking.query; after = checking.after }
+
+-- a description alone
+abbrev pub named_to : Explaining → Named
+named_to explaining = record { file = explaining.file; query = None; after = None }
 
 -- A made description of this size is read from files that are all it; it asks one query.
 abbrev pub made_files : ℕ → Files

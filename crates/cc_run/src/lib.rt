@@ -2,9 +2,11 @@
 #![tactic(auto)]
 
 mod asking;
+mod causes;
 pub mod laws;
 mod modes;
 mod refusing;
+mod rows;
 mod searching;
 mod status;
 mod summing;

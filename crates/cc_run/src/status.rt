@@ -8,9 +8,9 @@ use std::alloc::{AllocError, AllocFailed};
 /// How a run ends.
 #[derive(Clone, Copy, Debug, PartialEq, Eq)]
 pub enum Status {
-    /// The listing is complete, the claim holds, or a checker accepts the log.
+    /// The listing is complete, the claim holds, a checker accepts the log, or the history is explained.
     Right,
-    /// No horizon of the range has a history, the claim fails, or a checker refuses the log.
+    /// No horizon of the range has a history, the claim fails, a checker refuses the log, or the row is not a history.
     Not,
     /// The words, the description, the query or the key were refused, the log is too long, or a limit was passed.
     Refused,

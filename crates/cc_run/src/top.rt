@@ -11,7 +11,7 @@ ghost use Rattle.cc_run.specs.Answers.{IsFresh, Answered, counts};
 ghost use Rattle.cc_run.specs.Asking.{AreOf, AreSearchable};
 ghost use Rattle.cc_run.specs.Names.{BeginsAsked, MayEndWith, OpensAsked, names_log};
 ghost use Rattle.cc_run.specs.Promises.{IsEndStatus};
-ghost use Rattle.cc_run.specs.Requested.{IsFileOf, IsWithin, Reads, named_of, opens_behind, source_of};
+ghost use Rattle.cc_run.specs.Requested.{AsksQuery, IsFileOf, IsWithin, Reads, named_of, opens_behind, source_of};
 ghost use Rattle.cc_run.specs.Stops.{Moment, Prints, PrintsAsked, moment};
 ghost use Rattle.cc_run.specs.Tasks.{IsTask, request_of};
 ghost use Rattle.cc_sorts.specs.Tables.{IsSignatureFor};
@@ -20,7 +20,7 @@ ghost use Rattle.cc_words.specs.Views.{plain_request, plain_text};
 ghost use Rattle.cc_words.specs.Words.{Text};
 
 use crate::asking::{Prepared, prepare};
-use crate::modes::{check, list, make};
+use crate::modes::{check, list, make, why};
 use crate::refusing::{file_named, refuse, tell_stop};
 use crate::status::{Status, Stop};
 use bumpalo::Bump;
@@ -38,7 +38,8 @@ const MADE: &str = "made";
 
 /// Reads the words, and does the one thing that they ask for: with a file that they name and a query of its description, it lists the
 /// histories of the query at the first of its horizons that has any, or judges the claim of the query, or judges a log of it, which
-/// the words name too; or it makes a description of a size, searches for all its histories, and sums up the search.
+/// the words name too; or it makes a description of a size, searches for all its histories, and sums up the search; or it tells why
+/// each value of a history holds, whose key the words name.
 ///
 /// `words` are the program's words without its name. Each line of an output is given by one `give_all`. The lines of the log
 /// are given to Log whether or not the words name a file for it. After a fault of the desk or want of memory one fixed line is
@@ -48,7 +49,7 @@ pub fn run<D: Desk>(alloc: Global, words: &[String], desk: &mut D) -> Status
     // log was begun, and the status are the answer to the words: exactly the first refusal; or the first histories of the
     // query, in ascending order, each once, marked complete only where they are all, and a horizon said to be empty only where
     // it has none, with the log of the search; or, where a horizon passes a limit, that refusal behind what was told before; or
-    // what a checker says of the log that they name; or, after a fault, fronts of these.
+    // what a checker says of the log that they name; or why the values of a history hold; or, after a fault, fronts of these.
     ensures answer { IfSome (D.told desk.old) (λ before. IsFresh before → D.begun desk.old ≡ false →
         IsSomeAnd (D.told desk.new) (λ after. Answered before after (D.begun desk.new) (map string_bytes words.now) result
         (counts (D.read_faults desk.old) (D.read_faults desk.new) (D.write_faults desk.old) (D.write_faults desk.new)))) }
@@ -93,6 +94,7 @@ fn answer_asked<D: Desk>(alloc: Global, desk: &mut D, asked: &Asked<'_>) -> Resu
         Asked::List(list) => answer_file(alloc, desk, asked, list.file),
         Asked::Check(check) => answer_file(alloc, desk, asked, check.file),
         Asked::Make { size, .. } => answer_made(alloc, desk, asked, *size),
+        Asked::Explain(explain) => answer_file(alloc, desk, asked, explain.file),
     }
 }
 
@@ -145,13 +147,36 @@ fn answer_described<D: Desk>(
 {
     match described {
         Ok(described) => {
-            let answer = answer_query(alloc, desk, asked, &described);
+            let answer = answer_read(alloc, desk, asked, &described);
             drop(described);
             answer
         }
         Err(DescribeStop::Refused { refusal, file }) => refuse(alloc, desk, &refusal, file.text()),
         Err(DescribeStop::ReadFault) => Err(Stop::ReadFault),
         Err(DescribeStop::OutOfMemory) => Err(Stop::OutOfMemory),
+    }
+}
+
+/// The answer once there is a description.
+fn answer_read<D: Desk>(
+    alloc: Global,
+    desk: &mut D,
+    asked: &Asked<'_>,
+    described: &Described,
+) -> Result<Status, Stop>
+    requires within { IsWithin (plain_request asked.now) }
+    requires says { SaysAll described.now }
+    requires forms { HasForms described.now }
+    requires formulas { AsksFormulas described.now }
+    ensures { (words : List Text) (request : Request) → request_of words ≡ Some request → plain_request asked.now ≡ request →
+        IfSome (D.told desk.old) (λ before. Describes (source_of request before.files) (named_of request).file described.now) →
+        Prints words (names_log (Some request)) (opens_behind request) (moment D.told D.begun D.read_faults D.write_faults D.calls desk.old) (moment D.told D.begun D.read_faults D.write_faults D.calls desk.new) result }
+{
+    match asked {
+        Asked::Explain(explain) => why::explain(alloc, desk, described, explain.key),
+        Asked::List(_) => answer_query(alloc, desk, asked, described),
+        Asked::Check(_) => answer_query(alloc, desk, asked, described),
+        Asked::Make { .. } => answer_query(alloc, desk, asked, described),
     }
 }
 
@@ -163,6 +188,7 @@ fn answer_query<D: Desk>(
     described: &Described,
 ) -> Result<Status, Stop>
     requires within { IsWithin (plain_request asked.now) }
+    requires query { AsksQuery (plain_request asked.now) }
     requires says { SaysAll described.now }
     requires forms { HasForms described.now }
     requires formulas { AsksFormulas described.now }
@@ -190,6 +216,7 @@ fn query_of<'a>(asked: &Asked<'a>) -> Option<&'a str>
         Asked::List(list) => list.query,
         Asked::Check(check) => check.query,
         Asked::Make { .. } => None,
+        Asked::Explain(_) => None,
     }
 }
 
@@ -201,10 +228,11 @@ fn key_of<'a>(asked: &Asked<'a>) -> Option<&'a str>
         Asked::List(list) => list.after,
         Asked::Check(check) => check.after,
         Asked::Make { .. } => None,
+        Asked::Explain(_) => None,
     }
 }
 
-/// The answer of the mode.
+/// The answer of a mode that asks a query.
 fn answer_prepared<D: Desk>(
     alloc: Global,
     desk: &mut D,
@@ -213,6 +241,7 @@ fn answer_prepared<D: Desk>(
     prepared: Prepared<'_>,
 ) -> Result<Status, Stop>
     requires within { IsWithin (plain_request asked.now) }
+    requires query { AsksQuery (plain_request asked.now) }
     requires signature { IsSignatureFor described.now.table described.now.sig }
     requires searchable { AreSearchable described.now.sig prepared.laws (plain_ground_query prepared.query) prepared.key }
     requires of { (d : Description) × (q : Query) × IsDescriptionOf described.now d × AreOf described.now.sig prepared.laws (plain_ground_query prepared.query) d q }
@@ -227,6 +256,7 @@ fn answer_prepared<D: Desk>(
         Asked::Make { size, budget } => {
             make::make(alloc, desk, described, *size, *budget, prepared)
         }
+        Asked::Explain(_) => unreachable!(),
     }
 }
 

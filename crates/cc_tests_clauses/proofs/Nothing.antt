@@ -40,8 +40,11 @@ pub laws_for : (signature : Signature) (laws : List GroundLaw) → signature ≡
 laws_for signature laws is none =
     subst (λ (s : Signature). AreLawsFor s laws) (sym is) (subst (λ (l : List GroundLaw). AreLawsFor empty l) (sym none) empty_laws)
 
-pub query_at : (signature : Signature) (query : PlainGroundQuery) → query.conditions ≡ [] → query.claim ≡ None → IsQueryAt signature 0 query
-query_at signature query none nothing = record {
-  conditions = subst (λ (cs : List PlainGroundCondition). AllByRecursion (IsConditionAt signature 0) cs) (sym none) tt;
-  claim = subst (λ (c : Option PlainGroundCondition). IfSome c (IsConditionAt signature 0)) (sym nothing) tt;
+pub query_there : (signature : Signature) (horizon : ℕ) (query : PlainGroundQuery) → query.conditions ≡ [] → query.claim ≡ None → IsQueryAt signature horizon query
+query_there signature horizon query none nothing = record {
+  conditions = subst (λ (cs : List PlainGroundCondition). AllByRecursion (IsConditionAt signature horizon) cs) (sym none) tt;
+  claim = subst (λ (c : Option PlainGroundCondition). IfSome c (IsConditionAt signature horizon)) (sym nothing) tt;
 }
+
+pub query_at : (signature : Signature) (query : PlainGroundQuery) → query.conditions ≡ [] → query.claim ≡ None → IsQueryAt signature 0 query
+query_at signature query none nothing = query_there signature 0 query none nothing

@@ -11,8 +11,12 @@ mod check;
 #[cfg(test)]
 mod clauses;
 #[cfg(test)]
+mod entries;
+#[cfg(test)]
 mod kernel;
 #[cfg(test)]
 mod silent;
+#[cfg(test)]
+mod template;
 #[cfg(test)]
 mod trail;

@@ -1,6 +1,6 @@
 //! A table of words.
 use cc_defs::OutOfMemory;
-use cc_words::{Asked, CheckAsked, ListAsked, read};
+use cc_words::{Asked, CheckAsked, ExplainAsked, ListAsked, read};
 use std::alloc::Global;
 use std::test::Fail;
 
@@ -34,6 +34,10 @@ fn words_are_read(rt: HostRuntime) -> Result<(), Fail> {
         after: None,
         log: "l",
     };
+    let why = ExplainAsked {
+        file: "f.cc",
+        key: "0:0",
+    };
     for (words, wanted) in [
         (["f.cc"].as_slice(), Some(Asked::List(LIST))),
         (["--", "f.cc"].as_slice(), Some(Asked::List(LIST))),
@@ -54,10 +58,16 @@ fn words_are_read(rt: HostRuntime) -> Result<(), Fail> {
             }),
         ),
         (
+            ["--mode", "why", "--key", "0:0", "f.cc"].as_slice(),
+            Some(Asked::Explain(why)),
+        ),
+        (
             ["--mode", "list", "--mode", "list", "f.cc"].as_slice(),
             None,
         ),
         (["--mode", "check", "f.cc"].as_slice(), None),
+        (["--mode", "why", "f.cc"].as_slice(), None),
+        (["--key", "0:0", "f.cc"].as_slice(), None),
         (["--mode", "make", "--size", "101"].as_slice(), None),
         (["--count", "0", "f.cc"].as_slice(), None),
         (["--count", "-3", "f.cc"].as_slice(), None),

@@ -1,4 +1,5 @@
 mod Cases
+mod Giving
 mod Grouping
 mod HeadPlaces
 mod HeadsFit

@@ -27,6 +27,7 @@ use Rattle.cc_defs.specs.Terms as terms
 use Rattle.cc_defs.specs.TimedRules.{joined_parts, moved, timed_rules}
 use Rattle.cc_defs.specs.TimedRules as timed
 use Rattle.cc_defs.specs.Universe.{Universe, HaveOwnValues}
+use Rattle.cc_theory.specs.Making.{rules_for, stride_of}
 use Rattle.cc_theory.specs.declared.rule.Timed.{Timed}
 use Rattle.cc_theory.specs.declared.rule.TimedHead.{TimedHead}
 use Rattle.cc_theory.specs.declared.rule.TimedHead.TheVariants as timed_heads
@@ -145,3 +146,20 @@ pub record IsTheoryOf (theory : PlainTheory) (d : Description) : Type 0 where
   pub signature : IsSignatureOfDescription d theory.signature
   pub well : IsGroundedWell d
   pub rules : AllZip (IsRuleOf (stride d)) theory.rules (timed_rules d theory.horizon)
+
+-- ---- what ground laws give
+
+-- an atom of one of so many ground constants, or falsity
+abbrev pub IsHeadBelow : ℕ → GroundHead → Type 0
+IsHeadBelow count (heads.Atom constant value) = constant < count
+IsHeadBelow count heads.Falsity = Unit {0}
+
+-- the rules that laws have at a horizon are rules of it, and those of each description with these laws
+pub record GiveRules (signature : Signature) (laws : List GroundLaw) (horizon : ℕ) : Type 0 where
+  pub heads : AllByRecursion (λ law. IsHeadBelow (stride_of signature) law.head) laws
+  pub fit : AreRulesAt signature horizon (rules_for signature laws horizon)
+  pub long : (d : Description) → AreLawsOf signature laws d → length (rules_for signature laws horizon) ≡ length (timed_rules d horizon)
+  pub theory : (d : Description) → AreLawsOf signature laws d → IsTheoryOf (record { signature = signature; horizon = horizon; rules = rules_for signature laws horizon }) d
+
+abbrev pub LawsGiveRules : Type 0
+LawsGiveRules = (signature : Signature) (laws : List GroundLaw) → AreLawsFor signature laws → (horizon : ℕ) → GiveRules signature laws horizon

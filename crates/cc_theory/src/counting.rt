@@ -1,10 +1,10 @@
 //! How many rules a horizon has, counted up to one more than their limit.
-ghost use Rattle.std.specs.Prelude.{◌≡◌, ◌≤◌, ℕ, length, min};
-ghost use Rattle.cc_defs.specs.Limits.{most_steps};
+ghost use Rattle.std.specs.Prelude.{◌≡◌, ◌≤◌, ℕ, length, min, true};
+ghost use Rattle.cc_defs.specs.Limits.{most_rules, most_steps};
 ghost use Rattle.cc_theory.specs.Making.{initial_of, all_initial, rules_for, turns};
 
-use cc_arena::GroundLaw;
-use cc_defs::{Const, Kind, LawKind, Sig};
+use cc_arena::{GroundLaw, Laws};
+use cc_defs::{Const, Kind, LawKind, LimitAt, Sig};
 
 /// What counts stop at: one more than the limit of rules.
 const MANY: usize = 8_000_001;
@@ -53,4 +53,12 @@ pub(crate) fn rule_count(sig: &Sig, laws: &[GroundLaw<'_>], horizon: u32) -> usi
         count = turns_of(law.kind, horizon).saturating_add(count).min(MANY);
     }
     count
+}
+
+/// Whether a horizon has no more rules than their limit.
+pub fn are_rules_few(sig: &Sig, laws: &Laws<'_>, horizon: u32) -> bool
+    requires { horizon ≤ most_steps }
+    ensures { result ≡ true → length (rules_for sig.now laws.now horizon) ≤ most_rules }
+{
+    rule_count(sig, laws.laws(), horizon) <= LimitAt::Rules.number() as usize
 }

@@ -1,5 +1,6 @@
 //! Laws of models, each the contract of a function that does nothing, or calls the laws that it rests on.
 ghost use Rattle.cc_theory.specs.Laws.{ModelsArePaths, ModelsMeetCompletion};
+ghost use Rattle.cc_theory.specs.Theories.{LawsGiveRules};
 
 use cc_arena::laws::{heads_mean_heads, heads_there_are_ground, terms_mean_formulas};
 use cc_arena::one_formula;
@@ -23,3 +24,8 @@ pub fn models_are_paths()
     heads_mean_heads();
     heads_there_are_ground();
 }
+
+/// The rules that are made from ground laws are rules of their horizon, and those of each description with these laws.
+pub fn laws_give_rules()
+    ensures { LawsGiveRules }
+{}

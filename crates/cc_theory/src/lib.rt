@@ -9,5 +9,7 @@ mod making;
 mod rule;
 mod theory;
 
+pub use counting::are_rules_few;
+pub use making::{initial_rules, step_rules};
 pub use rule::{Timed, TimedHead, TimedRule};
 pub use theory::Theory;

@@ -5,7 +5,7 @@ ghost use Rattle.cc_defs.specs.Rules.{upto};
 ghost use Rattle.cc_theory.specs.Making as words;
 
 use crate::rule::{Timed, TimedHead, TimedRule};
-use cc_arena::GroundLaw;
+use cc_arena::{GroundLaw, Laws};
 use cc_defs::{GroundHead, Kind, LawKind, OutOfMemory, Sig};
 use std::alloc::Global;
 
@@ -133,21 +133,50 @@ fn add_step<'a>(
     Ok(())
 }
 
-/// The rules of a horizon.
+/// The rules of a horizon, with room for so many.
 pub(crate) fn all_rules<'a>(
     alloc: Global,
     sig: &Sig,
     laws: &[GroundLaw<'a>],
     horizon: u32,
+    room: usize,
 ) -> Result<Vec<TimedRule<'a>>, OutOfMemory>
     requires { horizon ≤ most_steps }
     ensures { IfOk result (λ rules. rules.items ≡ words.rules_for sig.now laws.now horizon) }
 {
-    let mut rules = Vec::new(alloc);
+    let mut rules = Vec::with_capacity(alloc, room)?;
     add_all_initial(sig, &mut rules)?;
     let stride = stride(sig);
     for step in 0..horizon + 1 {
         add_step(laws, stride, horizon, step, &mut rules)?;
     }
+    Ok(rules)
+}
+
+/// The initial rules of each horizon: for each simple fluent and each value of it in order, that at step 0 the value is a
+/// cause of itself.
+pub fn initial_rules<'a>(alloc: Global, sig: &Sig) -> Result<Vec<TimedRule<'a>>, OutOfMemory>
+    ensures { IfOk result (λ rules. rules.items ≡ words.all_initial 0 sig.now.fluents) }
+{
+    let mut rules = Vec::new(alloc);
+    add_all_initial(sig, &mut rules)?;
+    Ok(rules)
+}
+
+/// The rules of laws at a step of a horizon, in order of the laws.
+pub fn step_rules<'a>(
+    alloc: Global,
+    sig: &Sig,
+    laws: &Laws<'a>,
+    horizon: u32,
+    step: u32,
+) -> Result<Vec<TimedRule<'a>>, OutOfMemory>
+    requires step { step ≤ horizon }
+    requires horizon { horizon ≤ most_steps }
+    ensures { IfOk result (λ rules. rules.items ≡ words.rules_at_step (words.stride_of sig.now) laws.now horizon step) }
+{
+    let mut rules = Vec::new(alloc);
+    let stride = stride(sig);
+    add_step(laws.laws(), stride, horizon, step, &mut rules)?;
     Ok(rules)
 }

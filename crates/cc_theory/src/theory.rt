@@ -34,10 +34,11 @@ fn rules_within<'a>(
     ensures few { OnOk result (length (rules_for sig.now laws.now horizon) ≤ most_rules) }
     ensures refused { IfErr result (IsRefusedBy (if nat_lt most_rules (length (rules_for sig.now laws.now horizon)) then Some (refusal_past limits.Rules) else None)) }
 {
-    if rule_count(sig, laws, horizon) > LimitAt::Rules.number() as usize {
+    let count = rule_count(sig, laws, horizon);
+    if count > LimitAt::Rules.number() as usize {
         return Err(Fault::Refused(Refusal::past(LimitAt::Rules)));
     }
-    Ok(all_rules(alloc, sig, laws, horizon)?)
+    Ok(all_rules(alloc, sig, laws, horizon, count)?)
 }
 
 /// The rules of a horizon, by what they mean.

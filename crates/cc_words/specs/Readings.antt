@@ -4,7 +4,7 @@ use Rattle.clap.specs.declared.builder.action.ArgAction.TheVariants as actions
 use Rattle.clap.specs.Simple.{App, matches_of, new_rule, new_shape}
 use Rattle.clap.specs.Walk.{Row, Rule, first_of}
 use Rattle.clap.specs.Takes.{takes}
-use Rattle.cc_words.specs.Words.{Given, Name, Text, name_text, Mode, Query, Count, Budget, After, Log, Size}
+use Rattle.cc_words.specs.Words.{Given, Name, Text, name_text, Mode, Query, Count, Budget, After, Log, Key, Size}
 
 -- an option that takes one value
 abbrev pub option_rule : Text → Rule
@@ -14,7 +14,7 @@ abbrev pub file_text : Text
 file_text = codes "FILE"
 
 abbrev pub names : List Name
-names = Mode ∷ Query ∷ Count ∷ Budget ∷ After ∷ Log ∷ Size ∷ []
+names = Mode ∷ Query ∷ Count ∷ Budget ∷ After ∷ Log ∷ Key ∷ Size ∷ []
 
 -- a command with no arguments and no option for help, for words without the program's name
 abbrev pub bare_command : App
@@ -23,7 +23,7 @@ bare_command = record {
   subs = [];
 }
 
--- the seven options, and a file behind them or between
+-- the eight options, and a file behind them or between
 abbrev pub command : App
 command = record bare_command {
   top = record bare_command.top { rules = map (λ name. option_rule (name_text name)) names ++ new_rule file_text ∷ [] };
@@ -37,6 +37,7 @@ given_in rows = record {
   budget = first_of (codes "budget") rows;
   after = first_of (codes "after") rows;
   log = first_of (codes "log") rows;
+  key = first_of (codes "key") rows;
   size = first_of (codes "size") rows;
   file = first_of file_text rows;
 }

@@ -25,11 +25,17 @@ pub record Checking : Type 0 where
   pub after : Option Text
   pub log : Text
 
+-- why a row has its values
+pub record Explaining : Type 0 where
+  pub file : Text
+  pub key : Text
+
 pub data Request : Type 0 where
   ToList : Listing → Request
   ToCheck : Checking → Request
   -- a description of this size that has a history found within this budget
   ToMake : ℕ → ℕ → Request
+  ToExplain : Explaining → Request
 
 -- ---- values
 
@@ -37,7 +43,8 @@ abbrev pub mode_named : Text → Option Mode
 mode_named text =
     if same_text text (codes "list") then Some modes.List
     else (if same_text text (codes "check") then Some modes.Check
-    else (if same_text text (codes "make") then Some modes.Make else None))
+    else (if same_text text (codes "make") then Some modes.Make
+    else (if same_text text (codes "why") then Some modes.Why else None)))
 
 -- the number from 1 to `most` that one to seven decimal digits spell
 abbrev pub number_up_to : ℕ → Text → Option ℕ
@@ -57,12 +64,14 @@ abbrev pub needs : Mode → List Item
 needs modes.List = items.File ∷ []
 needs modes.Check = items.File ∷ items.Log ∷ []
 needs modes.Make = items.Size ∷ []
+needs modes.Why = items.File ∷ items.Key ∷ []
 
 -- and what it bars
 abbrev pub bars : Mode → List Item
-bars modes.List = items.Size ∷ []
-bars modes.Check = items.Count ∷ items.Budget ∷ items.Size ∷ []
-bars modes.Make = items.Query ∷ items.Count ∷ items.After ∷ items.Log ∷ items.File ∷ []
+bars modes.List = items.Key ∷ items.Size ∷ []
+bars modes.Check = items.Count ∷ items.Budget ∷ items.Key ∷ items.Size ∷ []
+bars modes.Make = items.Query ∷ items.Count ∷ items.After ∷ items.Log ∷ items.Key ∷ items.File ∷ []
+bars modes.Why = items.Query ∷ items.Count ∷ items.Budget ∷ items.After ∷ items.Log ∷ items.Size ∷ []
 
 abbrev pub has : Given → Item → Bool
 has given items.Query = is_some given.query
@@ -70,6 +79,7 @@ has given items.Count = is_some given.count
 has given items.Budget = is_some given.budget
 has given items.After = is_some given.after
 has given items.Log = is_some given.log
+has given items.Key = is_some given.key
 has given items.Size = is_some given.size
 has given items.File = is_some given.file
 
@@ -113,10 +123,14 @@ abbrev pub to_make : Given → Option Request
 to_make given =
     provided given.size (λ text. provided (number_up_to 100 text) (λ size. provided (budget_of given) (λ budget. Some (ToMake size budget))))
 
+abbrev pub to_explain : Given → Option Request
+to_explain given = provided given.file (λ file. provided given.key (λ key. Some (ToExplain (record { file = file; key = key }))))
+
 abbrev pub valued : Mode → Given → Option Request
 valued modes.List given = to_list given
 valued modes.Check given = to_check given
 valued modes.Make given = to_make given
+valued modes.Why given = to_explain given
 
 -- what is asked for in a mode, where the words suit it
 abbrev pub asked_in : Mode → Given → Option Request

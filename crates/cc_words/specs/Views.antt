@@ -4,7 +4,7 @@ use Rattle.std.specs.Borrow.{Bor}
 use Rattle.cc_words.specs.declared.asked.Asked.{Asked}
 use Rattle.cc_words.specs.declared.asked.Asked.TheVariants as asked
 use Rattle.cc_words.specs.declared.given.Given.{Given as GivenWords}
-use Rattle.cc_words.specs.Requests.{Request, ToList, ToCheck, ToMake}
+use Rattle.cc_words.specs.Requests.{Request, ToList, ToCheck, ToMake, ToExplain}
 use Rattle.cc_words.specs.Words.{Given, Text}
 
 abbrev pub plain_text : Option (Bor Text) → Option Text
@@ -18,6 +18,7 @@ plain_given given = record {
   budget = plain_text given.budget;
   after = plain_text given.after;
   log = plain_text given.log;
+  key = plain_text given.key;
   size = plain_text given.size;
   file = plain_text given.file;
 }
@@ -38,6 +39,7 @@ plain_request (asked.Check check) = ToCheck (record {
   log = check.log.now;
 })
 plain_request (asked.Make size budget) = ToMake size budget
+plain_request (asked.Explain explain) = ToExplain (record { file = explain.file.now; key = explain.key.now })
 
 abbrev pub plain_asked : Option Asked → Option Request
 plain_asked = option_map plain_request

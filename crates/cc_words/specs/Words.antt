@@ -15,6 +15,7 @@ pub data Name : Type 0 where
   Budget : Name
   After : Name
   Log : Name
+  Key : Name
   Size : Name
 
 abbrev pub name_text : Name → Text
@@ -24,6 +25,7 @@ name_text Count = codes "count"
 name_text Budget = codes "budget"
 name_text After = codes "after"
 name_text Log = codes "log"
+name_text Key = codes "key"
 name_text Size = codes "size"
 
 abbrev pub is_same : Name → Name → Bool
@@ -37,6 +39,7 @@ pub record Given : Type 0 where
   pub budget : Option Text
   pub after : Option Text
   pub log : Option Text
+  pub key : Option Text
   pub size : Option Text
   pub file : Option Text
 
@@ -81,6 +84,7 @@ given_of pairs file = record {
   budget = value_of Budget pairs;
   after = value_of After pairs;
   log = value_of Log pairs;
+  key = value_of Key pairs;
   size = value_of Size pairs;
   file = file;
 }

@@ -9,6 +9,8 @@ pub enum Asked<'a> {
     Check(CheckAsked<'a>),
     /// A description: its size is 1 to 100, and its budget 1 to 2000000.
     Make { size: u32, budget: u32 },
+    /// Why a history has its values.
+    Explain(ExplainAsked<'a>),
 }
 
 /// Histories of a query.
@@ -37,4 +39,12 @@ pub struct CheckAsked<'a> {
     pub after: Option<&'a str>,
     /// The file that the log is read from.
     pub log: &'a str,
+}
+
+/// Why a history has its values.
+#[derive(Clone, Copy, Debug, PartialEq, Eq)]
+pub struct ExplainAsked<'a> {
+    pub file: &'a str,
+    /// The key of the history.
+    pub key: &'a str,
 }

@@ -2,10 +2,10 @@
 ghost use Rattle.std.specs.Prelude.{◌≡◌};
 ghost use Rattle.std.specs.List.{list_all, list_any};
 ghost use Rattle.cc_words.specs.Requests as requests;
-ghost use Rattle.cc_words.specs.Requests.{asked_in, asked_of, budget_of, count_of, mode_of, to_check, to_list, to_make, valued};
+ghost use Rattle.cc_words.specs.Requests.{asked_in, asked_of, budget_of, count_of, mode_of, to_check, to_explain, to_list, to_make, valued};
 ghost use Rattle.cc_words.specs.Views.{plain_asked, plain_given};
 
-use crate::asked::{Asked, CheckAsked, ListAsked};
+use crate::asked::{Asked, CheckAsked, ExplainAsked, ListAsked};
 use crate::modes::{Item, Mode};
 use crate::numbers::{optional_up_to, up_to};
 
@@ -18,6 +18,7 @@ pub(crate) struct Given<'a> {
     pub budget: Option<&'a str>,
     pub after: Option<&'a str>,
     pub log: Option<&'a str>,
+    pub key: Option<&'a str>,
     pub size: Option<&'a str>,
     pub file: Option<&'a str>,
 }
@@ -41,6 +42,7 @@ impl<'a> Given<'a> {
             Item::Budget => self.budget.is_some(),
             Item::After => self.after.is_some(),
             Item::Log => self.log.is_some(),
+            Item::Key => self.key.is_some(),
             Item::Size => self.size.is_some(),
             Item::File => self.file.is_some(),
         }
@@ -125,6 +127,14 @@ impl<'a> Given<'a> {
         Some(Asked::Make { size, budget })
     }
 
+    fn to_explain(&self) -> Option<Asked<'a>>
+        ensures { plain_asked result ≡ to_explain (plain_given self.now) }
+    {
+        let file = self.file?;
+        let key = self.key?;
+        Some(Asked::Explain(ExplainAsked { file, key }))
+    }
+
     /// What is asked in a mode, by its values.
     fn valued(&self, mode: Mode) -> Option<Asked<'a>>
         ensures { plain_asked result ≡ valued mode (plain_given self.now) }
@@ -133,6 +143,7 @@ impl<'a> Given<'a> {
             Mode::List => self.to_list(),
             Mode::Check => self.to_check(),
             Mode::Make => self.to_make(),
+            Mode::Why => self.to_explain(),
         }
     }
 

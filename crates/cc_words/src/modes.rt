@@ -11,6 +11,8 @@ pub enum Mode {
     Check,
     /// A description of a size is made and searched.
     Make,
+    /// The values of a history are explained.
+    Why,
 }
 
 /// What may stand among the words: an option with its value, or the FILE.
@@ -26,6 +28,8 @@ pub enum Item {
     After,
     /// `--log NAME`.
     Log,
+    /// `--key KEY`.
+    Key,
     /// `--size N`.
     Size,
     /// FILE.
@@ -43,6 +47,8 @@ impl Mode {
             Some(Mode::Check)
         } else if name == "make" {
             Some(Mode::Make)
+        } else if name == "why" {
+            Some(Mode::Why)
         } else {
             None
         }
@@ -56,6 +62,7 @@ impl Mode {
             Mode::List => &[Item::File],
             Mode::Check => &[Item::File, Item::Log],
             Mode::Make => &[Item::Size],
+            Mode::Why => &[Item::File, Item::Key],
         }
     }
 
@@ -64,9 +71,24 @@ impl Mode {
         ensures { result.now ≡ bars self }
     {
         match self {
-            Mode::List => &[Item::Size],
-            Mode::Check => &[Item::Count, Item::Budget, Item::Size],
-            Mode::Make => &[Item::Query, Item::Count, Item::After, Item::Log, Item::File],
+            Mode::List => &[Item::Key, Item::Size],
+            Mode::Check => &[Item::Count, Item::Budget, Item::Key, Item::Size],
+            Mode::Make => &[
+                Item::Query,
+                Item::Count,
+                Item::After,
+                Item::Log,
+                Item::Key,
+                Item::File,
+            ],
+            Mode::Why => &[
+                Item::Query,
+                Item::Count,
+                Item::Budget,
+                Item::After,
+                Item::Log,
+                Item::Size,
+            ],
         }
     }
 }

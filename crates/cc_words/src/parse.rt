@@ -31,7 +31,7 @@ fn bare<'a>(alloc: Global) -> Command<'a>
         .disable_help_flag(true)
 }
 
-/// The seven options, and the file.
+/// The eight options, and the file.
 fn command<'a>(alloc: Global) -> Result<Command<'a>, OutOfMemory>
     ensures { IfOk result (λ command. app_of command ≡ readings.command) }
 {
@@ -42,6 +42,7 @@ fn command<'a>(alloc: Global) -> Result<Command<'a>, OutOfMemory>
         .arg(option(alloc, "budget"))?
         .arg(option(alloc, "after"))?
         .arg(option(alloc, "log"))?
+        .arg(option(alloc, "key"))?
         .arg(option(alloc, "size"))?
         .arg(Arg::new(alloc, "FILE"))?;
     Ok(command)
@@ -87,6 +88,7 @@ fn given_by<'a>(matches: &ArgMatches<'a>) -> Given<'a>
         budget: value(matches, "budget"),
         after: value(matches, "after"),
         log: value(matches, "log"),
+        key: value(matches, "key"),
         size: value(matches, "size"),
         file: value(matches, "FILE"),
     }

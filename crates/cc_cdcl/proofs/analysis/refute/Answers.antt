@@ -7,6 +7,6 @@ use Rattle.cc_cdcl.proofs.analysis.refute.Goals as goal
 pub returns-clause-refuted : goal.returns-clause-refuted
 returns-clause-refuted c =
     subst (λ (clause : List Literal). AddsDerived c.args.kernel.now c.finish.new.self clause)
-    (derived_empty c.args.trail.now c.derive.new.kernel c.in_ok-derive.ensures.derived c.requires.level)
-    (derives c.args.trail.now c.args.kernel.now c.derive.new.kernel c.finish.new.self c.level_count-level.ensures.steps c.requires.fits.variables c.derive.ensures.kept
-    c.in_ok-derive.ensures.derived c.in_ok-finish.ensures.added c.finish.ensures.reached)
+    (derived_empty c.args.trail.now c.derive_first.new.kernel (record { place = _; derivation = c.in_ok-derive_first.ensures.derived }) c.requires.level)
+    (derives c.args.trail.now c.args.kernel.now c.derive_first.new.kernel c.finish.new.self c.level_count-level.ensures.steps c.requires.fits.variables c.derive_first.ensures.kept
+    (record { place = _; derivation = c.in_ok-derive_first.ensures.derived }) c.in_ok-finish.ensures.added c.finish.ensures.reached)

@@ -38,6 +38,6 @@ loop-place-preserved-in-Continue-1 c =
     c.index-entries-place.result (literal_before c.args.trail.now c.loop-place.kernel c.loop-place.place c.entries-entries.ensures.steps
     (fits_kept c.args.trail.now c.args.kernel.now c.loop-place.kernel c.loop-place.invariant.kept c.requires.fits) c.requires.opened c.loop-place.invariant.derivation c.loop-place-test.true
     c.entries-entries.result.now c.index-entries-place.result c.entries-entries.ensures.entries c.index-entries-place.is)
-    c.step.new.self c.in-Some.id c.in-Some.ensures.reason c.in-Some.ensures.level
+    c.step.new.self c.in-Some.id c.in-Some.ensures.reason c.in-Some.ensures.below
     (subst (λ (n : ℕ). IsStepped c.loop-place.kernel c.step.new.self n c.in-Some.id) c.variable.ensures c.in_ok-step-in-Some.ensures.resolved) in
     record { derivation = on.0; kept = kept_trans c.args.kernel.now c.loop-place.kernel c.step.new.self c.loop-place.invariant.kept on.1 }

@@ -13,7 +13,7 @@ unfolding none
 returns-in_err-literal-clause-refused c =
     let so = subst (λ (rest : List TimedRule). BodiesSoFar c.args.writer.now c.loop-rule.writer c.args.stride c.loop-rule.bodies.items rest c.args.rules.now)
     (front_at c.args.rules.now c.loop-rule.rule-index none c.loop-rule-test.true) c.loop-rule.invariant in
-    err_past c.from_residual.result _ c.in_err-literal.field-0.0 c.from_residual.ensures.1
+    err_past c.from_residual-in_err-literal.result _ c.in_err-literal.field-0.0 c.from_residual-in_err-literal.ensures.1
     (bodies_fail c.args.writer.now c.loop-rule.writer c.args.stride c.loop-rule.bodies.items (get_or c.args.rules.now c.loop-rule.rule-index none) (drop (c.loop-rule.rule-index + 1) c.args.rules.now) c.args.rules.now
     c.in_err-literal.field-0.0 so c.in_err-literal.ensures)
 

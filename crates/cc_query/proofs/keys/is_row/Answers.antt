@@ -1,30 +1,7 @@
-use Rattle.std.proofs.Common.{◌∙◌, ℕ, ◌<◌, sym, refl, subst}
-use Rattle.cc_query.proofs.Positions.{all_within, one_within, too_great, too_long}
+use Rattle.cc_query.proofs.Positions.{row_in}
 use Rattle.cc_query.proofs.keys.is_row.Goals as goal
 
-pub returns-then-row-positions : goal.returns-then-row-positions
-returns-then-row-positions c = (
-  (λ no. absurd cc),
-  (λ is. absurd (too_long c.positions_have_sizes.ensures c.args.sig.now c.args.horizon c.args.row.now
-      (λ same. c.if-row-positions.true (same ∙ sym c.positions.ensures)) is)),
-)
-
-pub returns-then-row-position : goal.returns-then-row-position
-returns-then-row-position c = (
-  (λ no. absurd cc),
-  (λ is. absurd (too_great c.positions_have_sizes.ensures c.args.sig.now c.args.horizon c.args.row.now c.loop-position.position c.domain_size.result
-      (subst (λ (n : ℕ). c.loop-position.position < n) (c.if-row-positions.false ∙ c.positions.ensures) c.loop-position-test.true)
-      c.domain_size.ensures c.if-row-position.true is)),
-)
-
-pub loop-position-preserved : goal.loop-position-preserved
-loop-position-preserved c = one_within c.positions_have_sizes.ensures c.args.sig.now c.args.horizon c.args.row.now c.loop-position.position c.domain_size.result
-    (subst (λ (n : ℕ). c.loop-position.position < n) (c.if-row-positions.false ∙ c.positions.ensures) c.loop-position-test.true)
-    c.domain_size.ensures c.if-row-position.false c.loop-position.invariant
-
-pub returns : goal.returns
-returns c = (
-  (λ _. all_within c.positions_have_sizes.ensures c.args.sig.now c.args.horizon c.args.row.now c.loop-position.position
-      (c.if-row-positions.false ∙ c.positions.ensures) c.loop-position-test.false c.loop-position.invariant),
-  (λ _. refl),
-)
+pub returns-clause-described : goal.returns-clause-described
+returns-clause-described c = λ d of.
+    let same = row_in d c.args.sig.now of c.args.horizon c.args.row.now in
+    ((λ is. same.0 (c.has_indexes.ensures.0 is)), (λ row. c.has_indexes.ensures.1 (same.1 row)))

@@ -14,3 +14,7 @@ returns-in-Check g c = λ words asked.
 
 pub returns-in-Make : goal.returns-in-Make
 returns-in-Make g c = λ words asked. c.answer_made.ensures words c.in-Make.budget asked (ap plain_request c.in-Make.is)
+
+pub returns-in-Explain : goal.returns-in-Explain
+returns-in-Explain g c = λ words asked.
+    c.answer_file-in-Explain.ensures words asked (file_as c.args.asked.now (requests.Explain c.in-Explain.explain) c.in-Explain.explain.file.now c.in-Explain.is refl)

@@ -12,9 +12,9 @@ pub returns-in-Ok : goal.returns-in-Ok
 returns-in-Ok g c = λ words request earlier asked same reads.
     let read = reads_as request _ _ _ _ c.in-Ok.is reads in
     let there = files_stay read.rest (λ files. Describes (source_of request files) (named_of request).file c.in-Ok.described) _ _ read.told read.describes in
-    prints_opened words _ request _ _ _ c.answer_query-answer.result asked (opened_all _ request c.in-Ok.described read.opened read.opens)
-    (prints_after_read words _ read.opened (opens_behind request) read.rest _ _ _ c.answer_query-answer.result read.told read.begun read.reads read.writes
-    read.called (read.calm (λ is. cc)) (c.answer_query-answer.ensures words request asked same there))
+    prints_opened words _ request _ _ _ c.answer_read-answer.result asked (opened_all _ request c.in-Ok.described read.opened read.opens)
+    (prints_after_read words _ read.opened (opens_behind request) read.rest _ _ _ c.answer_read-answer.result read.told read.begun read.reads read.writes
+    read.called (read.calm (λ is. cc)) (c.answer_read-answer.ensures words request asked same there))
 
 pub returns-in-Err-Refused : goal.returns-in-Err-Refused
 returns-in-Err-Refused g c = λ words request earlier asked same reads.

@@ -1,4 +1,6 @@
-use Rattle.std.proofs.Common.{◌∙◌, None, Some, ap, refl, sym}
+use Rattle.std.proofs.Common.{◌∙◌, None, Some, ap, refl, subst, sym}
+use Rattle.cc_run.specs.Requested.{AsksQuery}
+use Rattle.cc_words.specs.declared.asked.Asked.{Asked}
 use Rattle.cc_words.specs.Requests.{ToCheck, ToList, ToMake}
 use Rattle.cc_words.specs.Views.{plain_request}
 use Rattle.cc_run.proofs.Readings.{checking_by, listing_by, prints_request, task_as}
@@ -26,3 +28,6 @@ returns-in-Make g c = λ words request d q asked same is of task.
     let e = sym (ap plain_request c.in-Make.is) ∙ same in
     prints_request words (ToMake size budget) request _ _ c.make.result e
     (c.make.ensures words d q (asked ∙ ap Some (sym e)) is of (task_as _ (ToMake size budget) request _ e (task None budget)))
+
+pub unreachable-requires : goal.unreachable-requires
+unreachable-requires g c = subst (λ (asked : Asked). AsksQuery (plain_request asked)) c.in-Explain.is c.requires.query

@@ -1,6 +1,6 @@
-use Rattle.std.proofs.Common.{◌∙◌, ap, refl}
+use Rattle.std.proofs.Common.{◌∙◌, ap, refl, subst}
 use Rattle.cc_describe.specs.FirstRefusal.{file_named}
-use Rattle.cc_run.specs.Requested.{named_of, opens_behind, source_of}
+use Rattle.cc_run.specs.Requested.{AsksQuery, named_of, opens_behind, source_of}
 use Rattle.cc_run.specs.Tasks.{description_in}
 use Rattle.cc_run.proofs.Outcomes.{prints_lacking, prints_refusal}
 use Rattle.cc_run.proofs.Readings.{description_is, is_read, named_as, refused_as, refuses_named, task_read}
@@ -28,7 +28,7 @@ returns-in-Err-Refused g c = λ words request asked same describes.
     let refused = rw c.in-Err-Refused.field-0-is at (c.in-Err-Refused.ensures.refused (description_in of.places) (description_is of.places c.args.described.now of.said)) in
     let name = c.file_named-file.ensures ∙ ap (λ names. file_named names c.in-Err-Refused.refusal) c.items.ensures in
     prints_refusal words _ (opens_behind request) c.in-Err-Refused.refusal c.file_named-file.result.now _ _ c.refuse.result
-    (refuses_named _ words request c.args.described.now of c.in-Err-Refused.refusal c.file_named-file.result.now asked name
+    (refuses_named _ words request c.args.described.now of c.in-Err-Refused.refusal c.file_named-file.result.now asked (subst AsksQuery same c.requires.query) name
     (refused_as (description_in of.places) _ request _ _ c.query_of.ensures c.key_of.ensures same refused))
     c.refuse.ensures.told c.refuse.ensures.status
 

@@ -2,7 +2,8 @@ use Rattle.std.proofs.Common.{◌∙◌, ℕ, inl, inr, List, sym, ap, ap₂, ar
 use Rattle.cc_defs.specs.Sections.{row_denial}
 use Rattle.cc_kernel.specs.Kernels.{KernelView, derived_count}
 use Rattle.cc_cdcl.proofs.Listing.{count_block, section_kept}
-use Rattle.cc_cdcl.proofs.Standing.{denial_is, denial_is_over, denial_is_failed, of_found, searching_back, section_blocked, sizes_within}
+use Rattle.cc_cdcl.proofs.Probing.{phase_back}
+use Rattle.cc_cdcl.proofs.Standing.{denial_is, denial_is_over, denial_is_failed, of_found, section_blocked, sizes_within}
 use Rattle.cc_cdcl.proofs.solver.Solver.block_row.Goals as goal
 
 pub write_denial-requires-clause-sizes : goal.write_denial-requires-clause-sizes
@@ -54,7 +55,7 @@ invariant_of-self-2 c =
       room = c.self.invariant.room;
       stands = record {
         derived = before.derived ∙ sym (ap derived_count entries ∙ count_block c.self.inside.kernel.entries c.deref-3.result.now);
-        searching = searching_back c.self.inside.sizes.items c.self.inside.kernel c.block.new.kernel c.self.inside.trail c.block.new.trail c.self.inside.cursors.items
-            before.searching c.block.ensures.steps c.in_ok-number.ensures.back;
+        in_phase = phase_back c.self.inside.probe.phase c.self.inside.sizes.items c.self.inside.kernel c.block.new.kernel c.self.inside.trail c.block.new.trail
+            c.self.inside.cursors.items before.in_phase c.block.ensures.steps c.in_ok-number.ensures.back;
       };
     }

@@ -1,17 +1,21 @@
 use Rattle.std.proofs.Common.{◌≡◌, ◌∙◌, ◌+◌, ℕ, inl, inr, List, [], refl, sym, subst, ap, arith}
 use Rattle.std.specs.Prelude.{Contains, is_some}
+use Rattle.std.specs.Vec.{with_items}
 use Rattle.cc_defs.specs.Assignments.{HasOpen, IsEarned}
 use Rattle.cc_clauses.specs.RowsOf.{HasRow, IsLeastRowOf}
 use Rattle.cc_defs.specs.Rows.{IsRow}
 use Rattle.cc_kernel.specs.Kernels.{KernelView, clauses_of, derived_count}
 use Rattle.cc_trail.specs.Steps.{values_of}
+use Rattle.cc_cdcl.specs.declared.choice.Cursor.{Cursor}
+use Rattle.cc_cdcl.specs.declared.probe.Phase.{Phase}
 use Rattle.cc_cdcl.specs.LeastRows.{row_of}
 use Rattle.cc_cdcl.specs.Sets.{assignment_of}
-use Rattle.cc_cdcl.specs.Searches.{IsSearching}
+use Rattle.cc_cdcl.specs.Searches.{IsInPhase, IsSearching}
 use Rattle.cc_cdcl.specs.Solvers.{AddsDerived, axiom_clauses}
 use Rattle.cc_cdcl.proofs.Deriving.{on_err}
 use Rattle.cc_cdcl.proofs.Listing.{count_derived, empty_not_there, empty_there, few_derived, section_kept}
-use Rattle.cc_cdcl.proofs.Standing.{empty_added, kernel_is, least_there, row_room, row_there, row_written, running, searching_back, section_learned, section_refuted, sizes_is, sizes_within, stuck, view_found, went_on}
+use Rattle.cc_cdcl.proofs.Probing.{phase_back}
+use Rattle.cc_cdcl.proofs.Standing.{begun, counted_on, empty_added, kernel_is, least_there, row_room, row_there, row_written, running, section_learned, section_refuted, sizes_is, sizes_within, stuck, view_found, view_ready, went_on}
 use Rattle.cc_cdcl.proofs.solver.Solver.next.Goals as goal
 
 pub returns-then-is_some-clause-step : goal.returns-then-is_some-clause-step
@@ -22,35 +26,40 @@ returns-then-is_some-clause-step c = (
   inl (kernel_is c.self.inside c.args.self.now c.self.view_is c.self.invariant),
 )
 
-pub descend-failed-requires-clause-sizes : goal.descend-failed-requires-clause-sizes
-descend-failed-requires-clause-sizes c = sizes_within c.self.inside c.args.self.now c.self.view_is c.self.invariant c.deref.result.now c.deref.ensures.value
+pub search_on-failed-requires-clause-sizes : goal.search_on-failed-requires-clause-sizes
+search_on-failed-requires-clause-sizes c = sizes_within c.self.inside c.args.self.now c.self.view_is c.self.invariant c.deref.result.now c.deref.ensures.value
+
+pub search_on-failed-requires-clause-phase : goal.search_on-failed-requires-clause-phase
+search_on-failed-requires-clause-phase c =
+    begun c.self.inside c.args.self.now c.self.view_is c.self.invariant c.requires.ready c.begin.new.probe.phase c.begin.new.trail c.in_ok-begin.ensures
+    c.deref.result.now c.deref_mut.result.now c.deref.ensures.value c.deref_mut.ensures.value
 
 pub write_row-requires-clause-sizes : goal.write_row-requires-clause-sizes
 write_row-requires-clause-sizes c =
     let within = sizes_within c.self.inside c.args.self.now c.self.view_is c.self.invariant c.deref-in-None.result.now c.deref-in-None.ensures.value in
-    let same = c.descend-failed.ensures.searching.fits.variables in omega arith
+    let same = c.search_on-failed.ensures.phase.of_kernel.fits.variables in omega arith
 
 pub invariant_of-self-in-None : goal.invariant_of-self-in-None
 invariant_of-self-in-None c =
-    let searching : IsSearching c.self.inside.sizes.items c.self.inside.kernel c.descend-failed.new.trail _ =
-    went_on c.self.inside c.args.self.now c.self.view_is c.self.invariant c.requires.ready c.deref.result.now c.deref.ensures.value c.descend-failed.new.trail
-    c.descend-failed.new.cursors c.descend-failed.ensures.searching in
-    let there = row_there c.self.inside.sizes.items c.self.inside.kernel c.descend-failed.new.trail _ c.self.invariant.section searching
+    let searching : IsSearching c.self.inside.sizes.items c.self.inside.kernel c.search_on-failed.new.trail c.search_on-failed.new.cursors =
+    subst (λ (ns : List ℕ). IsSearching ns c.self.inside.kernel c.search_on-failed.new.trail c.search_on-failed.new.cursors) c.deref.ensures.value c.in-None.ensures.searching in
+    let there = row_there c.self.inside.sizes.items c.self.inside.kernel c.search_on-failed.new.trail _ c.self.invariant.section searching
     c.in-None.ensures.full c.in-None.ensures.closed in
     let written = row_written c.self.inside c.args.self.now c.self.view_is c.self.invariant c.deref-in-None.result.now c.deref-in-None.ensures.value
-    c.descend-failed.new.trail c.write_row.new.row c.write_row.ensures in
+    c.search_on-failed.new.trail c.write_row.new.row c.write_row.ensures in
     record {
       section = c.self.invariant.section;
       room = row_room c.self.inside c.args.self.now c.self.view_is c.self.invariant c.deref-in-None.result.now c.deref-in-None.ensures.value
-          c.descend-failed.new.trail c.write_row.new.row c.write_row.ensures;
+          c.search_on-failed.new.trail c.write_row.new.row c.write_row.ensures;
       stands = (
         record {
           derived = (running c.self.inside c.args.self.now c.self.view_is c.self.invariant c.requires.ready).derived;
-          searching = searching;
+          in_phase = went_on c.self.inside c.args.self.now c.self.view_is c.self.invariant c.requires.ready c.deref.result.now c.deref.ensures.value c.search_on-failed.new.probe.phase
+              c.search_on-failed.new.trail c.search_on-failed.new.cursors c.search_on-failed.ensures.phase;
         },
         record {
           is_row = subst (λ (row : List ℕ). IsRow c.self.inside.sizes.items row) (sym written) there.0;
-          has = subst (λ (row : List ℕ). HasRow c.self.inside.sizes.items (assignment_of (values_of c.descend-failed.new.trail.steps)) row) (sym written) there.1;
+          has = subst (λ (row : List ℕ). HasRow c.self.inside.sizes.items (assignment_of (values_of c.search_on-failed.new.trail.steps)) row) (sym written) there.1;
         },
       );
     }
@@ -78,17 +87,28 @@ returns-then-level_count-eq0-clause-step c = (
       c.in_ok-refute-in-Some.ensures.refuted),
 )
 
+pub invariant_of-self-then-self-budget : goal.invariant_of-self-then-self-budget
+invariant_of-self-then-self-budget c = record {
+  section = c.self.invariant.section;
+  room = c.self.invariant.room;
+  stands = record {
+    derived = (running c.self.inside c.args.self.now c.self.view_is c.self.invariant c.requires.ready).derived;
+    in_phase = went_on c.self.inside c.args.self.now c.self.view_is c.self.invariant c.requires.ready c.deref.result.now c.deref.ensures.value c.search_on-failed.new.probe.phase
+        c.search_on-failed.new.trail c.search_on-failed.new.cursors c.search_on-failed.ensures.phase;
+  };
+}
+
 pub returns-then-self-budget-clause-step : goal.returns-then-self-budget-clause-step
 returns-then-self-budget-clause-step c = (
-  c.self.view_is,
+  view_ready c.self.inside c.args.self.now c.self.view_is c.self.invariant c.requires.ready,
   ap (λ (k : KernelView). derived_count k.entries) (sym (kernel_is c.self.inside c.args.self.now c.self.view_is c.self.invariant)) ∙
       sym (running c.self.inside c.args.self.now c.self.view_is c.self.invariant c.requires.ready).derived ∙ c.if-self-budget.true,
   subst (λ (k : KernelView). Contains (clauses_of k) [] → ⊥) (kernel_is c.self.inside c.args.self.now c.self.view_is c.self.invariant)
       (empty_not_there c.self.inside.kernel.entries 1 (ap (λ o. is_some {T = ℕ} o) (sym c.refuted.ensures) ∙ sym c.is_some.ensures ∙ c.if-is_some.false)),
   (let levels = c.level_count.ensures.level_count in
       let some = c.if-level_count-eq0.false in
-      stuck _ c.self.inside.kernel c.args.self.now.kernel c.descend-failed.new.trail _ c.in-Some.id
-      (kernel_is c.self.inside c.args.self.now c.self.view_is c.self.invariant) c.descend-failed.ensures.searching c.level_count.ensures.steps (omega arith)
+      stuck c.self.inside.kernel c.args.self.now.kernel c.search_on-failed.new.trail c.in-Some.id
+      (kernel_is c.self.inside c.args.self.now c.self.view_is c.self.invariant) c.search_on-failed.ensures.phase.of_kernel c.level_count.ensures.steps (omega arith)
       c.in-Some.ensures.failed),
 )
 
@@ -135,14 +155,24 @@ invariant_of-self-in-Some c =
     let count : derived_count c.learn.new.kernel.entries ≡ derived_count c.self.inside.kernel.entries + 1 =
     ap derived_count learns.adds.entries ∙ count_derived c.self.inside.kernel.entries learns.clause in
     let so_far = before.derived in
+    let learned : IsInPhase c.search_on-failed.new.probe.phase c.self.inside.sizes.items c.learn.new.kernel c.learn.new.trail (with_items c.self.inside.cursors c.search_on-failed.new.cursors).items =
+    phase_back c.search_on-failed.new.probe.phase c.self.inside.sizes.items c.self.inside.kernel c.learn.new.kernel c.search_on-failed.new.trail c.learn.new.trail
+    (with_items c.self.inside.cursors c.search_on-failed.new.cursors).items
+    (went_on c.self.inside c.args.self.now c.self.view_is c.self.invariant c.requires.ready c.deref.result.now c.deref.ensures.value c.search_on-failed.new.probe.phase
+    c.search_on-failed.new.trail c.search_on-failed.new.cursors c.search_on-failed.ensures.phase) c.level_count.ensures.steps c.in_ok-learn-in-Some.ensures.back in
+    let noted : IsInPhase c.learn.new.probe.phase c.self.inside.sizes.items c.learn.new.kernel c.learn.new.trail (with_items c.self.inside.cursors c.search_on-failed.new.cursors).items =
+    subst (λ (phase : Phase). IsInPhase phase c.self.inside.sizes.items c.learn.new.kernel c.learn.new.trail (with_items c.self.inside.cursors c.search_on-failed.new.cursors).items)
+    (sym c.learn.ensures.phase) learned in
     record {
       section = section_learned c.self.inside.sizes.items c.self.inside.kernel c.learn.new.kernel c.self.invariant.section learns;
       room = c.self.invariant.room;
       stands = record {
         derived = omega arith;
-        searching = searching_back c.self.inside.sizes.items c.self.inside.kernel c.learn.new.kernel c.descend-failed.new.trail c.learn.new.trail _
-            (went_on c.self.inside c.args.self.now c.self.view_is c.self.invariant c.requires.ready c.deref.result.now c.deref.ensures.value c.descend-failed.new.trail
-            c.descend-failed.new.cursors c.descend-failed.ensures.searching) c.level_count.ensures.steps c.in_ok-learn-in-Some.ensures.back;
+        in_phase = counted_on c.self.inside c.args.self.now c.self.view_is c.self.invariant c.requires.ready c.search_on-failed.new.cursors c.learn.new.kernel learns.adds.variables
+            c.count_line.new.probe.phase c.count_line.new.trail c.count_line.new.cursors
+            (c.count_line.ensures c.self.inside.sizes.items c.learn.new.kernel
+            (subst (λ (cs : List Cursor). IsInPhase c.learn.new.probe.phase c.self.inside.sizes.items c.learn.new.kernel c.learn.new.trail cs)
+            (sym c.deref_mut-in-Some-2.ensures.value) noted));
       };
     }
 
@@ -150,16 +180,15 @@ pub returns-in-None-clause-step : goal.returns-in-None-clause-step
 returns-in-None-clause-step c =
     let same = kernel_is c.self.inside c.args.self.now c.self.view_is c.self.invariant in
     let sizes = sizes_is c.self.inside c.args.self.now c.self.view_is c.self.invariant in
-    let searching : IsSearching c.self.inside.sizes.items c.self.inside.kernel c.descend-failed.new.trail _ =
-    went_on c.self.inside c.args.self.now c.self.view_is c.self.invariant c.requires.ready c.deref.result.now c.deref.ensures.value c.descend-failed.new.trail
-    c.descend-failed.new.cursors c.descend-failed.ensures.searching in
-    let least = least_there c.self.inside.sizes.items c.self.inside.kernel c.descend-failed.new.trail _ c.self.invariant.section searching
+    let searching : IsSearching c.self.inside.sizes.items c.self.inside.kernel c.search_on-failed.new.trail c.search_on-failed.new.cursors =
+    subst (λ (ns : List ℕ). IsSearching ns c.self.inside.kernel c.search_on-failed.new.trail c.search_on-failed.new.cursors) c.deref.ensures.value c.in-None.ensures.searching in
+    let least = least_there c.self.inside.sizes.items c.self.inside.kernel c.search_on-failed.new.trail _ c.self.invariant.section searching
     c.in-None.ensures.full c.in-None.ensures.closed c.least_row_is_found.ensures in (
-      row_of c.self.inside.sizes.items (assignment_of (values_of c.descend-failed.new.trail.steps)),
-      subst (λ (ns : List ℕ). IsLeastRowOf ns (clauses_of c.args.self.now.kernel) (row_of c.self.inside.sizes.items (assignment_of (values_of c.descend-failed.new.trail.steps)))) sizes
-          (subst (λ (k : KernelView). IsLeastRowOf c.self.inside.sizes.items (clauses_of k) (row_of c.self.inside.sizes.items (assignment_of (values_of c.descend-failed.new.trail.steps)))) same least),
+      row_of c.self.inside.sizes.items (assignment_of (values_of c.search_on-failed.new.trail.steps)),
+      subst (λ (ns : List ℕ). IsLeastRowOf ns (clauses_of c.args.self.now.kernel) (row_of c.self.inside.sizes.items (assignment_of (values_of c.search_on-failed.new.trail.steps)))) sizes
+          (subst (λ (k : KernelView). IsLeastRowOf c.self.inside.sizes.items (clauses_of k) (row_of c.self.inside.sizes.items (assignment_of (values_of c.search_on-failed.new.trail.steps)))) same least),
       view_found c.self.inside c.args.self.now c.self.view_is c.self.invariant c.deref-in-None.result.now c.deref-in-None.ensures.value
-          c.descend-failed.new.trail c.write_row.new.row c.write_row.ensures,
+          c.search_on-failed.new.trail c.write_row.new.row c.write_row.ensures,
     )
 
 pub returns-in_ok-learn-in-Some-clause-step : goal.returns-in_ok-learn-in-Some-clause-step

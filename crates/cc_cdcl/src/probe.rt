@@ -1,0 +1,258 @@
+//! The probe with which a section begins: for so many lines what is decided is what had most to do with the lines before, and not what
+//! leads to the least row. The lines that it derives are there when the rows are listed. Nothing is claimed of what it decides but that it
+//! had no value.
+ghost use Rattle.std.specs.Prelude.{◌≡◌, ◌<◌, ◌≤◌, None, IsTrue, IsSome, IfSome, IfNone, length, OnOk};
+ghost use Rattle.cc_defs.specs.Clauses.{IsLiteralOver};
+ghost use Rattle.cc_defs.specs.Limits.{most_variables};
+ghost use Rattle.cc_trail.specs.Steps.{step_of, values_of};
+ghost use Rattle.cc_cdcl.specs.Searches.{is_probing};
+ghost use Rattle.cc_cdcl.specs.Sets.{IsFull};
+
+use crate::choice::{first_open, has_value};
+use crate::order::Order;
+use cc_defs::{Lit, OutOfMemory};
+use cc_kernel::Kernel;
+use cc_trail::Trail;
+use std::alloc::Global;
+
+/// So many lines a probe has at most.
+const MOST_LINES: u32 = 2000;
+
+/// After so many lines all decisions are taken back, then after twice, three times as many, and so on.
+const RUN: u32 = 100;
+
+/// What is done with a section.
+#[derive(Clone, Copy)]
+pub enum Phase {
+    /// Nothing yet.
+    New,
+    /// It is probed.
+    Probing,
+    /// Its rows are listed.
+    Listing,
+}
+
+/// What comes after a line of a probe.
+pub enum After {
+    /// It goes on.
+    More,
+    /// It goes on from level 0.
+    Restart,
+    /// It is over.
+    End,
+}
+
+/// A probe of a section, and whether it is on. Before it begins it takes no memory.
+#[derive(Drop)]
+pub struct Probe {
+    /// What is done with the section.
+    pub phase: Phase,
+    // The variables to decide on, and perhaps others.
+    order: Order,
+    // By variable: the sign that it had last, at first the negative one.
+    signs: Vec<bool>,
+    // How many lines it has, how many until all decisions are taken back, and how many were to come then.
+    lines: u32,
+    left: u32,
+    run: u32,
+}
+
+// Whether a variable is one of a trail and has no value.
+fn is_open(trail: &Trail, variables: u32, variable: u32) -> bool
+    requires variables { variables ≡ trail.now.variables }
+    requires few { trail.now.variables ≤ most_variables }
+    ensures { IsTrue result → (0 < variable) × (variable ≤ variables) × (values_of trail.now.steps variable ≡ None) }
+{
+    0 < variable && variable <= variables && !has_value(trail, variable)
+}
+
+// Whether a variable got its value at a level above this one.
+fn is_above(trail: &Trail, level: u32, variable: u32) -> bool
+    requires { variable ≤ trail.now.variables }
+{
+    match trail.level_of(variable) {
+        Some(other) => other > level,
+        None => false,
+    }
+}
+
+impl Probe {
+    /// A probe that was not begun.
+    pub fn new(alloc: Global) -> Probe
+        ensures { result.phase ≡ Phase.New }
+    {
+        Probe {
+            phase: Phase::New,
+            order: Order::new(alloc),
+            signs: Vec::new(alloc),
+            lines: 0,
+            left: RUN,
+            run: RUN,
+        }
+    }
+
+    /// Begins, over the variables 1, .., `variables`.
+    pub fn begin(&mut self, variables: u32) -> Result<(), OutOfMemory> {
+        self.order.fill(variables)?;
+        self.signs.reserve(variables as usize)?;
+        for _ in 0..variables {
+            self.signs.push(false)?;
+        }
+        self.signs.push(false)?;
+        self.phase = Phase::Probing;
+        Ok(())
+    }
+
+    /// Whether the section is probed.
+    pub fn is_on(&self) -> bool
+        ensures { result ≡ is_probing self.now.phase }
+    {
+        match self.phase {
+            Phase::New => false,
+            Phase::Probing => true,
+            Phase::Listing => false,
+        }
+    }
+
+    // The first variable of the order that has no value; it, and those before it, are taken out.
+    fn first(&mut self, trail: &Trail, variables: u32) -> Option<u32>
+        requires variables { variables ≡ trail.now.variables }
+        requires few { trail.now.variables ≤ most_variables }
+        ensures open { IfSome result (λ variable. (0 < variable) × (variable ≤ variables) × (values_of trail.now.steps variable ≡ None)) }
+        ensures phase { self.new.phase ≡ self.old.phase }
+    {
+        for _ in 0..self.order.len() {
+            match self.order.pop() {
+                Some(variable) => if is_open(trail, variables, variable) {
+                    return Some(variable);
+                },
+                None => return None,
+            }
+        }
+        None
+    }
+
+    // The literal of a variable, with the sign that it had last.
+    fn signed(&self, variable: u32) -> Lit
+        requires some { 0 < variable }
+        requires few { variable ≤ most_variables }
+        ensures { result.variable ≡ variable }
+    {
+        match self.signs.get(variable as usize) {
+            Some(sign) => if *sign {
+                Lit::positive(variable)
+            } else {
+                Lit::negative(variable)
+            },
+            None => Lit::negative(variable),
+        }
+    }
+
+    /// What to decide: the most active variable that has no value, with the sign that it had last. None where each has a value.
+    pub fn choose(&mut self, trail: &Trail, variables: u32) -> Option<Lit>
+        requires variables { variables ≡ trail.now.variables }
+        requires few { trail.now.variables ≤ most_variables }
+        ensures some { IfSome result (λ lit. IsLiteralOver trail.now.variables lit × (step_of trail.now.steps lit.variable ≡ None)) }
+        ensures none { IfNone result (IsFull trail.now.variables (values_of trail.now.steps)) }
+        ensures phase { self.new.phase ≡ self.old.phase }
+    {
+        match self.first(trail, variables) {
+            Some(variable) => return Some(self.signed(variable)),
+            None => {},
+        }
+        let variable = first_open(trail, variables, 1);
+        if variable > variables {
+            return None;
+        }
+        Some(self.signed(variable))
+    }
+
+    // Makes the variables more active on which a clause was resolved.
+    fn note_pivots(&mut self, chain: &[u32])
+        ensures { self.new.phase ≡ self.old.phase }
+    {
+        for index in 0..chain.len() {
+            if index % 2 == 1 {
+                self.order.bump(chain[index]);
+            }
+        }
+    }
+
+    // Makes the variables above level 0 more active that are in front of a place of the trail and have a staged literal.
+    fn note_staged(&mut self, trail: &Trail, kernel: &Kernel, end: usize)
+        requires staged { IsSome kernel.now.staged }
+        requires within { end ≤ length trail.now.steps }
+        ensures { self.new.phase ≡ self.old.phase }
+    {
+        let entries = trail.entries();
+        for place in (0..end).rev() {
+            let lit = entries[place];
+            if !is_above(trail, 0, lit.variable()) {
+                return;
+            }
+            if kernel.stages(lit.opposite()) {
+                self.order.bump(lit.variable());
+            }
+        }
+    }
+
+    /// Makes the variables above level 0 more active that were met on the way from a false clause to the staged one, which is false in
+    /// front of a place of the trail.
+    pub fn note_met(&mut self, trail: &Trail, kernel: &Kernel, place: usize)
+        requires staged { IsSome kernel.now.staged }
+        requires within { place ≤ length trail.now.steps }
+        ensures { self.new.phase ≡ self.old.phase }
+    {
+        if !self.is_on() {
+            return;
+        }
+        self.note_pivots(kernel.chain());
+        self.note_staged(trail, kernel, place);
+        self.order.grow();
+    }
+
+    // Keeps the sign of a literal whose variable is to be decided on again.
+    fn put_back(&mut self, lit: Lit)
+        ensures { self.new.phase ≡ self.old.phase }
+    {
+        let index = lit.variable() as usize;
+        if index < self.signs.len() {
+            self.signs[index] = lit.is_positive();
+        }
+        self.order.insert(lit.variable());
+    }
+
+    /// Takes in what will have no value when a trail goes back to a level.
+    pub fn take_back(&mut self, trail: &Trail, level: u32)
+        ensures { self.new.phase ≡ self.old.phase }
+    {
+        if !self.is_on() {
+            return;
+        }
+        let entries = trail.entries();
+        for place in (0..entries.len()).rev() {
+            let lit = entries[place];
+            if !is_above(trail, level, lit.variable()) {
+                return;
+            }
+            self.put_back(lit);
+        }
+    }
+
+    /// Counts a line.
+    pub fn count_line(&mut self) -> After
+        ensures { self.new.phase ≡ self.old.phase }
+    {
+        self.lines = self.lines.saturating_add(1);
+        if self.lines >= MOST_LINES {
+            return After::End;
+        }
+        self.left = self.left.saturating_sub(1);
+        if self.left > 0 {
+            return After::More;
+        }
+        self.run = self.run.saturating_add(RUN);
+        self.left = self.run;
+        After::Restart
+    }
+}

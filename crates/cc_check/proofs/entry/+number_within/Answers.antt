@@ -1,0 +1,12 @@
+use Rattle.std.proofs.lemmas.Bool.{false≢true}
+use Rattle.cc_check.proofs.NumberBytes.{within_none, within_out}
+use Rattle.cc_check.proofs.entry.+number_within.Goals as goal
+
+pub returns-in_default-number_within : goal.returns-in_default-number_within
+returns-in_default-number_within t c =
+    within_none c.args.more c.args.bytes.now c.if-more-eq0.false c.in-len1-up.len_at_least c.if-first-lt128.false c.in_default-number_within.ensures
+
+pub returns-then-not-is_high_part : goal.returns-then-not-is_high_part
+returns-then-not-is_high_part t c =
+    within_out c.args.more c.args.bytes.now c.in-Some.high c.in-Some.rest.now c.if-more-eq0.false c.in-len1-up.len_at_least c.if-first-lt128.false c.in-Some.ensures
+    (λ is. false≢true (c.if-not-is_high_part.ensures.1 is))

@@ -1,0 +1,10 @@
+use Rattle.cc_defs.specs.LogBytes.{IsNumber, number_bytes}
+use Rattle.std.proofs.Common.{arith}
+use Rattle.cc_check.proofs.NumberBytes.{one_number_in}
+use Rattle.cc_check.proofs.ListBytes.{no_more}
+use Rattle.cc_check.proofs.entry.read_numbers.Goals as goal
+
+pub returns-in_default : goal.returns-in_default
+returns-in_default c =
+    no_more IsNumber number_bytes one_number_in c.loop.counter c.args.count c.args.bytes.now c.loop.numbers.items c.loop.rest.now c.loop.invariant c.loop-test.true
+    (λ number next formed is. c.in_default.ensures number next (record { formed = formed; few = omega arith; spelled = is }))

@@ -1,0 +1,214 @@
+-- The row that words name, what is refused of it, and what is given.
+use Rattle.std.proofs.Common.{◌≡◌, ◌∙◌, refl, sym, ap, subst, ℕ, ◌<◌, Bool, true, false, cond, List, [], length, nat_lt, Option, Some, None, IfSome, Result, Ok, Err, IfOk, inl, inr, arith}
+use Rattle.std.specs.Prelude.{◌↔◌, IfErr, IsErrAnd, IsTrue}
+use Rattle.std.proofs.lemmas.Bool.{iff_false}
+use Rattle.cc_arena.specs.declared.ground_laws.GroundLaw.{GroundLaw}
+use Rattle.cc_defs.specs.declared.lists.Key.{Key}
+use Rattle.cc_defs.specs.declared.refusal.Fault.{Fault}
+use Rattle.cc_defs.specs.declared.refusal.Fault.TheVariants as faults
+use Rattle.cc_defs.specs.declared.refusal.LimitAt.TheVariants as limits
+use Rattle.cc_defs.specs.declared.refusal.Refusal.{Refusal}
+use Rattle.cc_defs.specs.Description.{Description, sizes_at}
+use Rattle.cc_defs.specs.Limits.{most_rules, most_steps}
+use Rattle.cc_defs.specs.Paths.{IsPath}
+use Rattle.cc_defs.specs.Refusals.{IsRefusedBy, past}
+use Rattle.cc_defs.specs.Rows.{IsRow}
+use Rattle.cc_defs.specs.Signatures.{Signature}
+use Rattle.cc_defs.specs.TimedRules.{timed_rules}
+use Rattle.cc_describe.specs.declared.description.Described.{Described}
+use Rattle.cc_describe.specs.Describing.{IsDescribed}
+use Rattle.cc_describe.specs.FirstRefusal.{file_named}
+use Rattle.cc_describe.specs.Places.{Files, Place, opened_in}
+use Rattle.cc_ground.specs.Counting.{laws_refusal}
+use Rattle.cc_ports.specs.Contents.{Contents}
+use Rattle.cc_ports.specs.declared.desk.To.TheVariants as outputs
+use Rattle.cc_print.specs.Keys.{IsKeyText}
+use Rattle.cc_print.specs.Laws.{OneKey}
+use Rattle.cc_run.specs.declared.status.Status.{Status}
+use Rattle.cc_run.specs.declared.status.Status.TheVariants as statuses
+use Rattle.cc_run.specs.declared.status.Stop.{Stop}
+use Rattle.cc_run.specs.Answers.{Gives}
+use Rattle.cc_run.specs.Explained.{IsExplainingFault, IsLookedAt, IsRowFault, TellsRow}
+use Rattle.cc_run.specs.Modes.Explaining.{Explains, HasNoRow, IsExplained, IsRowNamed, MayEndExplaining, RefusesRow, RefusesRowOf, no_history_line, why_text}
+use Rattle.cc_run.specs.Names.{MayEndWith, log_asked}
+use Rattle.cc_run.specs.Stops.{Moment, Prints, Step, given_to}
+use Rattle.cc_run.specs.Tasks.{AreRead, description_in, request_of}
+use Rattle.cc_run.specs.Wholes.{Whole, only_out}
+use Rattle.cc_theory.specs.Theories.{rules_refusal}
+use Rattle.cc_words.specs.Requests.{Explaining, Request, ToExplain}
+use Rattle.cc_words.specs.Words.{Text}
+use Rattle.cc_run.proofs.Callings.{first_none}
+use Rattle.cc_run.proofs.Outcomes.{RefusesRequest, known, prints_whole}
+use Rattle.cc_run.proofs.Readings.{IsRead, asked_refuses}
+
+-- ---- the row
+
+-- a text of one key that is not that of a row is that of no row
+pub no_row : OneKey → (d : Description) (text : Text) (key : Key) → IsKeyText text key → (IsRowNamed d text key → ⊥) → HasNoRow d text
+no_row one d text key spelled other = λ found named. other (subst (λ (k : Key). IsRowNamed d text k) (one text found key named.spelled spelled) named)
+
+-- nor is a text of no key
+pub no_row_spelled : (d : Description) (text : Text) → ((key : Key) → IsKeyText text key → ⊥) → HasNoRow d text
+no_row_spelled d text none = λ key named. none key named.spelled
+
+pub too_far : (d : Description) (text : Text) (key : Key) (most : ℕ) → most ≡ most_steps → most < key.horizon → IsRowNamed d text key → ⊥
+too_far d text key most is far named = let low = named.most in omega arith
+
+pub no_indexes : (d : Description) (text : Text) (key : Key) (row : List ℕ) (b : Bool) → row ≡ key.row → (IsTrue b ↔ IsRow (sizes_at d key.horizon) row) → b ≡ false →
+    IsRowNamed d text key → ⊥
+no_indexes d text key row b same is none named = iff_false is none (subst (λ (l : List ℕ). IsRow (sizes_at d key.horizon) l) (sym same) named.row)
+
+-- ---- what is refused, where a call hands it on
+
+grounding_fault : (d : Description) (text : Text) (fault : Fault) → IsRefusedBy (laws_refusal d.universe d.laws) fault → IsExplainingFault d text fault
+grounding_fault d text faults.OutOfMemory is = tt
+grounding_fault d text (faults.Refused refusal) is = inl is
+
+row_fault : (d : Description) (text : Text) (fault : Fault) → laws_refusal d.universe d.laws ≡ None → IsRowFault d text fault → IsExplainingFault d text fault
+row_fault d text faults.OutOfMemory none is = tt
+row_fault d text (faults.Refused refusal) none is = inr (none, inl is)
+
+rules_fault : (d : Description) (text : Text) (key : Key) (fault : Fault) → laws_refusal d.universe d.laws ≡ None → IsRowNamed d text key →
+    IsRefusedBy (rules_refusal d key.horizon) fault → IsExplainingFault d text fault
+rules_fault d text key faults.OutOfMemory none named is = tt
+rules_fault d text key (faults.Refused refusal) none named is = inr (none, inr (key, named, is))
+
+pub exit_grounding : {X : Type 0} (d : Description) (text : Text) (fault : Fault) (s : Result X Fault) → IsErrAnd s (λ e. e ≡ fault) →
+    IsRefusedBy (laws_refusal d.universe d.laws) fault → IfErr s (IsExplainingFault d text)
+exit_grounding d text fault (Ok x) err is = absurd err
+exit_grounding d text fault (Err e) err is = subst (IsExplainingFault d text) (sym err) (grounding_fault d text fault is)
+
+pub exit_row : {X : Type 0} (d : Description) (text : Text) (fault : Fault) (s : Result X Fault) → IsErrAnd s (λ e. e ≡ fault) → laws_refusal d.universe d.laws ≡ None →
+    IsRowFault d text fault → IfErr s (IsExplainingFault d text)
+exit_row d text fault (Ok x) err none is = absurd err
+exit_row d text fault (Err e) err none is = subst (IsExplainingFault d text) (sym err) (row_fault d text fault none is)
+
+pub exit_rules : {X : Type 0} (d : Description) (text : Text) (key : Key) (fault : Fault) (s : Result X Fault) → IsErrAnd s (λ e. e ≡ fault) →
+    laws_refusal d.universe d.laws ≡ None → IsRowNamed d text key → IsRefusedBy (rules_refusal d key.horizon) fault → IfErr s (IsExplainingFault d text)
+exit_rules d text key fault (Ok x) err none named is = absurd err
+exit_rules d text key fault (Err e) err none named is = subst (IsExplainingFault d text) (sym err) (rules_fault d text key fault none named is)
+
+-- the file that a refusal of the row speaks of: none
+unplaced_rules : (names : List Text) (b : Bool) (refusal : Refusal) → cond b (Some (past limits.Rules)) None ≡ Some refusal → file_named names refusal ≡ []
+unplaced_rules names true refusal is = ap (file_named names) (same_refusal refusal (past limits.Rules) (sym is))
+  where
+    same_refusal : (a b : Refusal) → Some a ≡ Some b → a ≡ b
+    same_refusal a b e = cc
+unplaced_rules names false refusal is = absurd cc
+
+unplaced : (names : List Text) (d : Description) (text : Text) (refusal : Refusal) → RefusesRowOf d text refusal → file_named names refusal ≡ []
+unplaced names d text refusal (inl no_row) = ap (file_named names) no_row.1
+unplaced names d text refusal (inr (key, named, is)) = unplaced_rules names (nat_lt most_rules (length (timed_rules d key.horizon))) refusal is
+
+row_refused : (files : Files) (explaining : Explaining) (places : List Place) (described : Described) (refusal : Refusal) (file : Text) → IsDescribed places described →
+    AreRead files explaining.file places → file ≡ file_named described.files refusal → IsExplainingFault (description_in places) explaining.key (faults.Refused refusal) →
+    RefusesRow files explaining refusal file
+row_refused files explaining places described refusal file said read name (inl is) = record {
+  places = places;
+  read = read;
+  refused = inl (is, name ∙ ap (λ names. file_named names refusal) said.names);
+}
+row_refused files explaining places described refusal file said read name (inr (none, is)) = record {
+  places = places;
+  read = read;
+  refused = inr (none, is, name ∙ unplaced described.files (description_in places) explaining.key refusal is);
+}
+
+pub refuses_row : (o : Option Contents) (words : List Text) (explaining : Explaining) (described : Described) (of : IsRead o (λ files. files) explaining.file described) (refusal : Refusal)
+    (file : Text) → request_of words ≡ Some (ToExplain explaining) → file ≡ file_named described.files refusal →
+    IsExplainingFault (description_in of.places) explaining.key (faults.Refused refusal) → IfSome o (λ before. RefusesRequest before.files (request_of words) refusal file)
+refuses_row o words explaining described of refusal file asked name fault =
+    known o (λ before. AreRead before.files explaining.file of.places) (λ before. RefusesRequest before.files (request_of words) refusal file)
+    (λ before read. asked_refuses words (ToExplain explaining) before.files refusal file asked
+    (inr (row_refused before.files explaining of.places described refusal file of.said read name fault))) of.read
+
+-- the text of the key, as the words give it
+pub fault_as : (d : Description) (a b : Text) (fault : Fault) → a ≡ b → IsExplainingFault d b fault → IsExplainingFault d a fault
+fault_as d a b fault same is = subst (λ (text : Text). IsExplainingFault d text fault) (sym same) is
+
+pub looked_as : (d : Description) (signature : Signature) (a b : Text) (laws : List GroundLaw) (key : Key) (is_path : Bool) → a ≡ b →
+    IsLookedAt d signature b laws key is_path → IsLookedAt d signature a laws key is_path
+looked_as d signature a b laws key is_path same is = subst (λ (text : Text). IsLookedAt d signature text laws key is_path) (sym same) is
+
+-- ---- what is given
+
+ended_as : (status : Status) (r : Result Status Stop) → IfOk r (λ s. s ≡ status) → IfOk r (λ s. Some status ≡ Some s)
+ended_as status (Ok s) is = ap Some (sym is)
+ended_as status (Err stop) is = tt
+
+-- nothing is said of the status of a run that stopped
+pub stopped_so : {X : Type 0} (P : X → Type 0) (e : Stop) (r : Result X Stop) → IsErrAnd r (λ d. d ≡ e) → IfOk r P
+stopped_so P e (Ok v) is = absurd is
+stopped_so P e (Err d) is = tt
+
+pub tells_history : (d : Description) (names : List Text) (key : Key) (x z : Moment) (r : Result Status Stop) → IsPath d key.horizon key.row →
+    Step (given_to outputs.Out (why_text d names key.horizon key.row)) x z r → IfOk r (λ status. status ≡ statuses.Right) → TellsRow d names key x z r
+tells_history d names key x z r path step is = record {
+  whole = record { given = only_out (why_text d names key.horizon key.row); begun = false; ends = Some statuses.Right };
+  explained = inl (path, refl, refl);
+  begun = refl;
+  step = step;
+  ended = ended_as statuses.Right r is;
+}
+
+pub tells_none : (d : Description) (names : List Text) (key : Key) (x z : Moment) (r : Result Status Stop) → (IsPath d key.horizon key.row → ⊥) →
+    Step (only_out no_history_line) x z r → IfOk r (λ status. status ≡ statuses.Not) → TellsRow d names key x z r
+tells_none d names key x z r no_path step is = record {
+  whole = record { given = only_out no_history_line; begun = false; ends = Some statuses.Not };
+  explained = inr (no_path, refl, refl);
+  begun = refl;
+  step = step;
+  ended = ended_as statuses.Not r is;
+}
+
+some_status : (a b : Status) (o : Option Status) → o ≡ Some a → o ≡ Some b → a ≡ b
+some_status a b o one other = cc
+
+may_end : (d : Description) (names : List Text) (key : Key) (whole : Whole) (status : Status) → IsExplained d names key whole → whole.ends ≡ Some status → MayEndExplaining status
+may_end d names key whole status (inl explained) is = subst MayEndExplaining (some_status statuses.Right status whole.ends explained.2 is) tt
+may_end d names key whole status (inr explained) is = subst MayEndExplaining (some_status statuses.Not status whole.ends explained.2 is) tt
+
+ends_so : (words : List Text) (explaining : Explaining) (d : Description) (names : List Text) (key : Key) (whole : Whole) (r : Result Status Stop) →
+    request_of words ≡ Some (ToExplain explaining) → IsExplained d names key whole → IfOk r (λ status. whole.ends ≡ Some status) → IfOk r (MayEndWith (request_of words))
+ends_so words explaining d names key whole (Ok status) asked explained ended =
+    subst (λ (o : Option Request). MayEndWith o status) (sym asked) (may_end d names key whole status explained ended)
+ends_so words explaining d names key whole (Err stop) asked explained ended = tt
+
+-- the names of the files, by the places
+explained_as : (d : Description) (names all : List Text) (key : Key) (whole : Whole) → names ≡ all → IsExplained d names key whole → IsExplained d all key whole
+explained_as d names all key whole same is = subst (λ (w : List Text). IsExplained d w key whole) same is
+
+explained_given : (files : Files) (words : List Text) (explaining : Explaining) (places : List Place) (described : Described) (signature : Signature) (laws : List GroundLaw) (key : Key)
+    (is_path : Bool) (whole : Whole) → request_of words ≡ Some (ToExplain explaining) → IsDescribed places described → AreRead files explaining.file places →
+    IsLookedAt (description_in places) signature explaining.key laws key is_path → IsExplained (description_in places) described.files key whole → whole.begun ≡ false →
+    Gives files (request_of words) whole
+explained_given files words explaining places described signature laws key is_path whole asked said read looked explained begun =
+    subst (λ (o : Option Request). Gives files o whole) (sym asked) (inr explains)
+  where
+    explains : Explains explaining files whole
+    explains = record {
+      places = places;
+      read = read;
+      laws = looked.unrefused;
+      key = key;
+      row = looked.named;
+      rules = looked.rules;
+      explained = explained_as (description_in places) described.files (opened_in places) key whole said.names explained;
+      begun = begun;
+    }
+
+pub prints_explained : (words : List Text) (explaining : Explaining) (described : Described) (signature : Signature) (laws : List GroundLaw) (key : Key) (is_path : Bool) (x z : Moment)
+    (r : Result Status Stop) → (of : IsRead x.told (λ files. files) explaining.file described) → request_of words ≡ Some (ToExplain explaining) →
+    IsLookedAt (description_in of.places) signature explaining.key laws key is_path → TellsRow (description_in of.places) described.files key x z r → Prints words false [] x z r
+prints_explained words explaining described signature laws key is_path x z r of asked looked tells =
+    prints_whole words false [] tells.whole x z r
+    (known x.told (λ before. AreRead before.files explaining.file of.places) (λ before. Gives before.files (request_of words) tells.whole)
+    (λ before read. explained_given before.files words explaining of.places described signature laws key is_path tells.whole asked of.said read looked tells.explained tells.begun) of.read)
+    tells.begun tells.step tells.ended (ends_so words explaining (description_in of.places) described.files key tells.whole r asked tells.explained tells.ended) (record {
+      opened = [];
+      begun = [];
+      called = tells.step.moves.called;
+      opened_first = first_none [];
+      begun_first = first_none (log_asked (request_of words));
+      whole = λ _. (refl, sym (ap log_asked asked));
+    })

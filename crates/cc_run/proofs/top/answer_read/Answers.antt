@@ -1,0 +1,23 @@
+use Rattle.std.proofs.Common.{◌∙◌, Some, ap, refl, subst, sym}
+use Rattle.cc_run.specs.Requested.{AsksQuery}
+use Rattle.cc_words.specs.declared.asked.Asked.{Asked}
+use Rattle.cc_words.specs.Requests.{ToExplain}
+use Rattle.cc_words.specs.Views.{plain_request}
+use Rattle.cc_run.proofs.Readings.{describes_as, explaining_by, prints_request}
+use Rattle.cc_run.proofs.top.answer_read.Goals as goal
+
+pub returns-in-Explain : goal.returns-in-Explain
+returns-in-Explain g c = λ words request asked same describes.
+    let explaining = explaining_by c.in-Explain.explain in
+    let e = sym (ap plain_request c.in-Explain.is) ∙ same in
+    prints_request words (ToExplain explaining) request _ _ c.explain.result e
+    (c.explain.ensures words explaining (asked ∙ ap Some (sym e)) refl (describes_as _ (ToExplain explaining) request _ e describes))
+
+pub answer_query-requires-clause-query : goal.answer_query-requires-clause-query
+answer_query-requires-clause-query g c = subst (λ (asked : Asked). AsksQuery (plain_request asked)) (sym c.in-List.is) tt
+
+pub answer_query-requires-in-Check-clause-query : goal.answer_query-requires-in-Check-clause-query
+answer_query-requires-in-Check-clause-query g c = subst (λ (asked : Asked). AsksQuery (plain_request asked)) (sym c.in-Check.is) tt
+
+pub answer_query-requires-in-Make-clause-query : goal.answer_query-requires-in-Make-clause-query
+answer_query-requires-in-Make-clause-query g c = subst (λ (asked : Asked). AsksQuery (plain_request asked)) (sym c.in-Make.is) tt

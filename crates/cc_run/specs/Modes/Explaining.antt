@@ -1,0 +1,118 @@
+-- Why mode: a cause of each value of one history.
+use Rattle.std.specs.Prelude.{◌≡◌, ◌≤◌, ◌⊎◌, ℕ, false, List, [], ◌∷◌, ◌++◌, codes, decimal, flat_map, length, slice_get, slice_index, slice_index_or, Option, Some, None}
+use Rattle.cc_defs.specs.declared.lists.Key.{Key}
+use Rattle.cc_defs.specs.declared.refusal.Refusal.{Refusal}
+use Rattle.cc_defs.specs.Description.{Description, sizes_at}
+use Rattle.cc_defs.specs.Limits.{most_steps}
+use Rattle.cc_defs.specs.Paths.{IsPath}
+use Rattle.cc_defs.specs.Resolved.{BaseLaw, One, NoConcurrency}
+use Rattle.cc_defs.specs.Rows.{IsRow}
+use Rattle.cc_defs.specs.Rules.{upto}
+use Rattle.cc_describe.specs.Describing.{AreToOpen}
+use Rattle.cc_describe.specs.FirstRefusal.{file_named}
+use Rattle.cc_describe.specs.Places.{Files, Place, opened_in}
+use Rattle.cc_ground.specs.Counting.{laws_refusal}
+use Rattle.cc_print.specs.Atoms.{atom_text}
+use Rattle.cc_print.specs.Keys.{IsKeyText}
+use Rattle.cc_run.specs.declared.status.Status.{Status}
+use Rattle.cc_run.specs.declared.status.Status.TheVariants as statuses
+use Rattle.cc_run.specs.Promises.{Promise, IsEndStatus}
+use Rattle.cc_run.specs.Tasks.{AreRead, RefusesDescription, description_in, named_to, refusal_without_place}
+use Rattle.cc_run.specs.Wholes.{Whole, only_out}
+use Rattle.cc_theory.specs.Theories.{rules_refusal}
+use Rattle.cc_why.specs.declared.cause.Cause.{Cause}
+use Rattle.cc_why.specs.declared.cause.Cause.TheVariants as causes
+use Rattle.cc_why.specs.Causes.{cause_at}
+use Rattle.cc_words.specs.Requests.{Explaining}
+use Rattle.cc_words.specs.Words.{Text}
+
+-- ---- the row that is named
+
+-- The text is that of a key: of a row at a horizon of at most 1,000.
+pub record IsRowNamed (d : Description) (text : Text) (key : Key) : Type 0 where
+  pub spelled : IsKeyText text key
+  pub most : key.horizon ≤ most_steps
+  pub row : IsRow (sizes_at d key.horizon) key.row
+
+abbrev pub HasNoRow : Description → Text → Type 0
+HasNoRow d text = (key : Key) → IsRowNamed d text key → ⊥
+
+-- ---- what is refused
+
+-- 18 where the text names no row; else too many rules at its horizon
+abbrev pub RefusesRowOf : Description → Text → Refusal → Type 0
+RefusesRowOf d text refusal =
+    (HasNoRow d text × (refusal ≡ refusal_without_place 18))
+    ⊎ ((key : Key) × IsRowNamed d text key × (rules_refusal d key.horizon ≡ Some refusal))
+
+-- Behind the description the refusal of its laws comes, then that of the row.
+pub record RefusesRow (files : Files) (explaining : Explaining) (refusal : Refusal) (file : Text) : Type 0 where
+  pub places : List Place
+  pub read : AreRead files explaining.file places
+  pub refused : let d = description_in places in
+      ((laws_refusal d.universe d.laws ≡ Some refusal) × (file ≡ file_named (opened_in places) refusal))
+      ⊎ ((laws_refusal d.universe d.laws ≡ None) × RefusesRowOf d explaining.key refusal × (file ≡ []))
+
+abbrev pub RefusesExplaining : Files → Explaining → Refusal → Text → Type 0
+RefusesExplaining files explaining refusal file =
+    RefusesDescription files (named_to explaining) refusal file ⊎ RefusesRow files explaining refusal file
+
+-- ---- what is given
+
+-- the place of a law: its file, by the names of the files that were opened, and its line
+abbrev pub place_text : List Text → (file line : ℕ) → List ℕ
+place_text names file line = slice_index_or names file [] ++ codes ":" ++ decimal line
+
+abbrev pub law_text : List Text → Option BaseLaw → List ℕ
+law_text names (Some (One law)) = place_text names law.file law.line
+law_text names (Some (NoConcurrency file line)) = place_text names file line
+law_text names None = []
+
+abbrev pub cause_text : List Text → List BaseLaw → Option Cause → List ℕ
+cause_text names laws (Some causes.OneValue) = codes "one value"
+cause_text names laws (Some causes.Initial) = codes "initial"
+cause_text names laws (Some (causes.Law base)) = law_text names (slice_get laws base)
+cause_text names laws None = []
+
+-- a line for each position: its atom, and why it holds
+abbrev pub why_line : Description → List Text → ℕ → List ℕ → ℕ → List ℕ
+why_line d names horizon row position =
+    atom_text d position (slice_index row position) ++ codes ": " ++ cause_text names d.laws (cause_at d horizon row position) ++ 10 ∷ []
+
+abbrev pub why_text : Description → List Text → ℕ → List ℕ → List ℕ
+why_text d names horizon row = flat_map (why_line d names horizon row) (upto (length row))
+
+abbrev pub no_history_line : List ℕ
+no_history_line = codes "not a history" ++ 10 ∷ []
+
+-- The causes of its values, exactly where the row is a path; where it is none, that it is none.
+abbrev pub IsExplained : Description → List Text → Key → Whole → Type 0
+IsExplained d names key whole =
+    (IsPath d key.horizon key.row × (whole.given ≡ only_out (why_text d names key.horizon key.row)) × (whole.ends ≡ Some statuses.Right))
+    ⊎ ((IsPath d key.horizon key.row → ⊥) × (whole.given ≡ only_out no_history_line) × (whole.ends ≡ Some statuses.Not))
+
+-- The row is named, nothing of what is named is refused, and it is explained.
+pub record Explains (explaining : Explaining) (files : Files) (whole : Whole) : Type 0 where
+  pub places : List Place
+  pub read : AreRead files explaining.file places
+  pub laws : laws_refusal (description_in places).universe (description_in places).laws ≡ None
+  pub key : Key
+  pub row : IsRowNamed (description_in places) explaining.key key
+  pub rules : rules_refusal (description_in places) key.horizon ≡ None
+  pub explained : IsExplained (description_in places) (opened_in places) key whole
+  pub begun : whole.begun ≡ false
+
+-- nothing is searched for
+abbrev pub MayEndExplaining : Status → Type 0
+MayEndExplaining statuses.Spent = ⊥
+MayEndExplaining statuses.Asked = ⊥
+MayEndExplaining status = IsEndStatus status
+
+abbrev pub explaining_promise : Explaining → Promise
+explaining_promise explaining = record {
+  Refuses = λ files. RefusesExplaining files explaining;
+  Gives = Explains explaining;
+  Opens = λ files. AreToOpen files explaining.file;
+  begins = None;
+  MayEnd = MayEndExplaining;
+}

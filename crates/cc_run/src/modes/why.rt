@@ -1,0 +1,109 @@
+//! Why mode: a cause of each value of one history.
+ghost use Rattle.std.specs.Prelude.{◌≡◌, ◌≤◌, List, [], false, IfOk, IfSome, Some};
+ghost use Rattle.cc_asked.specs.Descriptions.{IsDescriptionOf};
+ghost use Rattle.cc_defs.specs.Description.{Description, sizes_at};
+ghost use Rattle.cc_defs.specs.Limits.{most_steps};
+ghost use Rattle.cc_defs.specs.Paths.{IsPath};
+ghost use Rattle.cc_defs.specs.Rows.{IsRow};
+ghost use Rattle.cc_describe.specs.Describing.{Describes, HasForms, SaysAll};
+ghost use Rattle.cc_run.specs.Explained.{IsLookedAt, TellsRow};
+ghost use Rattle.cc_run.specs.Modes.Explaining.{no_history_line};
+ghost use Rattle.cc_run.specs.Stops.{Prints, Step, moment};
+ghost use Rattle.cc_run.specs.Tasks.{request_of};
+ghost use Rattle.cc_run.specs.Wholes.{only_out};
+ghost use Rattle.cc_sorts.specs.Tables.{IsSignatureFor};
+ghost use Rattle.cc_theory.specs.Theories.{AreLawsFor, AreLawsOf};
+ghost use Rattle.cc_words.specs.Requests.{Explaining, ToExplain};
+ghost use Rattle.cc_words.specs.Words.{Text};
+
+use crate::causes::tell_causes;
+use crate::refusing::{file_named, give, refuse};
+use crate::rows::{LookedAt, look_at};
+use crate::status::{Status, Stop};
+use bumpalo::Bump;
+use cc_arena::{Laws, Terms};
+use cc_defs::laws::positions_have_sizes;
+use cc_defs::{Fault, Key};
+use cc_describe::Described;
+use cc_ports::{Desk, To};
+use cc_why::why;
+use std::alloc::Global;
+
+/// Tells that a row is no history.
+fn tell_none<D: Desk>(desk: &mut D) -> Result<Status, Stop>
+    ensures told { Step (only_out no_history_line) (moment D.told D.begun D.read_faults D.write_faults D.calls desk.old) (moment D.told D.begun D.read_faults D.write_faults D.calls desk.new) result }
+    ensures status { IfOk result (λ status. status ≡ Status.Not) }
+{
+    give(desk, To::Out, b"not a history\n")?;
+    Ok(Status::Not)
+}
+
+/// Tells why each position of a history has its value.
+fn tell_history<D: Desk>(
+    alloc: Global,
+    desk: &mut D,
+    described: &Described,
+    laws: &Laws<'_>,
+    key: &Key,
+) -> Result<Status, Stop>
+    requires signature { IsSignatureFor described.now.table described.now.sig }
+    requires horizon { key.now.horizon ≤ most_steps }
+    requires laws { AreLawsFor described.now.sig laws.now }
+    requires path { (d : Description) × IsDescriptionOf described.now d × AreLawsOf described.now.sig laws.now d
+        × IsRow (sizes_at d key.now.horizon) key.now.row × IsPath d key.now.horizon key.now.row }
+    ensures { (d : Description) → IsDescriptionOf described.now d → AreLawsOf described.now.sig laws.now d → IsPath d key.now.horizon key.now.row →
+        TellsRow d described.now.files key.now (moment D.told D.begun D.read_faults D.write_faults D.calls desk.old) (moment D.told D.begun D.read_faults D.write_faults D.calls desk.new) result }
+{
+    positions_have_sizes();
+    let row = key.row.items();
+    let causes = why(alloc, &described.sig, laws, key.horizon, row)?;
+    tell_causes(alloc, desk, described, row, causes.items())?;
+    Ok(Status::Right)
+}
+
+/// Explains a row, or tells that it is no history.
+fn explain_row<D: Desk>(
+    alloc: Global,
+    desk: &mut D,
+    described: &Described,
+    row: &LookedAt<'_>,
+) -> Result<Status, Stop>
+    requires signature { IsSignatureFor described.now.table described.now.sig }
+    requires horizon { row.now.key.horizon ≤ most_steps }
+    requires laws { AreLawsFor described.now.sig row.now.laws }
+    requires of { (d : Description) × (text : Text) × IsDescriptionOf described.now d
+        × IsLookedAt d described.now.sig text row.now.laws row.now.key row.now.is_path }
+    ensures { (d : Description) (text : Text) → IsDescriptionOf described.now d →
+        IsLookedAt d described.now.sig text row.now.laws row.now.key row.now.is_path →
+        TellsRow d described.now.files row.now.key (moment D.told D.begun D.read_faults D.write_faults D.calls desk.old) (moment D.told D.begun D.read_faults D.write_faults D.calls desk.new) result }
+{
+    if row.is_path {
+        return tell_history(alloc, desk, described, &row.laws, &row.key);
+    }
+    tell_none(desk)
+}
+
+/// Explains the row of a key.
+pub(crate) fn explain<D: Desk>(
+    alloc: Global,
+    desk: &mut D,
+    described: &Described,
+    key: &str,
+) -> Result<Status, Stop>
+    requires says { SaysAll described.now }
+    requires forms { HasForms described.now }
+    ensures { (words : List Text) (explaining : Explaining) → request_of words ≡ Some (ToExplain explaining) → explaining.key ≡ key.now →
+        IfSome (D.told desk.old) (λ before. Describes before.files explaining.file described.now) →
+        Prints words false [] (moment D.told D.begun D.read_faults D.write_faults D.calls desk.old) (moment D.told D.begun D.read_faults D.write_faults D.calls desk.new) result }
+{
+    let arena = Bump::new(alloc);
+    let terms = Terms::new(&arena);
+    match look_at(alloc, described, key, &terms) {
+        Ok(row) => explain_row(alloc, desk, described, &row),
+        Err(Fault::Refused(refusal)) => {
+            let file = file_named(described.files.items(), &refusal);
+            refuse(alloc, desk, &refusal, file)
+        }
+        Err(Fault::OutOfMemory) => Err(Stop::OutOfMemory),
+    }
+}

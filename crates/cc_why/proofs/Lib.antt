@@ -1,0 +1,11 @@
+mod Found
+mod Lists
+mod Loops
+mod Meant
+mod Meets
+mod Notes
+mod Rows
+mod Standing
+mod Truths
+mod Values
+mod WellGrounded
