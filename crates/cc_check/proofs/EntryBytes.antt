@@ -9,7 +9,8 @@ use Rattle.cc_defs.specs.declared.log.LogLine.TheVariants as lines
 use Rattle.cc_defs.specs.Clauses.{Literal}
 use Rattle.cc_defs.specs.LogBytes.{IsNumber, HasNumbers, end_word_bytes, entry_bytes, number_bytes, literal_bytes}
 use Rattle.cc_defs.specs.LogTexts.{IsShortLiteral}
-use Rattle.cc_check.specs.Entries.{IsNumberIn, HasNoNumberIn, AreNumbersIn, HasNoNumbersIn, AreLiteralsIn, BeginsWith, HasNoEntry, HasNoHeading, HasNoEnd, IsEntryRead}
+use Rattle.cc_defs.specs.LogBytes.{BeginsWith, HasNoEntry}
+use Rattle.cc_check.specs.Entries.{IsNumberIn, HasNoNumberIn, AreNumbersIn, HasNoNumbersIn, AreLiteralsIn, HasNoHeading, HasNoEnd, IsEntryRead}
 use Rattle.cc_check.specs.declared.line.Kind.{Kind}
 use Rattle.cc_check.specs.Laws.{OneEntry}
 use Rattle.cc_check.proofs.NumberBytes.{one_within, one_number_in, one_literal_in, cells}
@@ -17,7 +18,7 @@ use Rattle.cc_check.proofs.ListBytes.{one_list_in}
 
 -- ---- numbers and lists, one of each at most
 
-same_number_in : (bytes : List ℕ) (n m : ℕ) (rest other : List ℕ) → IsNumberIn bytes n rest → IsNumberIn bytes m other → (n ≡ m) × (rest ≡ other)
+pub same_number_in : (bytes : List ℕ) (n m : ℕ) (rest other : List ℕ) → IsNumberIn bytes n rest → IsNumberIn bytes m other → (n ≡ m) × (rest ≡ other)
 same_number_in bytes n m rest other a b = one_within 4 bytes n m rest other a b
 
 same_numbers_in : (count : ℕ) (bytes xs ys rest other : List ℕ) → AreNumbersIn count bytes xs rest → AreNumbersIn count bytes ys other → (xs ≡ ys) × (rest ≡ other)
@@ -29,14 +30,14 @@ same_literals_in count bytes xs ys rest other a b = one_list_in IsShortLiteral l
 
 -- ---- what stands behind the kind
 
-abbrev class_of : LogLine → ℕ
+abbrev pub class_of : LogLine → ℕ
 class_of (lines.Section conditions horizon) = 1
 class_of (lines.Derived clause chain) = 2
 class_of (lines.Block row) = 3
 class_of (lines.End word) = 4
 
 -- by the first byte
-abbrev class_by : ℕ → ℕ
+abbrev pub class_by : ℕ → ℕ
 class_by byte = cond (ltb byte 3) 1 (cond (eqb byte 3) 2 (cond (eqb byte 4) 3 4))
 
 class_is : (line : LogLine) (rest : List ℕ) → class_by (get_or (entry_bytes line ++ rest) 0 0) ≡ class_of line
@@ -48,13 +49,13 @@ class_is (lines.End words.Empty) rest = refl
 class_is (lines.End words.Found) rest = refl
 class_is (lines.End words.Spent) rest = refl
 
-whole : (bytes : List ℕ) (line : LogLine) (rest : List ℕ) → BeginsWith bytes line rest → bytes ≡ entry_bytes line ++ rest
+pub whole : (bytes : List ℕ) (line : LogLine) (rest : List ℕ) → BeginsWith bytes line rest → bytes ≡ entry_bytes line ++ rest
 whole bytes line rest h = h.spelled ∙ ap (λ (e : List ℕ). e ++ rest) h.read.spelled
 
-begins : (bytes : List ℕ) (line : LogLine) (rest : List ℕ) → HasNumbers line → bytes ≡ entry_bytes line ++ rest → BeginsWith bytes line rest
+pub begins : (bytes : List ℕ) (line : LogLine) (rest : List ℕ) → HasNumbers line → bytes ≡ entry_bytes line ++ rest → BeginsWith bytes line rest
 begins bytes line rest formed is = record { entry = entry_bytes line; read = record { formed = formed; spelled = refl }; spelled = is }
 
-class_read : (bytes : List ℕ) (line : LogLine) (rest : List ℕ) → BeginsWith bytes line rest → class_by (get_or bytes 0 0) ≡ class_of line
+pub class_read : (bytes : List ℕ) (line : LogLine) (rest : List ℕ) → BeginsWith bytes line rest → class_by (get_or bytes 0 0) ≡ class_of line
 class_read bytes line rest h = ap (λ (t : List ℕ). class_by (get_or t 0 0)) (whole bytes line rest h) ∙ class_is line rest
 
 same_class : (bytes : List ℕ) (line other : LogLine) (rest others : List ℕ) → BeginsWith bytes line rest → BeginsWith bytes other others → class_of line ≡ class_of other
@@ -68,7 +69,7 @@ same_row body n m b c x y rest other first row first_too row_too =
     let counts = same_number_in body n m b c first first_too in
     same_numbers_in m c x y rest other (subst (λ (t : List ℕ). AreNumbersIn m t x rest) counts.1 (subst (λ (k : ℕ). AreNumbersIn k b x rest) counts.0 row)) row_too
 
-row_parts : (bytes body row rest : List ℕ) → bytes ≡ 4 ∷ body → BeginsWith bytes (lines.Block row) rest →
+pub row_parts : (bytes body row rest : List ℕ) → bytes ≡ 4 ∷ body → BeginsWith bytes (lines.Block row) rest →
     IsNumberIn body (length row) (flat_map number_bytes row ++ rest) × AreNumbersIn (length row) (flat_map number_bytes row ++ rest) row rest
 row_parts bytes body row rest is h =
     let all = sym is ∙ whole bytes (lines.Block row) rest h in
@@ -89,14 +90,14 @@ derived_spelled clause chain rest =
     ∙ append_assoc (number_bytes (length clause)) (flat_map literal_bytes clause) (number_bytes (length chain / 2) ++ (flat_map number_bytes chain ++ rest)))
 
 -- The parts of a derived line, and what stands behind each.
-record DerivedParts (body : List ℕ) (clause : List Literal) (chain rest : List ℕ) : Type 0 where
-  behind_count : List ℕ
-  behind_clause : List ℕ
-  behind_pairs : List ℕ
-  count : IsNumberIn body (length clause) behind_count
-  literals : AreLiteralsIn (length clause) behind_count clause behind_clause
-  pairs : IsNumberIn behind_clause (length chain / 2) behind_pairs
-  numbers : AreNumbersIn (2 * (length chain / 2) + 1) behind_pairs chain rest
+pub record DerivedParts (body : List ℕ) (clause : List Literal) (chain rest : List ℕ) : Type 0 where
+  pub behind_count : List ℕ
+  pub behind_clause : List ℕ
+  pub behind_pairs : List ℕ
+  pub count : IsNumberIn body (length clause) behind_count
+  pub literals : AreLiteralsIn (length clause) behind_count clause behind_clause
+  pub pairs : IsNumberIn behind_clause (length chain / 2) behind_pairs
+  pub numbers : AreNumbersIn (2 * (length chain / 2) + 1) behind_pairs chain rest
 
 derived_parts : (bytes body : List ℕ) (clause : List Literal) (chain rest : List ℕ) → bytes ≡ 3 ∷ body → BeginsWith bytes (lines.Derived clause chain) rest →
     DerivedParts body clause chain rest
@@ -137,7 +138,7 @@ same_parts body a b x y rest other one two =
     (clauses.0, chains.0, chains.1)
 
 -- what begins with its kind is a derived line
-only_derived : (body : List ℕ) → ((clause : List Literal) (chain rest : List ℕ) → DerivedParts body clause chain rest → ⊥) → HasNoEntry (3 ∷ body)
+pub only_derived : (body : List ℕ) → ((clause : List Literal) (chain rest : List ℕ) → DerivedParts body clause chain rest → ⊥) → HasNoEntry (3 ∷ body)
 only_derived body none (lines.Section conditions horizon) rest h = let e = class_read (3 ∷ body) (lines.Section conditions horizon) rest h in omega arith
 only_derived body none (lines.Derived clause chain) rest h = none clause chain rest (derived_parts (3 ∷ body) body clause chain rest refl h)
 only_derived body none (lines.Block row) rest h = let e = class_read (3 ∷ body) (lines.Block row) rest h in omega arith
@@ -196,7 +197,7 @@ other_read bytes (Some entry) literals numbers not_derived not_block h = h liter
 
 -- ---- bytes begin with one entry at most
 
-abbrev heading_byte : Bool → ℕ
+abbrev pub heading_byte : Bool → ℕ
 heading_byte conditions = cond conditions 2 1
 
 same_conditions : (c d : Bool) → heading_byte c ≡ heading_byte d → c ≡ d

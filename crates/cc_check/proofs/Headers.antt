@@ -1,69 +1,129 @@
 -- The header of a log, and the line behind it.
-use Rattle.std.proofs.Common.{◌≡◌, ◌≢◌, ℕ, ◌≤◌, Bool, List, [], ◌∷◌, ◌++◌, length, drop, refl, sym, ap, subst, ◌∙◌, arith, length-append, inl, inr}
-use Rattle.std.proofs.lemmas.List.{nil_from_length}
+use Rattle.std.proofs.Common.{◌≡◌, ◌≢◌, ℕ, ◌≤◌, Bool, List, [], ◌∷◌, ◌++◌, None, Option, true, false, eqb, length, drop, take, refl, sym, ap, subst, ◌∙◌, arith, length-append, inl, inr}
+use Rattle.std.specs.Prelude.{Result, Ok, Err, IfErr, IsErrAnd}
+use Rattle.std.proofs.lemmas.Bool.{false≢true}
+use Rattle.std.proofs.lemmas.Bool.Decides.{Decides-eqb}
+use Rattle.std.proofs.lemmas.List.{nil_from_length, take_at, take-append-drop}
+use Rattle.std.proofs.lemmas.Slice.Eq.{slice_eq-Decides}
+use Rattle.std.specs.Cmp.Lexicographic.{pointwise}
 use Rattle.cc_defs.specs.declared.log.Cause.{Cause}
 use Rattle.cc_defs.specs.declared.log.Cause.TheVariants as causes
 use Rattle.cc_defs.specs.declared.log.LogLine.TheVariants as lines
-use Rattle.cc_defs.specs.LogBytes.{First}
-use Rattle.cc_defs.specs.LogTexts.{IsLine, header, lines_in}
-use Rattle.cc_defs.specs.Logs.{SectionText, IsNoHeading, AreSections}
+use Rattle.cc_defs.specs.declared.log.Version.{Version}
+use Rattle.cc_defs.specs.declared.log.Version.TheVariants.{First, Second}
+use Rattle.cc_defs.specs.LogBytes.{IsSpelled, binary_header}
+use Rattle.cc_defs.specs.LogTexts.{header, lines_in}
+use Rattle.cc_defs.specs.Logs.{IsNoHeading, IsNotBinary}
 use Rattle.cc_check.specs.declared.fault.CheckFault.{CheckFault}
 use Rattle.cc_check.specs.declared.fault.CheckFault.TheVariants as faults
-use Rattle.cc_check.specs.Parts.{IsRefusal, IsSecond}
+use Rattle.cc_check.specs.declared.line.Heading.{Heading}
+use Rattle.cc_check.specs.Parts.{AreSectionsBehind, AreSectionsFrom, AreSectionsOf, IsCut, IsRefusal, IsRefusalBehind, IsSecondAt, IsSecondIn}
+use Rattle.cc_check.specs.SectionTexts.{SectionBytes}
 use Rattle.cc_check.specs.Splits.{Split, Parts, Misread, IsSplit, IsSplitOf, IsSplitBehind}
-use Rattle.cc_check.specs.Texts.{IsFirstLine}
+use Rattle.cc_check.specs.Texts.{AreTexts}
 use Rattle.cc_check.proofs.FirstLines.{line_length, first_line_cut}
+use Rattle.cc_check.proofs.FirstTexts.{none_of, one_more, same_first}
+use Rattle.cc_check.proofs.EntryThere.{texts_there}
+
+pub as_err : {E A : Type 0} (P : E → Type 0) (r : Result A E) (fault : E) → IsErrAnd r (λ (given : E). given ≡ fault) → P fault → IfErr r P
+as_err P (Ok value) fault is holds = tt
+as_err P (Err given) fault is holds = subst P (sym is) holds
+
+-- ---- the header
 
 header_lines : (rest : List ℕ) → lines_in (header ++ rest) ≡ header ∷ lines_in rest
 header_lines rest = refl
 
-refusal_as : (bytes : List ℕ) (fault : CheckFault) (line : ℕ) (reason : Cause) → fault ≡ faults.Refused line reason → IsSplit bytes (Misread line reason) → IsRefusal bytes fault
-refusal_as bytes fault line reason is split = subst (IsRefusal bytes) (sym is) split
-
-no_header_split : (bytes : List ℕ) → ((rest : List ℕ) → bytes ≢ header ++ rest) → IsSplit bytes (Misread 1 causes.Header)
+no_header_split : (bytes : List ℕ) → ((rest : List ℕ) → bytes ≢ header ++ rest) → IsSplitOf (lines_in bytes) (Misread 1 causes.Header)
 no_header_split [] none = refl
 no_header_split (byte ∷ bytes) none =
     let cut = first_line_cut (byte ∷ bytes) (line_length (byte ∷ bytes)) (omega arith) refl in
     subst (λ (ts : List (List ℕ)). IsSplitOf ts (Misread 1 causes.Header)) (sym cut.lines)
     (inl ((λ is. none (drop (line_length (byte ∷ bytes)) (byte ∷ bytes)) (cut.parts ∙ ap (λ (t : List ℕ). t ++ drop (line_length (byte ∷ bytes)) (byte ∷ bytes)) is)), refl))
 
-pub no_header : (bytes : List ℕ) (fault : CheckFault) → fault ≡ faults.Refused 1 causes.Header → ((rest : List ℕ) → bytes ≢ header ++ rest) → IsRefusal bytes fault
-no_header bytes fault is none = refusal_as bytes fault 1 causes.Header is (no_header_split bytes none)
+pub no_header : (bytes : List ℕ) (fault : CheckFault) → fault ≡ faults.Refused 1 causes.Header → IsNotBinary bytes → ((rest : List ℕ) → bytes ≢ header ++ rest) →
+    IsRefusal bytes fault
+no_header bytes fault is other none = subst (IsRefusal bytes) (sym is) (inr (other, no_header_split bytes none))
 
-module _ (bytes body : List ℕ) (headed : bytes ≡ header ++ body) where
-  behind_header : (split : Split) → IsSplitBehind (lines_in body) split → IsSplit bytes split
-  behind_header split h = subst (λ (t : List ℕ). IsSplit t split) (sym headed) (inr (refl, h))
+-- ---- by what was tested
 
-  pub nothing_behind : (fault : CheckFault) → fault ≡ faults.Refused 2 causes.Section → length body ≡ 0 → IsRefusal bytes fault
-  nothing_behind fault is nil =
-      refusal_as bytes fault 2 causes.Section is
-      (behind_header (Misread 2 causes.Section) (subst (λ (t : List ℕ). IsSplitBehind (lines_in t) (Misread 2 causes.Section)) (sym (nil_from_length body nil)) refl))
+pub not_at : (front bytes : List ℕ) → pointwise eqb (take (length front) bytes) front ≡ false → (rest : List ℕ) → bytes ≢ front ++ rest
+not_at front bytes other rest is =
+    false≢true
+    (sym other ∙ (slice_eq-Decides Decides-eqb (take (length front) bytes) front _ refl).1 (ap (take (length front)) is ∙ take_at front rest (length front) refl))
 
-  module _ (text behind : List ℕ) (cut : IsFirstLine body text behind) where
-    of_first : (split : Split) → IsSplitBehind (text ∷ lines_in behind) split → IsSplit bytes split
-    of_first split h = behind_header split (subst (λ (ts : List (List ℕ)). IsSplitBehind ts split) (sym cut.lines) h)
+pub at_front : (front bytes body : List ℕ) → pointwise eqb (take (length front) bytes) front ≡ true → body ≡ drop (length front) bytes → bytes ≡ front ++ body
+at_front front bytes body same is =
+    sym (take-append-drop (length front) bytes)
+    ∙ ap (λ (t : List ℕ). t ++ drop (length front) bytes) ((slice_eq-Decides Decides-eqb (take (length front) bytes) front _ refl).0 same)
+    ∙ ap (λ (t : List ℕ). front ++ t) (sym is)
 
-    second_split : (cause : Cause) → IsNoHeading First text → IsSecond text cause → IsSplit bytes (Misread 2 cause)
-    second_split causes.Form none h = of_first (Misread 2 causes.Form) (inl (h, refl))
-    second_split causes.Section none h = of_first (Misread 2 causes.Section) (inr (inl (none, h, refl)))
-    second_split causes.Header none h = absurd h
-    second_split causes.Literal none h = absurd h
-    second_split causes.Number none h = absurd h
-    second_split causes.Pivot none h = absurd h
-    second_split causes.Clause none h = absurd h
-    second_split causes.Row none h = absurd h
-    second_split causes.NotRefuted none h = absurd h
+-- ---- what is behind it, in each version
 
-    pub second_wrong : (fault : CheckFault) (cause : Cause) → fault ≡ faults.Refused 2 cause → IsNoHeading First text → IsSecond text cause → IsRefusal bytes fault
-    second_wrong fault cause is none h = refusal_as bytes fault 2 cause is (second_split cause none h)
+header_in : Version → List ℕ
+header_in First = header
+header_in Second = binary_header
 
-    pub all_read : (conditions : Bool) (horizon : ℕ) (sections : List SectionText) → IsLine text (lines.Section conditions horizon) →
-        ((first : List ℕ) → IsLine first (lines.Section conditions horizon) → AreSections First 2 (first ∷ lines_in behind) sections) → IsSplit bytes (Parts sections)
-    all_read conditions horizon sections is are = of_first (Parts sections) (inr (inr (sections, are text is, refl)))
+-- where bytes begin with the header of a version
+abbrev Begin : Version → (bytes body : List ℕ) → Type 0
+Begin First bytes body = IsNotBinary bytes × (bytes ≡ header ++ body)
+Begin Second bytes body = bytes ≡ binary_header ++ body
 
-    pub behind_few : length bytes ≤ 268435456 → length behind ≤ 268435448
-    behind_few few =
-        let e = ap length headed ∙ length-append header body in
-        let f = ap length cut.parts ∙ length-append text behind in
-        let g = cut.some in
-        omega arith
+module _ (bytes body : List ℕ) where
+  split_behind : (version : Version) → Begin version bytes body → (texts : List (List ℕ)) (split : Split) → AreTexts version body texts → IsSplitBehind version texts split →
+      IsSplit bytes split
+  split_behind First (other, headed) texts split are h = inr (
+    other,
+    subst (λ (t : List ℕ). IsSplitOf (lines_in t) split) (sym headed) (inr (refl, subst (λ (ts : List (List ℕ)). IsSplitBehind First ts split) are h)),
+  )
+  split_behind Second headed texts split are h = inl (body, headed, (texts, are, h))
+
+  pub sections_behind : (version : Version) → Begin version bytes body → (sections : List SectionBytes) → AreSectionsBehind version body sections → AreSectionsOf bytes sections
+  sections_behind version begin sections (texts, are, (all, of, split)) = (all, of, split_behind version begin texts (Parts all) are split)
+
+  pub refusal_behind : (version : Version) → Begin version bytes body → (fault : CheckFault) → IsRefusalBehind version body fault → IsRefusal bytes fault
+  refusal_behind version begin (faults.Refused line reason) (texts, are, split) = split_behind version begin texts (Misread line reason) are split
+  refusal_behind version begin faults.OutOfMemory none = tt
+
+-- ---- the line behind the header
+
+refused_as : (version : Version) (body : List ℕ) (fault : CheckFault) (line : ℕ) (reason : Cause) → fault ≡ faults.Refused line reason →
+    ((texts : List (List ℕ)) × AreTexts version body texts × IsSplitBehind version texts (Misread line reason)) → IsRefusalBehind version body fault
+refused_as version body fault line reason is h = subst (IsRefusalBehind version body) (sym is) h
+
+pub nothing_behind : (version : Version) (body : List ℕ) (fault : CheckFault) → fault ≡ faults.Refused 2 causes.Section → length body ≡ 0 → IsRefusalBehind version body fault
+nothing_behind version body fault is nil =
+    refused_as version body fault 2 causes.Section is ([], subst (λ (t : List ℕ). AreTexts version t []) (sym (nil_from_length body nil)) (none_of version), refl)
+
+second_split : (version : Version) (text : List ℕ) (texts : List (List ℕ)) (cause : Cause) → IsNoHeading version text → IsSecondIn version text cause →
+    IsSplitBehind version (text ∷ texts) (Misread 2 cause)
+second_split version text texts causes.Form none h = inl (h, refl)
+second_split version text texts causes.Section none h = inr (inl (none, h, refl))
+second_split version text texts causes.Header none h = absurd h
+second_split version text texts causes.Literal none h = absurd h
+second_split version text texts causes.Number none h = absurd h
+second_split version text texts causes.Pivot none h = absurd h
+second_split version text texts causes.Clause none h = absurd h
+second_split version text texts causes.Row none h = absurd h
+second_split version text texts causes.NotRefuted none h = absurd h
+
+module _ (version : Version) (body behind : List ℕ) (heading : Option Heading) (cut : IsCut version body heading behind) where
+  pub second_wrong : (fault : CheckFault) (cause : Cause) → fault ≡ faults.Refused 2 cause → heading ≡ None → IsSecondAt version body cause → IsRefusalBehind version body fault
+  second_wrong fault cause is none (text, rest, first, second) =
+      let (more, are) = texts_there version rest in
+      let no_heading : IsNoHeading version cut.text = rw none at cut.read in
+      let same = same_first version body cut.text text behind rest cut.first first more are in
+      refused_as version body fault 2 cause is (
+        text ∷ more,
+        one_more version body text rest first more are,
+        second_split version text more cause (subst (IsNoHeading version) (sym same) no_heading) second,
+      )
+
+  pub all_read : (conditions : Bool) (horizon : ℕ) (sections : List SectionBytes) → IsSpelled version cut.text (lines.Section conditions horizon) →
+      ((first : List ℕ) → IsSpelled version first (lines.Section conditions horizon) → AreSectionsFrom version first behind sections) → AreSectionsBehind version body sections
+  all_read conditions horizon sections is from =
+      let (texts, are, (all, of, split)) = from cut.text is in
+      (cut.text ∷ texts, one_more version body cut.text behind cut.first texts are, (all, of, inr (inr (all, split, refl))))
+
+  pub behind_few : length body ≤ 268435448 → length behind ≤ 268435448
+  behind_few few = let e = ap length cut.first.parts ∙ length-append cut.text behind in omega arith

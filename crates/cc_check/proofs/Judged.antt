@@ -1,98 +1,151 @@
 -- What lines do, behind the clauses of a section.
-use Rattle.std.proofs.Common.{◌≡◌, ◌≢◌, ℕ, suc, ◌+◌, ◌≤◌, Bool, true, false, ◌||◌, eqb, List, [], ◌∷◌, ◌++◌, length, refl, sym, ap, subst, ◌∙◌, arith, append_assoc, append-nil, length-append, inl, inr}
+use Rattle.std.proofs.Common.{◌≡◌, ◌≢◌, ℕ, zero, suc, ◌+◌, ◌-◌, ◌<◌, ◌≤◌, get_or, take, drop, slice_set, Bool, true, false, ◌||◌, eqb, List, [], ◌∷◌, ◌++◌, length, refl, sym, ap, subst, ◌∙◌, arith, append_assoc, append-nil, length-append, inl, inr}
 use Rattle.std.specs.Prelude.{◌↔◌, IsTrue}
 use Rattle.std.specs.Bool.{MatchBool, beq}
 use Rattle.std.specs.Prelude.{MatchOption, Option, None, Some, Result, Ok, Err, IfOk}
 use Rattle.std.proofs.Math.Dec.{eqb-suc-zero}
 use Rattle.std.specs.List.{Contains}
 use Rattle.std.proofs.lemmas.Bool.{false≢true}
-use Rattle.std.proofs.lemmas.List.{nil_from_length}
+use Rattle.std.proofs.lemmas.List.{drop_all, nil_from_length, take-append-drop}
 use Rattle.std.proofs.lemmas.List.Elements.{Contains-append_left, Contains-push, Contains-push_cases}
 use Rattle.cc_defs.specs.declared.log.Cause.{Cause}
 use Rattle.cc_defs.specs.declared.log.Cause.TheVariants as causes
 use Rattle.cc_defs.specs.declared.log.EndWord.{EndWord}
 use Rattle.cc_defs.specs.declared.log.EndWord.TheVariants as words
+use Rattle.cc_defs.specs.declared.log.LogLine.{LogLine}
 use Rattle.cc_defs.specs.declared.log.LogLine.TheVariants as lines
+use Rattle.cc_defs.specs.declared.log.Version.{Version}
+use Rattle.cc_defs.specs.declared.log.Version.TheVariants.{First, Second}
 use Rattle.cc_defs.specs.Clauses.{Literal, Reaches}
-use Rattle.cc_defs.specs.LogBytes.{First}
-use Rattle.cc_defs.specs.LogTexts.{IsLine, lines_in}
+use Rattle.cc_defs.specs.LogBytes.{IsSpelled, chain_behind, line_meant}
 use Rattle.cc_defs.specs.Rows.{IsRow}
-use Rattle.cc_defs.specs.Sections.{Axioms, Finding, Wrong, HasNoEmpty, AreNamed, EndsRightly, IsBlockJudged, IsFound, IsEnded, row_denial}
+use Rattle.cc_defs.specs.Sections.{Axioms, Finding, Reading, Right, Trailed, Wrong, HasNoEmpty, AreNamed, EndsRightly, IsBlockJudged, IsFound, IsEnded, IsJudged, row_denial}
 use Rattle.cc_defs.specs.declared.refusal.OutOfMemory.{OutOfMemory}
-use Rattle.cc_check.specs.declared.judge.Finding.{Finding as Found}
+use Rattle.cc_check.specs.declared.judge.Finding.{Finding as Told}
 use Rattle.cc_check.specs.declared.judge.Pass.{Pass}
 use Rattle.cc_check.specs.declared.judge.Pass.TheVariants as passes
-use Rattle.cc_check.specs.Clauses.{IsClauseOver, AreClausesOver, AreSound, IsPassed, IsRightDerived, IsWrongDerived, ReachesNothing, as_text, plain_finding}
-use Rattle.cc_check.specs.Texts.{IsFirstLine}
+use Rattle.cc_check.specs.declared.line.Kind.{Kind}
+use Rattle.cc_check.specs.declared.line.Kind.TheVariants as kinds
+use Rattle.cc_check.specs.Clauses.{IsClauseOver, AreClausesOver, AreSound, IsEndedInBytes, IsFoundInBytes, IsPassed, IsPassedAt, IsRightDerived, IsWrongDerived, ReachesNothing, plain_finding, reading_as}
+use Rattle.cc_check.specs.Reading.{IsFirstRead, IsReadIn}
+use Rattle.cc_check.specs.Texts.{AreTexts}
+use Rattle.cc_check.proofs.FirstTexts.{nothing_in}
 
-module _ (may : Bool) (axioms : Axioms) (own : List (List Literal)) (blocks : ℕ) (text : List ℕ) where
+-- ---- what a line means, in each version
+
+block_meant : (version : Version) (own : ℕ) (row : List ℕ) → line_meant version own (lines.Block row) ≡ lines.Block row
+block_meant First own row = refl
+block_meant Second own row = refl
+
+end_meant : (version : Version) (own : ℕ) (word : EndWord) → line_meant version own (lines.End word) ≡ lines.End word
+end_meant First own word = refl
+end_meant Second own word = refl
+
+module _ (version : Version) (may : Bool) (axioms : Axioms) (own : List (List Literal)) (blocks : ℕ) (text : List ℕ) where
+  abbrev Found : ℕ → List (List ℕ) → Finding → List (List Literal) → ℕ → Type 0
+  Found line texts finding after count = IsFound (reading_as version may) axioms after count line texts finding
+
+  found_by : (read said : LogLine) → IsSpelled version text read → line_meant version (length (axioms.clauses ++ own) + 1) read ≡ said →
+      (line : ℕ) (texts : List (List ℕ)) (finding : Finding) →
+      IsJudged (reading_as version may) axioms (axioms.clauses ++ own) blocks line (Found (line + 1) texts finding) texts finding said →
+      IsFound (reading_as version may) axioms (axioms.clauses ++ own) blocks line (text ∷ texts) finding
+  found_by read said spelled is line texts finding judged = inr (
+    read,
+    spelled,
+    subst (IsJudged (reading_as version may) axioms (axioms.clauses ++ own) blocks line (Found (line + 1) texts finding) texts finding) (sym is) judged,
+  )
+
   moved : (clause : List Literal) (after : List (List Literal)) (count line : ℕ) (texts : List (List ℕ)) (finding : Finding) → after ≡ own ++ clause ∷ [] →
-      IsFound (as_text may) axioms (axioms.clauses ++ after) count line texts finding → IsFound (as_text may) axioms ((axioms.clauses ++ own) ++ clause ∷ []) count line texts finding
+      Found line texts finding (axioms.clauses ++ after) count → Found line texts finding ((axioms.clauses ++ own) ++ clause ∷ []) count
   moved clause after count line texts finding is next =
-      subst (λ (cs : List (List Literal)). IsFound (as_text may) axioms cs count line texts finding)
+      subst (λ (cs : List (List Literal)). Found line texts finding cs count)
       (ap (λ (cs : List (List Literal)). axioms.clauses ++ cs) is ∙ sym (append_assoc axioms.clauses own (clause ∷ []))) next
 
-  pub derived_goes : (clause : List Literal) (chain : List ℕ) (after : List (List Literal)) (count : ℕ) → IsRightDerived axioms (axioms.clauses ++ own) clause chain →
-      after ≡ own ++ clause ∷ [] → count ≡ blocks → IsLine text (lines.Derived clause chain) → IsPassed may axioms own blocks text passes.Goes after count
-  derived_goes clause chain after count right is same read line texts finding next =
-      let here = moved clause after count (line + 1) texts finding is next in
-      inr (
-        lines.Derived clause chain,
-        read,
-        inr (inr (
+  pub block_goes : may ≡ true → (row : List ℕ) (clause : List Literal) (after : List (List Literal)) (count : ℕ) → HasNoEmpty (axioms.clauses ++ own) → IsRow axioms.sizes row →
+      clause ≡ row_denial axioms.sizes row → after ≡ own ++ clause ∷ [] → count ≡ blocks → IsSpelled version text (lines.Block row) →
+      IsPassed (reading_as version may) axioms own blocks text passes.Goes after (count + 1)
+  block_goes allowed row clause after count none is_row denial is same read line texts finding next =
+      let here = moved clause after (count + 1) (line + 1) texts finding is next in
+      let goes = subst (λ (k : ℕ). Found (line + 1) texts finding ((axioms.clauses ++ own) ++ row_denial axioms.sizes row ∷ []) (k + 1)) same
+      (subst (λ (d : List Literal). Found (line + 1) texts finding ((axioms.clauses ++ own) ++ d ∷ []) (count + 1)) denial here) in
+      found_by (lines.Block row) (lines.Block row) read (block_meant version _ row) line texts finding
+      (subst (λ (b : Bool). IsBlockJudged b axioms (axioms.clauses ++ own) blocks line (Found (line + 1) texts finding) finding row) (sym allowed) (inr (inr (none, is_row, goes))))
+
+  pub end_goes : (word : EndWord) → EndsRightly (axioms.clauses ++ own) word → IsSpelled version text (lines.End word) →
+      IsPassed (reading_as version may) axioms own blocks text (passes.Ends word) own blocks
+  end_goes word right read line texts finding ended =
+      found_by (lines.End word) (lines.End word) read (end_meant version _ word) line texts finding (inl (right, ended))
+
+  pub end_wrong : (word : EndWord) → (EndsRightly (axioms.clauses ++ own) word → ⊥) → IsSpelled version text (lines.End word) →
+      IsPassed (reading_as version may) axioms own blocks text (passes.Wrong causes.Section) own blocks
+  end_wrong word wrong read line texts =
+      found_by (lines.End word) (lines.End word) read (end_meant version _ word) line texts (Wrong line causes.Section) (inr (wrong, refl))
+
+  -- a derived line, with its clauses named by their numbers
+  module _ (literals : List Literal) (distances numbers : List ℕ) (number : ℕ) (number_is : number ≡ length (axioms.clauses ++ own) + 1)
+      (meant : (c : List Literal) → line_meant version number (lines.Derived c distances) ≡ lines.Derived c numbers)
+      (read : IsSpelled version text (lines.Derived literals distances)) where
+    said : line_meant version (length (axioms.clauses ++ own) + 1) (lines.Derived literals distances) ≡ lines.Derived literals numbers
+    said = ap (λ (n : ℕ). line_meant version n (lines.Derived literals distances)) (sym number_is) ∙ meant literals
+
+    derived_goes : (after : List (List Literal)) (count : ℕ) → IsRightDerived axioms (axioms.clauses ++ own) literals numbers → after ≡ own ++ literals ∷ [] → count ≡ blocks →
+        IsPassed (reading_as version may) axioms own blocks text passes.Goes after count
+    derived_goes after count right is same line texts finding next =
+        let here = moved literals after count (line + 1) texts finding is next in
+        found_by (lines.Derived literals distances) (lines.Derived literals numbers) read said line texts finding
+        (inr (inr (
           right.open_still,
           right.clause_over.0,
           right.clause_over.1,
           right.reached,
-          subst (λ (k : ℕ). IsFound (as_text may) axioms ((axioms.clauses ++ own) ++ clause ∷ []) k (line + 1) texts finding) same here,
-        )),
-      )
+          subst (λ (k : ℕ). Found (line + 1) texts finding ((axioms.clauses ++ own) ++ literals ∷ []) k) same here,
+        )))
 
-  pub block_goes : may ≡ true → (row : List ℕ) (clause : List Literal) (after : List (List Literal)) (count : ℕ) → HasNoEmpty (axioms.clauses ++ own) → IsRow axioms.sizes row →
-      clause ≡ row_denial axioms.sizes row → after ≡ own ++ clause ∷ [] → count ≡ blocks → IsLine text (lines.Block row) → IsPassed may axioms own blocks text passes.Goes after (count + 1)
-  block_goes allowed row clause after count none is_row denial is same read line texts finding next =
-      let here = moved clause after (count + 1) (line + 1) texts finding is next in
-      let goes = subst (λ (k : ℕ). IsFound (as_text may) axioms ((axioms.clauses ++ own) ++ row_denial axioms.sizes row ∷ []) (k + 1) (line + 1) texts finding) same
-      (subst (λ (d : List Literal). IsFound (as_text may) axioms ((axioms.clauses ++ own) ++ d ∷ []) (count + 1) (line + 1) texts finding) denial here) in
-      inr (
-        lines.Block row,
-        read,
-        subst (λ (b : Bool). IsBlockJudged b axioms (axioms.clauses ++ own) blocks line (λ more most. IsFound (as_text may) axioms more most (line + 1) texts finding) finding row)
-            (sym allowed) (inr (inr (none, is_row, goes))),
-      )
+    pub derived_passed : (r : Option Cause) (clause staged : List Literal) (chain : List ℕ) (after : List (List Literal)) (count : ℕ) → clause ≡ literals → chain ≡ numbers →
+        MatchOption r (IsRightDerived axioms (axioms.clauses ++ own) clause chain × (staged ≡ clause)) (IsWrongDerived axioms (axioms.clauses ++ own) clause chain) → r ≡ None →
+        after ≡ own ++ staged ∷ [] → count ≡ blocks → IsPassed (reading_as version may) axioms own blocks text passes.Goes after count
+    derived_passed r clause staged chain after count same_clause same_chain h none is same =
+        let right : IsRightDerived axioms (axioms.clauses ++ own) clause chain × (staged ≡ clause) = rw none at h in
+        let moved_right : IsRightDerived axioms (axioms.clauses ++ own) literals numbers =
+        subst (λ (c : List Literal). IsRightDerived axioms (axioms.clauses ++ own) c numbers) same_clause
+        (subst (λ (n : List ℕ). IsRightDerived axioms (axioms.clauses ++ own) clause n) same_chain right.0) in
+        derived_goes after count moved_right (is ∙ ap (λ (c : List Literal). own ++ c ∷ []) (right.1 ∙ same_clause)) same
 
-  pub end_goes : (word : EndWord) → EndsRightly (axioms.clauses ++ own) word → IsLine text (lines.End word) → IsPassed may axioms own blocks text (passes.Ends word) own blocks
-  end_goes word right read line texts finding ended = inr (lines.End word, read, inl (right, ended))
-
-  pub end_wrong : (word : EndWord) → (EndsRightly (axioms.clauses ++ own) word → ⊥) → IsLine text (lines.End word) → IsPassed may axioms own blocks text (passes.Wrong causes.Section) own blocks
-  end_wrong word wrong read line texts = inr (lines.End word, read, inr (wrong, refl))
-
-  pub derived_passed : (r : Option Cause) (clause literals staged : List Literal) (chain numbers : List ℕ) (after : List (List Literal)) (count : ℕ) → clause ≡ literals → chain ≡ numbers →
-      MatchOption r (IsRightDerived axioms (axioms.clauses ++ own) clause chain × (staged ≡ clause)) (IsWrongDerived axioms (axioms.clauses ++ own) clause chain) → r ≡ None →
-      after ≡ own ++ staged ∷ [] → count ≡ blocks → IsLine text (lines.Derived literals numbers) → IsPassed may axioms own blocks text passes.Goes after count
-  derived_passed r clause literals staged chain numbers after count same_clause same_chain h none is same read =
-      let right : IsRightDerived axioms (axioms.clauses ++ own) clause chain × (staged ≡ clause) = rw none at h in
-      let moved_right : IsRightDerived axioms (axioms.clauses ++ own) literals numbers =
-      subst (λ (c : List Literal). IsRightDerived axioms (axioms.clauses ++ own) c numbers) same_clause
-      (subst (λ (n : List ℕ). IsRightDerived axioms (axioms.clauses ++ own) clause n) same_chain right.0) in
-      derived_goes literals numbers after count moved_right (is ∙ ap (λ (c : List Literal). own ++ c ∷ []) (right.1 ∙ same_clause)) same read
-
-  pub derived_wrong : (r : Option Cause) (cause : Cause) (clause literals : List Literal) (chain numbers : List ℕ) (right : Type 0) (after : List (List Literal)) (count : ℕ) → clause ≡ literals → chain ≡ numbers →
-      MatchOption r right (IsWrongDerived axioms (axioms.clauses ++ own) clause chain) → r ≡ Some cause →
-      IsLine text (lines.Derived literals numbers) → IsPassed may axioms own blocks text (passes.Wrong cause) after count
-  derived_wrong r cause clause literals chain numbers right after count same_clause same_chain h some read line texts =
-      let wrong : IsWrongDerived axioms (axioms.clauses ++ own) clause chain cause = rw some at h in
-      let moved_wrong : IsWrongDerived axioms (axioms.clauses ++ own) literals numbers cause =
-      subst (λ (c : List Literal). IsWrongDerived axioms (axioms.clauses ++ own) c numbers cause) same_clause
-      (subst (λ (n : List ℕ). IsWrongDerived axioms (axioms.clauses ++ own) clause n cause) same_chain wrong) in
-      inr (
-        lines.Derived literals numbers,
-        read,
-        elim moved_wrong [
+    pub derived_wrong : (r : Option Cause) (cause : Cause) (clause : List Literal) (chain : List ℕ) (right : Type 0) (after : List (List Literal)) (count : ℕ) →
+        clause ≡ literals → chain ≡ numbers → MatchOption r right (IsWrongDerived axioms (axioms.clauses ++ own) clause chain) → r ≡ Some cause →
+        IsPassed (reading_as version may) axioms own blocks text (passes.Wrong cause) after count
+    derived_wrong r cause clause chain right after count same_clause same_chain h some line texts =
+        let wrong : IsWrongDerived axioms (axioms.clauses ++ own) clause chain cause = rw some at h in
+        let moved_wrong : IsWrongDerived axioms (axioms.clauses ++ own) literals numbers cause =
+        subst (λ (c : List Literal). IsWrongDerived axioms (axioms.clauses ++ own) c numbers cause) same_clause
+        (subst (λ (n : List ℕ). IsWrongDerived axioms (axioms.clauses ++ own) clause n cause) same_chain wrong) in
+        found_by (lines.Derived literals distances) (lines.Derived literals numbers) read said line texts (Wrong line cause)
+        (elim moved_wrong [
           | inl there ↦ inl (there.0, ap (Wrong line) there.1)
           | inr wrongly ↦ inr (inl (wrongly.0, (cause, wrongly.1, refl)))
-        ],
-      )
+        ])
+
+-- ---- a chain's clauses, named one after another
+
+pub named_step : (own i : ℕ) (items : List ℕ) → i < length items →
+    take (suc (suc i)) (slice_set items i (own - get_or items i 0)) ++ chain_behind own (drop (suc (suc i)) (slice_set items i (own - get_or items i 0)))
+    ≡ take i items ++ chain_behind own (drop i items)
+named_step own i [] below = absurd (omega arith)
+named_step own zero (x ∷ []) below = refl
+named_step own zero (x ∷ y ∷ items) below = refl
+named_step own (suc i) (x ∷ items) below = ap (λ (t : List ℕ). x ∷ t) (named_step own i items (omega arith))
+
+pub named_so_far : (own i next : ℕ) (items made whole : List ℕ) → i < length items → next ≡ i + 2 → made ≡ slice_set items i (own - get_or items i 0) →
+    take i items ++ chain_behind own (drop i items) ≡ whole → take next made ++ chain_behind own (drop next made) ≡ whole
+named_so_far own i next items made whole below is same so_far =
+    let two : next ≡ suc (suc i) = omega arith in
+    ap (λ (n : ℕ). take n made ++ chain_behind own (drop n made)) two
+    ∙ ap (λ (t : List ℕ). take (suc (suc i)) t ++ chain_behind own (drop (suc (suc i)) t)) same ∙ named_step own i items below ∙ so_far
+
+pub named_whole : (own i : ℕ) (items whole : List ℕ) → length items ≤ i → take i items ++ chain_behind own (drop i items) ≡ whole → items ≡ whole
+named_whole own i items whole past so_far =
+    let none = drop_all i items past in
+    sym (take-append-drop i items) ∙ ap (λ (t : List ℕ). take i items ++ t) none ∙ ap (λ (t : List ℕ). take i items ++ chain_behind own t) (sym none) ∙ so_far
 
 -- ---- the end word
 
@@ -168,54 +221,109 @@ module _ (axioms : Axioms) (own : List (List Literal)) (clause : List Literal) (
 
 -- ---- the lines of a section, one after another
 
-pub record FoundSoFar (may : Bool) (axioms : Axioms) (first : ℕ) (bytes : List ℕ) (own : List (List Literal)) (blocks line : ℕ) (rest : List ℕ) : Type 0 where
-  pub so_far : (finding : Finding) → IsFound (as_text may) axioms (axioms.clauses ++ own) blocks line (lines_in rest) finding → IsFound (as_text may) axioms axioms.clauses 0 first (lines_in bytes) finding
+pub record FoundSoFar (reading : Reading) (axioms : Axioms) (first : ℕ) (bytes : List ℕ) (own : List (List Literal)) (blocks line : ℕ) (rest : List ℕ) : Type 0 where
+  pub so_far : (texts : List (List ℕ)) → AreTexts reading.version bytes texts → (more : List (List ℕ)) × AreTexts reading.version rest more
+      × ((finding : Finding) → IsFound reading axioms (axioms.clauses ++ own) blocks line more finding → IsFound reading axioms axioms.clauses 0 first texts finding)
   pub line_few : line + length rest ≤ first + length bytes
   pub blocks_few : blocks + length rest ≤ length bytes
+  pub own_few : length own + length rest ≤ length bytes
 
-pub found_begun : (may : Bool) (axioms : Axioms) (first : ℕ) (bytes : List ℕ) (own : List (List Literal)) (blocks : ℕ) → own ≡ [] → blocks ≡ 0 → FoundSoFar may axioms first bytes own blocks first bytes
-found_begun may axioms first bytes own blocks nothing none = record {
-  so_far = λ finding h.
-      subst (λ (cs : List (List Literal)). IsFound (as_text may) axioms cs 0 first (lines_in bytes) finding) (ap (λ (o : List (List Literal)). axioms.clauses ++ o) nothing ∙ append-nil axioms.clauses)
-      (subst (λ (k : ℕ). IsFound (as_text may) axioms (axioms.clauses ++ own) k first (lines_in bytes) finding) none h);
+pub found_begun : (reading : Reading) (axioms : Axioms) (first : ℕ) (bytes : List ℕ) (own : List (List Literal)) (blocks : ℕ) → own ≡ [] → blocks ≡ 0 →
+    FoundSoFar reading axioms first bytes own blocks first bytes
+found_begun reading axioms first bytes own blocks nothing none = let empty : length own ≡ 0 = ap length nothing in record {
+  so_far = λ texts are. (
+    texts,
+    are,
+    λ finding h.
+        subst (λ (cs : List (List Literal)). IsFound reading axioms cs 0 first texts finding)
+        (ap (λ (o : List (List Literal)). axioms.clauses ++ o) nothing ∙ append-nil axioms.clauses)
+        (subst (λ (k : ℕ). IsFound reading axioms (axioms.clauses ++ own) k first texts finding) none h),
+  );
   line_few = omega arith;
   blocks_few = omega arith;
+  own_few = omega arith;
 }
 
-module _ (may : Bool) (axioms : Axioms) (first : ℕ) (bytes : List ℕ) (own : List (List Literal)) (blocks line : ℕ) (rest : List ℕ) (h : FoundSoFar may axioms first bytes own blocks line rest)
-    (text behind : List ℕ) (cut : IsFirstLine rest text behind) where
-  parted : length rest ≡ length text + length behind
-  parted = ap length cut.parts ∙ length-append text behind
+module _ (reading : Reading) (axioms : Axioms) (first : ℕ) (bytes : List ℕ) (own : List (List Literal)) (blocks line : ℕ) (rest : List ℕ)
+    (h : FoundSoFar reading axioms first bytes own blocks line rest) (pass : Pass) (behind : List ℕ) (after : List (List Literal)) (count : ℕ)
+    (at : IsPassedAt reading axioms own blocks rest pass behind after count) where
+  parted : length rest ≡ length at.text + length behind
+  parted = ap length at.first.parts ∙ length-append at.text behind
 
-  pub found_more : (pass : Pass) (after : List (List Literal)) (count : ℕ) → pass ≡ passes.Goes → IsPassed may axioms own blocks text pass after count → count ≤ blocks + 1 →
-      FoundSoFar may axioms first bytes after count (line + 1) behind
-  found_more pass after count is passed more = let some = cut.some in let e = parted in let l = h.line_few in let b = h.blocks_few in record {
-    so_far = λ finding next.
-        h.so_far finding (subst (λ (ts : List (List ℕ)). IsFound (as_text may) axioms (axioms.clauses ++ own) blocks line ts finding) (sym cut.lines)
-        ((subst (λ (p : Pass). IsPassed may axioms own blocks text p after count) is passed) line (lines_in behind) finding next));
-    line_few = omega arith;
-    blocks_few = omega arith;
-  }
+  -- what is found behind the line, for all texts
+  found_at : (texts : List (List ℕ)) → AreTexts reading.version bytes texts → (more : List (List ℕ)) × AreTexts reading.version behind more
+      × ((finding : Finding) → IsFound reading axioms (axioms.clauses ++ own) blocks line (at.text ∷ more) finding → IsFound reading axioms axioms.clauses 0 first texts finding)
+  found_at texts are =
+      let (more, more_are, go) = h.so_far texts are in
+      let (others, same, others_are) = at.first.behind more more_are in
+      (others, others_are, λ finding found. go finding (subst (λ (ts : List (List ℕ)). IsFound reading axioms (axioms.clauses ++ own) blocks line ts finding) (sym same) found))
 
-  pub found_ends : (pass : Pass) (word : EndWord) (after : List (List Literal)) (count : ℕ) (finding : Finding) → pass ≡ passes.Ends word → IsPassed may axioms own blocks text pass after count →
-      IsEnded First word count line (lines_in behind) finding → IsFound (as_text may) axioms axioms.clauses 0 first (lines_in bytes) finding
-  found_ends pass word after count finding is passed ended =
-      h.so_far finding (subst (λ (ts : List (List ℕ)). IsFound (as_text may) axioms (axioms.clauses ++ own) blocks line ts finding) (sym cut.lines)
-      ((subst (λ (p : Pass). IsPassed may axioms own blocks text p after count) is passed) line (lines_in behind) finding ended))
+  pub found_more : pass ≡ passes.Goes → count ≤ blocks + 1 → length after ≤ length own + 1 → FoundSoFar reading axioms first bytes after count (line + 1) behind
+  found_more is more grown =
+      let some = at.first.some in
+      let e = parted in
+      let l = h.line_few in
+      let b = h.blocks_few in
+      let o = h.own_few in
+      record {
+        so_far = λ texts are.
+            let (others, others_are, go) = found_at texts are in (
+              others,
+              others_are,
+              λ finding next. go finding ((subst (λ (p : Pass). IsPassed reading axioms own blocks at.text p after count) is at.passed) line others finding next),
+            );
+        line_few = omega arith;
+        blocks_few = omega arith;
+        own_few = omega arith;
+      }
 
-  pub found_wrong : (pass : Pass) (cause : Cause) (after : List (List Literal)) (count : ℕ) → pass ≡ passes.Wrong cause → IsPassed may axioms own blocks text pass after count →
-      IsFound (as_text may) axioms axioms.clauses 0 first (lines_in bytes) (Wrong line cause)
-  found_wrong pass cause after count is passed =
-      h.so_far (Wrong line cause) (subst (λ (ts : List (List ℕ)). IsFound (as_text may) axioms (axioms.clauses ++ own) blocks line ts (Wrong line cause)) (sym cut.lines)
-      ((subst (λ (p : Pass). IsPassed may axioms own blocks text p after count) is passed) line (lines_in behind)))
+  found_ends : (word : EndWord) (finding : Finding) → pass ≡ passes.Ends word → IsEndedInBytes reading.version word count line behind finding →
+      IsFoundInBytes reading axioms first bytes finding
+  found_ends word finding is ended texts are =
+      let (others, others_are, go) = found_at texts are in
+      go finding ((subst (λ (p : Pass). IsPassed reading axioms own blocks at.text p after count) is at.passed) line others finding (ended others others_are))
 
-  pub found_ends_ok : (pass : Pass) (word : EndWord) (after : List (List Literal)) (count : ℕ) (r : Result Found OutOfMemory) → pass ≡ passes.Ends word → IsPassed may axioms own blocks text pass after count →
-      IfOk r (λ found. IsEnded First word count line (lines_in behind) (plain_finding found)) → IfOk r (λ found. IsFound (as_text may) axioms axioms.clauses 0 first (lines_in bytes) (plain_finding found))
-  found_ends_ok pass word after count (Ok found) is passed ended = found_ends pass word after count (plain_finding found) is passed ended
-  found_ends_ok pass word after count (Err e) is passed ended = tt
+  pub found_wrong : (cause : Cause) → pass ≡ passes.Wrong cause → IsFoundInBytes reading axioms first bytes (Wrong line cause)
+  found_wrong cause is texts are =
+      let (others, others_are, go) = found_at texts are in
+      go (Wrong line cause) ((subst (λ (p : Pass). IsPassed reading axioms own blocks at.text p after count) is at.passed) line others)
 
-pub found_nothing : (may : Bool) (axioms : Axioms) (first : ℕ) (bytes : List ℕ) (own : List (List Literal)) (blocks line : ℕ) (rest : List ℕ) → FoundSoFar may axioms first bytes own blocks line rest →
-    length rest ≡ 0 → IsFound (as_text may) axioms axioms.clauses 0 first (lines_in bytes) (Wrong line causes.Section)
-found_nothing may axioms first bytes own blocks line rest h nil =
-    h.so_far (Wrong line causes.Section)
-    (subst (λ (t : List ℕ). IsFound (as_text may) axioms (axioms.clauses ++ own) blocks line (lines_in t) (Wrong line causes.Section)) (sym (nil_from_length rest nil)) refl)
+  pub found_ends_ok : (word : EndWord) (r : Result Told OutOfMemory) → pass ≡ passes.Ends word →
+      IfOk r (λ found. IsEndedInBytes reading.version word count line behind (plain_finding found)) → IfOk r (λ found. IsFoundInBytes reading axioms first bytes (plain_finding found))
+  found_ends_ok word (Ok found) is ended = found_ends word (plain_finding found) is ended
+  found_ends_ok word (Err e) is ended = tt
+
+pub found_nothing : (reading : Reading) (axioms : Axioms) (first : ℕ) (bytes : List ℕ) (own : List (List Literal)) (blocks line : ℕ) (rest : List ℕ) →
+    FoundSoFar reading axioms first bytes own blocks line rest → length rest ≡ 0 → IsFoundInBytes reading axioms first bytes (Wrong line causes.Section)
+found_nothing reading axioms first bytes own blocks line rest h nil texts are =
+    let (more, more_are, go) = h.so_far texts are in
+    let none = nothing_in reading.version more (subst (λ (t : List ℕ). AreTexts reading.version t more) (nil_from_length rest nil) more_are) in
+    go (Wrong line causes.Section) (subst (λ (ts : List (List ℕ)). IsFound reading axioms (axioms.clauses ++ own) blocks line ts (Wrong line causes.Section)) (sym none) refl)
+
+-- ---- behind the end of a section
+
+-- what is read is a line
+pub line_read : (version : Version) (text : List ℕ) (literals : List Literal) (numbers : List ℕ) (kind : Kind) → IsReadIn version text literals numbers kind →
+    (line : LogLine) × IsSpelled version text line
+line_read version text literals numbers kinds.Heading (conditions, horizon, is) = (lines.Section conditions horizon, is)
+line_read version text literals numbers kinds.Derived is = (lines.Derived literals numbers, is)
+line_read version text literals numbers kinds.Block is = (lines.Block numbers, is)
+line_read version text literals numbers (kinds.End word) is = (lines.End word, is)
+
+pub ended_none : (version : Version) (word : EndWord) (blocks line : ℕ) (rest : List ℕ) → length rest ≡ 0 → IsEndedInBytes version word blocks line rest (Right word blocks line)
+ended_none version word blocks line rest nil texts are =
+    let none = nothing_in version texts (subst (λ (t : List ℕ). AreTexts version t texts) (nil_from_length rest nil) are) in
+    subst (λ (ts : List (List ℕ)). IsEnded version word blocks line ts (Right word blocks line)) (sym none) refl
+
+module _ (version : Version) (word : EndWord) (blocks line : ℕ) (bytes : List ℕ) (literals : List Literal) (numbers : List ℕ) (kind : Option Kind) (rest : List ℕ)
+    (h : IsFirstRead version bytes literals numbers kind rest) where
+  ended_at : (finding : Finding) → ((more : List (List ℕ)) → IsEnded version word blocks line (h.text ∷ more) finding) → IsEndedInBytes version word blocks line bytes finding
+  ended_at finding ended texts are =
+      let (more, same, more_are) = h.first.behind texts are in
+      subst (λ (ts : List (List ℕ)). IsEnded version word blocks line ts finding) (sym same) (ended more)
+
+  pub ended_unread : kind ≡ None → IsEndedInBytes version word blocks line bytes (Trailed word line causes.Form)
+  ended_unread none = ended_at (Trailed word line causes.Form) (λ more. inl (rw none at h.read, refl))
+
+  pub ended_read : (read : Kind) → kind ≡ Some read → IsEndedInBytes version word blocks line bytes (Trailed word line causes.Section)
+  ended_read read some = ended_at (Trailed word line causes.Section) (λ more. inr (line_read version h.text literals numbers read (rw some at h.read), refl))

@@ -8,6 +8,8 @@ pub mod Verdicts
 pub mod Literals
 pub mod Chains
 pub mod FirstLines
+pub mod FirstTexts
+pub mod EntryThere
 pub mod Judged
 pub mod Parted
 pub mod Headers
@@ -17,3 +19,8 @@ pub mod NumberBytes
 pub mod ListBytes
 pub mod WrittenBytes
 pub mod EntryBytes
+pub mod ConvertingLines
+pub mod ConvertingBytes
+pub mod ConvertingParts
+pub mod Converting
+pub mod ConvertingNames

@@ -11,7 +11,7 @@ use Rattle.cc_defs.specs.declared.log.EndWord.TheVariants as words
 use Rattle.cc_defs.specs.declared.log.LogLine.{LogLine}
 use Rattle.cc_defs.specs.declared.log.LogLine.TheVariants as lines
 use Rattle.cc_defs.specs.Clauses.{Literal}
-use Rattle.cc_defs.specs.LogBytes.{First}
+use Rattle.cc_defs.specs.declared.log.Version.TheVariants.{First}
 use Rattle.cc_defs.specs.LogTexts.{IsShort, IsOdd, IsLine, line_text}
 use Rattle.cc_defs.specs.Sections.{HasNoForm}
 use Rattle.cc_check.specs.Reading.{AreNumbers, HasNoNumbers, AreLiterals, HasNoLiterals, IsEndedChain, IsLast, IsNumberAt}

@@ -22,7 +22,7 @@ cells x y xs ys is = (ap (λ (t : List ℕ). get_or t 0 0) is, ap (λ (t : List 
 
 -- ---- a number at the front
 
-cases_within : (more number : ℕ) (bytes rest : List ℕ) → IsNumberWithin (suc more) bytes number rest →
+pub cases_within : (more number : ℕ) (bytes rest : List ℕ) → IsNumberWithin (suc more) bytes number rest →
     ((number < 128) × (bytes ≡ number ∷ rest)) ⊎ ((128 ≤ number) × (bytes ≡ (128 + number % 128) ∷ (bytes_within more (number / 128) ++ rest)))
 cases_within more number bytes rest h = elim (cases_lt number 128) [
   | inl below ↦ inl (below, h.spelled ∙ ap (λ (bs : List ℕ). bs ++ rest) (small_bytes (suc more) number below))
@@ -67,7 +67,7 @@ one_number_in n m rest other a b is =
 -- ---- by what was tested
 
 -- what is behind a byte with its high bit
-large_parts : (less byte number : ℕ) (bytes behind rest : List ℕ) → bytes ≡ byte ∷ behind → 128 ≤ byte → IsNumberWithin (suc less) bytes number rest →
+pub large_parts : (less byte number : ℕ) (bytes behind rest : List ℕ) → bytes ≡ byte ∷ behind → 128 ≤ byte → IsNumberWithin (suc less) bytes number rest →
     (128 ≤ number) × (byte ≡ 128 + number % 128) × IsNumberWithin less behind (number / 128) rest
 large_parts less byte number bytes behind rest front_is large h = elim (cases_within less number bytes rest h) [
   | inl (small, is) ↦ let first = (cells byte number behind rest (sym front_is ∙ is)).0 in absurd (omega arith)
@@ -77,10 +77,10 @@ large_parts less byte number bytes behind rest front_is large h = elim (cases_wi
 ]
 
 module _ (less byte : ℕ) (bytes behind : List ℕ) (front_is : bytes ≡ byte ∷ behind) (large : 128 ≤ byte) where
-  none_behind : HasNoNumberWithin less behind → HasNoNumberWithin (suc less) bytes
+  pub none_behind : HasNoNumberWithin less behind → HasNoNumberWithin (suc less) bytes
   none_behind none number rest h = none (number / 128) rest (large_parts less byte number bytes behind rest front_is large h).2
 
-  out_behind : (high : ℕ) (rest : List ℕ) → IsNumberWithin less behind high rest → ((0 < high) × (high ≤ 15624999) → ⊥) → HasNoNumberWithin (suc less) bytes
+  pub out_behind : (high : ℕ) (rest : List ℕ) → IsNumberWithin less behind high rest → ((0 < high) × (high ≤ 15624999) → ⊥) → HasNoNumberWithin (suc less) bytes
   out_behind high rest there out number other h =
       let (many, first, back) = large_parts less byte number bytes behind other front_is large h in
       let same = (one_within less behind high (number / 128) rest other there back).0 in
@@ -104,7 +104,7 @@ within_out more bytes high rest some long large there out =
 
 -- ---- literals
 
-literal_formed : (variable : ℕ) (positive : Bool) → IsShortLiteral (record { variable = variable; positive = positive }) →
+pub literal_formed : (variable : ℕ) (positive : Bool) → IsShortLiteral (record { variable = variable; positive = positive }) →
     IsNumber (literal_number (record { variable = variable; positive = positive }))
 literal_formed variable true h = let most = h.1 in omega arith
 literal_formed variable false h = let most = h.1 in omega arith

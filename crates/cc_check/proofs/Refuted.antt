@@ -7,11 +7,12 @@ use Rattle.cc_clauses.specs.Laws.{ResolventsAreSound}
 use Rattle.cc_clauses.specs.RowsOf.{MeetsAll}
 use Rattle.cc_defs.specs.declared.log.EndWord.{EndWord}
 use Rattle.cc_defs.specs.declared.log.EndWord.TheVariants as words
+use Rattle.cc_defs.specs.declared.log.LogLine.{LogLine}
 use Rattle.cc_defs.specs.declared.log.LogLine.TheVariants as lines
 use Rattle.cc_defs.specs.Clauses.{Literal, IsNumbered, Reaches, ReachesFrom, meets}
-use Rattle.cc_defs.specs.LogBytes.{First}
-use Rattle.cc_defs.specs.Sections.{Axioms, Right, IsEnded, IsFound}
-use Rattle.cc_check.specs.Clauses.{as_text}
+use Rattle.cc_defs.specs.declared.log.Version.{Version}
+use Rattle.cc_defs.specs.Sections.{Axioms, Right, IsEnded, IsFound, IsJudged}
+use Rattle.cc_check.specs.Clauses.{reading_as}
 use Rattle.cc_check.specs.Laws.{SilentSectionsHaveNoRows}
 
 -- ---- members
@@ -66,26 +67,36 @@ module _ (sound : ResolventsAreSound) (assignment : ℕ → Bool) where
 
 -- ---- the lines of a section
 
-ended_so : (other : EndWord) (blocks line : ℕ) (texts : List (List ℕ)) (word : EndWord) (count last : ℕ) → IsEnded First other blocks line texts (Right word count last) → other ≡ word
-ended_so other blocks line [] word count last is = cc
-ended_so other blocks line (text ∷ texts) word count last (inl (none, is)) = absurd cc
-ended_so other blocks line (text ∷ texts) word count last (inr (read, is)) = absurd cc
+ended_so : (version : Version) (other : EndWord) (blocks line : ℕ) (texts : List (List ℕ)) (word : EndWord) (count last : ℕ) →
+    IsEnded version other blocks line texts (Right word count last) → other ≡ word
+ended_so version other blocks line [] word count last is = cc
+ended_so version other blocks line (text ∷ texts) word count last (inl (none, is)) = absurd cc
+ended_so version other blocks line (text ∷ texts) word count last (inr (read, is)) = absurd cc
 
-module _ (sound : ResolventsAreSound) (axioms : Axioms) (assignment : ℕ → Bool) (count last : ℕ) where
-  refuted : (before : List (List Literal)) (blocks line : ℕ) (texts : List (List ℕ)) → MeetsAll assignment before →
-      IsFound (as_text false) axioms before blocks line texts (Right words.Empty count last) → ⊥
+module _ (sound : ResolventsAreSound) (version : Version) (axioms : Axioms) (assignment : ℕ → Bool) (count last : ℕ) where
+  abbrev Ends : List (List Literal) → (blocks line : ℕ) → List (List ℕ) → Type 0
+  Ends before blocks line texts = IsFound (reading_as version false) axioms before blocks line texts (Right words.Empty count last)
+
+  -- a line, by what it says
+  said : (before : List (List Literal)) (blocks line : ℕ) (texts : List (List ℕ)) → MeetsAll assignment before →
+      ((after : List (List Literal)) (more : ℕ) → MeetsAll assignment after → Ends after more (line + 1) texts → ⊥) → (line_said : LogLine) →
+      IsJudged (reading_as version false) axioms before blocks line (λ after more. Ends after more (line + 1) texts) texts (Right words.Empty count last) line_said → ⊥
+  said before blocks line texts met none (lines.Section conditions horizon) is = cc
+  said before blocks line texts met none (lines.End other) (inl (right, is)) =
+      false≢true (met [] (right.0 (ended_so version other blocks line texts words.Empty count last is)))
+  said before blocks line texts met none (lines.End other) (inr (wrong, is)) = cc
+  said before blocks line texts met none (lines.Derived clause chain) (inl (there, is)) = cc
+  said before blocks line texts met none (lines.Derived clause chain) (inr (inl (never, (reason, wrongly, is)))) = cc
+  said before blocks line texts met none (lines.Derived clause chain) (inr (inr (never, is_clause, over, reached, goes))) =
+      none (before ++ clause ∷ []) blocks (met_more sound assignment before clause met (met_reached sound assignment before met chain clause reached)) goes
+  said before blocks line texts met none (lines.Block other) is = cc
+
+  refuted : (before : List (List Literal)) (blocks line : ℕ) (texts : List (List ℕ)) → MeetsAll assignment before → Ends before blocks line texts → ⊥
   refuted before blocks line [] met is = cc
   refuted before blocks line (text ∷ texts) met (inl (none, is)) = cc
-  refuted before blocks line (text ∷ texts) met (inr (lines.Section conditions horizon, read, is)) = cc
-  refuted before blocks line (text ∷ texts) met (inr (lines.End other, read, inl (right, is))) =
-      false≢true (met [] (right.0 (ended_so other blocks line texts words.Empty count last is)))
-  refuted before blocks line (text ∷ texts) met (inr (lines.End other, read, inr (wrong, is))) = cc
-  refuted before blocks line (text ∷ texts) met (inr (lines.Derived clause chain, read, inl (there, is))) = cc
-  refuted before blocks line (text ∷ texts) met (inr (lines.Derived clause chain, read, inr (inl (none, (reason, wrongly, is))))) = cc
-  refuted before blocks line (text ∷ texts) met (inr (lines.Derived clause chain, read, inr (inr (none, is_clause, over, reached, goes)))) =
-      refuted (before ++ clause ∷ []) blocks (line + 1) texts (met_more sound assignment before clause met (met_reached sound assignment before met chain clause reached)) goes
-  refuted before blocks line (text ∷ texts) met (inr (lines.Block other, read, is)) = cc
+  refuted before blocks line (text ∷ texts) met (inr (read, spelled, is)) =
+      said before blocks line texts met (λ after more all goes. refuted after more (line + 1) texts all goes) _ is
 
 pub silent_sections_have_no_rows : ResolventsAreSound → SilentSectionsHaveNoRows
-silent_sections_have_no_rows sound axioms texts line blocks last found row is =
-    refuted sound axioms is.assignment blocks last axioms.clauses 0 line texts is.meets_all found
+silent_sections_have_no_rows sound version axioms texts line blocks last found row is =
+    refuted sound version axioms is.assignment blocks last axioms.clauses 0 line texts is.meets_all found

@@ -2,12 +2,13 @@
 use Rattle.std.proofs.Common.{◌≡◌, ◌≢◌, ℕ, ◌+◌, ◌-◌, ◌≤◌, List, [], ◌∷◌, ◌++◌, false, length, take, Some, None, refl, sym, ap, subst, ◌∙◌, arith, append-nil, length-append, inl, inr}
 use Rattle.std.specs.Borrow.{Bor}
 use Rattle.std.specs.List.{AllByRecursion}
-use Rattle.std.specs.Prelude.{Result, Ok, Err, IfOk, IfErr, IsErrAnd}
-use Rattle.std.proofs.lemmas.List.{take_at, nil_from_length}
+use Rattle.std.specs.Prelude.{Result, Ok, Err, IfOk, IfErr}
+use Rattle.std.proofs.lemmas.List.{nil_from_length}
 use Rattle.cc_defs.specs.declared.log.Cause.{Cause}
 use Rattle.cc_defs.specs.declared.log.Cause.TheVariants as causes
 use Rattle.cc_defs.specs.declared.refusal.Fault.{Fault}
 use Rattle.cc_defs.specs.declared.refusal.Fault.TheVariants as faults
+use Rattle.cc_defs.specs.declared.log.Version.TheVariants.{First}
 use Rattle.cc_defs.specs.LogTexts.{lines_in}
 use Rattle.cc_defs.specs.Refusals.{IsRefusedBy}
 use Rattle.cc_defs.specs.Sections.{Axioms, Finding, IsFound}
@@ -20,22 +21,23 @@ use Rattle.cc_check.specs.Parts.{IsSecond}
 use Rattle.cc_check.specs.Silent.{BeginsSection, IsEmptySection, IsNextSection, IsSilentFault, IsSilentVerdictBehind, IsSilentVerdictOf, IsStopped, IsUnread, LeadsTo, PassesNoLimit, SilentSection, SilentSubject, refused_for}
 use Rattle.cc_check.specs.SilentParts.{IsBehindFault, IsPassFault, IsPassedFrom, IsShorter, IsSilentInside}
 use Rattle.cc_check.specs.Texts.{IsFirstLine}
-use Rattle.cc_check.proofs.Parted.{InsideSoFar}
+use Rattle.cc_check.proofs.FirstTexts.{line_text_first}
+use Rattle.cc_check.proofs.Parted.{InsideSoFar, all_are, before_are, before_is, cut_some, joined}
 
 -- ---- the lines up to the next heading
 
-module _ {H : Type 0} (subject : SilentSubject H) (all rest : List ℕ) (count : ℕ) (h : InsideSoFar (IsUnread subject) all rest count) where
+module _ {H : Type 0} (subject : SilentSubject H) (all rest : List ℕ) (count : ℕ) (h : InsideSoFar First (IsUnread subject) all rest count) where
   pub silent_at : (text behind inside : List ℕ) → IsFirstLine rest text behind → ((heading : H) × subject.Reads text heading) →
       inside ≡ take (length all - length rest) all → IsSilentInside subject all inside count rest
   silent_at text behind inside cut read front =
+      let some = cut_some First rest text behind (line_text_first rest text behind cut) in
+      let are = before_are First (IsUnread subject) all rest count h some in
       let g = h.few in
       let whole = ap length h.parts ∙ length-append h.before rest in
-      let n : length h.before ≡ length all - length rest = omega arith in
-      let before_is : inside ≡ h.before = front ∙ ap (take (length all - length rest)) h.parts ∙ take_at h.before rest (length all - length rest) n in
-      subst (λ (i : List ℕ). IsSilentInside subject all i count rest) (sym before_is) (record {
-        unread = h.none;
-        counted = h.counted;
-        parted = h.lines;
+      subst (λ (i : List ℕ). IsSilentInside subject all i count rest) (sym (before_is First (IsUnread subject) all rest count h inside front)) (record {
+        unread = subst (AllByRecursion (IsUnread subject)) are h.none;
+        counted = h.counted ∙ ap length are;
+        parted = sym (joined First (IsUnread subject) all rest count h some (lines_in rest) refl) ∙ ap (λ (ts : List (List ℕ)). ts ++ lines_in rest) are;
         next = subst (BeginsSection subject) (sym cut.lines) read;
         few = omega arith;
         fewer = h.few;
@@ -44,10 +46,10 @@ module _ {H : Type 0} (subject : SilentSubject H) (all rest : List ℕ) (count :
   pub silent_all : length rest ≡ 0 → IsSilentInside subject all all count rest
   silent_all nil =
       let nothing = nil_from_length rest nil in
-      let same : all ≡ h.before = h.parts ∙ ap (λ (t : List ℕ). h.before ++ t) nothing ∙ append-nil h.before in
+      let are = all_are First (IsUnread subject) all rest count h nil in
       record {
-        unread = subst (λ (t : List ℕ). AllByRecursion (IsUnread subject) (lines_in t)) (sym same) h.none;
-        counted = h.counted ∙ ap (λ (t : List ℕ). length (lines_in t)) (sym same);
+        unread = subst (AllByRecursion (IsUnread subject)) are h.none;
+        counted = h.counted ∙ ap length are;
         parted = sym (append-nil (lines_in all)) ∙ ap (λ (t : List ℕ). lines_in all ++ lines_in t) (sym nothing);
         next = subst (λ (t : List ℕ). BeginsSection subject (lines_in t)) (sym nothing) tt;
         few = omega arith;
@@ -264,7 +266,3 @@ module _ {H : Type 0} (subject : SilentSubject H) (bytes text body : List ℕ) (
   pub err_fault : (r : Result SilentVerdict Fault) → IfErr r (IsBehindFault subject (lines_in body)) → IfErr r (IsSilentFault subject bytes)
   err_fault (Ok verdict) is = tt
   err_fault (Err fault) is = fault_behind subject bytes text body cut same fault is
-
-pub as_err : (P : Fault → Type 0) {A : Type 0} (r : Result A Fault) (fault : Fault) → IsErrAnd r (λ (given : Fault). given ≡ fault) → P fault → IfErr r P
-as_err P (Ok value) fault is holds = tt
-as_err P (Err given) fault is holds = subst P (sym is) holds

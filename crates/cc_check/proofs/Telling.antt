@@ -13,7 +13,7 @@ use Rattle.cc_check.specs.Laws.{LogsTellTheirLines}
 use Rattle.cc_check.proofs.Lines.{one_line, short_push, whole_block, whole_derived}
 use Rattle.cc_check.proofs.Spelled.{numbers_text, literals_text}
 
-abbrev HasNoFeed : List ℕ → Type 0
+abbrev pub HasNoFeed : List ℕ → Type 0
 HasNoFeed text = AllByRecursion (λ (byte : ℕ). eqb byte 10 ≡ false) text
 
 no_feed_append : (xs ys : List ℕ) → HasNoFeed xs → HasNoFeed ys → HasNoFeed (xs ++ ys)
@@ -56,10 +56,10 @@ no_feed_literals (literal ∷ literals) all =
 -- ---- lines
 
 -- what a line is, without its line feed
-abbrev EndsOnce : List ℕ → Type 0
+abbrev pub EndsOnce : List ℕ → Type 0
 EndsOnce text = (body : List ℕ) × (text ≡ body ++ 10 ∷ []) × HasNoFeed body
 
-ends_once : (line : LogLine) → IsFormed line → EndsOnce (line_text line)
+pub ends_once : (line : LogLine) → IsFormed line → EndsOnce (line_text line)
 ends_once (lines.Section true horizon) formed = (119 ∷ 32 ∷ decimal horizon, refl, (refl, (refl, no_feed_decimal horizon formed)))
 ends_once (lines.Section false horizon) formed = (104 ∷ 32 ∷ decimal horizon, refl, (refl, (refl, no_feed_decimal horizon formed)))
 ends_once (lines.Derived clause chain) formed = (
@@ -82,7 +82,7 @@ first_body : (body rest : List ℕ) → HasNoFeed body → lines_in ((body ++ 10
 first_body [] rest none = refl
 first_body (byte ∷ body) rest none = rw (none.0, first_body body rest none.1) refl
 
-first_text : (text rest : List ℕ) → EndsOnce text → lines_in (text ++ rest) ≡ text ∷ lines_in rest
+pub first_text : (text rest : List ℕ) → EndsOnce text → lines_in (text ++ rest) ≡ text ∷ lines_in rest
 first_text text rest (body, is, none) = subst (λ (t : List ℕ). lines_in (t ++ rest) ≡ t ∷ lines_in rest) (sym is) (first_body body rest none)
 
 first_texts : (one other : List ℕ) (rest more : List ℕ) → EndsOnce one → EndsOnce other → one ++ rest ≡ other ++ more → one ≡ other

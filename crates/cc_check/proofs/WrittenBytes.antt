@@ -99,7 +99,7 @@ formed_behind own (lines.Derived clause chain) formed few most =
 formed_behind own (lines.Block row) formed few most = (omega arith, numbers_of_row row formed)
 formed_behind own (lines.End word) formed few most = tt
 
-line_twice : (own : ℕ) (line : LogLine) → NamesBefore own line → line_behind own (line_behind own line) ≡ line
+pub line_twice : (own : ℕ) (line : LogLine) → NamesBefore own line → line_behind own (line_behind own line) ≡ line
 line_twice own (lines.Section conditions horizon) before = refl
 line_twice own (lines.Derived clause chain) before = ap (lines.Derived clause) (behind_twice own chain before)
 line_twice own (lines.Block row) before = refl

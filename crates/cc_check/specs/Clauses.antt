@@ -5,7 +5,9 @@ use Rattle.std.specs.List.{AllByRecursion}
 use Rattle.cc_defs.specs.declared.log.Cause.{Cause}
 use Rattle.cc_defs.specs.declared.log.Cause.TheVariants as causes
 use Rattle.cc_defs.specs.Clauses.{Literal, IsClause, IsOver, IsNumbered, IsResolvent, Reaches}
-use Rattle.cc_defs.specs.LogBytes.{First}
+use Rattle.cc_defs.specs.declared.log.EndWord.{EndWord}
+use Rattle.cc_defs.specs.declared.log.Version.{Version}
+use Rattle.cc_defs.specs.declared.log.Version.TheVariants.{First}
 use Rattle.cc_defs.specs.Sections.{Axioms, Finding, Reading, Right, Trailed, Wrong, HasNoEmpty, IsWrongly, IsFound, IsEnded}
 use Rattle.cc_check.specs.declared.judge.Finding.{Finding as Found}
 use Rattle.cc_check.specs.declared.judge.Finding.TheVariants as findings
@@ -13,6 +15,7 @@ use Rattle.cc_check.specs.declared.judge.Pass.{Pass}
 use Rattle.cc_check.specs.declared.judge.Pass.TheVariants as passes
 use Rattle.cc_check.specs.declared.judge.Verdict.{Verdict}
 use Rattle.cc_check.specs.declared.judge.Verdict.TheVariants as verdicts
+use Rattle.cc_check.specs.Texts.{AreTexts, IsFirstText}
 
 -- a clause over the variables
 abbrev pub IsClauseOver : ℕ → List Literal → Type 0
@@ -53,21 +56,40 @@ IsStep clauses variables from pivot number done next =
 
 -- ---- a line of a section, and the section
 
--- How the lines of a section are read here: as text, and with blocks or without.
+-- How the lines of a section are read as text, with blocks or without.
 abbrev pub as_text : (blocks : Bool) → Reading
 as_text blocks = record { version = First; blocks = blocks }
 
--- What a line does behind these clauses and blocks, where a row may be blocked or not: the next lines go on behind more, or it
--- ends the section, or it is wrong.
-abbrev pub IsPassed : Bool → Axioms → List (List Literal) → ℕ → List ℕ → Pass → List (List Literal) → ℕ → Type 0
-IsPassed may axioms own blocks text passes.Goes after count =
-    (line : ℕ) (texts : List (List ℕ)) (finding : Finding) → IsFound (as_text may) axioms (axioms.clauses ++ after) count (line + 1) texts finding →
-    IsFound (as_text may) axioms (axioms.clauses ++ own) blocks line (text ∷ texts) finding
-IsPassed may axioms own blocks text (passes.Ends word) after count =
-    (line : ℕ) (texts : List (List ℕ)) (finding : Finding) → IsEnded First word count line texts finding →
-    IsFound (as_text may) axioms (axioms.clauses ++ own) blocks line (text ∷ texts) finding
-IsPassed may axioms own blocks text (passes.Wrong cause) after count =
-    (line : ℕ) (texts : List (List ℕ)) → IsFound (as_text may) axioms (axioms.clauses ++ own) blocks line (text ∷ texts) (Wrong line cause)
+abbrev pub reading_as : Version → (blocks : Bool) → Reading
+reading_as version blocks = record { version = version; blocks = blocks }
+
+-- What a line does behind these clauses and blocks: the next lines go on behind more, or it ends the section, or it is wrong.
+abbrev pub IsPassed : Reading → Axioms → List (List Literal) → ℕ → List ℕ → Pass → List (List Literal) → ℕ → Type 0
+IsPassed reading axioms own blocks text passes.Goes after count =
+    (line : ℕ) (texts : List (List ℕ)) (finding : Finding) → IsFound reading axioms (axioms.clauses ++ after) count (line + 1) texts finding →
+    IsFound reading axioms (axioms.clauses ++ own) blocks line (text ∷ texts) finding
+IsPassed reading axioms own blocks text (passes.Ends word) after count =
+    (line : ℕ) (texts : List (List ℕ)) (finding : Finding) → IsEnded reading.version word count line texts finding →
+    IsFound reading axioms (axioms.clauses ++ own) blocks line (text ∷ texts) finding
+IsPassed reading axioms own blocks text (passes.Wrong cause) after count =
+    (line : ℕ) (texts : List (List ℕ)) → IsFound reading axioms (axioms.clauses ++ own) blocks line (text ∷ texts) (Wrong line cause)
+
+-- A text stands at the front of bytes, and this is behind it; it does so.
+pub record IsPassedAt (reading : Reading) (axioms : Axioms) (own : List (List Literal)) (blocks : ℕ) (bytes : List ℕ) (pass : Pass)
+    (rest : List ℕ) (after : List (List Literal)) (count : ℕ) : Type 0 where
+  pub text : List ℕ
+  pub first : IsFirstText reading.version bytes text rest
+  pub passed : IsPassed reading axioms own blocks text pass after count
+
+-- what the lines of bytes are found to be, the same of all texts that they are
+abbrev pub IsFoundInBytes : Reading → Axioms → (line : ℕ) → List ℕ → Finding → Type 0
+IsFoundInBytes reading axioms line bytes finding =
+    (texts : List (List ℕ)) → AreTexts reading.version bytes texts → IsFound reading axioms axioms.clauses 0 line texts finding
+
+-- the same of what stands behind the end of a section
+abbrev pub IsEndedInBytes : Version → EndWord → ℕ → ℕ → List ℕ → Finding → Type 0
+IsEndedInBytes version word blocks line bytes finding =
+    (texts : List (List ℕ)) → AreTexts version bytes texts → IsEnded version word blocks line texts finding
 
 -- what a finding says
 abbrev pub plain_finding : Found → Finding

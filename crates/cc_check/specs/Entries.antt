@@ -5,7 +5,7 @@ use Rattle.cc_defs.specs.declared.log.EndWord.{EndWord}
 use Rattle.cc_defs.specs.declared.log.LogLine.{LogLine}
 use Rattle.cc_defs.specs.declared.log.LogLine.TheVariants as lines
 use Rattle.cc_defs.specs.Clauses.{Literal}
-use Rattle.cc_defs.specs.LogBytes.{IsNumber, IsEntry, bytes_within, end_word_bytes, number_bytes, literal_bytes}
+use Rattle.cc_defs.specs.LogBytes.{BeginsWith, IsNumber, bytes_within, end_word_bytes, number_bytes, literal_bytes}
 use Rattle.cc_defs.specs.LogTexts.{IsShort, IsShortLiteral}
 use Rattle.cc_check.specs.declared.line.Kind.{Kind}
 use Rattle.cc_check.specs.declared.line.Kind.TheVariants as kinds
@@ -91,16 +91,6 @@ abbrev pub HasNoLiteralsIn : ℕ → List ℕ → Type 0
 HasNoLiteralsIn count bytes = (literals : List Literal) (rest : List ℕ) → AreLiteralsIn count bytes literals rest → ⊥
 
 -- ---- entries at the front of bytes
-
--- Bytes begin with the entry of a line, and this is behind it.
-pub record BeginsWith (bytes : List ℕ) (line : LogLine) (rest : List ℕ) : Type 0 where
-  pub entry : List ℕ
-  pub read : IsEntry entry line
-  pub spelled : bytes ≡ entry ++ rest
-
--- bytes begin with the entry of no line
-abbrev pub HasNoEntry : List ℕ → Type 0
-HasNoEntry bytes = (line : LogLine) (rest : List ℕ) → BeginsWith bytes line rest → ⊥
 
 -- bytes begin with no heading
 abbrev pub HasNoHeading : List ℕ → Type 0

@@ -3,7 +3,9 @@ pub mod Entries
 pub mod Laws
 pub mod Parts
 pub mod Reading
+pub mod SectionTexts
 pub mod Silent
 pub mod SilentParts
 pub mod Splits
 pub mod Texts
+pub mod Versions

@@ -6,10 +6,11 @@ use Rattle.cc_defs.specs.declared.log.Cause.{Cause}
 use Rattle.cc_defs.specs.declared.log.Cause.TheVariants as causes
 use Rattle.cc_defs.specs.declared.log.LogLine.{LogLine}
 use Rattle.cc_defs.specs.declared.log.LogLine.TheVariants as lines
+use Rattle.cc_defs.specs.declared.log.Version.{Version}
+use Rattle.cc_defs.specs.declared.log.Version.TheVariants.{First}
 use Rattle.cc_defs.specs.Limits.{most_log_bytes}
-use Rattle.cc_defs.specs.LogBytes.{First}
-use Rattle.cc_defs.specs.LogTexts.{IsLine, lines_in}
-use Rattle.cc_defs.specs.Logs.{SectionText, IsNoHeading}
+use Rattle.cc_defs.specs.LogBytes.{IsSpelled}
+use Rattle.cc_defs.specs.Logs.{SectionText, AreSections, IsNoHeading}
 use Rattle.cc_defs.specs.Sections.{HasNoForm}
 use Rattle.cc_check.specs.declared.fault.CheckFault.{CheckFault}
 use Rattle.cc_check.specs.declared.fault.CheckFault.TheVariants as faults
@@ -17,56 +18,99 @@ use Rattle.cc_check.specs.declared.line.Heading.{Heading}
 use Rattle.cc_check.specs.declared.sections.Part.{Part}
 use Rattle.cc_check.specs.declared.sections.Section.TheInside.{Inside}
 use Rattle.cc_check.specs.declared.sections.Sections.TheInside.{Inside as AllInside}
-use Rattle.cc_check.specs.Splits.{Misread, IsSplit}
+use Rattle.cc_check.specs.SectionTexts.{SectionBytes, AreTextsOf}
+use Rattle.cc_check.specs.Splits.{Misread, Parts, IsSplit, IsSplitBehind}
+use Rattle.cc_check.specs.Texts.{AreTexts, IsFirstText}
 
-abbrev pub section_view : Inside → SectionText
-section_view section = record { conditions = section.conditions; horizon = section.horizon; line = section.line; texts = lines_in section.bytes.now }
+abbrev pub section_view : Inside → SectionBytes
+section_view section =
+    record { version = section.version; conditions = section.conditions; horizon = section.horizon; line = section.line; bytes = section.bytes.now }
 
 abbrev pub IsSection : Inside → Type 0
 IsSection section = (length section.bytes.now ≤ most_log_bytes) × (section.line ≤ most_log_bytes + 1)
 
-abbrev pub part_view : Part → SectionText
-part_view part = record { conditions = part.conditions; horizon = part.horizon; line = part.line; texts = lines_in part.bytes.now }
+abbrev pub part_view : Part → SectionBytes
+part_view part = record { version = part.version; conditions = part.conditions; horizon = part.horizon; line = part.line; bytes = part.bytes.now }
 
 abbrev pub IsPart : Part → Type 0
 IsPart part = (length part.bytes.now ≤ most_log_bytes) × (part.line ≤ most_log_bytes + 1)
 
-abbrev pub parts_view : List Part → List SectionText
+abbrev pub parts_view : List Part → List SectionBytes
 parts_view parts = map part_view parts
 
-abbrev pub sections_view : AllInside → List SectionText
+abbrev pub sections_view : AllInside → List SectionBytes
 sections_view sections = parts_view sections.parts.items
 
 abbrev pub AreParts : AllInside → Type 0
 AreParts sections = AllByRecursion IsPart sections.parts.items
 
--- ---- the lines of a section up to the next heading
+-- ---- what the bytes of a log are read as
 
--- what stands behind the lines of a section: nothing, or a heading and more
-abbrev pub IsNext : List (List ℕ) → List (List ℕ) → Heading × Bor (List ℕ) → Type 0
-IsNext all inside next =
-    (text : List ℕ) × (all ≡ inside ++ text ∷ lines_in next.1.now) × IsLine text (lines.Section next.0.conditions next.0.horizon)
-
-pub record IsInside (all inside : List ℕ) (count : ℕ) (next : Option (Heading × Bor (List ℕ))) : Type 0 where
-  pub none : AllByRecursion (IsNoHeading First) (lines_in inside)
-  pub counted : count ≡ length (lines_in inside)
-  pub few : length inside ≤ length all
-  pub parted : MatchOption next (lines_in all ≡ lines_in inside) (IsNext (lines_in all) (lines_in inside))
-  pub fewer : MatchOption next (count ≤ length all) (λ next. count + length next.1.now < length all)
+-- the sections are those of a log, text by text
+abbrev pub AreSectionsOf : List ℕ → List SectionBytes → Type 0
+AreSectionsOf bytes sections = (texts : List SectionText) × AreTextsOf sections texts × IsSplit bytes (Parts texts)
 
 -- why bytes are not split: they are misread, or memory was wanting
 abbrev pub IsRefusal : List ℕ → CheckFault → Type 0
 IsRefusal bytes (faults.Refused line cause) = IsSplit bytes (Misread line cause)
 IsRefusal bytes faults.OutOfMemory = Unit {0}
 
+-- the same of the bytes behind a header
+abbrev pub AreSectionsBehind : Version → List ℕ → List SectionBytes → Type 0
+AreSectionsBehind version body sections =
+    (texts : List (List ℕ)) × AreTexts version body texts
+    × ((all : List SectionText) × AreTextsOf sections all × IsSplitBehind version texts (Parts all))
+
+-- the same behind a header and a first heading
+abbrev pub AreSectionsFrom : Version → (heading body : List ℕ) → List SectionBytes → Type 0
+AreSectionsFrom version heading body sections =
+    (texts : List (List ℕ)) × AreTexts version body texts
+    × ((all : List SectionText) × AreTextsOf sections all × AreSections version 2 (heading ∷ texts) all)
+
+-- why the bytes behind a header are not split
+abbrev pub IsRefusalBehind : Version → List ℕ → CheckFault → Type 0
+IsRefusalBehind version body (faults.Refused line cause) =
+    (texts : List (List ℕ)) × AreTexts version body texts × IsSplitBehind version texts (Misread line cause)
+IsRefusalBehind version body faults.OutOfMemory = Unit {0}
+
+-- ---- the lines of a section up to the next heading
+
+-- A text stands at the front of bytes, and this is behind it; it is this heading, or none.
+pub record IsCut (version : Version) (bytes : List ℕ) (heading : Option Heading) (rest : List ℕ) : Type 0 where
+  pub text : List ℕ
+  pub first : IsFirstText version bytes text rest
+  pub read : MatchOption heading (IsNoHeading version text) (λ heading. IsSpelled version text (lines.Section heading.conditions heading.horizon))
+
+-- what stands behind the texts of a section: a heading and more
+abbrev pub IsNext : Version → List ℕ → List (List ℕ) → Heading × Bor (List ℕ) → Type 0
+IsNext version all inside next =
+    (text : List ℕ) × IsSpelled version text (lines.Section next.0.conditions next.0.horizon)
+    × ((more : List (List ℕ)) → AreTexts version next.1.now more → AreTexts version all (inside ++ text ∷ more))
+
+pub record IsInside (version : Version) (all inside : List ℕ) (count : ℕ) (next : Option (Heading × Bor (List ℕ))) : Type 0 where
+  pub texts : List (List ℕ)
+  pub are : AreTexts version inside texts
+  pub none : AllByRecursion (IsNoHeading version) texts
+  pub counted : count ≡ length texts
+  pub few : length inside ≤ length all
+  pub parted : MatchOption next (inside ≡ all) (IsNext version all texts)
+  pub fewer : MatchOption next (count ≤ length all) (λ next. count + length next.1.now < length all)
+
 -- what is wrong with a second line
+abbrev pub IsSecondIn : Version → List ℕ → Cause → Type 0
+IsSecondIn version text causes.Form = HasNoForm version text
+IsSecondIn version text causes.Section = (line : LogLine) × IsSpelled version text line
+IsSecondIn version text causes.Header = ⊥
+IsSecondIn version text causes.Literal = ⊥
+IsSecondIn version text causes.Number = ⊥
+IsSecondIn version text causes.Pivot = ⊥
+IsSecondIn version text causes.Clause = ⊥
+IsSecondIn version text causes.Row = ⊥
+IsSecondIn version text causes.NotRefuted = ⊥
+
 abbrev pub IsSecond : List ℕ → Cause → Type 0
-IsSecond text causes.Form = HasNoForm First text
-IsSecond text causes.Section = (line : LogLine) × IsLine text line
-IsSecond text causes.Header = ⊥
-IsSecond text causes.Literal = ⊥
-IsSecond text causes.Number = ⊥
-IsSecond text causes.Pivot = ⊥
-IsSecond text causes.Clause = ⊥
-IsSecond text causes.Row = ⊥
-IsSecond text causes.NotRefuted = ⊥
+IsSecond text cause = IsSecondIn First text cause
+
+-- bytes begin with a text that is so wrong as a second line
+abbrev pub IsSecondAt : Version → List ℕ → Cause → Type 0
+IsSecondAt version body cause = (text : List ℕ) × (rest : List ℕ) × IsFirstText version body text rest × IsSecondIn version text cause

@@ -1,13 +1,18 @@
 -- What stands at the front of a text.
-use Rattle.std.specs.Prelude.{◌≡◌, ℕ, ◌<◌, Bool, false, List, [], ◌∷◌, ◌++◌, length, flat_map, decimal}
+use Rattle.std.specs.Prelude.{◌≡◌, ℕ, ◌<◌, Bool, false, List, [], ◌∷◌, ◌++◌, Option, MatchOption, length, flat_map, decimal}
 use Rattle.std.specs.List.{AllByRecursion}
 use Rattle.cc_defs.specs.declared.log.EndWord.{EndWord}
 use Rattle.cc_defs.specs.declared.log.LogLine.TheVariants as lines
+use Rattle.cc_defs.specs.declared.log.Version.{Version}
+use Rattle.cc_defs.specs.declared.log.Version.TheVariants.{First}
 use Rattle.cc_defs.specs.Clauses.{Literal}
+use Rattle.cc_defs.specs.LogBytes.{IsSpelled}
 use Rattle.cc_defs.specs.LogTexts.{IsShort, IsShortLiteral, IsOdd, IsLine, literal_text}
+use Rattle.cc_defs.specs.Sections.{HasNoForm}
 use Rattle.cc_defs.specs.Tokens.{is_digit}
 use Rattle.cc_check.specs.declared.line.Kind.{Kind}
 use Rattle.cc_check.specs.declared.line.Kind.TheVariants as kinds
+use Rattle.cc_check.specs.Texts.{IsFirstText}
 
 -- a text that does not go on with a digit
 abbrev pub EndsNumber : List ℕ → Type 0
@@ -52,11 +57,21 @@ HasNoLiterals text = (literals : List Literal) (rest : List ℕ) → AreLiterals
 
 -- ---- what a line is read as, with the literals and the numbers that it has
 
+abbrev pub IsReadIn : Version → List ℕ → List Literal → List ℕ → Kind → Type 0
+IsReadIn version text literals numbers kinds.Heading =
+    (conditions : Bool) × (horizon : ℕ) × IsSpelled version text (lines.Section conditions horizon)
+IsReadIn version text literals numbers kinds.Derived = IsSpelled version text (lines.Derived literals numbers)
+IsReadIn version text literals numbers kinds.Block = IsSpelled version text (lines.Block numbers)
+IsReadIn version text literals numbers (kinds.End word) = IsSpelled version text (lines.End word)
+
 abbrev pub IsRead : List ℕ → List Literal → List ℕ → Kind → Type 0
-IsRead text literals numbers kinds.Heading = (conditions : Bool) × (horizon : ℕ) × IsLine text (lines.Section conditions horizon)
-IsRead text literals numbers kinds.Derived = IsLine text (lines.Derived literals numbers)
-IsRead text literals numbers kinds.Block = IsLine text (lines.Block numbers)
-IsRead text literals numbers (kinds.End word) = IsLine text (lines.End word)
+IsRead text literals numbers kind = IsReadIn First text literals numbers kind
+
+-- A text stands at the front of bytes, and this is behind it; it is read as that, or is no line.
+pub record IsFirstRead (version : Version) (bytes : List ℕ) (literals : List Literal) (numbers : List ℕ) (kind : Option Kind) (rest : List ℕ) : Type 0 where
+  pub text : List ℕ
+  pub first : IsFirstText version bytes text rest
+  pub read : MatchOption kind (HasNoForm version text) (IsReadIn version text literals numbers)
 
 abbrev pub IsNoEnd : List ℕ → Type 0
 IsNoEnd text = (word : EndWord) → IsLine text (lines.End word) → ⊥

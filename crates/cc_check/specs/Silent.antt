@@ -7,7 +7,7 @@ use Rattle.cc_defs.specs.declared.log.LogLine.{LogLine}
 use Rattle.cc_defs.specs.declared.refusal.Fault.{Fault}
 use Rattle.cc_defs.specs.declared.refusal.Fault.TheVariants as faults
 use Rattle.cc_defs.specs.declared.refusal.Refusal.{Refusal}
-use Rattle.cc_defs.specs.LogBytes.{First}
+use Rattle.cc_defs.specs.declared.log.Version.TheVariants.{First}
 use Rattle.cc_defs.specs.LogTexts.{IsLine, lines_in}
 use Rattle.cc_defs.specs.Sections.{Axioms, Finding, Right, Trailed, Wrong, HasNoForm, IsFound}
 use Rattle.cc_check.specs.declared.silent.SilentVerdict.{SilentVerdict}

@@ -3,7 +3,8 @@ ghost use Rattle.std.specs.Prelude.{◌≡◌, ℕ, ◌<◌, ◌≤◌, ◌↔�
 ghost use Rattle.cc_defs.specs.declared.log.LogLine.TheVariants as lines;
 ghost use Rattle.cc_defs.specs.Clauses.{Literal};
 ghost use Rattle.cc_defs.specs.LogBytes.{end_word_bytes};
-ghost use Rattle.cc_check.specs.Entries.{AreLiteralsIn, AreNumbersIn, BeginsWith, HasNoEnd, HasNoEntry, HasNoHeading, HasNoLiteralIn, HasNoLiteralsIn, HasNoNumberIn, HasNoNumberWithin, HasNoNumbersIn, IsEntryRead, IsLiteralIn, IsNoWord, IsNumberIn, IsNumberWithin};
+ghost use Rattle.cc_defs.specs.LogBytes.{BeginsWith, HasNoEntry};
+ghost use Rattle.cc_check.specs.Entries.{AreLiteralsIn, AreNumbersIn, HasNoEnd, HasNoHeading, HasNoLiteralIn, HasNoLiteralsIn, HasNoNumberIn, HasNoNumberWithin, HasNoNumbersIn, IsEntryRead, IsLiteralIn, IsNoWord, IsNumberIn, IsNumberWithin};
 
 use crate::line::{Heading, Kind, Room};
 use crate::number::Named;

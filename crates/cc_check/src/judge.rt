@@ -1,24 +1,25 @@
 //! The checker of a section.
-ghost use Rattle.std.specs.Prelude.{◌≡◌, ◌==◌, ◌||◌, ◌↔◌, Bool, false, true, ℕ, ◌+◌, ◌≤◌, ◌++◌, ◌∷◌, [], List, length, IfOk, IsTrue, MatchOption, OnOk};
+ghost use Rattle.std.specs.Prelude.{◌≡◌, ◌==◌, ◌||◌, ◌↔◌, Bool, false, true, ℕ, ◌+◌, ◌<◌, ◌≤◌, ◌++◌, ◌∷◌, [], List, length, IfOk, IsTrue, MatchOption, OnOk};
 ghost use Rattle.std.specs.Bool.{MatchBool};
 ghost use Rattle.cc_defs.specs.declared.log.EndWord.TheVariants as words;
 ghost use Rattle.cc_defs.specs.declared.log.LogLine.TheVariants as lines;
-ghost use Rattle.cc_defs.specs.Clauses.{IsClause, IsOver};
+ghost use Rattle.cc_defs.specs.Clauses.{IsClause, IsOver, Literal};
 ghost use Rattle.cc_defs.specs.Limits.{most_log_bytes};
-ghost use Rattle.cc_defs.specs.LogBytes.{First};
-ghost use Rattle.cc_defs.specs.LogTexts.{IsLine, lines_in};
-ghost use Rattle.cc_defs.specs.Sections.{EndsRightly, Finding as PlainFinding, IsEnded, IsFound, IsJudged, row_denial};
-ghost use Rattle.cc_check.specs.Clauses.{AreSound, as_text, HasLineBehind, IsClauseOver, IsPassed, IsVerdictOf, IsWrongDerived, IsRightDerived, plain_finding};
+ghost use Rattle.cc_defs.specs.LogBytes.{IsSpelled, chain_behind, line_meant};
+ghost use Rattle.cc_defs.specs.Sections.{EndsRightly, Finding as PlainFinding, HasNoForm, row_denial};
+ghost use Rattle.cc_check.specs.Clauses.{AreSound, HasLineBehind, IsClauseOver, IsEndedInBytes, IsFoundInBytes, IsPassed, IsPassedAt, IsVerdictOf, IsWrongDerived, IsRightDerived, plain_finding, reading_as};
+ghost use Rattle.cc_check.specs.Reading.{IsReadIn};
+ghost use Rattle.cc_check.specs.SectionTexts.{IsFoundOf};
 
 use crate::clauses::{
     Stage, are_named, has_empty, is_clause_over, is_same_clause, reach, write_denial,
 };
-use crate::line::{Kind, Room, read_line};
+use crate::front::read_text;
+use crate::line::{Kind, Room};
 use crate::number::Named;
 use crate::sections::Section;
-use crate::text::first_line;
 use cc_clauses::ClauseArena;
-use cc_defs::{Cause, EndWord, Lit, OutOfMemory};
+use cc_defs::{Cause, EndWord, Lit, OutOfMemory, Version};
 use cc_form::Form;
 use std::alloc::Global;
 
@@ -125,6 +126,35 @@ fn is_refuted_with(refuted: bool, clause: &[Lit]) -> bool
     refuted || clause.is_empty()
 }
 
+// The number that the next clause has, behind those of the form and the section's own.
+fn own_number(form: &Form, own: &ClauseArena) -> u32
+    requires { length own.now ≤ most_log_bytes }
+    ensures { result ≡ length (form.now.clauses ++ own.now) + 1 }
+{
+    form.count() + own.count() as u32 + 1
+}
+
+// Puts the number of a clause in the place of each distance from the own number; 0, where the distance is not below it.
+fn name_distances(own: u32, chain: &mut Vec<u32>)
+    ensures { chain.new.items ≡ chain_behind own chain.old.items }
+{
+    let mut i = 0;
+    while i < chain.len() {
+        chain[i] = own.saturating_sub(chain[i]);
+        i += 2;
+    }
+}
+
+// Names the clauses of a chain by their numbers, where the version of the log has distances from the own number.
+fn name_clauses(version: Version, own: u32, chain: &mut Vec<u32>)
+    ensures { (clause : List Literal) → line_meant version own (lines.Derived clause chain.old.items) ≡ lines.Derived clause chain.new.items }
+{
+    match version {
+        Version::First => {}
+        Version::Second => name_distances(own, chain),
+    }
+}
+
 impl Checker {
     fn new(alloc: Global, form: &Form) -> Checker
         ensures own { result.own ≡ [] }
@@ -154,13 +184,19 @@ impl Checker {
         Ok(())
     }
 
-    // The derived line that was read into the room.
-    fn derived(&mut self, form: &Form) -> Result<Pass, OutOfMemory>
+    // The derived line that was read into the room, as its version writes it: its clauses are named by their numbers afterwards.
+    fn derived(&mut self, form: &Form, version: Version) -> Result<Pass, OutOfMemory>
         requires sound { AreSound form.now self.old.own self.old.refuted }
-        ensures passed { IfOk result (λ pass. (may : Bool) (text : List ℕ) → IsLine text (lines.Derived self.old.room.literals.items self.old.room.numbers.items) → IsPassed may form.now self.old.own self.old.blocks text pass self.new.own self.new.blocks) }
+        requires few { length self.old.own ≤ most_log_bytes }
+        ensures passed { IfOk result (λ pass. (may : Bool) (text : List ℕ) →
+            IsSpelled version text (lines.Derived self.old.room.literals.items self.old.room.numbers.items) →
+            IsPassed (reading_as version may) form.now self.old.own self.old.blocks text pass self.new.own self.new.blocks) }
         ensures sound { OnOk result (AreSound form.now self.new.own self.new.refuted) }
         ensures counted { OnOk result (self.new.blocks ≤ self.old.blocks + 1) }
+        ensures grown { OnOk result (length self.new.own ≤ length self.old.own + 1) }
     {
+        let own = own_number(form, &self.own);
+        name_clauses(version, own, &mut self.room.numbers);
         let clause = self.room.literals.as_slice();
         let chain = self.room.numbers.as_slice();
         match derived_cause(
@@ -183,9 +219,11 @@ impl Checker {
     fn block(&mut self, form: &Form, may: bool) -> Result<Pass, OutOfMemory>
         requires sound { AreSound form.now self.old.own self.old.refuted }
         requires few { self.old.blocks ≤ most_log_bytes }
-        ensures passed { IfOk result (λ pass. (text : List ℕ) → IsLine text (lines.Block self.old.room.numbers.items) → IsPassed may form.now self.old.own self.old.blocks text pass self.new.own self.new.blocks) }
+        ensures passed { IfOk result (λ pass. (version : _) (text : List ℕ) → IsSpelled version text (lines.Block self.old.room.numbers.items) →
+            IsPassed (reading_as version may) form.now self.old.own self.old.blocks text pass self.new.own self.new.blocks) }
         ensures sound { OnOk result (AreSound form.now self.new.own self.new.refuted) }
         ensures counted { OnOk result (self.new.blocks ≤ self.old.blocks + 1) }
+        ensures grown { OnOk result (length self.new.own ≤ length self.old.own + 1) }
     {
         if !may {
             return Ok(Pass::Wrong(Cause::Section));
@@ -205,7 +243,8 @@ impl Checker {
     // The end of the section. The word says that a clause is empty, where one is.
     fn end(&self, form: &Form, word: EndWord) -> Pass
         requires sound { AreSound form.now self.now.own self.now.refuted }
-        ensures { (may : Bool) (text : List ℕ) → IsLine text (lines.End word) → IsPassed may form.now self.now.own self.now.blocks text result self.now.own self.now.blocks }
+        ensures { (version : _) (may : Bool) (text : List ℕ) → IsSpelled version text (lines.End word) →
+            IsPassed (reading_as version may) form.now self.now.own self.now.blocks text result self.now.own self.now.blocks }
     {
         let _ = form;
         if self.refuted == says_empty(word) {
@@ -215,27 +254,66 @@ impl Checker {
         }
     }
 
-    // A line.
-    fn pass(&mut self, form: &Form, may: bool, text: &[u8]) -> Result<Pass, OutOfMemory>
+    // The line that was read into the room, or what is no line.
+    fn line(
+        &mut self,
+        form: &Form,
+        version: Version,
+        may: bool,
+        kind: Option<Kind>,
+    ) -> Result<Pass, OutOfMemory>
         requires sound { AreSound form.now self.old.own self.old.refuted }
         requires few { self.old.blocks ≤ most_log_bytes }
-        ensures passed { IfOk result (λ pass. IsPassed may form.now self.old.own self.old.blocks text.now pass self.new.own self.new.blocks) }
+        requires own { length self.old.own ≤ most_log_bytes }
+        ensures passed { IfOk result (λ pass. (text : List ℕ) →
+            MatchOption kind (HasNoForm version text) (IsReadIn version text self.old.room.literals.items self.old.room.numbers.items) →
+            IsPassed (reading_as version may) form.now self.old.own self.old.blocks text pass self.new.own self.new.blocks) }
         ensures sound { OnOk result (AreSound form.now self.new.own self.new.refuted) }
         ensures counted { OnOk result (self.new.blocks ≤ self.old.blocks + 1) }
+        ensures grown { OnOk result (length self.new.own ≤ length self.old.own + 1) }
     {
-        match read_line(text, &mut self.room)? {
+        match kind {
             None => Ok(Pass::Wrong(Cause::Form)),
             Some(Kind::Heading) => Ok(Pass::Wrong(Cause::Section)),
             Some(Kind::End(word)) => Ok(self.end(form, word)),
-            Some(Kind::Derived) => self.derived(form),
+            Some(Kind::Derived) => self.derived(form, version),
             Some(Kind::Block) => self.block(form, may),
         }
     }
 
+    // The line at the front of bytes, and what stands behind it.
+    fn pass<'b>(
+        &mut self,
+        form: &Form,
+        version: Version,
+        may: bool,
+        bytes: &'b [u8],
+    ) -> Result<(Pass, &'b [u8]), OutOfMemory>
+        requires some { 0 < length bytes.now }
+        requires sound { AreSound form.now self.old.own self.old.refuted }
+        requires few { self.old.blocks ≤ most_log_bytes }
+        requires own { length self.old.own ≤ most_log_bytes }
+        ensures passed { IfOk result (λ passed. IsPassedAt (reading_as version may) form.now self.old.own self.old.blocks bytes.now
+            passed.0 passed.1.now self.new.own self.new.blocks) }
+        ensures sound { OnOk result (AreSound form.now self.new.own self.new.refuted) }
+        ensures counted { OnOk result (self.new.blocks ≤ self.old.blocks + 1) }
+        ensures grown { OnOk result (length self.new.own ≤ length self.old.own + 1) }
+    {
+        let (kind, rest) = read_text(version, bytes, &mut self.room)?;
+        let pass = self.line(form, version, may, kind)?;
+        Ok((pass, rest))
+    }
+
     // What stands behind the end of a section, whose line is given.
-    fn behind_end(&mut self, word: EndWord, line: u32, rest: &[u8]) -> Result<Finding, OutOfMemory>
+    fn behind_end(
+        &mut self,
+        version: Version,
+        word: EndWord,
+        line: u32,
+        rest: &[u8],
+    ) -> Result<Finding, OutOfMemory>
         requires { line ≤ 4000000000 }
-        ensures ended { IfOk result (λ finding. IsEnded First word self.old.blocks line (lines_in rest.now) (plain_finding finding)) }
+        ensures ended { IfOk result (λ finding. IsEndedInBytes version word self.old.blocks line rest.now (plain_finding finding)) }
         ensures few { IfOk result (λ finding. HasLineBehind finding) }
     {
         if rest.is_empty() {
@@ -245,8 +323,8 @@ impl Checker {
                 line,
             });
         }
-        let (text, _) = first_line(rest);
-        match read_line(text, &mut self.room)? {
+        let (kind, _) = read_text(version, rest, &mut self.room)?;
+        match kind {
             None => Ok(Finding::Trailed {
                 ending: word,
                 line,
@@ -265,23 +343,24 @@ impl Checker {
 pub(crate) fn find_lines(
     alloc: Global,
     form: &Form,
+    version: Version,
     may: bool,
     first: u32,
     bytes: &[u8],
 ) -> Result<Finding, OutOfMemory>
     requires few { length bytes.now ≤ most_log_bytes }
     requires line { first ≤ most_log_bytes + 2 }
-    ensures found { IfOk result (λ finding. IsFound (as_text may) form.now form.now.clauses 0 first (lines_in bytes.now) (plain_finding finding)) }
+    ensures found { IfOk result (λ finding. IsFoundInBytes (reading_as version may) form.now first bytes.now (plain_finding finding)) }
     ensures few { IfOk result (λ finding. HasLineBehind finding) }
 {
     let mut checker = Checker::new(alloc, form);
     let mut rest = bytes;
     let mut line = first;
     while !rest.is_empty() {
-        let (text, behind) = first_line(rest);
-        match checker.pass(form, may, text)? {
+        let (pass, behind) = checker.pass(form, version, may, rest)?;
+        match pass {
             Pass::Goes => {}
-            Pass::Ends(word) => return checker.behind_end(word, line, behind),
+            Pass::Ends(word) => return checker.behind_end(version, word, line, behind),
             Pass::Wrong(cause) => return Ok(Finding::Wrong { line, cause }),
         }
         rest = behind;
@@ -300,17 +379,17 @@ fn found_in(
     may: bool,
     section: &Section<'_>,
 ) -> Result<Finding, OutOfMemory>
-    ensures found { IfOk result (λ finding. IsFound (as_text may) form.now form.now.clauses 0 (section.now.line + 1) section.now.texts (plain_finding finding)) }
+    ensures found { IfOk result (λ finding. IsFoundOf may form.now section.now (plain_finding finding)) }
     ensures few { IfOk result (λ finding. HasLineBehind finding) }
 {
     let (line, bytes) = section.lines();
-    find_lines(alloc, form, may, line, bytes)
+    find_lines(alloc, form, section.version(), may, line, bytes)
 }
 
-/// Goes through the lines of a section over the clauses of a form, those of its horizon and its search: each is right up to the one
-/// that ends the section, or it finds the first that is not.
+/// Goes through the lines of a section, as its version writes them, over the clauses of a form, those of its horizon and its search:
+/// each is right up to the one that ends the section, or it finds the first that is not.
 pub fn find(alloc: Global, form: &Form, section: &Section<'_>) -> Result<Finding, OutOfMemory>
-    ensures { IfOk result (λ finding. IsFound (as_text true) form.now form.now.clauses 0 (section.now.line + 1) section.now.texts (plain_finding finding)) }
+    ensures { IfOk result (λ finding. IsFoundOf true form.now section.now (plain_finding finding)) }
 {
     found_in(alloc, form, true, section)
 }
@@ -321,7 +400,7 @@ pub fn find_silent(
     form: &Form,
     section: &Section<'_>,
 ) -> Result<Finding, OutOfMemory>
-    ensures found { IfOk result (λ finding. IsFound (as_text false) form.now form.now.clauses 0 (section.now.line + 1) section.now.texts (plain_finding finding)) }
+    ensures found { IfOk result (λ finding. IsFoundOf false form.now section.now (plain_finding finding)) }
     ensures few { IfOk result (λ finding. HasLineBehind finding) }
 {
     found_in(alloc, form, false, section)
@@ -353,7 +432,7 @@ fn verdict_of(finding: Finding) -> Verdict
 /// Checks a section over the clauses of a form, those of its horizon and its search: each line is right, and the last one ends the
 /// section; or the first that is not. Whether the log may go on behind such an end is not looked at.
 pub fn check(alloc: Global, form: &Form, section: &Section<'_>) -> Result<Verdict, OutOfMemory>
-    ensures { IfOk result (λ verdict. (finding : PlainFinding) × IsFound (as_text true) form.now form.now.clauses 0 (section.now.line + 1) section.now.texts finding × IsVerdictOf finding verdict) }
+    ensures { IfOk result (λ verdict. (finding : PlainFinding) × IsFoundOf true form.now section.now finding × IsVerdictOf finding verdict) }
 {
     Ok(verdict_of(found_in(alloc, form, true, section)?))
 }
@@ -364,7 +443,7 @@ pub fn check_silent(
     form: &Form,
     section: &Section<'_>,
 ) -> Result<Verdict, OutOfMemory>
-    ensures { IfOk result (λ verdict. (finding : PlainFinding) × IsFound (as_text false) form.now form.now.clauses 0 (section.now.line + 1) section.now.texts finding × IsVerdictOf finding verdict) }
+    ensures { IfOk result (λ verdict. (finding : PlainFinding) × IsFoundOf false form.now section.now finding × IsVerdictOf finding verdict) }
 {
     Ok(verdict_of(found_in(alloc, form, false, section)?))
 }

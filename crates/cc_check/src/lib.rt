@@ -1,11 +1,13 @@
-//! The lines of a log, as they are written and as they are read, as text or in bytes; a checker of one section of a log, with blocks or without; and a
-//! checker of whole logs whose sections are silent, for each kind of heading. The verdict of a query's log is cc_judge's.
+//! The lines of a log, as they are written and as they are read, as text or in bytes; logs of both versions, split into their
+//! sections; a checker of one section, with blocks or without; and a checker of whole logs whose sections are silent, for each kind
+//! of heading. The verdict of a query's log is cc_judge's.
 #![tactic(auto)]
 
 mod binary;
 mod clauses;
 mod entry;
 mod fault;
+mod front;
 mod judge;
 pub mod laws;
 mod line;

@@ -2,7 +2,7 @@
 ghost use Rattle.std.specs.Prelude.{◌≡◌, ℕ, List, [], ◌∷◌, ◌++◌, ◌↔◌, true, false, length, IfOk, IsTrue, MatchOption};
 ghost use Rattle.std.specs.Bool.{MatchBool};
 ghost use Rattle.cc_defs.specs.declared.log.LogLine.TheVariants as lines;
-ghost use Rattle.cc_defs.specs.LogBytes.{First};
+ghost use Rattle.cc_defs.specs.declared.log.Version.TheVariants.{First};
 ghost use Rattle.cc_defs.specs.LogTexts.{IsLine};
 ghost use Rattle.cc_defs.specs.Clauses.{Literal};
 ghost use Rattle.cc_defs.specs.Logs.{IsNoHeading};

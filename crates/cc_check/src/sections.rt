@@ -1,28 +1,33 @@
 //! A log split into its sections.
-ghost use Rattle.std.specs.Prelude.{◌≡◌, ◌+◌, ◌-◌, ℕ, ◌≤◌, ◌<◌, ◌∷◌, List, Some, length, take, slice_get, IfOk, IfErr};
+ghost use Rattle.std.specs.Prelude.{◌≡◌, ◌+◌, ◌-◌, ℕ, ◌≤◌, ◌<◌, List, Some, length, take, slice_get, IfOk, IfErr};
 ghost use Rattle.std.specs.List.{AllByRecursion};
 ghost use Rattle.cc_defs.specs.declared.log.LogLine.TheVariants as lines;
+ghost use Rattle.cc_defs.specs.declared.log.Version.TheVariants as versions;
 ghost use Rattle.cc_defs.specs.Limits.{most_log_bytes};
-ghost use Rattle.cc_defs.specs.LogBytes.{First};
-ghost use Rattle.cc_defs.specs.LogTexts.{IsLine, header, lines_in};
-ghost use Rattle.cc_defs.specs.Logs.{AreSections, IsNoHeading};
+ghost use Rattle.cc_defs.specs.LogBytes.{IsSpelled, binary_header};
+ghost use Rattle.cc_defs.specs.LogTexts.{header};
 ghost use Rattle.cc_check.specs.declared.fault.CheckFault.TheVariants as faults;
-ghost use Rattle.cc_check.specs.Parts.{IsInside, IsPart, IsRefusal, IsSecond, parts_view};
-ghost use Rattle.cc_check.specs.Splits.{IsSplit, Parts};
+ghost use Rattle.cc_check.specs.Parts.{AreSectionsBehind, AreSectionsFrom, AreSectionsOf, IsCut, IsInside, IsPart, IsRefusal, IsRefusalBehind, IsSecond, IsSecondAt, parts_view};
 
 use crate::CheckFault;
+use crate::entry::{heading_in, read_entry};
+use crate::front::read_text;
 use crate::line::{Heading, Room, heading_of, read_line};
 use crate::text::first_line;
-use cc_defs::{Cause, OutOfMemory};
+use cc_defs::{Cause, OutOfMemory, Version};
 use std::alloc::Global;
 use std::marker::Model;
 
-// The first line of a log.
+// The first line of a log of version 1.
 const HEADER: &[u8] = b"ccalc log 1\n";
+
+// The first bytes of a log of version 2.
+const BINARY_HEADER: &[u8] = b"ccalclg2";
 
 // A section of a log, in the list of them.
 #[derive(Clone, Copy)]
 struct Part<'b> {
+    version: Version,
     conditions: bool,
     horizon: u32,
     line: u32,
@@ -40,6 +45,7 @@ struct Inside<'b> {
 /// A section of a log: its heading, and the lines up to the next heading.
 #[derive(Drop)]
 pub struct Section<'b> {
+    version: Version,
     conditions: bool,
     horizon: u32,
     line: u32,
@@ -47,9 +53,9 @@ pub struct Section<'b> {
 }
 
 impl<'b> Model for Section<'b> {
-    ghost use Rattle.cc_defs.specs.Logs.{SectionText};
+    ghost use Rattle.cc_check.specs.SectionTexts.{SectionBytes};
 
-    ghost Value = { SectionText };
+    ghost Value = { SectionBytes };
 
     ghost use Rattle.cc_check.specs.Parts.{section_view, IsSection};
 
@@ -59,14 +65,21 @@ impl<'b> Model for Section<'b> {
 }
 
 impl<'b> Section<'b> {
-    /// A section under a heading: whether it is the search for a path of the conditions, its horizon, the line of the heading in the
-    /// log, from 1, and the bytes of its lines, up to the next heading.
-    pub fn of(conditions: bool, horizon: u32, line: u32, bytes: &'b [u8]) -> Section<'b>
+    /// A section under a heading: how its lines are written, whether it is the search for a path of the conditions, its horizon,
+    /// the line of the heading in the log, from 1, and the bytes of its lines, up to the next heading.
+    pub fn of(
+        version: Version,
+        conditions: bool,
+        horizon: u32,
+        line: u32,
+        bytes: &'b [u8],
+    ) -> Section<'b>
         requires few { length bytes.now ≤ most_log_bytes }
         requires line { line ≤ most_log_bytes + 1 }
-        ensures { result ≡ record { conditions = conditions; horizon = horizon; line = line; texts = lines_in bytes.entry.now } }
+        ensures { result ≡ record { version = version; conditions = conditions; horizon = horizon; line = line; bytes = bytes.entry.now } }
     {
         Section {
+            version,
             conditions,
             horizon,
             line,
@@ -74,9 +87,16 @@ impl<'b> Section<'b> {
         }
     }
 
+    /// How its lines are written.
+    pub fn version(&self) -> Version
+        ensures { result ≡ self.now.version }
+    {
+        self.version
+    }
+
     /// The bytes of its lines.
     pub fn bytes(&self) -> &'b [u8]
-        ensures texts { lines_in result.now ≡ self.now.texts }
+        ensures bytes { result.now ≡ self.now.bytes }
         ensures few { length result.now ≤ most_log_bytes }
     {
         self.bytes
@@ -107,7 +127,7 @@ impl<'b> Section<'b> {
     // The number of the line behind its heading, and its lines.
     pub(crate) fn lines(&self) -> (u32, &'b [u8])
         ensures line { result.0 ≡ self.now.line + 1 }
-        ensures texts { lines_in result.1.now ≡ self.now.texts }
+        ensures bytes { result.1.now ≡ self.now.bytes }
         ensures few { length result.1.now ≤ most_log_bytes }
         ensures most { result.0 ≤ most_log_bytes + 2 }
     {
@@ -123,39 +143,87 @@ pub(crate) fn ahead(text: &[u8], left: usize) -> &[u8]
     text.split_at(text.len() - left).0
 }
 
+// The heading that the first line of bytes is, if it is one, and what stands behind that line.
+fn cut_line(bytes: &[u8]) -> (Option<Heading>, &[u8])
+    requires { 0 < length bytes.now }
+    ensures { IsCut versions.First bytes.now result.0 result.1.now }
+{
+    let (text, rest) = first_line(bytes);
+    (heading_of(text), rest)
+}
+
+// The heading that the first entry of bytes is, if it is one, and what stands behind that entry: nothing, where none stands there.
+fn cut_entry<'b>(
+    bytes: &'b [u8],
+    room: &mut Room,
+) -> Result<(Option<Heading>, &'b [u8]), OutOfMemory>
+    requires { 0 < length bytes.now }
+    ensures { IfOk result (λ cut. IsCut versions.Second bytes.now cut.0 cut.1.now) }
+{
+    if let Some((heading, rest)) = heading_in(bytes) {
+        return Ok((Some(heading), rest));
+    }
+    match read_entry(bytes, room)? {
+        Some((_, rest)) => Ok((None, rest)),
+        None => Ok((None, &[])),
+    }
+}
+
+// The heading that the first text of bytes is, if it is one, and what stands behind that text.
+fn cut_text<'b>(
+    version: Version,
+    bytes: &'b [u8],
+    room: &mut Room,
+) -> Result<(Option<Heading>, &'b [u8]), OutOfMemory>
+    requires { 0 < length bytes.now }
+    ensures { IfOk result (λ cut. IsCut version bytes.now cut.0 cut.1.now) }
+{
+    match version {
+        Version::First => Ok(cut_line(bytes)),
+        Version::Second => cut_entry(bytes, room),
+    }
+}
+
 // The lines up to the next heading.
-fn inside_of(all: &[u8]) -> Inside<'_>
+fn inside_of<'b>(
+    version: Version,
+    all: &'b [u8],
+    room: &mut Room,
+) -> Result<Inside<'b>, OutOfMemory>
     requires { length all.now ≤ most_log_bytes }
-    ensures { IsInside all.now result.bytes.now result.count result.next }
+    ensures { IfOk result (λ inside. IsInside version all.now inside.bytes.now inside.count inside.next) }
 {
     let mut rest = all;
     let mut count = 0;
     while !rest.is_empty() {
-        let (line, behind) = first_line(rest);
-        if let Some(heading) = heading_of(line) {
+        let (heading, behind) = cut_text(version, rest, room)?;
+        if let Some(heading) = heading {
             let next = Some((heading, behind));
             let bytes = ahead(all, rest.len());
-            return Inside { bytes, count, next };
+            return Ok(Inside { bytes, count, next });
         }
         count += 1;
         rest = behind;
     }
     let next = None;
-    Inside {
+    Ok(Inside {
         bytes: all,
         count,
         next,
-    }
+    })
 }
 
 // The sections of a log whose first heading, on line 2, was read, and what stands behind it.
 fn parts_of<'b>(
     alloc: Global,
+    version: Version,
     first: Heading,
     behind: &'b [u8],
+    room: &mut Room,
 ) -> Result<Vec<Part<'b>>, OutOfMemory>
     requires { length behind.now ≤ 268435448 }
-    ensures sections { IfOk result (λ parts. (text : List ℕ) → IsLine text (lines.Section first.conditions first.horizon) → AreSections First 2 (text ∷ lines_in behind.now) (parts_view parts.items)) }
+    ensures sections { IfOk result (λ parts. (text : List ℕ) → IsSpelled version text (lines.Section first.conditions first.horizon) →
+        AreSectionsFrom version text behind.now (parts_view parts.items)) }
     ensures parts { IfOk result (λ parts. AllByRecursion IsPart parts.items) }
 {
     let mut parts = Vec::new(alloc);
@@ -163,8 +231,9 @@ fn parts_of<'b>(
     let mut line = 2;
     let mut rest = behind;
     'sections: loop {
-        let inside = inside_of(rest);
+        let inside = inside_of(version, rest, room)?;
         parts.push(Part {
+            version,
             conditions: heading.conditions,
             horizon: heading.horizon,
             line,
@@ -179,7 +248,7 @@ fn parts_of<'b>(
     }
 }
 
-// What is wrong with a text that stands where a heading has to.
+// What is wrong with a text of version 1 that stands where a heading has to.
 pub(crate) fn second_cause(alloc: Global, text: &[u8]) -> Result<Cause, OutOfMemory>
     ensures { IfOk result (λ cause. IsSecond text.now cause) }
 {
@@ -187,6 +256,44 @@ pub(crate) fn second_cause(alloc: Global, text: &[u8]) -> Result<Cause, OutOfMem
     match read_line(text, &mut room)? {
         None => Ok(Cause::Form),
         Some(_) => Ok(Cause::Section),
+    }
+}
+
+// What is wrong with the first text of bytes, where a heading has to stand.
+fn second_cause_at(version: Version, body: &[u8], room: &mut Room) -> Result<Cause, OutOfMemory>
+    requires { 0 < length body.now }
+    ensures { IfOk result (λ cause. IsSecondAt version body.now cause) }
+{
+    let (kind, _) = read_text(version, body, room)?;
+    match kind {
+        None => Ok(Cause::Form),
+        Some(_) => Ok(Cause::Section),
+    }
+}
+
+// The sections of the bytes behind a header.
+fn read_behind<'b>(
+    alloc: Global,
+    version: Version,
+    body: &'b [u8],
+) -> Result<Vec<Part<'b>>, CheckFault>
+    requires { length body.now ≤ 268435448 }
+    ensures read { IfOk result (λ parts. AreSectionsBehind version body.now (parts_view parts.items)) }
+    ensures parts { IfOk result (λ parts. AllByRecursion IsPart parts.items) }
+    ensures refused { IfErr result (IsRefusalBehind version body.now) }
+{
+    if body.is_empty() {
+        return Err(refused(2, Cause::Section));
+    }
+    let mut room = Room::new(alloc);
+    let (heading, behind) = cut_text(version, body, &mut room)?;
+    let Some(heading) = heading else {
+        let cause = second_cause_at(version, body, &mut room)?;
+        return Err(refused(2, cause));
+    };
+    match parts_of(alloc, version, heading, behind, &mut room) {
+        Ok(parts) => Ok(parts),
+        Err(_) => Err(CheckFault::OutOfMemory),
     }
 }
 
@@ -198,9 +305,9 @@ pub struct Sections<'b> {
 
 impl<'b> Model for Sections<'b> {
     ghost use Rattle.std.specs.Prelude.{List};
-    ghost use Rattle.cc_defs.specs.Logs.{SectionText};
+    ghost use Rattle.cc_check.specs.SectionTexts.{SectionBytes};
 
-    ghost Value = { List SectionText };
+    ghost Value = { List SectionBytes };
 
     ghost use Rattle.cc_check.specs.Parts.{sections_view, AreParts};
 
@@ -210,28 +317,23 @@ impl<'b> Model for Sections<'b> {
 }
 
 impl<'b> Sections<'b> {
-    /// Reads the header of a log and splits it at its headings; a section is a part of the bytes. Refuses a log without
-    /// its header, or without a heading on its second line.
+    /// Reads the header of a log, which tells its version, and splits the log at its headings; a section is a part of the bytes.
+    /// Refuses a log without its header, or without a heading on its second line. In version 2 what begins with no entry is one
+    /// line, to the end.
     pub fn read(alloc: Global, bytes: &'b [u8]) -> Result<Sections<'b>, CheckFault>
         requires { length bytes.now ≤ most_log_bytes }
-        ensures read { IfOk result (λ sections. IsSplit bytes.now (Parts sections)) }
+        ensures read { IfOk result (λ sections. AreSectionsOf bytes.now sections) }
         ensures refused { IfErr result (IsRefusal bytes.now) }
     {
+        if let Some(body) = bytes.strip_prefix(BINARY_HEADER) {
+            let parts = read_behind(alloc, Version::Second, body)?;
+            return Ok(Sections { parts });
+        }
         let Some(body) = bytes.strip_prefix(HEADER) else {
             return Err(refused(1, Cause::Header));
         };
-        if body.is_empty() {
-            return Err(refused(2, Cause::Section));
-        }
-        let (text, behind) = first_line(body);
-        let Some(heading) = heading_of(text) else {
-            let cause = second_cause(alloc, text)?;
-            return Err(refused(2, cause));
-        };
-        match parts_of(alloc, heading, behind) {
-            Ok(parts) => Ok(Sections { parts }),
-            Err(_) => Err(CheckFault::OutOfMemory),
-        }
+        let parts = read_behind(alloc, Version::First, body)?;
+        Ok(Sections { parts })
     }
 
     /// How many sections there are.
@@ -248,6 +350,7 @@ impl<'b> Sections<'b> {
     {
         let part = self.parts[i];
         Section {
+            version: part.version,
             conditions: part.conditions,
             horizon: part.horizon,
             line: part.line,

@@ -12,7 +12,7 @@ ghost use Rattle.cc_defs.specs.Refusals.{IsRefusedBy};
 use crate::judge::{Finding, find_lines};
 use crate::sections::{ahead, second_cause};
 use crate::text::first_line;
-use cc_defs::{Cause, EndWord, Fault};
+use cc_defs::{Cause, EndWord, Fault, Version};
 use cc_form::Form;
 use std::alloc::Global;
 
@@ -158,7 +158,7 @@ fn pass_section<'b, S: Silent>(
         return Ok(Passed::Stops(refused(line, Cause::Section)));
     }
     let form = kind.form(alloc, &heading)?;
-    let finding = find_lines(alloc, &form, false, line + 1, inside.bytes)?;
+    let finding = find_lines(alloc, &form, Version::First, false, line + 1, inside.bytes)?;
     match refusal_of(finding) {
         Some(verdict) => Ok(Passed::Stops(verdict)),
         None => Ok(Passed::Goes {

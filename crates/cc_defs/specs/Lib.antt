@@ -18,6 +18,7 @@ pub mod Limits
 pub mod LitCodes
 pub mod LogBytes
 pub mod LogTexts
+pub mod LogVersions
 pub mod Logs
 pub mod Nodes
 pub mod Paths

@@ -1,7 +1,7 @@
 -- The limits, by name and number.
 use Rattle.std.specs.Prelude.{ℕ, List, codes}
 use Rattle.cc_defs.specs.declared.refusal.LimitAt.{LimitAt}
-use Rattle.cc_defs.specs.declared.refusal.LimitAt.TheVariants.{FileBytes, TotalBytes, IncludeDepth, TokenBytes, NumberDigits, DeclarationTokens, StatementTokens, Objects, DomainValues, GroundConstants, LawInstances, Choices, GroundNodes, Horizon, Rules, Variables, AxiomClauses, AxiomLiterals, Histories, LogBytes}
+use Rattle.cc_defs.specs.declared.refusal.LimitAt.TheVariants.{FileBytes, TotalBytes, IncludeDepth, TokenBytes, NumberDigits, DeclarationTokens, StatementTokens, Objects, DomainValues, GroundConstants, LawInstances, Choices, GroundNodes, Horizon, Rules, CnfVariables, Variables, AxiomClauses, AxiomLiterals, Histories, LogBytes}
 
 -- what is counted, in words
 abbrev pub limit_name : LimitAt → List ℕ
@@ -20,6 +20,7 @@ limit_name Choices = codes "choices"
 limit_name GroundNodes = codes "ground nodes"
 limit_name Horizon = codes "horizon"
 limit_name Rules = codes "rules"
+limit_name CnfVariables = codes "cnf variables"
 limit_name Variables = codes "variables"
 limit_name AxiomClauses = codes "axiom clauses"
 limit_name AxiomLiterals = codes "axiom literals"
@@ -43,6 +44,7 @@ limit_number Choices = 16000000
 limit_number GroundNodes = 16000000
 limit_number Horizon = 1000
 limit_number Rules = 8000000
+limit_number CnfVariables = 1000000
 limit_number Variables = 4000000
 limit_number AxiomClauses = 8000000
 limit_number AxiomLiterals = 40000000
@@ -56,6 +58,9 @@ most_steps = limit_number Horizon
 
 abbrev pub most_rules : ℕ
 most_rules = limit_number Rules
+
+abbrev pub most_cnf_variables : ℕ
+most_cnf_variables = limit_number CnfVariables
 
 abbrev pub most_variables : ℕ
 most_variables = limit_number Variables

@@ -1,10 +1,12 @@
 -- Version 2 of a log: entries of numbers in bytes, for keeping where version 1 is for reading.
-use Rattle.std.specs.Prelude.{◌≡◌, ℕ, zero, suc, ◌+◌, ◌-◌, ◌*◌, ◌/◌, ◌%◌, ◌≤◌, nat_lt, if◌then◌else◌, List, [], ◌∷◌, ◌++◌, flat_map, length, codes}
+use Rattle.std.specs.Prelude.{◌≡◌, ◌≢◌, ℕ, zero, suc, ◌+◌, ◌-◌, ◌*◌, ◌/◌, ◌%◌, ◌≤◌, ◌⊎◌, nat_lt, if◌then◌else◌, List, [], ◌∷◌, ◌++◌, flat_map, length, codes}
 use Rattle.std.specs.List.{AllByRecursion}
 use Rattle.cc_defs.specs.declared.log.EndWord.{EndWord}
 use Rattle.cc_defs.specs.declared.log.EndWord.TheVariants as words
 use Rattle.cc_defs.specs.declared.log.LogLine.{LogLine}
 use Rattle.cc_defs.specs.declared.log.LogLine.TheVariants as lines
+use Rattle.cc_defs.specs.declared.log.Version.{Version}
+use Rattle.cc_defs.specs.declared.log.Version.TheVariants.{First, Second}
 use Rattle.cc_defs.specs.Clauses.{Literal}
 use Rattle.cc_defs.specs.LogTexts.{IsLine, IsOdd, IsShortLiteral}
 
@@ -60,6 +62,27 @@ pub record IsEntry (bytes : List ℕ) (line : LogLine) : Type 0 where
   pub formed : HasNumbers line
   pub spelled : bytes ≡ entry_bytes line
 
+-- ---- entries at the front of bytes
+
+-- Bytes begin with the entry of a line, and this is behind it.
+pub record BeginsWith (bytes : List ℕ) (line : LogLine) (rest : List ℕ) : Type 0 where
+  pub entry : List ℕ
+  pub read : IsEntry entry line
+  pub spelled : bytes ≡ entry ++ rest
+
+-- bytes begin with the entry of no line
+abbrev pub HasNoEntry : List ℕ → Type 0
+HasNoEntry bytes = (line : LogLine) (rest : List ℕ) → BeginsWith bytes line rest → ⊥
+
+-- the texts of the entries of bytes, one behind the other; what begins with no entry is one last text, to the end
+abbrev pub AreEntries : List ℕ → List (List ℕ) → Type 0
+AreEntries bytes [] = bytes ≡ []
+AreEntries bytes (text ∷ texts) =
+    ((line : LogLine) × IsEntry text line × ((rest : List ℕ) × (bytes ≡ text ++ rest) × AreEntries rest texts))
+    ⊎ (HasNoEntry bytes × (bytes ≢ []) × (text ≡ bytes) × (texts ≡ []))
+
+-- ---- distances in place of numbers
+
 -- A distance is the number of the line's own clause less that of the clause that is named. One of 0, or one that is not less than
 -- the own number, names no earlier clause.
 abbrev pub chain_behind : ℕ → List ℕ → List ℕ
@@ -74,10 +97,6 @@ line_behind own (lines.Block row) = lines.Block row
 line_behind own (lines.End word) = lines.End word
 
 -- ---- both versions
-
-pub data Version : Type 0 where
-  First : Version
-  Second : Version
 
 -- bytes are those of a line, as this version writes it
 abbrev pub IsSpelled : Version → List ℕ → LogLine → Type 0

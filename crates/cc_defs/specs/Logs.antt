@@ -9,13 +9,16 @@ use Rattle.cc_defs.specs.declared.log.LogLine.{LogLine}
 use Rattle.cc_defs.specs.declared.log.LogLine.TheVariants as lines
 use Rattle.cc_defs.specs.declared.log.LogVerdict.{LogVerdict}
 use Rattle.cc_defs.specs.declared.log.LogVerdict.TheVariants as verdicts
-use Rattle.cc_defs.specs.LogBytes.{Version, First, IsSpelled}
+use Rattle.cc_defs.specs.declared.log.Version.{Version}
+use Rattle.cc_defs.specs.declared.log.Version.TheVariants.{First, Second}
+use Rattle.cc_defs.specs.LogBytes.{IsSpelled, AreEntries, binary_header}
 use Rattle.cc_defs.specs.LogTexts.{header, lines_in}
 use Rattle.cc_defs.specs.Sections.{Axioms, Finding, Right, Trailed, Wrong, HasNoForm, IsFound}
 
--- ---- a log's sections: each a heading, with the number of its line, and the lines up to the next heading
+-- ---- a log's sections: each a heading, with the number of its line, and the lines up to the next heading, as their version writes them
 
 pub record SectionText : Type 0 where
+  pub version : Version
   pub conditions : Bool
   pub horizon : ℕ
   pub line : ℕ
@@ -31,6 +34,7 @@ AreSections version line texts (first ∷ sections) =
     (heading : List ℕ) × (rest : List (List ℕ)) × (texts ≡ heading ∷ first.texts ++ rest) × (first.line ≡ line)
     × IsSpelled version heading (lines.Section first.conditions first.horizon) × AllByRecursion (IsNoHeading version) first.texts
     × AreSections version (line + 1 + length first.texts) rest sections
+    × (first.version ≡ version)
 
 -- ---- which sections a log is to have
 
@@ -86,13 +90,13 @@ IsClosedBy subject standing verdict =
     ((standing.middle ≡ false) × (standing.horizon ≢ subject.first) × (verdict ≡ verdicts.Accepted subject.first (standing.horizon - 1) standing.blocked))
     ⊎ (((standing.middle ≡ true) ⊎ (standing.horizon ≡ subject.first)) × (verdict ≡ verdicts.Refused standing.line causes.Section))
 
-abbrev pub AreJudged : Version → Subject → Standing → List SectionText → LogVerdict → Type 0
-AreJudged version subject standing [] verdict = IsClosedBy subject standing verdict
-AreJudged version subject standing (section ∷ sections) verdict =
+abbrev pub AreJudged : Subject → Standing → List SectionText → LogVerdict → Type 0
+AreJudged subject standing [] verdict = IsClosedBy subject standing verdict
+AreJudged subject standing (section ∷ sections) verdict =
     ((IsNext subject standing section → ⊥) × (verdict ≡ verdicts.Refused section.line causes.Section))
     ⊎ (IsNext subject standing section × ((finding : Finding)
-    × IsFound (record { version = version; blocks = true }) (subject.axioms section.conditions section.horizon) ((subject.axioms section.conditions section.horizon).clauses) 0 (section.line + 1) section.texts finding
-    × IsFollowed (λ next. AreJudged version subject next sections verdict) standing section.conditions finding verdict))
+    × IsFound (record { version = section.version; blocks = true }) (subject.axioms section.conditions section.horizon) ((subject.axioms section.conditions section.horizon).clauses) 0 (section.line + 1) section.texts finding
+    × IsFollowed (λ next. AreJudged subject next sections verdict) standing section.conditions finding verdict))
 
 abbrev pub at_first : Subject → Standing
 at_first subject = record { middle = false; horizon = subject.first; blocked = 0; line = 2 }
@@ -105,16 +109,23 @@ IsVerdictBehind version subject [] verdict = verdict ≡ verdicts.Refused 2 caus
 IsVerdictBehind version subject (text ∷ texts) verdict =
     (HasNoForm version text × (verdict ≡ verdicts.Refused 2 causes.Form))
     ⊎ (IsNoHeading version text × ((line : LogLine) × IsSpelled version text line) × (verdict ≡ verdicts.Refused 2 causes.Section))
-    ⊎ ((sections : List SectionText) × AreSections version 2 (text ∷ texts) sections × AreJudged version subject (at_first subject) sections verdict)
+    ⊎ ((sections : List SectionText) × AreSections version 2 (text ∷ texts) sections × AreJudged subject (at_first subject) sections verdict)
 
 abbrev pub IsVerdictOf : Subject → List (List ℕ) → LogVerdict → Type 0
 IsVerdictOf subject [] verdict = verdict ≡ verdicts.Refused 1 causes.Header
 IsVerdictOf subject (text ∷ texts) verdict =
     ((text ≢ header) × (verdict ≡ verdicts.Refused 1 causes.Header)) ⊎ ((text ≡ header) × IsVerdictBehind First subject texts verdict)
 
--- what a checker says of a log
+-- bytes do not begin with the header of version 2: they are read as version 1
+abbrev pub IsNotBinary : List ℕ → Type 0
+IsNotBinary bytes = (behind : List ℕ) → bytes ≢ binary_header ++ behind
+
+-- what a checker says of a log, by the version that its first eight bytes tell
 abbrev pub IsVerdict : Subject → List ℕ → LogVerdict → Type 0
-IsVerdict subject bytes verdict = IsVerdictOf subject (lines_in bytes) verdict
+IsVerdict subject bytes verdict =
+    ((behind : List ℕ) × (bytes ≡ binary_header ++ behind)
+    × ((texts : List (List ℕ)) × AreEntries behind texts × IsVerdictBehind Second subject texts verdict))
+    ⊎ (IsNotBinary bytes × IsVerdictOf subject (lines_in bytes) verdict)
 
 -- it accepts the log
 abbrev pub IsAccepted : Subject → List ℕ → Type 0

@@ -38,7 +38,8 @@ abbrev pub refusal_names : List (List ℕ)
 refusal_names =
     codes "Words" ∷ codes "Byte" ∷ codes "Syntax" ∷ codes "TwiceDeclared" ∷ codes "UnknownName" ∷ codes "Arity" ∷ codes "Sort"
     ∷ codes "Unbound" ∷ codes "LawForm" ∷ codes "SdInDynamicHead" ∷ codes "NotDefinite" ∷ codes "EmptyDomain" ∷ []
-    ∷ codes "Limit" ∷ codes "NoQuery" ∷ codes "Step" ∷ codes "Include" ∷ codes "Key" ∷ []
+    ∷ codes "Limit" ∷ codes "NoQuery" ∷ codes "Step" ∷ codes "Include" ∷ codes "Key"
+    ∷ codes "Dimacs" ∷ codes "ClaimQuery" ∷ []
 
 abbrev pub refusal_name : ℕ → List ℕ
 refusal_name number = unwrap_or (slice_get ([] ∷ refusal_names) number) []

@@ -8,7 +8,8 @@ use Rattle.cc_defs.specs.declared.log.LogLine.{LogLine}
 use Rattle.cc_defs.specs.declared.log.LogLine.TheVariants as lines
 use Rattle.cc_defs.specs.ClauseForms.{positive}
 use Rattle.cc_defs.specs.Clauses.{Literal, IsClause, IsOver, Reaches, opposite}
-use Rattle.cc_defs.specs.LogBytes.{Version, IsSpelled, line_meant}
+use Rattle.cc_defs.specs.declared.log.Version.{Version}
+use Rattle.cc_defs.specs.LogBytes.{IsSpelled, line_meant}
 use Rattle.cc_defs.specs.Rows.{IsRow}
 
 -- the axioms of a section: the sizes of its positions, how many variables there are, and the clauses, numbered from 1

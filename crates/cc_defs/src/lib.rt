@@ -27,7 +27,7 @@ pub use law::{BaseLaw, BaseLaws, Condition, Head, Law, Queries, Query, Range};
 pub use list::List;
 pub use lists::{Bytes, Key, Lits, Name, Names, Nums, Row, Text};
 pub use literal::Lit;
-pub use log::{Cause, EndWord, LogLine, LogVerdict};
+pub use log::{Cause, EndWord, LogLine, LogVerdict, Version};
 pub use node::{GroundHead, Node};
 pub use refusal::{Fault, LimitAt, OutOfMemory, Refusal};
 pub use rows::compare_rows;

@@ -15,6 +15,15 @@ pub enum EndWord {
     Spent,
 }
 
+/// How the lines of a log are written.
+#[derive(Clone, Copy, Debug, PartialEq, Eq)]
+pub enum Version {
+    /// As text, for reading.
+    First,
+    /// As entries of numbers in bytes, for keeping.
+    Second,
+}
+
 /// A line of a log.
 #[derive(Drop)]
 pub enum LogLine {

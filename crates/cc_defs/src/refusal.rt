@@ -24,6 +24,7 @@ pub enum LimitAt {
     GroundNodes,
     Horizon,
     Rules,
+    CnfVariables,
     Variables,
     AxiomClauses,
     AxiomLiterals,
@@ -52,6 +53,7 @@ impl LimitAt {
             LimitAt::GroundNodes => "ground nodes",
             LimitAt::Horizon => "horizon",
             LimitAt::Rules => "rules",
+            LimitAt::CnfVariables => "cnf variables",
             LimitAt::Variables => "variables",
             LimitAt::AxiomClauses => "axiom clauses",
             LimitAt::AxiomLiterals => "axiom literals",
@@ -80,6 +82,7 @@ impl LimitAt {
             LimitAt::GroundNodes => 16_000_000,
             LimitAt::Horizon => 1_000,
             LimitAt::Rules => 8_000_000,
+            LimitAt::CnfVariables => 1_000_000,
             LimitAt::Variables => 4_000_000,
             LimitAt::AxiomClauses => 8_000_000,
             LimitAt::AxiomLiterals => 40_000_000,
@@ -156,6 +159,8 @@ impl Refusal {
             16 => "Step",
             17 => "Include",
             18 => "Key",
+            19 => "Dimacs",
+            20 => "ClaimQuery",
             _ => "",
         }
     }

@@ -3,4 +3,5 @@ mod Counting
 mod Going
 mod Passing
 mod Placing
+mod Spelling
 mod Within

@@ -1,6 +1,7 @@
 -- The section that comes next, by a query and by its description.
 use Rattle.std.proofs.Common.{◌≡◌, ◌∙◌, ℕ, ◌≤◌, Bool, not, ◌&&◌, List, Option, Some, None, Bor, refl, sym, subst, ap, arith}
 use Rattle.std.specs.Prelude.{IfSome, is_some, option_map, unwrap_or}
+use Rattle.cc_arena.specs.declared.ground_laws.GroundLaw.{GroundLaw}
 use Rattle.cc_defs.specs.declared.lists.Key.{Key}
 use Rattle.cc_defs.specs.Description.{Description}
 use Rattle.cc_defs.specs.GroundLaws.{PlainGroundQuery, StandsForQuery, ground_condition}
@@ -12,7 +13,8 @@ use Rattle.cc_form.specs.Forms.{TellsHistories, asked, form_of}
 use Rattle.cc_form.specs.Queries.{IsQueryAt}
 use Rattle.cc_query.specs.Accepted.{subject_of}
 use Rattle.cc_query.specs.Sessions.{Fits, first_at, last_at}
-use Rattle.cc_judge.specs.Standings.{IsPlaced, row_of}
+use Rattle.cc_theory.specs.Theories.{AreLawsOf}
+use Rattle.cc_judge.specs.Standings.{Scope, IsPlaced, row_of, scope_of}
 
 -- ---- a query that stands for one of a description
 
@@ -38,21 +40,13 @@ module _ (query : PlainGroundQuery) (d : Description) (q : Query) (stands : Stan
   claim_is : is_some query.claim ≡ is_some q.claim
   claim_is = ap (λ (p : PlainGroundQuery). is_some p.claim) stands.2 ∙ claimed q.claim
 
-  pub next_of : (key : Option Key) (standing : Standing) (section : SectionText) → IsPlaced query key standing section →
+  pub next_of : (key : Option Key) (standing : Standing) (section : SectionText) → IsPlaced query key standing section.conditions section.horizon →
       IsNext (subject_of d q key) standing section
   next_of key standing section placed = record {
     conditions = placed.0 ∙ ap (λ (b : Bool). b && not standing.middle) claim_is;
     horizon = placed.1;
     within = subst (λ (n : ℕ). standing.horizon ≤ n) (last_is key) placed.2;
   }
-
-  pub placed_of : (key : Option Key) (standing : Standing) (section : SectionText) → IsNext (subject_of d q key) standing section →
-      IsPlaced query key standing section
-  placed_of key standing section next = (
-    next.conditions ∙ sym (ap (λ (b : Bool). b && not standing.middle) claim_is),
-    next.horizon,
-    subst (λ (n : ℕ). standing.horizon ≤ n) (sym (last_is key)) next.within,
-  )
 
 -- ---- the horizon of a section in its place is one of the query's, or the key's
 
@@ -68,10 +62,10 @@ lent : (P : Key → Type 0) (after : Option (Bor Key)) → IfSome after (λ (key
 lent P None holds = tt
 lent P (Some key) holds = holds
 
-pub query_at : (signature : Signature) (query : PlainGroundQuery) (after : Option (Bor Key)) (standing : Standing) (section : SectionText) (horizon : ℕ) →
+pub query_at : (signature : Signature) (query : PlainGroundQuery) (after : Option (Bor Key)) (standing : Standing) (conditions : Bool) (place horizon : ℕ) →
     ((h : ℕ) → query.lo ≤ h → h ≤ query.hi → IsQueryAt signature h query) → IfSome after (λ (key : Bor Key). Fits signature query key.now) →
-    first_at query (key_of after) ≤ standing.horizon → IsPlaced query (key_of after) standing section → horizon ≡ section.horizon → IsQueryAt signature horizon query
-query_at signature query after standing section horizon steps fits low placed is =
+    first_at query (key_of after) ≤ standing.horizon → IsPlaced query (key_of after) standing conditions place → horizon ≡ place → IsQueryAt signature horizon query
+query_at signature query after standing conditions place horizon steps fits low placed is =
     let range = within_range signature query (key_of after) standing.horizon (lent (Fits signature query) after fits) low placed.2 in
     subst (λ (h : ℕ). IsQueryAt signature h query) (sym (is ∙ placed.1)) (steps standing.horizon range.0 range.1)
 
@@ -85,3 +79,16 @@ pub tells_rows : (d : Description) (q : Query) (horizon : ℕ) (with_claim : Boo
 tells_rows d q horizon with_claim after tells =
     subst (λ (rows : Option (List ℕ)). TellsHistories d (asked with_claim q) horizon rows (form_of d q horizon with_claim (option_map (λ (key : Bor Key). key.now) after)))
     (rows_of_keys after) tells
+
+-- ---- what a call may be for
+
+-- a description and its query that stand for what a call was given
+pub record Asked (signature : Signature) (laws : List GroundLaw) (query : PlainGroundQuery) : Type 0 where
+  pub description : Description
+  pub query_of : Query
+  pub of : AreLawsOf signature laws description
+  pub stands : StandsForQuery query description query_of
+
+module _ (signature : Signature) (laws : List GroundLaw) (query : PlainGroundQuery) (key : Option Key) where
+  abbrev pub scope_asked : Asked signature laws query → Scope
+  scope_asked asked = scope_of asked.description asked.query_of key

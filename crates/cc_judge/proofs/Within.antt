@@ -4,7 +4,6 @@ use Rattle.cc_defs.specs.declared.log.EndWord.{EndWord}
 use Rattle.cc_defs.specs.declared.log.EndWord.TheVariants as words
 use Rattle.cc_defs.specs.declared.log.LogVerdict.{LogVerdict}
 use Rattle.cc_defs.specs.declared.refusal.Refusal.{Refusal}
-use Rattle.cc_defs.specs.LogBytes.{First}
 use Rattle.cc_defs.specs.Logs.{SectionText, Standing, Subject, AreJudged, IsContinued, IsFollowed}
 use Rattle.cc_defs.specs.Sections.{Finding, Right, Trailed, Wrong}
 use Rattle.cc_judge.specs.Judging.{AreJudgedWithin}
@@ -24,17 +23,17 @@ module _ (Goes Other : Standing → Type 0) (moves : (next : Standing) → Goes 
   followed conditions (Trailed word line reason) is = is
   followed conditions (Wrong line reason) is = is
 
-pub judged_of_within : (subject : Subject) (limit : Bool → ℕ → Option Refusal) (standing : Standing) (sections : List SectionText) (verdict : LogVerdict) →
-    AreJudgedWithin subject limit standing sections verdict → AreJudged First subject standing sections verdict
-judged_of_within subject limit standing [] verdict is = is
-judged_of_within subject limit standing (section ∷ sections) verdict (inl other) = inl other
-judged_of_within subject limit standing (section ∷ sections) verdict (inr (next, none, (finding, found, follows))) =
+pub judged_of_within : (subject : Subject) (limit : Bool → ℕ → Option Refusal) (Are : Bool → ℕ → Type 0) (standing : Standing) (sections : List SectionText) (verdict : LogVerdict) →
+    AreJudgedWithin subject limit Are standing sections verdict → AreJudged subject standing sections verdict
+judged_of_within subject limit Are standing [] verdict is = is
+judged_of_within subject limit Are standing (section ∷ sections) verdict (inl other) = inl other
+judged_of_within subject limit Are standing (section ∷ sections) verdict (inr (next, none, good, (finding, found, follows))) =
     inr (
       next,
       (
         finding,
         found,
-        followed (λ (s : Standing). AreJudgedWithin subject limit s sections verdict) (λ (s : Standing). AreJudged First subject s sections verdict)
-            (λ s h. judged_of_within subject limit s sections verdict h) standing verdict section.conditions finding follows,
+        followed (λ (s : Standing). AreJudgedWithin subject limit Are s sections verdict) (λ (s : Standing). AreJudged subject s sections verdict)
+            (λ s h. judged_of_within subject limit Are s sections verdict h) standing verdict section.conditions finding follows,
       ),
     )

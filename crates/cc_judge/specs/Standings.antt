@@ -1,7 +1,8 @@
 -- How far a log is judged, and what follows a section.
-use Rattle.std.specs.Prelude.{◌≡◌, ◌≢◌, ℕ, ◌+◌, ◌-◌, ◌<◌, ◌≤◌, ◌⊎◌, Bool, true, false, not, ◌&&◌, List, ◌∷◌, length, Option, option_map, is_some, Contains}
+use Rattle.std.specs.Prelude.{◌≡◌, ◌≢◌, ℕ, ◌+◌, ◌-◌, ◌<◌, ◌≤◌, ◌⊎◌, Bool, true, false, not, ◌&&◌, List, ◌∷◌, length, Option, None, option_map, is_some, Contains}
 use Rattle.cc_check.specs.declared.judge.Finding.{Finding as Found}
 use Rattle.cc_check.specs.declared.judge.Finding.TheVariants as findings
+use Rattle.cc_check.specs.SectionTexts.{SectionBytes, AreTextsOf, IsTextOf}
 use Rattle.cc_defs.specs.declared.lists.Key.{Key}
 use Rattle.cc_defs.specs.declared.log.Cause.{Cause}
 use Rattle.cc_defs.specs.declared.log.Cause.TheVariants as causes
@@ -13,29 +14,34 @@ use Rattle.cc_defs.specs.declared.log.LogVerdict.TheVariants as verdicts
 use Rattle.cc_defs.specs.declared.refusal.Fault.{Fault}
 use Rattle.cc_defs.specs.declared.refusal.Fault.TheVariants as faults
 use Rattle.cc_defs.specs.declared.refusal.Refusal.{Refusal}
+use Rattle.cc_clauses.specs.RowsOf.{IsRowOf}
 use Rattle.cc_defs.specs.Description.{Description}
 use Rattle.cc_defs.specs.GroundLaws.{PlainGroundQuery}
 use Rattle.cc_defs.specs.Histories.{IsHistory}
 use Rattle.cc_defs.specs.Limits.{most_log_bytes}
-use Rattle.cc_defs.specs.LogBytes.{First}
-use Rattle.cc_defs.specs.LogTexts.{line_text}
-use Rattle.cc_defs.specs.Logs.{SectionText, Standing, AreSections, at_first, into_middle, next_horizon}
+use Rattle.cc_defs.specs.declared.log.Version.{Version}
+use Rattle.cc_defs.specs.Logs.{SectionText, Standing, Subject, AreSections, at_first, into_middle, next_horizon}
 use Rattle.cc_defs.specs.Resolved.{Query}
-use Rattle.cc_defs.specs.Sections.{Finding, Right, Trailed, Wrong}
+use Rattle.cc_defs.specs.Sections.{Axioms, Finding, Right, Trailed, Wrong}
 use Rattle.cc_query.specs.Accepted.{subject_of}
 use Rattle.cc_query.specs.Sessions.{last_at}
 use Rattle.cc_judge.specs.declared.standing.Next.{Next}
 use Rattle.cc_judge.specs.declared.standing.Next.TheVariants as nexts
 use Rattle.cc_judge.specs.declared.standing.Standing.{Standing as Held}
-use Rattle.cc_judge.specs.Judging.{AreJudgedWithin, ReachesLimit, limit_of}
+use Rattle.cc_judge.specs.Judging.{AreJudgedWithin, HasGoodAxioms, HasLine, ReachesLimit, limit_of}
+use Rattle.cc_judge.specs.Single.{subject_over}
 
 abbrev pub seen : Held → Standing
 seen held = record { middle = held.middle; horizon = held.horizon; blocked = held.blocked; line = held.line }
 
 -- the section that comes next, by what is known of a query without its description
-abbrev pub IsPlaced : PlainGroundQuery → Option Key → Standing → SectionText → Type 0
-IsPlaced query key standing section =
-    (section.conditions ≡ (is_some query.claim && not standing.middle)) × (section.horizon ≡ standing.horizon) × (standing.horizon ≤ last_at query key)
+abbrev pub IsPlaced : PlainGroundQuery → Option Key → Standing → (conditions : Bool) → (horizon : ℕ) → Type 0
+IsPlaced query key standing conditions horizon =
+    (conditions ≡ (is_some query.claim && not standing.middle)) × (horizon ≡ standing.horizon) × (standing.horizon ≤ last_at query key)
+
+-- the one section of a log over axioms alone
+abbrev pub IsOnly : Standing → (conditions : Bool) → (horizon : ℕ) → Type 0
+IsOnly standing conditions horizon = (conditions ≡ false) × (horizon ≡ 0) × (standing.horizon ≡ 0)
 
 -- ---- what is behind a section
 
@@ -77,37 +83,66 @@ IsClosedAt first standing verdict =
 
 -- it blocks a row of a horizon
 abbrev pub IsRowDenied : SectionText → ℕ → List ℕ → Type 0
-IsRowDenied section horizon row = (section.horizon ≡ horizon) × Contains section.texts (line_text (lines.Block row))
+IsRowDenied section horizon row = (section.horizon ≡ horizon) × HasLine section (lines.Block row)
 
 abbrev pub row_of : Option Key → Option (List ℕ)
 row_of key = option_map (λ low. low.row) key
 
--- What is found behind a right section is found before it, since it passes no limit; and it blocks each history of the horizon that
--- it ends.
-pub record IsPassed (d : Description) (q : Query) (key : Option Key) (standing : Standing) (section : SectionText) (next : Standing) : Type 0 where
-  pub within : (sections : List SectionText) (verdict : LogVerdict) → AreJudgedWithin (subject_of d q key) (limit_of d q key) next sections verdict →
-      AreJudgedWithin (subject_of d q key) (limit_of d q key) standing (section ∷ sections) verdict
-  pub limited : (sections : List SectionText) (refusal : Refusal) → ReachesLimit (subject_of d q key) (limit_of d q key) next sections refusal →
-      ReachesLimit (subject_of d q key) (limit_of d q key) standing (section ∷ sections) refusal
-  pub denied : (horizon : ℕ) (row : List ℕ) → horizon < next.horizon → IsHistory d q horizon (row_of key) row →
-      (horizon < standing.horizon) ⊎ IsRowDenied section horizon row
+-- What a log is judged over: the sections that it is to have, the limits that their axioms may pass, what these axioms are, and the
+-- rows that are to be blocked at a horizon.
+pub record Scope : Type 1 where
+  pub subject : Subject
+  pub limit : (conditions : Bool) → ℕ → Option Refusal
+  pub Are : (conditions : Bool) → ℕ → Type 0
+  pub IsAt : (horizon : ℕ) → List ℕ → Type 0
 
-abbrev pub IsJudgedTo : Description → Query → Option Key → Standing → SectionText → Next → Type 0
-IsJudgedTo d q key standing section (nexts.Goes held) = IsPassed d q key standing section (seen held)
-IsJudgedTo d q key standing section (nexts.Wrong line reason) =
-    (sections : List SectionText) → AreJudgedWithin (subject_of d q key) (limit_of d q key) standing (section ∷ sections) (verdicts.Refused line reason)
+-- a query, or its listing after a key: the histories
+abbrev pub scope_of : Description → Query → Option Key → Scope
+scope_of d q key = record {
+  subject = subject_of d q key;
+  limit = limit_of d q key;
+  Are = HasGoodAxioms d q key;
+  IsAt = λ horizon row. IsHistory d q horizon (row_of key) row;
+}
+
+-- axioms alone: their rows
+abbrev pub scope_over : Axioms → Scope
+scope_over axioms = record {
+  subject = subject_over axioms;
+  limit = λ conditions horizon. None;
+  Are = λ conditions horizon. Unit {0};
+  IsAt = λ horizon row. IsRowOf axioms.sizes axioms.clauses row;
+}
+
+-- What is found behind a right section is found before it, since it passes no limit; and it blocks each row of the horizon that
+-- it ends.
+pub record IsPassed (scope : Scope) (standing : Standing) (section : SectionText) (next : Standing) : Type 0 where
+  pub within : (sections : List SectionText) (verdict : LogVerdict) → AreJudgedWithin scope.subject scope.limit scope.Are next sections verdict →
+      AreJudgedWithin scope.subject scope.limit scope.Are standing (section ∷ sections) verdict
+  pub limited : (sections : List SectionText) (refusal : Refusal) → ReachesLimit scope.subject scope.limit next sections refusal →
+      ReachesLimit scope.subject scope.limit standing (section ∷ sections) refusal
+  pub denied : (horizon : ℕ) (row : List ℕ) → horizon < next.horizon → scope.IsAt horizon row → (horizon < standing.horizon) ⊎ IsRowDenied section horizon row
+
+abbrev pub IsJudgedTo : Scope → Standing → SectionText → Next → Type 0
+IsJudgedTo scope standing section (nexts.Goes held) = IsPassed scope standing section (seen held)
+IsJudgedTo scope standing section (nexts.Wrong line reason) =
+    (sections : List SectionText) → AreJudgedWithin scope.subject scope.limit scope.Are standing (section ∷ sections) (verdicts.Refused line reason)
 
 -- the limit that it passes, or memory was wanting
-abbrev pub IsSectionFault : Description → Query → Option Key → Standing → SectionText → Fault → Type 0
-IsSectionFault d q key standing section (faults.Refused refusal) =
-    (sections : List SectionText) → ReachesLimit (subject_of d q key) (limit_of d q key) standing (section ∷ sections) refusal
-IsSectionFault d q key standing section faults.OutOfMemory = Unit {0}
+abbrev pub IsSectionFault : Scope → Standing → SectionText → Fault → Type 0
+IsSectionFault scope standing section (faults.Refused refusal) =
+    (sections : List SectionText) → ReachesLimit scope.subject scope.limit standing (section ∷ sections) refusal
+IsSectionFault scope standing section faults.OutOfMemory = Unit {0}
 
 -- ---- numbers that stay small
 
 -- so many blocks stand before the heading of a section, and its lines are not many
 abbrev pub IsEarly : ℕ → SectionText → Type 0
 IsEarly blocked section = (blocked ≤ section.line) × (section.line + length section.texts ≤ most_log_bytes + 2)
+
+-- by its bytes
+abbrev pub IsEarlyIn : ℕ → SectionBytes → Type 0
+IsEarlyIn blocked section = (text : SectionText) × IsTextOf section text × IsEarly blocked text
 
 -- the horizon does not go down, and no more blocks stand before the next heading than lines
 abbrev pub IsForward : Standing → SectionText → Next → Type 0
@@ -117,23 +152,27 @@ IsForward standing section (nexts.Wrong line reason) = Unit {0}
 -- ---- the sections of a log
 
 abbrev pub AreFew : List SectionText → Type 0
-AreFew sections = (texts : List (List ℕ)) × AreSections First 2 texts sections × (length texts ≤ most_log_bytes)
+AreFew sections = (version : Version) × (texts : List (List ℕ)) × AreSections version 2 texts sections × (length texts ≤ most_log_bytes)
+
+-- they stand for few sections, as these are by their bytes
+abbrev pub AreFewIn : List SectionBytes → Type 0
+AreFewIn sections = (texts : List SectionText) × AreTextsOf sections texts × AreFew texts
 
 -- one of them blocks a row of a horizon
 abbrev pub IsDeniedIn : List SectionText → ℕ → List ℕ → Type 0
 IsDeniedIn sections horizon row = (section : SectionText) × Contains sections section × IsRowDenied section horizon row
 
--- where the log is accepted, each history of its horizons is blocked
-abbrev pub AreAllDenied : Description → Query → Option Key → List SectionText → LogVerdict → Type 0
-AreAllDenied d q key sections (verdicts.Accepted first last blocked) =
-    (horizon : ℕ) (row : List ℕ) → first ≤ horizon → horizon ≤ last → IsHistory d q horizon (row_of key) row → IsDeniedIn sections horizon row
-AreAllDenied d q key sections (verdicts.Refused line reason) = Unit {0}
+-- where the log is accepted, it begins at the first horizon, and each row of its horizons is blocked
+abbrev pub AreAllDenied : Scope → List SectionText → LogVerdict → Type 0
+AreAllDenied scope sections (verdicts.Accepted first last blocked) =
+    (first ≡ scope.subject.first)
+    × ((horizon : ℕ) (row : List ℕ) → first ≤ horizon → horizon ≤ last → scope.IsAt horizon row → IsDeniedIn sections horizon row)
+AreAllDenied scope sections (verdicts.Refused line reason) = Unit {0}
 
-abbrev pub IsVerdictOn : Description → Query → Option Key → List SectionText → LogVerdict → Type 0
-IsVerdictOn d q key sections verdict =
-    AreJudgedWithin (subject_of d q key) (limit_of d q key) (at_first (subject_of d q key)) sections verdict × AreAllDenied d q key sections verdict
+abbrev pub IsVerdictOn : Scope → List SectionText → LogVerdict → Type 0
+IsVerdictOn scope sections verdict =
+    AreJudgedWithin scope.subject scope.limit scope.Are (at_first scope.subject) sections verdict × AreAllDenied scope sections verdict
 
-abbrev pub IsFaultOn : Description → Query → Option Key → List SectionText → Fault → Type 0
-IsFaultOn d q key sections (faults.Refused refusal) =
-    ReachesLimit (subject_of d q key) (limit_of d q key) (at_first (subject_of d q key)) sections refusal
-IsFaultOn d q key sections faults.OutOfMemory = Unit {0}
+abbrev pub IsFaultOn : Scope → List SectionText → Fault → Type 0
+IsFaultOn scope sections (faults.Refused refusal) = ReachesLimit scope.subject scope.limit (at_first scope.subject) sections refusal
+IsFaultOn scope sections faults.OutOfMemory = Unit {0}

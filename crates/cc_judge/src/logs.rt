@@ -1,14 +1,15 @@
 //! What a checker says of a log of a query.
-ghost use Rattle.std.specs.Prelude.{◌≡◌, ℕ, ◌≤◌, IfErr, IfOk, IfSome, length, option_map};
+ghost use Rattle.std.specs.Prelude.{◌≡◌, ℕ, ◌≤◌, List, IfErr, IfOk, IfSome, length, option_map};
 ghost use Rattle.cc_arena.specs.GroundViews.{plain_ground_query};
 ghost use Rattle.cc_defs.specs.Description.{Description};
 ghost use Rattle.cc_defs.specs.GroundLaws.{StandsForQuery};
 ghost use Rattle.cc_defs.specs.Limits.{most_log_bytes, most_steps};
-ghost use Rattle.cc_defs.specs.Logs.{IsVerdict};
+ghost use Rattle.cc_check.specs.SectionTexts.{AreTextsOf, IsTextOf};
+ghost use Rattle.cc_defs.specs.Logs.{IsVerdict, SectionText};
 ghost use Rattle.cc_defs.specs.Resolved.{Query};
 ghost use Rattle.cc_form.specs.Queries.{IsQueryAt};
 ghost use Rattle.cc_judge.specs.Judging.{BlocksHistories, IsJudgeFault, IsVerdictWithin};
-ghost use Rattle.cc_judge.specs.Standings.{AreFew, IsEarly, IsFaultOn, IsForward, IsJudgedTo, IsSectionFault, IsVerdictOn, seen};
+ghost use Rattle.cc_judge.specs.Standings.{AreFew, AreFewIn, IsEarly, IsEarlyIn, IsFaultOn, IsForward, IsJudgedTo, IsSectionFault, IsVerdictOn, scope_of, seen};
 ghost use Rattle.cc_query.specs.Accepted.{subject_of};
 ghost use Rattle.cc_query.specs.Sessions.{Fits, first_at};
 ghost use Rattle.cc_theory.specs.Theories.{AreLawsFor, AreLawsOf};
@@ -38,12 +39,15 @@ fn judge_section(
     requires steps { (horizon : ℕ) → query.now.lo ≤ horizon → horizon ≤ query.now.hi → IsQueryAt sig.now horizon (plain_ground_query query.now) }
     requires key { IfSome after (λ key. Fits sig.now (plain_ground_query query.now) key.now) }
     requires first { first_at (plain_ground_query query.now) (option_map (λ key. key.now) after) ≤ standing.now.horizon }
-    requires early { IsEarly standing.now.blocked section.now }
+    requires early { IsEarlyIn standing.now.blocked section.now }
     ensures judged { (d : Description) (q : Query) → AreLawsOf sig.now laws.now d → StandsForQuery (plain_ground_query query.now) d q →
-        IfOk result (IsJudgedTo d q (option_map (λ key. key.now) after.entry) (seen standing.now) section.now) }
-    ensures forward { IfOk result (IsForward (seen standing.now) section.now) }
+        (text : SectionText) → IsTextOf section.now text →
+        IfOk result (IsJudgedTo (scope_of d q (option_map (λ key. key.now) after.entry)) (seen standing.now) text) }
+    ensures forward { (text : SectionText) → IsTextOf section.now text → IsEarly standing.now.blocked text →
+        IfOk result (IsForward (seen standing.now) text) }
     ensures refused { (d : Description) (q : Query) → AreLawsOf sig.now laws.now d → StandsForQuery (plain_ground_query query.now) d q →
-        IfErr result (IsSectionFault d q (option_map (λ key. key.now) after.entry) (seen standing.now) section.now) }
+        (text : SectionText) → IsTextOf section.now text →
+        IfErr result (IsSectionFault (scope_of d q (option_map (λ key. key.now) after.entry)) (seen standing.now) text) }
 {
     resolvents_are_sound();
     denial_leaves_others();
@@ -79,11 +83,13 @@ fn judge_sections(
     requires most { query.now.hi ≤ most_steps }
     requires steps { (horizon : ℕ) → query.now.lo ≤ horizon → horizon ≤ query.now.hi → IsQueryAt sig.now horizon (plain_ground_query query.now) }
     requires key { IfSome after (λ key. Fits sig.now (plain_ground_query query.now) key.now) }
-    requires few { AreFew sections.now }
+    requires few { AreFewIn sections.now }
     ensures judged { (d : Description) (q : Query) → AreLawsOf sig.now laws.now d → StandsForQuery (plain_ground_query query.now) d q →
-        IfOk result (IsVerdictOn d q (option_map (λ key. key.now) after.entry) sections.now) }
+        (all : List SectionText) → AreTextsOf sections.now all → AreFew all →
+        IfOk result (IsVerdictOn (scope_of d q (option_map (λ key. key.now) after.entry)) all) }
     ensures refused { (d : Description) (q : Query) → AreLawsOf sig.now laws.now d → StandsForQuery (plain_ground_query query.now) d q →
-        IfErr result (IsFaultOn d q (option_map (λ key. key.now) after.entry) sections.now) }
+        (all : List SectionText) → AreTextsOf sections.now all → AreFew all →
+        IfErr result (IsFaultOn (scope_of d q (option_map (λ key. key.now) after.entry)) all) }
 {
     let first = first_of(query, after);
     let mut standing = Standing {
@@ -102,9 +108,10 @@ fn judge_sections(
     Ok(closing(first, &standing))
 }
 
-/// What a checker says of the bytes of a log: that of a query over its horizons, or after a key over the key's alone. A section
-/// is a part of the bytes; its clause list is made when it is come to, and gone before the next. Refuses the first limit that
-/// the rules or clauses of a section pass which stands in its place, with right sections before it (14).
+/// What a checker says of the bytes of a log: that of a query over its horizons, or after a key over the key's alone. The first
+/// eight bytes tell the version that it is written in. A section is a part of the bytes; its clause list is made when it is come
+/// to, and gone before the next. Refuses the first limit that the rules or clauses of a section pass which stands in its place,
+/// with right sections before it (14).
 pub fn judge(
     alloc: Global,
     sig: &Sig,

@@ -72,7 +72,8 @@ pub(crate) fn is_next(
     standing: &Standing,
     section: &Section<'_>,
 ) -> bool
-    ensures { IsTrue result ↔ IsPlaced (plain_ground_query query.now) (option_map (λ key. key.now) after.entry) (seen standing.now) section.now }
+    ensures { IsTrue result ↔ IsPlaced (plain_ground_query query.now) (option_map (λ key. key.now) after.entry) (seen standing.now)
+        section.now.conditions section.now.horizon }
 {
     section.conditions() == asks_conditions(query, standing)
         && section.horizon() == standing.horizon

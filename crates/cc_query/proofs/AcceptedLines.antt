@@ -7,9 +7,9 @@ use Rattle.cc_defs.specs.declared.log.EndWord.TheVariants as words
 use Rattle.cc_defs.specs.declared.log.LogLine.{LogLine}
 use Rattle.cc_defs.specs.declared.log.LogLine.TheVariants as lines
 use Rattle.cc_defs.specs.Clauses.{Literal}
-use Rattle.cc_defs.specs.LogBytes.{First}
+use Rattle.cc_defs.specs.declared.log.Version.TheVariants.{First}
 use Rattle.cc_defs.specs.LogTexts.{IsFormed, IsLine, IsShort, IsShortLiteral, header, line_parts, line_text, lines_in, literal_text, log_text}
-use Rattle.cc_defs.specs.Logs.{IsNoHeading}
+use Rattle.cc_defs.specs.Logs.{IsNoHeading, IsNotBinary}
 
 -- ---- all items
 
@@ -91,6 +91,13 @@ header_cut rest = refl
 
 pub log_cut : (all : List LogLine) → AllByRecursion IsFormed all → lines_in (log_text all) ≡ header ∷ map line_text all
 log_cut all formed = header_cut (flat_map line_text all) ∙ ap (λ (texts : List (List ℕ)). header ∷ texts) (lines_cut all formed)
+
+differ : (m n : ℕ) → m ≡ n → m < n → ⊥
+differ m n is below = omega arith
+
+-- the sixth byte of the two headers is another
+pub not_binary : (all : List LogLine) → IsNotBinary (log_text all)
+not_binary all behind is = differ 32 108 (ap (λ (t : List ℕ). get_or t 5 0) is) (omega arith)
 
 -- ---- first bytes
 

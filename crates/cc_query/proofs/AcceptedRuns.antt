@@ -16,7 +16,7 @@ use Rattle.cc_defs.specs.declared.log.LogVerdict.TheVariants as verdicts
 use Rattle.cc_defs.specs.Description.{Description, sizes_at}
 use Rattle.cc_defs.specs.Events.{line_told}
 use Rattle.cc_defs.specs.Histories.{AreFirst}
-use Rattle.cc_defs.specs.LogBytes.{First}
+use Rattle.cc_defs.specs.declared.log.Version.TheVariants.{First}
 use Rattle.cc_defs.specs.LogTexts.{IsFormed, IsShort, line_text}
 use Rattle.cc_defs.specs.Logs.{Subject, SectionText, Standing, AreSections, AreJudged, IsContinued, IsVerdictOf, IsVerdictBehind, at_first}
 use Rattle.cc_defs.specs.Paths.{IsPath}
@@ -25,7 +25,7 @@ use Rattle.cc_defs.specs.Rows.{IsRow}
 use Rattle.cc_defs.specs.Runs.{Ask, Run, Step, Derive, Tell, Section, Horizon, Histories, Conditions, Claim, Failure, AreDone, IsTrueOf, IsExhausted, IsFairRun, IsFairSection, TellsHistories, EndsWith, axioms_of, denied_rows, rows_of, optional, key_row, told, logged, told_row, step_events, section_events, horizon_events, said_of, done_events, events_of, first_horizon, last_horizon, horizon_at}
 use Rattle.cc_defs.specs.Sections.{Right, EndsRightly}
 use Rattle.cc_query.specs.Accepted.{AreGoodAxioms, HaveGoodAxioms, IsReported, WrittenLogsAreAccepted, lines_of, subject_of}
-use Rattle.cc_query.proofs.AcceptedLines.{all_front, all_behind, log_cut, no_headings, read_back}
+use Rattle.cc_query.proofs.AcceptedLines.{all_front, all_behind, log_cut, no_headings, not_binary, read_back}
 use Rattle.cc_query.proofs.AcceptedSections.{IsWritten, inner_lines, step_lines, written}
 use Rattle.cc_query.proofs.Steps.{in_first, in_rest}
 
@@ -47,7 +47,7 @@ in_middle false = refl
 
 abbrev pub IsAcceptedBehind : Subject → Standing → ℕ → List LogLine → Type 0
 IsAcceptedBehind subject standing line all =
-    (last : ℕ) × (blocked : ℕ) × (sections : List SectionText) × AreSections First line (map line_text all) sections × AreJudged First subject standing sections (verdicts.Accepted subject.first last blocked)
+    (last : ℕ) × (blocked : ℕ) × (sections : List SectionText) × AreSections First line (map line_text all) sections × AreJudged subject standing sections (verdicts.Accepted subject.first last blocked)
 
 -- these lines are accepted at a horizon, or in its middle, however many rows were blocked, and at whatever line
 abbrev pub IsAcceptedAt : Subject → Bool → ℕ → List LogLine → Type 0
@@ -64,14 +64,14 @@ module _ (subject : Subject) (middle conditions : Bool) (horizon : ℕ) (heading
 
   section_goes : (word : EndWord) → IsWritten (subject.axioms conditions horizon) inside word → (blocked at line : ℕ) →
       ((count last behind : ℕ) → (to : ℕ) × (rows : ℕ) × (sections : List SectionText) × AreSections First behind (map line_text more) sections
-      × IsContinued (λ next. AreJudged First subject next sections (verdicts.Accepted subject.first to rows)) (standing blocked at) conditions word count last (verdicts.Accepted subject.first to rows)) →
+      × IsContinued (λ next. AreJudged subject next sections (verdicts.Accepted subject.first to rows)) (standing blocked at) conditions word count last (verdicts.Accepted subject.first to rows)) →
       IsAcceptedBehind subject (standing blocked at) line (lines.Section conditions horizon ∷ (inside ++ more))
   section_goes word is blocked at line follows =
       let (count, last, found) = is.found (line + 1) in
       let (to, rows, sections, are, judged) = follows count last (line + 1 + length (map line_text inside)) in (
         to,
         rows,
-        record { conditions = conditions; horizon = horizon; line = line; texts = map line_text inside } ∷ sections,
+        record { version = First; conditions = conditions; horizon = horizon; line = line; texts = map line_text inside } ∷ sections,
         (
           line_text (lines.Section conditions horizon),
           map line_text more,
@@ -80,6 +80,7 @@ module _ (subject : Subject) (middle conditions : Bool) (horizon : ℕ) (heading
           read_back (lines.Section conditions horizon) short,
           no_headings inside is.within,
           are,
+          refl,
         ),
         inr (record { conditions = heading; horizon = refl; within = most }, (Right word count last, found, judged)),
       )
@@ -309,7 +310,7 @@ module _ (d : Description) (q : Query) (ask : Ask) where
 -- ---- the verdict
 
 verdict_behind : (subject : Subject) (all : List LogLine) (sections : List SectionText) (last blocked : ℕ) → AreSections First 2 (map line_text all) sections →
-    AreJudged First subject (at_first subject) sections (verdicts.Accepted subject.first last blocked) →
+    AreJudged subject (at_first subject) sections (verdicts.Accepted subject.first last blocked) →
     IsVerdictBehind First subject (map line_text all) (verdicts.Accepted subject.first last blocked)
 verdict_behind subject [] [] last blocked are judged = elim judged [ inl closed ↦ absurd (closed.1 refl) | inr refused ↦ absurd cc ]
 verdict_behind subject [] (section ∷ sections) last blocked are judged = let none = are.2 in absurd cc
@@ -321,6 +322,9 @@ logs_are_accepted d q ask run fair reported formed good =
     let (last, blocked, sections, are, judged) = run_accepted d q ask run fair reported formed good 0 2 2 in (
       last,
       blocked,
-      subst (λ (texts : List (List ℕ)). IsVerdictOf (subject_of d q ask.after) texts (verdicts.Accepted (first_horizon q ask.after) last blocked)) (sym (log_cut all formed))
-          (inr (refl, verdict_behind (subject_of d q ask.after) all sections last blocked are judged)),
+      inr (
+        not_binary all,
+        subst (λ (texts : List (List ℕ)). IsVerdictOf (subject_of d q ask.after) texts (verdicts.Accepted (first_horizon q ask.after) last blocked))
+            (sym (log_cut all formed)) (inr (refl, verdict_behind (subject_of d q ask.after) all sections last blocked are judged)),
+      ),
     )

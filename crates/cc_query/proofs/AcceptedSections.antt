@@ -8,7 +8,7 @@ use Rattle.cc_defs.specs.declared.log.LogLine.{LogLine}
 use Rattle.cc_defs.specs.declared.log.LogLine.TheVariants as lines
 use Rattle.cc_defs.specs.ClauseForms.{positive}
 use Rattle.cc_defs.specs.Clauses.{Literal, IsClause, IsOver, IsResolvent, ReachesFrom, Reaches, opposite}
-use Rattle.cc_defs.specs.LogBytes.{First}
+use Rattle.cc_defs.specs.declared.log.Version.TheVariants.{First}
 use Rattle.cc_defs.specs.LogTexts.{IsFormed, line_text}
 use Rattle.cc_defs.specs.Rows.{IsRow}
 use Rattle.cc_defs.specs.Runs.{Step, Derive, Tell, AreFairSteps}

@@ -7,7 +7,9 @@ ghost use Rattle.cc_theory.specs.Theories.{AreLawsFor};
 
 use cc_arena::{GroundQuery, Laws};
 use cc_check::{CheckFault, Finding, Section, Sections, Verdict, check, find, laws, put_line};
-use cc_defs::{Cause, EndWord, Fault, List, Lit, Lits, LogLine, Nums, OutOfMemory, Row, Sig};
+use cc_defs::{
+    Cause, EndWord, Fault, List, Lit, Lits, LogLine, Nums, OutOfMemory, Row, Sig, Version,
+};
 use cc_form::{Form, clauses};
 use cc_theory::Theory;
 use std::alloc::Global;
@@ -57,7 +59,7 @@ fn lines_are_written(rt: HostRuntime) -> Result<(), Fail> {
 
 const LOG: &str = "ccalc log 1\nw 0\nd 0 1 2 3 0\ne empty\nh 0\nb 0 1\ne empty\n";
 
-fn is_at(section: &Section<'_>, conditions: bool, line: u32) -> bool {
+pub(crate) fn is_at(section: &Section<'_>, conditions: bool, line: u32) -> bool {
     section.conditions() == conditions && section.line() == line && section.horizon() == 0
 }
 
@@ -141,7 +143,7 @@ fn clauses_at_start(
 }
 
 // There is no clause, and the only row is empty.
-fn no_clauses(alloc: Global) -> Result<Form, Fault> {
+pub(crate) fn no_clauses(alloc: Global) -> Result<Form, Fault> {
     let sig = no_signature(alloc);
     let laws = no_laws(alloc);
     let query = no_query(alloc);
@@ -152,7 +154,7 @@ fn no_clauses(alloc: Global) -> Result<Form, Fault> {
 fn section_of(text: &str) -> Section<'_>
     requires { length text.now ≤ 100 }
 {
-    Section::of(false, 0, 2, text.as_bytes())
+    Section::of(Version::First, false, 0, 2, text.as_bytes())
 }
 
 fn checked(alloc: Global, text: &str) -> Result<Verdict, Fault>

@@ -5,6 +5,8 @@
 #[cfg(test)]
 mod arena;
 #[cfg(test)]
+mod binary;
+#[cfg(test)]
 mod cdcl;
 #[cfg(test)]
 mod check;

@@ -63,7 +63,7 @@ fn clauses_after(
 }
 
 // No row lies behind the only one.
-fn clauses_behind(alloc: Global) -> Result<Form, Fault>
+pub(crate) fn clauses_behind(alloc: Global) -> Result<Form, Fault>
     ensures made { IfOk result (λ form. form ≡ axioms_behind) }
     ensures refused { IfErr result (IsRefusedBy None) }
 {

@@ -16,7 +16,8 @@ use Rattle.cc_defs.specs.ClauseLists.{clause_list}
 use Rattle.cc_defs.specs.Clauses.{Literal, opposite}
 use Rattle.cc_defs.specs.Description.{Description}
 use Rattle.cc_tests_texts.specs.Examples.{boolean, fluents_with_laws, has, law_for, lamp, two_simple}
-use Rattle.cc_defs.specs.LogBytes.{IsEntry, First, Second, entry_bytes, line_meant, literal_bytes, number_bytes}
+use Rattle.cc_defs.specs.declared.log.Version.TheVariants.{First, Second}
+use Rattle.cc_defs.specs.LogBytes.{IsEntry, entry_bytes, line_meant, literal_bytes, number_bytes}
 use Rattle.cc_defs.specs.LogTexts.{header}
 use Rattle.cc_defs.specs.Logs.{Subject, IsVerdict}
 use Rattle.cc_defs.specs.Resolved.{Formula, Not, Both, Either, Falsity, BaseLaw, Condition, Query}

@@ -1,22 +1,28 @@
-use Rattle.cc_check.proofs.Judged.{found_more, found_ends_ok, found_wrong}
+use Rattle.std.proofs.Common.{rules}
+use Rattle.cc_check.specs.Clauses.{reading_as}
+use Rattle.cc_check.proofs.Judged.{found_more, found_ends_ok, found_nothing, found_wrong}
 use Rattle.cc_check.proofs.judge.find_lines.Goals as goal
 
 pub loop-rest-preserved : goal.loop-rest-preserved
 loop-rest-preserved c = record {
   sound = c.in_ok-pass.ensures.sound;
   found = found_more _ _ _ _ c.loop-rest.checker.own c.loop-rest.checker.blocks c.loop-rest.line c.loop-rest.rest.now c.loop-rest.invariant.found
-      c.first_line.result.0.now c.first_line.result.1.now c.first_line.ensures c.in_ok-pass.field-0 c.pass.new.self.own c.pass.new.self.blocks c.in-Goes.is
-      c.in_ok-pass.ensures.passed c.in_ok-pass.ensures.counted;
+      c.in_ok-pass.pass c.in_ok-pass.behind.now c.pass.new.self.own c.pass.new.self.blocks c.in_ok-pass.ensures.passed c.in-Goes.is
+      c.in_ok-pass.ensures.counted c.in_ok-pass.ensures.grown;
 }
 
 pub returns-in-Ends-clause-found : goal.returns-in-Ends-clause-found
 returns-in-Ends-clause-found c =
     found_ends_ok _ _ _ _ c.loop-rest.checker.own c.loop-rest.checker.blocks c.loop-rest.line c.loop-rest.rest.now c.loop-rest.invariant.found
-    c.first_line.result.0.now c.first_line.result.1.now c.first_line.ensures c.in_ok-pass.field-0 c.in-Ends.word c.pass.new.self.own c.pass.new.self.blocks
-    c.behind_end.result c.in-Ends.is c.in_ok-pass.ensures.passed c.behind_end.ensures.ended
+    c.in_ok-pass.pass c.in_ok-pass.behind.now c.pass.new.self.own c.pass.new.self.blocks c.in_ok-pass.ensures.passed c.in-Ends.word
+    c.behind_end.result c.in-Ends.is c.behind_end.ensures.ended
 
 pub returns-in-Wrong-clause-found : goal.returns-in-Wrong-clause-found
 returns-in-Wrong-clause-found c =
     found_wrong _ _ _ _ c.loop-rest.checker.own c.loop-rest.checker.blocks c.loop-rest.line c.loop-rest.rest.now c.loop-rest.invariant.found
-    c.first_line.result.0.now c.first_line.result.1.now c.first_line.ensures c.in_ok-pass.field-0 c.in-Wrong.cause c.pass.new.self.own c.pass.new.self.blocks
-    c.in-Wrong.is c.in_ok-pass.ensures.passed
+    c.in_ok-pass.pass c.in_ok-pass.behind.now c.pass.new.self.own c.pass.new.self.blocks c.in_ok-pass.ensures.passed c.in-Wrong.cause c.in-Wrong.is
+
+pub returns-clause-found : goal.returns-clause-found
+returns-clause-found c =
+    found_nothing (reading_as c.args.version c.args.may) c.args.form.now c.args.first c.args.bytes.now c.loop-rest.checker.own c.loop-rest.checker.blocks
+    c.loop-rest.line c.loop-rest.rest.now c.loop-rest.invariant.found (search rules)

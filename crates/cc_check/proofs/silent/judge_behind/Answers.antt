@@ -1,6 +1,7 @@
 use Rattle.cc_defs.specs.LogTexts.{lines_in}
 use Rattle.cc_check.specs.SilentParts.{IsBehindFault}
-use Rattle.cc_check.proofs.SilentLogs.{as_err, silent_more, silent_past, silent_stops}
+use Rattle.cc_check.proofs.Headers.{as_err}
+use Rattle.cc_check.proofs.SilentLogs.{silent_more, silent_past, silent_stops}
 use Rattle.cc_check.proofs.silent.judge_behind.Goals as goal
 
 pub returns-in_err-count-clause-refused : goal.returns-in_err-count-clause-refused

@@ -2,7 +2,8 @@ use Rattle.std.proofs.Common.{◌∙◌, refl, sym}
 use Rattle.std.proofs.lemmas.Bool.{false≢true}
 use Rattle.cc_check.specs.Clauses.{plain_finding}
 use Rattle.cc_check.specs.SilentParts.{IsPassFault}
-use Rattle.cc_check.proofs.SilentLogs.{as_err, not_right_stops, pass_fault, right_goes, wrong_stops}
+use Rattle.cc_check.proofs.Headers.{as_err}
+use Rattle.cc_check.proofs.SilentLogs.{not_right_stops, pass_fault, right_goes, wrong_stops}
 use Rattle.cc_check.proofs.silent.pass_section.Goals as goal
 
 pub returns-then-not-is_right-clause-passed : goal.returns-then-not-is_right-clause-passed
@@ -23,12 +24,12 @@ pub returns-in-Some-refusal_of-clause-passed : goal.returns-in-Some-refusal_of-c
 returns-in-Some-refusal_of-clause-passed g c =
     wrong_stops (g.S.Silent.subject c.args.kind.now) c.args.line c.args.text.now c.args.behind.now c.in-Some.heading c.inside_of-inside.result.bytes.now
     c.inside_of-inside.result.count c.inside_of-inside.result.rest.now c.in-Some.ensures c.inside_of-inside.ensures (c.if-not-is_right.ensures.0 refl)
-    c.in_ok-form.form c.in_ok-form.ensures.made c.in_ok-form.ensures.within (plain_finding c.in_ok-finding.finding) c.in_ok-finding.ensures.found
+    c.in_ok-form.form c.in_ok-form.ensures.made c.in_ok-form.ensures.within (plain_finding c.in_ok-finding.finding) (c.in_ok-finding.ensures.found _ refl)
     c.in-Some-refusal_of.verdict (sym c.refusal_of.ensures ∙ c.in-Some-refusal_of.is)
 
 pub returns-clause-passed : goal.returns-clause-passed
 returns-clause-passed g c =
     right_goes (g.S.Silent.subject c.args.kind.now) c.args.line c.args.text.now c.args.behind.now c.in-Some.heading c.inside_of-inside.result.bytes.now
     c.inside_of-inside.result.count c.inside_of-inside.result.rest.now c.in-Some.ensures c.inside_of-inside.ensures (c.if-not-is_right.ensures.0 refl)
-    c.in_ok-form.form c.in_ok-form.ensures.made c.in_ok-form.ensures.within (plain_finding c.in_ok-finding.finding) c.in_ok-finding.ensures.found
+    c.in_ok-form.form c.in_ok-form.ensures.made c.in_ok-form.ensures.within (plain_finding c.in_ok-finding.finding) (c.in_ok-finding.ensures.found _ refl)
     c.inside_of-inside.result.rest refl (sym c.refusal_of.ensures ∙ c.in-None.is)

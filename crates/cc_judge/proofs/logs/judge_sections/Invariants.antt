@@ -2,8 +2,12 @@ use Rattle.std.proofs.Common.{Bor}
 use Rattle.std.specs.Option.{option_map}
 use Rattle.cc_arena.specs.GroundViews.{plain_ground_query}
 use Rattle.cc_defs.specs.declared.lists.Key.{Key}
+use Rattle.cc_query.specs.Sessions.{first_at}
 use Rattle.cc_judge.proofs.Going.{SoFar}
+use Rattle.cc_judge.proofs.Placing.{Asked, scope_asked}
 use Rattle.cc_judge.proofs.logs.judge_sections.Given as goal
 
 abbrev pub invariant-loop-i : goal.invariant-loop-i
-invariant-loop-i l = SoFar l.sig l.laws (plain_ground_query l.query) (option_map (λ (key : Bor Key). key.now) l.after) l.sections l.i l.standing
+invariant-loop-i l =
+    SoFar (Asked l.sig l.laws (plain_ground_query l.query)) (scope_asked l.sig l.laws (plain_ground_query l.query) (option_map (λ (key : Bor Key). key.now) l.after))
+    (first_at (plain_ground_query l.query) (option_map (λ (key : Bor Key). key.now) l.after)) l.sections l.i l.standing
