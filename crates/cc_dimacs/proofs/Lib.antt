@@ -1,0 +1,11 @@
+mod Alone
+mod Atoms
+mod Clauses
+mod Exported
+mod Exporting
+mod Faults
+mod FirstLines
+mod FirstWords
+mod Headings
+mod Models
+mod Numbers

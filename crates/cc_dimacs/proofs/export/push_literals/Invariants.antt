@@ -1,0 +1,9 @@
+use Rattle.std.proofs.Common.{◌≡◌, ◌++◌, codes, drop, flat_map, string_bytes}
+use Rattle.cc_defs.specs.LogTexts.{literal_text}
+use Rattle.cc_dimacs.proofs.export.push_literals.Given as goal
+
+-- the text so far, with what is left to write, is the whole text
+abbrev pub invariant-loop-literal : goal.invariant-loop-literal
+invariant-loop-literal l =
+    string_bytes l.text ++ flat_map (λ literal. literal_text literal ++ codes " ") (drop l.literal-index l.clause)
+    ≡ string_bytes l.initial.text ++ flat_map (λ literal. literal_text literal ++ codes " ") l.clause

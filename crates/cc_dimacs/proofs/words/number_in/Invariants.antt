@@ -1,0 +1,10 @@
+use Rattle.std.proofs.Common.{◌≡◌, ◌≤◌, length}
+use Rattle.cc_dimacs.specs.Reading.{number_from, number_of}
+use Rattle.cc_dimacs.proofs.words.number_in.Given as goal
+
+-- the number so far, with the digits that are left, is the whole number
+abbrev pub invariant-loop-rest : goal.invariant-loop-rest
+invariant-loop-rest l = (l.number ≤ 999999999) × (number_from l.number l.rest ≡ number_of l.fn.word)
+
+abbrev pub decreases-loop-rest : goal.decreases-loop-rest
+decreases-loop-rest l = length l.rest

@@ -1,0 +1,4 @@
+pub mod Cnfs
+pub mod CnfTexts
+pub mod Laws
+pub mod Reading
