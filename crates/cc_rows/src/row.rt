@@ -1,4 +1,5 @@
 //! A case: what a run over its files gives.
+use crate::digits::{bytes_in_hex, show_hex};
 use crate::setting::Setting;
 use cc_books::{body, bytes_named, head, parts};
 use cc_defs::{Bytes, Name, Nums, OutOfMemory};
@@ -6,6 +7,9 @@ use cc_ports::{Files, MemoryDesk, To};
 use cc_run::run;
 use std::alloc::Global;
 use std::fmt::Write;
+
+/// What a log of version 2 begins with.
+const BINARY: &[u8] = b"ccalclg2";
 
 /// The text of the file of this name; an empty one where it is not there.
 fn text_of<'b>(parts: &[&'b [u8]], name: &str) -> &'b str {
@@ -21,14 +25,36 @@ fn words_of(alloc: Global, text: &str) -> Result<Vec<String>, OutOfMemory> {
     Ok(words)
 }
 
+/// A file of the desk, of this name and these bytes.
+fn file(
+    alloc: Global,
+    name: &str,
+    bytes: &[u8],
+    setting: &Setting,
+) -> Result<(Name, Bytes), OutOfMemory> {
+    let bytes = Vec::from_slice(alloc, setting.kept(name, bytes))?;
+    let name = String::from_str(alloc, name)?;
+    Ok((Name::of(name), Bytes::of(bytes)))
+}
+
+/// A file of the desk, whose bytes may stand in hex.
+fn file_of(alloc: Global, part: &[u8], setting: &Setting) -> Result<(Name, Bytes), OutOfMemory> {
+    match head(part).strip_prefix("hex ") {
+        Some(name) => {
+            let bytes = bytes_in_hex(alloc, body(part))?;
+            file(alloc, name, &bytes, setting)
+        }
+        None => file(alloc, head(part), body(part), setting),
+    }
+}
+
 /// The files of the desk.
 fn files_of(alloc: Global, parts: &[&[u8]], setting: &Setting) -> Result<Files, OutOfMemory> {
     let mut files = Vec::new(alloc);
     for part in parts {
         let name = head(part);
         if name != "words" && name != "desk" {
-            let bytes = Bytes::of(Vec::from_slice(alloc, setting.kept(name, body(part)))?);
-            files.push((Name::of(String::from_str(alloc, name)?), bytes))?;
+            files.push(file_of(alloc, part, setting)?)?;
         }
     }
     Ok(Files::of(files))
@@ -68,17 +94,24 @@ fn show_output(out: &mut String, name: &str, bytes: &[u8]) -> Result<(), OutOfMe
     }
 }
 
-/// How many lines a log has.
+/// How many lines a log has, or bytes where it is of version 2.
 fn show_count(out: &mut String, log: &[u8]) -> Result<(), OutOfMemory> {
-    let lines = log.iter().filter(|byte| **byte == b'\n').count();
-    write!(out, "log has {lines} lines\n")?;
+    if log.starts_with(BINARY) {
+        let bytes = log.len();
+        write!(out, "log has {bytes} bytes\n")?;
+    } else {
+        let lines = log.iter().filter(|byte| **byte == b'\n').count();
+        write!(out, "log has {lines} lines\n")?;
+    }
     Ok(())
 }
 
-/// A log: its lines, or how many it has.
+/// A log: its lines or bytes, or how many it has.
 fn show_log(out: &mut String, log: &[u8], counted: bool) -> Result<(), OutOfMemory> {
     if counted {
         show_count(out, log)
+    } else if log.starts_with(BINARY) {
+        show_hex(out, "log", log)
     } else {
         show_output(out, "log", log)
     }

@@ -20,7 +20,7 @@ use Rattle.cc_run.specs.declared.status.Stop.TheVariants as stops
 use Rattle.cc_run.specs.Names.{AreAsked, IsAnswer, MayEndWith}
 use Rattle.cc_run.specs.Promises.{IsEndStatus}
 use Rattle.cc_run.specs.Stops.{Asks, Called, Moment, TellsStop, cut_status, outcome, stop_status}
-use Rattle.cc_words.specs.Requests.{Request, ToCheck, ToExplain, ToList, ToMake}
+use Rattle.cc_words.specs.Requests.{Request, ToCheck, ToCheckModels, ToConvert, ToExplain, ToExport, ToList, ToMake, ToModel}
 use Rattle.cc_words.specs.Words.{Text}
 
 -- ---- names, one after another
@@ -111,17 +111,18 @@ called_begins name x y made = record { more = Begins name ∷ []; calls = made; 
 -- ---- what is asked for
 
 -- nothing was opened or begun, where there is no answer
-pub asks_nothing : (opens begins : List Text) (x z : Moment) (r : Result Status Stop) → Called [] [] x z → (IsAnswer (outcome r) → ⊥) → Asks opens begins x z r
+pub asks_nothing : (opens : List Text) (begins : Status → List Text) (x z : Moment) (r : Result Status Stop) → Called [] [] x z → (IsAnswer (outcome r) → ⊥) → Asks opens begins x z r
 asks_nothing opens begins x z r called none = record {
   opened = [];
   begun = [];
   called = called;
   opened_first = first_none opens;
-  begun_first = first_none begins;
+  begun_first = first_none (begins statuses.Right);
   whole = λ is. absurd (none is);
 }
 
-pub asks_behind : (opened opens begins : List Text) (x y z : Moment) (r : Result Status Stop) → Called opened [] x y → Asks opens begins y z r → Asks (opened ++ opens) begins x z r
+pub asks_behind : (opened opens : List Text) (begins : Status → List Text) (x y z : Moment) (r : Result Status Stop) → Called opened [] x y → Asks opens begins y z r →
+    Asks (opened ++ opens) begins x z r
 asks_behind opened opens begins x y z r called asks = record {
   opened = opened ++ asks.opened;
   begun = asks.begun;
@@ -172,6 +173,10 @@ may_be_refused (Some (ToList listing)) = tt
 may_be_refused (Some (ToCheck checking)) = tt
 may_be_refused (Some (ToMake size budget)) = tt
 may_be_refused (Some (ToExplain explaining)) = tt
+may_be_refused (Some (ToConvert converting)) = tt
+may_be_refused (Some (ToExport exporting)) = tt
+may_be_refused (Some (ToModel modelling)) = tt
+may_be_refused (Some (ToCheckModels checking)) = tt
 
 -- some names are asked for, whatever is asked
 pub some_asked : HasPlaces → (files : Files) (request : Option Request) → (all : List Text) × AreAsked files request all
@@ -186,6 +191,14 @@ some_asked has files (Some (ToMake size budget)) = ([], refl)
 some_asked has files (Some (ToExplain explaining)) =
     let there = has files explaining.file in
     (_, (there.0, there.1, refl))
+some_asked has files (Some (ToConvert converting)) =
+    let there = has files converting.file in
+    (_, (_, (there.0, there.1, refl), refl))
+some_asked has files (Some (ToExport exporting)) =
+    let there = has files exporting.file in
+    (_, (there.0, there.1, refl))
+some_asked has files (Some (ToModel modelling)) = (_, refl)
+some_asked has files (Some (ToCheckModels checking)) = (_, refl)
 
 pub some_asked_of : HasPlaces → (o : Option Contents) (request : Option Request) → (all : List Text) × IfSome o (λ c. AreAsked c.files request all)
 some_asked_of has None request = ([], tt)

@@ -129,10 +129,10 @@ module _ (d : Description) (names : List Text) (horizon : ℕ) (row : List ℕ) 
 
   -- those before a position were given
   abbrev pub AreToldTo : ℕ → Moment → Moment → Type 0
-  AreToldTo position x y = LinesSoFar (why_text d names horizon row) (lines_from position) x y
+  AreToldTo position x y = LinesSoFar outputs.Out (why_text d names horizon row) (lines_from position) x y
 
   pub none_told : (m : Moment) → AreToldTo 0 m m
-  none_told m = lines_begin (why_text d names horizon row) (lines_from 0) m
+  none_told m = lines_begin outputs.Out (why_text d names horizon row) (lines_from 0) m
       (let all : length row - 0 ≡ length row = omega arith in ap (flat_map (why_line d names horizon row)) (ap (onwards 0) all ∙ sym (upto_onwards (length row))))
 
   line_is : (causes : List Cause) (position : ℕ) (none : Cause) → map some causes ≡ causes_at d horizon row → position < length row →
@@ -149,7 +149,7 @@ module _ (d : Description) (names : List Text) (horizon : ℕ) (row : List ℕ) 
       position < length row → AreToldTo position x y →
       Step (given_to outputs.Out (cause_line d names position (slice_index row position) (Some (get_or causes position none)))) y z r → r ≡ Ok v → AreToldTo (position + 1) x z
   line_told causes position none x y z r v same less told step was =
-      lines_more (why_text d names horizon row) (lines_from position) x y told
+      lines_more outputs.Out (why_text d names horizon row) (lines_from position) x y told
       (cause_line d names position (slice_index row position) (Some (get_or causes position none))) (lines_from (position + 1)) (line_is causes position none same less) z r v step was
 
   pub line_stopped : {X Y : Type 0} (causes : List Cause) (position : ℕ) (none : Cause) (x y z : Moment) (r : Result X Stop) (e : Stop) (s : Result Y Stop) →
@@ -157,12 +157,12 @@ module _ (d : Description) (names : List Text) (horizon : ℕ) (row : List ℕ) 
       Step (given_to outputs.Out (cause_line d names position (slice_index row position) (Some (get_or causes position none)))) y z r → r ≡ Err e → IsErrAnd s (λ d. d ≡ e) →
       Step (given_to outputs.Out (why_text d names horizon row)) x z s
   line_stopped causes position none x y z r e s same less told step was err =
-      lines_stop (why_text d names horizon row) (lines_from position) x y told
+      lines_stop outputs.Out (why_text d names horizon row) (lines_from position) x y told
       (cause_line d names position (slice_index row position) (Some (get_or causes position none))) (lines_from (position + 1)) (line_is causes position none same less) z r e s step was err
 
   pub all_told : {X : Type 0} (position : ℕ) (x y : Moment) (v : X) → length row ≤ position → AreToldTo position x y →
       Step (given_to outputs.Out (why_text d names horizon row)) x y (Ok v)
   all_told position x y v end told =
       let none : length row - position ≡ 0 = omega arith in
-      lines_end (why_text d names horizon row) (lines_from position) x y told v
+      lines_end outputs.Out (why_text d names horizon row) (lines_from position) x y told v
       (ap (λ (n : ℕ). length (flat_map (why_line d names horizon row) (onwards position n))) none)

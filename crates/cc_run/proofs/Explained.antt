@@ -30,15 +30,14 @@ use Rattle.cc_run.specs.declared.status.Stop.{Stop}
 use Rattle.cc_run.specs.Answers.{Gives}
 use Rattle.cc_run.specs.Explained.{IsExplainingFault, IsLookedAt, IsRowFault, TellsRow}
 use Rattle.cc_run.specs.Modes.Explaining.{Explains, HasNoRow, IsExplained, IsRowNamed, MayEndExplaining, RefusesRow, RefusesRowOf, no_history_line, why_text}
-use Rattle.cc_run.specs.Names.{MayEndWith, log_asked}
+use Rattle.cc_run.specs.Names.{MayEndWith}
 use Rattle.cc_run.specs.Stops.{Moment, Prints, Step, given_to}
 use Rattle.cc_run.specs.Tasks.{AreRead, description_in, request_of}
 use Rattle.cc_run.specs.Wholes.{Whole, only_out}
 use Rattle.cc_theory.specs.Theories.{rules_refusal}
 use Rattle.cc_words.specs.Requests.{Explaining, Request, ToExplain}
 use Rattle.cc_words.specs.Words.{Text}
-use Rattle.cc_run.proofs.Callings.{first_none}
-use Rattle.cc_run.proofs.Outcomes.{RefusesRequest, known, prints_whole}
+use Rattle.cc_run.proofs.Outcomes.{RefusesRequest, asks_no_more, known, prints_whole}
 use Rattle.cc_run.proofs.Readings.{IsRead, asked_refuses}
 
 -- ---- the row
@@ -132,7 +131,7 @@ looked_as d signature a b laws key is_path same is = subst (λ (text : Text). Is
 
 -- ---- what is given
 
-ended_as : (status : Status) (r : Result Status Stop) → IfOk r (λ s. s ≡ status) → IfOk r (λ s. Some status ≡ Some s)
+pub ended_as : (status : Status) (r : Result Status Stop) → IfOk r (λ s. s ≡ status) → IfOk r (λ s. Some status ≡ Some s)
 ended_as status (Ok s) is = ap Some (sym is)
 ended_as status (Err stop) is = tt
 
@@ -204,11 +203,5 @@ prints_explained words explaining described signature laws key is_path x z r of 
     prints_whole words false [] tells.whole x z r
     (known x.told (λ before. AreRead before.files explaining.file of.places) (λ before. Gives before.files (request_of words) tells.whole)
     (λ before read. explained_given before.files words explaining of.places described signature laws key is_path tells.whole asked of.said read looked tells.explained tells.begun) of.read)
-    tells.begun tells.step tells.ended (ends_so words explaining (description_in of.places) described.files key tells.whole r asked tells.explained tells.ended) (record {
-      opened = [];
-      begun = [];
-      called = tells.step.moves.called;
-      opened_first = first_none [];
-      begun_first = first_none (log_asked (request_of words));
-      whole = λ _. (refl, sym (ap log_asked asked));
-    })
+    tells.begun tells.step tells.ended (ends_so words explaining (description_in of.places) described.files key tells.whole r asked tells.explained tells.ended)
+    (asks_no_more words (ToExplain explaining) x z r asked (λ _. refl) tells.step.moves.called)

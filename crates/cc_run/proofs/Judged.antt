@@ -15,17 +15,24 @@ use Rattle.cc_describe.specs.Places.{Files}
 use Rattle.cc_judge.specs.Judging.{BlocksHistories, IsJudgeFault, IsVerdictWithin}
 use Rattle.cc_ports.specs.Contents.{Contents}
 use Rattle.cc_query.specs.Accepted.{subject_of}
-use Rattle.cc_run.specs.Modes.Checking.{NamesLog, RefusesLog}
-use Rattle.cc_run.specs.Tasks.{IsTask, Task, named_in, request_of}
+use Rattle.cc_run.specs.Modes.Checking.{NamesLog, RefusesChecking, RefusesLog}
+use Rattle.cc_run.specs.Tasks.{IsTask, Task, checked_by, named_in, request_of}
 use Rattle.cc_run.specs.Telling.{task_to_check}
 use Rattle.cc_run.proofs.Outcomes.{IsSaid, RefusesRequest}
-use Rattle.cc_run.proofs.Readings.{checking_by}
+use Rattle.cc_run.proofs.Readings.{checking_by, converting_by}
 use Rattle.cc_words.specs.declared.asked.CheckAsked.{CheckAsked}
-use Rattle.cc_words.specs.Requests.{Checking, ToCheck}
+use Rattle.cc_words.specs.declared.asked.ConvertAsked.{ConvertAsked}
+use Rattle.cc_words.specs.Requests.{Checking, Converting, ToCheck, ToConvert}
 use Rattle.cc_words.specs.Words.{Text}
 
 same_checking : (a b : Checking) → ToCheck a ≡ ToCheck b → a ≡ b
 same_checking a b e = cc
+
+same_converting : (a b : Converting) → ToConvert a ≡ ToConvert b → a ≡ b
+same_converting a b e = cc
+
+pub converting_is : (asked : ConvertAsked) (converting : Converting) → ToConvert (converting_by asked) ≡ ToConvert converting → converting_by asked ≡ converting
+converting_is asked converting e = same_converting (converting_by asked) converting e
 
 pub log_is : (asked : CheckAsked) (checking : Checking) → ToCheck (checking_by asked) ≡ ToCheck checking → asked.log.now ≡ checking.log
 log_is asked checking e = ap (λ (c : Checking). c.log) (same_checking (checking_by asked) checking e)
@@ -56,21 +63,30 @@ fault_as d q key found bytes fault same is = subst (λ (k : Option Key). IsJudge
 
 -- ---- what is refused
 
-log_refused : (files : Files) (words : List Text) (checking : Checking) (task : Task) (bytes : List ℕ) (refusal : Refusal) → request_of words ≡ Some (ToCheck checking) →
+-- what is refused of a log that is checked is refused of what the words ask for
+abbrev pub RefusesAsChecked : List Text → Checking → Type 0
+RefusesAsChecked words checking = (files : Files) (refusal : Refusal) (file : Text) → RefusesChecking files checking refusal file → RefusesRequest files (request_of words) refusal file
+
+pub as_checking : (words : List Text) (checking : Checking) → request_of words ≡ Some (ToCheck checking) → RefusesAsChecked words checking
+as_checking words checking asked files refusal file refused = subst (λ request. RefusesRequest files request refusal file) (sym asked) refused
+
+pub as_converting : (words : List Text) (converting : Converting) → request_of words ≡ Some (ToConvert converting) → RefusesAsChecked words (checked_by converting)
+as_converting words converting asked files refusal file refused = subst (λ request. RefusesRequest files request refusal file) (sym asked) refused
+
+log_refused : (files : Files) (words : List Text) (checking : Checking) (task : Task) (bytes : List ℕ) (refusal : Refusal) → RefusesAsChecked words checking →
     NamesLog files checking task bytes → RefusesLog task bytes refusal → RefusesRequest files (request_of words) refusal []
-log_refused files words checking task bytes refusal asked named refused =
-    subst (λ request. RefusesRequest files request refusal []) (sym asked) (inr (task, bytes, named, refused, refl))
+log_refused files words checking task bytes refusal asked named refused = asked files refusal [] (inr (task, bytes, named, refused, refl))
 
 -- it reaches a section that passes a limit
 pub refuses_section : (o : Option Contents) (words : List Text) (checking : Checking) (task : Task) (bytes : List ℕ) (refusal : Refusal) →
-    request_of words ≡ Some (ToCheck checking) → IfSome o (λ before. NamesLog before.files checking task bytes) → length bytes ≤ limit_number limits.LogBytes →
+    RefusesAsChecked words checking → IfSome o (λ before. NamesLog before.files checking task bytes) → length bytes ≤ limit_number limits.LogBytes →
     IsJudgeFault task.description task.query task.ask.after bytes (faults.Refused refusal) → IfSome o (λ before. RefusesRequest before.files (request_of words) refusal [])
 refuses_section None words checking task bytes refusal asked named few fault = tt
 refuses_section (Some c) words checking task bytes refusal asked named few fault = log_refused c.files words checking task bytes refusal asked named (inr (few, fault))
 
 -- it is too long
 pub refuses_long : (o : Option Contents) (words : List Text) (checking : Checking) (task : Task) (name : List ℕ) (most : ℕ) (refusal : Refusal) →
-    request_of words ≡ Some (ToCheck checking) → name ≡ checking.log → IfSome o (λ before. IsTask before.files (named_in checking) task) →
+    RefusesAsChecked words checking → name ≡ checking.log → IfSome o (λ before. IsTask before.files (named_in checking) task) →
     IfSome o (λ c. (bytes : List ℕ) × (c.files name ≡ Some bytes) × (most < length bytes)) → most ≡ limit_number limits.LogBytes → refusal ≡ past limits.LogBytes →
     IfSome o (λ before. RefusesRequest before.files (request_of words) refusal [])
 refuses_long None words checking task name most refusal asked same is long most_is past_is = tt

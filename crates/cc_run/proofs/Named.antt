@@ -73,7 +73,7 @@ refused_behind : (front behind : Option Refusal) (fault : Fault) → front ≡ N
 refused_behind front behind faults.OutOfMemory none is = tt
 refused_behind front behind (faults.Refused refusal) none is = ap (λ r. option_or r behind) none ∙ is
 
-refused_found : (d : Description) (found : List Symbol) (q : Option Query) (fault : Fault) → found ≡ d.universe.symbols → IsRefusedBy (found_refusal found q) fault →
+pub refused_found : (d : Description) (found : List Symbol) (q : Option Query) (fault : Fault) → found ≡ d.universe.symbols → IsRefusedBy (found_refusal found q) fault →
     IsRefusedBy (query_refusal d q) fault
 refused_found d found None fault same is = is
 refused_found d found (Some q) fault same is =
@@ -91,14 +91,15 @@ refused_nodes d found named q fault same is none refused =
     subst (λ w. IsRefusedBy (query_refusal d w) fault) (sym is)
     (refused_behind (steps_refusal d.universe.symbols q) (ground_refusal d q) fault (subst (λ w. steps_refusal w q ≡ None) same none) refused)
 
+-- nor are its nodes: nothing of it is refused
+pub unrefused_query : (d : Description) (found : List Symbol) (q : Query) → found ≡ d.universe.symbols → steps_refusal found q ≡ None → ground_refusal d q ≡ None →
+    query_refusal d (Some q) ≡ None
+unrefused_query d found q same none few = ap (λ r. option_or r (ground_refusal d q)) (subst (λ w. steps_refusal w q ≡ None) same none) ∙ few
+
 asked_as : (d : Description) (found : List Symbol) (queries : List Query) (label : Option Text) (q : Query) (made : PlainGroundQuery) → found ≡ d.universe.symbols →
     query_named label queries ≡ Some q → steps_refusal found q ≡ None → ground_refusal d q ≡ None → StandsForQuery made d q → IsAskedAs d queries label made
-asked_as d found queries label q made same is none few stands = record {
-  query = q;
-  named_is = is;
-  unrefused = ap (λ r. option_or r (ground_refusal d q)) (subst (λ w. steps_refusal w q ≡ None) same none) ∙ few;
-  stands = stands;
-}
+asked_as d found queries label q made same is none few stands =
+    record { query = q; named_is = is; unrefused = unrefused_query d found q same none few; stands = stands }
 
 pub asked_ok : {X : Type 0} (view : X → PlainGroundQuery) (d : Description) (found : List Symbol) (queries : List Query) (label : Option Text) (q : Query) (r : Result X Fault) →
     found ≡ d.universe.symbols → query_named label queries ≡ Some q → steps_refusal found q ≡ None → OnOk r (ground_refusal d q ≡ None) →

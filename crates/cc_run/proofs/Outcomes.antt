@@ -6,6 +6,7 @@ use Rattle.cc_defs.specs.declared.event.Ending.{Ending}
 use Rattle.cc_defs.specs.declared.event.Ending.TheVariants as endings
 use Rattle.cc_defs.specs.declared.log.LogVerdict.{LogVerdict}
 use Rattle.cc_defs.specs.declared.log.LogVerdict.TheVariants as verdicts
+use Rattle.cc_defs.specs.declared.log.Version.{Version}
 use Rattle.cc_defs.specs.declared.refusal.LimitAt.TheVariants as limits
 use Rattle.cc_defs.specs.declared.refusal.Refusal.{Refusal}
 use Rattle.cc_defs.specs.Limits.{limit_number}
@@ -25,7 +26,8 @@ use Rattle.cc_run.specs.declared.status.Stop.TheVariants as stops
 use Rattle.cc_run.specs.Answers.{Answered, Answers, Counts, Ended, GaveSoFar, Gives, IsFresh, RefusesWords, RoseTwice, counts, left_in, promise_of}
 use Rattle.cc_run.specs.Modes.Checking.{Checks, MayEndChecking, NamesLog, verdict_status}
 use Rattle.cc_run.specs.Modes.Explaining.{MayEndExplaining}
-use Rattle.cc_run.specs.Modes.Listing.{Lists}
+use Rattle.cc_run.specs.Modes.Exporting.{MayEndExporting}
+use Rattle.cc_run.specs.Modes.Listing.{Lists, listed_as}
 use Rattle.cc_run.specs.Modes.Making.{Makes, MayEndMaking}
 use Rattle.cc_run.specs.Names.{AreAsked, BeginsAsked, IsAnswer, MayEndWith, OpensAsked, log_asked}
 use Rattle.cc_run.specs.Promises.{IsEndStatus}
@@ -33,9 +35,10 @@ use Rattle.cc_run.specs.Refusing.{refusal_text}
 use Rattle.cc_run.specs.Searching.{EndsSo, IsTold, Manner, OneByOne, Summed, status_of}
 use Rattle.cc_run.specs.Stops.{Asks, Begins, Called, IsCalm, Leaves, Moment, Prints, PrintsAsked, Searches, Step, TellsStop, adding, cut_status, given_to, outcome, stop_line, stop_status}
 use Rattle.cc_run.specs.Tasks.{IsTask, Task, made_files, made_named, named_by, request_of}
+use Rattle.cc_run.specs.Telling.{counts_of}
 use Rattle.cc_run.specs.Wholes.{AreFronts, Given, Left, Whole, nothing, only_err, only_out}
 use Rattle.cc_defs.specs.Runs.{Claim, Conditions, Failure, Histories, Horizon, IsFairRun, IsTrueOf, MayEnd, MayEndWithin, Run, first_horizon, horizon_at, last_horizon, optional, rows_of}
-use Rattle.cc_words.specs.Requests.{Checking, Listing, Request, ToCheck, ToExplain, ToList, ToMake}
+use Rattle.cc_words.specs.Requests.{Checking, Listing, Request, ToCheck, ToCheckModels, ToConvert, ToExplain, ToExport, ToList, ToMake, ToModel}
 use Rattle.cc_words.specs.Views.{plain_text}
 use Rattle.cc_words.specs.Words.{Text}
 use Rattle.cc_run.proofs.Callings.{asks_behind, asks_nothing, called_begins, called_none, called_on, first_none, may_be_refused, some_asked_of, stop_answers_nothing, told_answers_nothing}
@@ -59,7 +62,7 @@ rose_twice a b c (inr end) (inr again) = inr again
 
 -- ---- what is left, where nothing was written before
 
-abbrev left : Given → Bool → Left
+abbrev pub left : Given → Bool → Left
 left given begun = record { given = given; begun = begun }
 
 fresh_left : (c : Contents) (given : Given) (begun : Bool) → IsFresh c → left_in (adding given c) begun ≡ left given begun
@@ -98,7 +101,7 @@ known (Some c) P Q f h = f c h
 -- ---- a whole that is given
 
 -- what a step gave, which gives a whole or a front of it
-whole_comes : (files : Files) (words : List Text) (whole : Whole) (given : Given) (begun : Bool) (r : Result Status Stop) → Gives files (request_of words) whole → begun ≡ whole.begun →
+pub whole_comes : (files : Files) (words : List Text) (whole : Whole) (given : Given) (begun : Bool) (r : Result Status Stop) → Gives files (request_of words) whole → begun ≡ whole.begun →
     MatchResult r (λ _. given ≡ whole.given) (λ _. AreFronts given whole.given) → IfOk r (λ status. whole.ends ≡ Some status) → Comes files words (left given begun) r
 whole_comes files words whole given begun (Ok status) gives same how ends = record {
   whole = whole;
@@ -164,6 +167,22 @@ prints_refusal words begins opens refusal file x z r refused step is =
     refl step (refused_ends r is) (ends_refused (request_of words) r is)
     (asks_nothing opens (log_asked (request_of words)) x z r step.moves.called (refused_answers_nothing r is))
 
+-- what a run of the request begins, by its words
+pub log_asked_as : (words : List Text) (request : Request) (status : Status) → request_of words ≡ Some request → log_asked (request_of words) status ≡ log_asked (Some request) status
+log_asked_as words request status asked = ap (λ (o : Option Request). log_asked o status) asked
+
+-- a run of a request that begins no log, and has no further file to open
+pub asks_no_more : (words : List Text) (request : Request) (x z : Moment) (r : Result Status Stop) → request_of words ≡ Some request →
+    ((status : Status) → log_asked (Some request) status ≡ []) → Called [] [] x z → Asks [] (log_asked (request_of words)) x z r
+asks_no_more words request x z r asked none called = record {
+  opened = [];
+  begun = [];
+  called = called;
+  opened_first = first_none [];
+  begun_first = first_none (log_asked (request_of words) statuses.Right);
+  whole = λ _. (refl, sym (log_asked_as words request (outcome r) asked ∙ none (outcome r)));
+}
+
 -- ---- a verdict
 
 verdict_ends : (checking : Checking) (verdict : LogVerdict) → MayEndWith (Some (ToCheck checking)) (verdict_status verdict)
@@ -218,14 +237,7 @@ prints_verdict words begins checking task bytes verdict x z r asked named said s
     prints_whole words begins [] (verdict_whole verdict) x z r
     (known x.told (λ c. NamesLog c.files checking task bytes) (λ c. Gives c.files (request_of words) (verdict_whole verdict))
     (λ c log. verdict_given c.files words checking task bytes verdict asked log said) named)
-    refl step (verdict_ended verdict r is) (ends_verdict (request_of words) checking verdict r asked is) (record {
-      opened = [];
-      begun = [];
-      called = step.moves.called;
-      opened_first = first_none [];
-      begun_first = first_none (log_asked (request_of words));
-      whole = λ _. (refl, sym (ap log_asked asked));
-    })
+    refl step (verdict_ended verdict r is) (ends_verdict (request_of words) checking verdict r asked is) (asks_no_more words (ToCheck checking) x z r asked (λ _. refl) step.moves.called)
 
 -- ---- other words
 
@@ -324,7 +336,7 @@ prints_stopped words begins opened opens rest stop x y told begun reads writes c
     begun = [];
     called = called;
     opened_first = first;
-    begun_first = first_none (log_asked (request_of words));
+    begun_first = first_none (log_asked (request_of words) statuses.Right);
     whole = λ is. absurd (stop_answers_nothing stop is);
   };
   calm = λ ok. absurd cc;
@@ -416,7 +428,7 @@ told_none manner task run whole told is all = ends whole.ends is told.ends
 
 -- what a search is for: what it tells is what is asked, its log is the one that is named, and it may end so
 pub record IsForSearch (words : List Text) (begins : Bool) (names : List Text) (manner : Manner) (task : Task) (x : Moment) : Type 0 where
-  pub names_are : names ≡ log_asked (request_of words)
+  pub names_are : (status : Status) → names ≡ log_asked (request_of words) status
   pub gives : (run : Run) (whole : Whole) → whole.begun ≡ begins → IsTold manner task run whole → IfSome x.told (λ c. Gives c.files (request_of words) whole)
   pub may : (run : Run) (whole : Whole) (status : Status) → IsTold manner task run whole → whole.ends ≡ Some status → MayEndWith (request_of words) status
 
@@ -428,26 +440,35 @@ told_ends manner task run whole status told is = ends whole.ends is told.ends
     ends (Some other) is (inl ended) = subst IsEndStatus (sym ended.3 ∙ some_same other status is) (ending_ends ended.0)
     ends (Some other) is (inr refused) = subst IsEndStatus (sym refused.4 ∙ some_same other status is) tt
 
-pub log_asked_by : (words : List Text) (listing : Listing) (names : List Text) → request_of words ≡ Some (ToList listing) → names ≡ optional listing.log → names ≡ log_asked (request_of words)
-log_asked_by words listing names asked named = named ∙ sym (ap log_asked asked)
+pub log_asked_by : (words : List Text) (listing : Listing) (names : List Text) → request_of words ≡ Some (ToList listing) → names ≡ optional listing.log → (status : Status) →
+    names ≡ log_asked (request_of words) status
+log_asked_by words listing names asked named = λ status. named ∙ sym (log_asked_as words (ToList listing) status asked)
 
-pub lists_for : (words : List Text) (listing : Listing) (names : List Text) (task : Task) (x : Moment) → request_of words ≡ Some (ToList listing) → names ≡ optional listing.log →
+lists_as : (words : List Text) (listing : Listing) (names : List Text) (task : Task) (x : Moment) → request_of words ≡ Some (ToList listing) → names ≡ optional listing.log →
     task.ask.count ≡ listing.count → task.ask.budget ≡ listing.budget → IfSome x.told (λ before. IsTask before.files (named_by listing) task) →
-    IsForSearch words (is_some listing.log) names OneByOne task x
-lists_for words listing names task x asked named count budget is = record {
-  names_are = named ∙ sym (ap log_asked asked);
+    IsForSearch words (is_some listing.log) names (listed_as listing task) task x
+lists_as words listing names task x asked named count budget is = record {
+  names_are = log_asked_by words listing names asked named;
   gives = λ run whole begun told. known x.told (λ before. IsTask before.files (named_by listing) task) (λ before. Gives before.files (request_of words) whole)
       (λ before is. subst (λ (o : Option Request). Gives before.files o whole) (sym asked) (inr (lists before.files is run whole begun told))) is;
-  may = λ run whole status told ends. subst (λ (o : Option Request). MayEndWith o status) (sym asked) (told_ends OneByOne task run whole status told ends);
+  may = λ run whole status told ends. subst (λ (o : Option Request). MayEndWith o status) (sym asked) (told_ends (listed_as listing task) task run whole status told ends);
 }
   where
-    lists : (files : Files) → IsTask files (named_by listing) task → (run : Run) (whole : Whole) → whole.begun ≡ is_some listing.log → IsTold OneByOne task run whole → Lists listing files whole
+    lists : (files : Files) → IsTask files (named_by listing) task → (run : Run) (whole : Whole) → whole.begun ≡ is_some listing.log → IsTold (listed_as listing task) task run whole → Lists listing files whole
     lists files is run whole begun told = record { task = task; is = is; count = count; budget = budget; begun = begun; run = run; told = told }
+
+pub lists_for : (words : List Text) (listing : Listing) (names : List Text) (version : Version) (task : Task) (x : Moment) → request_of words ≡ Some (ToList listing) →
+    names ≡ optional listing.log → task.ask.count ≡ listing.count → task.ask.budget ≡ listing.budget → version ≡ listing.form →
+    IfSome x.told (λ before. IsTask before.files (named_by listing) task) →
+    IsForSearch words (is_some listing.log) names (OneByOne version (counts_of task.description task.query task.ask.after)) task x
+lists_for words listing names version task x asked named count budget form is =
+    subst (λ (v : Version). IsForSearch words (is_some listing.log) names (OneByOne v (counts_of task.description task.query task.ask.after)) task x) (sym form)
+    (lists_as words listing names task x asked named count budget is)
 
 pub makes_for : (words : List Text) (size budget : ℕ) (task : Task) (x : Moment) → request_of words ≡ Some (ToMake size budget) → IsNone task.ask.count → task.ask.budget ≡ budget →
     IfSome x.told (λ _. IsTask (made_files size) made_named task) → IsForSearch words false [] (Summed size) task x
 makes_for words size budget task x asked all same is = record {
-  names_are = sym (ap log_asked asked);
+  names_are = λ status. sym (log_asked_as words (ToMake size budget) status asked);
   gives = λ run whole begun told. known x.told (λ _. IsTask (made_files size) made_named task) (λ before. Gives before.files (request_of words) whole)
       (λ before is. subst (λ (o : Option Request). Gives before.files o whole) (sym asked) (inr (makes before.files is run whole begun told))) is;
   may = λ run whole status told ends. subst (λ (o : Option Request). MayEndWith o status) (sym asked) (may_make task run whole status told ends all);
@@ -479,7 +500,7 @@ told_with manner task run given ends begun told = record {
   ends = told.ends;
 }
 
-told_search : (words : List Text) (given : Given) (old mid new : Option Contents) (was begun : Bool) (r : Result Status Stop) →
+pub told_search : (words : List Text) (given : Given) (old mid new : Option Contents) (was begun : Bool) (r : Result Status Stop) →
     IfSome old (λ before. IsFresh before → mid ≡ Some before) → new ≡ option_map (adding given) mid →
     IfSome old (λ before. was ≡ false → Comes before.files words (left given begun) r) →
     IfSome old (λ before. IsFresh before → was ≡ false → IsSomeAnd new (λ after. Leaves words before after begun r))
@@ -493,29 +514,28 @@ search_may : (words : List Text) (begins : Bool) (names : List Text) (manner : M
 search_may words begins names manner task x run whole (Ok status) for told ended = for.may run whole status told ended
 search_may words begins names manner task x run whole (Err stop) for told ended = tt
 
--- a log was begun where one is named, and a search behind it
-pub prints_search : {X : Type 0} (words : List Text) (begins : Bool) (names : List Text) (manner : Manner) (task : Task) (x y z : Moment) (b : Result X Stop) (v : X) (r : Result Status Stop) →
-    IsForSearch words begins names manner task x → Begins begins names x y b → b ≡ Ok v → Searches manner task nothing y z r → Prints words begins [] x z r
-prints_search {X = X} words begins names manner task x y z b v r for at is searched =
+-- a log was begun where one is named, and a whole was given behind, or a front of it where it stops
+pub prints_begun : {X : Type 0} (words : List Text) (begins : Bool) (names : List Text) (whole : Whole) (x y z : Moment) (b : Result X Stop) (v : X) (r : Result Status Stop) →
+    names ≡ log_asked (request_of words) statuses.Right → (IsAnswer (outcome r) → names ≡ log_asked (request_of words) (outcome r)) →
+    IfSome x.told (λ c. Gives c.files (request_of words) whole) → whole.begun ≡ begins → Begins begins names x y b → b ≡ Ok v → Step whole.given y z r →
+    IfOk r (λ status. whole.ends ≡ Some status) → IfOk r (MayEndWith (request_of words)) → Prints words begins [] x z r
+prints_begun {X = X} words begins names whole x y z b v r right answers gives same at is step ended may =
     let made : Result X Stop = Ok v in
     let done : Begins begins names x y made = subst (λ b. Begins begins names x y b) is at in
-    let given = searched.step.given in
-    let moves = searched.step.moves in
-    let whole : Whole = record { given = searched.given; begun = begins; ends = searched.ends } in
-    let told : IsTold manner task searched.run whole = told_with manner task searched.run searched.given searched.ends begins searched.told in
+    let moves = step.moves in
     record {
-      told = told_search words given x.told y.told z.told x.begun z.begun r done.told moves.told
-          (known x.told (λ before. Gives before.files (request_of words) whole) (λ before. x.begun ≡ false → Comes before.files words (left given z.begun) r)
-          (λ before gives none. whole_comes before.files words whole given z.begun r gives (sym (begun_as begins x.begun y.begun z.begun done.begun moves.begun none)) searched.step.how searched.ended)
-          (for.gives searched.run whole refl told));
-      ends = search_may words begins names manner task x searched.run whole r for told searched.ended;
+      told = told_search words step.given x.told y.told z.told x.begun z.begun r done.told moves.told
+          (known x.told (λ before. Gives before.files (request_of words) whole) (λ before. x.begun ≡ false → Comes before.files words (left step.given z.begun) r)
+          (λ before gives none. whole_comes before.files words whole step.given z.begun r gives (sym (same ∙ begun_as begins x.begun y.begun z.begun done.begun moves.begun none)) step.how ended)
+          gives);
+      ends = may;
       asks = record {
         opened = [];
         begun = names;
         called = called_on [] names x y z done.called moves.called;
         opened_first = first_none [];
-        begun_first = ([], sym for.names_are ∙ sym (append-nil names));
-        whole = λ _. (refl, for.names_are);
+        begun_first = ([], sym right ∙ sym (append-nil names));
+        whole = λ is. (refl, answers is);
       };
       calm = λ ok. calm_both x y z (done.calm refl) (moves.calm ok);
       begun = λ none. moves.begun ∙ (done.begun ∙ ap (λ w. w || x.begun) none);
@@ -528,6 +548,15 @@ prints_search {X = X} words begins names manner task x y z b v r for at is searc
     begun_as : (named was at begun : Bool) → at ≡ (named || was) → begun ≡ at → was ≡ false → named ≡ begun
     begun_as true was at begun one two none = sym (two ∙ one)
     begun_as false was at begun one two none = sym (two ∙ (one ∙ none))
+
+-- a log was begun where one is named, and a search behind it
+pub prints_search : {X : Type 0} (words : List Text) (begins : Bool) (names : List Text) (manner : Manner) (task : Task) (x y z : Moment) (b : Result X Stop) (v : X) (r : Result Status Stop) →
+    IsForSearch words begins names manner task x → Begins begins names x y b → b ≡ Ok v → Searches manner task nothing y z r → Prints words begins [] x z r
+prints_search words begins names manner task x y z b v r for at is searched =
+    let whole : Whole = record { given = searched.given; begun = begins; ends = searched.ends } in
+    let told : IsTold manner task searched.run whole = told_with manner task searched.run searched.given searched.ends begins searched.told in
+    prints_begun words begins names whole x y z b v r (for.names_are statuses.Right) (λ _. for.names_are (outcome r)) (for.gives searched.run whole refl told) refl at is searched.step
+    searched.ended (search_may words begins names manner task x searched.run whole r for told searched.ended)
 
 -- a log that was to be begun
 begun_fresh : (c : Contents) → IsFresh c → after_create true c ≡ c
@@ -571,7 +600,7 @@ begins_failed {X = X} o name x y is told begun calls rose reads writes =
 
 -- a log that was not begun
 pub prints_unbegun : {X : Type 0} (words : List Text) (named : Bool) (names : List Text) (x y : Moment) (b : Result X Stop) (e : Stop) (r : Result Status Stop) →
-    names ≡ log_asked (request_of words) → Begins named names x y b → b ≡ Err e → IsErrAnd r (λ d. d ≡ e) → Prints words named [] x y r
+    names ≡ log_asked (request_of words) statuses.Right → Begins named names x y b → b ≡ Err e → IsErrAnd r (λ d. d ≡ e) → Prints words named [] x y r
 prints_unbegun words named names x y b e (Ok status) for at is same = absurd same
 prints_unbegun {X = X} words named names x y b e (Err d) for at is same =
     let failed : Result X Stop = Err e in
@@ -646,12 +675,26 @@ may_end_explaining statuses.ReadFault is = is
 may_end_explaining statuses.WriteFault is = is
 may_end_explaining statuses.OutOfMemory is = is
 
+may_end_exporting : (status : Status) → MayEndExporting status → IsEndStatus status
+may_end_exporting statuses.Right is = is
+may_end_exporting statuses.Not is = absurd is
+may_end_exporting statuses.Refused is = is
+may_end_exporting statuses.Spent is = absurd is
+may_end_exporting statuses.Asked is = absurd is
+may_end_exporting statuses.ReadFault is = is
+may_end_exporting statuses.WriteFault is = is
+may_end_exporting statuses.OutOfMemory is = is
+
 pub ends_as_it_may : (request : Option Request) (status : Status) → MayEndWith request status → IsEndStatus status
 ends_as_it_may None status is = subst IsEndStatus (sym is) tt
 ends_as_it_may (Some (ToList listing)) status is = is
 ends_as_it_may (Some (ToCheck checking)) status is = may_end_checking status is
 ends_as_it_may (Some (ToMake size budget)) status is = may_end_making status is
 ends_as_it_may (Some (ToExplain explaining)) status is = may_end_explaining status is
+ends_as_it_may (Some (ToConvert converting)) status is = may_end_checking status is
+ends_as_it_may (Some (ToExport exporting)) status is = may_end_exporting status is
+ends_as_it_may (Some (ToModel modelling)) status is = is
+ends_as_it_may (Some (ToCheckModels checking)) status is = may_end_checking status is
 
 answers_ended : (files : Files) (words : List Text) (status : Status) (c : Counts) (l : Left) → IsEndStatus status → Ended files words status l → Answers files words status c l
 answers_ended files words statuses.Right c l ends ended = ended
@@ -752,14 +795,14 @@ NamesAsked words x z status =
     × IfSome x.told (λ before. OpensAsked before.files (request_of words) status (names_opened more))
 
 run_names : (words : List Text) (begins : Bool) (x y z : Moment) (r : Result Status Stop) (status : Status) → (asked : PrintsAsked words begins x y r) →
-    Called asked.prints.asks.opened asked.prints.asks.begun x z → (IsAnswer status → IsAnswer (outcome r)) → NamesAsked words x z status
+    Called asked.prints.asks.opened asked.prints.asks.begun x z → (IsAnswer status → status ≡ outcome r) → NamesAsked words x z status
 run_names words begins x y z r status asked called answers =
     let asks = asked.prints.asks in (
       called.more,
       called.calls,
       record {
-        first = subst (λ (names : List Text). AreFirstNames names (log_asked (request_of words))) (sym called.begun_are) asks.begun_first;
-        whole = λ is. called.begun_are ∙ (asks.whole (answers is)).1;
+        first = subst (λ (names : List Text). AreFirstNames names (log_asked (request_of words) statuses.Right)) (sym called.begun_are) asks.begun_first;
+        whole = λ is. called.begun_are ∙ (asks.whole (subst IsAnswer (answers is) is)).1 ∙ ap (log_asked (request_of words)) (sym (answers is));
       },
       known x.told (λ before. AreAsked before.files (request_of words) asked.opens)
           (λ before. OpensAsked before.files (request_of words) status (names_opened called.more))
@@ -767,12 +810,12 @@ run_names words begins x y z r status asked called answers =
             all = asked.opens;
             asked = are;
             first = subst (λ (names : List Text). AreFirstNames names asked.opens) (sym called.opened_are) asks.opened_first;
-            whole = λ is. called.opened_are ∙ (asks.whole (answers is)).0;
+            whole = λ is. called.opened_are ∙ (asks.whole (subst IsAnswer (answers is) is)).0;
           }) asked.asked,
     )
 
 pub names_ended : (words : List Text) (begins : Bool) (x z : Moment) (status : Status) → PrintsAsked words begins x z (Ok status) → NamesAsked words x z status
-names_ended words begins x z status asked = run_names words begins x z z (Ok status) status asked asked.prints.asks.called (λ is. is)
+names_ended words begins x z status asked = run_names words begins x z z (Ok status) status asked asked.prints.asks.called (λ _. refl)
 
 pub names_stopped : (words : List Text) (begins : Bool) (stop : Stop) (x y z : Moment) (status : Status) → PrintsAsked words begins x y (Err stop) → TellsStop stop y z status →
     NamesAsked words x z status

@@ -15,7 +15,7 @@ use Rattle.cc_describe.specs.Places.{Files, Place}
 use Rattle.cc_ports.specs.Calls.{Call, names_begun, names_opened, with_calls}
 use Rattle.cc_ports.specs.Contents.{Contents, Rose, with_rest}
 use Rattle.cc_run.specs.Asking.{AreNamed, IsRefusedNamed}
-use Rattle.cc_run.specs.Requested.{AsksQuery, IsFileOf, named_of, opens_behind, source_of, OpensDescription, Reads}
+use Rattle.cc_run.specs.Requested.{AsksDescription, AsksQuery, IsFileOf, named_of, opens_behind, source_of, OpensDescription, Reads}
 use Rattle.cc_run.specs.Answers.{promise_of}
 use Rattle.cc_run.specs.Names.{names_log}
 use Rattle.cc_run.specs.Stops.{Begins, IsCalm, Moment, Prints}
@@ -24,9 +24,13 @@ use Rattle.cc_run.specs.declared.status.Stop.{Stop}
 use Rattle.cc_run.specs.Tasks.{AreRead, IsTask, Named, RefusesDescription, RefusesNamed, Task, asked_refusal, description_in, made_files, made_named, query_named, request_of}
 use Rattle.cc_words.specs.declared.asked.Asked.{Asked}
 use Rattle.cc_words.specs.declared.asked.CheckAsked.{CheckAsked}
+use Rattle.cc_words.specs.declared.asked.CheckModelsAsked.{CheckModelsAsked}
+use Rattle.cc_words.specs.declared.asked.ConvertAsked.{ConvertAsked}
 use Rattle.cc_words.specs.declared.asked.ExplainAsked.{ExplainAsked}
+use Rattle.cc_words.specs.declared.asked.ExportAsked.{ExportAsked}
 use Rattle.cc_words.specs.declared.asked.ListAsked.{ListAsked}
-use Rattle.cc_words.specs.Requests.{Checking, Explaining, Listing, Request, ToCheck, ToExplain, ToList, ToMake}
+use Rattle.cc_words.specs.declared.asked.ModelsAsked.{ModelsAsked}
+use Rattle.cc_words.specs.Requests.{Checking, Converting, Explaining, Exporting, Listing, ModelChecking, Modelling, Request, ToCheck, ToCheckModels, ToConvert, ToExplain, ToExport, ToList, ToMake, ToModel}
 use Rattle.cc_words.specs.Views.{plain_request, plain_text}
 use Rattle.cc_words.specs.Words.{Text}
 use Rattle.cc_run.proofs.Callings.{called_none, called_reading, first_all, first_longer}
@@ -41,6 +45,7 @@ listing_by list = record {
   budget = list.budget;
   after = plain_text list.after;
   log = plain_text list.log;
+  form = list.form;
 }
 
 abbrev pub checking_by : CheckAsked → Checking
@@ -53,6 +58,24 @@ checking_by check = record {
 
 abbrev pub explaining_by : ExplainAsked → Explaining
 explaining_by explain = record { file = explain.file.now; key = explain.key.now }
+
+abbrev pub converting_by : ConvertAsked → Converting
+converting_by convert = record {
+  file = convert.file.now;
+  query = plain_text convert.query;
+  after = plain_text convert.after;
+  log = convert.log.now;
+  to = convert.to.now;
+}
+
+abbrev pub exporting_by : ExportAsked → Exporting
+exporting_by export = record { file = export.file.now; query = plain_text export.query; horizon = export.horizon }
+
+abbrev pub modelling_by : ModelsAsked → Modelling
+modelling_by models = record { file = models.file.now; count = models.count; budget = models.budget; log = plain_text models.log; form = models.form }
+
+abbrev pub models_checking_by : CheckModelsAsked → ModelChecking
+models_checking_by check = record { file = check.file.now; log = check.log.now }
 
 -- ---- the description of places
 
@@ -160,14 +183,23 @@ refused_so files (ToList listing) refusal file asks refused = refused
 refused_so files (ToCheck checking) refusal file asks refused = inl refused
 refused_so files (ToMake size budget) refusal file asks refused = refused
 refused_so files (ToExplain explaining) refusal file asks refused = absurd asks
+refused_so files (ToConvert converting) refusal file asks refused = inl refused
+refused_so files (ToExport exporting) refusal file asks refused = absurd asks
+refused_so files (ToModel modelling) refusal file asks refused = absurd asks
+refused_so files (ToCheckModels checking) refusal file asks refused = absurd asks
 
 -- and so it is where the description is refused
-unread_so : (files : Files) (request : Request) (refusal : Refusal) (file : Text) → RefusesDescription (source_of request files) (named_of request) refusal file →
+unread_so : (files : Files) (request : Request) (refusal : Refusal) (file : Text) → AsksDescription request →
+    RefusesDescription (source_of request files) (named_of request) refusal file →
     RefusesRequest files (Some request) refusal file
-unread_so files (ToList listing) refusal file refused = inl refused
-unread_so files (ToCheck checking) refusal file refused = inl (inl refused)
-unread_so files (ToMake size budget) refusal file refused = inl refused
-unread_so files (ToExplain explaining) refusal file refused = inl refused
+unread_so files (ToList listing) refusal file asks refused = inl refused
+unread_so files (ToCheck checking) refusal file asks refused = inl (inl refused)
+unread_so files (ToMake size budget) refusal file asks refused = inl refused
+unread_so files (ToExplain explaining) refusal file asks refused = inl refused
+unread_so files (ToConvert converting) refusal file asks refused = inl (inl refused)
+unread_so files (ToExport exporting) refusal file asks refused = inl refused
+unread_so files (ToModel modelling) refusal file asks refused = absurd asks
+unread_so files (ToCheckModels checking) refusal file asks refused = absurd asks
 
 stopped_refuses : (files : Files) (by : Named) (refusal : Refusal) (file : Text) → HasStopped files by.file (describe_stops.Refused refusal file) →
     RefusesDescription files by refusal file
@@ -179,13 +211,13 @@ pub asked_refuses : (words : List Text) (request : Request) (files : Files) (ref
     RefusesRequest files (Some request) refusal file → RefusesRequest files (request_of words) refusal file
 asked_refuses words request files refusal file asked refused = subst (λ (o : Option Request). RefusesRequest files o refusal file) (sym asked) refused
 
-pub refuses_description : (o : Option Contents) (words : List Text) (request : Request) (refusal : Refusal) (file : Text) → request_of words ≡ Some request →
+pub refuses_description : (o : Option Contents) (words : List Text) (request : Request) (refusal : Refusal) (file : Text) → request_of words ≡ Some request → AsksDescription request →
     IfSome o (λ before. HasStopped (source_of request before.files) (named_of request).file (describe_stops.Refused refusal file)) →
     IfSome o (λ before. RefusesRequest before.files (request_of words) refusal file)
-refuses_description o words request refusal file asked =
+refuses_description o words request refusal file asked asks =
     known o (λ before. HasStopped (source_of request before.files) (named_of request).file (describe_stops.Refused refusal file)) (λ before. RefusesRequest before.files (request_of words) refusal file)
     (λ before stopped. asked_refuses words request before.files refusal file asked
-    (unread_so before.files request refusal file (stopped_refuses (source_of request before.files) (named_of request) refusal file stopped)))
+    (unread_so before.files request refusal file asks (stopped_refuses (source_of request before.files) (named_of request) refusal file stopped)))
 
 pub named_refused : (files : Files) (by : Named) (places : List Place) (described : Described) (refusal : Refusal) (file : Text) → IsDescribed places described →
     AreRead files by.file places → file ≡ file_named described.files refusal →
@@ -222,34 +254,42 @@ refuses_named o words request described of refusal file asked asks name refused 
 abbrev pub OpenedAll : Request → Option Contents → List Text → Type 0
 OpenedAll request o opened = IfSome o (λ before. (promise_of request).Opens before.files (opened ++ opens_behind request))
 
-opens_all : (files : Files) (request : Request) (described : Described) (opened : List Text) → OpensDescription request files (Ok described) opened →
+opens_all : (files : Files) (request : Request) (described : Described) (opened : List Text) → AsksDescription request → OpensDescription request files (Ok described) opened →
     (promise_of request).Opens files (opened ++ opens_behind request)
-opens_all files (ToList listing) described opened are = subst (λ (names : List Text). AreToOpen files listing.file names) (sym (append-nil opened)) are
-opens_all files (ToCheck checking) described opened are = (opened, are, refl)
-opens_all files (ToMake size budget) described opened are = append-nil opened ∙ are
-opens_all files (ToExplain explaining) described opened are = subst (λ (names : List Text). AreToOpen files explaining.file names) (sym (append-nil opened)) are
+opens_all files (ToList listing) described opened asks are = subst (λ (names : List Text). AreToOpen files listing.file names) (sym (append-nil opened)) are
+opens_all files (ToCheck checking) described opened asks are = (opened, are, refl)
+opens_all files (ToMake size budget) described opened asks are = append-nil opened ∙ are
+opens_all files (ToExplain explaining) described opened asks are = subst (λ (names : List Text). AreToOpen files explaining.file names) (sym (append-nil opened)) are
+opens_all files (ToConvert converting) described opened asks are = (opened, are, refl)
+opens_all files (ToExport exporting) described opened asks are = subst (λ (names : List Text). AreToOpen files exporting.file names) (sym (append-nil opened)) are
+opens_all files (ToModel modelling) described opened asks are = absurd asks
+opens_all files (ToCheckModels checking) described opened asks are = absurd asks
 
-pub opened_all : (o : Option Contents) (request : Request) (described : Described) (opened : List Text) → IfSome o (λ before. OpensDescription request before.files (Ok described) opened) →
-    OpenedAll request o opened
-opened_all o request described opened =
+pub opened_all : (o : Option Contents) (request : Request) (described : Described) (opened : List Text) → AsksDescription request →
+    IfSome o (λ before. OpensDescription request before.files (Ok described) opened) → OpenedAll request o opened
+opened_all o request described opened asks =
     known o (λ before. OpensDescription request before.files (Ok described) opened) (λ before. (promise_of request).Opens before.files (opened ++ opens_behind request))
-    (λ before are. opens_all before.files request described opened are)
+    (λ before are. opens_all before.files request described opened asks are)
 
 abbrev pub stopped : DescribeStop → Result Described DescribeStop
 stopped stop = Err stop
 
-opens_refused : (files : Files) (request : Request) (refusal : Refusal) (file : Text) (opened : List Text) →
+opens_refused : (files : Files) (request : Request) (refusal : Refusal) (file : Text) (opened : List Text) → AsksDescription request →
     OpensDescription request files (stopped (describe_stops.Refused refusal file)) opened → (promise_of request).Opens files (opened ++ opens_behind request)
-opens_refused files (ToList listing) refusal file opened are = subst (λ (names : List Text). AreToOpen files listing.file names) (sym (append-nil opened)) are
-opens_refused files (ToCheck checking) refusal file opened are = (opened, are, refl)
-opens_refused files (ToMake size budget) refusal file opened are = append-nil opened ∙ are
-opens_refused files (ToExplain explaining) refusal file opened are = subst (λ (names : List Text). AreToOpen files explaining.file names) (sym (append-nil opened)) are
+opens_refused files (ToList listing) refusal file opened asks are = subst (λ (names : List Text). AreToOpen files listing.file names) (sym (append-nil opened)) are
+opens_refused files (ToCheck checking) refusal file opened asks are = (opened, are, refl)
+opens_refused files (ToMake size budget) refusal file opened asks are = append-nil opened ∙ are
+opens_refused files (ToExplain explaining) refusal file opened asks are = subst (λ (names : List Text). AreToOpen files explaining.file names) (sym (append-nil opened)) are
+opens_refused files (ToConvert converting) refusal file opened asks are = (opened, are, refl)
+opens_refused files (ToExport exporting) refusal file opened asks are = subst (λ (names : List Text). AreToOpen files exporting.file names) (sym (append-nil opened)) are
+opens_refused files (ToModel modelling) refusal file opened asks are = absurd asks
+opens_refused files (ToCheckModels checking) refusal file opened asks are = absurd asks
 
-pub opened_refused : (o : Option Contents) (request : Request) (refusal : Refusal) (file : Text) (opened : List Text) →
+pub opened_refused : (o : Option Contents) (request : Request) (refusal : Refusal) (file : Text) (opened : List Text) → AsksDescription request →
     IfSome o (λ before. OpensDescription request before.files (stopped (describe_stops.Refused refusal file)) opened) → OpenedAll request o opened
-opened_refused o request refusal file opened =
+opened_refused o request refusal file opened asks =
     known o (λ before. OpensDescription request before.files (stopped (describe_stops.Refused refusal file)) opened)
-    (λ before. (promise_of request).Opens before.files (opened ++ opens_behind request)) (λ before are. opens_refused before.files request refusal file opened are)
+    (λ before. (promise_of request).Opens before.files (opened ++ opens_behind request)) (λ before are. opens_refused before.files request refusal file opened asks are)
 
 -- names of which these are the first, which are those that the request opens
 pub record AreFirstOf (o : Option Contents) (request : Request) (names : List Text) : Type 0 where
@@ -263,20 +303,26 @@ first_files files name (describe_stops.Refused refusal file) names are = (names,
 first_files files name describe_stops.ReadFault names are = are
 first_files files name describe_stops.OutOfMemory names are = are
 
-first_in : (files : Files) (request : Request) (stop : DescribeStop) (names : List Text) → OpensDescription request files (stopped stop) names →
+first_in : (files : Files) (request : Request) (stop : DescribeStop) (names : List Text) → AsksDescription request → OpensDescription request files (stopped stop) names →
     (all : List Text) × (promise_of request).Opens files all × AreFirstNames names all
-first_in files (ToList listing) stop names are = first_files files listing.file stop names are
-first_in files (ToCheck checking) stop names are =
+first_in files (ToList listing) stop names asks are = first_files files listing.file stop names are
+first_in files (ToCheck checking) stop names asks are =
     let there = first_files files checking.file stop names are in
     (there.0 ++ checking.log ∷ [], (there.0, there.1, refl), first_longer names there.0 (checking.log ∷ []) there.2)
-first_in files (ToMake size budget) stop names are = (names, are, first_all names)
-first_in files (ToExplain explaining) stop names are = first_files files explaining.file stop names are
+first_in files (ToMake size budget) stop names asks are = (names, are, first_all names)
+first_in files (ToExplain explaining) stop names asks are = first_files files explaining.file stop names are
+first_in files (ToConvert converting) stop names asks are =
+    let there = first_files files converting.file stop names are in
+    (there.0 ++ converting.log ∷ [], (there.0, there.1, refl), first_longer names there.0 (converting.log ∷ []) there.2)
+first_in files (ToExport exporting) stop names asks are = first_files files exporting.file stop names are
+first_in files (ToModel modelling) stop names asks are = absurd asks
+first_in files (ToCheckModels checking) stop names asks are = absurd asks
 
-pub first_of : (o : Option Contents) (request : Request) (stop : DescribeStop) (names : List Text) → IfSome o (λ c. OpensDescription request c.files (stopped stop) names) →
+pub first_of : (o : Option Contents) (request : Request) (stop : DescribeStop) (names : List Text) → AsksDescription request → IfSome o (λ c. OpensDescription request c.files (stopped stop) names) →
     AreFirstOf o request names
-first_of None request stop names opens = record { all = names; first = first_all names; are = tt }
-first_of (Some c) request stop names opens =
-    let there = first_in c.files request stop names opens in
+first_of None request stop names asks opens = record { all = names; first = first_all names; are = tt }
+first_of (Some c) request stop names asks opens =
+    let there = first_in c.files request stop names asks opens in
     record { all = there.0; first = there.2; are = there.1 }
 
 -- ---- what was read
@@ -291,6 +337,10 @@ opens_file (Some c) (ToList listing) file r names is opens = subst (λ (f : Text
 opens_file (Some c) (ToCheck checking) file r names is opens = subst (λ (f : Text). OpensFor c.files f r names) is opens
 opens_file (Some c) (ToMake size budget) file r names is opens = absurd is
 opens_file (Some c) (ToExplain explaining) file r names is opens = subst (λ (f : Text). OpensFor c.files f r names) is opens
+opens_file (Some c) (ToConvert converting) file r names is opens = subst (λ (f : Text). OpensFor c.files f r names) is opens
+opens_file (Some c) (ToExport exporting) file r names is opens = subst (λ (f : Text). OpensFor c.files f r names) is opens
+opens_file (Some c) (ToModel modelling) file r names is opens = absurd is
+opens_file (Some c) (ToCheckModels checking) file r names is opens = absurd is
 
 describes_file : (o : Option Contents) (request : Request) (file : Text) (r : Outcome) → IsFileOf request file → IfSome o (λ c. IfOk r (Describes c.files file)) →
     IfSome o (λ c. IfOk r (Describes (source_of request c.files) (named_of request).file))
@@ -299,6 +349,10 @@ describes_file (Some c) (ToList listing) file r is describes = subst (λ (f : Te
 describes_file (Some c) (ToCheck checking) file r is describes = subst (λ (f : Text). IfOk r (Describes c.files f)) is describes
 describes_file (Some c) (ToMake size budget) file r is describes = absurd is
 describes_file (Some c) (ToExplain explaining) file r is describes = subst (λ (f : Text). IfOk r (Describes c.files f)) is describes
+describes_file (Some c) (ToConvert converting) file r is describes = subst (λ (f : Text). IfOk r (Describes c.files f)) is describes
+describes_file (Some c) (ToExport exporting) file r is describes = subst (λ (f : Text). IfOk r (Describes c.files f)) is describes
+describes_file (Some c) (ToModel modelling) file r is describes = absurd is
+describes_file (Some c) (ToCheckModels checking) file r is describes = absurd is
 
 stopped_file : (o : Option Contents) (request : Request) (file : Text) (r : Outcome) → IsFileOf request file → IfSome o (λ c. IfErr r (HasStopped c.files file)) →
     IfSome o (λ c. IfErr r (HasStopped (source_of request c.files) (named_of request).file))
@@ -307,6 +361,10 @@ stopped_file (Some c) (ToList listing) file r is describes = subst (λ (f : Text
 stopped_file (Some c) (ToCheck checking) file r is describes = subst (λ (f : Text). IfErr r (HasStopped c.files f)) is describes
 stopped_file (Some c) (ToMake size budget) file r is describes = absurd is
 stopped_file (Some c) (ToExplain explaining) file r is describes = subst (λ (f : Text). IfErr r (HasStopped c.files f)) is describes
+stopped_file (Some c) (ToConvert converting) file r is describes = subst (λ (f : Text). IfErr r (HasStopped c.files f)) is describes
+stopped_file (Some c) (ToExport exporting) file r is describes = subst (λ (f : Text). IfErr r (HasStopped c.files f)) is describes
+stopped_file (Some c) (ToModel modelling) file r is describes = absurd is
+stopped_file (Some c) (ToCheckModels checking) file r is describes = absurd is
 
 pub reads_as : (request : Request) (a b : Outcome) (x y : Moment) → a ≡ b → Reads request a x y → Reads request b x y
 reads_as request a b x y same reads = subst (λ (r : Outcome). Reads request r x y) same reads

@@ -12,7 +12,7 @@ use Rattle.cc_words.specs.declared.asked.Asked.{Asked}
 use Rattle.cc_words.specs.Readings.{reading}
 use Rattle.cc_words.specs.declared.modes.Mode.{Mode}
 use Rattle.cc_words.specs.declared.modes.Mode.TheVariants as modes
-use Rattle.cc_words.specs.Requests.{Request, asked_in, asked_of, budget_of, count_of, mode_of, number_up_to, optional, provided, suits, valued}
+use Rattle.cc_words.specs.Requests.{Request, asked_in, asked_of, budget_of, count_of, form_of, mode_of, number_from_zero, number_up_to, optional, provided, suits, valued}
 use Rattle.cc_words.specs.Views.{plain_asked, plain_request}
 use Rattle.cc_words.specs.Words.{Given, Text}
 use Rattle.cc_run.proofs.Outcomes.{RefusesRequest}
@@ -79,7 +79,8 @@ valued_within modes.List given request e =
     let file = from_provided given.file _ request e in
     let count = from_provided (count_of given) _ request file.2 in
     let budget = from_provided (budget_of given) _ request count.2 in
-    subst IsWithin (some_is _ request budget.2) (count_within given count.0 count.1, budget_within given budget.0 budget.1)
+    let form = from_provided (form_of given) _ request budget.2 in
+    subst IsWithin (some_is _ request form.2) (count_within given count.0 count.1, budget_within given budget.0 budget.1)
 valued_within modes.Check given request e =
     let file = from_provided given.file _ request e in
     let log = from_provided given.log _ request file.2 in
@@ -93,6 +94,26 @@ valued_within modes.Why given request e =
     let file = from_provided given.file _ request e in
     let key = from_provided given.key _ request file.2 in
     subst IsWithin (some_is _ request key.2) tt
+valued_within modes.Convert given request e =
+    let file = from_provided given.file _ request e in
+    let log = from_provided given.log _ request file.2 in
+    let to = from_provided given.to _ request log.2 in
+    subst IsWithin (some_is _ request to.2) tt
+valued_within modes.Export given request e =
+    let file = from_provided given.file _ request e in
+    let text = from_provided given.horizon _ request file.2 in
+    let horizon = from_provided (number_from_zero text.0) _ request text.2 in
+    subst IsWithin (some_is _ request horizon.2) tt
+valued_within modes.Models given request e =
+    let file = from_provided given.file _ request e in
+    let count = from_provided (count_of given) _ request file.2 in
+    let budget = from_provided (budget_of given) _ request count.2 in
+    let form = from_provided (form_of given) _ request budget.2 in
+    subst IsWithin (some_is _ request form.2) (count_within given count.0 count.1, budget_within given budget.0 budget.1)
+valued_within modes.CheckModels given request e =
+    let file = from_provided given.file _ request e in
+    let log = from_provided given.log _ request file.2 in
+    subst IsWithin (some_is _ request log.2) tt
 
 asked_within : (mode : Mode) (given : Given) (request : Request) → asked_in mode given ≡ Some request → IsWithin request
 asked_within mode given request e = valued_within mode given request (from_suited (suits mode given) (valued mode given) request e)

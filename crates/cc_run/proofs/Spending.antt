@@ -1,5 +1,5 @@
 -- A budget that a search spends is small: it is less than the power of 3 to the number of open variables of its last section.
-use Rattle.std.proofs.Common.{◌≡◌, ℕ, zero, suc, Bool, true, false, List, [], ◌∷◌, ◌++◌, map, Option, Some, None, refl, subst, arith}
+use Rattle.std.proofs.Common.{◌≡◌, ℕ, zero, suc, Bool, true, false, List, [], ◌∷◌, ◌++◌, map, Option, Some, None, subst}
 use Rattle.std.specs.Prelude.{◌<◌, ◌≤◌, ◌^◌, flat_map, Contains, IfSome}
 use Rattle.std.specs.List.{AllByRecursion}
 use Rattle.std.proofs.lemmas.List.Elements.{Contains-append_left, Contains-append_right}
@@ -21,13 +21,8 @@ use Rattle.cc_query.specs.Accepted.{HaveGoodAxioms, lines_of}
 use Rattle.cc_query.specs.Laws.{SpentBudgetsAreSmall}
 use Rattle.cc_run.specs.Searching.{IsSpentEarly, axioms_in}
 use Rattle.cc_run.specs.Telling.{HasGoodLines, task_of}
+use Rattle.cc_run.proofs.GoodClauses.{in_first, in_rest}
 use Rattle.cc_run.proofs.Worth.{all_front, lines_both}
-
-in_first : {A : Type 0} (x : A) (xs : List A) → Contains (x ∷ xs) x
-in_first x xs = (0, omega arith, refl)
-
-in_rest : {A : Type 0} (x y : A) (xs : List A) → Contains xs y → Contains (x ∷ xs) y
-in_rest x y xs there = (suc there.0, (let low = there.1 in omega arith), there.2)
 
 -- ---- rows that were told
 
@@ -39,13 +34,13 @@ all_from : (P : List ℕ → Type 0) (rows : List (List ℕ)) → ((row : List �
 all_from P [] each = tt
 all_from P (row ∷ rows) each = (each row (in_first row rows), all_from P rows (λ r there. each r (in_rest row r rows there)))
 
-first_rows : (d : Description) (q : Query) (horizon : ℕ) (key : Option (List ℕ)) (section : Section) → AreFirst d q horizon key (rows_of section) →
+pub first_rows : (d : Description) (q : Query) (horizon : ℕ) (key : Option (List ℕ)) (section : Section) → AreFirst d q horizon key (rows_of section) →
     AllByRecursion (IsRow (sizes_at d horizon)) (denied_rows section)
 first_rows d q horizon key section first =
     all_front (IsRow (sizes_at d horizon)) (denied_rows section) (optional section.last)
     (all_from (IsRow (sizes_at d horizon)) (rows_of section) (λ row there. path_row d horizon row (first.each row there).path))
 
-no_rows : (sizes : List ℕ) (rows more : List (List ℕ)) → rows ++ more ≡ [] → AllByRecursion (IsRow sizes) rows
+pub no_rows : (sizes : List ℕ) (rows more : List (List ℕ)) → rows ++ more ≡ [] → AllByRecursion (IsRow sizes) rows
 no_rows sizes [] more none = tt
 no_rows sizes (row ∷ rows) more none = absurd cc
 

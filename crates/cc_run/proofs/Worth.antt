@@ -1,12 +1,10 @@
--- What the log of a search is worth: a checker accepts it up to the last horizon that was reported, and that of a complete listing.
-use Rattle.std.proofs.Common.{◌≡◌, ℕ, ◌≤◌, ◌⊎◌, Bool, not, List, [], ◌∷◌, ◌++◌, map, Option, Some, None, refl, sym, ap, subst, ◌∙◌, append-nil, arith, inl, inr}
-use Rattle.std.specs.Prelude.{flat_map, Contains, IfSome}
+-- The lines of the log of a search: formed, with good axioms at their headings, and within the limits.
+use Rattle.std.proofs.Common.{◌≡◌, ℕ, ◌≤◌, ◌⊎◌, Bool, not, List, [], ◌∷◌, ◌++◌, map, Option, None, refl, sym, ap, subst, arith, inl, inr}
+use Rattle.std.specs.Prelude.{Contains}
 use Rattle.std.specs.List.{AllByRecursion}
 use Rattle.std.proofs.lemmas.Grind.{flat_map-append}
 use Rattle.std.proofs.lemmas.List.{map-append}
-use Rattle.std.proofs.lemmas.List.Elements.{Contains-append_left, Contains-append_cases, Contains-push_cases}
-use Rattle.cc_defs.specs.declared.event.Ending.{Ending}
-use Rattle.cc_defs.specs.declared.event.Ending.TheVariants as endings
+use Rattle.std.proofs.lemmas.List.Elements.{Contains-append_left, Contains-append_right, Contains-append_cases, Contains-push_cases}
 use Rattle.cc_defs.specs.declared.event.Event.{Event}
 use Rattle.cc_defs.specs.declared.event.Event.TheVariants as events
 use Rattle.cc_defs.specs.declared.event.Told.{Told}
@@ -18,10 +16,10 @@ use Rattle.cc_defs.specs.Events.{line_told}
 use Rattle.cc_defs.specs.Limits.{most_histories}
 use Rattle.cc_defs.specs.LogTexts.{IsFormed}
 use Rattle.cc_defs.specs.Resolved.{Query}
-use Rattle.cc_defs.specs.Runs.{Ask, Horizon, Histories, Conditions, Claim, Failure, Run, IsFairRun, MayEnd, axioms_of, done_events, events_of, first_horizon, horizon_at, horizon_events, optional, told}
-use Rattle.cc_query.specs.Accepted.{AreGoodAxioms, IsReported, WrittenLogsAreAccepted, lines_of}
+use Rattle.cc_defs.specs.Runs.{Ask, axioms_of}
+use Rattle.cc_query.specs.Accepted.{AreGoodAxioms, lines_of}
 use Rattle.cc_query.specs.Sessions.{IsFewEvent, IsShortEvent, refusal_at, with_row}
-use Rattle.cc_run.specs.Searching.{AreLogsAccepted, KeepsLimits, only_reported}
+use Rattle.cc_run.specs.Searching.{KeepsLimits}
 use Rattle.cc_run.specs.Telling.{HasGoodLines, task_of}
 
 -- ---- lines behind others
@@ -33,7 +31,11 @@ pub all_front : {A : Type 0} (P : A → Type 0) (front more : List A) → AllByR
 all_front P [] more all = tt
 all_front P (x ∷ front) more all = (all.0, all_front P front more all.1)
 
-all_both : {A : Type 0} (P : A → Type 0) (front more : List A) → AllByRecursion P front → AllByRecursion P more → AllByRecursion P (front ++ more)
+all_behind : {A : Type 0} (P : A → Type 0) (front more : List A) → AllByRecursion P (front ++ more) → AllByRecursion P more
+all_behind P [] more all = all
+all_behind P (x ∷ front) more all = all_behind P front more all.1
+
+pub all_both : {A : Type 0} (P : A → Type 0) (front more : List A) → AllByRecursion P front → AllByRecursion P more → AllByRecursion P (front ++ more)
 all_both P [] more all rest = rest
 all_both P (x ∷ front) more all rest = (all.0, all_both P front more all.1 rest)
 
@@ -59,6 +61,11 @@ module _ (P : Bool → ℕ → Type 0) where
       subst (λ (l : List LogLine). AtHeadings P l) (lines_both front more) all conditions horizon
       (Contains-append_left (lines_of front) (lines_of more) (lines.Section conditions horizon) there)
 
+  headings_behind : (front more : List Told) → AtHeadings P (lines_of (front ++ more)) → AtHeadings P (lines_of more)
+  headings_behind front more all = λ conditions horizon there.
+      subst (λ (l : List LogLine). AtHeadings P l) (lines_both front more) all conditions horizon
+      (Contains-append_right (lines_of front) (lines_of more) (lines.Section conditions horizon) there)
+
   headings_both : (front more : List Told) → AtHeadings P (lines_of front) → AtHeadings P (lines_of more) → AtHeadings P (lines_of (front ++ more))
   headings_both front more one two = subst (λ (l : List LogLine). AtHeadings P l) (sym (lines_both front more))
       (λ conditions horizon there. either conditions horizon (Contains-append_cases (lines_of front) (lines_of more) (lines.Section conditions horizon) there))
@@ -75,17 +82,22 @@ module _ (P : Bool → ℕ → Type 0) where
       either conditions horizon (inl there) = none_in (lines.Section conditions horizon) there
       either conditions horizon (inr is) = heads conditions horizon (ap events.Log is)
 
-abbrev event_in : Told → Event
+abbrev pub event_in : Told → Event
 event_in one = one.event
 
 -- no history among these events is past the number that may be told at a horizon
-abbrev AreFew : List Event → Type 0
+abbrev pub AreFew : List Event → Type 0
 AreFew all = (horizon number : ℕ) → Contains all (events.History horizon number) → number ≤ most_histories
 
-few_front : (front more : List Told) → AreFew (map event_in (front ++ more)) → AreFew (map event_in front)
+pub few_front : (front more : List Told) → AreFew (map event_in (front ++ more)) → AreFew (map event_in front)
 few_front front more all = λ horizon number there.
     subst (λ (l : List Event). AreFew l) (map-append event_in front more) all horizon number
     (Contains-append_left (map event_in front) (map event_in more) (events.History horizon number) there)
+
+few_behind : (front more : List Told) → AreFew (map event_in (front ++ more)) → AreFew (map event_in more)
+few_behind front more all = λ horizon number there.
+    subst (λ (l : List Event). AreFew l) (map-append event_in front more) all horizon number
+    (Contains-append_right (map event_in front) (map event_in more) (events.History horizon number) there)
 
 few_both : (front more : List Told) → AreFew (map event_in front) → AreFew (map event_in more) → AreFew (map event_in (front ++ more))
 few_both front more one two = subst (λ (l : List Event). AreFew l) (sym (map-append event_in front more))
@@ -130,12 +142,20 @@ module _ (d : Description) (q : Query) (key : Option Key) where
   pub no_lines : HasGoodLines d q key []
   no_lines = silent [] refl (λ horizon number there. none_in (events.History horizon number) there)
 
-  front_good : (front more : List Told) → HasGoodLines d q key (front ++ more) → HasGoodLines d q key front
+  pub front_good : (front more : List Told) → HasGoodLines d q key (front ++ more) → HasGoodLines d q key front
   front_good front more all = record {
     formed = all_front IsFormed (lines_of front) (lines_of more) (subst (λ (l : List LogLine). AllByRecursion IsFormed l) (lines_both front more) all.formed);
     good = headings_front (IsGoodAt d q key) front more all.good;
     opened = headings_front (IsOpenedAt d q key) front more all.opened;
     few = few_front front more all.few;
+  }
+
+  pub behind_good : (front more : List Told) → HasGoodLines d q key (front ++ more) → HasGoodLines d q key more
+  behind_good front more all = record {
+    formed = all_behind IsFormed (lines_of front) (lines_of more) (subst (λ (l : List LogLine). AllByRecursion IsFormed l) (lines_both front more) all.formed);
+    good = headings_behind (IsGoodAt d q key) front more all.good;
+    opened = headings_behind (IsOpenedAt d q key) front more all.opened;
+    few = few_behind front more all.few;
   }
 
   pub more_good : (front more : List Told) → HasGoodLines d q key front → HasGoodLines d q key more → HasGoodLines d q key (front ++ more)
@@ -164,43 +184,6 @@ module _ (d : Description) (q : Query) (key : Option Key) where
   pub next_good : (given : List Told) (event : Event) (row : List ℕ) → HasGoodLines d q key given → IsGoodEvent d q key event →
       HasGoodLines d q key (given ++ with_row event row ∷ [])
   next_good given event row so_far is = more_good given (with_row event row ∷ []) so_far (event_good event row is)
-
--- ---- which runs are reported
-
-module _ (d : Description) (q : Query) (ask : Ask) (run : Run) where
-  complete_within : (at : ℕ) (next : Option Horizon) (horizon listed : ℕ) → run.next ≡ next → MayEnd q ask at run next (endings.Complete horizon listed) → IsReported run
-  complete_within at None horizon listed is may = absurd may.1
-  complete_within at (Some (Histories section)) horizon listed is may = inr (section, is, may.2)
-  complete_within at (Some (Conditions section)) horizon listed is may = absurd may
-  complete_within at (Some (Claim conditions claim)) horizon listed is may = absurd may
-  complete_within at (Some (Failure conditions claim row)) horizon listed is may = absurd may
-
-  complete_reported : (horizon listed : ℕ) → IsFairRun d q ask run → run.ending ≡ Some (endings.Complete horizon listed) → IsReported run
-  complete_reported horizon listed fair is =
-      let at = horizon_at (first_horizon q ask.after) run in
-      let may : IfSome (Some (endings.Complete horizon listed)) (MayEnd q ask at run run.next) =
-      subst (λ (e : Option Ending). IfSome e (MayEnd q ask at run run.next)) is fair.ending in
-      complete_within at run.next horizon listed refl may
-
-  -- the horizons that were reported are a run of their own
-  reported_fair : IsFairRun d q ask run → IsFairRun d q ask (only_reported run)
-  reported_fair fair = record { done = fair.done; next = tt; within = fair.within; ending = tt }
-
-  reported_good : (first : ℕ) → HasGoodLines d q ask.after (events_of first run) → HasGoodLines d q ask.after (events_of first (only_reported run))
-  reported_good first all =
-      let done = done_events first run.done in
-      let next = flat_map (horizon_events (horizon_at first run)) (optional run.next) in
-      let ends = map (λ (e : Ending). told (events.Ended e)) (optional run.ending) in
-      subst (λ (l : List Told). HasGoodLines d q ask.after l) (sym (append-nil (done ++ []) ∙ append-nil done))
-      (front_good d q ask.after done next (front_good d q ask.after (done ++ next) ends all))
-
-  pub logs_accepted : WrittenLogsAreAccepted → IsFairRun d q ask run → HasGoodLines d q ask.after (events_of (first_horizon q ask.after) run) → AreLogsAccepted (task_of d q ask) run
-  logs_accepted law fair all = record {
-    reported = λ some.
-        let lines = reported_good (first_horizon q ask.after) all in
-        law d q ask (only_reported run) (reported_fair fair) (inl (refl, some)) lines.formed lines.good;
-    complete = λ horizon listed is. law d q ask run fair (complete_reported horizon listed fair is) all.formed all.good;
-  }
 
 -- a search that tells these events keeps to the limits
 pub keeps_limits : (d : Description) (q : Query) (ask : Ask) (events_told : List Told) → HasGoodLines d q ask.after events_told → KeepsLimits (task_of d q ask) events_told

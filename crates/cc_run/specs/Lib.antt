@@ -1,8 +1,12 @@
 pub mod Answers
 pub mod Asking
+pub mod CnfForms
 pub mod Codes
+pub mod Converted
 pub mod Explained
+pub mod Exported
 pub mod Laws
+pub mod ModelsTold
 pub mod Modes
 pub mod Names
 pub mod Promises

@@ -36,19 +36,19 @@ pub record OpensAsked (files : Files) (request : Option Request) (status : Statu
   pub first : AreFirstNames names all
   pub whole : IsAnswer status → names ≡ all
 
--- the name of the log that a request begins
-abbrev pub log_named : Option Request → Option Text
-log_named None = None
-log_named (Some request) = (promise_of request).begins
+-- the name of the log that a request begins where its run ends so
+abbrev pub log_named : Option Request → Status → Option Text
+log_named None status = None
+log_named (Some request) status = (promise_of request).begins status
 
--- whether it begins one
+-- whether it may begin one: where what is asked for is done
 abbrev pub names_log : Option Request → Bool
-names_log request = is_some (log_named request)
+names_log request = is_some (log_named request statuses.Right)
 
-abbrev pub log_asked : Option Request → List Text
-log_asked request = optional (log_named request)
+abbrev pub log_asked : Option Request → Status → List Text
+log_asked request status = optional (log_named request status)
 
--- A run begins no other log than that, once; and where it has an answer, that one.
+-- A run begins no other log than that, once; and where it has an answer, the one that this answer has.
 pub record BeginsAsked (request : Option Request) (status : Status) (names : List Text) : Type 0 where
-  pub first : AreFirstNames names (log_asked request)
-  pub whole : IsAnswer status → names ≡ log_asked request
+  pub first : AreFirstNames names (log_asked request statuses.Right)
+  pub whole : IsAnswer status → names ≡ log_asked request status

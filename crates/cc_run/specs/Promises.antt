@@ -25,7 +25,7 @@ pub record Promise : Type 1 where
   pub Gives : Files → Whole → Type 0
   -- the files that it opens, in their order
   pub Opens : Files → List Text → Type 0
-  -- the name of the log that it begins
-  pub begins : Option Text
+  -- the name of the log that it begins where it ends so
+  pub begins : Status → Option Text
   -- the statuses with which it may end
   pub MayEnd : Status → Type 0

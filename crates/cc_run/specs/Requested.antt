@@ -7,8 +7,8 @@ use Rattle.cc_describe.specs.Describing.{Describes, HasStopped, OpensFor}
 use Rattle.cc_describe.specs.Places.{Files}
 use Rattle.cc_ports.specs.Contents.{Rose, with_rest}
 use Rattle.cc_run.specs.Stops.{Called, IsCalm, Moment}
-use Rattle.cc_run.specs.Tasks.{Named, made_files, made_named, named_by, named_in, named_to}
-use Rattle.cc_words.specs.Requests.{Request, ToList, ToCheck, ToMake, ToExplain}
+use Rattle.cc_run.specs.Tasks.{Named, checked_by, made_files, made_named, named_alone, named_by, named_from, named_in, named_to}
+use Rattle.cc_words.specs.Requests.{Request, ToList, ToCheck, ToMake, ToExplain, ToConvert, ToExport, ToModel, ToCheckModels}
 use Rattle.cc_words.specs.Words.{Text}
 
 -- the description, the query and the key that it names
@@ -17,6 +17,10 @@ named_of (ToList listing) = named_by listing
 named_of (ToCheck checking) = named_in checking
 named_of (ToMake size budget) = made_named
 named_of (ToExplain explaining) = named_to explaining
+named_of (ToConvert converting) = named_in (checked_by converting)
+named_of (ToExport exporting) = named_from exporting
+named_of (ToModel modelling) = named_alone modelling.file
+named_of (ToCheckModels checking) = named_alone checking.file
 
 -- the files that the description is read from
 abbrev pub source_of : Request → Files → Files
@@ -24,6 +28,10 @@ source_of (ToList listing) files = files
 source_of (ToCheck checking) files = files
 source_of (ToMake size budget) files = made_files size
 source_of (ToExplain explaining) files = files
+source_of (ToConvert converting) files = files
+source_of (ToExport exporting) files = files
+source_of (ToModel modelling) files = files
+source_of (ToCheckModels checking) files = files
 
 -- the file of the description, where one is named
 abbrev pub IsFileOf : Request → Text → Type 0
@@ -31,13 +39,32 @@ IsFileOf (ToList listing) file = file ≡ listing.file
 IsFileOf (ToCheck checking) file = file ≡ checking.file
 IsFileOf (ToMake size budget) file = ⊥
 IsFileOf (ToExplain explaining) file = file ≡ explaining.file
+IsFileOf (ToConvert converting) file = file ≡ converting.file
+IsFileOf (ToExport exporting) file = file ≡ exporting.file
+IsFileOf (ToModel modelling) file = ⊥
+IsFileOf (ToCheckModels checking) file = ⊥
 
--- it asks a query of the description
+-- a description is read for it
+abbrev pub AsksDescription : Request → Type 0
+AsksDescription (ToList listing) = Unit {0}
+AsksDescription (ToCheck checking) = Unit {0}
+AsksDescription (ToMake size budget) = Unit {0}
+AsksDescription (ToExplain explaining) = Unit {0}
+AsksDescription (ToConvert converting) = Unit {0}
+AsksDescription (ToExport exporting) = Unit {0}
+AsksDescription (ToModel modelling) = ⊥
+AsksDescription (ToCheckModels checking) = ⊥
+
+-- It asks a query of the description, and is refused just as its steps and its key are. An export is refused for its horizon besides.
 abbrev pub AsksQuery : Request → Type 0
 AsksQuery (ToList listing) = Unit {0}
 AsksQuery (ToCheck checking) = Unit {0}
 AsksQuery (ToMake size budget) = Unit {0}
 AsksQuery (ToExplain explaining) = ⊥
+AsksQuery (ToConvert converting) = Unit {0}
+AsksQuery (ToExport exporting) = ⊥
+AsksQuery (ToModel modelling) = ⊥
+AsksQuery (ToCheckModels checking) = ⊥
 
 -- its numbers are within their bounds
 abbrev pub IsWithin : Request → Type 0
@@ -45,6 +72,10 @@ IsWithin (ToList listing) = IfSome listing.count (λ count. 1 ≤ count) × (lis
 IsWithin (ToCheck checking) = Unit {0}
 IsWithin (ToMake size budget) = (1 ≤ size) × (budget ≤ 2000000)
 IsWithin (ToExplain explaining) = Unit {0}
+IsWithin (ToConvert converting) = Unit {0}
+IsWithin (ToExport exporting) = Unit {0}
+IsWithin (ToModel modelling) = IfSome modelling.count (λ count. 1 ≤ count) × (modelling.budget ≤ 2000000)
+IsWithin (ToCheckModels checking) = Unit {0}
 
 -- the files that it opens behind those of the description
 abbrev pub opens_behind : Request → List Text
@@ -52,6 +83,10 @@ opens_behind (ToList listing) = []
 opens_behind (ToCheck checking) = checking.log ∷ []
 opens_behind (ToMake size budget) = []
 opens_behind (ToExplain explaining) = []
+opens_behind (ToConvert converting) = converting.log ∷ []
+opens_behind (ToExport exporting) = []
+opens_behind (ToModel modelling) = []
+opens_behind (ToCheckModels checking) = checking.log ∷ []
 
 -- these files are opened to read the description
 abbrev pub OpensDescription : Request → Files → Result Described DescribeStop → List Text → Type 0
@@ -59,6 +94,10 @@ OpensDescription (ToList listing) files described names = OpensFor files listing
 OpensDescription (ToCheck checking) files described names = OpensFor files checking.file described names
 OpensDescription (ToMake size budget) files described names = names ≡ []
 OpensDescription (ToExplain explaining) files described names = OpensFor files explaining.file described names
+OpensDescription (ToConvert converting) files described names = OpensFor files converting.file described names
+OpensDescription (ToExport exporting) files described names = OpensFor files exporting.file described names
+OpensDescription (ToModel modelling) files described names = names ≡ []
+OpensDescription (ToCheckModels checking) files described names = names ≡ []
 
 -- the description of a request was read, or it was not
 pub record Reads (request : Request) (described : Result Described DescribeStop) (old new : Moment) : Type 0 where

@@ -7,13 +7,15 @@ use Rattle.cc_defs.specs.declared.event.Told.{Told}
 use Rattle.cc_defs.specs.declared.event.Event.TheVariants as events
 use Rattle.cc_defs.specs.declared.log.EndWord.TheVariants as words
 use Rattle.cc_defs.specs.declared.log.LogLine.TheVariants as lines
+use Rattle.cc_defs.specs.declared.log.Version.{Version}
 use Rattle.cc_defs.specs.declared.refusal.LimitAt.TheVariants as limits
 use Rattle.cc_defs.specs.declared.refusal.Refusal.{Refusal}
 use Rattle.cc_defs.specs.Assignments.{HasOpen}
 use Rattle.cc_defs.specs.Description.{Description}
 use Rattle.cc_defs.specs.Events.{out_text, log_of}
 use Rattle.cc_defs.specs.Limits.{most_histories}
-use Rattle.cc_defs.specs.LogTexts.{IsFormed}
+use Rattle.cc_defs.specs.LogTexts.{IsFormed, header}
+use Rattle.cc_defs.specs.LogVersions.{header_of, log_in}
 use Rattle.cc_defs.specs.Logs.{IsAccepted}
 use Rattle.cc_defs.specs.Refusals.{past}
 use Rattle.cc_defs.specs.Runs.{Horizon, Histories, Conditions, Claim, Failure, Run, EndsWith, IsFairRun, axioms_of, events_of, first_horizon, horizon_at, last_horizon}
@@ -76,19 +78,48 @@ pub record KeepsLimits (task : Task) (told : List Told) : Type 0 where
   pub few : (horizon number : ℕ) → Contains (map (λ one. one.event) told) (events.History horizon number) → number ≤ most_histories
   pub formed : AllByRecursion IsFormed (lines_of told)
 
+-- ---- how a search is told
+
+-- To Out each event as it comes, with a log in this version, where a section has so many axioms; or a summary at the end, as that of a
+-- made description of a size, with a log in version 1.
+pub data Manner : Type 0 where
+  OneByOne : Version → (counts : Bool → ℕ → ℕ) → Manner
+  Summed : (size : ℕ) → Manner
+
+-- a summary, where a search has ended
+abbrev pub summed : ℕ → List Told → List Ending → List ℕ
+summed size told [] = []
+summed size told (ending ∷ others) = summary size told
+
+-- what a search gives to Out
+abbrev pub out_told : Manner → Description → List Told → List ℕ
+out_told (OneByOne version counts) d told = out_text d told
+out_told (Summed size) d told = summed size told (endings_told told)
+
+-- and to Log
+abbrev pub log_told : Manner → List Told → List ℕ
+log_told (OneByOne version counts) told = log_in version counts (lines_of told)
+log_told (Summed size) told = log_of told
+
+-- how that begins
+abbrev pub header_told : Manner → List ℕ
+header_told (OneByOne version counts) = header_of version
+header_told (Summed size) = header
+
 -- ---- what the log is worth
 
 -- the horizons that a run reported to have no history, and nothing else of it
 abbrev pub only_reported : Run → Run
 only_reported run = record { done = run.done; next = None; ending = None }
 
-abbrev pub IsLogAccepted : Task → Run → Type 0
-IsLogAccepted task run = IsAccepted (subject_of task.description task.query task.ask.after) (log_of (told_by task run))
+-- the log that is written of a run
+abbrev pub IsLogAccepted : Manner → Task → Run → Type 0
+IsLogAccepted manner task run = IsAccepted (subject_of task.description task.query task.ask.after) (log_told manner (told_by task run))
 
 -- A checker accepts the log up to the last horizon that was reported to have no history, and that of a complete listing.
-pub record AreLogsAccepted (task : Task) (run : Run) : Type 0 where
-  pub reported : 0 < length run.done → IsLogAccepted task (only_reported run)
-  pub complete : (horizon listed : ℕ) → run.ending ≡ Some (endings.Complete horizon listed) → IsLogAccepted task run
+pub record AreLogsAccepted (manner : Manner) (task : Task) (run : Run) : Type 0 where
+  pub reported : 0 < length run.done → IsLogAccepted manner task (only_reported run)
+  pub complete : (horizon listed : ℕ) → run.ending ≡ Some (endings.Complete horizon listed) → IsLogAccepted manner task run
 
 -- the axioms of the last section that is told of a horizon
 abbrev pub axioms_in : Task → ℕ → Horizon → Axioms
@@ -102,22 +133,7 @@ abbrev pub IsSpentEarly : Task → Run → Type 0
 IsSpentEarly task run = (at listed : ℕ) (next : Horizon) (opens : ℕ) → run.ending ≡ Some (endings.Spent at listed) → run.next ≡ Some next →
     HasOpen (axioms_in task at next).variables (axioms_in task at next).clauses opens → task.ask.budget < 3 ^ opens
 
--- ---- how a search is told
-
--- to Out each event as it comes, or a summary at the end, as that of a made description of a size
-pub data Manner : Type 0 where
-  OneByOne : Manner
-  Summed : (size : ℕ) → Manner
-
--- a summary, where a search has ended
-abbrev pub summed : ℕ → List Told → List Ending → List ℕ
-summed size told [] = []
-summed size told (ending ∷ others) = summary size told
-
--- what a search gives to Out
-abbrev pub out_told : Manner → Description → List Told → List ℕ
-out_told OneByOne d told = out_text d told
-out_told (Summed size) d told = summed size told (endings_told told)
+-- ---- a run of the search
 
 -- how a search ends: with its ending, or with the refusal of the limit that it passes; or it has not ended yet
 abbrev pub EndsSo : Task → Run → (err : List ℕ) → Option Status → Type 0
@@ -130,8 +146,8 @@ EndsSo task run err (Some status) =
 pub record IsTold (manner : Manner) (task : Task) (run : Run) (whole : Whole) : Type 0 where
   pub fair : IsFairRun task.description task.query task.ask run
   pub out : whole.given.out ≡ out_told manner task.description (told_by task run)
-  pub log : whole.given.log ≡ log_of (told_by task run)
+  pub log : whole.given.log ≡ log_told manner (told_by task run)
   pub limits : KeepsLimits task (told_by task run)
-  pub accepted : AreLogsAccepted task run
+  pub accepted : AreLogsAccepted manner task run
   pub spent : IsSpentEarly task run
   pub ends : EndsSo task run whole.given.err whole.ends

@@ -3,10 +3,13 @@ use Rattle.std.specs.Prelude.{◌≡◌, ℕ, ◌⊎◌, ◌≤◌, Bool, true, 
 use Rattle.cc_defs.specs.declared.event.Event.{Event}
 use Rattle.cc_defs.specs.declared.event.Event.TheVariants as events
 use Rattle.cc_defs.specs.declared.event.Told.{Told}
+use Rattle.cc_defs.specs.declared.log.LogLine.{LogLine}
+use Rattle.cc_defs.specs.declared.log.Version.{Version}
 use Rattle.cc_defs.specs.Conditions.{IsSignatureOfDescription}
 use Rattle.cc_defs.specs.Description.{Description, sizes_at}
-use Rattle.cc_defs.specs.Events.{line_told}
+use Rattle.cc_defs.specs.Events.{line_told, out_text}
 use Rattle.cc_defs.specs.LogTexts.{line_text}
+use Rattle.cc_defs.specs.LogVersions.{line_bytes, lines_bytes, own_behind}
 use Rattle.cc_defs.specs.Rows.{IsRow}
 use Rattle.cc_defs.specs.Runs.{Run}
 use Rattle.cc_defs.specs.Signatures.{Signature}
@@ -15,6 +18,7 @@ use Rattle.cc_ports.specs.Calls.{Call, names_begun, names_opened, with_calls}
 use Rattle.cc_ports.specs.Contents.{Contents, IsPrefix, Rose}
 use Rattle.cc_ports.specs.declared.desk.To.{To}
 use Rattle.cc_ports.specs.declared.desk.To.TheVariants as outputs
+use Rattle.cc_query.specs.Accepted.{lines_of}
 use Rattle.cc_run.specs.declared.status.Status.{Status}
 use Rattle.cc_run.specs.declared.status.Status.TheVariants as statuses
 use Rattle.cc_run.specs.declared.status.Stop.{Stop}
@@ -83,15 +87,29 @@ pub record Step {X : Type 0} (whole : Given) (old new : Moment) (result : Result
 
 -- the lines of a log that events make, without the header
 abbrev pub lines_text : List Told → List ℕ
-lines_text told = flat_map line_text (flat_map (λ one. line_told one.event) told)
+lines_text told = flat_map line_text (lines_of told)
+
+abbrev pub lines_told : Manner → List Told → List ℕ
+lines_told (OneByOne version counts) told = lines_bytes version counts 1 (lines_of told)
+lines_told (Summed size) told = lines_text told
 
 -- what events give
 abbrev pub texts_of : Manner → Description → List Told → Given
-texts_of manner d told = record { out = out_told manner d told; err = []; log = lines_text told }
+texts_of manner d told = record { out = out_told manner d told; err = []; log = lines_told manner told }
+
+-- the number of the next clause behind lines
+abbrev pub own_after : (counts : Bool → ℕ → ℕ) → ℕ → List LogLine → ℕ
+own_after counts own [] = own
+own_after counts own (line ∷ others) = own_after counts (own_behind counts own line) others
+
+-- what an event gives by itself, where the own clause of its line has this number
+abbrev pub texts_at : Version → ℕ → Description → Told → Given
+texts_at version own d told =
+    record { out = out_text d (told ∷ []); err = []; log = flat_map (line_bytes version own) (line_told told.event) }
 
 -- what one more event gives behind others, with which the search has not ended
 abbrev pub texts_behind : Manner → Description → List Told → Told → Given
-texts_behind OneByOne d before told = texts_of OneByOne d (told ∷ [])
+texts_behind (OneByOne version counts) d before told = texts_at version (own_after counts 1 (lines_of before)) d told
 texts_behind (Summed size) d before told = record { out = out_told (Summed size) d (before ++ told ∷ []); err = []; log = lines_text (told ∷ []) }
 
 -- the row of a history or a counterexample is one of its horizon
@@ -154,13 +172,13 @@ outcome (Ok status) = status
 outcome (Err stop) = stop_status stop
 
 -- Of the names that are to be opened and begun none is left out before another; and where there is an answer, none at all.
-pub record Asks (opens begins : List Text) (old new : Moment) (result : Result Status Stop) : Type 0 where
+pub record Asks (opens : List Text) (begins : Status → List Text) (old new : Moment) (result : Result Status Stop) : Type 0 where
   pub opened : List Text
   pub begun : List Text
   pub called : Called opened begun old new
   pub opened_first : AreFirstNames opened opens
-  pub begun_first : AreFirstNames begun begins
-  pub whole : IsAnswer (outcome result) → (opened ≡ opens) × (begun ≡ begins)
+  pub begun_first : AreFirstNames begun (begins statuses.Right)
+  pub whole : IsAnswer (outcome result) → (opened ≡ opens) × (begun ≡ begins (outcome result))
 
 -- a run up to its end, or to its stop with its cause, which has these files to open
 pub record Prints (words : List Text) (begins : Bool) (opens : List Text) (old new : Moment) (result : Result Status Stop) : Type 0 where

@@ -19,7 +19,7 @@ use Rattle.cc_make.specs.Locks.{made_text}
 use Rattle.cc_make.specs.Single.{each_is}
 use Rattle.cc_print.specs.Keys.{IsKeyText}
 use Rattle.cc_words.specs.Readings.{reading}
-use Rattle.cc_words.specs.Requests.{Checking, Explaining, Listing, Request, asked_of}
+use Rattle.cc_words.specs.Requests.{Checking, Converting, Explaining, Exporting, Listing, Request, asked_of}
 use Rattle.cc_words.specs.Words.{Text}
 
 -- ---- what is named
@@ -43,6 +43,17 @@ named_in checking = record { file = checking.file; query = checking.query; after
 -- a description alone
 abbrev pub named_to : Explaining → Named
 named_to explaining = record { file = explaining.file; query = None; after = None }
+
+-- what is read and judged before it is converted
+abbrev pub checked_by : Converting → Checking
+checked_by converting = record { file = converting.file; query = converting.query; after = converting.after; log = converting.log }
+
+abbrev pub named_from : Exporting → Named
+named_from exporting = record { file = exporting.file; query = exporting.query; after = None }
+
+-- a file that no description is read from
+abbrev pub named_alone : Text → Named
+named_alone file = record { file = file; query = None; after = None }
 
 -- A made description of this size is read from files that are all it; it asks one query.
 abbrev pub made_files : ℕ → Files

@@ -1,27 +1,30 @@
 -- What is told of one event of a search, and how a search goes on behind what it told before.
-use Rattle.std.specs.Prelude.{◌≡◌, ℕ, ◌≤◌, Bool, not, List, [], ◌∷◌, ◌++◌, map, Contains, Option, Some, None, Result, Ok, Err}
+use Rattle.std.specs.Prelude.{◌≡◌, ℕ, ◌≤◌, Bool, not, length, List, [], ◌∷◌, ◌++◌, map, Contains, Option, Some, None, Result, Ok, Err}
 use Rattle.std.specs.List.{AllByRecursion}
+use Rattle.cc_check.specs.Entries.{HasShortLists, NamesBefore}
 use Rattle.cc_asked.specs.Descriptions.{IsDescriptionOf}
 use Rattle.cc_defs.specs.declared.event.Event.{Event}
 use Rattle.cc_defs.specs.declared.event.Event.TheVariants as events
 use Rattle.cc_defs.specs.declared.event.Told.{Told}
 use Rattle.cc_defs.specs.declared.lists.Key.{Key}
+use Rattle.cc_defs.specs.declared.log.LogLine.{LogLine}
 use Rattle.cc_defs.specs.declared.log.LogLine.TheVariants as lines
 use Rattle.cc_defs.specs.Description.{Description}
-use Rattle.cc_defs.specs.Limits.{most_histories}
-use Rattle.cc_defs.specs.LogTexts.{IsFormed, header}
+use Rattle.cc_defs.specs.Limits.{most_clauses, most_histories}
+use Rattle.cc_defs.specs.LogTexts.{IsFormed}
+use Rattle.cc_defs.specs.LogVersions.{counts_in}
 use Rattle.cc_defs.specs.Resolved.{Query}
-use Rattle.cc_defs.specs.Runs.{Ask}
+use Rattle.cc_defs.specs.Runs.{Ask, axioms_of}
 use Rattle.cc_describe.specs.declared.description.Described.{Described}
 use Rattle.cc_print.specs.Summaries.{empty_horizons, endings_told}
-use Rattle.cc_query.specs.Accepted.{HaveGoodAxioms, lines_of}
+use Rattle.cc_query.specs.Accepted.{HaveGoodAxioms, lines_of, subject_of}
 use Rattle.cc_query.specs.Sessions.{After, HasMore, IsSame, IsSessionOf, SessionView, refusal_at}
 use Rattle.cc_run.specs.declared.status.Status.{Status}
 use Rattle.cc_run.specs.declared.status.Stop.{Stop}
 use Rattle.cc_run.specs.declared.telling.Teller.{Teller}
 use Rattle.cc_run.specs.declared.telling.Teller.TheVariants as tellers
-use Rattle.cc_run.specs.Searching.{Manner, OneByOne, Summed, status_of}
-use Rattle.cc_run.specs.Stops.{Moment, Moves, Searches, texts_behind, texts_of}
+use Rattle.cc_run.specs.Searching.{Manner, OneByOne, Summed, header_told, status_of}
+use Rattle.cc_run.specs.Stops.{Moment, Moves, Searches, own_after, texts_behind, texts_of}
 use Rattle.cc_run.specs.Tasks.{Task}
 use Rattle.cc_run.specs.Wholes.{Given, joined, only_log}
 
@@ -51,20 +54,55 @@ pub record HasGoodLines (d : Description) (q : Query) (key : Option Key) (told :
       refusal_at d q horizon (not conditions) key ≡ None
   pub few : (horizon number : ℕ) → Contains (map (λ one. one.event) told) (events.History horizon number) → number ≤ most_histories
 
+-- ---- the numbers of clauses
+
+-- how many axioms each section of a query has, after a key
+abbrev pub counts_of : Description → Query → Option Key → Bool → ℕ → ℕ
+counts_of d q key = counts_in (subject_of d q key)
+
+-- so many axioms has the section whose heading an event is
+abbrev pub IsCounted : (counts : Bool → ℕ → ℕ) → Event → ℕ → Type 0
+IsCounted counts event axioms = (conditions : Bool) (horizon : ℕ) → event ≡ events.Log (lines.Section conditions horizon) → axioms ≡ counts conditions horizon
+
+-- they are not more than there may be: this is known of some description and query that the session is of
+abbrev pub HasFewAxioms : SessionView → Event → Type 0
+HasFewAxioms session event =
+    (d : Description) × (q : Query) × (given : List Told) × After d q session given
+    × ((conditions : Bool) (horizon : ℕ) → event ≡ events.Log (lines.Section conditions horizon) →
+    length ((axioms_of d q session.ask.after conditions horizon).clauses) ≤ most_clauses)
+
+-- a line that version 2 can say, where its own clause has this number
+abbrev pub IsWritable : ℕ → LogLine → Type 0
+IsWritable own line = (own ≤ 999999999) × HasShortLists line × NamesBefore own line
+
+abbrev pub IsWritableEvent : ℕ → Event → Type 0
+IsWritableEvent own (events.Log line) = IsWritable own line
+IsWritableEvent own (events.NoHistory horizon) = Unit {0}
+IsWritableEvent own (events.History horizon number) = Unit {0}
+IsWritableEvent own (events.NoConditions horizon) = Unit {0}
+IsWritableEvent own (events.Holds horizon) = Unit {0}
+IsWritableEvent own (events.Counterexample horizon) = Unit {0}
+IsWritableEvent own (events.Ended ending) = Unit {0}
+
 -- ---- how events are told
 
-abbrev pub manner_of : Teller → Manner
-manner_of tellers.OneByOne = OneByOne
-manner_of (tellers.Summed size outcome) = Summed size
+-- a section has so many axioms
+abbrev pub manner_of : (counts : Bool → ℕ → ℕ) → Teller → Manner
+manner_of counts (tellers.OneByOne version own) = OneByOne version counts
+manner_of counts (tellers.Summed size outcome) = Summed size
+
+abbrev pub IsWritableBy : Teller → Event → Type 0
+IsWritableBy (tellers.OneByOne version own) event = IsWritableEvent own event
+IsWritableBy (tellers.Summed size outcome) event = Unit {0}
 
 -- these events have the summary of those
 abbrev pub SumUp : List Told → List Told → Type 0
 SumUp outcome told = (empty_horizons outcome ≡ empty_horizons told) × (endings_told outcome ≡ endings_told told)
 
 -- What a teller keeps is right for the events that were told, with which the search has not ended.
-abbrev pub KeepsUp : Teller → List Told → Type 0
-KeepsUp tellers.OneByOne told = Unit {0}
-KeepsUp (tellers.Summed size outcome) told = SumUp outcome.items told × (endings_told told ≡ [])
+abbrev pub KeepsUp : (counts : Bool → ℕ → ℕ) → Teller → List Told → Type 0
+KeepsUp counts (tellers.OneByOne version own) told = own ≡ own_after counts 1 (lines_of told)
+KeepsUp counts (tellers.Summed size outcome) told = SumUp outcome.items told × (endings_told told ≡ [])
 
 -- one event more of it was told
 pub record TellsOne (manner : Manner) (d : Description) (q : Query) (given : List Told) (teller : Teller) (session : SessionView) (old new : Moment) : Type 0 where
@@ -72,12 +110,12 @@ pub record TellsOne (manner : Manner) (d : Description) (q : Query) (given : Lis
   pub is : IsSessionOf session d q
   pub after : After d q session (given ++ told ∷ [])
   pub lines : HasGoodLines d q session.ask.after (given ++ told ∷ [])
-  pub keeps : KeepsUp teller (given ++ told ∷ [])
+  pub keeps : KeepsUp (counts_of d q session.ask.after) teller (given ++ told ∷ [])
   pub moves : Moves {X = Option Status} (texts_behind manner d given told) old new (Ok None)
 
 -- what a search gave that told these events
 abbrev pub so_far : Manner → Description → List Told → Given
-so_far manner d given = joined (only_log header) (texts_of manner d given)
+so_far manner d given = joined (only_log (header_told manner)) (texts_of manner d given)
 
 -- behind these events a session tells the next one, or it is done
 abbrev pub GoesOn : Manner → Description → Query → List Told → Teller → SessionView → SessionView → Moment → Moment → Result (Option Status) Stop → Type 0
@@ -93,20 +131,20 @@ pub record ListedSoFar (manner : Manner) (d : Description) (q : Query) (teller :
   pub is : IsSessionOf session d q
   pub after : After d q session given
   pub lines : HasGoodLines d q session.ask.after given
-  pub keeps : KeepsUp teller given
+  pub keeps : KeepsUp (counts_of d q session.ask.after) teller given
   pub moves : Moves {X = Unit {0}} (texts_of manner d given) old new (Ok tt)
 
 -- there are a description and a query of which it is a session, and events that it told
 abbrev pub IsOfSome : Described → Teller → SessionView → Type 0
 IsOfSome described teller session =
     (d : Description) × (q : Query) × (given : List Told) × IsDescriptionOf described d × IsSessionOf session d q × After d q session given
-    × HasGoodLines d q session.ask.after given × KeepsUp teller given
+    × HasGoodLines d q session.ask.after given × KeepsUp (counts_of d q session.ask.after) teller given
 
--- a search that is still on
-pub record IsListing (described : Described) (manner : Manner) (entry : SessionView) (teller : Teller) (session : SessionView) (old new : Moment) : Type 0 where
-  pub manner_is : manner_of teller ≡ manner
+-- a search that is still on, which this teller began
+pub record IsListing (described : Described) (begun : Teller) (entry : SessionView) (teller : Teller) (session : SessionView) (old new : Moment) : Type 0 where
+  pub manner_is : (counts : Bool → ℕ → ℕ) → manner_of counts teller ≡ manner_of counts begun
   pub same : IsSame entry session
   pub more : HasMore session
   pub of : IsOfSome described teller session
   pub so_far : (d : Description) (q : Query) → IsDescriptionOf described d → IsSessionOf entry d q → After d q entry [] →
-      ListedSoFar manner d q teller session old new
+      ListedSoFar (manner_of (counts_of d q entry.ask.after) begun) d q teller session old new

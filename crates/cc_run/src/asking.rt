@@ -61,7 +61,7 @@ fn labelled<'q>(queries: &'q [Query], label: &str) -> Option<&'q Query>
 }
 
 /// The first query with the label; without a label, the first one.
-fn query_named<'q>(queries: &'q [Query], label: Option<&str>) -> Option<&'q Query>
+pub(crate) fn query_named<'q>(queries: &'q [Query], label: Option<&str>) -> Option<&'q Query>
     ensures { option_map (λ query. plain_query query.now) result ≡ tasks.query_named (plain_text label.entry) (map plain_query queries.now) }
 {
     match label {

@@ -3,6 +3,7 @@
 
 mod asking;
 mod causes;
+mod cnfs;
 pub mod laws;
 mod modes;
 mod refusing;

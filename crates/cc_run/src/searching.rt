@@ -1,36 +1,35 @@
 //! A search, told event by event: what all modes that search share.
-ghost use Rattle.std.specs.Prelude.{◌≡◌, ◌<◌, ◌≤◌, List, ◌∷◌, ◌++◌, [], IfOk, IfSome, IsNone, Some, is_some};
+ghost use Rattle.std.specs.Prelude.{◌≡◌, ◌<◌, ◌≤◌, ℕ, Bool, List, ◌∷◌, ◌++◌, [], IfOk, IfSome, IsNone, Some, is_some};
 ghost use Rattle.cc_arena.specs.GroundViews.{plain_ground_query};
 ghost use Rattle.cc_asked.specs.Descriptions.{IsDescriptionOf};
 ghost use Rattle.cc_defs.specs.Description.{Description};
 ghost use Rattle.cc_defs.specs.declared.event.Told.{Told};
-ghost use Rattle.cc_defs.specs.LogTexts.{header};
+ghost use Rattle.cc_defs.specs.Limits.{most_clauses};
 ghost use Rattle.cc_defs.specs.Runs.{optional};
 ghost use Rattle.cc_defs.specs.Resolved.{Query as QueryAsked};
 ghost use Rattle.cc_query.specs.Lefts.{left_of};
-ghost use Rattle.cc_query.specs.Sessions.{After, HasMore, IsSame, IsSessionOf, IsShortEvent, with_row};
+ghost use Rattle.cc_query.specs.Sessions.{After, HasMore, IsSame, IsSessionOf, IsShortEvent, StandsOpened, with_row};
 ghost use Rattle.cc_run.specs.Asking.{AreOf, AreSearchable};
 ghost use Rattle.cc_run.specs.Refusing as refusals;
 ghost use Rattle.cc_run.specs.Searching as searches;
+ghost use Rattle.cc_run.specs.Searching.{header_told};
 ghost use Rattle.cc_run.specs.Stops.{Begins, IsRowOfEvent, Searches, Step, moment, texts_behind};
-ghost use Rattle.cc_run.specs.Telling.{GoesOn, HasGoodLines, IsOfSome, KeepsUp, manner_of, status_told};
+ghost use Rattle.cc_run.specs.Telling.{GoesOn, HasFewAxioms, HasGoodLines, IsCounted, IsOfSome, IsWritableBy, KeepsUp, counts_of, manner_of, status_told};
 ghost use Rattle.cc_run.specs.Wholes.{nothing, only_err, only_log};
 ghost use Rattle.cc_sorts.specs.Tables.{IsSignatureFor};
 ghost use Rattle.cc_words.specs.Views.{plain_text};
 
-use crate::refusing::{give, refuse};
+use crate::laws::log_laws;
+use crate::refusing::refuse;
 use crate::status::{Status, Stop};
-use crate::telling::{Teller, tell_by};
+use crate::telling::{Teller, give_header, tell_by};
 use cc_arena::{GroundQuery, Laws};
-use cc_defs::{Ending, Event, Fault, Refusal};
+use cc_defs::{Ending, Event, Fault, LogLine, Refusal};
 use cc_describe::Described;
-use cc_ports::{Desk, To};
-use cc_query::laws::{spent_budgets_are_small, written_logs_are_accepted};
+use cc_ports::Desk;
+use cc_query::laws::spent_budgets_are_small;
 use cc_query::{Ask, Session};
 use std::alloc::Global;
-
-/// The first line of a log.
-const HEADER: &str = "ccalc log 1\n";
 
 /// Begins a log where one is named.
 pub(crate) fn begin_log<D: Desk>(desk: &mut D, name: Option<&str>) -> Result<(), Stop>
@@ -72,6 +71,28 @@ fn status_behind(event: &Event) -> Option<Status>
     }
 }
 
+/// How many axioms the section has whose heading an event is; 0 of another event.
+fn axioms_behind(session: &Session<'_>, event: &Event) -> u32
+    requires opened { StandsOpened session.now event.now }
+    requires few { HasFewAxioms session.now event.now }
+    ensures counted { (d : Description) (q : QueryAsked) (given : List Told) → After d q session.now given →
+        IsCounted (counts_of d q session.now.ask.after) event.now result }
+    ensures few { result ≤ most_clauses }
+{
+    match event {
+        Event::Log(LogLine::Section { .. }) => session.axioms(),
+        Event::Log(LogLine::Derived { .. }) => 0,
+        Event::Log(LogLine::Block { .. }) => 0,
+        Event::Log(LogLine::End(_)) => 0,
+        Event::History { .. } => 0,
+        Event::Counterexample { .. } => 0,
+        Event::NoHistory { .. } => 0,
+        Event::NoConditions { .. } => 0,
+        Event::Holds { .. } => 0,
+        Event::Ended(_) => 0,
+    }
+}
+
 /// Tells an event, and answers the run's status where it is the last one.
 fn tell_next<D: Desk>(
     alloc: Global,
@@ -80,22 +101,26 @@ fn tell_next<D: Desk>(
     teller: &mut Teller,
     event: &Event,
     row: &[u32],
+    axioms: u32,
 ) -> Result<Option<Status>, Stop>
     requires signature { IsSignatureFor described.now.table described.now.sig }
     requires row { IsRowOfEvent described.now.sig event.now row.now }
     requires short { IsShortEvent event.now }
-    ensures told { (d : Description) (before : List Told) → IsDescriptionOf described.now d → KeepsUp teller.old before →
-        Step (texts_behind (manner_of teller.old) d before (with_row event.now row.now)) (moment D.told D.begun D.read_faults D.write_faults D.calls desk.old) (moment D.told D.begun D.read_faults D.write_faults D.calls desk.new) result }
-    ensures keeps { IfOk result (λ _. (before : List Told) → KeepsUp teller.old before → IsNone (status_told event.now) → KeepsUp teller.new (before ++ with_row event.now row.now ∷ [])) }
-    ensures manner { manner_of teller.new ≡ manner_of teller.old }
+    requires writable { IsWritableBy teller.old event.now }
+    requires few { axioms ≤ most_clauses }
+    ensures told { (d : Description) (counts : Bool → ℕ → ℕ) (before : List Told) → IsDescriptionOf described.now d → KeepsUp counts teller.old before →
+        Step (texts_behind (manner_of counts teller.old) d before (with_row event.now row.now)) (moment D.told D.begun D.read_faults D.write_faults D.calls desk.old) (moment D.told D.begun D.read_faults D.write_faults D.calls desk.new) result }
+    ensures keeps { IfOk result (λ _. (counts : Bool → ℕ → ℕ) (before : List Told) → IsCounted counts event.now axioms → KeepsUp counts teller.old before →
+        IsNone (status_told event.now) → KeepsUp counts teller.new (before ++ with_row event.now row.now ∷ [])) }
+    ensures manner { (counts : Bool → ℕ → ℕ) → manner_of counts teller.new ≡ manner_of counts teller.old }
     ensures status { IfOk result (λ status. status ≡ status_told event.now) }
 {
-    tell_by(alloc, desk, described, teller, event, row)?;
+    tell_by(alloc, desk, described, teller, event, row, axioms)?;
     Ok(status_behind(event))
 }
 
 /// Tells a limit that a horizon passes.
-fn tell_limit<D: Desk>(
+pub(crate) fn tell_limit<D: Desk>(
     alloc: Global,
     desk: &mut D,
     refusal: &Refusal,
@@ -118,16 +143,29 @@ fn list_event<D: Desk>(
     requires signature { IsSignatureFor described.now.table described.now.sig }
     requires same { described.now.sig ≡ session.old.signature }
     requires more { HasMore session.old }
+    requires budget { session.old.ask.budget ≤ 2000000 }
     requires of { IsOfSome described.now teller.old session.old }
-    ensures goes { (d : Description) (q : QueryAsked) (given : List Told) → IsDescriptionOf described.now d → IsSessionOf session.old d q → After d q session.old given → HasGoodLines d q session.old.ask.after given → KeepsUp teller.old given →
-        GoesOn (manner_of teller.old) d q given teller.new session.old session.new (moment D.told D.begun D.read_faults D.write_faults D.calls desk.old) (moment D.told D.begun D.read_faults D.write_faults D.calls desk.new) result }
+    ensures goes { (d : Description) (q : QueryAsked) (given : List Told) → IsDescriptionOf described.now d → IsSessionOf session.old d q →
+        After d q session.old given → HasGoodLines d q session.old.ask.after given → KeepsUp (counts_of d q session.old.ask.after) teller.old given →
+        GoesOn (manner_of (counts_of d q session.old.ask.after) teller.old) d q given teller.new session.old session.new (moment D.told D.begun D.read_faults D.write_faults D.calls desk.old) (moment D.told D.begun D.read_faults D.write_faults D.calls desk.new) result }
     ensures next { IfOk result (λ status. IsNone status → IsSame session.old session.new × HasMore session.new × (left_of session.new < left_of session.old)) }
-    ensures manner { manner_of teller.new ≡ manner_of teller.old }
+    ensures manner { (counts : Bool → ℕ → ℕ) → manner_of counts teller.new ≡ manner_of counts teller.old }
 {
-    written_logs_are_accepted();
+    log_laws();
     spent_budgets_are_small();
     match session.next() {
-        Ok(event) => tell_next(alloc, desk, described, teller, &event, session.row()),
+        Ok(event) => {
+            let axioms = axioms_behind(session, &event);
+            tell_next(
+                alloc,
+                desk,
+                described,
+                teller,
+                &event,
+                session.row(),
+                axioms,
+            )
+        }
         Err(Fault::Refused(refusal)) => tell_limit(alloc, desk, &refusal),
         Err(Fault::OutOfMemory) => Err(Stop::OutOfMemory),
     }
@@ -144,10 +182,12 @@ fn list_events<D: Desk>(
     requires signature { IsSignatureFor described.now.table described.now.sig }
     requires same { described.now.sig ≡ session.signature }
     requires more { HasMore session }
+    requires budget { session.ask.budget ≤ 2000000 }
     requires of { (d : Description) × (q : QueryAsked) × IsDescriptionOf described.now d × IsSessionOf session d q × After d q session [] }
-    requires keeps { KeepsUp teller [] }
+    requires keeps { (counts : Bool → ℕ → ℕ) → KeepsUp counts teller [] }
     ensures { (d : Description) (q : QueryAsked) → IsDescriptionOf described.now d → IsSessionOf session.entry d q → After d q session.entry [] →
-        Searches (manner_of teller) (record { description = d; query = q; ask = session.entry.ask }) (only_log header) (moment D.told D.begun D.read_faults D.write_faults D.calls desk.old) (moment D.told D.begun D.read_faults D.write_faults D.calls desk.new) result }
+        Searches (manner_of (counts_of d q session.entry.ask.after) teller) (record { description = d; query = q; ask = session.entry.ask })
+        (only_log (header_told (manner_of (counts_of d q session.entry.ask.after) teller))) (moment D.told D.begun D.read_faults D.write_faults D.calls desk.old) (moment D.told D.begun D.read_faults D.write_faults D.calls desk.new) result }
 {
     loop {
         match list_event(alloc, desk, described, &mut teller, &mut session)? {
@@ -173,11 +213,11 @@ pub(crate) fn search<D: Desk>(
     requires count { IfSome ask.count (λ most. 1 ≤ most) }
     requires budget { ask.budget ≤ 2000000 }
     requires of { (d : Description) × (q : QueryAsked) × IsDescriptionOf described.now d × AreOf described.now.sig laws.now (plain_ground_query query) d q }
-    requires keeps { KeepsUp teller [] }
+    requires keeps { (counts : Bool → ℕ → ℕ) → KeepsUp counts teller [] }
     ensures { (d : Description) (q : QueryAsked) → IsDescriptionOf described.now d → AreOf described.now.sig laws.now (plain_ground_query query.entry) d q →
-        Searches (manner_of teller) (record { description = d; query = q; ask = ask }) nothing (moment D.told D.begun D.read_faults D.write_faults D.calls desk.old) (moment D.told D.begun D.read_faults D.write_faults D.calls desk.new) result }
+        Searches (manner_of (counts_of d q ask.after) teller) (record { description = d; query = q; ask = ask }) nothing (moment D.told D.begun D.read_faults D.write_faults D.calls desk.old) (moment D.told D.begun D.read_faults D.write_faults D.calls desk.new) result }
 {
-    give(desk, To::Log, HEADER.as_bytes())?;
+    give_header(desk, &teller)?;
     let session = Session::new(alloc, &described.sig, laws, query, ask)?;
     list_events(alloc, desk, described, teller, session)
 }

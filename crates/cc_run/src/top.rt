@@ -11,7 +11,7 @@ ghost use Rattle.cc_run.specs.Answers.{IsFresh, Answered, counts};
 ghost use Rattle.cc_run.specs.Asking.{AreOf, AreSearchable};
 ghost use Rattle.cc_run.specs.Names.{BeginsAsked, MayEndWith, OpensAsked, names_log};
 ghost use Rattle.cc_run.specs.Promises.{IsEndStatus};
-ghost use Rattle.cc_run.specs.Requested.{AsksQuery, IsFileOf, IsWithin, Reads, named_of, opens_behind, source_of};
+ghost use Rattle.cc_run.specs.Requested.{AsksDescription, AsksQuery, IsFileOf, IsWithin, Reads, named_of, opens_behind, source_of};
 ghost use Rattle.cc_run.specs.Stops.{Moment, Prints, PrintsAsked, moment};
 ghost use Rattle.cc_run.specs.Tasks.{IsTask, request_of};
 ghost use Rattle.cc_sorts.specs.Tables.{IsSignatureFor};
@@ -20,7 +20,7 @@ ghost use Rattle.cc_words.specs.Views.{plain_request, plain_text};
 ghost use Rattle.cc_words.specs.Words.{Text};
 
 use crate::asking::{Prepared, prepare};
-use crate::modes::{check, list, make, why};
+use crate::modes::{check, convert, export, list, make, models, models_check, why};
 use crate::refusing::{file_named, refuse, tell_stop};
 use crate::status::{Status, Stop};
 use bumpalo::Bump;
@@ -38,8 +38,9 @@ const MADE: &str = "made";
 
 /// Reads the words, and does the one thing that they ask for: with a file that they name and a query of its description, it lists the
 /// histories of the query at the first of its horizons that has any, or judges the claim of the query, or judges a log of it, which
-/// the words name too; or it makes a description of a size, searches for all its histories, and sums up the search; or it tells why
-/// each value of a history holds, whose key the words name.
+/// the words name too, or writes that in its other version, or prints the clause list of one of its horizons; or it makes a description
+/// of a size, searches for all its histories, and sums up the search; or it tells why each value of a history holds, whose key the
+/// words name; or it lists the models of a CNF, or judges a log of them.
 ///
 /// `words` are the program's words without its name. Each line of an output is given by one `give_all`. The lines of the log
 /// are given to Log whether or not the words name a file for it. After a fault of the desk or want of memory one fixed line is
@@ -95,6 +96,10 @@ fn answer_asked<D: Desk>(alloc: Global, desk: &mut D, asked: &Asked<'_>) -> Resu
         Asked::Check(check) => answer_file(alloc, desk, asked, check.file),
         Asked::Make { size, .. } => answer_made(alloc, desk, asked, *size),
         Asked::Explain(explain) => answer_file(alloc, desk, asked, explain.file),
+        Asked::Convert(convert) => answer_file(alloc, desk, asked, convert.file),
+        Asked::Export(export) => answer_file(alloc, desk, asked, export.file),
+        Asked::Models(asked) => models::models(alloc, desk, asked),
+        Asked::CheckModels(asked) => models_check::check(alloc, desk, asked),
     }
 }
 
@@ -106,6 +111,7 @@ fn answer_file<D: Desk>(
     file: &str,
 ) -> Result<Status, Stop>
     requires within { IsWithin (plain_request asked.now) }
+    requires description { AsksDescription (plain_request asked.now) }
     ensures { (words : List Text) → request_of words ≡ Some (plain_request asked.now) → IsFileOf (plain_request asked.now) file.now →
         PrintsAsked words (names_log (Some (plain_request asked.now))) (moment D.told D.begun D.read_faults D.write_faults D.calls desk.old) (moment D.told D.begun D.read_faults D.write_faults D.calls desk.new) result }
 {
@@ -121,6 +127,7 @@ fn answer_made<D: Desk>(
     size: u32,
 ) -> Result<Status, Stop>
     requires within { IsWithin (plain_request asked.now) }
+    requires description { AsksDescription (plain_request asked.now) }
     requires size { 1 ≤ size }
     ensures { (words : List Text) (budget : ℕ) → request_of words ≡ Some (plain_request asked.now) → plain_request asked.now ≡ ToMake size budget →
         PrintsAsked words (names_log (Some (plain_request asked.now))) (moment D.told D.begun D.read_faults D.write_faults D.calls desk.old) (moment D.told D.begun D.read_faults D.write_faults D.calls desk.new) result }
@@ -139,6 +146,7 @@ fn answer_described<D: Desk>(
     described: Result<Described, DescribeStop>,
 ) -> Result<Status, Stop>
     requires within { IsWithin (plain_request asked.now) }
+    requires description { AsksDescription (plain_request asked.now) }
     requires says { IfOk described SaysAll }
     requires forms { IfOk described HasForms }
     requires formulas { IfOk described AsksFormulas }
@@ -165,6 +173,7 @@ fn answer_read<D: Desk>(
     described: &Described,
 ) -> Result<Status, Stop>
     requires within { IsWithin (plain_request asked.now) }
+    requires description { AsksDescription (plain_request asked.now) }
     requires says { SaysAll described.now }
     requires forms { HasForms described.now }
     requires formulas { AsksFormulas described.now }
@@ -177,6 +186,10 @@ fn answer_read<D: Desk>(
         Asked::List(_) => answer_query(alloc, desk, asked, described),
         Asked::Check(_) => answer_query(alloc, desk, asked, described),
         Asked::Make { .. } => answer_query(alloc, desk, asked, described),
+        Asked::Convert(_) => answer_query(alloc, desk, asked, described),
+        Asked::Export(export) => export::export(alloc, desk, described, export),
+        Asked::Models(_) => unreachable!(),
+        Asked::CheckModels(_) => unreachable!(),
     }
 }
 
@@ -217,6 +230,10 @@ fn query_of<'a>(asked: &Asked<'a>) -> Option<&'a str>
         Asked::Check(check) => check.query,
         Asked::Make { .. } => None,
         Asked::Explain(_) => None,
+        Asked::Convert(convert) => convert.query,
+        Asked::Export(export) => export.query,
+        Asked::Models(_) => None,
+        Asked::CheckModels(_) => None,
     }
 }
 
@@ -229,6 +246,10 @@ fn key_of<'a>(asked: &Asked<'a>) -> Option<&'a str>
         Asked::Check(check) => check.after,
         Asked::Make { .. } => None,
         Asked::Explain(_) => None,
+        Asked::Convert(convert) => convert.after,
+        Asked::Export(_) => None,
+        Asked::Models(_) => None,
+        Asked::CheckModels(_) => None,
     }
 }
 
@@ -256,7 +277,11 @@ fn answer_prepared<D: Desk>(
         Asked::Make { size, budget } => {
             make::make(alloc, desk, described, *size, *budget, prepared)
         }
+        Asked::Convert(asked) => convert::convert(alloc, desk, described, asked, &prepared),
         Asked::Explain(_) => unreachable!(),
+        Asked::Export(_) => unreachable!(),
+        Asked::Models(_) => unreachable!(),
+        Asked::CheckModels(_) => unreachable!(),
     }
 }
 

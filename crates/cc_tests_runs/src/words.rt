@@ -1,5 +1,5 @@
 //! A table of words.
-use cc_defs::OutOfMemory;
+use cc_defs::{OutOfMemory, Version};
 use cc_words::{Asked, CheckAsked, ExplainAsked, ListAsked, read};
 use std::alloc::Global;
 use std::test::Fail;
@@ -11,6 +11,7 @@ const LIST: ListAsked<'static> = ListAsked {
     budget: 200_000,
     after: None,
     log: None,
+    form: Version::First,
 };
 
 fn are_read_as(alloc: Global, words: &[&str], wanted: Option<Asked>) -> Result<bool, OutOfMemory> {
@@ -26,6 +27,10 @@ fn words_are_read(rt: HostRuntime) -> Result<(), Fail> {
     let alloc = rt.alloc();
     let three = ListAsked {
         count: Some(3),
+        ..LIST
+    };
+    let bytes = ListAsked {
+        form: Version::Second,
         ..LIST
     };
     let log = CheckAsked {
@@ -46,6 +51,8 @@ fn words_are_read(rt: HostRuntime) -> Result<(), Fail> {
             Some(Asked::List(three)),
         ),
         (["f.cc", "--count=3"].as_slice(), Some(Asked::List(three))),
+        (["--form", "2", "f.cc"].as_slice(), Some(Asked::List(bytes))),
+        (["--form", "3", "f.cc"].as_slice(), None),
         (
             ["--mode", "check", "--query", "a", "--log", "l", "f.cc"].as_slice(),
             Some(Asked::Check(log)),

@@ -15,7 +15,7 @@ use Rattle.clap.specs.declared.builder.value_parser.Reading.TheVariants as readi
 use Rattle.clap.specs.declared.parser.matches.ValueSource.TheVariants as sources
 use Rattle.cc_words.specs.Readings.{command, file_text, given_in, option_rule, reading}
 use Rattle.cc_words.proofs.Taken.{fault_taken, shape}
-use Rattle.cc_words.specs.Words.{IsPlain, Name, Mode, Query, Count, Budget, After, Log, Key, Size, Pair, are_different, begins_with_hyphen, file_words, given_of, is_same, name_text, pair_words, value_of}
+use Rattle.cc_words.specs.Words.{IsPlain, Name, Mode, Query, Count, Budget, After, Log, Form, To, Key, Horizon, Size, Pair, are_different, begins_with_hyphen, file_words, given_of, is_same, name_text, pair_words, value_of}
 
 neither : (a b : Bool) → (a || b) ≡ false → (a ≡ false) × (b ≡ false)
 neither true b e = absurd (true≢false e)
@@ -40,7 +40,10 @@ known Count = refl
 known Budget = refl
 known After = refl
 known Log = refl
+known Form = refl
+known To = refl
 known Key = refl
+known Horizon = refl
 known Size = refl
 
 not_file : (name : Name) → (bytes_eq (name_text name) file_text ≡ false) × (bytes_eq file_text (name_text name) ≡ false)
@@ -50,7 +53,10 @@ not_file Count = (refl, refl)
 not_file Budget = (refl, refl)
 not_file After = (refl, refl)
 not_file Log = (refl, refl)
+not_file Form = (refl, refl)
+not_file To = (refl, refl)
 not_file Key = (refl, refl)
+not_file Horizon = (refl, refl)
 not_file Size = (refl, refl)
 
 same_name : (name : Name) → bytes_eq (name_text name) (name_text name) ≡ true
@@ -60,7 +66,10 @@ same_name Count = refl
 same_name Budget = refl
 same_name After = refl
 same_name Log = refl
+same_name Form = refl
+same_name To = refl
 same_name Key = refl
+same_name Horizon = refl
 same_name Size = refl
 
 -- ---- rows
@@ -114,7 +123,10 @@ given_is pairs file = λ i. record {
   budget = named Budget pairs file i;
   after = named After pairs file i;
   log = named Log pairs file i;
+  form = named Form pairs file i;
+  to = named To pairs file i;
   key = named Key pairs file i;
+  horizon = named Horizon pairs file i;
   size = named Size pairs file i;
   file = file_named pairs file i;
 }
@@ -144,7 +156,10 @@ name_walked Count rows pending = refl
 name_walked Budget rows pending = refl
 name_walked After rows pending = refl
 name_walked Log rows pending = refl
+name_walked Form rows pending = refl
+name_walked To rows pending = refl
 name_walked Key rows pending = refl
+name_walked Horizon rows pending = refl
 name_walked Size rows pending = refl
 
 name_passes : (name : Name) (rows : List Row) (pending : Option (Text × List Text)) → Settles rows pending
@@ -156,7 +171,10 @@ name_passes Count rows pending settles = ap (λ kinds. or_else kinds []) settles
 name_passes Budget rows pending settles = ap (λ kinds. or_else kinds []) settles
 name_passes After rows pending settles = ap (λ kinds. or_else kinds []) settles
 name_passes Log rows pending settles = ap (λ kinds. or_else kinds []) settles
+name_passes Form rows pending settles = ap (λ kinds. or_else kinds []) settles
+name_passes To rows pending settles = ap (λ kinds. or_else kinds []) settles
 name_passes Key rows pending settles = ap (λ kinds. or_else kinds []) settles
+name_passes Horizon rows pending settles = ap (λ kinds. or_else kinds []) settles
 name_passes Size rows pending settles = ap (λ kinds. or_else kinds []) settles
 
 -- a word with no first hyphen is no `--`, and neither a long nor a short option
@@ -315,7 +333,7 @@ defaults_pass rows (rule ∷ rules) none =
     ap₂ or_else (default_passes rule rows none.0) (ap (λ rows. defaults_fault rows rules) (default_kept rule rows none.0) ∙ defaults_pass rows rules none.1)
 
 abbrev rules_have_none : HaveNoDefaults shape.rules
-rules_have_none = (refl, (refl, (refl, (refl, (refl, (refl, (refl, (refl, (refl, tt)))))))))
+rules_have_none = (refl, (refl, (refl, (refl, (refl, (refl, (refl, (refl, (refl, (refl, (refl, (refl, tt))))))))))))
 
 -- words that pass have their rows as the reading
 reads_as : (words : List Text) (found : List Row) → Reads (behind [] None) words found → reading words ≡ Some (given_in found)

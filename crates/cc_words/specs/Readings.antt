@@ -4,7 +4,7 @@ use Rattle.clap.specs.declared.builder.action.ArgAction.TheVariants as actions
 use Rattle.clap.specs.Simple.{App, matches_of, new_rule, new_shape}
 use Rattle.clap.specs.Walk.{Row, Rule, first_of}
 use Rattle.clap.specs.Takes.{takes}
-use Rattle.cc_words.specs.Words.{Given, Name, Text, name_text, Mode, Query, Count, Budget, After, Log, Key, Size}
+use Rattle.cc_words.specs.Words.{Given, Name, Text, name_text, Mode, Query, Count, Budget, After, Log, Form, To, Key, Horizon, Size}
 
 -- an option that takes one value
 abbrev pub option_rule : Text → Rule
@@ -14,7 +14,7 @@ abbrev pub file_text : Text
 file_text = codes "FILE"
 
 abbrev pub names : List Name
-names = Mode ∷ Query ∷ Count ∷ Budget ∷ After ∷ Log ∷ Key ∷ Size ∷ []
+names = Mode ∷ Query ∷ Count ∷ Budget ∷ After ∷ Log ∷ Form ∷ To ∷ Key ∷ Horizon ∷ Size ∷ []
 
 -- a command with no arguments and no option for help, for words without the program's name
 abbrev pub bare_command : App
@@ -23,7 +23,7 @@ bare_command = record {
   subs = [];
 }
 
--- the eight options, and a file behind them or between
+-- the eleven options, and a file behind them or between
 abbrev pub command : App
 command = record bare_command {
   top = record bare_command.top { rules = map (λ name. option_rule (name_text name)) names ++ new_rule file_text ∷ [] };
@@ -37,7 +37,10 @@ given_in rows = record {
   budget = first_of (codes "budget") rows;
   after = first_of (codes "after") rows;
   log = first_of (codes "log") rows;
+  form = first_of (codes "form") rows;
+  to = first_of (codes "to") rows;
   key = first_of (codes "key") rows;
+  horizon = first_of (codes "horizon") rows;
   size = first_of (codes "size") rows;
   file = first_of file_text rows;
 }

@@ -1,6 +1,8 @@
 -- What the program is asked for.
 use Rattle.std.specs.Prelude.{ℕ, Bool, ◌&&◌, not, nat_le, if◌then◌else◌, List, [], ◌∷◌, length, codes, Option, Some, None, option_map, is_some, unwrap_or}
 use Rattle.std.specs.List.{list_all, list_any}
+use Rattle.cc_defs.specs.declared.log.Version.{Version}
+use Rattle.cc_defs.specs.declared.log.Version.TheVariants as versions
 use Rattle.cc_defs.specs.Grammar.{number_of, same_text}
 use Rattle.cc_defs.specs.Tokens.{is_number}
 use Rattle.cc_words.specs.declared.modes.Item.{Item}
@@ -17,6 +19,7 @@ pub record Listing : Type 0 where
   pub budget : ℕ
   pub after : Option Text
   pub log : Option Text
+  pub form : Version
 
 -- whether a log is right
 pub record Checking : Type 0 where
@@ -30,12 +33,43 @@ pub record Explaining : Type 0 where
   pub file : Text
   pub key : Text
 
+-- a log in its other version, in a file
+pub record Converting : Type 0 where
+  pub file : Text
+  pub query : Option Text
+  pub after : Option Text
+  pub log : Text
+  pub to : Text
+
+-- the clause list of a horizon of a query
+pub record Exporting : Type 0 where
+  pub file : Text
+  pub query : Option Text
+  pub horizon : ℕ
+
+-- the models of a CNF
+pub record Modelling : Type 0 where
+  pub file : Text
+  pub count : Option ℕ
+  pub budget : ℕ
+  pub log : Option Text
+  pub form : Version
+
+-- whether a log of models is right
+pub record ModelChecking : Type 0 where
+  pub file : Text
+  pub log : Text
+
 pub data Request : Type 0 where
   ToList : Listing → Request
   ToCheck : Checking → Request
   -- a description of this size that has a history found within this budget
   ToMake : ℕ → ℕ → Request
   ToExplain : Explaining → Request
+  ToConvert : Converting → Request
+  ToExport : Exporting → Request
+  ToModel : Modelling → Request
+  ToCheckModels : ModelChecking → Request
 
 -- ---- values
 
@@ -44,13 +78,27 @@ mode_named text =
     if same_text text (codes "list") then Some modes.List
     else (if same_text text (codes "check") then Some modes.Check
     else (if same_text text (codes "make") then Some modes.Make
-    else (if same_text text (codes "why") then Some modes.Why else None)))
+    else (if same_text text (codes "why") then Some modes.Why
+    else (if same_text text (codes "convert") then Some modes.Convert
+    else (if same_text text (codes "export") then Some modes.Export
+    else (if same_text text (codes "models") then Some modes.Models
+    else (if same_text text (codes "modelscheck") then Some modes.CheckModels else None)))))))
 
 -- the number from 1 to `most` that one to seven decimal digits spell
 abbrev pub number_up_to : ℕ → Text → Option ℕ
 number_up_to most text =
     if (is_number text && nat_le (length text) 7) && (nat_le 1 (number_of text) && nat_le (number_of text) most)
     then Some (number_of text) else None
+
+-- the number that one to seven decimal digits spell
+abbrev pub number_from_zero : Text → Option ℕ
+number_from_zero text = if is_number text && nat_le (length text) 7 then Some (number_of text) else None
+
+-- the version of a log that a digit names
+abbrev pub version_named : Text → Option Version
+version_named text =
+    if same_text text (codes "1") then Some versions.First
+    else (if same_text text (codes "2") then Some versions.Second else None)
 
 -- a value that may be left out
 abbrev pub optional : {X : Type 0} → (Text → Option X) → Option Text → Option (Option X)
@@ -65,13 +113,26 @@ needs modes.List = items.File ∷ []
 needs modes.Check = items.File ∷ items.Log ∷ []
 needs modes.Make = items.Size ∷ []
 needs modes.Why = items.File ∷ items.Key ∷ []
+needs modes.Convert = items.File ∷ items.Log ∷ items.To ∷ []
+needs modes.Export = items.File ∷ items.Horizon ∷ []
+needs modes.Models = items.File ∷ []
+needs modes.CheckModels = items.File ∷ items.Log ∷ []
 
 -- and what it bars
 abbrev pub bars : Mode → List Item
-bars modes.List = items.Key ∷ items.Size ∷ []
-bars modes.Check = items.Count ∷ items.Budget ∷ items.Key ∷ items.Size ∷ []
-bars modes.Make = items.Query ∷ items.Count ∷ items.After ∷ items.Log ∷ items.Key ∷ items.File ∷ []
-bars modes.Why = items.Query ∷ items.Count ∷ items.Budget ∷ items.After ∷ items.Log ∷ items.Size ∷ []
+bars modes.List = items.To ∷ items.Key ∷ items.Horizon ∷ items.Size ∷ []
+bars modes.Check =
+    items.Count ∷ items.Budget ∷ items.Form ∷ items.To ∷ items.Key ∷ items.Horizon ∷ items.Size ∷ []
+bars modes.Make =
+    items.Query ∷ items.Count ∷ items.After ∷ items.Log ∷ items.Form ∷ items.To ∷ items.Key ∷ items.Horizon ∷ items.File ∷ []
+bars modes.Why =
+    items.Query ∷ items.Count ∷ items.Budget ∷ items.After ∷ items.Log ∷ items.Form ∷ items.To ∷ items.Horizon ∷ items.Size ∷ []
+bars modes.Convert = items.Count ∷ items.Budget ∷ items.Form ∷ items.Key ∷ items.Horizon ∷ items.Size ∷ []
+bars modes.Export =
+    items.Count ∷ items.Budget ∷ items.After ∷ items.Log ∷ items.Form ∷ items.To ∷ items.Key ∷ items.Size ∷ []
+bars modes.Models = items.Query ∷ items.After ∷ items.To ∷ items.Key ∷ items.Horizon ∷ items.Size ∷ []
+bars modes.CheckModels =
+    items.Query ∷ items.Count ∷ items.Budget ∷ items.After ∷ items.Form ∷ items.To ∷ items.Key ∷ items.Horizon ∷ items.Size ∷ []
 
 abbrev pub has : Given → Item → Bool
 has given items.Query = is_some given.query
@@ -79,7 +140,10 @@ has given items.Count = is_some given.count
 has given items.Budget = is_some given.budget
 has given items.After = is_some given.after
 has given items.Log = is_some given.log
+has given items.Form = is_some given.form
+has given items.To = is_some given.to
 has given items.Key = is_some given.key
+has given items.Horizon = is_some given.horizon
 has given items.Size = is_some given.size
 has given items.File = is_some given.file
 
@@ -101,15 +165,22 @@ count_of given = optional (number_up_to 1000000) given.count
 abbrev pub budget_of : Given → Option ℕ
 budget_of given = option_map (λ budget. unwrap_or budget default_budget) (optional (number_up_to 2000000) given.budget)
 
+-- the version of the log that is to be written: the first, unless the second is asked for
+abbrev pub form_of : Given → Option Version
+form_of given = option_map (λ form. unwrap_or form versions.First) (optional version_named given.form)
+
 abbrev pub to_list : Given → Option Request
-to_list given = provided given.file (λ file. provided (count_of given) (λ count. provided (budget_of given) (λ budget. Some (ToList (record {
-  file = file;
-  query = given.query;
-  count = count;
-  budget = budget;
-  after = given.after;
-  log = given.log;
-})))))
+to_list given =
+    provided given.file (λ file. provided (count_of given) (λ count. provided (budget_of given) (λ budget. provided (form_of given) (λ form.
+    Some (ToList (record {
+      file = file;
+      query = given.query;
+      count = count;
+      budget = budget;
+      after = given.after;
+      log = given.log;
+      form = form;
+    }))))))
 
 abbrev pub to_check : Given → Option Request
 to_check given = provided given.file (λ file. provided given.log (λ log. Some (ToCheck (record {
@@ -126,11 +197,36 @@ to_make given =
 abbrev pub to_explain : Given → Option Request
 to_explain given = provided given.file (λ file. provided given.key (λ key. Some (ToExplain (record { file = file; key = key }))))
 
+abbrev pub to_convert : Given → Option Request
+to_convert given = provided given.file (λ file. provided given.log (λ log. provided given.to (λ to. Some (ToConvert (record {
+  file = file;
+  query = given.query;
+  after = given.after;
+  log = log;
+  to = to;
+})))))
+
+abbrev pub to_export : Given → Option Request
+to_export given = provided given.file (λ file. provided given.horizon (λ text. provided (number_from_zero text) (λ horizon.
+    Some (ToExport (record { file = file; query = given.query; horizon = horizon })))))
+
+abbrev pub to_model : Given → Option Request
+to_model given =
+    provided given.file (λ file. provided (count_of given) (λ count. provided (budget_of given) (λ budget. provided (form_of given) (λ form.
+    Some (ToModel (record { file = file; count = count; budget = budget; log = given.log; form = form }))))))
+
+abbrev pub to_check_models : Given → Option Request
+to_check_models given = provided given.file (λ file. provided given.log (λ log. Some (ToCheckModels (record { file = file; log = log }))))
+
 abbrev pub valued : Mode → Given → Option Request
 valued modes.List given = to_list given
 valued modes.Check given = to_check given
 valued modes.Make given = to_make given
 valued modes.Why given = to_explain given
+valued modes.Convert given = to_convert given
+valued modes.Export given = to_export given
+valued modes.Models given = to_model given
+valued modes.CheckModels given = to_check_models given
 
 -- what is asked for in a mode, where the words suit it
 abbrev pub asked_in : Mode → Given → Option Request

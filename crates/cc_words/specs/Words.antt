@@ -15,7 +15,10 @@ pub data Name : Type 0 where
   Budget : Name
   After : Name
   Log : Name
+  Form : Name
+  To : Name
   Key : Name
+  Horizon : Name
   Size : Name
 
 abbrev pub name_text : Name → Text
@@ -25,7 +28,10 @@ name_text Count = codes "count"
 name_text Budget = codes "budget"
 name_text After = codes "after"
 name_text Log = codes "log"
+name_text Form = codes "form"
+name_text To = codes "to"
 name_text Key = codes "key"
+name_text Horizon = codes "horizon"
 name_text Size = codes "size"
 
 abbrev pub is_same : Name → Name → Bool
@@ -39,7 +45,10 @@ pub record Given : Type 0 where
   pub budget : Option Text
   pub after : Option Text
   pub log : Option Text
+  pub form : Option Text
+  pub to : Option Text
   pub key : Option Text
+  pub horizon : Option Text
   pub size : Option Text
   pub file : Option Text
 
@@ -84,7 +93,10 @@ given_of pairs file = record {
   budget = value_of Budget pairs;
   after = value_of After pairs;
   log = value_of Log pairs;
+  form = value_of Form pairs;
+  to = value_of To pairs;
   key = value_of Key pairs;
+  horizon = value_of Horizon pairs;
   size = value_of Size pairs;
   file = file;
 }

@@ -1,4 +1,5 @@
 //! What the program is asked for.
+use cc_defs::Version;
 
 /// What the words ask for; all texts are lent from them.
 #[derive(Clone, Copy, Debug, PartialEq, Eq)]
@@ -11,6 +12,14 @@ pub enum Asked<'a> {
     Make { size: u32, budget: u32 },
     /// Why a history has its values.
     Explain(ExplainAsked<'a>),
+    /// A log in its other version.
+    Convert(ConvertAsked<'a>),
+    /// The clause list of a horizon.
+    Export(ExportAsked<'a>),
+    /// Models of a CNF.
+    Models(ModelsAsked<'a>),
+    /// Whether a log of models is right.
+    CheckModels(CheckModelsAsked<'a>),
 }
 
 /// Histories of a query.
@@ -27,6 +36,8 @@ pub struct ListAsked<'a> {
     pub after: Option<&'a str>,
     /// The file that the log is written to.
     pub log: Option<&'a str>,
+    /// How it is written.
+    pub form: Version,
 }
 
 /// Whether a log is right.
@@ -47,4 +58,52 @@ pub struct ExplainAsked<'a> {
     pub file: &'a str,
     /// The key of the history.
     pub key: &'a str,
+}
+
+/// A log in its other version.
+#[derive(Clone, Copy, Debug, PartialEq, Eq)]
+pub struct ConvertAsked<'a> {
+    pub file: &'a str,
+    /// Its label; the first query without it.
+    pub query: Option<&'a str>,
+    /// The key that the histories stand behind.
+    pub after: Option<&'a str>,
+    /// The file that the log is read from.
+    pub log: &'a str,
+    /// The file that the other version is written to.
+    pub to: &'a str,
+}
+
+/// The clause list of a horizon of a query.
+#[derive(Clone, Copy, Debug, PartialEq, Eq)]
+pub struct ExportAsked<'a> {
+    pub file: &'a str,
+    /// Its label; the first query without it.
+    pub query: Option<&'a str>,
+    /// From 0 to 9999999.
+    pub horizon: u32,
+}
+
+/// Models of a CNF.
+#[derive(Clone, Copy, Debug, PartialEq, Eq)]
+pub struct ModelsAsked<'a> {
+    /// The file of the CNF.
+    pub file: &'a str,
+    /// At most so many, from 1 to 1000000; all without it.
+    pub count: Option<u32>,
+    /// From 1 to 2000000.
+    pub budget: u32,
+    /// The file that the log is written to.
+    pub log: Option<&'a str>,
+    /// How it is written.
+    pub form: Version,
+}
+
+/// Whether a log of models is right.
+#[derive(Clone, Copy, Debug, PartialEq, Eq)]
+pub struct CheckModelsAsked<'a> {
+    /// The file of the CNF.
+    pub file: &'a str,
+    /// The file that the log is read from.
+    pub log: &'a str,
 }

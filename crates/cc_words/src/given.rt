@@ -2,12 +2,16 @@
 ghost use Rattle.std.specs.Prelude.{◌≡◌};
 ghost use Rattle.std.specs.List.{list_all, list_any};
 ghost use Rattle.cc_words.specs.Requests as requests;
-ghost use Rattle.cc_words.specs.Requests.{asked_in, asked_of, budget_of, count_of, mode_of, to_check, to_explain, to_list, to_make, valued};
+ghost use Rattle.cc_words.specs.Requests.{asked_in, asked_of, budget_of, count_of, form_of, mode_of, to_check, to_check_models, to_convert, to_explain, to_export, to_list, to_make, to_model, valued};
 ghost use Rattle.cc_words.specs.Views.{plain_asked, plain_given};
 
-use crate::asked::{Asked, CheckAsked, ExplainAsked, ListAsked};
+use crate::asked::{
+    Asked, CheckAsked, CheckModelsAsked, ConvertAsked, ExplainAsked, ExportAsked, ListAsked,
+    ModelsAsked,
+};
 use crate::modes::{Item, Mode};
-use crate::numbers::{optional_up_to, up_to};
+use crate::numbers::{from_zero, optional_up_to, optional_version, up_to};
+use cc_defs::Version;
 
 /// The value of each option that stands there, and the file.
 #[derive(Clone, Copy, Debug)]
@@ -18,7 +22,10 @@ pub(crate) struct Given<'a> {
     pub budget: Option<&'a str>,
     pub after: Option<&'a str>,
     pub log: Option<&'a str>,
+    pub form: Option<&'a str>,
+    pub to: Option<&'a str>,
     pub key: Option<&'a str>,
+    pub horizon: Option<&'a str>,
     pub size: Option<&'a str>,
     pub file: Option<&'a str>,
 }
@@ -42,7 +49,10 @@ impl<'a> Given<'a> {
             Item::Budget => self.budget.is_some(),
             Item::After => self.after.is_some(),
             Item::Log => self.log.is_some(),
+            Item::Form => self.form.is_some(),
+            Item::To => self.to.is_some(),
             Item::Key => self.key.is_some(),
+            Item::Horizon => self.horizon.is_some(),
             Item::Size => self.size.is_some(),
             Item::File => self.file.is_some(),
         }
@@ -90,12 +100,20 @@ impl<'a> Given<'a> {
         Some(budget.unwrap_or(200_000))
     }
 
+    fn form(&self) -> Option<Version>
+        ensures { result ≡ form_of (plain_given self.now) }
+    {
+        let form = optional_version(self.form)?;
+        Some(form.unwrap_or(Version::First))
+    }
+
     fn to_list(&self) -> Option<Asked<'a>>
         ensures { plain_asked result ≡ to_list (plain_given self.now) }
     {
         let file = self.file?;
         let count = self.count()?;
         let budget = self.budget()?;
+        let form = self.form()?;
         Some(Asked::List(ListAsked {
             file,
             query: self.query,
@@ -103,6 +121,7 @@ impl<'a> Given<'a> {
             budget,
             after: self.after,
             log: self.log,
+            form,
         }))
     }
 
@@ -135,6 +154,57 @@ impl<'a> Given<'a> {
         Some(Asked::Explain(ExplainAsked { file, key }))
     }
 
+    fn to_convert(&self) -> Option<Asked<'a>>
+        ensures { plain_asked result ≡ to_convert (plain_given self.now) }
+    {
+        let file = self.file?;
+        let log = self.log?;
+        let to = self.to?;
+        Some(Asked::Convert(ConvertAsked {
+            file,
+            query: self.query,
+            after: self.after,
+            log,
+            to,
+        }))
+    }
+
+    fn to_export(&self) -> Option<Asked<'a>>
+        ensures { plain_asked result ≡ to_export (plain_given self.now) }
+    {
+        let file = self.file?;
+        let horizon = from_zero(self.horizon?)?;
+        Some(Asked::Export(ExportAsked {
+            file,
+            query: self.query,
+            horizon,
+        }))
+    }
+
+    fn to_model(&self) -> Option<Asked<'a>>
+        ensures { plain_asked result ≡ to_model (plain_given self.now) }
+    {
+        let file = self.file?;
+        let count = self.count()?;
+        let budget = self.budget()?;
+        let form = self.form()?;
+        Some(Asked::Models(ModelsAsked {
+            file,
+            count,
+            budget,
+            log: self.log,
+            form,
+        }))
+    }
+
+    fn to_check_models(&self) -> Option<Asked<'a>>
+        ensures { plain_asked result ≡ to_check_models (plain_given self.now) }
+    {
+        let file = self.file?;
+        let log = self.log?;
+        Some(Asked::CheckModels(CheckModelsAsked { file, log }))
+    }
+
     /// What is asked in a mode, by its values.
     fn valued(&self, mode: Mode) -> Option<Asked<'a>>
         ensures { plain_asked result ≡ valued mode (plain_given self.now) }
@@ -144,6 +214,10 @@ impl<'a> Given<'a> {
             Mode::Check => self.to_check(),
             Mode::Make => self.to_make(),
             Mode::Why => self.to_explain(),
+            Mode::Convert => self.to_convert(),
+            Mode::Export => self.to_export(),
+            Mode::Models => self.to_model(),
+            Mode::CheckModels => self.to_check_models(),
         }
     }
 

@@ -2,15 +2,18 @@
 //!
 //! | Option | Value | Default | Goes with mode |
 //! |---|---|---|---|
-//! | `--mode` | `list`, `check`, `make` or `why` | `list` | |
-//! | `--query` | a label | the first query | list, check |
-//! | `--count` | 1 to 1000000 | all | list |
-//! | `--budget` | 1 to 2000000 | 200000 | list, make |
-//! | `--after` | a key | none | list, check |
-//! | `--log` | a file name | none | list, check (required) |
+//! | `--mode` | `list`, `check`, `make`, `convert`, `why`, `export`, `models` or `modelscheck` | `list` | |
+//! | `--query` | a label | the first query | list, check, convert, export |
+//! | `--count` | 1 to 1000000 | all | list, models |
+//! | `--budget` | 1 to 2000000 | 200000 | list, make, models |
+//! | `--after` | a key | none | list, check, convert |
+//! | `--log` | a file name | none | list, models (written); check, convert, modelscheck (read, required) |
+//! | `--form` | `1` or `2` | `1` | list, models |
+//! | `--to` | a file name | none | convert (required) |
 //! | `--key` | a key | none | why (required) |
+//! | `--horizon` | a number | none | export (required) |
 //! | `--size` | 1 to 100 | none | make (required) |
-//! | FILE | a file name | none | list, check, why (required) |
+//! | FILE | a file name | none | all but make (required) |
 //!
 //! Numbers have one to seven decimal digits. Words of the plain form are options with their values, no option twice and no
 //! value with a first `-`, and then at most one FILE. Other words mean what they mean to clap.
@@ -24,6 +27,9 @@ mod numbers;
 mod parse;
 mod words;
 
-pub use asked::{Asked, CheckAsked, ExplainAsked, ListAsked};
+pub use asked::{
+    Asked, CheckAsked, CheckModelsAsked, ConvertAsked, ExplainAsked, ExportAsked, ListAsked,
+    ModelsAsked,
+};
 pub use modes::{Item, Mode};
 pub use words::read;

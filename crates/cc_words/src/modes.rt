@@ -13,6 +13,14 @@ pub enum Mode {
     Make,
     /// The values of a history are explained.
     Why,
+    /// A log is written in its other version.
+    Convert,
+    /// The clause list of a horizon is printed.
+    Export,
+    /// Models of a CNF are listed.
+    Models,
+    /// A log of models is judged.
+    CheckModels,
 }
 
 /// What may stand among the words: an option with its value, or the FILE.
@@ -28,8 +36,14 @@ pub enum Item {
     After,
     /// `--log NAME`.
     Log,
+    /// `--form 1` or `--form 2`.
+    Form,
+    /// `--to NAME`.
+    To,
     /// `--key KEY`.
     Key,
+    /// `--horizon M`.
+    Horizon,
     /// `--size N`.
     Size,
     /// FILE.
@@ -49,6 +63,14 @@ impl Mode {
             Some(Mode::Make)
         } else if name == "why" {
             Some(Mode::Why)
+        } else if name == "convert" {
+            Some(Mode::Convert)
+        } else if name == "export" {
+            Some(Mode::Export)
+        } else if name == "models" {
+            Some(Mode::Models)
+        } else if name == "modelscheck" {
+            Some(Mode::CheckModels)
         } else {
             None
         }
@@ -63,6 +85,10 @@ impl Mode {
             Mode::Check => &[Item::File, Item::Log],
             Mode::Make => &[Item::Size],
             Mode::Why => &[Item::File, Item::Key],
+            Mode::Convert => &[Item::File, Item::Log, Item::To],
+            Mode::Export => &[Item::File, Item::Horizon],
+            Mode::Models => &[Item::File],
+            Mode::CheckModels => &[Item::File, Item::Log],
         }
     }
 
@@ -71,14 +97,25 @@ impl Mode {
         ensures { result.now ≡ bars self }
     {
         match self {
-            Mode::List => &[Item::Key, Item::Size],
-            Mode::Check => &[Item::Count, Item::Budget, Item::Key, Item::Size],
+            Mode::List => &[Item::To, Item::Key, Item::Horizon, Item::Size],
+            Mode::Check => &[
+                Item::Count,
+                Item::Budget,
+                Item::Form,
+                Item::To,
+                Item::Key,
+                Item::Horizon,
+                Item::Size,
+            ],
             Mode::Make => &[
                 Item::Query,
                 Item::Count,
                 Item::After,
                 Item::Log,
+                Item::Form,
+                Item::To,
                 Item::Key,
+                Item::Horizon,
                 Item::File,
             ],
             Mode::Why => &[
@@ -87,6 +124,46 @@ impl Mode {
                 Item::Budget,
                 Item::After,
                 Item::Log,
+                Item::Form,
+                Item::To,
+                Item::Horizon,
+                Item::Size,
+            ],
+            Mode::Convert => &[
+                Item::Count,
+                Item::Budget,
+                Item::Form,
+                Item::Key,
+                Item::Horizon,
+                Item::Size,
+            ],
+            Mode::Export => &[
+                Item::Count,
+                Item::Budget,
+                Item::After,
+                Item::Log,
+                Item::Form,
+                Item::To,
+                Item::Key,
+                Item::Size,
+            ],
+            Mode::Models => &[
+                Item::Query,
+                Item::After,
+                Item::To,
+                Item::Key,
+                Item::Horizon,
+                Item::Size,
+            ],
+            Mode::CheckModels => &[
+                Item::Query,
+                Item::Count,
+                Item::Budget,
+                Item::After,
+                Item::Form,
+                Item::To,
+                Item::Key,
+                Item::Horizon,
                 Item::Size,
             ],
         }

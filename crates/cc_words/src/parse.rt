@@ -31,7 +31,7 @@ fn bare<'a>(alloc: Global) -> Command<'a>
         .disable_help_flag(true)
 }
 
-/// The eight options, and the file.
+/// The eleven options, and the file.
 fn command<'a>(alloc: Global) -> Result<Command<'a>, OutOfMemory>
     ensures { IfOk result (λ command. app_of command ≡ readings.command) }
 {
@@ -42,7 +42,10 @@ fn command<'a>(alloc: Global) -> Result<Command<'a>, OutOfMemory>
         .arg(option(alloc, "budget"))?
         .arg(option(alloc, "after"))?
         .arg(option(alloc, "log"))?
+        .arg(option(alloc, "form"))?
+        .arg(option(alloc, "to"))?
         .arg(option(alloc, "key"))?
+        .arg(option(alloc, "horizon"))?
         .arg(option(alloc, "size"))?
         .arg(Arg::new(alloc, "FILE"))?;
     Ok(command)
@@ -88,7 +91,10 @@ fn given_by<'a>(matches: &ArgMatches<'a>) -> Given<'a>
         budget: value(matches, "budget"),
         after: value(matches, "after"),
         log: value(matches, "log"),
+        form: value(matches, "form"),
+        to: value(matches, "to"),
         key: value(matches, "key"),
+        horizon: value(matches, "horizon"),
         size: value(matches, "size"),
         file: value(matches, "FILE"),
     }

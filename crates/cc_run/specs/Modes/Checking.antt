@@ -65,6 +65,6 @@ checking_promise checking = record {
   Refuses = λ files. RefusesChecking files checking;
   Gives = Checks checking;
   Opens = λ files opened. (named : List Text) × AreToOpen files checking.file named × (opened ≡ named ++ checking.log ∷ []);
-  begins = None;
+  begins = λ _. None;
   MayEnd = MayEndChecking;
 }

@@ -113,6 +113,6 @@ explaining_promise explaining = record {
   Refuses = λ files. RefusesExplaining files explaining;
   Gives = Explains explaining;
   Opens = λ files. AreToOpen files explaining.file;
-  begins = None;
+  begins = λ _. None;
   MayEnd = MayEndExplaining;
 }

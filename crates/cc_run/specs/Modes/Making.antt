@@ -29,6 +29,6 @@ making_promise size budget = record {
   Refuses = λ files. RefusesNamed (made_files size) made_named;
   Gives = Makes size budget;
   Opens = λ files opened. opened ≡ [];
-  begins = None;
+  begins = λ _. None;
   MayEnd = MayEndMaking;
 }

@@ -40,7 +40,11 @@ fn verdict_status(verdict: &LogVerdict) -> Status
 }
 
 /// Tells a verdict by its line.
-fn tell_verdict<D: Desk>(alloc: Global, desk: &mut D, verdict: &LogVerdict) -> Result<Status, Stop>
+pub(crate) fn tell_verdict<D: Desk>(
+    alloc: Global,
+    desk: &mut D,
+    verdict: &LogVerdict,
+) -> Result<Status, Stop>
     ensures told { Step (only_out (verdict_line verdict.now)) (moment D.told D.begun D.read_faults D.write_faults D.calls desk.old) (moment D.told D.begun D.read_faults D.write_faults D.calls desk.new) result }
     ensures status { IfOk result (λ status. status ≡ checks.verdict_status verdict.now) }
 {

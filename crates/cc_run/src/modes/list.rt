@@ -49,5 +49,9 @@ pub(crate) fn list<D: Desk>(
         budget: asked.budget,
         after: key,
     };
-    search(alloc, desk, described, &laws, query, ask, Teller::OneByOne)
+    let teller = Teller::OneByOne {
+        version: asked.form,
+        own: 1,
+    };
+    search(alloc, desk, described, &laws, query, ask, teller)
 }

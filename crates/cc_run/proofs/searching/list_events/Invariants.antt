@@ -1,12 +1,12 @@
 use Rattle.cc_query.specs.Lefts.{left_of}
 use Rattle.cc_run.specs.Stops.{moment}
-use Rattle.cc_run.specs.Telling.{IsListing, manner_of}
+use Rattle.cc_run.specs.Telling.{IsListing}
 use Rattle.cc_run.proofs.searching.list_events.Given as goal
 
 abbrev pub invariant-loop-session : goal.invariant-loop-session
 invariant-loop-session g l =
     let desk = g.D.Desk in
-    IsListing l.described (manner_of l.initial.teller) l.initial.session l.teller l.session
+    IsListing l.described l.initial.teller l.initial.session l.teller l.session
     (moment desk.told desk.begun desk.read_faults desk.write_faults desk.calls l.initial.desk) (moment desk.told desk.begun desk.read_faults desk.write_faults desk.calls l.desk)
 
 abbrev pub decreases-loop-session : goal.decreases-loop-session

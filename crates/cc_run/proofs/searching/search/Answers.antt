@@ -1,23 +1,22 @@
 use Rattle.cc_arena.specs.GroundViews.{plain_ground_query}
-use Rattle.cc_defs.specs.LogTexts.{header}
-use Rattle.cc_ports.specs.declared.desk.To.TheVariants as outputs
-use Rattle.cc_run.specs.Telling.{manner_of, task_of}
+use Rattle.cc_run.specs.Searching.{header_told}
+use Rattle.cc_run.specs.Telling.{counts_of, manner_of, task_of}
 use Rattle.cc_run.specs.Wholes.{nothing, only_log}
-use Rattle.cc_run.proofs.GivenSteps.{one_as}
 use Rattle.cc_run.proofs.Listed.{header_cut, header_lacks, search_as, search_behind, session_of}
 use Rattle.cc_run.proofs.Passing.{no_run_is_fair}
 use Rattle.cc_run.proofs.searching.search.Goals as goal
 
-pub returns-in_err-give : goal.returns-in_err-give
-returns-in_err-give g c = λ d q is of.
-    header_cut (manner_of c.args.teller) (task_of d q c.args.ask) _ _ (no_run_is_fair (plain_ground_query c.args.query) d q c.args.ask of.query_is c.requires.searchable.ordered)
-    c.give.result c.in_err-give.field-0.0 c.from_residual.result (one_as outputs.Log _ header _ _ c.give.result c.as_bytes.ensures.value c.give.ensures) c.in_err-give.was c.from_residual.ensures.1
+pub returns-in_err-give_header : goal.returns-in_err-give_header
+returns-in_err-give_header g c = λ d q is of.
+    let counts = counts_of d q c.args.ask.after in
+    header_cut (manner_of counts c.args.teller) (task_of d q c.args.ask) _ _ (no_run_is_fair (plain_ground_query c.args.query) d q c.args.ask of.query_is c.requires.searchable.ordered)
+    c.give_header.result c.in_err-give_header.field-0.0 c.from_residual.result (c.give_header.ensures counts) c.in_err-give_header.was c.from_residual.ensures.1
 
 pub returns-in_err-session : goal.returns-in_err-session
 returns-in_err-session g c = λ d q is of.
-    header_lacks (manner_of c.args.teller) (task_of d q c.args.ask) _ _ (no_run_is_fair (plain_ground_query c.args.query) d q c.args.ask of.query_is c.requires.searchable.ordered)
-    c.give.result c.in_ok-give.field-0 c.from_residual-in_err-session.result (one_as outputs.Log _ header _ _ c.give.result c.as_bytes.ensures.value c.give.ensures) c.in_ok-give.was
-    c.from_residual-in_err-session.ensures.1
+    let counts = counts_of d q c.args.ask.after in
+    header_lacks (manner_of counts c.args.teller) (task_of d q c.args.ask) _ _ (no_run_is_fair (plain_ground_query c.args.query) d q c.args.ask of.query_is c.requires.searchable.ordered)
+    c.give_header.result c.in_ok-give_header.field-0 c.from_residual-in_err-session.result (c.give_header.ensures counts) c.in_ok-give_header.was c.from_residual-in_err-session.ensures.1
 
 pub list_events-requires-clause-of : goal.list_events-requires-clause-of
 list_events-requires-clause-of g c =
@@ -30,9 +29,10 @@ list_events-requires-clause-of g c =
 pub returns : goal.returns
 returns g c = λ d q is of.
     let session = c.in_ok-session.session in
+    let counts = counts_of d q c.args.ask.after in
     let of_it = session_of session c.args.described.now.sig c.args.laws.now (plain_ground_query c.args.query) d q c.in_ok-session.ensures.signature c.in_ok-session.ensures.laws
     c.in_ok-session.ensures.query of in
-    search_behind (manner_of c.args.teller) (task_of d q c.args.ask) nothing (only_log header) _ _ _ c.give.result c.in_ok-give.field-0 c.list_events.result
-    (one_as outputs.Log _ header _ _ c.give.result c.as_bytes.ensures.value c.give.ensures) c.in_ok-give.was
-    (search_as (manner_of c.args.teller) d q session.ask c.args.ask (only_log header) _ _ c.list_events.result c.in_ok-session.ensures.ask
+    search_behind (manner_of counts c.args.teller) (task_of d q c.args.ask) nothing (only_log (header_told (manner_of counts c.args.teller))) _ _ _ c.give_header.result
+    c.in_ok-give_header.field-0 c.list_events.result (c.give_header.ensures counts) c.in_ok-give_header.was
+    (search_as c.args.teller d q session.ask c.args.ask _ _ c.list_events.result c.in_ok-session.ensures.ask
     (c.list_events.ensures d q is of_it (c.in_ok-session.ensures.begun d q of_it)))

@@ -1,5 +1,6 @@
 use Rattle.std.proofs.Common.{List, ℕ, ◌++◌, ap, sym, ◌∙◌}
 use Rattle.std.specs.Str.Iter.{split_inclusive_text}
+use Rattle.cc_ports.specs.declared.desk.To.TheVariants as outputs
 use Rattle.cc_run.proofs.LineSteps.{lines_begin, lines_end, lines_more, lines_stop}
 use Rattle.cc_run.proofs.telling.give_lines.Goals as goal
 
@@ -7,7 +8,7 @@ pub loop-line-init : goal.loop-line-init
 loop-line-init g c = record {
   can = tt;
   finite = tt;
-  given = lines_begin _ _ _ (ap (λ s. split_inclusive_text s) c.into_iter-line-iterator.ensures.into_iter_gives ∙ c.split_inclusive-line-items.ensures.text);
+  given = lines_begin outputs.Out _ _ _ (ap (λ s. split_inclusive_text s) c.into_iter-line-iterator.ensures.into_iter_gives ∙ c.split_inclusive-line-items.ensures.text);
 }
 
 pub loop-line-preserved : goal.loop-line-preserved
@@ -16,13 +17,13 @@ loop-line-preserved g c =
     record {
       can = tt;
       finite = tt;
-      given = lines_more _ _ _ _ c.loop-line.invariant.given c.as_bytes.result.now _ is _ c.give.result c.in_ok-give.field-0 c.give.ensures c.in_ok-give.was;
+      given = lines_more outputs.Out _ _ _ _ c.loop-line.invariant.given c.as_bytes.result.now _ is _ c.give.result c.in_ok-give.field-0 c.give.ensures c.in_ok-give.was;
     }
 
 pub returns-in_err-give : goal.returns-in_err-give
 returns-in_err-give g c =
     let is = c.in-Some.ensures.steps.1.0 ∙ ap (λ (line : List ℕ). line ++ split_inclusive_text c.next.new.self) (sym c.as_bytes.ensures.value) in
-    lines_stop _ _ _ _ c.loop-line.invariant.given c.as_bytes.result.now _ is _ c.give.result c.in_err-give.field-0.0 c.from_residual.result c.give.ensures c.in_err-give.was c.from_residual.ensures.1
+    lines_stop outputs.Out _ _ _ _ c.loop-line.invariant.given c.as_bytes.result.now _ is _ c.give.result c.in_err-give.field-0.0 c.from_residual.result c.give.ensures c.in_err-give.was c.from_residual.ensures.1
 
 pub returns : goal.returns
-returns g c = lines_end _ _ _ _ c.loop-line.invariant.given _ c.in-None.ensures.steps.1.0
+returns g c = lines_end outputs.Out _ _ _ _ c.loop-line.invariant.given _ c.in-None.ensures.steps.1.0

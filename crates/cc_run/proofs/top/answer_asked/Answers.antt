@@ -1,7 +1,9 @@
-use Rattle.std.proofs.Common.{ap, refl}
+use Rattle.std.proofs.Common.{◌∙◌, Some, ap, refl, sym}
+use Rattle.cc_run.specs.Names.{names_log}
 use Rattle.cc_words.specs.declared.asked.Asked.TheVariants as requests
 use Rattle.cc_words.specs.Views.{plain_request}
-use Rattle.cc_run.proofs.Readings.{file_as}
+use Rattle.cc_run.proofs.Outcomes.{prints_as}
+use Rattle.cc_run.proofs.Readings.{file_as, modelling_by, models_checking_by}
 use Rattle.cc_run.proofs.top.answer_asked.Goals as goal
 
 pub returns-in-List : goal.returns-in-List
@@ -18,3 +20,23 @@ returns-in-Make g c = λ words asked. c.answer_made.ensures words c.in-Make.budg
 pub returns-in-Explain : goal.returns-in-Explain
 returns-in-Explain g c = λ words asked.
     c.answer_file-in-Explain.ensures words asked (file_as c.args.asked.now (requests.Explain c.in-Explain.explain) c.in-Explain.explain.file.now c.in-Explain.is refl)
+
+pub returns-in-Convert : goal.returns-in-Convert
+returns-in-Convert g c = λ words asked.
+    c.answer_file-in-Convert.ensures words asked (file_as c.args.asked.now (requests.Convert c.in-Convert.convert) c.in-Convert.convert.file.now c.in-Convert.is refl)
+
+pub returns-in-Export : goal.returns-in-Export
+returns-in-Export g c = λ words asked.
+    c.answer_file-in-Export.ensures words asked (file_as c.args.asked.now (requests.Export c.in-Export.export) c.in-Export.export.file.now c.in-Export.is refl)
+
+pub returns-in-Models : goal.returns-in-Models
+returns-in-Models g c = λ words asked.
+    let e = ap plain_request c.in-Models.is in
+    prints_as words _ _ _ _ c.models.result (ap (λ request. names_log (Some request)) (sym e))
+    (c.models.ensures words (modelling_by c.in-Models.asked) (asked ∙ ap Some e) refl)
+
+pub returns-in-CheckModels : goal.returns-in-CheckModels
+returns-in-CheckModels g c = λ words asked.
+    let e = ap plain_request c.in-CheckModels.is in
+    prints_as words _ _ _ _ c.check.result (ap (λ request. names_log (Some request)) (sym e))
+    (c.check.ensures words (models_checking_by c.in-CheckModels.asked) (asked ∙ ap Some e) refl)

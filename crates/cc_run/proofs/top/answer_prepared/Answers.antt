@@ -1,9 +1,9 @@
 use Rattle.std.proofs.Common.{◌∙◌, None, Some, ap, refl, subst, sym}
 use Rattle.cc_run.specs.Requested.{AsksQuery}
 use Rattle.cc_words.specs.declared.asked.Asked.{Asked}
-use Rattle.cc_words.specs.Requests.{ToCheck, ToList, ToMake}
+use Rattle.cc_words.specs.Requests.{ToCheck, ToConvert, ToList, ToMake}
 use Rattle.cc_words.specs.Views.{plain_request}
-use Rattle.cc_run.proofs.Readings.{checking_by, listing_by, prints_request, task_as}
+use Rattle.cc_run.proofs.Readings.{checking_by, converting_by, listing_by, prints_request, task_as}
 use Rattle.cc_run.proofs.top.answer_prepared.Goals as goal
 
 pub returns-in-List : goal.returns-in-List
@@ -31,3 +31,10 @@ returns-in-Make g c = λ words request d q asked same is of task.
 
 pub unreachable-requires : goal.unreachable-requires
 unreachable-requires g c = subst (λ (asked : Asked). AsksQuery (plain_request asked)) c.in-Explain.is c.requires.query
+
+pub returns-in-Convert : goal.returns-in-Convert
+returns-in-Convert g c = λ words request d q asked same is of task.
+    let converting = converting_by c.in-Convert.asked in
+    let e = sym (ap plain_request c.in-Convert.is) ∙ same in
+    prints_request words (ToConvert converting) request _ _ c.convert.result e
+    (c.convert.ensures words converting d q (asked ∙ ap Some (sym e)) refl of (task_as _ (ToConvert converting) request _ e (task None 0)))

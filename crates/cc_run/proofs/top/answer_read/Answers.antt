@@ -1,9 +1,9 @@
 use Rattle.std.proofs.Common.{◌∙◌, Some, ap, refl, subst, sym}
 use Rattle.cc_run.specs.Requested.{AsksQuery}
 use Rattle.cc_words.specs.declared.asked.Asked.{Asked}
-use Rattle.cc_words.specs.Requests.{ToExplain}
+use Rattle.cc_words.specs.Requests.{ToExplain, ToExport}
 use Rattle.cc_words.specs.Views.{plain_request}
-use Rattle.cc_run.proofs.Readings.{describes_as, explaining_by, prints_request}
+use Rattle.cc_run.proofs.Readings.{describes_as, explaining_by, exporting_by, prints_request}
 use Rattle.cc_run.proofs.top.answer_read.Goals as goal
 
 pub returns-in-Explain : goal.returns-in-Explain
@@ -21,3 +21,13 @@ answer_query-requires-in-Check-clause-query g c = subst (λ (asked : Asked). Ask
 
 pub answer_query-requires-in-Make-clause-query : goal.answer_query-requires-in-Make-clause-query
 answer_query-requires-in-Make-clause-query g c = subst (λ (asked : Asked). AsksQuery (plain_request asked)) (sym c.in-Make.is) tt
+
+pub answer_query-requires-in-Convert-clause-query : goal.answer_query-requires-in-Convert-clause-query
+answer_query-requires-in-Convert-clause-query g c = subst (λ (asked : Asked). AsksQuery (plain_request asked)) (sym c.in-Convert.is) tt
+
+pub returns-in-Export : goal.returns-in-Export
+returns-in-Export g c = λ words request asked same describes.
+    let exporting = exporting_by c.in-Export.export in
+    let e = sym (ap plain_request c.in-Export.is) ∙ same in
+    prints_request words (ToExport exporting) request _ _ c.export.result e
+    (c.export.ensures words exporting (asked ∙ ap Some (sym e)) refl (describes_as _ (ToExport exporting) request _ e describes))

@@ -4,7 +4,7 @@ use Rattle.cc_run.specs.Tasks.{request_of}
 use Rattle.cc_run.specs.Telling.{task_to_check}
 use Rattle.cc_run.specs.declared.status.Stop.TheVariants as stops
 use Rattle.cc_run.proofs.Callings.{called_reads, first_all, limit_is_no_fault}
-use Rattle.cc_run.proofs.Judged.{log_is, is_log_of, refuses_long}
+use Rattle.cc_run.proofs.Judged.{as_checking, is_log_of, log_is, refuses_long}
 use Rattle.cc_run.proofs.Outcomes.{RefusesRequest, files_stay, prints_after_read, prints_refusal, prints_stopped}
 use Rattle.cc_run.proofs.modes.check.check.Goals as goal
 
@@ -24,7 +24,7 @@ returns-in-Err-Limit g c = λ words checking d q asked same of is.
     let read = c.read_all.ensures in
     let task = task_to_check d q c.args.prepared.now.key in
     let long = c.in-Err-Limit.ensures.limit (ap Err c.in-Err-Limit.field-0-is) in
-    let refused = refuses_long _ words checking task c.args.asked.now.log.now _ c.past.result asked (log_is c.args.asked.now checking same) is long c.number.ensures c.past.ensures in
+    let refused = refuses_long _ words checking task c.args.asked.now.log.now _ c.past.result (as_checking words checking asked) (log_is c.args.asked.now checking same) is long c.number.ensures c.past.ensures in
     let log = c.args.asked.now.log.now in
     prints_after_read words _ (log ∷ []) [] read.after.0 _ _ _ c.refuse.result read.after.1 read.begun read.reads_count read.writes_count
     (called_reads log _ _ _ read.calls) (c.in-Err-Limit.ensures.calm (limit_is_no_fault _ c.in-Err-Limit.field-0-is))

@@ -1,7 +1,7 @@
 use Rattle.std.proofs.Common.{[], refl}
 use Rattle.cc_defs.specs.declared.refusal.Fault.TheVariants as faults
 use Rattle.cc_run.specs.Telling.{task_to_check}
-use Rattle.cc_run.proofs.Judged.{fault_as, is_said, refuses_section}
+use Rattle.cc_run.proofs.Judged.{as_checking, fault_as, is_said, refuses_section}
 use Rattle.cc_run.proofs.Outcomes.{prints_lacking, prints_refusal, prints_verdict}
 use Rattle.cc_run.proofs.modes.check.check_log.Goals as goal
 
@@ -19,7 +19,7 @@ returns-in-Err-Refused g c = λ words checking d q asked of named.
     let fault = fault_as d q key _ c.args.bytes.now (faults.Refused c.in-Err-Refused.refusal) c.as_ref.ensures.value
     (rw c.in-Err-Refused.field-0-is at (c.in-Err-Refused.ensures.refused d q of.laws_are of.query_is)) in
     prints_refusal words _ [] c.in-Err-Refused.refusal [] _ _ c.refuse.result
-    (refuses_section _ words checking (task_to_check d q key) c.args.bytes.now c.in-Err-Refused.refusal asked named c.requires.few fault)
+    (refuses_section _ words checking (task_to_check d q key) c.args.bytes.now c.in-Err-Refused.refusal (as_checking words checking asked) named c.requires.few fault)
     c.refuse.ensures.told c.refuse.ensures.status
 
 pub returns-in-Err-OutOfMemory : goal.returns-in-Err-OutOfMemory

@@ -1,0 +1,6 @@
+pub mod Accepted
+pub mod Bounds
+pub mod Inside
+pub mod Joined
+pub mod Reading
+pub mod Spoken

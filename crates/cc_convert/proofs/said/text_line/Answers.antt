@@ -1,0 +1,18 @@
+use Rattle.std.proofs.Common.{◌∙◌}
+use Rattle.cc_check.proofs.Lines.{one_line}
+use Rattle.cc_convert.proofs.Reading.{text_holdable, text_result}
+use Rattle.cc_convert.proofs.said.text_line.Goals as goal
+
+pub returns-in-Some : goal.returns-in-Some
+returns-in-Some c = λ line is over. c.section_of.ensures ∙ one_line c.args.text.now _ line c.in-Some.ensures is
+
+pub line_of-requires : goal.line_of-requires
+line_of-requires c =
+    let (line, is, over) = c.requires in
+    text_holdable c.args.text.now line is c.read_line.new.room.literals.items c.read_line.new.room.numbers.items c.in-Some-2.kind c.in_default.ensures
+    (rw c.in-Some-2.is at c.in_ok-kind.ensures) over
+
+pub returns : goal.returns
+returns c = λ line is over.
+    text_result c.args.text.now line is c.line_of.result c.read_line.new.room.literals.items c.read_line.new.room.numbers.items c.in-Some-2.kind
+    (rw c.in-Some-2.is at c.in_ok-kind.ensures) c.line_of.ensures

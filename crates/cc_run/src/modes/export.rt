@@ -1,0 +1,189 @@
+//! Export mode: the clause list of a query at a horizon, as a text of clauses.
+ghost use Rattle.std.specs.Prelude.{◌≡◌, ◌≤◌, List, [], false, flat_map, IfErr, IfOk, IfSome, map, None, OnOk, Some};
+ghost use Rattle.cc_arena.specs.GroundViews.{plain_ground_query};
+ghost use Rattle.cc_asked.specs.Descriptions.{IsDescriptionOf};
+ghost use Rattle.cc_defs.specs.Description.{Description};
+ghost use Rattle.cc_defs.specs.Limits.{most_steps};
+ghost use Rattle.cc_defs.specs.Refusals.{IsRefusedBy};
+ghost use Rattle.cc_defs.specs.Resolved.{plain_query};
+ghost use Rattle.cc_describe.specs.Describing.{AsksFormulas, Describes, HasForms, SaysAll};
+ghost use Rattle.cc_dimacs.specs.CnfTexts.{clause_line, export_of};
+ghost use Rattle.cc_form.specs.Queries.{IsQueryAt};
+ghost use Rattle.cc_laws.specs.Questions.{steps_refusal};
+ghost use Rattle.cc_laws.specs.Vocabulary.{vocabulary_of};
+ghost use Rattle.cc_ports.specs.declared.desk.To.TheVariants as outputs;
+ghost use Rattle.cc_run.specs.Exported.{IsAskedAt, IsExported, IsExportFault, tried_refusal};
+ghost use Rattle.cc_run.specs.Modes.Exporting.{horizon_refusal, is_outside};
+ghost use Rattle.cc_run.specs.Stops.{Prints, Step, given_to, moment};
+ghost use Rattle.cc_run.specs.Tasks as tasks;
+ghost use Rattle.cc_run.specs.Tasks.{request_of};
+ghost use Rattle.cc_run.specs.Wholes.{only_out};
+ghost use Rattle.cc_sorts.specs.Tables.{IsSignatureFor};
+ghost use Rattle.cc_words.specs.Requests.{Exporting, ToExport};
+ghost use Rattle.cc_words.specs.Views.{plain_request, plain_text};
+ghost use Rattle.cc_words.specs.Words.{Text};
+ghost use Rattle.cc_words.specs.declared.asked.Asked.TheVariants as requests;
+
+use crate::asking::query_named;
+use crate::refusing::{file_named, give, refuse};
+use crate::status::{Status, Stop};
+use crate::telling::give_lines;
+use bumpalo::Bump;
+use cc_arena::{GroundQuery, Terms};
+use cc_asked::{laws_of, query_of};
+use cc_defs::{Fault, Query, Refusal};
+use cc_describe::Described;
+use cc_dimacs::{export_heading, export_line};
+use cc_form::Form;
+use cc_laws::query_steps;
+use cc_ports::{Desk, To};
+use cc_query::form_at;
+use cc_words::ExportAsked;
+use std::alloc::Global;
+
+/// Whether a query does not try a horizon.
+fn is_outside_of(query: &Query, horizon: u32) -> bool
+    ensures { result ≡ is_outside (plain_query query.now) horizon }
+{
+    match query.range {
+        Some((least, greatest)) => horizon < least || greatest < horizon,
+        None => true,
+    }
+}
+
+/// The query that is named. Refuses an absent one (15), a horizon that it does not try or a step that does not fit (16), and a
+/// greatest horizon that is too great (14).
+fn query_tried<'q>(
+    described: &'q Described,
+    label: Option<&str>,
+    horizon: u32,
+) -> Result<&'q Query, Fault>
+    ensures named { IfOk result (λ query.
+        tasks.query_named (plain_text label.entry) (map plain_query described.now.queries) ≡ Some (plain_query query.now)) }
+    ensures inside { IfOk result (λ query. is_outside (plain_query query.now) horizon ≡ false) }
+    ensures steps { IfOk result (λ query. steps_refusal (vocabulary_of described.now.table).symbols (plain_query query.now) ≡ None) }
+    ensures refused { IfErr result (IsRefusedBy (tried_refusal (vocabulary_of described.now.table).symbols
+        (tasks.query_named (plain_text label.entry) (map plain_query described.now.queries)) horizon)) }
+{
+    let Some(query) = query_named(described.queries.items(), label) else {
+        return Err(Fault::Refused(Refusal::at(15, 0, 0)));
+    };
+    if is_outside_of(query, horizon) {
+        return Err(Fault::Refused(Refusal::at(16, query.file, query.line)));
+    }
+    match query_steps(&described.table, query) {
+        Some(refusal) => Err(Fault::Refused(refusal)),
+        None => Ok(query),
+    }
+}
+
+/// The query that is named, ground. Refuses what `query_tried` does, and then too many nodes (14).
+fn query_at<'a>(
+    alloc: Global,
+    described: &Described,
+    label: Option<&str>,
+    horizon: u32,
+    terms: &Terms<'a>,
+) -> Result<GroundQuery<'a>, Fault>
+    requires signature { IsSignatureFor described.now.table described.now.sig }
+    requires formulas { AsksFormulas described.now }
+    requires of { (d : Description) × IsDescriptionOf described.now d }
+    ensures most { OnOk result (horizon ≤ most_steps) }
+    ensures at { IfOk result (λ made. IsQueryAt described.now.sig horizon (plain_ground_query made)) }
+    ensures named { (d : Description) → IsDescriptionOf described.now d → IfOk result (λ made.
+        IsAskedAt d (map plain_query described.now.queries) (plain_text label.entry) horizon (plain_ground_query made)) }
+    ensures refused { (d : Description) → IsDescriptionOf described.now d → IfErr result (IsRefusedBy
+        (horizon_refusal d (tasks.query_named (plain_text label.entry) (map plain_query described.now.queries)) horizon)) }
+{
+    let query = query_tried(described, label, horizon)?;
+    query_of(alloc, described, query, terms)
+}
+
+/// The clause list of the horizon, with the claim of the query denied where it has one. Refuses too many instances or nodes of the
+/// laws (14), what `query_at` does, and a limit that the rules or the clauses pass (14), in this order.
+fn exported_form(
+    alloc: Global,
+    described: &Described,
+    asked: &ExportAsked<'_>,
+    terms: &Terms<'_>,
+) -> Result<Form, Fault>
+    requires signature { IsSignatureFor described.now.table described.now.sig }
+    requires forms { HasForms described.now }
+    requires formulas { AsksFormulas described.now }
+    requires of { (d : Description) × IsDescriptionOf described.now d }
+    ensures exported { (d : Description) → IsDescriptionOf described.now d → IfOk result (λ form.
+        IsExported d (map plain_query described.now.queries) (plain_text asked.now.query) asked.now.horizon form) }
+    ensures refused { (d : Description) → IsDescriptionOf described.now d →
+        IfErr result (IsExportFault d (map plain_query described.now.queries) (plain_text asked.now.query) asked.now.horizon) }
+{
+    let laws = laws_of(alloc, described, terms)?;
+    let query = query_at(alloc, described, asked.query, asked.horizon, terms)?;
+    form_at(
+        alloc,
+        &described.sig,
+        &laws,
+        &query,
+        None,
+        asked.horizon,
+        true,
+    )
+}
+
+/// Gives the clauses to Out, each by its line.
+fn tell_clauses<D: Desk>(alloc: Global, desk: &mut D, form: &Form) -> Result<(), Stop>
+    ensures { Step (given_to outputs.Out (flat_map clause_line form.now.clauses))
+        (moment D.told D.begun D.read_faults D.write_faults D.calls desk.old)
+        (moment D.told D.begun D.read_faults D.write_faults D.calls desk.new) result }
+{
+    for index in 0..form.count() {
+        let line = export_line(alloc, form.clause(index + 1))?;
+        give(desk, To::Out, line.text().as_bytes())?;
+    }
+    Ok(())
+}
+
+/// Gives a clause list to Out.
+fn tell_form<D: Desk>(
+    alloc: Global,
+    desk: &mut D,
+    horizon: u32,
+    form: &Form,
+) -> Result<Status, Stop>
+    ensures told { Step (only_out (export_of horizon (record { variables = form.now.variables; clauses = form.now.clauses })))
+        (moment D.told D.begun D.read_faults D.write_faults D.calls desk.old)
+        (moment D.told D.begun D.read_faults D.write_faults D.calls desk.new) result }
+    ensures status { IfOk result (λ status. status ≡ Status.Right) }
+{
+    let heading = export_heading(alloc, form, horizon)?;
+    give_lines(desk, heading.text())?;
+    tell_clauses(alloc, desk, form)?;
+    Ok(Status::Right)
+}
+
+/// Gives the clause list of a horizon of a query to Out.
+pub(crate) fn export<D: Desk>(
+    alloc: Global,
+    desk: &mut D,
+    described: &Described,
+    asked: &ExportAsked<'_>,
+) -> Result<Status, Stop>
+    requires says { SaysAll described.now }
+    requires forms { HasForms described.now }
+    requires formulas { AsksFormulas described.now }
+    ensures { (words : List Text) (exporting : Exporting) → request_of words ≡ Some (ToExport exporting) →
+        plain_request (requests.Export asked.now) ≡ ToExport exporting →
+        IfSome (D.told desk.old) (λ before. Describes before.files exporting.file described.now) →
+        Prints words false [] (moment D.told D.begun D.read_faults D.write_faults D.calls desk.old)
+        (moment D.told D.begun D.read_faults D.write_faults D.calls desk.new) result }
+{
+    let arena = Bump::new(alloc);
+    let terms = Terms::new(&arena);
+    match exported_form(alloc, described, asked, &terms) {
+        Ok(form) => tell_form(alloc, desk, asked.horizon, &form),
+        Err(Fault::Refused(refusal)) => {
+            let file = file_named(described.files.items(), &refusal);
+            refuse(alloc, desk, &refusal, file)
+        }
+        Err(Fault::OutOfMemory) => Err(Stop::OutOfMemory),
+    }
+}
