@@ -1,9 +1,11 @@
 #!/usr/bin/env python3
-"""Makes a book of random runs in list mode over small descriptions, and in make mode, for cc_rows and checks/runs.py.
+"""Makes a book of random runs in list and export mode over small descriptions, and in make mode, for cc_rows and checks/runs.py.
 
 A description has two to four constants with few values, in every second case some with numbers, some laws of each kind with sums and
-comparisons where there are numbers, and one or two queries, some with a claim; the words ask for a label, a number of histories, or the histories after a key. About one case in eight has words, a query or a key that is
-refused. About one in ten asks for a made description, or nearly does. The same number of cases and the same seed give the same book.
+comparisons where there are numbers, and one or two queries, some with a claim; the words ask for a label, a number of histories, the
+histories after a key, a version of the log, or, in one case in sixteen, for the clause list of a horizon. About one case in eight has
+words, a query or a key that is refused. About one in ten asks for a made description, or nearly does. The same number of cases and the
+same seed give the same book.
 
 Usage: checks/random_runs.py CASES SEED      (the book goes to standard output)
 """
@@ -205,6 +207,12 @@ def case(number):
         words += ["--after", description.key(lo, hi)]
     if chance(0.3):
         words += ["--log", "l"]
+    if chance(0.25):
+        words += ["--form", random.choice(["1", "2", "2", "2"])]
+    if chance(0.01):
+        words += random.choice([["--form", "3"], ["--to", "m"], ["--horizon", "1"]])
+    if chance(0.06):
+        words = ["--mode", "export", "--horizon", str(random.randint(max(lo - 1, 0), hi + 1))] + words[: 2 if "second" in words else 0]
     words.append("f.cc")
     if chance(0.1):
         words = made_words()

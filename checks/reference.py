@@ -1324,8 +1324,8 @@ def condition_of(table, item, bracket_numbers):
     return Condition(item.at, resolved(table, tree, {}, bracket_numbers))
 
 
-def check_steps(table, query):
-    """The refusals of the steps of a query that is run."""
+def check_steps(table, query, horizon=None):
+    """The refusals of the steps of a query that is run, of an export at a horizon."""
     asked = query.conditions + ([query.claim] if query.claim else [])
     if query.range is None or query.range.lo > query.range.hi:
         raise Refused(16, query.place)
@@ -1335,6 +1335,8 @@ def check_steps(table, query):
             raise Refused(16, query.place)
         if condition.at in ("maxstep", lo) and has_action(table, condition.formula):
             raise Refused(16, query.place)
+    if horizon is not None and not lo <= horizon <= query.range.hi:
+        raise Refused(16, query.place)
     check_limit("horizon", query.range.hi, None)
 
 

@@ -1,9 +1,9 @@
 #!/usr/bin/env python3
 """A plain second reading of a run: Out, Err and the code, by brute force from the definition of a model.
 
-Reads books of runs, as cc_rows does, and prints for each case the lines of Out and Err and the code. The log is not foretold, and no
-budget is taken to be spent. Words are those of the plain form. Nothing here is meant to be fast: a few constants and horizons, and
-made descriptions of at most four locks.
+Reads books of runs, as cc_rows does, and prints for each case the lines of Out and Err and the code. Of logs only the one that convert
+mode writes is foretold, and no budget is taken to be spent. Words are those of the plain form. Nothing here is meant to be fast: a few
+constants and horizons, made descriptions of at most four locks, exports of small clause lists, all models of at most 20 variables.
 
 Usage: checks/runs.py BOOK..
 """
@@ -13,18 +13,37 @@ from reference import (
     Refused, check_asked_limits, check_ground_limits, check_steps, described, first_files, is_boolean_constant, place_text,
     run_deep, show_books,
 )
-from sections import Theory, clause_list, is_history, is_path, judge, paths, split_log
+from cnf import CnfList, Fault, dimacs, model_text, models, read_cnf
+from sections import Theory, clause_list, converted, is_history, is_path, judge, paths, split_log, version_of
 
 USAGE = (
-    "usage: ccalc [--mode list|check|make|why] [--query LABEL] [--count N] [--budget B] [--after KEY] [--log NAME] [--key KEY] [--size N] "
-    "[FILE]"
+    "usage: ccalc [--mode list|check|make|convert|why|export|models|modelscheck] [--query LABEL] [--count N] [--budget B] [--after KEY] "
+    "[--log NAME] [--form 1|2] [--to NAME] [--key KEY] [--horizon M] [--size N] [FILE]"
 )
-OPTIONS = ("--mode", "--query", "--count", "--budget", "--after", "--log", "--key", "--size")
+OPTIONS = (
+    "--mode", "--query", "--count", "--budget", "--after", "--log", "--form", "--to", "--key", "--horizon", "--size",
+)
+# What goes with each mode; what is marked is required. FILE is required in all but make mode, where it is none.
+TAKEN = {
+    "list": "--query --count --budget --after --log --form",
+    "check": "--query --after --log!",
+    "make": "--budget --size!",
+    "convert": "--query --after --log! --to!",
+    "why": "--key!",
+    "export": "--query --horizon!",
+    "models": "--count --budget --log --form",
+    "modelscheck": "--log!",
+}
 NAMES = {1: "Words", 15: "NoQuery", 18: "Key"}
 
 
 LOCKS = 4
+PAIRS = 1000000  # of values of one position, twice
+VARIABLES = 20  # of a CNF text whose models are all listed
+VARIABLES_COUNTED = 10000  # of one of which some are
 RULES = 8000000
+CNF_VARIABLES = 1000000
+FILE_BYTES = 1048576
 NOT_READ = ["not read"]
 
 
@@ -33,15 +52,15 @@ class Stop(Exception):
 
 
 class Large(Exception):
-    """The made description has more locks than are read here."""
+    """The made description, the clause list or the CNF text is larger than those that are read here."""
 
 
 def refuse(number):
     raise Stop([f"ccalc: {number} {NAMES[number]}"] + ([USAGE] if number == 1 else []), 2)
 
 
-def number_of(text, most):
-    if not re.fullmatch(r"[0-9]{1,7}", text) or not 1 <= int(text) <= most:
+def number_of(text, most, least=1):
+    if not re.fullmatch(r"[0-9]{1,7}", text) or not least <= int(text) <= most:
         refuse(1)
     return int(text)
 
@@ -56,24 +75,19 @@ class Words:
         self.mode = given.pop("--mode", "list")
         if len(words) > 1 or any(word.startswith("-") for word in words):
             refuse(1)
-        taken = {
-            "list": {"--query", "--count", "--budget", "--after", "--log"},
-            "check": {"--query", "--after", "--log"},
-            "make": {"--size", "--budget"},
-            "why": {"--key"},
-        }
-        if self.mode not in taken or not set(given) <= taken[self.mode] or (self.mode == "make") != (not words):
+        taken = TAKEN.get(self.mode, "").split()
+        if not taken or not set(given) <= {name.rstrip("!") for name in taken} or (self.mode == "make") != (not words):
             refuse(1)
-        if self.mode == "check" and "--log" not in given or self.mode == "make" and "--size" not in given:
-            refuse(1)
-        if self.mode == "why" and "--key" not in given:
+        if not {name.rstrip("!") for name in taken if name.endswith("!")} <= set(given) or given.get("--form", "1") not in ("1", "2"):
             refuse(1)
         self.count = number_of(given["--count"], 1000000) if "--count" in given else None
         self.size = number_of(given["--size"], 100) if "--size" in given else None
         number_of(given.get("--budget", "1"), 2000000)
         self.file = words[0] if words else "made"
         self.label, self.after, self.log = given.get("--query"), given.get("--after"), given.get("--log")
-        self.key = given.get("--key")
+        self.key, self.horizon = given.get("--key"), None
+        if "--horizon" in given:
+            self.horizon = number_of(given["--horizon"], 9999999, 0)
 
 
 def made_text(size):
@@ -180,7 +194,7 @@ def named(asked, files):
         if asked.mode == "why":
             return description, None, key_at_most(description, 1000, asked.key)
         query = chosen(description, asked.label)
-        check_steps(description.table, query)
+        check_steps(description.table, query, asked.horizon)
         parts = list(query.conditions) + ([query.claim] if query.claim else [])
         check_asked_limits(description.table, parts)
     except Refused as refused:
@@ -235,19 +249,38 @@ def summing(description, query, size):
     return [f"locks {size}", f"empty horizons {len(empty)}", f"horizon {horizon}", f"histories {listed}", f"ending {word}"], code
 
 
-def verdict_of(description, query, key, log):
+class Subject:
+    """What a log is about: whether it has a claim, which horizons come in turn, and the clause list of a section."""
+
+    def __init__(self, claimed, first, last, list_of):
+        self.claimed, self.first, self.last, self.list_of = claimed, first, last, list_of
+
+
+def subject_of(description, query, key):
+    first, last = (query.range.lo, query.range.hi) if key is None else (key[0], key[0])
+
+    def list_of(letter, horizon):
+        return clause_list(description, query, horizon, letter == "h" and query.claim is not None, key[1] if key else None)
+
+    return Subject(query.claim is not None, first, last, list_of)
+
+
+def subject_of_models(cnf):
+    return Subject(False, 0, 0, lambda letter, horizon: CnfList(*cnf))
+
+
+def verdict_of(subject, log):
     """Whether a log is accepted, with its horizons and the number of its blocks, or its first wrong line and the cause."""
     sections, wrong = split_log(log)
     if wrong:
         return ("refused",) + wrong
-    first, last = (query.range.lo, query.range.hi) if key is None else (key[0], key[0])
+    first, last = subject.first, subject.last
     horizon, is_claim_next, blocked, line = first, False, 0, 2
-    for letter, at, heading, texts in sections:
-        on_conditions = query.claim is not None and not is_claim_next
+    for letter, at, heading, lines in sections:
+        on_conditions = subject.claimed and not is_claim_next
         if letter != ("w" if on_conditions else "h") or at != horizon or at > last:
             return "refused", heading, "section"
-        made = clause_list(description, query, at, not on_conditions and query.claim is not None, key[1] if key else None)
-        found = judge(made, (letter, at, heading, texts)).split()
+        found = judge(subject.list_of(letter, at), (letter, at, heading, lines)).split()
         if found[0] == "wrong":
             return "refused", int(found[1]), " ".join(found[2:])
         if found[0] == "trailed":
@@ -267,22 +300,76 @@ def verdict_of(description, query, key, log):
     return "accepted", first, horizon - 1, blocked
 
 
-def checking(description, query, key, log):
-    verdict = verdict_of(description, query, key, log)
+def checking(subject, log, in_words="horizons {1} to {2}, blocked {3}"):
+    verdict = verdict_of(subject, log)
     if verdict[0] == "accepted":
-        return [f"log accepted: horizons {verdict[1]} to {verdict[2]}, blocked {verdict[3]}"], 0
+        return ["log accepted: " + in_words.format(*verdict)], 0
     return [f"log refused: line {verdict[1]}, {verdict[2]}"], 1
 
 
+def other_version(subject, log):
+    """An accepted log in its other version."""
+    return converted(log, lambda letter, horizon: len(subject.list_of(letter, horizon).clauses))
+
+
+def exporting(description, query, horizon):
+    check_rules(description, horizon)
+    if sum(size * size for size in Theory(description, horizon).sizes) > PAIRS:
+        raise Large
+    made = clause_list(description, query, horizon, query.claim is not None, None)
+    return dimacs(made.last, made.clauses, f"ccalc horizon {horizon}"), 0
+
+
+def file_named(name, files):
+    if name not in files:
+        raise Stop(["ccalc: read fault"], 4)
+    return files[name]
+
+
+def cnf_of(asked, files):
+    text = file_named(asked.file, files)
+    if len(text) > FILE_BYTES:
+        raise Stop([f"ccalc: {asked.file}:1: 14 Limit file bytes {FILE_BYTES}"], 2)
+    try:
+        cnf = read_cnf(text)
+    except Fault as fault:
+        raise Stop([f"ccalc: {asked.file}:{fault.args[0]}: 19 Dimacs"], 2)
+    if cnf[0] > CNF_VARIABLES:
+        raise Stop([f"ccalc: 14 Limit cnf variables {CNF_VARIABLES}"], 2)
+    return cnf
+
+
+def modelling(cnf, count):
+    if cnf[0] > (VARIABLES if count is None else VARIABLES_COUNTED):
+        raise Large
+    out = []
+    for number, row in enumerate(models(*cnf), 1):
+        out.append(f"model {number}:{model_text(row)}")
+        if number == count:
+            return out + [f"asked number reached, {count} listed"], 7
+    return (out + [f"complete, {len(out)} listed"], 0) if out else (["no model"], 1)
+
+
 def answer(words, files):
-    """Out, Err and the code."""
+    """Out, Err, the code, and the log of convert mode where one is begun."""
+    log = None
     try:
         asked = Words(words)
+        if asked.mode == "models":
+            out, code = modelling(cnf_of(asked, files), asked.count)
+            return out, [], code, log
+        if asked.mode == "modelscheck":
+            cnf = cnf_of(asked, files)
+            out, code = checking(subject_of_models(cnf), file_named(asked.log, files), "blocked {3}")
+            return out, [], code, log
         description, query, key = named(asked, files)
-        if asked.mode == "check":
-            if asked.log not in files:
-                raise Stop(["ccalc: read fault"], 4)
-            out, code = checking(description, query, key, files[asked.log])
+        if asked.mode in ("check", "convert"):
+            given, subject = file_named(asked.log, files), subject_of(description, query, key)
+            out, code = checking(subject, given)
+            if asked.mode == "convert" and code == 0:
+                log = other_version(subject, given)
+        elif asked.mode == "export":
+            out, code = exporting(description, query, asked.horizon)
         elif asked.mode == "why":
             out, code = explaining(description, key)
         elif asked.mode == "make":
@@ -291,16 +378,19 @@ def answer(words, files):
             out, code = claiming(description, query)
         else:
             out, code = listing(description, query, asked.count, key)
-        return out, [], code
+        return out, [], code, log
     except Stop as stop:
-        return [], stop.args[0], stop.args[1]
+        return [], stop.args[0], stop.args[1], log
 
 
-def answered(words, files):
-    """The description, the query and the key of a run that lists; none where it is refused, checks, or is not read here."""
+def searched(words, files):
+    """What the log of a run that searches is about; none where it is refused, searches nothing, or is not read here."""
     try:
         asked = Words(words)
-        return named(asked, files) if asked.mode in ("list", "make") else None
+        if asked.mode == "models":
+            cnf = cnf_of(asked, files)
+            return subject_of_models(cnf) if cnf[0] <= VARIABLES_COUNTED else None
+        return subject_of(*named(asked, files)) if asked.mode in ("list", "make") else None
     except (Stop, Large):
         return None
 
@@ -325,18 +415,58 @@ def printed_cases(name):
     return cases
 
 
-def run_lines(files):
-    """What is printed of a case: the lines of Out and Err, and the code; or that a made description is too large."""
-    found = first_files(files)
-    words = found.get("words", b"").decode("latin-1").split("\n")[:-1]
+def words_of(found):
+    return found.get("words", b"").decode("latin-1").split("\n")[:-1]
+
+
+def bytes_in_hex(text):
+    """The bytes whose hex digits stand in a text; what is none is left out."""
+    digits = re.sub(rb"[^0-9A-Fa-f]", b"", text).decode()
+    return bytes.fromhex(digits[: len(digits) // 2 * 2])
+
+
+def desk_files(files):
+    """The files of the desk of a case: `hex NAME` has the bytes of the file NAME in hex, and `log` may be cut."""
+    found = first_files([(name[4:], bytes_in_hex(text)) if name.startswith("hex ") else (name, text) for name, text in files])
     cut = re.search(rb"^cut ([0-9]+)$", found.get("desk", b""), re.MULTILINE)
     if cut:
-        found["log"] = found["log"][: len(found["log"]) - int(cut.group(1))]
+        found["log"] = found["log"][: max(len(found["log"]) - int(cut.group(1)), 0)]
+    return found
+
+
+def hex_lines(log):
+    """The bytes of a log in hex, at most 32 a line."""
+    return [log[at : at + 32].hex(" ").upper() for at in range(0, len(log), 32)]
+
+
+def log_lines(log, counted=False):
+    """A log as cc_rows prints it, or how many lines or bytes it has."""
+    if counted:
+        return [f"log has {len(log)} bytes" if version_of(log) == 2 else f"log has {log.count(10)} lines"]
+    if version_of(log) == 2:
+        return [f"log in hex: {line}" for line in hex_lines(log)]
+    return [f"log: {line}" for line in log.decode().split("\n")[:-1]]
+
+
+def printed_log(lines):
+    """The log that cc_rows printed so; none where there is none."""
+    in_hex = [line.partition(": ")[2] for line in lines if line.startswith("log in hex: ")]
+    text = "".join(line[5:] + "\n" for line in lines if line.startswith("log: ")).encode()
+    return bytes_in_hex("".join(in_hex).encode()) if in_hex else text
+
+
+def run_lines(files):
+    """What is printed of a case: the lines of Out and Err, the log of convert mode, and the code; or that a made description is too large."""
+    found = desk_files(files)
     try:
-        out, err, code = answer(words, found)
+        out, err, code, log = answer(words_of(found), found)
     except Large:
         return NOT_READ
-    return [f"out: {line}" for line in out] + [f"err: {line}" for line in err] + [f"code {code}"]
+    shown = [f"out: {line}" for line in out] + [f"err: {line}" for line in err]
+    if log is not None:
+        counted = found.get("desk", b"").startswith(b"counted")
+        shown += ["log begun"] + log_lines(log, counted)
+    return shown + [f"code {code}"]
 
 
 if __name__ == "__main__":

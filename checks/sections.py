@@ -14,7 +14,7 @@ A case has, beside the files of a description (the first is the main one), a fil
     cut N               the log has so many bytes less at its end
     show WORD WORD      what is printed: rules, causes, rows, clauses, log
 
-and, where the log is shown, a file `log`.
+and, where the log is shown, a file `log`. Logs are read and written in both versions.
 
 Usage: checks/sections.py BOOK..
 """
@@ -211,14 +211,24 @@ def is_history(theory, query, claimed, row):
 class Clauses:
     """Makes the clause list of docs/formats.md."""
 
-    def __init__(self, theory):
+    def __init__(self, theory=None, sizes=None):
         self.theory = theory
+        self.sizes = theory.sizes if sizes is None else sizes
         self.first = [1]
-        for size in theory.sizes:
+        for size in self.sizes:
             self.first.append(self.first[-1] + size)
         self.t = self.first[-1]
         self.last = self.t
         self.clauses = []
+
+    def write_positions(self):
+        """What each list begins with: T, and for each position that it has one value."""
+        self.write([self.t])
+        for position, size in enumerate(self.sizes):
+            variables = [self.first[position] + value for value in range(size)]
+            self.write(variables)
+            for u, v in itertools.combinations(variables, 2):
+                self.write([-u, -v])
 
     def write(self, literals):
         literals = sorted(set(literals), key=lambda literal: (abs(literal), literal > 0))
@@ -318,12 +328,7 @@ class Clauses:
 
     def make(self, conditions, denied, key):
         theory = self.theory
-        self.write([self.t])
-        for position, size in enumerate(theory.sizes):
-            variables = [self.first[position] + value for value in range(size)]
-            self.write(variables)
-            for u, v in itertools.combinations(variables, 2):
-                self.write([-u, -v])
+        self.write_positions()
         bodies = []
         for head, parts in theory.rules:
             if head is not None and len(theory.domains[head[1]]) == 1:
@@ -371,29 +376,116 @@ LINE = re.compile(
     rb"|b(?P<row>(?: " + NUMBER + rb")*)"
     rb"|e (?P<word>empty|found|spent))\n\Z"
 )
+HEADERS = {1: b"ccalc log 1\n", 2: b"ccalclg2"}
+HEADINGS = {1: "h", 2: "w"}  # what kind bytes of version 2 stand for
+DERIVED, BLOCK = 3, 4
+WORDS = {5: "empty", 6: "found", 7: "spent"}
+MOST = 1999999999
+
+# A line is a tuple: ("heading", "h" or "w", M), ("derived", literals, chain), ("block", row), ("end", word); None where it has no form.
+# The chain has clause numbers and pivots in turn. In a line ("apart", literals, chain), of version 2, it has distances for clause numbers.
 
 
-def parts_of_log(log):
-    return re.findall(rb"[^\n]*\n|[^\n]+", log)
+def version_of(log):
+    return 2 if log.startswith(HEADERS[2]) else 1
+
+
+def read_line(text):
+    """What a line of version 1 says, with its line feed."""
+    match = LINE.match(text)
+    if not match:
+        return None
+    if match.group("heading"):
+        return "heading", match.group("heading").decode(), int(match.group("horizon"))
+    if match.group("word"):
+        return "end", match.group("word").decode()
+    if match.group("row") is not None:
+        return "block", numbers(match.group("row"))
+    return "derived", numbers(match.group("clause")), numbers(match.group("chain"))
+
+
+class Cut(Exception):
+    """Bytes that begin no entry."""
+
+
+class Entries:
+    """The entries of a log of version 2, read byte by byte."""
+
+    def __init__(self, log):
+        self.log, self.place = log, len(HEADERS[2])
+
+    def byte(self):
+        if self.place == len(self.log):
+            raise Cut
+        self.place += 1
+        return self.log[self.place - 1]
+
+    def number(self):
+        value, bits, byte = 0, 0, 128
+        while byte >= 128:
+            byte = self.byte()
+            value += (byte % 128) << bits
+            bits += 7
+            if bits > 35 or (byte == 0 and bits > 7):
+                raise Cut
+        if value > MOST:
+            raise Cut
+        return value
+
+    def literal(self):
+        number = self.number()
+        if number < 2:
+            raise Cut
+        return -(number // 2) if number % 2 else number // 2
+
+    def entry(self):
+        kind = self.byte()
+        if kind in HEADINGS:
+            return "heading", HEADINGS[kind], self.number()
+        if kind in WORDS:
+            return "end", WORDS[kind]
+        if kind == BLOCK:
+            return "block", [self.number() for _ in range(self.number())]
+        if kind != DERIVED:
+            raise Cut
+        literals = [self.literal() for _ in range(self.number())]
+        pairs = self.number()
+        return "apart", literals, [self.number() for _ in range(1 + 2 * pairs)]
+
+    def all(self):
+        """The lines; what begins no entry is one last line, to the end of the bytes."""
+        lines = []
+        try:
+            while self.place < len(self.log):
+                lines.append(self.entry())
+        except Cut:
+            lines.append(None)
+        return lines
+
+
+def lines_of_log(log):
+    """The lines behind the header of a log of either version; none at all where the header is another."""
+    if version_of(log) == 2:
+        return Entries(log).all()
+    lines = re.findall(rb"[^\n]*\n|[^\n]+", log)
+    return [read_line(line) for line in lines[1:]] if lines and lines[0] == HEADERS[1] else None
 
 
 def split_log(log):
     """The sections of a log, or the first wrong line with its cause."""
-    lines = parts_of_log(log)
-    if not lines or lines[0] != b"ccalc log 1\n":
+    lines = lines_of_log(log)
+    if lines is None:
         return None, (1, "header")
-    if len(lines) < 2:
+    if not lines:
         return None, (2, "section")
-    first = LINE.match(lines[1])
-    if not first:
+    if lines[0] is None:
         return None, (2, "form")
-    if not first.group("heading"):
+    if lines[0][0] != "heading":
         return None, (2, "section")
     sections = []
-    for number, line in enumerate(lines[1:], 2):
-        match = LINE.match(line)
-        if match and match.group("heading"):
-            sections.append((match.group("heading").decode(), int(match.group("horizon")), number, []))
+    for number, line in enumerate(lines, 2):
+        if line and line[0] == "heading":
+            sections.append((line[1], line[2], number, []))
         else:
             sections[-1][3].append(line)
     return sections, None
@@ -402,6 +494,73 @@ def split_log(log):
 def numbers(text):
     return [int(one) for one in text.split()]
 
+
+def chain_of(line, own):
+    """The chain of a derived line of either version, whose own clause has this number; 0 names no clause."""
+    if line[0] == "derived":
+        return line[2]
+    chain = list(line[2])
+    chain[::2] = [own - distance if distance < own else 0 for distance in chain[::2]]
+    return chain
+
+
+# ---- writing
+
+def text_of(line):
+    """A line of version 1."""
+    if line[0] == "heading":
+        parts = line[1:]
+    elif line[0] == "end":
+        parts = ("e", line[1])
+    elif line[0] == "block":
+        parts = ("b", *line[1])
+    else:
+        parts = ("d", *line[1], 0, *line[2], 0)
+    return " ".join(map(str, parts)).encode() + b"\n"
+
+
+def number_bytes(number):
+    written = bytearray()
+    while number >= 128:
+        written.append(128 + number % 128)
+        number //= 128
+    return bytes(written) + bytes([number])
+
+
+def entry_of(line, own):
+    """An entry of version 2, of a line of version 1 whose own clause has this number."""
+    kinds = {name: kind for kind, name in (HEADINGS | WORDS).items()}
+    if line[0] == "heading":
+        return bytes([kinds[line[1]]]) + number_bytes(line[2])
+    if line[0] == "end":
+        return bytes([kinds[line[1]]])
+    if line[0] == "block":
+        return bytes([BLOCK]) + b"".join(map(number_bytes, [len(line[1])] + line[1]))
+    literals = [2 * literal if literal > 0 else 1 - 2 * literal for literal in line[1]]
+    chain = list(line[2])
+    chain[::2] = [own - named for named in chain[::2]]
+    return bytes([DERIVED]) + b"".join(map(number_bytes, [len(literals), *literals, len(chain) // 2, *chain]))
+
+
+def written(sections, version, axioms_of):
+    """The log of sections in this version; `axioms_of` tells how many axioms a section has, by its letter and its horizon."""
+    log = [HEADERS[version]]
+    for letter, horizon, _, lines in sections:
+        own = axioms_of(letter, horizon) + 1
+        for line in [("heading", letter, horizon)] + lines:
+            if line[0] == "apart":
+                line = ("derived", line[1], chain_of(line, own))
+            log.append(text_of(line) if version == 1 else entry_of(line, own))
+            own += line[0] in ("derived", "block")
+    return b"".join(log)
+
+
+def converted(log, axioms_of):
+    """A log whose lines have their form and name earlier clauses, in its other version."""
+    return written(split_log(log)[0], 3 - version_of(log), axioms_of)
+
+
+# ---- judging
 
 def resolvent(a, b, pivot):
     for sign in (pivot, -pivot):
@@ -413,30 +572,28 @@ def resolvent(a, b, pivot):
 def judge(made, section):
     """What the lines of a section are found to be, over a clause list: right; right up to the end, with a wrong line behind it; or wrong."""
     clauses = [frozenset(clause) for clause in made.clauses]
-    number, blocks = section[2], 0
+    number, blocks, refuted = section[2], 0, frozenset() in clauses
     lines = section[3]
     for place, line in enumerate(lines):
         number += 1
-        match = LINE.match(line)
-        if not match:
+        if line is None:
             return f"wrong {number} form"
-        if match.group("word"):
-            word = match.group("word").decode()
-            if (word == "empty") != (frozenset() in clauses):
+        if line[0] == "end":
+            if (line[1] == "empty") != refuted:
                 return f"wrong {number} section"
             if place + 1 < len(lines):
-                return f"trailed {word} {number} {'section' if LINE.match(lines[place + 1]) else 'form'}"
-            return f"right {word} blocks {blocks} line {number}"
-        if frozenset() in clauses:
+                return f"trailed {line[1]} {number} {'section' if lines[place + 1] else 'form'}"
+            return f"right {line[1]} blocks {blocks} line {number}"
+        if refuted:
             return f"wrong {number} section"
-        if match.group("row") is not None:
-            row = numbers(match.group("row"))
-            if len(row) != len(made.theory.sizes) or any(index >= size for index, size in zip(row, made.theory.sizes)):
+        if line[0] == "block":
+            row = line[1]
+            if len(row) != len(made.sizes) or any(index >= size for index, size in zip(row, made.sizes)):
                 return f"wrong {number} row"
             clauses.append(frozenset(-(made.first[position] + index) for position, index in enumerate(row)))
-            blocks += 1
+            blocks, refuted = blocks + 1, not row
             continue
-        literals, chain = numbers(match.group("clause")), numbers(match.group("chain"))
+        literals, chain = line[1], chain_of(line, len(clauses) + 1)
         order = [(abs(literal), literal > 0) for literal in literals]
         if any(abs(literal) > made.last for literal in literals) or any(a >= b for a, b in zip(order, order[1:])):
             return f"wrong {number} literal"
@@ -450,6 +607,7 @@ def judge(made, section):
         if set(reached) != set(literals):
             return f"wrong {number} clause"
         clauses.append(frozenset(literals))
+        refuted = not literals
     return f"wrong {number + 1} section"
 
 

@@ -10,14 +10,15 @@ _ccalc_labels() { # the labels of the queries in the files among the words
 _ccalc() {
     local word=${COMP_WORDS[COMP_CWORD]} before=${COMP_WORDS[COMP_CWORD - 1]}
     case $before in
-        --mode) COMPREPLY=($(compgen -W "list check make why" -- "$word")) ;;
+        --mode) COMPREPLY=($(compgen -W "list check make convert why export models modelscheck" -- "$word")) ;;
         --query) COMPREPLY=($(compgen -W "$(_ccalc_labels)" -- "$word")) ;;
-        --count | --budget | --after | --key | --size) COMPREPLY=() ;;
-        --log) COMPREPLY=($(compgen -f -- "$word")) ;;
+        --form) COMPREPLY=($(compgen -W "1 2" -- "$word")) ;;
+        --count | --budget | --after | --key | --horizon | --size) COMPREPLY=() ;;
+        --log | --to) COMPREPLY=($(compgen -f -- "$word")) ;;
         *)
             case $word in
-                -*) COMPREPLY=($(compgen -W "--mode --query --count --budget --after --log --key --size" -- "$word")) ;;
-                *) COMPREPLY=($(compgen -f -X '!*.cc' -- "$word") $(compgen -d -- "$word")) ;;
+                -*) COMPREPLY=($(compgen -W "--mode --query --count --budget --after --log --form --to --key --horizon --size" -- "$word")) ;;
+                *) COMPREPLY=($(compgen -f -X '!*.cc' -- "$word") $(compgen -f -X '!*.cnf' -- "$word") $(compgen -d -- "$word")) ;;
             esac
             ;;
     esac

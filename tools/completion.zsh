@@ -8,15 +8,18 @@ _ccalc_labels() { # the labels of the queries in the files among the words
 
 _ccalc() {
     _arguments \
-        '--mode[the mode]:mode:(list check make why)' \
+        '--mode[the mode]:mode:(list check make convert why export models modelscheck)' \
         '--query[the query with this label]:label:_ccalc_labels' \
-        '--count[at most so many histories]:number:' \
+        '--count[at most so many histories or models]:number:' \
         '--budget[at most so many derived clauses in a section]:number:' \
         '--after[only the histories behind this key]:key:' \
         '--log[the file of the log]:file:_files' \
+        '--form[the version of the log that is written]:version:(1 2)' \
+        '--to[the file of the log in its other version]:file:_files' \
         '--key[the history that is explained]:key:' \
+        '--horizon[the horizon whose clauses are printed]:horizon:' \
         '--size[how many locks a made description has]:number:' \
-        '*:description:_files -g "*.cc"'
+        '*:description:_files -g "*.(cc|cnf)"'
 }
 
 compdef _ccalc ccalc ./ccalc
