@@ -149,12 +149,12 @@ abbrev mutual
 
 abbrev pub plain_tree : trees.Tree → PlainTree
 plain_tree (trees.Bare term) = Bare (plain_term term)
-plain_tree (trees.Equal s t) = Compared IsEqual (plain_sum s) (plain_sum t)
-plain_tree (trees.Differ s t) = Compared Differs (plain_sum s) (plain_sum t)
-plain_tree (trees.Less s t) = Compared IsLess (plain_sum s) (plain_sum t)
-plain_tree (trees.AtMost s t) = Compared IsAtMost (plain_sum s) (plain_sum t)
-plain_tree (trees.More s t) = Compared IsMore (plain_sum s) (plain_sum t)
-plain_tree (trees.AtLeast s t) = Compared IsAtLeast (plain_sum s) (plain_sum t)
+plain_tree (trees.Equal s t) = Compared IsEqual (plain_sum s.value) (plain_sum t.value)
+plain_tree (trees.Differ s t) = Compared Differs (plain_sum s.value) (plain_sum t.value)
+plain_tree (trees.Less s t) = Compared IsLess (plain_sum s.value) (plain_sum t.value)
+plain_tree (trees.AtMost s t) = Compared IsAtMost (plain_sum s.value) (plain_sum t.value)
+plain_tree (trees.More s t) = Compared IsMore (plain_sum s.value) (plain_sum t.value)
+plain_tree (trees.AtLeast s t) = Compared IsAtLeast (plain_sum s.value) (plain_sum t.value)
 plain_tree (trees.Paren' box f) = Paren (plain_tree f)
 plain_tree (trees.Not' box f) = Not (plain_tree f)
 plain_tree (trees.Both' one f other g) = Both (plain_tree f) (plain_tree g)

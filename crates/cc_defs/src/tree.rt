@@ -39,17 +39,17 @@ pub enum Tree<'s> {
     /// A term alone.
     Bare(TermTree<'s>),
     /// `s=t`
-    Equal(SumTree<'s>, SumTree<'s>),
+    Equal(Box<SumTree<'s>>, Box<SumTree<'s>>),
     /// `s\=t`
-    Differ(SumTree<'s>, SumTree<'s>),
+    Differ(Box<SumTree<'s>>, Box<SumTree<'s>>),
     /// `s<t`
-    Less(SumTree<'s>, SumTree<'s>),
+    Less(Box<SumTree<'s>>, Box<SumTree<'s>>),
     /// `s=<t`
-    AtMost(SumTree<'s>, SumTree<'s>),
+    AtMost(Box<SumTree<'s>>, Box<SumTree<'s>>),
     /// `s>t`
-    More(SumTree<'s>, SumTree<'s>),
+    More(Box<SumTree<'s>>, Box<SumTree<'s>>),
     /// `s>=t`
-    AtLeast(SumTree<'s>, SumTree<'s>),
+    AtLeast(Box<SumTree<'s>>, Box<SumTree<'s>>),
     /// `(F)`
     Paren(Box<Tree<'s>>),
     /// `-F`

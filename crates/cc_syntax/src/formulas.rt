@@ -21,7 +21,7 @@ use crate::terms::{Parts, parts, sum, sum_of};
 use crate::tokens::{name, sign, sign_behind};
 use cc_defs::{Addend, Mark, Piece, SumTree, TermTree, Token, Tree};
 use smallvec::SmallVec;
-use std::alloc::Global;
+use std::alloc::{AllocError, Global};
 
 /// The strength of a whole formula: no operator's is greater.
 const WHOLE: u8 = 4;
@@ -98,24 +98,37 @@ fn bare<'s>(tokens: &[Token<'s>], parts: Parts<'s>, at: usize) -> Result<(Tree<'
     }
 }
 
-/// A sum, while something else is kept: of any type, so that its drop is one call.
+/// A sum in a box, while something else is kept: of any type, so that its drop is one call.
+fn boxed_sum<'s, K: Drop>(
+    alloc: Global,
+    sum: SumTree<'s>,
+    kept: K,
+) -> Result<(K, Box<SumTree<'s>>), AllocError>
+    ensures { IfOk result (λ made. (made.0 ≡ kept) × (made.1.value ≡ sum.entry)) }
+{
+    let sum = Box::new(alloc, sum)?;
+    Ok((kept, sum))
+}
+
+/// A sum in a box behind the place, while something else is kept.
 fn sum_behind<'s, K: Drop>(
     alloc: Global,
     tokens: &[Token<'s>],
     at: usize,
     kept: K,
-) -> Result<((K, SumTree<'s>), usize), Stop>
+) -> Result<((K, Box<SumTree<'s>>), usize), Stop>
     requires { AreTokens (token_views tokens.now) }
     ensures kept { IfOk result (λ read. read.0.0 ≡ kept) }
-    ensures read { Reads (λ read. plain_sum read.1) tokens.now result (sum_at (drop at (seen tokens.now))) }
+    ensures read { Reads (λ read. plain_sum read.1.value) tokens.now result (sum_at (drop at (seen tokens.now))) }
 {
     let (right, next) = sum(alloc, tokens, at)?;
-    Ok(((kept, right), next))
+    let both = boxed_sum(alloc, right, kept)?;
+    Ok((both, next))
 }
 
 /// A comparison of its sign and its sums.
-fn compared_tree<'s>(read: ((Comparing, SumTree<'s>), SumTree<'s>)) -> Tree<'s>
-    ensures { plain_tree result ≡ trees.Compared (compared_as read.entry.0.0) (plain_sum read.entry.0.1) (plain_sum read.entry.1) }
+fn compared_tree<'s>(read: ((Comparing, Box<SumTree<'s>>), Box<SumTree<'s>>)) -> Tree<'s>
+    ensures { plain_tree result ≡ trees.Compared (compared_as read.entry.0.0) (plain_sum read.entry.0.1.value) (plain_sum read.entry.1.value) }
 {
     let ((comparing, left), right) = read;
     comparing.compared(left, right)
@@ -132,10 +145,8 @@ fn compared<'s>(
     requires { AreTokens (token_views tokens.now) }
     ensures { Reads plain_tree tokens.now result (side_at (compared_as comparing) (plain_sum left.entry) (drop at (seen tokens.now))) }
 {
-    made(
-        sum_behind(alloc, tokens, at, (comparing, left)),
-        compared_tree,
-    )
+    let kept = boxed_sum(alloc, left, comparing)?;
+    made(sum_behind(alloc, tokens, at, kept), compared_tree)
 }
 
 /// Two sums with the sign of a comparison between them, or a term alone.

@@ -109,8 +109,8 @@ pub(crate) enum Comparing {
 
 impl Comparing {
     /// The formula that it makes of its sums.
-    pub(crate) fn compared<'s>(self, left: SumTree<'s>, right: SumTree<'s>) -> Tree<'s>
-        ensures { plain_tree result ≡ trees.Compared (compared_as self) (plain_sum left.entry) (plain_sum right.entry) }
+    pub(crate) fn compared<'s>(self, left: Box<SumTree<'s>>, right: Box<SumTree<'s>>) -> Tree<'s>
+        ensures { plain_tree result ≡ trees.Compared (compared_as self) (plain_sum left.entry.value) (plain_sum right.entry.value) }
     {
         match self {
             Comparing::Equal => Tree::Equal(left, right),
