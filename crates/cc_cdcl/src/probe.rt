@@ -1,5 +1,5 @@
-//! The probe with which a section begins: for so many lines what is decided is what had most to do with the lines before, and not what
-//! leads to the least row. The lines that it derives are there when the rows are listed. Nothing is claimed of what it decides but that it
+//! The probe with which a section begins: for as many lines as it has clauses then, what is decided is what had most to do with the lines
+//! before, and not what leads to the least row. The lines that it derives are there when the rows are listed. Nothing is claimed of what it decides but that it
 //! had no value.
 ghost use Rattle.std.specs.Prelude.{◌≡◌, ◌<◌, ◌≤◌, None, IsTrue, IsSome, IfSome, IfNone, length, OnOk};
 ghost use Rattle.cc_defs.specs.Clauses.{IsLiteralOver};
@@ -14,9 +14,6 @@ use cc_defs::{Lit, OutOfMemory};
 use cc_kernel::Kernel;
 use cc_trail::Trail;
 use std::alloc::Global;
-
-/// So many lines a probe has at most.
-const MOST_LINES: u32 = 2000;
 
 /// After so many lines all decisions are taken back, then after twice, three times as many, and so on.
 const RUN: u32 = 100;
@@ -51,7 +48,7 @@ pub struct Probe {
     order: Order,
     // By variable: the sign that it had last, at first the negative one.
     signs: Vec<bool>,
-    // How many lines it has, how many until all decisions are taken back, and how many were to come then.
+    // How many lines it has left, how many until all decisions are taken back, and how many were to come then.
     lines: u32,
     left: u32,
     run: u32,
@@ -91,14 +88,16 @@ impl Probe {
         }
     }
 
-    /// Begins, over the variables 1, .., `variables`.
-    pub fn begin(&mut self, variables: u32) -> Result<(), OutOfMemory> {
+    /// Begins, over the variables 1, .., `variables`, and for so many lines. Where these are as many as there are clauses, the lines
+    /// come to no more than these, and looking at all of them takes twice as long at most.
+    pub fn begin(&mut self, variables: u32, lines: u32) -> Result<(), OutOfMemory> {
         self.order.fill(variables)?;
         self.signs.reserve(variables as usize)?;
         for _ in 0..variables {
             self.signs.push(false)?;
         }
         self.signs.push(false)?;
+        self.lines = lines;
         self.phase = Phase::Probing;
         Ok(())
     }
@@ -243,8 +242,8 @@ impl Probe {
     pub fn count_line(&mut self) -> After
         ensures { self.new.phase ≡ self.old.phase }
     {
-        self.lines = self.lines.saturating_add(1);
-        if self.lines >= MOST_LINES {
+        self.lines = self.lines.saturating_sub(1);
+        if self.lines == 0 {
             return After::End;
         }
         self.left = self.left.saturating_sub(1);

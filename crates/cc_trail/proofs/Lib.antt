@@ -1,5 +1,6 @@
 mod Chains
 mod LinkViews
+mod NodeViews
 mod Linked
 mod StepLists
 mod Kept

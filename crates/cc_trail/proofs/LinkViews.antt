@@ -8,8 +8,8 @@ use Rattle.cc_trail.specs.declared.links.Links.TheInside.{Inside}
 use Rattle.cc_trail.proofs.Linked.{read_at, within_heads, links_begun, nodes_begun, none_ended, node_within, links_passed, chain_passed, counts, links_moved, chain_moved, links_added}
 
 module _ (inside : Inside) (old : LinksView) (is : view_of inside ≡ old)
-    (links : AreLinks inside.variables inside.heads.items inside.next.items inside.watched.items inside.walked inside.before) where
-  ahead_is : chain_of (length inside.next.items) inside.next.items (link_at inside.heads.items inside.next.items inside.walked inside.before) ≡ old.ahead
+    (links : AreLinks inside.variables inside.heads.items inside.nodes.next inside.nodes.watched inside.walked inside.before) where
+  ahead_is : chain_of (length inside.nodes.next) inside.nodes.next (link_at inside.heads.items inside.nodes.next inside.walked inside.before) ≡ old.ahead
   ahead_is = ap (λ (v : LinksView). v.ahead) is
 
   over_here : (literal : Literal) → IsLiteralOver old.variables literal → IsLiteralOver inside.variables literal
@@ -17,109 +17,106 @@ module _ (inside : Inside) (old : LinksView) (is : view_of inside ≡ old)
 
   -- a walk begins and ends
   module _ (literal : Literal) (over : IsLiteralOver old.variables literal) (code : ℕ) (code_is : code ≡ code_of literal) where
-    pub links_then_begun : AreLinks inside.variables inside.heads.items inside.next.items inside.watched.items code 0
+    pub links_then_begun : AreLinks inside.variables inside.heads.items inside.nodes.next inside.nodes.watched code 0
     links_then_begun =
-        rw code_is (links_begun inside.variables inside.heads.items inside.next.items inside.watched.items inside.walked inside.before links literal (over_here literal over))
+        rw code_is (links_begun inside.variables inside.heads.items inside.nodes.next inside.nodes.watched inside.walked inside.before links literal (over_here literal over))
 
-    pub view_begun : AreAhead old (record (view_of inside) { ahead = chain_of (length inside.next.items) inside.next.items (link_at inside.heads.items inside.next.items code 0) }) literal
+    pub view_begun : AreAhead old (record (view_of inside) { ahead = chain_of (length inside.nodes.next) inside.nodes.next (link_at inside.heads.items inside.nodes.next code 0) }) literal
     view_begun = subst (λ (v : LinksView). AreAhead v
-        (record (view_of inside) { ahead = chain_of (length inside.next.items) inside.next.items (link_at inside.heads.items inside.next.items code 0) }) literal) is
+        (record (view_of inside) { ahead = chain_of (length inside.nodes.next) inside.nodes.next (link_at inside.heads.items inside.nodes.next code 0) }) literal) is
         (record {
           variables = refl;
           watched = refl;
           nodes = rw code_is
-              (nodes_begun inside.variables inside.heads.items inside.next.items inside.watched.items inside.walked inside.before links literal (over_here literal over));
+              (nodes_begun inside.variables inside.heads.items inside.nodes.next inside.nodes.watched inside.walked inside.before links literal (over_here literal over));
         })
 
-  pub view_ended : ◌≡◌ {A = LinksView} (record (view_of inside) { ahead = chain_of (length inside.next.items) inside.next.items (link_at inside.heads.items inside.next.items 0 0) })
+  pub view_ended : ◌≡◌ {A = LinksView} (record (view_of inside) { ahead = chain_of (length inside.nodes.next) inside.nodes.next (link_at inside.heads.items inside.nodes.next 0 0) })
       (record old { ahead = [] })
   view_ended =
-      rw (none_ended inside.variables inside.heads.items inside.next.items inside.watched.items inside.walked inside.before links)
+      rw (none_ended inside.variables inside.heads.items inside.nodes.next inside.nodes.watched inside.walked inside.before links)
       (ap (λ (v : LinksView). let w : LinksView = record v { ahead = [] } in w) is)
 
   -- it goes on
   module _ (node : ℕ) (begins : BeginsWith old.ahead node) (mark : ℕ) (mark_is : mark ≡ suc node) where
-    begins_here : chain_of (length inside.next.items) inside.next.items (link_at inside.heads.items inside.next.items inside.walked inside.before) ≡ node ∷ begins.0
+    begins_here : chain_of (length inside.nodes.next) inside.nodes.next (link_at inside.heads.items inside.nodes.next inside.walked inside.before) ≡ node ∷ begins.0
     begins_here = ahead_is ∙ begins.1
 
-    pub within_here : (node < length inside.next.items) × (node < length inside.watched.items)
+    pub within_here : (node < length inside.nodes.next) × (node < length inside.nodes.watched)
     within_here =
-        node_within inside.variables inside.heads.items inside.next.items inside.watched.items inside.walked inside.before links node (begins.0) begins_here
+        node_within inside.variables inside.heads.items inside.nodes.next inside.nodes.watched inside.walked inside.before links node (begins.0) begins_here
 
-    pub links_then_passed : AreLinks inside.variables inside.heads.items inside.next.items inside.watched.items inside.walked mark
+    pub links_then_passed : AreLinks inside.variables inside.heads.items inside.nodes.next inside.nodes.watched inside.walked mark
     links_then_passed = rw mark_is
-        (links_passed inside.variables inside.heads.items inside.next.items inside.watched.items inside.walked inside.before links node (begins.0) begins_here)
+        (links_passed inside.variables inside.heads.items inside.nodes.next inside.nodes.watched inside.walked inside.before links node (begins.0) begins_here)
 
     pub view_passed : ◌≡◌ {A = LinksView}
-        (record (view_of inside) { ahead = chain_of (length inside.next.items) inside.next.items (link_at inside.heads.items inside.next.items inside.walked mark) })
+        (record (view_of inside) { ahead = chain_of (length inside.nodes.next) inside.nodes.next (link_at inside.heads.items inside.nodes.next inside.walked mark) })
         (record old { ahead = drop 1 old.ahead })
     view_passed = rw (
       mark_is,
       begins.1,
-      chain_passed inside.variables inside.heads.items inside.next.items inside.watched.items inside.walked inside.before links node (begins.0) begins_here,
+      chain_passed inside.variables inside.heads.items inside.nodes.next inside.nodes.watched inside.walked inside.before links node (begins.0) begins_here,
     )
         (ap (λ (v : LinksView). let w : LinksView = record v { ahead = begins.0 } in w) is)
 
     -- a node is moved
     module _ (literal : Literal) (over : IsLiteralOver old.variables literal) (apart : watched_at old.watched node ≢ literal) (code : ℕ) (code_is : code ≡ code_of literal)
-        (link : ℕ) (link_is : link ≡ get_or inside.next.items node link) (heads next : List ℕ)
-        (heads_are : heads ≡ heads_relinked inside.heads.items inside.walked inside.before link) (next_are : next ≡ next_relinked inside.next.items inside.before link) where
-      apart_here : watched_at inside.watched.items node ≢ literal
+        (link : ℕ) (link_is : link ≡ get_or inside.nodes.next node 0) (heads next : List ℕ)
+        (heads_are : heads ≡ heads_relinked inside.heads.items inside.walked inside.before link) (next_are : next ≡ next_relinked inside.nodes.next inside.before link) where
+      apart_here : watched_at inside.nodes.watched node ≢ literal
       apart_here = subst (λ (v : LinksView). watched_at v.watched node ≢ literal) (sym is) apart
 
-      link_here : link ≡ get_or inside.next.items node 0
-      link_here = read_at inside.next.items node link 0 (within_here.0) link_is
+      heads_here : heads ≡ heads_relinked inside.heads.items inside.walked inside.before (get_or inside.nodes.next node 0)
+      heads_here = heads_are ∙ ap (λ (n : ℕ). heads_relinked inside.heads.items inside.walked inside.before n) link_is
 
-      heads_here : heads ≡ heads_relinked inside.heads.items inside.walked inside.before (get_or inside.next.items node 0)
-      heads_here = heads_are ∙ ap (λ (n : ℕ). heads_relinked inside.heads.items inside.walked inside.before n) link_here
+      next_here : next ≡ next_relinked inside.nodes.next inside.before (get_or inside.nodes.next node 0)
+      next_here = next_are ∙ ap (λ (n : ℕ). next_relinked inside.nodes.next inside.before n) link_is
 
-      next_here : next ≡ next_relinked inside.next.items inside.before (get_or inside.next.items node 0)
-      next_here = next_are ∙ ap (λ (n : ℕ). next_relinked inside.next.items inside.before n) link_here
-
-      pub counts_here : (length heads ≡ length inside.heads.items) × (length next ≡ length inside.next.items)
-      counts_here = counts inside.variables inside.heads.items inside.next.items inside.watched.items inside.walked inside.before links node (begins.0) begins_here
+      pub counts_here : (length heads ≡ length inside.heads.items) × (length next ≡ length inside.nodes.next)
+      counts_here = counts inside.variables inside.heads.items inside.nodes.next inside.nodes.watched inside.walked inside.before links node (begins.0) begins_here
           literal (over_here literal over) apart_here heads next heads_here next_here mark mark_is
 
       pub code_within : code < length heads
       code_within =
-          let low = within_heads inside.variables inside.heads.items inside.next.items inside.watched.items inside.walked inside.before links literal (over_here literal over) in
+          let low = within_heads inside.variables inside.heads.items inside.nodes.next inside.nodes.watched inside.walked inside.before links literal (over_here literal over) in
           let same = counts_here in omega (arith, low, same.0)
 
       module _ (first : ℕ) (first_is : first ≡ get_or heads code first) where
         first_here : first ≡ get_or heads (code_of literal) 0
         first_here = read_at heads code first 0 code_within first_is ∙ ap (λ (n : ℕ). get_or heads n 0) code_is
 
-        pub links_then_moved : AreLinks inside.variables (set heads code mark) (set next node first) (set inside.watched.items node literal) inside.walked inside.before
+        pub links_then_moved : AreLinks inside.variables (set heads code mark) (set next node first) (set inside.nodes.watched node literal) inside.walked inside.before
         links_then_moved = rw code_is
-            (links_moved inside.variables inside.heads.items inside.next.items inside.watched.items inside.walked inside.before links node (begins.0) begins_here
+            (links_moved inside.variables inside.heads.items inside.nodes.next inside.nodes.watched inside.walked inside.before links node (begins.0) begins_here
             literal (over_here literal over) apart_here heads next heads_here next_here mark mark_is first first_here)
 
         pub view_moved : ◌≡◌ {A = LinksView} (record (view_of inside) {
-          watched = set inside.watched.items node literal;
+          watched = set inside.nodes.watched node literal;
           ahead = chain_of (length (set next node first)) (set next node first) (link_at (set heads code mark) (set next node first) inside.walked inside.before);
         })
             (record old { watched = set old.watched node literal; ahead = drop 1 old.ahead })
         view_moved = rw (
           code_is,
           begins.1,
-          chain_moved inside.variables inside.heads.items inside.next.items inside.watched.items inside.walked inside.before links node (begins.0) begins_here
+          chain_moved inside.variables inside.heads.items inside.nodes.next inside.nodes.watched inside.walked inside.before links node (begins.0) begins_here
               literal (over_here literal over) apart_here heads next heads_here next_here mark mark_is first first_here,
         )
             (ap (λ (v : LinksView). let w : LinksView = record v { watched = set v.watched node literal; ahead = begins.0 } in w) is)
 
   -- two nodes are added
   module _ (none : old.ahead ≡ []) (a b : Literal) (a_over : IsLiteralOver old.variables a) (b_over : IsLiteralOver old.variables b) (apart : a ≢ b)
-      (count : ℕ) (few : count < 4294966000) (count_is : count ≡ length inside.watched.items) (a_code b_code : ℕ) (a_is : a_code ≡ code_of a) (b_is : b_code ≡ code_of b)
+      (count : ℕ) (few : count < 4294966000) (count_is : count ≡ length inside.nodes.watched) (a_code b_code : ℕ) (a_is : a_code ≡ code_of a) (b_is : b_code ≡ code_of b)
       (one two : ℕ) (one_is : one ≡ get_or inside.heads.items a_code one) (two_is : two ≡ get_or inside.heads.items b_code two)
-      (next reserved : List ℕ) (watched : List Literal)
-      (reserved_is : reserved ≡ inside.next.items) (next_is : next ≡ reserved ++ one ∷ two ∷ []) (watched_is : watched ≡ inside.watched.items ++ a ∷ b ∷ []) where
-    few_here : length inside.watched.items < 4294966000
+      (next : List ℕ) (watched : List Literal)
+      (next_is : next ≡ inside.nodes.next ++ one ∷ two ∷ []) (watched_is : watched ≡ inside.nodes.watched ++ a ∷ b ∷ []) where
+    few_here : length inside.nodes.watched < 4294966000
     few_here = omega arith
 
     low_here : (code_of a < length inside.heads.items) × (code_of b < length inside.heads.items)
     low_here = (
-      within_heads inside.variables inside.heads.items inside.next.items inside.watched.items inside.walked inside.before links a (over_here a a_over),
-      within_heads inside.variables inside.heads.items inside.next.items inside.watched.items inside.walked inside.before links b (over_here b b_over),
+      within_heads inside.variables inside.heads.items inside.nodes.next inside.nodes.watched inside.walked inside.before links a (over_here a a_over),
+      within_heads inside.variables inside.heads.items inside.nodes.next inside.nodes.watched inside.walked inside.before links b (over_here b b_over),
     )
 
     one_here : one ≡ get_or inside.heads.items (code_of a) 0
@@ -128,13 +125,13 @@ module _ (inside : Inside) (old : LinksView) (is : view_of inside ≡ old)
     two_here : two ≡ get_or inside.heads.items (code_of b) 0
     two_here = let low = low_here in read_at inside.heads.items b_code two 0 (omega (arith, low.1)) two_is ∙ ap (λ (n : ℕ). get_or inside.heads.items n 0) b_is
 
-    added : AreLinks inside.variables (set (set inside.heads.items (code_of a) (count + 1)) (code_of b) (count + 2)) (inside.next.items ++ one ∷ two ∷ [])
-        (inside.watched.items ++ a ∷ b ∷ []) 0 0
-    added = links_added inside.variables inside.heads.items inside.next.items inside.watched.items inside.walked inside.before links a b (over_here a a_over) (over_here b b_over)
+    added : AreLinks inside.variables (set (set inside.heads.items (code_of a) (count + 1)) (code_of b) (count + 2)) (inside.nodes.next ++ one ∷ two ∷ [])
+        (inside.nodes.watched ++ a ∷ b ∷ []) 0 0
+    added = links_added inside.variables inside.heads.items inside.nodes.next inside.nodes.watched inside.walked inside.before links a b (over_here a a_over) (over_here b b_over)
         apart few_here one two one_here two_here (count + 1) (count + 2) (omega arith) (omega arith)
 
     pub links_then_added : AreLinks inside.variables (set (set inside.heads.items a_code (count + 1)) b_code (count + 2)) next watched 0 0
-    links_then_added = rw (a_is, b_is, next_is, reserved_is, watched_is) added
+    links_then_added = rw (a_is, b_is, next_is, watched_is) added
 
     pub view_added : ◌≡◌ {A = LinksView} (record (view_of inside) {
       watched = watched;

@@ -2,6 +2,7 @@ pub mod EntryParts
 pub mod EntrySteps
 pub mod LinkParts
 pub mod Links
+pub mod NodeParts
 pub mod Steps
 pub mod TrailLaws
 pub mod TrailParts

@@ -33,8 +33,8 @@ next_relinked next (suc node) link = set next node link
 abbrev pub view_of : Inside → LinksView
 view_of links = record {
   variables = links.variables;
-  watched = links.watched.items;
-  ahead = chain_of (length links.next.items) links.next.items (link_at links.heads.items links.next.items links.walked links.before);
+  watched = links.nodes.watched;
+  ahead = chain_of (length links.nodes.next) links.nodes.next (link_at links.heads.items links.nodes.next links.walked links.before);
 }
 
 -- Each head has a chain, whose nodes watch the literal of its code, and each node is in the chain of its literal. The node
@@ -56,4 +56,4 @@ pub record AreLinks (variables : ℕ) (heads next : List ℕ) (watched : List Li
   pub linked : IsLinked heads next watched walked before
 
 abbrev pub IsLinks : Inside → Type 0
-IsLinks links = AreLinks links.variables links.heads.items links.next.items links.watched.items links.walked links.before
+IsLinks links = AreLinks links.variables links.heads.items links.nodes.next links.nodes.watched links.walked links.before

@@ -4,6 +4,7 @@
 mod entries;
 pub mod laws;
 mod links;
+mod nodes;
 mod propagation;
 mod trail;
 mod visits;

@@ -2,9 +2,10 @@
 ghost use Rattle.std.specs.Prelude.{◌≡◌, ◌≢◌, ℕ, ◌+◌, ◌*◌, ◌<◌, ◌≤◌, ◌++◌, [], ◌∷◌, length, set, drop, Contains, IfOk, IfSome, IfNone, OnOk, OnErr, Ok};
 ghost use Rattle.cc_defs.specs.Clauses.{Literal, IsIn, IsLiteralOver};
 ghost use Rattle.cc_defs.specs.Limits.{most_variables};
-ghost use Rattle.cc_trail.specs.Links.{LinksView, AreAhead, BeginsWith, code_of, watched_at};
+ghost use Rattle.cc_trail.specs.Links.{LinksView, NodesView, AreAhead, BeginsWith, code_of, watched_at};
 ghost use Rattle.cc_trail.specs.LinkParts.{link_at, heads_relinked, next_relinked};
 
+use crate::nodes::Nodes;
 use cc_defs::{Lit, OutOfMemory};
 use std::alloc::Global;
 use std::marker::Model;
@@ -19,8 +20,7 @@ pub struct Links {
     variables: u32,
     // By the code of a literal.
     heads: Vec<u32>,
-    next: Vec<u32>,
-    watched: Vec<Lit>,
+    nodes: Nodes,
     // The walk that goes on: the code of the literal whose chain it goes along, and one more than the node that it went past
     // last; 0 where the head of the chain comes next. At rest both are 0.
     walked: usize,
@@ -47,26 +47,26 @@ fn code(lit: Lit) -> usize
 }
 
 // The link that a walk has come to: the head of its chain, or what is next of the node before.
-fn link_of(heads: &[u32], next: &[u32], walked: usize, before: u32) -> u32
+fn link_of(heads: &[u32], nodes: &Nodes, walked: usize, before: u32) -> u32
     requires walked { walked < length heads.now }
-    requires before { before ≤ length next.now }
-    ensures { result ≡ link_at heads.now next.now walked before }
+    requires before { before ≤ length nodes.now.next }
+    ensures { result ≡ link_at heads.now nodes.now.next walked before }
 {
     match before.checked_sub(1) {
-        Some(node) => next[node as usize],
+        Some(node) => nodes.next(node as usize),
         None => heads[walked],
     }
 }
 
 // Changes this link.
-fn relink(heads: &mut Vec<u32>, next: &mut Vec<u32>, walked: usize, before: u32, link: u32)
+fn relink(heads: &mut Vec<u32>, nodes: &mut Nodes, walked: usize, before: u32, link: u32)
     requires walked { walked < length heads.old.items }
-    requires before { before ≤ length next.old.items }
+    requires before { before ≤ length nodes.old.next }
     ensures heads { heads.new.items ≡ heads_relinked heads.old.items walked before link }
-    ensures next { next.new.items ≡ next_relinked next.old.items before link }
+    ensures nodes { nodes.new ≡ record nodes.old { next = next_relinked nodes.old.next before link } }
 {
     match before.checked_sub(1) {
-        Some(node) => next[node as usize] = link,
+        Some(node) => nodes.link(node as usize, link),
         None => heads[walked] = link,
     }
 }
@@ -81,8 +81,7 @@ impl Links {
         Ok(Links {
             variables,
             heads,
-            next: Vec::new(alloc),
-            watched: Vec::new(alloc),
+            nodes: Nodes::new(alloc),
             walked: 0,
             before: 0,
         })
@@ -93,7 +92,7 @@ impl Links {
         ensures count { result ≡ length self.now.watched }
         ensures few { result ≤ 4294967000 }
     {
-        self.watched.len()
+        self.nodes.count()
     }
 
     /// The literal that a node watches.
@@ -102,7 +101,7 @@ impl Links {
         ensures watched { result ≡ watched_at self.now.watched node }
         ensures over { IsLiteralOver self.now.variables result }
     {
-        self.watched[node as usize]
+        self.nodes.watched(node as usize)
     }
 
     /// Begins a walk to all nodes that watch a literal.
@@ -121,7 +120,7 @@ impl Links {
         ensures once { IfSome result (λ node. IsIn (drop 1 self.now.ahead) node → ⊥) }
         ensures none { IfNone result (self.now.ahead ≡ []) }
     {
-        link_of(&self.heads, &self.next, self.walked, self.before).checked_sub(1)
+        link_of(&self.heads, &self.nodes, self.walked, self.before).checked_sub(1)
     }
 
     /// Goes on, and leaves the node that the walk has come to where it is.
@@ -142,17 +141,17 @@ impl Links {
     {
         let code = code(lit);
         let place = node as usize;
-        let link = self.next[place];
+        let link = self.nodes.next(place);
         relink(
             &mut self.heads,
-            &mut self.next,
+            &mut self.nodes,
             self.walked,
             self.before,
             link,
         );
-        self.next[place] = self.heads[code];
+        let first = self.heads[code];
+        self.nodes.put(place, first, lit);
         self.heads[code] = node + 1;
-        self.watched[place] = lit;
     }
 
     /// Goes on, and lets the node that the walk has come to watch this literal.
@@ -186,7 +185,7 @@ impl Links {
         ensures added { OnOk result (self.new ≡ record self.old { watched = self.old.watched ++ a ∷ b ∷ [] }) }
         ensures kept { OnErr result (self.new ≡ self.old) }
     {
-        let count = self.watched.len();
+        let count = self.nodes.count();
         if count >= MOST_NODES {
             return Err(OutOfMemory);
         }
@@ -194,9 +193,7 @@ impl Links {
         let second = code(b);
         let one = self.heads[first];
         let two = self.heads[second];
-        self.next.reserve(2)?;
-        self.watched.extend_from_slice(&[a, b])?;
-        self.next.extend_from_slice(&[one, two])?;
+        self.nodes.add_two(one, a, two, b)?;
         self.heads[first] = count as u32 + 1;
         self.heads[second] = count as u32 + 2;
         self.walked = 0;

@@ -8,15 +8,15 @@ use Rattle.cc_trail.proofs.Linked.{first_of, ahead_once, before_low}
 use Rattle.cc_trail.proofs.links.Links.current.Goals as goal
 
 first : (inside : Inside) (old : LinksView) (r : Option ℕ) (link : ℕ) → view_of inside ≡ old →
-    AreLinks inside.variables inside.heads.items inside.next.items inside.watched.items inside.walked inside.before →
-    link ≡ link_at inside.heads.items inside.next.items inside.walked inside.before → SomeIff r (1 ≤ link) (link - 1) →
+    AreLinks inside.variables inside.heads.items inside.nodes.next inside.nodes.watched inside.walked inside.before →
+    link ≡ link_at inside.heads.items inside.nodes.next inside.walked inside.before → SomeIff r (1 ≤ link) (link - 1) →
     IfSome r (λ node. BeginsWith old.ahead node × (node < length old.watched) × (IsIn (drop 1 old.ahead) node → ⊥))
 first inside old None link is links link_is e = tt
 first inside old (Some node) link is links link_is e =
-    let node_is : link_at inside.heads.items inside.next.items inside.walked inside.before ≡ suc node = omega (arith, e) in
-    let there = first_of inside.variables inside.heads.items inside.next.items inside.watched.items inside.walked inside.before links node node_is in
+    let node_is : link_at inside.heads.items inside.nodes.next inside.walked inside.before ≡ suc node = omega (arith, e) in
+    let there = first_of inside.variables inside.heads.items inside.nodes.next inside.nodes.watched inside.walked inside.before links node node_is in
     subst (λ (v : LinksView). BeginsWith v.ahead node × (node < length v.watched) × (IsIn (drop 1 v.ahead) node → ⊥)) is
-    (there.0, there.1, ahead_once inside.variables inside.heads.items inside.next.items inside.watched.items inside.walked inside.before links node (there.0))
+    (there.0, there.1, ahead_once inside.variables inside.heads.items inside.nodes.next inside.nodes.watched inside.walked inside.before links node (there.0))
 
 some_of : (r : Option ℕ) (P Q S : ℕ → Type 0) → IfSome r (λ node. P node × Q node × S node) → IfSome r P × IfSome r Q × IfSome r S
 some_of None P Q S e = (tt, tt, tt)
@@ -28,12 +28,11 @@ both c =
     some_of c.checked_sub.result (λ (node : ℕ). BeginsWith c.args.self.now.ahead node) (λ (node : ℕ). node < length c.args.self.now.watched)
     (λ (node : ℕ). IsIn (drop 1 c.args.self.now.ahead) node → ⊥)
     (first c.self.inside c.args.self.now c.checked_sub.result c.link_of.result c.self.view_is c.self.invariant
-    (rw (← c.deref.ensures.value, ← c.deref-2.ensures.value) c.link_of.ensures) c.checked_sub.ensures)
+    (rw (← c.deref.ensures.value) c.link_of.ensures) c.checked_sub.ensures)
 
 pub link_of-requires-clause-before : goal.link_of-requires-clause-before
 link_of-requires-clause-before c =
-    rw c.deref-2.ensures.value
-    (before_low c.self.inside.variables c.self.inside.heads.items c.self.inside.next.items c.self.inside.watched.items c.self.inside.walked c.self.inside.before c.self.invariant)
+    before_low c.self.inside.variables c.self.inside.heads.items c.self.inside.nodes.next c.self.inside.nodes.watched c.self.inside.walked c.self.inside.before c.self.invariant
 
 pub returns-clause-some : goal.returns-clause-some
 returns-clause-some c = (both c).0
