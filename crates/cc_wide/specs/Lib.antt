@@ -1,0 +1,4 @@
+pub mod WideGrounds
+pub mod WideLaws
+pub mod WideLists
+pub mod WideRules
