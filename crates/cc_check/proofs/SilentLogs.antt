@@ -1,8 +1,9 @@
 -- Logs of silent sections, one section after another.
-use Rattle.std.proofs.Common.{◌≡◌, ◌≢◌, ℕ, ◌+◌, ◌-◌, ◌≤◌, List, [], ◌∷◌, ◌++◌, false, length, take, Some, None, refl, sym, ap, subst, ◌∙◌, arith, append-nil, length-append, inl, inr}
+use Rattle.std.proofs.Common.{◌≡◌, ◌≢◌, ℕ, ◌+◌, ◌-◌, ◌≤◌, List, [], ◌∷◌, ◌++◌, Bool, true, false, length, Option, take, Some, None, refl, sym, ap, subst, ◌∙◌, arith, append-nil, length-append, inl, inr}
 use Rattle.std.specs.Borrow.{Bor}
 use Rattle.std.specs.List.{AllByRecursion}
-use Rattle.std.specs.Prelude.{Result, Ok, Err, IfOk, IfErr}
+use Rattle.std.specs.Bool.{MatchBool}
+use Rattle.std.specs.Prelude.{Result, Ok, Err, IfOk, IfErr, MatchOption}
 use Rattle.std.proofs.lemmas.List.{nil_from_length}
 use Rattle.cc_defs.specs.declared.log.Cause.{Cause}
 use Rattle.cc_defs.specs.declared.log.Cause.TheVariants as causes
@@ -23,6 +24,26 @@ use Rattle.cc_check.specs.SilentParts.{IsBehindFault, IsPassFault, IsPassedFrom,
 use Rattle.cc_check.specs.Texts.{IsFirstLine}
 use Rattle.cc_check.proofs.FirstTexts.{line_text_first}
 use Rattle.cc_check.proofs.Parted.{InsideSoFar, all_are, before_are, before_is, cut_some, joined}
+
+-- ---- what a text is read as
+
+module _ {H : Type 0} (subject : SilentSubject H) (text : List ℕ) (read : Bool) where
+  pub read_so : read ≡ true → MatchBool read ((heading : H) × subject.Reads text heading) (IsUnread subject text) → (heading : H) × subject.Reads text heading
+  read_so is either = subst (λ (b : Bool). MatchBool b ((heading : H) × subject.Reads text heading) (IsUnread subject text)) is either
+
+  pub unread_so : read ≡ false → MatchBool read ((heading : H) × subject.Reads text heading) (IsUnread subject text) → IsUnread subject text
+  unread_so is either = subst (λ (b : Bool). MatchBool b ((heading : H) × subject.Reads text heading) (IsUnread subject text)) is either
+
+module _ {H : Type 0} (subject : SilentSubject H) (text : List ℕ) (read : Option H) where
+  pub some_read : (heading : H) → read ≡ Some heading → MatchOption read (IsUnread subject text) (subject.Reads text) → subject.Reads text heading
+  some_read heading is either = subst (λ (o : Option H). MatchOption o (IsUnread subject text) (subject.Reads text)) is either
+
+  pub none_read : read ≡ None → MatchOption read (IsUnread subject text) (subject.Reads text) → IsUnread subject text
+  none_read is either = subst (λ (o : Option H). MatchOption o (IsUnread subject text) (subject.Reads text)) is either
+
+-- a line is taken from what is left
+pub fewer_behind : (rest text behind : List ℕ) (count all : ℕ) → IsFirstLine rest text behind → count + length rest ≤ all → count + 1 + length behind ≤ all
+fewer_behind rest text behind count all cut few = let e = ap length cut.parts ∙ length-append text behind in let some = cut.some in omega arith
 
 -- ---- the lines up to the next heading
 
@@ -131,12 +152,38 @@ pub record SilentSoFar {H : Type 0} (subject : SilentSubject H) (texts : List (L
   pub sections : List (SilentSection H)
   pub leads : LeadsTo subject (PassesNoLimit subject) 2 texts sections line (lines_in rest)
   pub counted : count ≡ length sections
+
+-- the numbers of the lines and of the sections so far
+pub record AreFewSoFar (count line : ℕ) (rest : List ℕ) : Type 0 where
   pub least : 2 ≤ line
   pub few : line + length rest ≤ 268435458
   pub fewer : count ≤ line
 
-pub silent_begun : {H : Type 0} (subject : SilentSubject H) (body : List ℕ) → length body ≤ 268435456 → SilentSoFar subject (lines_in body) 0 2 body
-silent_begun subject body few = record { sections = []; leads = (refl, refl); counted = refl; least = omega arith; few = omega arith; fewer = omega arith }
+pub silent_begun : {H : Type 0} (subject : SilentSubject H) (body : List ℕ) → SilentSoFar subject (lines_in body) 0 2 body
+silent_begun subject body = record { sections = []; leads = (refl, refl); counted = refl }
+
+pub few_begun : (body : List ℕ) → length body ≤ 268435456 → AreFewSoFar 0 2 body
+few_begun body few = record { least = omega arith; few = omega arith; fewer = omega arith }
+
+module _ (count line : ℕ) (rest : List ℕ) (h : AreFewSoFar count line rest) (text behind : List ℕ) (cut : IsFirstLine rest text behind) where
+  pub cut_few : (length behind ≤ 268435456) × (line ≤ 268435457)
+  cut_few =
+      let e = ap length cut.parts ∙ length-append text behind in
+      let some = cut.some in
+      let f = h.few in
+      let l = h.least in
+      (omega arith, omega arith)
+
+  pub few_more : (passed : Passed) (more : ℕ) (others : Bor (List ℕ)) → passed ≡ passeds.Goes more others → IsShorter (length behind) passed →
+      AreFewSoFar (count + 1) (line + 1 + more) others.now
+  few_more passed more others is shorter =
+      let less : more + length others.now ≤ length behind = subst (IsShorter (length behind)) is shorter in
+      let e = ap length cut.parts ∙ length-append text behind in
+      let some = cut.some in
+      let f = h.few in
+      let g = h.fewer in
+      let l = h.least in
+      record { least = omega arith; few = omega arith; fewer = omega arith }
 
 module _ {H : Type 0} (subject : SilentSubject H) (texts : List (List ℕ)) (count line : ℕ) (rest : List ℕ) (h : SilentSoFar subject texts count line rest) where
   pub silent_done : length rest ≡ 0 → (verdict : SilentVerdict) → verdict ≡ verdicts.Accepted count → IsSilentVerdictBehind subject (PassesNoLimit subject) texts verdict
@@ -149,34 +196,17 @@ module _ {H : Type 0} (subject : SilentSubject H) (texts : List (List ℕ)) (cou
   )
 
   module _ (text behind : List ℕ) (cut : IsFirstLine rest text behind) where
-    pub cut_few : (length behind ≤ 268435456) × (line ≤ 268435457)
-    cut_few =
-        let e = ap length cut.parts ∙ length-append text behind in
-        let some = cut.some in
-        let f = h.few in
-        let l = h.least in
-        (omega arith, omega arith)
-
     pub silent_more : (passed : Passed) (more : ℕ) (others : Bor (List ℕ)) → passed ≡ passeds.Goes more others → IsPassedFrom subject line (text ∷ lines_in behind) passed →
-        IsShorter (length behind) passed → SilentSoFar subject texts (count + 1) (line + 1 + more) others.now
-    silent_more passed more others is from shorter =
+        SilentSoFar subject texts (count + 1) (line + 1 + more) others.now
+    silent_more passed more others is from =
         let (section, next, empty, lines) : IsPassedFrom subject line (text ∷ lines_in behind) (passeds.Goes more others) =
         subst (IsPassedFrom subject line (text ∷ lines_in behind)) is from in
-        let less : more + length others.now ≤ length behind = subst (IsShorter (length behind)) is shorter in
-        let e = ap length cut.parts ∙ length-append text behind in
-        let some = cut.some in
-        let f = h.few in
-        let g = h.fewer in
-        let l = h.least in
         record {
           sections = h.sections ++ section ∷ [];
           leads = subst (λ (n : ℕ). LeadsTo subject (PassesNoLimit subject) 2 texts (h.sections ++ section ∷ []) (line + 1 + n) (lines_in others.now)) (sym lines)
               (leads_more subject (PassesNoLimit subject) section (lines_in others.now) empty 2 texts h.sections line (lines_in rest) h.leads
               (subst (λ (ts : List (List ℕ)). IsNextSection subject line ts section (lines_in others.now)) (sym cut.lines) next));
           counted = ap (λ (n : ℕ). n + 1) h.counted ∙ sym (length-append h.sections (section ∷ []));
-          least = omega arith;
-          few = omega arith;
-          fewer = omega arith;
         }
 
     pub silent_stops : (passed : Passed) (verdict : SilentVerdict) → passed ≡ passeds.Stops verdict → IsPassedFrom subject line (text ∷ lines_in behind) passed →

@@ -22,7 +22,7 @@ pub use entry::{heading_in, read_entry};
 pub use fault::CheckFault;
 pub use judge::{Finding, Verdict, check, check_silent, find, find_silent};
 pub use line::{Heading, Kind, Room, heading_of, read_line};
-pub use number::Named;
+pub use number::{Named, number_at};
 pub use put::put_line;
 pub use sections::{Section, Sections};
 pub use silent::{Silent, SilentVerdict, judge_silent};

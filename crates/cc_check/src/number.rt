@@ -38,7 +38,7 @@ impl Named {
 
 /// The number of at most nine digits, with no zero before another digit, that a text begins with, and what stands
 /// behind it.
-pub(crate) fn number_at(bytes: &[u8]) -> Option<(u32, &[u8])>
+pub fn number_at(bytes: &[u8]) -> Option<(u32, &[u8])>
     ensures { MatchOption result (HasNoNumber bytes.now) (λ read. IsNumberAt bytes.now read.0 read.1.now) }
 {
     let [first, behind @ ..] = bytes else {

@@ -31,7 +31,7 @@ literal_over top [] i literal over less is = absurd (omega arith)
 literal_over top (x ∷ clause) zero literal over less is = subst (IsLiteralOver top) (sym is) (over.0, over.1)
 literal_over top (x ∷ clause) (suc i) literal over less is = literal_over top clause i literal over.2 (omega arith) is
 
-taken_more : {X : Type 0} (xs : List X) (i : ℕ) (x : X) → slice_get xs i ≡ Some x → take (i + 1) xs ≡ take i xs ++ x ∷ []
+pub taken_more : {X : Type 0} (xs : List X) (i : ℕ) (x : X) → slice_get xs i ≡ Some x → take (i + 1) xs ≡ take i xs ++ x ∷ []
 taken_more xs i x at = ap (λ (n : ℕ). take n xs) (let e : i + 1 ≡ suc i = omega arith in e) ∙ by_index xs i x at
   where
     by_index : {X : Type 0} (xs : List X) (i : ℕ) (x : X) → slice_get xs i ≡ Some x → take (suc i) xs ≡ take i xs ++ x ∷ []

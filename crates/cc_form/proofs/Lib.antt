@@ -25,6 +25,7 @@ mod Picking
 mod Placing
 mod Positions
 mod Renaming
+mod Rooms
 mod RowValues
 mod Running
 pub mod Saying

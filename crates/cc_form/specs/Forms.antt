@@ -1,9 +1,10 @@
 -- What the clause list of a section tells: its rows are the histories.
-use Rattle.std.specs.Prelude.{ℕ, ◌≤◌, ◌+◌, All, Contains, sum, Bool, true, false, List, length, Option, Some, None, nat_lt, if◌then◌else◌}
+use Rattle.std.specs.Prelude.{ℕ, ◌≤◌, ◌+◌, All, Contains, sum, Bool, true, false, List, [], ◌∷◌, ◌++◌, length, Option, Some, None, nat_lt, if◌then◌else◌}
 use Rattle.cc_defs.specs.Limits.{most_variables, most_clauses, most_literals}
 use Rattle.cc_defs.specs.declared.lists.Key.{Key}
 use Rattle.cc_defs.specs.declared.refusal.LimitAt.TheVariants as limits
 use Rattle.cc_defs.specs.declared.refusal.Refusal.{Refusal}
+use Rattle.cc_defs.specs.ClauseForms.{atom_variable, positive}
 use Rattle.cc_defs.specs.ClauseLists.{ClauseList, clause_list, positions_from}
 use Rattle.cc_defs.specs.Clauses.{Literal, IsClause, IsOver}
 use Rattle.cc_defs.specs.Description.{Description, sizes_at}
@@ -55,3 +56,7 @@ pub record IsForm (form : Axioms) : Type 0 where
   pub axioms : IsAxioms form
   pub count : length form.clauses ≤ most_clauses
   pub most : form.variables ≤ most_variables
+
+-- the same clauses, and behind them that a position has the value of this index
+abbrev pub with_atom : Axioms → (position value : ℕ) → Axioms
+with_atom form position value = record form { clauses = form.clauses ++ (positive (atom_variable form.sizes position value) ∷ []) ∷ [] }

@@ -2,6 +2,7 @@ pub mod Building
 pub mod Drafts
 pub mod Forms
 pub mod Laws
+pub mod ListLaws
 pub mod Machine
 pub mod Making
 pub mod Moving

@@ -15,7 +15,7 @@ ghost use Rattle.cc_defs.specs.Terms.{postfix};
 ghost use Rattle.cc_theory.specs.Making.{stride_of};
 ghost use Rattle.cc_theory.specs.Theories.{AreRulesAt, IsTheoryOf};
 ghost use Rattle.cc_form.specs.Drafts.{IsWhole};
-ghost use Rattle.cc_form.specs.Forms.{TellsHistories, asked, form_of, form_refusal};
+ghost use Rattle.cc_form.specs.Forms.{TellsHistories, asked, form_of, form_refusal, with_atom};
 ghost use Rattle.cc_form.specs.Machine.{Adds, IsPast};
 ghost use Rattle.cc_form.specs.Making.{asserted_nodes, denied_nodes, nodes_if, query_list, rules_list};
 ghost use Rattle.cc_form.specs.Places.{position_sizes};
@@ -24,6 +24,7 @@ ghost use Rattle.cc_form.specs.Building.{IsBuiltForm, IsSection, count_refusal};
 ghost use Rattle.cc_form.specs.Store.{AreFew, Holds};
 ghost use Rattle.std.specs.List.{AllByRecursion};
 
+use crate::copies::{copy_of, fits_one};
 use crate::draft::write_first;
 use crate::groups::{complete, deny_falsity};
 use crate::laws::clauses_tell_rows;
@@ -34,7 +35,7 @@ use crate::writer::Writer;
 use cc_arena::laws::terms_mean_formulas;
 use cc_arena::{GroundCondition, GroundQuery, one_formula};
 use cc_clauses::ClauseArena;
-use cc_defs::{Fault, Key, Lit};
+use cc_defs::{Fault, Key, Lit, OutOfMemory};
 use cc_theory::Theory;
 use cc_theory::laws::{models_are_paths, models_meet_completion};
 use std::alloc::Global;
@@ -111,6 +112,38 @@ impl Form {
         ensures { result ≡ positive (atom_variable self.now.sizes position value) }
     {
         self.places.atom(position, value)
+    }
+
+    /// An equal form.
+    pub fn copy(&self, alloc: Global) -> Result<Form, OutOfMemory>
+        ensures { IfOk result (λ copy. copy ≡ self.now) }
+    {
+        let places = self.places.copy(alloc)?;
+        let clauses = copy_of(alloc, &self.clauses)?;
+        Ok(Form {
+            places,
+            variables: self.variables,
+            clauses,
+        })
+    }
+
+    /// The same clauses, and behind them one that says that a position has the value of this index. Refuses exactly the limit that
+    /// they pass (14, axiom clauses or axiom literals).
+    pub fn with_atom(&self, alloc: Global, position: u64, value: u32) -> Result<Form, Fault>
+        requires atom { (size : ℕ) × (slice_get self.now.sizes position ≡ Some size) × (value < size) }
+        ensures made { IfOk result (λ form. form ≡ with_atom self.now position value) }
+        ensures within { OnOk result (count_refusal (with_atom self.now position value).clauses ≡ None) }
+        ensures refused { IfErr result (IsRefusedBy (count_refusal (with_atom self.now position value).clauses)) }
+    {
+        fits_one(&self.clauses)?;
+        let places = self.places.copy(alloc)?;
+        let mut clauses = copy_of(alloc, &self.clauses)?;
+        clauses.push(&[self.places.atom(position, value)])?;
+        Ok(Form {
+            places,
+            variables: self.variables,
+            clauses,
+        })
     }
 
     /// The clauses, in order.

@@ -2,6 +2,7 @@
 #![tactic(auto)]
 
 mod builder;
+mod copies;
 mod defining;
 mod draft;
 mod form;

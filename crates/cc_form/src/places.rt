@@ -132,6 +132,19 @@ impl Places {
         }
     }
 
+    /// The same positions.
+    pub(crate) fn copy(&self, alloc: Global) -> Result<Places, OutOfMemory>
+        ensures { IfOk result (λ copy. copy ≡ self.now) }
+    {
+        let sizes = Vec::from_slice(alloc, self.sizes.as_slice())?;
+        let firsts = Vec::from_slice(alloc, self.firsts.as_slice())?;
+        Ok(Places {
+            sizes,
+            firsts,
+            truth: self.truth,
+        })
+    }
+
     pub(crate) fn sizes(&self) -> &[u32]
         ensures { result.now ≡ self.now }
     {

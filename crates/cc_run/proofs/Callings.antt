@@ -20,7 +20,7 @@ use Rattle.cc_run.specs.declared.status.Stop.TheVariants as stops
 use Rattle.cc_run.specs.Names.{AreAsked, IsAnswer, MayEndWith}
 use Rattle.cc_run.specs.Promises.{IsEndStatus}
 use Rattle.cc_run.specs.Stops.{Asks, Called, Moment, TellsStop, cut_status, outcome, stop_status}
-use Rattle.cc_words.specs.Requests.{Request, ToCheck, ToCheckModels, ToConvert, ToExplain, ToExport, ToList, ToMake, ToModel}
+use Rattle.cc_words.specs.Requests.{Request, ToBeSure, ToCheck, ToCheckModels, ToCheckSure, ToConvert, ToExplain, ToExport, ToList, ToMake, ToModel}
 use Rattle.cc_words.specs.Words.{Text}
 
 -- ---- names, one after another
@@ -177,6 +177,8 @@ may_be_refused (Some (ToConvert converting)) = tt
 may_be_refused (Some (ToExport exporting)) = tt
 may_be_refused (Some (ToModel modelling)) = tt
 may_be_refused (Some (ToCheckModels checking)) = tt
+may_be_refused (Some (ToBeSure surely)) = tt
+may_be_refused (Some (ToCheckSure checking)) = tt
 
 -- some names are asked for, whatever is asked
 pub some_asked : HasPlaces → (files : Files) (request : Option Request) → (all : List Text) × AreAsked files request all
@@ -199,6 +201,12 @@ some_asked has files (Some (ToExport exporting)) =
     (_, (there.0, there.1, refl))
 some_asked has files (Some (ToModel modelling)) = (_, refl)
 some_asked has files (Some (ToCheckModels checking)) = (_, refl)
+some_asked has files (Some (ToBeSure surely)) =
+    let there = has files surely.file in
+    (_, (there.0, there.1, refl))
+some_asked has files (Some (ToCheckSure checking)) =
+    let there = has files checking.file in
+    (_, (_, (there.0, there.1, refl), refl))
 
 pub some_asked_of : HasPlaces → (o : Option Contents) (request : Option Request) → (all : List Text) × IfSome o (λ c. AreAsked c.files request all)
 some_asked_of has None request = ([], tt)

@@ -1,5 +1,6 @@
 pub mod Callings
 pub mod CauseLines
+pub mod Claims
 pub mod CnfReadings
 pub mod Converted
 pub mod EventNumbers
@@ -26,4 +27,9 @@ pub mod Requests
 pub mod RunEvents
 pub mod Spending
 pub mod SummedTexts
+pub mod SureFinds
+pub mod SureLines
+pub mod SureTexts
+pub mod SurelyChecked
+pub mod SurelyTold
 pub mod Worth

@@ -25,10 +25,12 @@ use Rattle.cc_run.specs.declared.status.Stop.{Stop}
 use Rattle.cc_run.specs.declared.status.Stop.TheVariants as stops
 use Rattle.cc_run.specs.Answers.{Answered, Answers, Counts, Ended, GaveSoFar, Gives, IsFresh, RefusesWords, RoseTwice, counts, left_in, promise_of}
 use Rattle.cc_run.specs.Modes.Checking.{Checks, MayEndChecking, NamesLog, verdict_status}
+use Rattle.cc_run.specs.Modes.CheckingSure.{MayEndCheckingSure}
 use Rattle.cc_run.specs.Modes.Explaining.{MayEndExplaining}
 use Rattle.cc_run.specs.Modes.Exporting.{MayEndExporting}
 use Rattle.cc_run.specs.Modes.Listing.{Lists, listed_as}
 use Rattle.cc_run.specs.Modes.Making.{Makes, MayEndMaking}
+use Rattle.cc_run.specs.Modes.Surely.{MayEndSurely}
 use Rattle.cc_run.specs.Names.{AreAsked, BeginsAsked, IsAnswer, MayEndWith, OpensAsked, log_asked}
 use Rattle.cc_run.specs.Promises.{IsEndStatus}
 use Rattle.cc_run.specs.Refusing.{refusal_text}
@@ -38,7 +40,7 @@ use Rattle.cc_run.specs.Tasks.{IsTask, Task, made_files, made_named, named_by, r
 use Rattle.cc_run.specs.Telling.{counts_of}
 use Rattle.cc_run.specs.Wholes.{AreFronts, Given, Left, Whole, nothing, only_err, only_out}
 use Rattle.cc_defs.specs.Runs.{Claim, Conditions, Failure, Histories, Horizon, IsFairRun, IsTrueOf, MayEnd, MayEndWithin, Run, first_horizon, horizon_at, last_horizon, optional, rows_of}
-use Rattle.cc_words.specs.Requests.{Checking, Listing, Request, ToCheck, ToCheckModels, ToConvert, ToExplain, ToExport, ToList, ToMake, ToModel}
+use Rattle.cc_words.specs.Requests.{Checking, Listing, Request, ToBeSure, ToCheck, ToCheckModels, ToCheckSure, ToConvert, ToExplain, ToExport, ToList, ToMake, ToModel}
 use Rattle.cc_words.specs.Views.{plain_text}
 use Rattle.cc_words.specs.Words.{Text}
 use Rattle.cc_run.proofs.Callings.{asks_behind, asks_nothing, called_begins, called_none, called_on, first_none, may_be_refused, some_asked_of, stop_answers_nothing, told_answers_nothing}
@@ -685,6 +687,26 @@ may_end_exporting statuses.ReadFault is = is
 may_end_exporting statuses.WriteFault is = is
 may_end_exporting statuses.OutOfMemory is = is
 
+may_end_surely : (status : Status) → MayEndSurely status → IsEndStatus status
+may_end_surely statuses.Right is = is
+may_end_surely statuses.Not is = is
+may_end_surely statuses.Refused is = is
+may_end_surely statuses.Spent is = is
+may_end_surely statuses.Asked is = absurd is
+may_end_surely statuses.ReadFault is = is
+may_end_surely statuses.WriteFault is = is
+may_end_surely statuses.OutOfMemory is = is
+
+may_end_checking_sure : (status : Status) → MayEndCheckingSure status → IsEndStatus status
+may_end_checking_sure statuses.Right is = is
+may_end_checking_sure statuses.Not is = is
+may_end_checking_sure statuses.Refused is = is
+may_end_checking_sure statuses.Spent is = absurd is
+may_end_checking_sure statuses.Asked is = absurd is
+may_end_checking_sure statuses.ReadFault is = is
+may_end_checking_sure statuses.WriteFault is = is
+may_end_checking_sure statuses.OutOfMemory is = is
+
 pub ends_as_it_may : (request : Option Request) (status : Status) → MayEndWith request status → IsEndStatus status
 ends_as_it_may None status is = subst IsEndStatus (sym is) tt
 ends_as_it_may (Some (ToList listing)) status is = is
@@ -695,6 +717,8 @@ ends_as_it_may (Some (ToConvert converting)) status is = may_end_checking status
 ends_as_it_may (Some (ToExport exporting)) status is = may_end_exporting status is
 ends_as_it_may (Some (ToModel modelling)) status is = is
 ends_as_it_may (Some (ToCheckModels checking)) status is = may_end_checking status is
+ends_as_it_may (Some (ToBeSure surely)) status is = may_end_surely status is
+ends_as_it_may (Some (ToCheckSure checking)) status is = may_end_checking_sure status is
 
 answers_ended : (files : Files) (words : List Text) (status : Status) (c : Counts) (l : Left) → IsEndStatus status → Ended files words status l → Answers files words status c l
 answers_ended files words statuses.Right c l ends ended = ended

@@ -25,12 +25,14 @@ use Rattle.cc_run.specs.Tasks.{AreRead, IsTask, Named, RefusesDescription, Refus
 use Rattle.cc_words.specs.declared.asked.Asked.{Asked}
 use Rattle.cc_words.specs.declared.asked.CheckAsked.{CheckAsked}
 use Rattle.cc_words.specs.declared.asked.CheckModelsAsked.{CheckModelsAsked}
+use Rattle.cc_words.specs.declared.asked.CheckSureAsked.{CheckSureAsked}
 use Rattle.cc_words.specs.declared.asked.ConvertAsked.{ConvertAsked}
 use Rattle.cc_words.specs.declared.asked.ExplainAsked.{ExplainAsked}
 use Rattle.cc_words.specs.declared.asked.ExportAsked.{ExportAsked}
 use Rattle.cc_words.specs.declared.asked.ListAsked.{ListAsked}
 use Rattle.cc_words.specs.declared.asked.ModelsAsked.{ModelsAsked}
-use Rattle.cc_words.specs.Requests.{Checking, Converting, Explaining, Exporting, Listing, ModelChecking, Modelling, Request, ToCheck, ToCheckModels, ToConvert, ToExplain, ToExport, ToList, ToMake, ToModel}
+use Rattle.cc_words.specs.declared.asked.SureAsked.{SureAsked}
+use Rattle.cc_words.specs.Requests.{Checking, Converting, Explaining, Exporting, Listing, ModelChecking, Modelling, Request, SureChecking, Surely, ToBeSure, ToCheck, ToCheckModels, ToCheckSure, ToConvert, ToExplain, ToExport, ToList, ToMake, ToModel}
 use Rattle.cc_words.specs.Views.{plain_request, plain_text}
 use Rattle.cc_words.specs.Words.{Text}
 use Rattle.cc_run.proofs.Callings.{called_none, called_reading, first_all, first_longer}
@@ -76,6 +78,12 @@ modelling_by models = record { file = models.file.now; count = models.count; bud
 
 abbrev pub models_checking_by : CheckModelsAsked → ModelChecking
 models_checking_by check = record { file = check.file.now; log = check.log.now }
+
+abbrev pub surely_by : SureAsked → Surely
+surely_by sure = record { file = sure.file.now; query = plain_text sure.query; budget = sure.budget; log = plain_text sure.log }
+
+abbrev pub sure_checking_by : CheckSureAsked → SureChecking
+sure_checking_by check = record { file = check.file.now; query = plain_text check.query; log = check.log.now }
 
 -- ---- the description of places
 
@@ -187,6 +195,8 @@ refused_so files (ToConvert converting) refusal file asks refused = inl refused
 refused_so files (ToExport exporting) refusal file asks refused = absurd asks
 refused_so files (ToModel modelling) refusal file asks refused = absurd asks
 refused_so files (ToCheckModels checking) refusal file asks refused = absurd asks
+refused_so files (ToBeSure surely) refusal file asks refused = absurd asks
+refused_so files (ToCheckSure checking) refusal file asks refused = absurd asks
 
 -- and so it is where the description is refused
 unread_so : (files : Files) (request : Request) (refusal : Refusal) (file : Text) → AsksDescription request →
@@ -200,6 +210,8 @@ unread_so files (ToConvert converting) refusal file asks refused = inl (inl refu
 unread_so files (ToExport exporting) refusal file asks refused = inl refused
 unread_so files (ToModel modelling) refusal file asks refused = absurd asks
 unread_so files (ToCheckModels checking) refusal file asks refused = absurd asks
+unread_so files (ToBeSure surely) refusal file asks refused = inl refused
+unread_so files (ToCheckSure checking) refusal file asks refused = inl (inl refused)
 
 stopped_refuses : (files : Files) (by : Named) (refusal : Refusal) (file : Text) → HasStopped files by.file (describe_stops.Refused refusal file) →
     RefusesDescription files by refusal file
@@ -264,6 +276,8 @@ opens_all files (ToConvert converting) described opened asks are = (opened, are,
 opens_all files (ToExport exporting) described opened asks are = subst (λ (names : List Text). AreToOpen files exporting.file names) (sym (append-nil opened)) are
 opens_all files (ToModel modelling) described opened asks are = absurd asks
 opens_all files (ToCheckModels checking) described opened asks are = absurd asks
+opens_all files (ToBeSure surely) described opened asks are = subst (λ (names : List Text). AreToOpen files surely.file names) (sym (append-nil opened)) are
+opens_all files (ToCheckSure checking) described opened asks are = (opened, are, refl)
 
 pub opened_all : (o : Option Contents) (request : Request) (described : Described) (opened : List Text) → AsksDescription request →
     IfSome o (λ before. OpensDescription request before.files (Ok described) opened) → OpenedAll request o opened
@@ -284,6 +298,8 @@ opens_refused files (ToConvert converting) refusal file opened asks are = (opene
 opens_refused files (ToExport exporting) refusal file opened asks are = subst (λ (names : List Text). AreToOpen files exporting.file names) (sym (append-nil opened)) are
 opens_refused files (ToModel modelling) refusal file opened asks are = absurd asks
 opens_refused files (ToCheckModels checking) refusal file opened asks are = absurd asks
+opens_refused files (ToBeSure surely) refusal file opened asks are = subst (λ (names : List Text). AreToOpen files surely.file names) (sym (append-nil opened)) are
+opens_refused files (ToCheckSure checking) refusal file opened asks are = (opened, are, refl)
 
 pub opened_refused : (o : Option Contents) (request : Request) (refusal : Refusal) (file : Text) (opened : List Text) → AsksDescription request →
     IfSome o (λ before. OpensDescription request before.files (stopped (describe_stops.Refused refusal file)) opened) → OpenedAll request o opened
@@ -317,6 +333,10 @@ first_in files (ToConvert converting) stop names asks are =
 first_in files (ToExport exporting) stop names asks are = first_files files exporting.file stop names are
 first_in files (ToModel modelling) stop names asks are = absurd asks
 first_in files (ToCheckModels checking) stop names asks are = absurd asks
+first_in files (ToBeSure surely) stop names asks are = first_files files surely.file stop names are
+first_in files (ToCheckSure checking) stop names asks are =
+    let there = first_files files checking.file stop names are in
+    (there.0 ++ checking.log ∷ [], (there.0, there.1, refl), first_longer names there.0 (checking.log ∷ []) there.2)
 
 pub first_of : (o : Option Contents) (request : Request) (stop : DescribeStop) (names : List Text) → AsksDescription request → IfSome o (λ c. OpensDescription request c.files (stopped stop) names) →
     AreFirstOf o request names
@@ -341,6 +361,8 @@ opens_file (Some c) (ToConvert converting) file r names is opens = subst (λ (f 
 opens_file (Some c) (ToExport exporting) file r names is opens = subst (λ (f : Text). OpensFor c.files f r names) is opens
 opens_file (Some c) (ToModel modelling) file r names is opens = absurd is
 opens_file (Some c) (ToCheckModels checking) file r names is opens = absurd is
+opens_file (Some c) (ToBeSure surely) file r names is opens = subst (λ (f : Text). OpensFor c.files f r names) is opens
+opens_file (Some c) (ToCheckSure checking) file r names is opens = subst (λ (f : Text). OpensFor c.files f r names) is opens
 
 describes_file : (o : Option Contents) (request : Request) (file : Text) (r : Outcome) → IsFileOf request file → IfSome o (λ c. IfOk r (Describes c.files file)) →
     IfSome o (λ c. IfOk r (Describes (source_of request c.files) (named_of request).file))
@@ -353,6 +375,8 @@ describes_file (Some c) (ToConvert converting) file r is describes = subst (λ (
 describes_file (Some c) (ToExport exporting) file r is describes = subst (λ (f : Text). IfOk r (Describes c.files f)) is describes
 describes_file (Some c) (ToModel modelling) file r is describes = absurd is
 describes_file (Some c) (ToCheckModels checking) file r is describes = absurd is
+describes_file (Some c) (ToBeSure surely) file r is describes = subst (λ (f : Text). IfOk r (Describes c.files f)) is describes
+describes_file (Some c) (ToCheckSure checking) file r is describes = subst (λ (f : Text). IfOk r (Describes c.files f)) is describes
 
 stopped_file : (o : Option Contents) (request : Request) (file : Text) (r : Outcome) → IsFileOf request file → IfSome o (λ c. IfErr r (HasStopped c.files file)) →
     IfSome o (λ c. IfErr r (HasStopped (source_of request c.files) (named_of request).file))
@@ -365,6 +389,8 @@ stopped_file (Some c) (ToConvert converting) file r is describes = subst (λ (f 
 stopped_file (Some c) (ToExport exporting) file r is describes = subst (λ (f : Text). IfErr r (HasStopped c.files f)) is describes
 stopped_file (Some c) (ToModel modelling) file r is describes = absurd is
 stopped_file (Some c) (ToCheckModels checking) file r is describes = absurd is
+stopped_file (Some c) (ToBeSure surely) file r is describes = subst (λ (f : Text). IfErr r (HasStopped c.files f)) is describes
+stopped_file (Some c) (ToCheckSure checking) file r is describes = subst (λ (f : Text). IfErr r (HasStopped c.files f)) is describes
 
 pub reads_as : (request : Request) (a b : Outcome) (x y : Moment) → a ≡ b → Reads request a x y → Reads request b x y
 reads_as request a b x y same reads = subst (λ (r : Outcome). Reads request r x y) same reads

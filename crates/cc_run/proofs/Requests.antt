@@ -12,7 +12,7 @@ use Rattle.cc_words.specs.declared.asked.Asked.{Asked}
 use Rattle.cc_words.specs.Readings.{reading}
 use Rattle.cc_words.specs.declared.modes.Mode.{Mode}
 use Rattle.cc_words.specs.declared.modes.Mode.TheVariants as modes
-use Rattle.cc_words.specs.Requests.{Request, asked_in, asked_of, budget_of, count_of, form_of, mode_of, number_from_zero, number_up_to, optional, provided, suits, valued}
+use Rattle.cc_words.specs.Requests.{Request, asked_in, asked_of, budget_of, count_of, form_of, has_plain_name, mode_of, number_from_zero, number_up_to, optional, provided, suits, valued}
 use Rattle.cc_words.specs.Views.{plain_asked, plain_request}
 use Rattle.cc_words.specs.Words.{Given, Text}
 use Rattle.cc_run.proofs.Outcomes.{RefusesRequest}
@@ -114,6 +114,14 @@ valued_within modes.CheckModels given request e =
     let file = from_provided given.file _ request e in
     let log = from_provided given.log _ request file.2 in
     subst IsWithin (some_is _ request log.2) tt
+valued_within modes.Sure given request e =
+    let file = from_provided given.file _ request e in
+    let budget = from_provided (budget_of given) _ request file.2 in
+    subst IsWithin (some_is _ request budget.2) (budget_within given budget.0 budget.1)
+valued_within modes.CheckSure given request e =
+    let file = from_provided given.file _ request e in
+    let log = from_provided given.log _ request file.2 in
+    subst IsWithin (some_is _ request log.2) tt
 
 asked_within : (mode : Mode) (given : Given) (request : Request) → asked_in mode given ≡ Some request → IsWithin request
 asked_within mode given request e = valued_within mode given request (from_suited (suits mode given) (valued mode given) request e)
@@ -121,7 +129,8 @@ asked_within mode given request e = valued_within mode given request (from_suite
 read_within : (o : Option Given) (request : Request) → option_and_then asked_of o ≡ Some request → IsWithin request
 read_within None request e = absurd cc
 read_within (Some given) request e =
-    let mode = from_provided (mode_of given) _ request e in
+    let suited = from_suited (has_plain_name given) (provided (mode_of given) (λ mode. asked_in mode given)) request e in
+    let mode = from_provided (mode_of given) _ request suited in
     asked_within mode.0 given request mode.2
 
 pub request_within : (words : List Text) (request : Request) → request_of words ≡ Some request → IsWithin request

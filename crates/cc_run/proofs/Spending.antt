@@ -26,7 +26,7 @@ use Rattle.cc_run.proofs.Worth.{all_front, lines_both}
 
 -- ---- rows that were told
 
-path_row : (d : Description) (horizon : ℕ) (row : List ℕ) → IsPath d horizon row → IsRow (sizes_at d horizon) row
+pub path_row : (d : Description) (horizon : ℕ) (row : List ℕ) → IsPath d horizon row → IsRow (sizes_at d horizon) row
 path_row d zero row is = is.interprets
 path_row d (suc horizon) row is = is.0
 

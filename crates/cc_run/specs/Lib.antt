@@ -14,6 +14,7 @@ pub mod Refusing
 pub mod Requested
 pub mod Searching
 pub mod Stops
+pub mod Sures
 pub mod Tasks
 pub mod Telling
 pub mod Wholes

@@ -1,8 +1,10 @@
 pub mod Checking
 pub mod CheckingModels
+pub mod CheckingSure
 pub mod Converting
 pub mod Explaining
 pub mod Exporting
 pub mod Listing
 pub mod Making
 pub mod Modelling
+pub mod Surely

@@ -6,9 +6,11 @@ use Rattle.cc_describe.specs.declared.description.DescribeStop.TheVariants as st
 use Rattle.cc_describe.specs.Describing.{Describes, HasStopped, OpensFor}
 use Rattle.cc_describe.specs.Places.{Files}
 use Rattle.cc_ports.specs.Contents.{Rose, with_rest}
+use Rattle.cc_run.specs.Modes.CheckingSure.{named_to_check}
+use Rattle.cc_run.specs.Modes.Surely.{named_surely}
 use Rattle.cc_run.specs.Stops.{Called, IsCalm, Moment}
 use Rattle.cc_run.specs.Tasks.{Named, checked_by, made_files, made_named, named_alone, named_by, named_from, named_in, named_to}
-use Rattle.cc_words.specs.Requests.{Request, ToList, ToCheck, ToMake, ToExplain, ToConvert, ToExport, ToModel, ToCheckModels}
+use Rattle.cc_words.specs.Requests.{Request, ToList, ToCheck, ToMake, ToExplain, ToConvert, ToExport, ToModel, ToCheckModels, ToBeSure, ToCheckSure}
 use Rattle.cc_words.specs.Words.{Text}
 
 -- the description, the query and the key that it names
@@ -21,6 +23,8 @@ named_of (ToConvert converting) = named_in (checked_by converting)
 named_of (ToExport exporting) = named_from exporting
 named_of (ToModel modelling) = named_alone modelling.file
 named_of (ToCheckModels checking) = named_alone checking.file
+named_of (ToBeSure surely) = named_surely surely
+named_of (ToCheckSure checking) = named_to_check checking
 
 -- the files that the description is read from
 abbrev pub source_of : Request → Files → Files
@@ -32,6 +36,8 @@ source_of (ToConvert converting) files = files
 source_of (ToExport exporting) files = files
 source_of (ToModel modelling) files = files
 source_of (ToCheckModels checking) files = files
+source_of (ToBeSure surely) files = files
+source_of (ToCheckSure checking) files = files
 
 -- the file of the description, where one is named
 abbrev pub IsFileOf : Request → Text → Type 0
@@ -43,6 +49,8 @@ IsFileOf (ToConvert converting) file = file ≡ converting.file
 IsFileOf (ToExport exporting) file = file ≡ exporting.file
 IsFileOf (ToModel modelling) file = ⊥
 IsFileOf (ToCheckModels checking) file = ⊥
+IsFileOf (ToBeSure surely) file = file ≡ surely.file
+IsFileOf (ToCheckSure checking) file = file ≡ checking.file
 
 -- a description is read for it
 abbrev pub AsksDescription : Request → Type 0
@@ -54,8 +62,11 @@ AsksDescription (ToConvert converting) = Unit {0}
 AsksDescription (ToExport exporting) = Unit {0}
 AsksDescription (ToModel modelling) = ⊥
 AsksDescription (ToCheckModels checking) = ⊥
+AsksDescription (ToBeSure surely) = Unit {0}
+AsksDescription (ToCheckSure checking) = Unit {0}
 
--- It asks a query of the description, and is refused just as its steps and its key are. An export is refused for its horizon besides.
+-- It asks a query of the description, and is refused just as its steps and its key are. An export is refused for its horizon besides,
+-- and what asks for certain atoms, or judges a log of impossible ones, for a claim.
 abbrev pub AsksQuery : Request → Type 0
 AsksQuery (ToList listing) = Unit {0}
 AsksQuery (ToCheck checking) = Unit {0}
@@ -65,6 +76,8 @@ AsksQuery (ToConvert converting) = Unit {0}
 AsksQuery (ToExport exporting) = ⊥
 AsksQuery (ToModel modelling) = ⊥
 AsksQuery (ToCheckModels checking) = ⊥
+AsksQuery (ToBeSure surely) = ⊥
+AsksQuery (ToCheckSure checking) = ⊥
 
 -- its numbers are within their bounds
 abbrev pub IsWithin : Request → Type 0
@@ -76,6 +89,8 @@ IsWithin (ToConvert converting) = Unit {0}
 IsWithin (ToExport exporting) = Unit {0}
 IsWithin (ToModel modelling) = IfSome modelling.count (λ count. 1 ≤ count) × (modelling.budget ≤ 2000000)
 IsWithin (ToCheckModels checking) = Unit {0}
+IsWithin (ToBeSure surely) = surely.budget ≤ 2000000
+IsWithin (ToCheckSure checking) = Unit {0}
 
 -- the files that it opens behind those of the description
 abbrev pub opens_behind : Request → List Text
@@ -87,6 +102,8 @@ opens_behind (ToConvert converting) = converting.log ∷ []
 opens_behind (ToExport exporting) = []
 opens_behind (ToModel modelling) = []
 opens_behind (ToCheckModels checking) = checking.log ∷ []
+opens_behind (ToBeSure surely) = []
+opens_behind (ToCheckSure checking) = checking.log ∷ []
 
 -- these files are opened to read the description
 abbrev pub OpensDescription : Request → Files → Result Described DescribeStop → List Text → Type 0
@@ -98,6 +115,8 @@ OpensDescription (ToConvert converting) files described names = OpensFor files c
 OpensDescription (ToExport exporting) files described names = OpensFor files exporting.file described names
 OpensDescription (ToModel modelling) files described names = names ≡ []
 OpensDescription (ToCheckModels checking) files described names = names ≡ []
+OpensDescription (ToBeSure surely) files described names = OpensFor files surely.file described names
+OpensDescription (ToCheckSure checking) files described names = OpensFor files checking.file described names
 
 -- the description of a request was read, or it was not
 pub record Reads (request : Request) (described : Result Described DescribeStop) (old new : Moment) : Type 0 where

@@ -32,7 +32,7 @@ fn file_name<'n>(names: &'n [Name], file: u32) -> &'n str
 }
 
 /// Writes a number in decimal.
-fn push_number(text: &mut String, number: u32) -> Result<(), OutOfMemory>
+pub(crate) fn push_number(text: &mut String, number: u32) -> Result<(), OutOfMemory>
     ensures { OnOk result (string_bytes text.new ≡ string_bytes text.old ++ decimal number) }
 {
     write!(text, "{number}")?;

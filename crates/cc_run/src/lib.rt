@@ -3,6 +3,7 @@
 
 mod asking;
 mod causes;
+mod certain;
 mod cnfs;
 pub mod laws;
 mod modes;
@@ -13,6 +14,7 @@ mod status;
 mod summing;
 mod telling;
 mod top;
+mod unclaimed;
 
 pub use status::Status;
 pub use top::{run, run_still};

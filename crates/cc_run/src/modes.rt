@@ -7,4 +7,6 @@ pub(crate) mod list;
 pub(crate) mod make;
 pub(crate) mod models;
 pub(crate) mod models_check;
+pub(crate) mod sure;
+pub(crate) mod sure_check;
 pub(crate) mod why;

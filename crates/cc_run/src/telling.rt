@@ -80,7 +80,7 @@ fn key_line(alloc: Global, horizon: u32, row: &[u32]) -> Result<String, OutOfMem
 }
 
 /// Gives a history and its key to Out.
-fn tell_row<D: Desk>(
+pub(crate) fn tell_row<D: Desk>(
     alloc: Global,
     desk: &mut D,
     described: &Described,
@@ -106,7 +106,7 @@ fn tell_key<D: Desk>(alloc: Global, desk: &mut D, horizon: u32, row: &[u32]) -> 
 }
 
 /// Gives the line of an event to Out.
-fn tell_event<D: Desk>(alloc: Global, desk: &mut D, event: &Event) -> Result<(), Stop>
+pub(crate) fn tell_event<D: Desk>(alloc: Global, desk: &mut D, event: &Event) -> Result<(), Stop>
     ensures { Step (given_to outputs.Out (event_line event.now)) (moment D.told D.begun D.read_faults D.write_faults D.calls desk.old) (moment D.told D.begun D.read_faults D.write_faults D.calls desk.new) result }
 {
     let text = event_text(alloc, event)?;

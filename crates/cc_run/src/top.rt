@@ -20,7 +20,9 @@ ghost use Rattle.cc_words.specs.Views.{plain_request, plain_text};
 ghost use Rattle.cc_words.specs.Words.{Text};
 
 use crate::asking::{Prepared, prepare};
-use crate::modes::{check, convert, export, list, make, models, models_check, why};
+use crate::modes::{
+    check, convert, export, list, make, models, models_check, sure, sure_check, why,
+};
 use crate::refusing::{file_named, refuse, tell_stop};
 use crate::status::{Status, Stop};
 use bumpalo::Bump;
@@ -40,7 +42,8 @@ const MADE: &str = "made";
 /// histories of the query at the first of its horizons that has any, or judges the claim of the query, or judges a log of it, which
 /// the words name too, or writes that in its other version, or prints the clause list of one of its horizons; or it makes a description
 /// of a size, searches for all its histories, and sums up the search; or it tells why each value of a history holds, whose key the
-/// words name; or it lists the models of a CNF, or judges a log of them.
+/// words name; or it lists the models of a CNF, or judges a log of them; or it tells of each atom of the first horizon that has a history
+/// whether all of them have it, some or none, or judges a log of what is impossible.
 ///
 /// `words` are the program's words without its name. Each line of an output is given by one `give_all`. The lines of the log
 /// are given to Log whether or not the words name a file for it. After a fault of the desk or want of memory one fixed line is
@@ -100,6 +103,8 @@ fn answer_asked<D: Desk>(alloc: Global, desk: &mut D, asked: &Asked<'_>) -> Resu
         Asked::Export(export) => answer_file(alloc, desk, asked, export.file),
         Asked::Models(asked) => models::models(alloc, desk, asked),
         Asked::CheckModels(asked) => models_check::check(alloc, desk, asked),
+        Asked::Sure(sure) => answer_file(alloc, desk, asked, sure.file),
+        Asked::CheckSure(check) => answer_file(alloc, desk, asked, check.file),
     }
 }
 
@@ -188,6 +193,8 @@ fn answer_read<D: Desk>(
         Asked::Make { .. } => answer_query(alloc, desk, asked, described),
         Asked::Convert(_) => answer_query(alloc, desk, asked, described),
         Asked::Export(export) => export::export(alloc, desk, described, export),
+        Asked::Sure(sure) => sure::sure(alloc, desk, described, sure),
+        Asked::CheckSure(check) => sure_check::check(alloc, desk, described, check),
         Asked::Models(_) => unreachable!(),
         Asked::CheckModels(_) => unreachable!(),
     }
@@ -234,6 +241,8 @@ fn query_of<'a>(asked: &Asked<'a>) -> Option<&'a str>
         Asked::Export(export) => export.query,
         Asked::Models(_) => None,
         Asked::CheckModels(_) => None,
+        Asked::Sure(sure) => sure.query,
+        Asked::CheckSure(check) => check.query,
     }
 }
 
@@ -250,6 +259,8 @@ fn key_of<'a>(asked: &Asked<'a>) -> Option<&'a str>
         Asked::Export(_) => None,
         Asked::Models(_) => None,
         Asked::CheckModels(_) => None,
+        Asked::Sure(_) => None,
+        Asked::CheckSure(_) => None,
     }
 }
 
@@ -282,6 +293,8 @@ fn answer_prepared<D: Desk>(
         Asked::Export(_) => unreachable!(),
         Asked::Models(_) => unreachable!(),
         Asked::CheckModels(_) => unreachable!(),
+        Asked::Sure(_) => unreachable!(),
+        Asked::CheckSure(_) => unreachable!(),
     }
 }
 

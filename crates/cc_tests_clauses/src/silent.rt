@@ -77,7 +77,13 @@ pub(crate) fn clauses_behind(alloc: Global) -> Result<Form, Fault>
 impl Silent for Digits {
     type Heading = u32;
 
-    ghost subject = { λ _. digits };
+    ghost Of = { Unit {0} };
+
+    ghost Is = { λ _ of. Unit {0} };
+
+    ghost subject = { λ of. digits };
+
+    ghost can_form = { λ _ heading. Unit {0} };
 
     fn header(&self) -> &[u8] {
         b"digits\n".as_slice()

@@ -1,6 +1,7 @@
 -- What the program is asked for.
-use Rattle.std.specs.Prelude.{ℕ, Bool, ◌&&◌, not, nat_le, if◌then◌else◌, List, [], ◌∷◌, length, codes, Option, Some, None, option_map, is_some, unwrap_or}
+use Rattle.std.specs.Prelude.{ℕ, Bool, true, ◌==◌, ◌&&◌, not, nat_le, if◌then◌else◌, List, [], ◌∷◌, length, codes, Option, Some, None, option_map, is_some, unwrap_or}
 use Rattle.std.specs.List.{list_all, list_any}
+use Rattle.std.specs.Option.{option_map_or}
 use Rattle.cc_defs.specs.declared.log.Version.{Version}
 use Rattle.cc_defs.specs.declared.log.Version.TheVariants as versions
 use Rattle.cc_defs.specs.Grammar.{number_of, same_text}
@@ -60,6 +61,19 @@ pub record ModelChecking : Type 0 where
   pub file : Text
   pub log : Text
 
+-- what is certain, possible and impossible
+pub record Surely : Type 0 where
+  pub file : Text
+  pub query : Option Text
+  pub budget : ℕ
+  pub log : Option Text
+
+-- whether a log of impossible atoms is right
+pub record SureChecking : Type 0 where
+  pub file : Text
+  pub query : Option Text
+  pub log : Text
+
 pub data Request : Type 0 where
   ToList : Listing → Request
   ToCheck : Checking → Request
@@ -70,6 +84,8 @@ pub data Request : Type 0 where
   ToExport : Exporting → Request
   ToModel : Modelling → Request
   ToCheckModels : ModelChecking → Request
+  ToBeSure : Surely → Request
+  ToCheckSure : SureChecking → Request
 
 -- ---- values
 
@@ -82,7 +98,9 @@ mode_named text =
     else (if same_text text (codes "convert") then Some modes.Convert
     else (if same_text text (codes "export") then Some modes.Export
     else (if same_text text (codes "models") then Some modes.Models
-    else (if same_text text (codes "modelscheck") then Some modes.CheckModels else None)))))))
+    else (if same_text text (codes "modelscheck") then Some modes.CheckModels
+    else (if same_text text (codes "sure") then Some modes.Sure
+    else (if same_text text (codes "surecheck") then Some modes.CheckSure else None)))))))))
 
 -- the number from 1 to `most` that one to seven decimal digits spell
 abbrev pub number_up_to : ℕ → Text → Option ℕ
@@ -117,6 +135,8 @@ needs modes.Convert = items.File ∷ items.Log ∷ items.To ∷ []
 needs modes.Export = items.File ∷ items.Horizon ∷ []
 needs modes.Models = items.File ∷ []
 needs modes.CheckModels = items.File ∷ items.Log ∷ []
+needs modes.Sure = items.File ∷ []
+needs modes.CheckSure = items.File ∷ items.Log ∷ []
 
 -- and what it bars
 abbrev pub bars : Mode → List Item
@@ -133,6 +153,9 @@ bars modes.Export =
 bars modes.Models = items.Query ∷ items.After ∷ items.To ∷ items.Key ∷ items.Horizon ∷ items.Size ∷ []
 bars modes.CheckModels =
     items.Query ∷ items.Count ∷ items.Budget ∷ items.After ∷ items.Form ∷ items.To ∷ items.Key ∷ items.Horizon ∷ items.Size ∷ []
+bars modes.Sure = items.Count ∷ items.After ∷ items.Form ∷ items.To ∷ items.Key ∷ items.Horizon ∷ items.Size ∷ []
+bars modes.CheckSure =
+    items.Count ∷ items.Budget ∷ items.After ∷ items.Form ∷ items.To ∷ items.Key ∷ items.Horizon ∷ items.Size ∷ []
 
 abbrev pub has : Given → Item → Bool
 has given items.Query = is_some given.query
@@ -218,6 +241,14 @@ to_model given =
 abbrev pub to_check_models : Given → Option Request
 to_check_models given = provided given.file (λ file. provided given.log (λ log. Some (ToCheckModels (record { file = file; log = log }))))
 
+abbrev pub to_be_sure : Given → Option Request
+to_be_sure given = provided given.file (λ file. provided (budget_of given) (λ budget.
+    Some (ToBeSure (record { file = file; query = given.query; budget = budget; log = given.log }))))
+
+abbrev pub to_check_sure : Given → Option Request
+to_check_sure given =
+    provided given.file (λ file. provided given.log (λ log. Some (ToCheckSure (record { file = file; query = given.query; log = log }))))
+
 abbrev pub valued : Mode → Given → Option Request
 valued modes.List given = to_list given
 valued modes.Check given = to_check given
@@ -227,6 +258,8 @@ valued modes.Convert given = to_convert given
 valued modes.Export given = to_export given
 valued modes.Models given = to_model given
 valued modes.CheckModels given = to_check_models given
+valued modes.Sure given = to_be_sure given
+valued modes.CheckSure given = to_check_sure given
 
 -- what is asked for in a mode, where the words suit it
 abbrev pub asked_in : Mode → Given → Option Request
@@ -235,5 +268,19 @@ asked_in mode given = if suits mode given then valued mode given else None
 abbrev pub mode_of : Given → Option Mode
 mode_of given = option_map (λ mode. unwrap_or mode modes.List) (optional mode_named given.mode)
 
+-- whether a byte behind another is of no control character: of none of ASCII, and of none from U+0080 to U+009F, which are the byte 194
+-- and one up to 159
+abbrev pub is_shown : ℕ → ℕ → Bool
+is_shown after byte = nat_le 32 byte && (not (byte == 127) && not (after == 194 && nat_le byte 159))
+
+-- the same of all bytes behind one
+abbrev pub are_shown : ℕ → Text → Bool
+are_shown after [] = true
+are_shown after (byte ∷ bytes) = is_shown after byte && are_shown byte bytes
+
+-- the name of the file has no control character, since refusals and causes say it
+abbrev pub has_plain_name : Given → Bool
+has_plain_name given = option_map_or (are_shown 0) given.file true
+
 abbrev pub asked_of : Given → Option Request
-asked_of given = provided (mode_of given) (λ mode. asked_in mode given)
+asked_of given = if has_plain_name given then provided (mode_of given) (λ mode. asked_in mode given) else None

@@ -4,7 +4,7 @@ use Rattle.std.specs.Borrow.{Bor}
 use Rattle.cc_words.specs.declared.asked.Asked.{Asked}
 use Rattle.cc_words.specs.declared.asked.Asked.TheVariants as asked
 use Rattle.cc_words.specs.declared.given.Given.{Given as GivenWords}
-use Rattle.cc_words.specs.Requests.{Request, ToList, ToCheck, ToMake, ToExplain, ToConvert, ToExport, ToModel, ToCheckModels}
+use Rattle.cc_words.specs.Requests.{Request, ToList, ToCheck, ToMake, ToExplain, ToConvert, ToExport, ToModel, ToCheckModels, ToBeSure, ToCheckSure}
 use Rattle.cc_words.specs.Words.{Given, Text}
 
 abbrev pub plain_text : Option (Bor Text) → Option Text
@@ -60,6 +60,13 @@ plain_request (asked.Models models) = ToModel (record {
   form = models.form;
 })
 plain_request (asked.CheckModels check) = ToCheckModels (record { file = check.file.now; log = check.log.now })
+plain_request (asked.Sure sure) = ToBeSure (record {
+  file = sure.file.now;
+  query = plain_text sure.query;
+  budget = sure.budget;
+  log = plain_text sure.log;
+})
+plain_request (asked.CheckSure check) = ToCheckSure (record { file = check.file.now; query = plain_text check.query; log = check.log.now })
 
 abbrev pub plain_asked : Option Asked → Option Request
 plain_asked = option_map plain_request

@@ -20,6 +20,10 @@ pub enum Asked<'a> {
     Models(ModelsAsked<'a>),
     /// Whether a log of models is right.
     CheckModels(CheckModelsAsked<'a>),
+    /// What is certain, possible and impossible.
+    Sure(SureAsked<'a>),
+    /// Whether a log of what is impossible is right.
+    CheckSure(CheckSureAsked<'a>),
 }
 
 /// Histories of a query.
@@ -104,6 +108,28 @@ pub struct ModelsAsked<'a> {
 pub struct CheckModelsAsked<'a> {
     /// The file of the CNF.
     pub file: &'a str,
+    /// The file that the log is read from.
+    pub log: &'a str,
+}
+
+/// What is certain, possible and impossible.
+#[derive(Clone, Copy, Debug, PartialEq, Eq)]
+pub struct SureAsked<'a> {
+    pub file: &'a str,
+    /// Its label; the first query without it.
+    pub query: Option<&'a str>,
+    /// From 1 to 2000000.
+    pub budget: u32,
+    /// The file that the log is written to.
+    pub log: Option<&'a str>,
+}
+
+/// Whether a log of what is impossible is right.
+#[derive(Clone, Copy, Debug, PartialEq, Eq)]
+pub struct CheckSureAsked<'a> {
+    pub file: &'a str,
+    /// Its label; the first query without it.
+    pub query: Option<&'a str>,
     /// The file that the log is read from.
     pub log: &'a str,
 }

@@ -2,14 +2,15 @@
 ghost use Rattle.std.specs.Prelude.{◌≡◌};
 ghost use Rattle.std.specs.List.{list_all, list_any};
 ghost use Rattle.cc_words.specs.Requests as requests;
-ghost use Rattle.cc_words.specs.Requests.{asked_in, asked_of, budget_of, count_of, form_of, mode_of, to_check, to_check_models, to_convert, to_explain, to_export, to_list, to_make, to_model, valued};
+ghost use Rattle.cc_words.specs.Requests.{asked_in, asked_of, budget_of, count_of, form_of, mode_of, to_be_sure, to_check, to_check_models, to_check_sure, to_convert, to_explain, to_export, to_list, to_make, to_model, valued};
 ghost use Rattle.cc_words.specs.Views.{plain_asked, plain_given};
 
 use crate::asked::{
-    Asked, CheckAsked, CheckModelsAsked, ConvertAsked, ExplainAsked, ExportAsked, ListAsked,
-    ModelsAsked,
+    Asked, CheckAsked, CheckModelsAsked, CheckSureAsked, ConvertAsked, ExplainAsked, ExportAsked,
+    ListAsked, ModelsAsked, SureAsked,
 };
 use crate::modes::{Item, Mode};
+use crate::names::is_plain_name;
 use crate::numbers::{from_zero, optional_up_to, optional_version, up_to};
 use cc_defs::Version;
 
@@ -205,6 +206,31 @@ impl<'a> Given<'a> {
         Some(Asked::CheckModels(CheckModelsAsked { file, log }))
     }
 
+    fn to_be_sure(&self) -> Option<Asked<'a>>
+        ensures { plain_asked result ≡ to_be_sure (plain_given self.now) }
+    {
+        let file = self.file?;
+        let budget = self.budget()?;
+        Some(Asked::Sure(SureAsked {
+            file,
+            query: self.query,
+            budget,
+            log: self.log,
+        }))
+    }
+
+    fn to_check_sure(&self) -> Option<Asked<'a>>
+        ensures { plain_asked result ≡ to_check_sure (plain_given self.now) }
+    {
+        let file = self.file?;
+        let log = self.log?;
+        Some(Asked::CheckSure(CheckSureAsked {
+            file,
+            query: self.query,
+            log,
+        }))
+    }
+
     /// What is asked in a mode, by its values.
     fn valued(&self, mode: Mode) -> Option<Asked<'a>>
         ensures { plain_asked result ≡ valued mode (plain_given self.now) }
@@ -218,6 +244,8 @@ impl<'a> Given<'a> {
             Mode::Export => self.to_export(),
             Mode::Models => self.to_model(),
             Mode::CheckModels => self.to_check_models(),
+            Mode::Sure => self.to_be_sure(),
+            Mode::CheckSure => self.to_check_sure(),
         }
     }
 
@@ -231,11 +259,24 @@ impl<'a> Given<'a> {
         self.valued(mode)
     }
 
-    /// What is asked; `None` where a value is not of its form, where what is required is missing, or where an option does
-    /// not go with the mode.
+    /// The name of the file, where there is one, has no control character.
+    fn has_plain_name(&self) -> bool
+        ensures { result ≡ requests.has_plain_name (plain_given self.now) }
+    {
+        match self.file {
+            None => true,
+            Some(file) => is_plain_name(file),
+        }
+    }
+
+    /// What is asked; `None` where a value is not of its form, where what is required is missing, where an option does not
+    /// go with the mode, or where the file's name has a control character.
     pub fn asked(&self) -> Option<Asked<'a>>
         ensures { plain_asked result ≡ asked_of (plain_given self.now) }
     {
+        if !self.has_plain_name() {
+            return None;
+        }
         self.asked_in(self.mode()?)
     }
 }

@@ -2,12 +2,12 @@
 //!
 //! | Option | Value | Default | Goes with mode |
 //! |---|---|---|---|
-//! | `--mode` | `list`, `check`, `make`, `convert`, `why`, `export`, `models` or `modelscheck` | `list` | |
-//! | `--query` | a label | the first query | list, check, convert, export |
+//! | `--mode` | `list`, `check`, `make`, `convert`, `why`, `export`, `models`, `modelscheck`, `sure` or `surecheck` | `list` | |
+//! | `--query` | a label | the first query | list, check, convert, export, sure, surecheck |
 //! | `--count` | 1 to 1000000 | all | list, models |
-//! | `--budget` | 1 to 2000000 | 200000 | list, make, models |
+//! | `--budget` | 1 to 2000000 | 200000 | list, make, models, sure |
 //! | `--after` | a key | none | list, check, convert |
-//! | `--log` | a file name | none | list, models (written); check, convert, modelscheck (read, required) |
+//! | `--log` | a file name | none | list, models, sure (written); check, convert, modelscheck, surecheck (read, required) |
 //! | `--form` | `1` or `2` | `1` | list, models |
 //! | `--to` | a file name | none | convert (required) |
 //! | `--key` | a key | none | why (required) |
@@ -16,20 +16,22 @@
 //! | FILE | a file name | none | all but make (required) |
 //!
 //! Numbers have one to seven decimal digits. Words of the plain form are options with their values, no option twice and no
-//! value with a first `-`, and then at most one FILE. Other words mean what they mean to clap.
+//! value with a first `-`, and then at most one FILE. Other words mean what they mean to clap. A FILE with a control character
+//! is not taken: no such character reaches an output by it.
 #![tactic(auto)]
 
 mod asked;
 mod given;
 pub mod laws;
 mod modes;
+mod names;
 mod numbers;
 mod parse;
 mod words;
 
 pub use asked::{
-    Asked, CheckAsked, CheckModelsAsked, ConvertAsked, ExplainAsked, ExportAsked, ListAsked,
-    ModelsAsked,
+    Asked, CheckAsked, CheckModelsAsked, CheckSureAsked, ConvertAsked, ExplainAsked, ExportAsked,
+    ListAsked, ModelsAsked, SureAsked,
 };
 pub use modes::{Item, Mode};
 pub use words::read;

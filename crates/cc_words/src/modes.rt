@@ -21,6 +21,10 @@ pub enum Mode {
     Models,
     /// A log of models is judged.
     CheckModels,
+    /// It is told what is certain, possible and impossible.
+    Sure,
+    /// A log of what is impossible is judged.
+    CheckSure,
 }
 
 /// What may stand among the words: an option with its value, or the FILE.
@@ -71,6 +75,10 @@ impl Mode {
             Some(Mode::Models)
         } else if name == "modelscheck" {
             Some(Mode::CheckModels)
+        } else if name == "sure" {
+            Some(Mode::Sure)
+        } else if name == "surecheck" {
+            Some(Mode::CheckSure)
         } else {
             None
         }
@@ -89,6 +97,8 @@ impl Mode {
             Mode::Export => &[Item::File, Item::Horizon],
             Mode::Models => &[Item::File],
             Mode::CheckModels => &[Item::File, Item::Log],
+            Mode::Sure => &[Item::File],
+            Mode::CheckSure => &[Item::File, Item::Log],
         }
     }
 
@@ -157,6 +167,25 @@ impl Mode {
             ],
             Mode::CheckModels => &[
                 Item::Query,
+                Item::Count,
+                Item::Budget,
+                Item::After,
+                Item::Form,
+                Item::To,
+                Item::Key,
+                Item::Horizon,
+                Item::Size,
+            ],
+            Mode::Sure => &[
+                Item::Count,
+                Item::After,
+                Item::Form,
+                Item::To,
+                Item::Key,
+                Item::Horizon,
+                Item::Size,
+            ],
+            Mode::CheckSure => &[
                 Item::Count,
                 Item::Budget,
                 Item::After,

@@ -40,3 +40,11 @@ returns-in-CheckModels g c = λ words asked.
     let e = ap plain_request c.in-CheckModels.is in
     prints_as words _ _ _ _ c.check.result (ap (λ request. names_log (Some request)) (sym e))
     (c.check.ensures words (models_checking_by c.in-CheckModels.asked) (asked ∙ ap Some e) refl)
+
+pub returns-in-Sure : goal.returns-in-Sure
+returns-in-Sure g c = λ words asked.
+    c.answer_file-in-Sure.ensures words asked (file_as c.args.asked.now (requests.Sure c.in-Sure.sure) c.in-Sure.sure.file.now c.in-Sure.is refl)
+
+pub returns-in-CheckSure : goal.returns-in-CheckSure
+returns-in-CheckSure g c = λ words asked.
+    c.answer_file-in-CheckSure.ensures words asked (file_as c.args.asked.now (requests.CheckSure c.in-CheckSure.check) c.in-CheckSure.check.file.now c.in-CheckSure.is refl)

@@ -1,0 +1,107 @@
+-- A run that tells what is certain and possible, from its steps.
+use Rattle.std.proofs.Common.{◌≡◌, ◌∙◌, refl, sym, ap, subst, ℕ, List, [], Option, Some, None, Result, Ok, Err, IfSome, IfOk, inl, inr}
+use Rattle.std.specs.Prelude.{is_some}
+use Rattle.cc_defs.specs.declared.refusal.Refusal.{Refusal}
+use Rattle.cc_defs.specs.Description.{Description}
+use Rattle.cc_defs.specs.Resolved.{Query}
+use Rattle.cc_defs.specs.Runs.{optional}
+use Rattle.cc_describe.specs.Places.{Files}
+use Rattle.cc_ports.specs.Contents.{Contents}
+use Rattle.cc_run.specs.declared.status.Status.{Status}
+use Rattle.cc_run.specs.declared.status.Status.TheVariants as statuses
+use Rattle.cc_run.specs.declared.status.Stop.{Stop}
+use Rattle.cc_run.specs.Answers.{Gives}
+use Rattle.cc_run.specs.Modes.Surely.{EndsSurely, MayEndSurely, NamesUnclaimed, RefusesClaimed, TellsSurely, named_surely, sure_status}
+use Rattle.cc_run.specs.Names.{MayEndWith, log_asked}
+use Rattle.cc_run.specs.Stops.{Begins, Moment, Prints, Step, outcome}
+use Rattle.cc_run.specs.Sures.{TellsSure, surely_given}
+use Rattle.cc_run.specs.Tasks.{request_of}
+use Rattle.cc_run.specs.Wholes.{Whole, nothing}
+use Rattle.cc_sure.specs.SureRuns.{SureEnding, Complete, NoneAtAll, Spent, SureRun}
+use Rattle.cc_words.specs.declared.asked.SureAsked.{SureAsked}
+use Rattle.cc_words.specs.Requests.{Request, Surely, ToBeSure}
+use Rattle.cc_words.specs.Views.{plain_text}
+use Rattle.cc_words.specs.Words.{Text}
+use Rattle.cc_run.proofs.GivenSteps.{step_as}
+use Rattle.cc_run.proofs.Outcomes.{RefusesRequest, known, prints_begun}
+use Rattle.cc_run.proofs.Readings.{surely_by}
+
+-- ---- what is asked
+
+same_surely : (a b : Surely) → ToBeSure a ≡ ToBeSure b → a ≡ b
+same_surely a b e = cc
+
+pub surely_is : (asked : SureAsked) (surely : Surely) → ToBeSure (surely_by asked) ≡ ToBeSure surely → surely_by asked ≡ surely
+surely_is asked surely e = same_surely (surely_by asked) surely e
+
+-- a log that is begun as it is named
+pub begins_surely : {X : Type 0} (asked : SureAsked) (surely : Surely) → surely_by asked ≡ surely → (names : List Text) (x y : Moment) (r : Result X Stop) →
+    Begins (is_some asked.log) names x y r → Begins (is_some surely.log) names x y r
+begins_surely asked surely is names x y r begins = subst (λ b. Begins b names x y r) (named asked.log ∙ ap (λ (s : Surely). is_some s.log) is) begins
+  where
+    named : (o : Option _) → is_some o ≡ is_some (plain_text o)
+    named None = refl
+    named (Some text) = refl
+
+-- what is refused of it
+pub refuses_surely : (o : Option Contents) (words : List Text) (surely : Surely) (refusal : Refusal) (file : Text) → request_of words ≡ Some (ToBeSure surely) →
+    IfSome o (λ before. RefusesClaimed before.files (named_surely surely) refusal file) → IfSome o (λ before. RefusesRequest before.files (request_of words) refusal file)
+refuses_surely o words surely refusal file asked =
+    known o (λ before. RefusesClaimed before.files (named_surely surely) refusal file) (λ before. RefusesRequest before.files (request_of words) refusal file)
+    (λ before refused. subst (λ (r : Option Request). RefusesRequest before.files r refusal file) (sym asked) refused)
+
+-- the log that is named is the one that is asked for, however the run ends
+pub surely_log : (words : List Text) (surely : Surely) (names : List Text) → request_of words ≡ Some (ToBeSure surely) → names ≡ optional surely.log →
+    (status : Status) → names ≡ log_asked (request_of words) status
+surely_log words surely names asked named status = named ∙ sym (ap (λ (o : Option Request). log_asked o status) asked)
+
+-- ---- a run
+
+status_may : (ending : SureEnding) → MayEndSurely (sure_status ending)
+status_may Complete = tt
+status_may NoneAtAll = tt
+status_may (Spent section) = tt
+
+surely_may : (d : Description) (q : Query) (budget : ℕ) (run : SureRun) (err : List ℕ) (ends : Option Status) (status : Status) → EndsSurely d q budget run err ends →
+    ends ≡ Some status → MayEndSurely status
+surely_may d q budget run err None status how is = absurd cc
+surely_may d q budget run err (Some other) status (inl ended) is =
+    let same : other ≡ status = cc in subst MayEndSurely (sym ended.3 ∙ same) (status_may ended.0)
+surely_may d q budget run err (Some other) status (inr refused) is =
+    let same : other ≡ status = cc in subst MayEndSurely (sym refused.3 ∙ same) tt
+
+pub prints_surely : {X : Type 0} (words : List Text) (surely : Surely) (d : Description) (q : Query) (names : List Text) (x y z : Moment) (b : Result X Stop) (v : X) (r : Result Status Stop) →
+    request_of words ≡ Some (ToBeSure surely) → names ≡ optional surely.log → IfSome x.told (λ c. NamesUnclaimed c.files (named_surely surely) d q) →
+    Begins (is_some surely.log) names x y b → b ≡ Ok v → TellsSure d q surely.budget nothing y z r → Prints words (is_some surely.log) [] x z r
+prints_surely words surely d q names x y z b v r asked named is at was told =
+    let more = told.more in
+    let whole : Whole = record { given = record (surely_given d q told.run) { err = more.err }; begun = is_some surely.log; ends = told.ends } in
+    let tells : (files : Files) → NamesUnclaimed files (named_surely surely) d q → TellsSurely surely files whole = λ files is. record {
+      description = d;
+      query = q;
+      named = is;
+      run = told.run;
+      fair = more.fair;
+      out = refl;
+      log = refl;
+      begun = refl;
+      ends = more.how;
+    } in
+    let names_are = surely_log words surely names asked named in
+    prints_begun words (is_some surely.log) names whole x y z b v r (names_are statuses.Right) (λ _. names_are (outcome r))
+    (known x.told (λ c. NamesUnclaimed c.files (named_surely surely) d q) (λ c. Gives c.files (request_of words) whole)
+    (λ c is. subst (λ (o : Option Request). Gives c.files o whole) (sym asked) (inr (tells c.files is))) is)
+    refl at was (step_as more.given whole.given y z r more.grows more.step) told.ended (may r told.ended)
+  where
+    may : (r : Result Status Stop) → IfOk r (λ status. told.ends ≡ Some status) → IfOk r (MayEndWith (request_of words))
+    may (Ok status) is = subst (λ (o : Option Request). MayEndWith o status) (sym asked) (surely_may d q surely.budget told.run told.more.err told.ends status told.more.how is)
+    may (Err stop) is = tt
+
+-- the same, asked by what the program has
+pub told_as : (asked : SureAsked) (surely : Surely) → surely_by asked ≡ surely → (d : Description) (q : Query) (x y : Moment) (r : Result Status Stop) →
+    TellsSure d q asked.budget nothing x y r → TellsSure d q surely.budget nothing x y r
+told_as asked surely is d q x y r tells = subst (λ (s : Surely). TellsSure d q s.budget nothing x y r) is tells
+
+pub named_as : (o : Option Contents) (asked : SureAsked) (surely : Surely) → surely_by asked ≡ surely → (d : Description) (q : Query) →
+    IfSome o (λ c. NamesUnclaimed c.files (named_surely (surely_by asked)) d q) → IfSome o (λ c. NamesUnclaimed c.files (named_surely surely) d q)
+named_as o asked surely is d q named = subst (λ (s : Surely). IfSome o (λ c. NamesUnclaimed c.files (named_surely s) d q)) is named

@@ -1,0 +1,13 @@
+use Rattle.cc_asked.specs.Descriptions.{IsDescriptionOf}
+use Rattle.cc_defs.specs.Description.{Description}
+use Rattle.cc_run.specs.Stops.{moment}
+use Rattle.cc_run.proofs.SureLines.{AreAnswered}
+use Rattle.cc_run.proofs.certain.tell_answers.Given as goal
+
+-- the answers of the values before this one were given
+abbrev pub invariant-loop-value : goal.invariant-loop-value
+invariant-loop-value g l =
+    let desk = g.D.Desk in
+    (d : Description) → IsDescriptionOf l.described d →
+    AreAnswered d l.position l.answers l.value
+    (moment desk.told desk.begun desk.read_faults desk.write_faults desk.calls l.initial.desk) (moment desk.told desk.begun desk.read_faults desk.write_faults desk.calls l.desk)

@@ -1,0 +1,161 @@
+//! Sure mode: what is certain, possible and impossible at the first horizon of a query that has a history.
+ghost use Rattle.std.specs.Prelude.{◌≡◌, ◌<◌, ◌≤◌, ℕ, List, [], IfOk, IfSome, IsNone, None, Some, is_some};
+ghost use Rattle.cc_arena.specs.GroundViews.{plain_ground_query};
+ghost use Rattle.cc_asked.specs.Descriptions.{IsDescriptionOf};
+ghost use Rattle.cc_defs.specs.Description.{Description};
+ghost use Rattle.cc_defs.specs.Resolved.{Query};
+ghost use Rattle.cc_describe.specs.Describing.{AsksFormulas, Describes, HasForms, SaysAll};
+ghost use Rattle.cc_run.specs.Asking.{AreOf, AreSearchable};
+ghost use Rattle.cc_run.specs.Modes.Surely.{NamesUnclaimed, named_surely};
+ghost use Rattle.cc_run.specs.Stops.{Prints, moment};
+ghost use Rattle.cc_run.specs.Sures.{IsSureOfSome, TellsEvent, TellsSure, surely_given};
+ghost use Rattle.cc_run.specs.Tasks.{request_of};
+ghost use Rattle.cc_run.specs.Wholes.{nothing};
+ghost use Rattle.cc_sorts.specs.Tables.{IsSignatureFor};
+ghost use Rattle.cc_sure.specs.SureRuns.{SureRun};
+ghost use Rattle.cc_sure.specs.Sures.{HasMore, IsSame, IsSureOf, Stands, left_of};
+ghost use Rattle.cc_words.specs.Requests.{Surely, ToBeSure};
+ghost use Rattle.cc_words.specs.Views.{plain_request};
+ghost use Rattle.cc_words.specs.Words.{Text};
+ghost use Rattle.cc_words.specs.declared.asked.Asked.TheVariants as requests;
+
+use crate::asking::Prepared;
+use crate::certain::tell_sure;
+use crate::refusing::{file_named, give, refuse};
+use crate::searching::{begin_log, tell_limit};
+use crate::status::{Status, Stop};
+use crate::unclaimed::prepare_unclaimed;
+use bumpalo::Bump;
+use cc_arena::Terms;
+use cc_defs::Fault;
+use cc_defs::laws::positions_have_sizes;
+use cc_describe::Described;
+use cc_ports::{Desk, To};
+use cc_sure::Sure;
+use cc_words::SureAsked;
+use std::alloc::Global;
+
+/// Tells the next event of a run, or the limit that its search passes, and answers the run's status where that was the last.
+fn tell_next<D: Desk>(
+    alloc: Global,
+    desk: &mut D,
+    described: &Described,
+    sure: &mut Sure<'_>,
+) -> Result<Option<Status>, Stop>
+    requires signature { IsSignatureFor described.now.table described.now.sig }
+    requires same { described.now.sig ≡ sure.old.signature }
+    requires more { HasMore sure.old }
+    requires of { IsSureOfSome described.now sure.old }
+    ensures tells { (d : Description) (q : Query) (run : SureRun) → IsDescriptionOf described.now d → IsSureOf sure.old d q → Stands d q sure.old run →
+        TellsEvent d q sure.old.budget run sure.new (moment D.told D.begun D.read_faults D.write_faults D.calls desk.old) (moment D.told D.begun D.read_faults D.write_faults D.calls desk.new) result }
+    ensures next { IfOk result (λ status. IsNone status → HasMore sure.new × (left_of sure.new < left_of sure.old)) }
+    ensures same { IsSame sure.old sure.new }
+{
+    positions_have_sizes();
+    match sure.next() {
+        Ok(event) => tell_sure(alloc, desk, described, sure.horizon(), &event),
+        Err(Fault::Refused(refusal)) => tell_limit(alloc, desk, &refusal),
+        Err(Fault::OutOfMemory) => Err(Stop::OutOfMemory),
+    }
+}
+
+/// Tells all events of a run, one after another, up to its ending or to a limit that a search passes.
+fn tell_all<D: Desk>(
+    alloc: Global,
+    desk: &mut D,
+    described: &Described,
+    mut sure: Sure<'_>,
+) -> Result<Status, Stop>
+    requires signature { IsSignatureFor described.now.table described.now.sig }
+    requires same { described.now.sig ≡ sure.signature }
+    requires more { HasMore sure }
+    requires of { IsSureOfSome described.now sure }
+    ensures { (d : Description) (q : Query) (run : SureRun) → IsDescriptionOf described.now d → IsSureOf sure.entry d q → Stands d q sure.entry run →
+        TellsSure d q sure.entry.budget (surely_given d q run) (moment D.told D.begun D.read_faults D.write_faults D.calls desk.old) (moment D.told D.begun D.read_faults D.write_faults D.calls desk.new) result }
+{
+    loop {
+        match tell_next(alloc, desk, described, &mut sure)? {
+            Some(status) => return Ok(status),
+            None => {}
+        }
+    }
+}
+
+/// Gives the log its header, and tells all events of a run.
+fn tell_run<D: Desk>(
+    alloc: Global,
+    desk: &mut D,
+    described: &Described,
+    prepared: &Prepared<'_>,
+    budget: u32,
+) -> Result<Status, Stop>
+    requires signature { IsSignatureFor described.now.table described.now.sig }
+    requires searchable { AreSearchable described.now.sig prepared.now.laws (plain_ground_query prepared.now.query) None }
+    requires claim { IsNone prepared.now.query.claim }
+    requires budget { budget ≤ 2000000 }
+    requires of { (d : Description) × (q : Query) × IsDescriptionOf described.now d × AreOf described.now.sig prepared.now.laws (plain_ground_query prepared.now.query) d q }
+    ensures { (d : Description) (q : Query) → IsDescriptionOf described.now d → AreOf described.now.sig prepared.now.laws (plain_ground_query prepared.now.query) d q →
+        TellsSure d q budget nothing (moment D.told D.begun D.read_faults D.write_faults D.calls desk.old) (moment D.told D.begun D.read_faults D.write_faults D.calls desk.new) result }
+{
+    let sure = Sure::new(
+        alloc,
+        &described.sig,
+        &prepared.laws,
+        &prepared.query,
+        budget,
+    );
+    give(desk, To::Log, b"ccalc sure 1\n")?;
+    tell_all(alloc, desk, described, sure)
+}
+
+/// Begins the log where one is named, and tells all events of a run.
+fn be_sure<D: Desk>(
+    alloc: Global,
+    desk: &mut D,
+    described: &Described,
+    asked: &SureAsked<'_>,
+    prepared: &Prepared<'_>,
+) -> Result<Status, Stop>
+    requires signature { IsSignatureFor described.now.table described.now.sig }
+    requires searchable { AreSearchable described.now.sig prepared.now.laws (plain_ground_query prepared.now.query) None }
+    requires claim { IsNone prepared.now.query.claim }
+    requires budget { asked.now.budget ≤ 2000000 }
+    requires of { (d : Description) × (q : Query) × IsDescriptionOf described.now d × AreOf described.now.sig prepared.now.laws (plain_ground_query prepared.now.query) d q }
+    ensures { (words : List Text) (surely : Surely) (d : Description) (q : Query) → request_of words ≡ Some (ToBeSure surely) →
+        plain_request (requests.Sure asked.now) ≡ ToBeSure surely → IsDescriptionOf described.now d →
+        AreOf described.now.sig prepared.now.laws (plain_ground_query prepared.now.query) d q →
+        IfSome (D.told desk.old) (λ before. NamesUnclaimed before.files (named_surely surely) d q) →
+        Prints words (is_some surely.log) [] (moment D.told D.begun D.read_faults D.write_faults D.calls desk.old) (moment D.told D.begun D.read_faults D.write_faults D.calls desk.new) result }
+{
+    begin_log(desk, asked.log)?;
+    tell_run(alloc, desk, described, prepared, asked.budget)
+}
+
+/// Tells of each atom of the first horizon that has a history whether all of them have it, some or none.
+pub(crate) fn sure<D: Desk>(
+    alloc: Global,
+    desk: &mut D,
+    described: &Described,
+    asked: &SureAsked<'_>,
+) -> Result<Status, Stop>
+    requires budget { asked.now.budget ≤ 2000000 }
+    requires says { SaysAll described.now }
+    requires forms { HasForms described.now }
+    requires formulas { AsksFormulas described.now }
+    ensures { (words : List Text) (surely : Surely) → request_of words ≡ Some (ToBeSure surely) →
+        plain_request (requests.Sure asked.now) ≡ ToBeSure surely →
+        IfSome (D.told desk.old) (λ before. Describes before.files surely.file described.now) →
+        Prints words (is_some surely.log) [] (moment D.told D.begun D.read_faults D.write_faults D.calls desk.old)
+        (moment D.told D.begun D.read_faults D.write_faults D.calls desk.new) result }
+{
+    let arena = Bump::new(alloc);
+    let terms = Terms::new(&arena);
+    match prepare_unclaimed(alloc, described, asked.query, &terms) {
+        Ok(prepared) => be_sure(alloc, desk, described, asked, &prepared),
+        Err(Fault::Refused(refusal)) => {
+            let file = file_named(described.files.items(), &refusal);
+            refuse(alloc, desk, &refusal, file)
+        }
+        Err(Fault::OutOfMemory) => Err(Stop::OutOfMemory),
+    }
+}

@@ -1,0 +1,157 @@
+//! Surecheck mode: a log of impossible atoms is judged.
+ghost use Rattle.std.specs.Prelude.{◌≡◌, ◌≤◌, List, [], ◌∷◌, false, IfOk, IfSome, IsNone, None, Some, length, string_bytes};
+ghost use Rattle.cc_arena.specs.GroundViews.{plain_ground_query};
+ghost use Rattle.cc_defs.specs.Description.{Description};
+ghost use Rattle.cc_defs.specs.Limits.{limit_number};
+ghost use Rattle.cc_defs.specs.declared.refusal.LimitAt.TheVariants as limits;
+ghost use Rattle.cc_defs.specs.Resolved.{Query};
+ghost use Rattle.cc_describe.specs.Describing.{AsksFormulas, Describes, HasForms, SaysAll};
+ghost use Rattle.cc_run.specs.Asking.{AreOf, AreSearchable};
+ghost use Rattle.cc_run.specs.Modes.CheckingSure.{NamesSureLog, named_to_check, sure_verdict_line, sure_verdict_status};
+ghost use Rattle.cc_run.specs.Modes.Surely.{NamesUnclaimed};
+ghost use Rattle.cc_run.specs.Stops.{Prints, Step, moment};
+ghost use Rattle.cc_run.specs.Tasks.{request_of};
+ghost use Rattle.cc_run.specs.Wholes.{only_out};
+ghost use Rattle.cc_words.specs.Requests.{SureChecking, ToCheckSure};
+ghost use Rattle.cc_words.specs.Views.{plain_request};
+ghost use Rattle.cc_words.specs.Words.{Text};
+ghost use Rattle.cc_words.specs.declared.asked.Asked.TheVariants as requests;
+
+use crate::asking::Prepared;
+use crate::causes::push_number;
+use crate::refusing::{file_named, give, refuse};
+use crate::status::{Status, Stop};
+use crate::unclaimed::prepare_unclaimed;
+use bumpalo::Bump;
+use cc_arena::Terms;
+use cc_check::SilentVerdict;
+use cc_defs::{Fault, LimitAt, OutOfMemory, Refusal};
+use cc_describe::Described;
+use cc_ports::{Desk, ReadStop, To, read_all};
+use cc_sure::check_sure;
+use cc_words::CheckSureAsked;
+use std::alloc::Global;
+
+/// The line of a verdict.
+fn verdict_text(alloc: Global, verdict: SilentVerdict) -> Result<String, OutOfMemory>
+    ensures { IfOk result (λ text. string_bytes text ≡ sure_verdict_line verdict) }
+{
+    match verdict {
+        SilentVerdict::Accepted { sections } => {
+            let text = format!(in alloc; "log accepted: impossible {sections}\n")?;
+            Ok(text)
+        }
+        SilentVerdict::Refused { line, cause } => {
+            let mut text = String::from_str(alloc, "log refused: line ")?;
+            push_number(&mut text, line)?;
+            text.push_str(", ")?;
+            text.push_str(cause.words())?;
+            text.push_str("\n")?;
+            Ok(text)
+        }
+    }
+}
+
+/// The status of a run with this verdict.
+fn verdict_status(verdict: SilentVerdict) -> Status
+    ensures { result ≡ sure_verdict_status verdict }
+{
+    match verdict {
+        SilentVerdict::Accepted { .. } => Status::Right,
+        SilentVerdict::Refused { .. } => Status::Not,
+    }
+}
+
+/// Tells a verdict by its line.
+fn tell_verdict<D: Desk>(
+    alloc: Global,
+    desk: &mut D,
+    verdict: SilentVerdict,
+) -> Result<Status, Stop>
+    ensures told { Step (only_out (sure_verdict_line verdict)) (moment D.told D.begun D.read_faults D.write_faults D.calls desk.old) (moment D.told D.begun D.read_faults D.write_faults D.calls desk.new) result }
+    ensures status { IfOk result (λ status. status ≡ sure_verdict_status verdict) }
+{
+    let text = verdict_text(alloc, verdict)?;
+    give(desk, To::Out, text.as_bytes())?;
+    Ok(verdict_status(verdict))
+}
+
+/// Judges the bytes of a log.
+fn check_log<D: Desk>(
+    alloc: Global,
+    desk: &mut D,
+    described: &Described,
+    prepared: &Prepared<'_>,
+    bytes: &[u8],
+) -> Result<Status, Stop>
+    requires searchable { AreSearchable described.now.sig prepared.now.laws (plain_ground_query prepared.now.query) None }
+    requires claim { IsNone prepared.now.query.claim }
+    requires few { length bytes.now ≤ limit_number limits.LogBytes }
+    ensures { (words : List Text) (checking : SureChecking) (d : Description) (q : Query) → request_of words ≡ Some (ToCheckSure checking) →
+        AreOf described.now.sig prepared.now.laws (plain_ground_query prepared.now.query) d q →
+        IfSome (D.told desk.old) (λ before. NamesSureLog before.files checking d q bytes.now) →
+        Prints words false [] (moment D.told D.begun D.read_faults D.write_faults D.calls desk.old) (moment D.told D.begun D.read_faults D.write_faults D.calls desk.new) result }
+{
+    match check_sure(
+        alloc,
+        &described.sig,
+        &prepared.laws,
+        &prepared.query,
+        bytes,
+    ) {
+        Ok(verdict) => tell_verdict(alloc, desk, verdict),
+        Err(Fault::Refused(refusal)) => refuse(alloc, desk, &refusal, ""),
+        Err(Fault::OutOfMemory) => Err(Stop::OutOfMemory),
+    }
+}
+
+/// Reads the log and judges it.
+fn check_over<D: Desk>(
+    alloc: Global,
+    desk: &mut D,
+    described: &Described,
+    prepared: &Prepared<'_>,
+    log: &str,
+) -> Result<Status, Stop>
+    requires searchable { AreSearchable described.now.sig prepared.now.laws (plain_ground_query prepared.now.query) None }
+    requires claim { IsNone prepared.now.query.claim }
+    ensures { (words : List Text) (checking : SureChecking) (d : Description) (q : Query) → request_of words ≡ Some (ToCheckSure checking) → log.now ≡ checking.log →
+        AreOf described.now.sig prepared.now.laws (plain_ground_query prepared.now.query) d q →
+        IfSome (D.told desk.old) (λ before. NamesUnclaimed before.files (named_to_check checking) d q) →
+        Prints words false (log.now ∷ []) (moment D.told D.begun D.read_faults D.write_faults D.calls desk.old) (moment D.told D.begun D.read_faults D.write_faults D.calls desk.new) result }
+{
+    match read_all(alloc, desk, log, LimitAt::LogBytes.number() as usize) {
+        Ok(bytes) => check_log(alloc, desk, described, prepared, bytes.items()),
+        Err(ReadStop::Limit) => refuse(alloc, desk, &Refusal::past(LimitAt::LogBytes), ""),
+        Err(ReadStop::Failed) => Err(Stop::ReadFault),
+        Err(ReadStop::OutOfMemory) => Err(Stop::OutOfMemory),
+    }
+}
+
+/// Judges a log of what is impossible.
+pub(crate) fn check<D: Desk>(
+    alloc: Global,
+    desk: &mut D,
+    described: &Described,
+    asked: &CheckSureAsked<'_>,
+) -> Result<Status, Stop>
+    requires says { SaysAll described.now }
+    requires forms { HasForms described.now }
+    requires formulas { AsksFormulas described.now }
+    ensures { (words : List Text) (checking : SureChecking) → request_of words ≡ Some (ToCheckSure checking) →
+        plain_request (requests.CheckSure asked.now) ≡ ToCheckSure checking →
+        IfSome (D.told desk.old) (λ before. Describes before.files checking.file described.now) →
+        Prints words false (asked.now.log.now ∷ []) (moment D.told D.begun D.read_faults D.write_faults D.calls desk.old)
+        (moment D.told D.begun D.read_faults D.write_faults D.calls desk.new) result }
+{
+    let arena = Bump::new(alloc);
+    let terms = Terms::new(&arena);
+    match prepare_unclaimed(alloc, described, asked.query, &terms) {
+        Ok(prepared) => check_over(alloc, desk, described, &prepared, asked.log),
+        Err(Fault::Refused(refusal)) => {
+            let file = file_named(described.files.items(), &refusal);
+            refuse(alloc, desk, &refusal, file)
+        }
+        Err(Fault::OutOfMemory) => Err(Stop::OutOfMemory),
+    }
+}

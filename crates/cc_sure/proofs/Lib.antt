@@ -1,0 +1,11 @@
+mod Answering
+mod Atoms
+mod Checking
+mod Giving
+mod Headings
+mod Opening
+mod Refusing
+mod Refuting
+mod Runs
+mod Searching
+mod Told

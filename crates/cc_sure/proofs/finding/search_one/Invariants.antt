@@ -1,0 +1,9 @@
+use Rattle.cc_query.specs.Searches.{left_of}
+use Rattle.cc_sure.proofs.Searching.{IsSearching}
+use Rattle.cc_sure.proofs.finding.search_one.Given as goal
+
+abbrev pub invariant-loop-lines : goal.invariant-loop-lines
+invariant-loop-lines l = IsSearching l.fn.form l.budget l.search l.lines.items
+
+abbrev pub decreases-loop-lines : goal.decreases-loop-lines
+decreases-loop-lines l = left_of l.search
