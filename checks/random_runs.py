@@ -5,11 +5,13 @@ A description has two to four constants with few values, in every second case so
 comparisons where there are numbers, and one or two queries, some with a claim; the words ask for a label, a number of histories, the
 histories after a key, a version of the log, or, in one case in sixteen, for the clause list of a horizon. About one case in eight has
 words, a query or a key that is refused. About one in ten asks for a made description, or nearly does. The same number of cases and the
-same seed give the same book.
+same seed give the same book. With --sure all cases are in sure mode, most with a log, a third with a small budget. With
+--general they are in general mode, and most heads are formulas.
 
-Usage: checks/random_runs.py CASES SEED      (the book goes to standard output)
+Usage: checks/random_runs.py [--sure|--general] CASES SEED      (the book goes to standard output)
 """
 import random
+import re
 import sys
 
 
@@ -152,11 +154,11 @@ class Description:
         step = random.randint(0, lo)
         return f"{step}: {self.formula(states if step == lo else all_)}"
 
-    def query(self, label):
+    def query(self, label, most=2):
         lo = random.randint(0, 2)
         hi = min(2, lo + random.choice([0, 0, 1, 2]))
         items = [f"label :: {label}", f"maxstep :: {lo}..{hi}" if hi > lo else f"maxstep :: {lo}"]
-        items += [self.condition(lo) for _ in range(random.randint(0, 2))]
+        items += [self.condition(lo) for _ in range(random.randint(0, most))]
         if chance(0.3):
             step, _, formula = self.condition(lo).partition(": ")
             items.append(f"claim :: {step}: {formula}")
@@ -178,6 +180,20 @@ class Description:
         return f"{horizon}:" + ",".join(str(index) for index in indexes)
 
 
+class WideDescription(Description):
+    """One whose heads are formulas of every operator, as often as they are definite."""
+
+    def atom(self, constants):
+        if chance(0.4):
+            return super().atom(constants)
+        text = self.formula(constants, random.choice([1, 1, 2]))
+        return text if chance(0.6) else random.choice([f"-({text})", f"({text} & {super().atom(constants)})", f"({text} ++ {self.literal(constants)})"])
+
+    def law_of_numbers(self):
+        text = super().law_of_numbers()
+        return text.replace("N=", "N\\=", 1) if text.startswith("caused N=") and chance(0.5) else text
+
+
 def made_words():
     """Words that ask for a made description, or have something that does not go with it."""
     options = [["--mode", "make"]] if chance(0.95) else []
@@ -186,6 +202,36 @@ def made_words():
         options += [[option, value]] if chance(0.06) else []
     random.shuffle(options)
     return sum(options, []) + (["f.cc"] if chance(0.1) else [])
+
+
+def words_in(mode):
+    """Words that ask for sure or general mode, or have something that does not go with it."""
+    options = [["--mode", mode]]
+    options += [["--budget", random.choice(["1", "1", "2", "3", "5", "200000"])]] if chance(0.33) else []
+    options += [["--log", "l"]] if chance(0.9) else []
+    options += [["--count", str(random.randint(1, 4))]] if mode == "general" and chance(0.2) else []
+    options += [random.choice([["--size", "1"], ["--after", "0:0"], ["--form", "1"], ["--key", "0:0"], ["--to", "m"]])] if chance(0.02) else []
+    random.shuffle(options)
+    return sum(options, [])
+
+
+def case_in(mode, number):
+    """A description with one or two queries, few of them with a claim, and words of sure or general mode."""
+    description = WideDescription() if mode == "general" else Description()
+    words = words_in(mode)
+    most = random.choice([0, 0, 1, 2])  # conditions
+    queries = [description.query("first", most)[0]]
+    if chance(0.25):
+        queries.append(description.query("second", most)[0])
+        words += ["--query", "second"] if chance(0.7) else []
+    if chance(0.9):
+        queries = [re.sub("; claim :: [^;]*", "", re.sub("claim :: [^;]*; ", "", query)).replace(".;", ".") for query in queries]
+        queries = [query if query.endswith(".") else query + "." for query in queries]
+    return text_of(number, words + ["f.cc"], description.lines + queries)
+
+
+def text_of(number, words, lines):
+    return f"=== {number}\n--- words\n" + "".join(word + "\n" for word in words) + "--- f.cc\n" + "".join(line + "\n" for line in lines)
 
 
 def case(number):
@@ -216,15 +262,17 @@ def case(number):
     words.append("f.cc")
     if chance(0.1):
         words = made_words()
-    return f"=== {number}\n--- words\n" + "".join(word + "\n" for word in words) + "--- f.cc\n" + "".join(line + "\n" for line in description.lines)
+    return text_of(number, words, description.lines)
 
 
 def main():
-    if len(sys.argv) != 3:
-        sys.exit("usage: checks/random_runs.py CASES SEED")
-    random.seed(int(sys.argv[2]))
-    for number in range(int(sys.argv[1])):
-        sys.stdout.write(case(number))
+    mode = sys.argv[1][2:] if sys.argv[1:2] in (["--sure"], ["--general"]) else None
+    numbers = sys.argv[1 + (mode is not None) :]
+    if len(numbers) != 2:
+        sys.exit("usage: checks/random_runs.py [--sure|--general] CASES SEED")
+    random.seed(int(numbers[1]))
+    for number in range(int(numbers[0])):
+        sys.stdout.write(case_in(mode, number) if mode else case(number))
 
 
 if __name__ == "__main__":

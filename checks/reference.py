@@ -24,7 +24,7 @@ from collections import namedtuple
 
 REFUSAL_NAMES = {
     2: "Byte", 3: "Syntax", 4: "TwiceDeclared", 5: "UnknownName", 6: "Arity", 7: "Sort", 8: "Unbound", 9: "LawForm",
-    10: "SdInDynamicHead", 11: "NotDefinite", 12: "EmptyDomain", 14: "Limit", 16: "Step", 17: "Include",
+    10: "SdInDynamicHead", 11: "NotDefinite", 12: "EmptyDomain", 14: "Limit", 16: "Step", 17: "Include", 20: "ClaimQuery",
 }
 
 LIMITS = {
@@ -1083,6 +1083,7 @@ Minus = namedtuple("Minus", "left right")
 
 # ranges are ('sort', name) and ('domain', name of a symbol); head is False or a pair of a constant and a value
 Law = namedtuple("Law", "ranges head body after test kind place")
+Wide = namedtuple("Wide", "formula")  # a head of any form, where laws may have such heads
 NoConcurrency = namedtuple("NoConcurrency", "place")
 
 
@@ -1195,12 +1196,12 @@ def variables_of(table, law):
     return list(dict.fromkeys(name for tree in written_parts(law) for name in free_variables(table, tree)))
 
 
-def base_laws_of_law(table, law, place):
-    """The base laws that a law stands for, in order; refused by the least number that has a fault in it."""
+def base_laws_of_law(table, law, place, is_wide=False):
+    """The base laws that a law stands for, in order; refused by the least number that has a fault in it. Where wide, heads are of any form."""
     if law.word == "noconcurrency":
         return [NoConcurrency(place)]
     for number, has_fault in LAW_FAULTS:
-        if has_fault(table, law):
+        if has_fault(table, law) and not (is_wide and number == 11):
             raise Refused(number, place)
     names = variables_of(table, law)
     ranges = [("sort", table.variables[name]) for name in names]
@@ -1218,6 +1219,8 @@ def base_laws(table, caused, names, ranges, where, place):
     body = resolved(table, caused.body, numbers, bracket_numbers)
     after = None if caused.after is None else resolved(table, caused.after, numbers, bracket_numbers)
     kind = form_of(table, caused)
+    if definite_parts(table, caused.head) is None:
+        return [Law(ranges, Wide(resolved(table, caused.head, numbers, bracket_numbers)), body, after, test, kind, place)]
     laws = []
     for part in definite_parts(table, caused.head):
         if part is False and kind == "action":
@@ -1354,8 +1357,8 @@ def has_action(table, formula):
 class Description:
     """A file and the files that it includes, read statement by statement."""
 
-    def __init__(self, files):
-        self.files = files  # their bytes by name
+    def __init__(self, files, is_wide=False):
+        self.files, self.is_wide = files, is_wide  # their bytes by name; whether heads may be of any form
         self.file_names = []  # of each file that was opened, in order
         self.total_bytes = 0
         self.table = Table()
@@ -1387,7 +1390,7 @@ class Description:
             labels = [query.label for query in self.queries if query.label is not None]
             self.queries.append(query_of(self.table, tree, labels, place))
         else:
-            self.laws += base_laws_of_law(self.table, tree, place)
+            self.laws += base_laws_of_law(self.table, tree, place, self.is_wide)
 
     def include(self, name, place, being_read):
         if name in being_read:
@@ -1396,8 +1399,8 @@ class Description:
         self.read(name, being_read)
 
 
-def described(files, main):
-    description = Description(files)
+def described(files, main, is_wide=False):
+    description = Description(files, is_wide)
     try:
         description.read(main, [])
         check_declarations(description.table)
@@ -1441,7 +1444,7 @@ def environments(table, law):
 
 def head_is_there(table, head, environment):
     """'false' is always there; an atom where its arguments are of their sorts and its value is one of the constant's."""
-    if head is False:
+    if head is False or isinstance(head, Wide):
         return True
     constant, value = head
     values = domain_of(table, table.symbols[constant.name])

@@ -2,22 +2,25 @@
 """A plain second reading of a run: Out, Err and the code, by brute force from the definition of a model.
 
 Reads books of runs, as cc_rows does, and prints for each case the lines of Out and Err and the code. Of logs only the one that convert
-mode writes is foretold, and no budget is taken to be spent. Words are those of the plain form. Nothing here is meant to be fast: a few
-constants and horizons, made descriptions of at most four locks, exports of small clause lists, all models of at most 20 variables.
+mode writes is foretold, of sure mode's which headings it has, and no budget is taken to be spent. Words are those of the plain form. Nothing here is meant to be fast: a few
+constants and horizons, made descriptions of at most four locks, exports of small clause lists, all models of at most 20 variables. General
+mode is read by general.py; the usage line does not name it.
 
 Usage: checks/runs.py BOOK..
 """
+import math
 import re
 
 from reference import (
     Refused, check_asked_limits, check_ground_limits, check_steps, described, first_files, is_boolean_constant, place_text,
     run_deep, show_books,
 )
+import general
 from cnf import CnfList, Fault, dimacs, model_text, models, read_cnf
-from sections import Theory, clause_list, converted, is_history, is_path, judge, paths, split_log, version_of
+from sections import Theory, clause_list, converted, is_history, is_path, judge, paths, split_log, split_sure_log, version_of
 
 USAGE = (
-    "usage: ccalc [--mode list|check|make|convert|why|export|models|modelscheck] [--query LABEL] [--count N] [--budget B] [--after KEY] "
+    "usage: ccalc [--mode list|check|make|convert|why|export|models|modelscheck|sure|surecheck] [--query LABEL] [--count N] [--budget B] [--after KEY] "
     "[--log NAME] [--form 1|2] [--to NAME] [--key KEY] [--horizon M] [--size N] [FILE]"
 )
 OPTIONS = (
@@ -33,12 +36,18 @@ TAKEN = {
     "export": "--query --horizon!",
     "models": "--count --budget --log --form",
     "modelscheck": "--log!",
+    "sure": "--query --budget --log",
+    "surecheck": "--query --log!",
+    "general": "--query --count --budget --log",
+    "generalcheck": "--query --log!",
 }
+WITHOUT_CLAIM = ("sure", "surecheck", "general", "generalcheck")
 NAMES = {1: "Words", 15: "NoQuery", 18: "Key"}
 
 
 LOCKS = 4
 PAIRS = 1000000  # of values of one position, twice
+ROWS = 1000000  # of a state, of which the paths are
 VARIABLES = 20  # of a CNF text whose models are all listed
 VARIABLES_COUNTED = 10000  # of one of which some are
 RULES = 8000000
@@ -82,7 +91,9 @@ class Words:
             refuse(1)
         self.count = number_of(given["--count"], 1000000) if "--count" in given else None
         self.size = number_of(given["--size"], 100) if "--size" in given else None
-        number_of(given.get("--budget", "1"), 2000000)
+        self.budget = number_of(given.get("--budget", "200000"), 2000000)
+        if words and re.search("[\x00-\x1f\x7f]|\xc2[\x80-\x9f]", words[0]):
+            refuse(1)  # the name has a control character: in bytes, each read as one letter
         self.file = words[0] if words else "made"
         self.label, self.after, self.log = given.get("--query"), given.get("--after"), given.get("--log")
         self.key, self.horizon = given.get("--key"), None
@@ -135,12 +146,17 @@ def chosen(description, label):
     return refuse(15)
 
 
-def listing(description, query, count, key):
+def by_paths(description, query, horizon):
+    theory, found = paths(description, horizon, query.conditions)
+    return theory, [row for row in found if is_history(theory, query, True, row)]
+
+
+def listing(description, query, count, key, histories=by_paths):
     out = []
     horizons = range(query.range.lo, query.range.hi + 1) if key is None else [key[0]]
     for horizon in horizons:
-        theory, found = paths(description, horizon, query.conditions)
-        rows = [row for row in found if is_history(theory, query, True, row) and (key is None or theory.indexes(row) > key[1])]
+        theory, found = histories(description, query, horizon)
+        rows = [row for row in found if key is None or theory.indexes(row) > key[1]]
         if not rows and key is None:
             out.append(f"horizon {horizon}: no history")
             continue
@@ -150,6 +166,72 @@ def listing(description, query, count, key):
             return out + [f"horizon {horizon}: asked number reached, {count} listed"], 7
         return out + [f"horizon {horizon}: complete, {len(rows)} listed"], 0
     return out + ["no history"], 1
+
+
+def example_lines(theory, number, row):
+    return [f"horizon {theory.horizon}: example {number}"] + history_lines(theory, row)
+
+
+def is_so(row, position, value):
+    return row[position] == value
+
+
+def answer_of(rows, examples, position, value):
+    """Whether all, some or none of the histories have the atom, and which example is the first that has it."""
+    having = [is_so(row, position, value) for row in rows]
+    if all(having):
+        return "certain"
+    if not any(having):
+        return "impossible"
+    return f"possible, example {[is_so(row, position, value) for row in examples].index(True) + 1}"
+
+
+def first_with_history(description, query):
+    """The theory and the histories of the first horizon of the range that has one; none where none has."""
+    if math.prod(Theory(description, 0).sizes) > ROWS:
+        raise Large
+    for horizon in range(query.range.lo, query.range.hi + 1):
+        theory, rows = paths(description, horizon, query.conditions)
+        if rows:
+            return theory, rows
+    return None, []
+
+
+def being_sure(description, query, spent=None):
+    """What sure mode prints; where a search was spent, up to it: (M,) for that of a horizon, (M, P, V) for that of an atom."""
+    theory, rows = first_with_history(description, query)
+    out = []
+    for horizon in range(query.range.lo, theory.horizon if rows else query.range.hi + 1):
+        if spent == (horizon,):
+            return out + ["budget spent"], 3
+        out.append(f"horizon {horizon}: no history")
+    if not rows:
+        return out + ["no history"], 1
+    if spent == (theory.horizon,):
+        return out + ["budget spent"], 3
+    examples = [rows[0]]
+    out += example_lines(theory, 1, rows[0])
+    for place, position in enumerate(theory.positions):
+        values = theory.domains[position[1]]
+        for index, value in enumerate(values):
+            if any(is_so(row, position, value) for row in examples):
+                continue
+            if spent == (theory.horizon, place, index):
+                return out + ["budget spent"], 3
+            least = next((row for row in rows if is_so(row, position, value)), None)
+            if least:
+                examples.append(least)
+                out += example_lines(theory, len(examples), least)
+        out += [f"{position[0]}: {position[1]}={value} {answer_of(rows, examples, position, value)}" for value in values]
+    return out + ["complete"], 0
+
+
+def impossible_atoms(description, query):
+    """The headings of a log of sure mode: each impossible atom, in order."""
+    theory, rows = first_with_history(description, query)
+    atoms = [(place, position, value) for place, position in enumerate(theory.positions if rows else []) for value in theory.domains[position[1]]]
+    impossible = [atom for atom in atoms if not any(is_so(row, *atom[1:]) for row in rows)]
+    return [(theory.horizon, place, theory.domains[position[1]].index(value)) for place, position, value in impossible]
 
 
 def claiming(description, query):
@@ -184,7 +266,7 @@ def named(asked, files):
         if asked.size > LOCKS:
             raise Large
         files = {asked.file: made_text(asked.size)}
-    description, stop = described(files, asked.file)
+    description, stop = described(files, asked.file, asked.mode in ("general", "generalcheck"))
     if stop == "read fault":
         raise Stop(["ccalc: read fault"], 4)
     if stop is not None:
@@ -197,6 +279,8 @@ def named(asked, files):
         check_steps(description.table, query, asked.horizon)
         parts = list(query.conditions) + ([query.claim] if query.claim else [])
         check_asked_limits(description.table, parts)
+        if asked.mode in WITHOUT_CLAIM and query.claim is not None:
+            raise Refused(20, query.place)
     except Refused as refused:
         raise Stop(["ccalc: " + stop_line("refused " + refused.text(description.file_names))], 2)
     return description, query, None if asked.after is None else checked_key(description, query, asked.after)
@@ -300,8 +384,64 @@ def verdict_of(subject, log):
     return "accepted", first, horizon - 1, blocked
 
 
-def checking(subject, log, in_words="horizons {1} to {2}, blocked {3}"):
-    verdict = verdict_of(subject, log)
+def with_atom(made, position, value):
+    """A clause list with the clause of an atom behind it."""
+    made.write([made.first[position] + value])
+    return made
+
+
+def sure_verdict_of(description, query, log):
+    """Whether a log of impossible atoms is accepted, with the number of its headings, or its first wrong line and the cause."""
+    sections, wrong = split_sure_log(log)
+    if wrong:
+        return ("refused",) + wrong
+    for (horizon, position, value), line, lines in sections:
+        if not query.range.lo <= horizon <= query.range.hi:
+            return "refused", line, "section"
+        sizes = Theory(description, horizon).sizes
+        if position >= len(sizes) or value >= sizes[position]:
+            return "refused", line, "section"
+        if sum(size * size for size in sizes) > PAIRS:
+            raise Large
+        made = with_atom(clause_list(description, query, horizon, False, None), position, value)
+        found = judge(made, ("a", horizon, line, lines)).split()
+        if found[0] == "wrong":
+            return "refused", int(found[1]), " ".join(found[2:])
+        if found[0] == "trailed" and found[1] == "empty":
+            return "refused", int(found[2]) + 1, found[3]
+        if found[1] != "empty":
+            return "refused", int(found[2] if found[0] == "trailed" else found[5]), "not refuted"
+    return "accepted", len(sections)
+
+
+def spent_in(log):
+    """Which search a log of sure mode says was spent, by its last heading."""
+    headings = [line for line in log.decode().split("\n") if line[:2] in ("h ", "a ")]
+    return tuple(int(number) for number in headings[-1].split()[1:]) if headings else None
+
+
+def sure_log_fault(description, query, log, spent, budget):
+    """What is wrong with the log of a run of sure mode that was whole, or ended with a search that was spent; None where nothing is."""
+    impossible = impossible_atoms(description, query)
+    if spent is None:
+        headings = [heading for heading, _, _ in split_sure_log(log)[0] or []]
+        verdict = sure_verdict_of(description, query, log)
+        return None if verdict == ("accepted", len(impossible)) and headings == impossible else (verdict, headings)
+    lines = log.decode().split("\n")[:-1]
+    last = max(place for place, line in enumerate(lines) if line[:2] in ("h ", "a "))
+    if len(spent) == 1:
+        within = last == 1
+        subject = Subject(False, spent[0], spent[0], subject_of(description, query, None).list_of)
+        verdict = verdict_of(subject, b"ccalc log 1\n" + log.partition(b"\n")[2])
+    else:
+        within = [heading for heading, _, _ in split_sure_log(log)[0] or []] == [atom for atom in impossible if atom < spent] + [spent]
+        verdict = sure_verdict_of(description, query, log)
+    counted = sum(line.startswith("d ") and not line.startswith("d 0 ") for line in lines[last:])
+    whole = within and lines[-1] == "e spent" and counted == budget and verdict == ("refused", len(lines), "not refuted")
+    return None if whole else (verdict, counted)
+
+
+def checking(verdict, in_words="horizons {1} to {2}, blocked {3}"):
     if verdict[0] == "accepted":
         return ["log accepted: " + in_words.format(*verdict)], 0
     return [f"log refused: line {verdict[1]}, {verdict[2]}"], 1
@@ -360,12 +500,12 @@ def answer(words, files):
             return out, [], code, log
         if asked.mode == "modelscheck":
             cnf = cnf_of(asked, files)
-            out, code = checking(subject_of_models(cnf), file_named(asked.log, files), "blocked {3}")
+            out, code = checking(verdict_of(subject_of_models(cnf), file_named(asked.log, files)), "blocked {3}")
             return out, [], code, log
         description, query, key = named(asked, files)
         if asked.mode in ("check", "convert"):
             given, subject = file_named(asked.log, files), subject_of(description, query, key)
-            out, code = checking(subject, given)
+            out, code = checking(verdict_of(subject, given))
             if asked.mode == "convert" and code == 0:
                 log = other_version(subject, given)
         elif asked.mode == "export":
@@ -374,6 +514,14 @@ def answer(words, files):
             out, code = explaining(description, key)
         elif asked.mode == "make":
             out, code = summing(description, query, asked.size)
+        elif asked.mode == "sure":
+            out, code = being_sure(description, query)
+        elif asked.mode == "general":
+            out, code = listing(description, query, asked.count, None, general.histories)
+        elif asked.mode == "generalcheck":
+            out, code = checking(general.general_verdict_of(description, query, file_named(asked.log, files)), "histories {1}")
+        elif asked.mode == "surecheck":
+            out, code = checking(sure_verdict_of(description, query, file_named(asked.log, files)), "impossible {1}")
         elif query.claim:
             out, code = claiming(description, query)
         else:
@@ -391,6 +539,15 @@ def searched(words, files):
             cnf = cnf_of(asked, files)
             return subject_of_models(cnf) if cnf[0] <= VARIABLES_COUNTED else None
         return subject_of(*named(asked, files)) if asked.mode in ("list", "make") else None
+    except (Stop, Large):
+        return None
+
+
+def asked_in(mode, words, files):
+    """What the words ask in sure or general mode: the description, the query and the budget; none where it is refused."""
+    try:
+        asked = Words(words)
+        return (*named(asked, files)[:2], asked.budget) if asked.mode == mode else None
     except (Stop, Large):
         return None
 
@@ -460,7 +617,7 @@ def run_lines(files):
     found = desk_files(files)
     try:
         out, err, code, log = answer(words_of(found), found)
-    except Large:
+    except (Large, general.Large):
         return NOT_READ
     shown = [f"out: {line}" for line in out] + [f"err: {line}" for line in err]
     if log is not None:

@@ -23,7 +23,7 @@ import itertools
 import re
 
 from reference import (
-    Constant, NoConcurrency, action_pairs, applied, bracket_environments, common_values, described, domain_of,
+    Constant, NoConcurrency, Wide, action_pairs, applied, bracket_environments, common_values, described, domain_of,
     environments, first_files, ground_constants, ground_name, holds, is_judged, names_in, run_deep, show_books, true_lists, value_of,
 )
 
@@ -48,6 +48,9 @@ def ground_laws(table, laws):
                 found.append(Law("fluent", None, "true", ("pair", a, b), {}, law.place))
             continue
         for environment in environments(table, law):
+            if isinstance(law.head, Wide):
+                found.append(Law(law.kind, law.head, law.body, law.after, environment, law.place))
+                continue
             head = (ground_name(table, law.head[0], environment), value_of(table, law.head[1], environment, {})) if law.head else None
             found.append(Law(law.kind, head, law.body, law.after, environment, law.place))
     return found
@@ -383,11 +386,25 @@ WORDS = {5: "empty", 6: "found", 7: "spent"}
 MOST = 1999999999
 
 # A line is a tuple: ("heading", "h" or "w", M), ("derived", literals, chain), ("block", row), ("end", word); None where it has no form.
+# In a log of impossible atoms it may be ("atom", M, P, V), and what has no place in it is ("misplaced",).
 # The chain has clause numbers and pivots in turn. In a line ("apart", literals, chain), of version 2, it has distances for clause numbers.
 
 
 def version_of(log):
     return 2 if log.startswith(HEADERS[2]) else 1
+
+
+ATOM = re.compile(rb"a (" + NUMBER + rb") (" + NUMBER + rb") (" + NUMBER + rb")\n\Z")
+SURE_HEADER = b"ccalc sure 1\n"
+
+
+def read_sure_line(text):
+    """What a line of a log of impossible atoms says; headings of a horizon and blocks have no place there."""
+    match = ATOM.match(text)
+    if match:
+        return "atom", *[int(number) for number in match.groups()]
+    line = read_line(text)
+    return ("misplaced",) if line and line[0] in ("heading", "block") else line
 
 
 def read_line(text):
@@ -491,6 +508,22 @@ def split_log(log):
     return sections, None
 
 
+def split_sure_log(log):
+    """The sections of a log of impossible atoms, each with its lines up to the next heading, or the first wrong line with its cause."""
+    texts = re.findall(rb"[^\n]*\n|[^\n]+", log)
+    if not texts or texts[0] != SURE_HEADER:
+        return None, (1, "header")
+    sections = []
+    for number, line in enumerate(map(read_sure_line, texts[1:]), 2):
+        if line and line[0] == "atom":
+            sections.append((line[1:], number, []))
+        elif sections:
+            sections[-1][2].append(line)
+        else:
+            return None, (number, "section" if line else "form")
+    return sections, None
+
+
 def numbers(text):
     return [int(one) for one in text.split()]
 
@@ -584,7 +617,7 @@ def judge(made, section):
             if place + 1 < len(lines):
                 return f"trailed {line[1]} {number} {'section' if lines[place + 1] else 'form'}"
             return f"right {line[1]} blocks {blocks} line {number}"
-        if refuted:
+        if refuted or line[0] == "misplaced":
             return f"wrong {number} section"
         if line[0] == "block":
             row = line[1]
