@@ -25,9 +25,12 @@ pub fn laws_of<'a>(
     requires signature { IsSignatureFor described.now.table described.now.sig }
     requires forms { HasForms described.now }
     ensures fit { IfOk result (λ laws. AreLawsFor described.now.sig laws) }
-    ensures of { (d : Description) → IsDescriptionOf described.now d → IfOk result (λ laws. AreLawsOf described.now.sig laws d) }
-    ensures unrefused { (d : Description) → IsDescriptionOf described.now d → OnOk result (laws_refusal d.universe d.laws ≡ None) }
-    ensures refused { (d : Description) → IsDescriptionOf described.now d → IfErr result (IsRefusedBy (laws_refusal d.universe d.laws)) }
+    ensures of { (d : Description) →
+        IsDescriptionOf described.now d → IfOk result (λ laws. AreLawsOf described.now.sig laws d) }
+    ensures unrefused { (d : Description) →
+        IsDescriptionOf described.now d → OnOk result (laws_refusal d.universe d.laws ≡ None) }
+    ensures refused { (d : Description) → IsDescriptionOf described.now d →
+        IfErr result (IsRefusedBy (laws_refusal d.universe d.laws)) }
 {
     declared_have_own_values();
     ground(

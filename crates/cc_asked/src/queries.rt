@@ -32,13 +32,19 @@ pub fn query_of<'a>(
     terms: &Terms<'a>,
 ) -> Result<GroundQuery<'a>, Fault>
     requires signature { IsSignatureFor described.now.table described.now.sig }
-    requires formulas { (declarations : Items Declaration) → IsTable described.now.table declarations → HasFormulas (symbols declarations) (plain_query query.now) }
-    requires steps { steps_refusal (vocabulary_of described.now.table).symbols (plain_query query.now) ≡ None }
+    requires formulas { (declarations : Items Declaration) → IsTable described.now.table
+        declarations → HasFormulas (symbols declarations) (plain_query query.now) }
+    requires steps { steps_refusal
+        (vocabulary_of described.now.table).symbols (plain_query query.now) ≡ None }
     ensures range { IfOk result (λ made. (made.lo ≤ made.hi) × (made.hi ≤ most_steps)) }
-    ensures asked { IfOk result (λ made. (horizon : ℕ) → made.lo ≤ horizon → horizon ≤ made.hi → IsQueryAt described.now.sig horizon (plain_ground_query made)) }
-    ensures stands { (d : Description) → IsDescriptionOf described.now d → IfOk result (λ made. StandsForQuery (plain_ground_query made) d (plain_query query.now)) }
-    ensures unrefused { (d : Description) → IsDescriptionOf described.now d → OnOk result (ground_refusal d (plain_query query.now) ≡ None) }
-    ensures refused { (d : Description) → IsDescriptionOf described.now d → IfErr result (IsRefusedBy (ground_refusal d (plain_query query.now))) }
+    ensures asked { IfOk result (λ made. (horizon : ℕ) → made.lo ≤ horizon →
+        horizon ≤ made.hi → IsQueryAt described.now.sig horizon (plain_ground_query made)) }
+    ensures stands { (d : Description) → IsDescriptionOf described.now d →
+        IfOk result (λ made. StandsForQuery (plain_ground_query made) d (plain_query query.now)) }
+    ensures unrefused { (d : Description) → IsDescriptionOf described.now d →
+        OnOk result (ground_refusal d (plain_query query.now) ≡ None) }
+    ensures refused { (d : Description) → IsDescriptionOf described.now d →
+        IfErr result (IsRefusedBy (ground_refusal d (plain_query query.now))) }
 {
     steps_fit();
     fluent_terms_fit();

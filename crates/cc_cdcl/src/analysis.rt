@@ -71,7 +71,8 @@ fn highest_but(trail: &Trail, level: u32, clause: &[Lit]) -> u32
 // Whether a literal is staged.
 fn is_staged(kernel: &Kernel, lit: Lit) -> bool
     requires { IsSome kernel.now.staged }
-    ensures { (staged : List Literal) → kernel.now.staged ≡ Some staged → result ≡ has_literal staged lit }
+    ensures { (staged : List Literal) →
+        kernel.now.staged ≡ Some staged → result ≡ has_literal staged lit }
 {
     kernel.stages(lit)
 }
@@ -80,7 +81,8 @@ fn is_staged(kernel: &Kernel, lit: Lit) -> bool
 fn is_brought(trail: &Trail, kernel: &Kernel, level: u32, pivot: u32, lit: Lit) -> bool
     requires within { lit.variable ≤ trail.now.variables }
     requires staged { IsSome kernel.now.staged }
-    ensures { (staged : List Literal) → kernel.now.staged ≡ Some staged → result ≡ (is_fresh pivot staged lit && is_level level (level_of trail.now.steps lit.variable)) }
+    ensures { (staged : List Literal) → kernel.now.staged ≡ Some staged → result
+        ≡ (is_fresh pivot staged lit && is_level level (level_of trail.now.steps lit.variable)) }
 {
     lit.variable() != pivot && !is_staged(kernel, lit) && is_of(trail, level, lit.variable())
 }
@@ -89,7 +91,8 @@ fn is_brought(trail: &Trail, kernel: &Kernel, level: u32, pivot: u32, lit: Lit) 
 fn brought(trail: &Trail, kernel: &Kernel, level: u32, pivot: u32, clause: &[Lit]) -> usize
     requires over { IsOver trail.now.variables clause.now }
     requires staged { IsSome kernel.now.staged }
-    ensures brought { (staged : List Literal) → kernel.now.staged ≡ Some staged → result ≡ level_count_in trail.now.steps level (fresh_of pivot staged clause.now) }
+    ensures brought { (staged : List Literal) → kernel.now.staged ≡ Some staged →
+        result ≡ level_count_in trail.now.steps level (fresh_of pivot staged clause.now) }
     ensures few { result ≤ length clause.now }
 {
     let mut count = 0;
@@ -123,7 +126,8 @@ fn step_counted(
     requires clash { ClashesWith kernel.old pivot id }
     requires counted { IsCounted trail.now.steps trail.now.level_count kernel.old held }
     ensures stepped { OnOk result (IsStepped kernel.old kernel.new pivot id) }
-    ensures counted { IfOk result (λ now. IsCounted trail.now.steps trail.now.level_count kernel.new now) }
+    ensures counted { IfOk result (λ now.
+        IsCounted trail.now.steps trail.now.level_count kernel.new now) }
     ensures kept { OnErr result (kernel.new ≡ kernel.old) }
 {
     let _variables = kernel.variables();
@@ -138,7 +142,10 @@ fn step_counted(
 // the empty one, else one with one literal of the last level.
 fn is_final(trail: &Trail, kernel: &Kernel, held: usize) -> bool
     requires { IsCounted trail.now.steps trail.now.level_count kernel.now held }
-    ensures { (clause : List Literal) (place : ℕ) → kernel.now.staged ≡ Some clause → IsWalking trail.now.steps trail.now.level_count place clause → MatchBool result (IsFinal trail.now.steps trail.now.level_count clause) (IsUnfinished trail.now.steps trail.now.level_count clause) }
+    ensures { (clause : List Literal) (place : ℕ) → kernel.now.staged ≡ Some clause →
+        IsWalking trail.now.steps trail.now.level_count place clause →
+        MatchBool result (IsFinal trail.now.steps trail.now.level_count clause)
+        (IsUnfinished trail.now.steps trail.now.level_count clause) }
 {
     let _variables = kernel.variables();
     let level = trail.level_count();
@@ -154,10 +161,13 @@ fn clashing_reason(trail: &Trail, kernel: &Kernel, pivot: u32) -> Option<u32>
     requires within { pivot ≤ trail.now.variables }
     requires variables { trail.now.variables ≡ kernel.now.variables }
     requires staged { IsSome kernel.now.staged }
-    requires there { (id : ℕ) → option_and_then reason_of_step (step_of trail.now.steps pivot) ≡ Some id → IsThere kernel.now id }
+    requires there { (id : ℕ) → option_and_then reason_of_step (step_of trail.now.steps pivot)
+        ≡ Some id → IsThere kernel.now id }
     ensures some { IfSome result (λ id. ClashesWith kernel.now pivot id) }
-    ensures reason { IfSome result (λ id. option_and_then reason_of_step (step_of trail.now.steps pivot) ≡ Some id) }
-    ensures none { IfNone result ((id : ℕ) → option_and_then reason_of_step (step_of trail.now.steps pivot) ≡ Some id → ClashesWith kernel.now pivot id → ⊥) }
+    ensures reason { IfSome result (λ id.
+        option_and_then reason_of_step (step_of trail.now.steps pivot) ≡ Some id) }
+    ensures none { IfNone result ((id : ℕ) → option_and_then reason_of_step
+        (step_of trail.now.steps pivot) ≡ Some id → ClashesWith kernel.now pivot id → ⊥) }
 {
     match trail.reason(pivot) {
         Some(id) => if kernel.clashes(pivot, id) {
@@ -182,10 +192,12 @@ fn resolve_next(trail: &Trail, kernel: &mut Kernel, start: Walk) -> Result<Walk,
     requires fits { Fits trail.now kernel.old }
     requires opened { OpenLevels trail.now.steps }
     requires derivation { IsDeriving kernel.old trail.now start.place }
-    requires unfinished { (clause : List Literal) → kernel.old.staged ≡ Some clause → IsUnfinished trail.now.steps trail.now.level_count clause }
+    requires unfinished { (clause : List Literal) → kernel.old.staged ≡ Some clause →
+        IsUnfinished trail.now.steps trail.now.level_count clause }
     requires counted { IsCounted trail.now.steps trail.now.level_count kernel.old start.held }
     ensures derivation { IfOk result (λ walk. IsDeriving kernel.new trail.now walk.place) }
-    ensures counted { IfOk result (λ walk. IsCounted trail.now.steps trail.now.level_count kernel.new walk.held) }
+    ensures counted { IfOk result (λ walk.
+        IsCounted trail.now.steps trail.now.level_count kernel.new walk.held) }
     ensures fewer { IfOk result (λ walk. walk.place < start.place) }
     ensures kept { KeepsEntries kernel.old kernel.new }
 {
@@ -272,10 +284,13 @@ fn shortening_reason(trail: &Trail, kernel: &Kernel, marks: &mut [Mark], lit: Li
     requires some { 1 ≤ lit.variable }
     requires within { lit.variable ≤ trail.now.variables }
     requires staged { IsSome kernel.now.staged }
-    requires there { (id : ℕ) → option_and_then reason_of_step (step_of trail.now.steps lit.variable) ≡ Some id → IsThere kernel.now id }
+    requires there { (id : ℕ) → option_and_then reason_of_step
+        (step_of trail.now.steps lit.variable) ≡ Some id → IsThere kernel.now id }
     ensures clash { IfSome result (λ id. ClashesWith kernel.now lit.variable id) }
-    ensures reason { IfSome result (λ id. option_and_then reason_of_step (step_of trail.now.steps lit.variable) ≡ Some id) }
-    ensures below { IfSome result (λ id. IsTrue (is_level_below trail.now.level_count (level_of trail.now.steps lit.variable))) }
+    ensures reason { IfSome result (λ id.
+        option_and_then reason_of_step (step_of trail.now.steps lit.variable) ≡ Some id) }
+    ensures below { IfSome result (λ id.
+        IsTrue (is_level_below trail.now.level_count (level_of trail.now.steps lit.variable))) }
 {
     let pivot = lit.variable();
     if !kernel.stages(lit.opposite()) {
@@ -391,7 +406,8 @@ pub fn learn(
     requires few { length kernel.old.entries < 4000000000 }
     ensures learned { OnOk result (Learns kernel.old kernel.new) }
     ensures back { OnOk result (IsBackOver trail.old trail.new kernel.new) }
-    ensures broken { OnErr result (KeepsEntries kernel.old kernel.new ⊎ Learns kernel.old kernel.new) }
+    ensures broken { OnErr result (KeepsEntries kernel.old kernel.new
+        ⊎ Learns kernel.old kernel.new) }
     ensures phase { probe.new.phase ≡ probe.old.phase }
 {
     learned_is_earned();
@@ -438,7 +454,8 @@ pub fn block(trail: &mut Trail, kernel: &mut Kernel, clause: &[Lit]) -> Result<u
     ensures blocked { OnOk result (kernel.new ≡ added kernel.old clause.now Origin.Block) }
     ensures back { OnOk result (IsBackOver trail.old trail.new kernel.new) }
     ensures steps { AreSteps trail.old.variables trail.old.steps trail.old.level_count }
-    ensures broken { OnErr result (KeepsEntries kernel.old kernel.new ⊎ AddsBlock kernel.old kernel.new clause.now) }
+    ensures broken { OnErr result (KeepsEntries kernel.old kernel.new
+        ⊎ AddsBlock kernel.old kernel.new clause.now) }
 {
     adding_keeps_fit();
     adding_keeps_settled();

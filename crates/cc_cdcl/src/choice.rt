@@ -84,10 +84,12 @@ fn least_open(trail: &Trail, first: u32, size: u32) -> u32
     requires some { 1 ≤ first }
     requires within { first + size ≤ trail.now.variables + 1 }
     requires few { trail.now.variables ≤ most_variables }
-    requires open { ((value : ℕ) → value < size → values_of trail.now.steps (first + value) ≡ Some false) → ⊥ }
+    requires open { ((value : ℕ) →
+        value < size → values_of trail.now.steps (first + value) ≡ Some false) → ⊥ }
     ensures within { result < size }
     ensures open { values_of trail.now.steps (first + result) ≢ Some false }
-    ensures lower { (lower : ℕ) → lower < result → values_of trail.now.steps (first + lower) ≡ Some false }
+    ensures lower { (lower : ℕ) →
+        lower < result → values_of trail.now.steps (first + lower) ≡ Some false }
 {
     let mut value = 0;
     while is_given(trail, first + value, false) {
@@ -102,7 +104,8 @@ fn pass_positions(trail: &Trail, sizes: &[u32], start: Cursor) -> Cursor
     requires sizes { sum sizes.now ≤ trail.now.variables }
     requires cursor { IsCursor sizes.now trail.now.variables (values_of trail.now.steps) start }
     ensures cursor { IsCursor sizes.now trail.now.variables (values_of trail.now.steps) result }
-    ensures none { result.position < length sizes.now → HasTrueValue result.first (slice_index sizes.now result.position) (values_of trail.now.steps) → ⊥ }
+    ensures none { result.position < length sizes.now → HasTrueValue result.first
+        (slice_index sizes.now result.position) (values_of trail.now.steps) → ⊥ }
 {
     let mut cursor = start;
     while cursor.position < sizes.len() {
@@ -125,10 +128,12 @@ pub fn first_open(trail: &Trail, variables: u32, start: u32) -> u32
     requires few { trail.now.variables ≤ most_variables }
     requires some { 1 ≤ start }
     requires most { start ≤ variables + 1 }
-    requires before { (variable : ℕ) → 0 < variable → variable < start → values_of trail.now.steps variable ≢ None }
+    requires before { (variable : ℕ) →
+        0 < variable → variable < start → values_of trail.now.steps variable ≢ None }
     ensures some { 1 ≤ result }
     ensures most { result ≤ variables + 1 }
-    ensures before { (variable : ℕ) → 0 < variable → variable < result → values_of trail.now.steps variable ≢ None }
+    ensures before { (variable : ℕ) →
+        0 < variable → variable < result → values_of trail.now.steps variable ≢ None }
     ensures open { result ≤ variables → values_of trail.now.steps result ≡ None }
 {
     let mut variable = start;
@@ -154,7 +159,8 @@ pub fn next_choice(
     requires sizes { sum sizes.now ≤ trail.now.variables }
     requires cursor { IsCursor sizes.now trail.now.variables (values_of trail.now.steps) start }
     ensures cursor { IsCursor sizes.now trail.now.variables (values_of trail.now.steps) result.0 }
-    ensures some { IfSome result.1 (λ lit. IsChoice sizes.now trail.now.variables trail.now.steps lit) }
+    ensures some { IfSome result.1 (λ lit.
+        IsChoice sizes.now trail.now.variables trail.now.steps lit) }
     ensures none { IfNone result.1 (IsFull trail.now.variables (values_of trail.now.steps)) }
 {
     let variables = kernel.variables();

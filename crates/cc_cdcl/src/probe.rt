@@ -58,7 +58,8 @@ pub struct Probe {
 fn is_open(trail: &Trail, variables: u32, variable: u32) -> bool
     requires variables { variables ≡ trail.now.variables }
     requires few { trail.now.variables ≤ most_variables }
-    ensures { IsTrue result → (0 < variable) × (variable ≤ variables) × (values_of trail.now.steps variable ≡ None) }
+    ensures { IsTrue result →
+        (0 < variable) × (variable ≤ variables) × (values_of trail.now.steps variable ≡ None) }
 {
     0 < variable && variable <= variables && !has_value(trail, variable)
 }
@@ -117,7 +118,8 @@ impl Probe {
     fn first(&mut self, trail: &Trail, variables: u32) -> Option<u32>
         requires variables { variables ≡ trail.now.variables }
         requires few { trail.now.variables ≤ most_variables }
-        ensures open { IfSome result (λ variable. (0 < variable) × (variable ≤ variables) × (values_of trail.now.steps variable ≡ None)) }
+        ensures open { IfSome result (λ variable.
+            (0 < variable) × (variable ≤ variables) × (values_of trail.now.steps variable ≡ None)) }
         ensures phase { self.new.phase ≡ self.old.phase }
     {
         for _ in 0..self.order.len() {
@@ -151,7 +153,8 @@ impl Probe {
     pub fn choose(&mut self, trail: &Trail, variables: u32) -> Option<Lit>
         requires variables { variables ≡ trail.now.variables }
         requires few { trail.now.variables ≤ most_variables }
-        ensures some { IfSome result (λ lit. IsLiteralOver trail.now.variables lit × (step_of trail.now.steps lit.variable ≡ None)) }
+        ensures some { IfSome result (λ lit.
+            IsLiteralOver trail.now.variables lit × (step_of trail.now.steps lit.variable ≡ None)) }
         ensures none { IfNone result (IsFull trail.now.variables (values_of trail.now.steps)) }
         ensures phase { self.new.phase ≡ self.old.phase }
     {

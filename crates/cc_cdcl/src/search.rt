@@ -27,14 +27,17 @@ enum Round {
 fn decide(trail: &mut Trail, cursors: &mut [Cursor], cursor: Cursor, lit: Lit, sizes: &[u32])
     requires choice { IsChoice sizes.now trail.old.variables trail.old.steps lit }
     requires cursor { IsCursor sizes.now trail.old.variables (values_of trail.old.steps) cursor }
-    requires cursors { AreCursors sizes.now trail.old.variables trail.old.steps trail.old.level_count cursors.old }
+    requires cursors { AreCursors
+        sizes.now trail.old.variables trail.old.steps trail.old.level_count cursors.old }
     ensures decided { trail.new ≡ decided trail.old lit }
     ensures fits { (kernel : KernelView) → Fits trail.old kernel → Fits trail.new kernel }
-    ensures settled { (kernel : KernelView) → IsClosed (values_of trail.old.steps) (clauses_of kernel) → IsSettled trail.old kernel → IsSettled trail.new kernel }
+    ensures settled { (kernel : KernelView) → IsClosed (values_of trail.old.steps)
+        (clauses_of kernel) → IsSettled trail.old kernel → IsSettled trail.new kernel }
     ensures steps { AreSteps trail.old.variables trail.old.steps trail.old.level_count }
     ensures more { length trail.old.steps < length trail.new.steps }
     ensures most { length trail.new.steps ≤ trail.new.variables }
-    ensures cursors { AreCursors sizes.now trail.new.variables trail.new.steps trail.new.level_count cursors.new }
+    ensures cursors { AreCursors
+        sizes.now trail.new.variables trail.new.steps trail.new.level_count cursors.new }
 {
     let _count = sizes.len();
     cursors[trail.level_count() as usize] = cursor;
@@ -71,7 +74,8 @@ fn descend(trail: &mut Trail, cursors: &mut [Cursor], kernel: &Kernel, sizes: &[
     requires positions { HasPositions sizes.now kernel.now }
     requires sizes { sum sizes.now ≤ kernel.now.variables }
     ensures searching { IsSearching sizes.now kernel.now trail.new cursors.new }
-    ensures failed { IfSome result (λ id. IsFailedClause (clauses_of kernel.now) trail.new.steps id) }
+    ensures failed { IfSome result (λ id.
+        IsFailedClause (clauses_of kernel.now) trail.new.steps id) }
     ensures full { IfNone result (IsFull kernel.now.variables (values_of trail.new.steps)) }
     ensures closed { IfNone result (IsClosed (values_of trail.new.steps) (clauses_of kernel.now)) }
 {
@@ -110,7 +114,8 @@ fn probe_round(trail: &mut Trail, probe: &mut Probe, kernel: &Kernel) -> Round
 fn descend_by_probe(trail: &mut Trail, probe: &mut Probe, kernel: &Kernel) -> Option<u32>
     requires { IsTrailOf kernel.now trail.old }
     ensures trail { IsTrailOf kernel.now trail.new }
-    ensures failed { IfSome result (λ id. IsFailedClause (clauses_of kernel.now) trail.new.steps id) }
+    ensures failed { IfSome result (λ id.
+        IsFailedClause (clauses_of kernel.now) trail.new.steps id) }
     ensures phase { probe.new.phase ≡ probe.old.phase }
 {
     loop {
@@ -125,7 +130,8 @@ fn descend_by_probe(trail: &mut Trail, probe: &mut Probe, kernel: &Kernel) -> Op
 // Takes all decisions back, so that the rows are searched in order from here.
 fn begin_listing(trail: &mut Trail, cursors: &mut [Cursor])
     requires { length cursors.old ≡ trail.old.variables + 1 }
-    ensures { (sizes : List ℕ) (kernel : KernelView) → IsTrailOf kernel trail.old → IsSearching sizes kernel trail.new cursors.new }
+    ensures { (sizes : List ℕ) (kernel : KernelView) →
+        IsTrailOf kernel trail.old → IsSearching sizes kernel trail.new cursors.new }
 {
     let _level = trail.level_count();
     trail.back_to(0);
@@ -148,7 +154,9 @@ fn leaves_open(trail: &mut Trail, kernel: &Kernel) -> bool
 /// Begins with a section: it is to be probed where propagation leaves a variable without a value, and else its rows are listed.
 pub fn begin(trail: &mut Trail, probe: &mut Probe, kernel: &Kernel) -> Result<(), OutOfMemory>
     requires { IsTrailOf kernel.now trail.old }
-    ensures { OnOk result ((sizes : List ℕ) (cursors : List Cursor) → IsInPhase probe.old.phase sizes kernel.now trail.old cursors → IsInPhase probe.new.phase sizes kernel.now trail.new cursors) }
+    ensures { OnOk result ((sizes : List ℕ) (cursors : List Cursor) →
+        IsInPhase probe.old.phase sizes kernel.now trail.old cursors →
+        IsInPhase probe.new.phase sizes kernel.now trail.new cursors) }
 {
     match probe.phase {
         Phase::New => {
@@ -175,7 +183,8 @@ pub fn search_on(
     requires positions { HasPositions sizes.now kernel.now }
     requires sizes { sum sizes.now ≤ kernel.now.variables }
     ensures phase { IsInPhase probe.new.phase sizes.now kernel.now trail.new cursors.new }
-    ensures failed { IfSome result (λ id. IsFailedClause (clauses_of kernel.now) trail.new.steps id) }
+    ensures failed { IfSome result (λ id.
+        IsFailedClause (clauses_of kernel.now) trail.new.steps id) }
     ensures searching { IfNone result (IsSearching sizes.now kernel.now trail.new cursors.new) }
     ensures full { IfNone result (IsFull kernel.now.variables (values_of trail.new.steps)) }
     ensures closed { IfNone result (IsClosed (values_of trail.new.steps) (clauses_of kernel.now)) }
@@ -196,7 +205,8 @@ pub fn search_on(
 /// Counts a line: while the section is probed, all decisions are taken back after some lines, and after others the probe is over.
 pub fn count_line(trail: &mut Trail, cursors: &mut [Cursor], probe: &mut Probe)
     requires { length cursors.old ≡ trail.old.variables + 1 }
-    ensures { (sizes : List ℕ) (kernel : KernelView) → IsInPhase probe.old.phase sizes kernel trail.old cursors.old → IsInPhase probe.new.phase sizes kernel trail.new cursors.new }
+    ensures { (sizes : List ℕ) (kernel : KernelView) → IsInPhase probe.old.phase sizes kernel
+        trail.old cursors.old → IsInPhase probe.new.phase sizes kernel trail.new cursors.new }
 {
     if !probe.is_on() {
         return;

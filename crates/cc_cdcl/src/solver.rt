@@ -122,7 +122,8 @@ impl Solver {
     pub fn new(alloc: Global, kernel: Kernel, sizes: &[u32]) -> Result<Solver, OutOfMemory>
         requires axioms { AreAxioms kernel.entries }
         requires positions { HasPositions sizes.now kernel }
-        ensures { IfOk result (λ solver. solver ≡ record { sizes = sizes.now; kernel = kernel; standing = Ready }) }
+        ensures { IfOk result (λ solver.
+            solver ≡ record { sizes = sizes.now; kernel = kernel; standing = Ready }) }
     {
         read_clauses(&kernel);
         let trail = Trail::new(alloc, &kernel)?;
@@ -150,7 +151,8 @@ impl Solver {
         requires budget { derived_count self.old.kernel.entries ≤ budget }
         requires few { length self.old.kernel.entries < 4000000000 }
         ensures step { IfOk result (λ step. IsStep budget self.old self.new step) }
-        ensures enough { IfOk result (λ step. (opens : ℕ) → HasOpen self.old.kernel.variables (axiom_clauses self.old.kernel) opens → 3 ^ opens ≤ budget → step ≢ Step.Spent) }
+        ensures enough { IfOk result (λ step. (opens : ℕ) → HasOpen self.old.kernel.variables
+            (axiom_clauses self.old.kernel) opens → 3 ^ opens ≤ budget → step ≢ Step.Spent) }
         ensures broken { OnErr result (IsBroken self.old self.new) }
     {
         earned_lines_are_few();
@@ -213,7 +215,12 @@ impl Solver {
         requires found { (row : List ℕ) × (self.old.standing ≡ Found row) }
         requires few { length self.old.kernel.entries < 4000000000 }
         ensures number { IfOk result (λ number. number ≡ length self.old.kernel.entries + 1) }
-        ensures blocked { OnOk result ((row : List ℕ) → self.old.standing ≡ Found row → self.new ≡ record self.old { kernel = added self.old.kernel (row_denial self.old.sizes row) Origin.Block; standing = Ready }) }
+        ensures blocked { OnOk result ((row : List ℕ) → self.old.standing ≡ Found row →
+            self.new ≡ record self.old {
+              kernel = added self.old.kernel
+                  (row_denial self.old.sizes row) Origin.Block;
+              standing = Ready;
+            }) }
         ensures broken { OnErr result (IsBrokenBlock self.old self.new) }
     {
         self.state = State::Failed;

@@ -28,7 +28,8 @@ fn push_entry(bytes: &mut Vec<u8>, line: &LogLine, own: u32) -> Result<(), OutOf
     requires formed { IsFormed line.now }
     requires few { HasShortLists line.now }
     requires before { NamesBefore own line.now }
-    ensures { OnOk result (bytes.new.items ≡ bytes.old.items ++ entry_bytes (line_behind own line.now)) }
+    ensures { OnOk result
+        (bytes.new.items ≡ bytes.old.items ++ entry_bytes (line_behind own line.now)) }
 {
     match line {
         LogLine::Section {
@@ -67,7 +68,8 @@ fn push_derived(
     requires few { IsShort (length clause.now) }
     requires short { IsShort (length chain.now) }
     requires before { AreBefore own chain.now }
-    ensures { OnOk result (bytes.new.items ≡ bytes.old.items ++ entry_bytes (lines.Derived clause.now (chain_behind own chain.now))) }
+    ensures { OnOk result (bytes.new.items
+        ≡ bytes.old.items ++ entry_bytes (lines.Derived clause.now (chain_behind own chain.now))) }
 {
     bytes.push(3)?;
     push_number(bytes, clause.len() as u32)?;
@@ -126,7 +128,8 @@ fn push_numbers(bytes: &mut Vec<u8>, numbers: &[u32]) -> Result<(), OutOfMemory>
 
 fn push_literals(bytes: &mut Vec<u8>, literals: &[Lit]) -> Result<(), OutOfMemory>
     requires { AllByRecursion IsShortLiteral literals.now }
-    ensures { OnOk result (bytes.new.items ≡ bytes.old.items ++ flat_map literal_bytes literals.now) }
+    ensures { OnOk result
+        (bytes.new.items ≡ bytes.old.items ++ flat_map literal_bytes literals.now) }
 {
     for literal in literals {
         push_literal(bytes, *literal)?;
@@ -148,7 +151,8 @@ fn push_literal(bytes: &mut Vec<u8>, literal: Lit) -> Result<(), OutOfMemory>
 // Writes a chain: clauses by their distance from the own number, and pivots as they are.
 fn push_chain(bytes: &mut Vec<u8>, chain: &[u32], own: u32) -> Result<(), OutOfMemory>
     requires { AreBefore own chain.now }
-    ensures { OnOk result (bytes.new.items ≡ bytes.old.items ++ flat_map number_bytes (chain_behind own chain.now)) }
+    ensures { OnOk result
+        (bytes.new.items ≡ bytes.old.items ++ flat_map number_bytes (chain_behind own chain.now)) }
 {
     let mut names = true;
     for number in chain {

@@ -139,7 +139,8 @@ fn resolve_on(
     requires variables { variables ≤ most_variables }
     requires clause { IsClauseOver variables clause.now }
     requires other { IsClauseOver variables other.now }
-    ensures { IfOk result (λ done. MatchBool done (IsResolvent clause.now other.now pivot spare.new.items) (HaveNoResolvent clause.now other.now pivot)) }
+    ensures { IfOk result (λ done. MatchBool done (IsResolvent
+        clause.now other.now pivot spare.new.items) (HaveNoResolvent clause.now other.now pivot)) }
 {
     if pivot == 0 || pivot > variables {
         return Ok(false);
@@ -156,7 +157,8 @@ fn begin(form: &Form, own: &ClauseArena, number: u32, stage: &mut Stage) -> Resu
     requires own { AreClausesOver form.now.variables own.now }
     requires some { 0 < number }
     requires most { number ≤ length form.now.clauses + length own.now }
-    ensures numbered { OnOk result (IsNumbered (form.now.clauses ++ own.now) number stage.new.clause.items) }
+    ensures numbered { OnOk result
+        (IsNumbered (form.now.clauses ++ own.now) number stage.new.clause.items) }
     ensures clause { OnOk result (IsClauseOver form.now.variables stage.new.clause.items) }
 {
     let clause = numbered(form, own, number);
@@ -177,7 +179,8 @@ fn step(
     requires some { 0 < number }
     requires most { number ≤ length form.now.clauses + length own.now }
     requires staged { IsClauseOver form.now.variables stage.old.clause.items }
-    ensures { IfOk result (λ done. IsStep (form.now.clauses ++ own.now) form.now.variables stage.old.clause.items pivot number done stage.new.clause.items) }
+    ensures { IfOk result (λ done. IsStep (form.now.clauses ++ own.now)
+        form.now.variables stage.old.clause.items pivot number done stage.new.clause.items) }
 {
     let other = numbered(form, own, number);
     if !resolve_on(
@@ -202,7 +205,8 @@ pub(crate) fn reach(
 ) -> Result<bool, OutOfMemory>
     requires own { AreClausesOver form.now.variables own.now }
     requires named { AreNamed (length (form.now.clauses ++ own.now)) chain.now }
-    ensures { IfOk result (λ done. MatchBool done (Reaches (form.now.clauses ++ own.now) chain.now stage.new.clause.items) (ReachesNothing (form.now.clauses ++ own.now) chain.now)) }
+    ensures { IfOk result (λ done. MatchBool done (Reaches (form.now.clauses ++ own.now) chain.now
+        stage.new.clause.items) (ReachesNothing (form.now.clauses ++ own.now) chain.now)) }
 {
     resolvents_are_unique();
     let [first, behind @ ..] = chain else {

@@ -19,7 +19,8 @@ fn is_high_part(high: u32) -> bool
 
 // The number in the fewest bytes, at most so many behind the first, that bytes begin with, and what stands behind it.
 fn number_within(more: u32, bytes: &[u8]) -> Option<(u32, &[u8])>
-    ensures { MatchOption result (HasNoNumberWithin more bytes.now) (λ read. IsNumberWithin more bytes.now read.0 read.1.now) }
+    ensures { MatchOption result (HasNoNumberWithin more bytes.now) (λ read.
+        IsNumberWithin more bytes.now read.0 read.1.now) }
 {
     let [first, behind @ ..] = bytes else {
         return None;
@@ -41,14 +42,16 @@ fn number_within(more: u32, bytes: &[u8]) -> Option<(u32, &[u8])>
 
 // The number that bytes begin with, and what stands behind it.
 fn number_in(bytes: &[u8]) -> Option<(u32, &[u8])>
-    ensures { MatchOption result (HasNoNumberIn bytes.now) (λ read. IsNumberIn bytes.now read.0 read.1.now) }
+    ensures { MatchOption result
+        (HasNoNumberIn bytes.now) (λ read. IsNumberIn bytes.now read.0 read.1.now) }
 {
     number_within(4, bytes)
 }
 
 // The literal that bytes begin with: its variable and whether it is positive, and what stands behind it.
 fn literal_in(bytes: &[u8]) -> Option<(u32, bool, &[u8])>
-    ensures { MatchOption result (HasNoLiteralIn bytes.now) (λ read. IsLiteralIn bytes.now (record { variable = read.0; positive = read.1 }) read.2.now) }
+    ensures { MatchOption result (HasNoLiteralIn bytes.now) (λ read.
+        IsLiteralIn bytes.now (record { variable = read.0; positive = read.1 }) read.2.now) }
 {
     let Some((number, rest)) = number_in(bytes) else {
         return None;
@@ -65,7 +68,8 @@ fn read_numbers<'b>(
     count: u32,
     numbers: &mut Vec<u32>,
 ) -> Result<Option<&'b [u8]>, OutOfMemory>
-    ensures { IfOk result (λ rest. MatchOption rest (HasNoNumbersIn count bytes.now) (λ rest. AreNumbersIn count bytes.now numbers.new.items rest.now)) }
+    ensures { IfOk result (λ rest. MatchOption rest (HasNoNumbersIn count bytes.now) (λ rest.
+        AreNumbersIn count bytes.now numbers.new.items rest.now)) }
 {
     numbers.clear();
     let mut rest = bytes;
@@ -85,7 +89,8 @@ fn read_literals<'b>(
     count: u32,
     literals: &mut Vec<Named>,
 ) -> Result<Option<&'b [u8]>, OutOfMemory>
-    ensures { IfOk result (λ rest. MatchOption rest (HasNoLiteralsIn count bytes.now) (λ rest. AreLiteralsIn count bytes.now literals.new.items rest.now)) }
+    ensures { IfOk result (λ rest. MatchOption rest (HasNoLiteralsIn count bytes.now) (λ rest.
+        AreLiteralsIn count bytes.now literals.new.items rest.now)) }
 {
     literals.clear();
     let mut rest = bytes;
@@ -104,7 +109,9 @@ fn read_derived<'b>(
     body: &'b [u8],
     room: &mut Room,
 ) -> Result<Option<(Kind, &'b [u8])>, OutOfMemory>
-    ensures { IfOk result (λ read. MatchOption read (HasNoEntry (3 ∷ body.now)) (λ entry. IsEntryRead (3 ∷ body.now) room.new.literals.items room.new.numbers.items entry.0 entry.1.now)) }
+    ensures { IfOk result (λ read.
+        MatchOption read (HasNoEntry (3 ∷ body.now)) (λ entry. IsEntryRead
+        (3 ∷ body.now) room.new.literals.items room.new.numbers.items entry.0 entry.1.now)) }
 {
     let Some((count, clause)) = number_in(body) else {
         return Ok(None);
@@ -123,7 +130,9 @@ fn read_derived<'b>(
 
 // Reads what stands behind the kind of a block.
 fn read_block<'b>(body: &'b [u8], room: &mut Room) -> Result<Option<(Kind, &'b [u8])>, OutOfMemory>
-    ensures { IfOk result (λ read. MatchOption read (HasNoEntry (4 ∷ body.now)) (λ entry. IsEntryRead (4 ∷ body.now) room.new.literals.items room.new.numbers.items entry.0 entry.1.now)) }
+    ensures { IfOk result (λ read.
+        MatchOption read (HasNoEntry (4 ∷ body.now)) (λ entry. IsEntryRead
+        (4 ∷ body.now) room.new.literals.items room.new.numbers.items entry.0 entry.1.now)) }
 {
     let Some((count, row)) = number_in(body) else {
         return Ok(None);
@@ -151,7 +160,8 @@ fn word_of(byte: u8) -> Option<EndWord>
 
 // The end word that bytes begin with, and what stands behind it.
 fn end_in(bytes: &[u8]) -> Option<(EndWord, &[u8])>
-    ensures { MatchOption result (HasNoEnd bytes.now) (λ read. BeginsWith bytes.now (lines.End read.0) read.1.now) }
+    ensures { MatchOption result (HasNoEnd bytes.now) (λ read.
+        BeginsWith bytes.now (lines.End read.0) read.1.now) }
 {
     let [kind, rest @ ..] = bytes else {
         return None;
@@ -164,7 +174,8 @@ fn end_in(bytes: &[u8]) -> Option<(EndWord, &[u8])>
 
 /// The heading that bytes of version 2 begin with, and what stands behind it. Nothing: no heading stands there.
 pub fn heading_in(bytes: &[u8]) -> Option<(Heading, &[u8])>
-    ensures { MatchOption result (HasNoHeading bytes.now) (λ read. BeginsWith bytes.now (lines.Section read.0.conditions read.0.horizon) read.1.now) }
+    ensures { MatchOption result (HasNoHeading bytes.now) (λ read.
+        BeginsWith bytes.now (lines.Section read.0.conditions read.0.horizon) read.1.now) }
 {
     let [kind, behind @ ..] = bytes else {
         return None;
@@ -192,7 +203,8 @@ pub fn read_entry<'b>(
     bytes: &'b [u8],
     room: &mut Room,
 ) -> Result<Option<(Kind, &'b [u8])>, OutOfMemory>
-    ensures { IfOk result (λ read. MatchOption read (HasNoEntry bytes.now) (λ entry. IsEntryRead bytes.now room.new.literals.items room.new.numbers.items entry.0 entry.1.now)) }
+    ensures { IfOk result (λ read. MatchOption read (HasNoEntry bytes.now) (λ entry.
+        IsEntryRead bytes.now room.new.literals.items room.new.numbers.items entry.0 entry.1.now)) }
 {
     let [kind, body @ ..] = bytes else {
         return Ok(None);
@@ -208,7 +220,9 @@ pub fn read_entry<'b>(
 
 // An entry that is neither a derived line nor a block.
 fn other_in(bytes: &[u8]) -> Option<(Kind, &[u8])>
-    ensures { MatchOption result (HasNoHeading bytes.now × HasNoEnd bytes.now) (λ entry. (literals : List Literal) (numbers : List ℕ) → IsEntryRead bytes.now literals numbers entry.0 entry.1.now) }
+    ensures { MatchOption result (HasNoHeading bytes.now × HasNoEnd bytes.now) (λ entry.
+        (literals : List Literal) (numbers : List ℕ) →
+        IsEntryRead bytes.now literals numbers entry.0 entry.1.now) }
 {
     if let Some((word, rest)) = end_in(bytes) {
         return Some((Kind::End(word), rest));

@@ -14,7 +14,8 @@ fn read_first_line<'b>(
     room: &mut Room,
 ) -> Result<(Option<Kind>, &'b [u8]), OutOfMemory>
     requires { 0 < length bytes.now }
-    ensures { IfOk result (λ read. IsFirstRead versions.First bytes.now room.new.literals.items room.new.numbers.items read.0 read.1.now) }
+    ensures { IfOk result (λ read. IsFirstRead
+        versions.First bytes.now room.new.literals.items room.new.numbers.items read.0 read.1.now) }
 {
     let (text, rest) = first_line(bytes);
     let kind = read_line(text, room)?;
@@ -27,7 +28,8 @@ fn read_first_entry<'b>(
     room: &mut Room,
 ) -> Result<(Option<Kind>, &'b [u8]), OutOfMemory>
     requires { 0 < length bytes.now }
-    ensures { IfOk result (λ read. IsFirstRead versions.Second bytes.now room.new.literals.items room.new.numbers.items read.0 read.1.now) }
+    ensures { IfOk result (λ read. IsFirstRead versions.Second
+        bytes.now room.new.literals.items room.new.numbers.items read.0 read.1.now) }
 {
     match read_entry(bytes, room)? {
         Some((kind, rest)) => Ok((Some(kind), rest)),
@@ -43,7 +45,8 @@ pub(crate) fn read_text<'b>(
     room: &mut Room,
 ) -> Result<(Option<Kind>, &'b [u8]), OutOfMemory>
     requires { 0 < length bytes.now }
-    ensures { IfOk result (λ read. IsFirstRead version bytes.now room.new.literals.items room.new.numbers.items read.0 read.1.now) }
+    ensures { IfOk result (λ read. IsFirstRead
+        version bytes.now room.new.literals.items room.new.numbers.items read.0 read.1.now) }
 {
     match version {
         Version::First => read_first_line(bytes, room),

@@ -90,7 +90,9 @@ fn derived_cause(
     stage: &mut Stage,
 ) -> Result<Option<Cause>, OutOfMemory>
     requires { AreSound form.now own.now refuted }
-    ensures { IfOk result (λ cause. MatchOption cause (IsRightDerived form.now (form.now.clauses ++ own.now) clause.now chain.now × (stage.new.clause.items ≡ clause.now)) (IsWrongDerived form.now (form.now.clauses ++ own.now) clause.now chain.now)) }
+    ensures { IfOk result (λ cause. MatchOption cause (IsRightDerived form.now
+        (form.now.clauses ++ own.now) clause.now chain.now × (stage.new.clause.items ≡ clause.now))
+        (IsWrongDerived form.now (form.now.clauses ++ own.now) clause.now chain.now)) }
 {
     if refuted {
         return Ok(Some(Cause::Section));
@@ -147,7 +149,8 @@ fn name_distances(own: u32, chain: &mut Vec<u32>)
 
 // Names the clauses of a chain by their numbers, where the version of the log has distances from the own number.
 fn name_clauses(version: Version, own: u32, chain: &mut Vec<u32>)
-    ensures { (clause : List Literal) → line_meant version own (lines.Derived clause chain.old.items) ≡ lines.Derived clause chain.new.items }
+    ensures { (clause : List Literal) → line_meant version own
+        (lines.Derived clause chain.old.items) ≡ lines.Derived clause chain.new.items }
 {
     match version {
         Version::First => {}
@@ -174,7 +177,8 @@ impl Checker {
     fn add(&mut self, form: &Form) -> Result<(), OutOfMemory>
         requires sound { AreSound form.now self.old.own self.old.refuted }
         requires clause { IsClauseOver form.now.variables self.old.stage.clause.items }
-        ensures own { OnOk result (self.new.own ≡ self.old.own ++ self.old.stage.clause.items ∷ []) }
+        ensures own { OnOk result
+            (self.new.own ≡ self.old.own ++ self.old.stage.clause.items ∷ []) }
         ensures counted { self.new.blocks ≡ self.old.blocks }
         ensures sound { OnOk result (AreSound form.now self.new.own self.new.refuted) }
     {
@@ -188,9 +192,10 @@ impl Checker {
     fn derived(&mut self, form: &Form, version: Version) -> Result<Pass, OutOfMemory>
         requires sound { AreSound form.now self.old.own self.old.refuted }
         requires few { length self.old.own ≤ most_log_bytes }
-        ensures passed { IfOk result (λ pass. (may : Bool) (text : List ℕ) →
-            IsSpelled version text (lines.Derived self.old.room.literals.items self.old.room.numbers.items) →
-            IsPassed (reading_as version may) form.now self.old.own self.old.blocks text pass self.new.own self.new.blocks) }
+        ensures passed { IfOk result (λ pass. (may : Bool) (text : List ℕ) → IsSpelled version text
+            (lines.Derived self.old.room.literals.items self.old.room.numbers.items) →
+            IsPassed (reading_as version may)
+            form.now self.old.own self.old.blocks text pass self.new.own self.new.blocks) }
         ensures sound { OnOk result (AreSound form.now self.new.own self.new.refuted) }
         ensures counted { OnOk result (self.new.blocks ≤ self.old.blocks + 1) }
         ensures grown { OnOk result (length self.new.own ≤ length self.old.own + 1) }
@@ -219,8 +224,9 @@ impl Checker {
     fn block(&mut self, form: &Form, may: bool) -> Result<Pass, OutOfMemory>
         requires sound { AreSound form.now self.old.own self.old.refuted }
         requires few { self.old.blocks ≤ most_log_bytes }
-        ensures passed { IfOk result (λ pass. (version : _) (text : List ℕ) → IsSpelled version text (lines.Block self.old.room.numbers.items) →
-            IsPassed (reading_as version may) form.now self.old.own self.old.blocks text pass self.new.own self.new.blocks) }
+        ensures passed { IfOk result (λ pass. (version : _) (text : List ℕ) → IsSpelled version text
+            (lines.Block self.old.room.numbers.items) → IsPassed (reading_as version may)
+            form.now self.old.own self.old.blocks text pass self.new.own self.new.blocks) }
         ensures sound { OnOk result (AreSound form.now self.new.own self.new.refuted) }
         ensures counted { OnOk result (self.new.blocks ≤ self.old.blocks + 1) }
         ensures grown { OnOk result (length self.new.own ≤ length self.old.own + 1) }
@@ -243,8 +249,9 @@ impl Checker {
     // The end of the section. The word says that a clause is empty, where one is.
     fn end(&self, form: &Form, word: EndWord) -> Pass
         requires sound { AreSound form.now self.now.own self.now.refuted }
-        ensures { (version : _) (may : Bool) (text : List ℕ) → IsSpelled version text (lines.End word) →
-            IsPassed (reading_as version may) form.now self.now.own self.now.blocks text result self.now.own self.now.blocks }
+        ensures { (version : _) (may : Bool) (text : List ℕ) →
+            IsSpelled version text (lines.End word) → IsPassed (reading_as version may)
+            form.now self.now.own self.now.blocks text result self.now.own self.now.blocks }
     {
         let _ = form;
         if self.refuted == says_empty(word) {
@@ -265,9 +272,10 @@ impl Checker {
         requires sound { AreSound form.now self.old.own self.old.refuted }
         requires few { self.old.blocks ≤ most_log_bytes }
         requires own { length self.old.own ≤ most_log_bytes }
-        ensures passed { IfOk result (λ pass. (text : List ℕ) →
-            MatchOption kind (HasNoForm version text) (IsReadIn version text self.old.room.literals.items self.old.room.numbers.items) →
-            IsPassed (reading_as version may) form.now self.old.own self.old.blocks text pass self.new.own self.new.blocks) }
+        ensures passed { IfOk result (λ pass. (text : List ℕ) → MatchOption kind
+            (HasNoForm version text) (IsReadIn version text self.old.room.literals.items
+            self.old.room.numbers.items) → IsPassed (reading_as version may)
+            form.now self.old.own self.old.blocks text pass self.new.own self.new.blocks) }
         ensures sound { OnOk result (AreSound form.now self.new.own self.new.refuted) }
         ensures counted { OnOk result (self.new.blocks ≤ self.old.blocks + 1) }
         ensures grown { OnOk result (length self.new.own ≤ length self.old.own + 1) }
@@ -293,8 +301,9 @@ impl Checker {
         requires sound { AreSound form.now self.old.own self.old.refuted }
         requires few { self.old.blocks ≤ most_log_bytes }
         requires own { length self.old.own ≤ most_log_bytes }
-        ensures passed { IfOk result (λ passed. IsPassedAt (reading_as version may) form.now self.old.own self.old.blocks bytes.now
-            passed.0 passed.1.now self.new.own self.new.blocks) }
+        ensures passed { IfOk result (λ passed.
+            IsPassedAt (reading_as version may) form.now self.old.own
+            self.old.blocks bytes.now passed.0 passed.1.now self.new.own self.new.blocks) }
         ensures sound { OnOk result (AreSound form.now self.new.own self.new.refuted) }
         ensures counted { OnOk result (self.new.blocks ≤ self.old.blocks + 1) }
         ensures grown { OnOk result (length self.new.own ≤ length self.old.own + 1) }
@@ -313,7 +322,8 @@ impl Checker {
         rest: &[u8],
     ) -> Result<Finding, OutOfMemory>
         requires { line ≤ 4000000000 }
-        ensures ended { IfOk result (λ finding. IsEndedInBytes version word self.old.blocks line rest.now (plain_finding finding)) }
+        ensures ended { IfOk result (λ finding.
+            IsEndedInBytes version word self.old.blocks line rest.now (plain_finding finding)) }
         ensures few { IfOk result (λ finding. HasLineBehind finding) }
     {
         if rest.is_empty() {
@@ -350,7 +360,8 @@ pub(crate) fn find_lines(
 ) -> Result<Finding, OutOfMemory>
     requires few { length bytes.now ≤ most_log_bytes }
     requires line { first ≤ most_log_bytes + 2 }
-    ensures found { IfOk result (λ finding. IsFoundInBytes (reading_as version may) form.now first bytes.now (plain_finding finding)) }
+    ensures found { IfOk result (λ finding.
+        IsFoundInBytes (reading_as version may) form.now first bytes.now (plain_finding finding)) }
     ensures few { IfOk result (λ finding. HasLineBehind finding) }
 {
     let mut checker = Checker::new(alloc, form);
@@ -379,7 +390,8 @@ fn found_in(
     may: bool,
     section: &Section<'_>,
 ) -> Result<Finding, OutOfMemory>
-    ensures found { IfOk result (λ finding. IsFoundOf may form.now section.now (plain_finding finding)) }
+    ensures found { IfOk result (λ finding.
+        IsFoundOf may form.now section.now (plain_finding finding)) }
     ensures few { IfOk result (λ finding. HasLineBehind finding) }
 {
     let (line, bytes) = section.lines();
@@ -400,7 +412,8 @@ pub fn find_silent(
     form: &Form,
     section: &Section<'_>,
 ) -> Result<Finding, OutOfMemory>
-    ensures found { IfOk result (λ finding. IsFoundOf false form.now section.now (plain_finding finding)) }
+    ensures found { IfOk result (λ finding.
+        IsFoundOf false form.now section.now (plain_finding finding)) }
     ensures few { IfOk result (λ finding. HasLineBehind finding) }
 {
     found_in(alloc, form, false, section)
@@ -432,7 +445,8 @@ fn verdict_of(finding: Finding) -> Verdict
 /// Checks a section over the clauses of a form, those of its horizon and its search: each line is right, and the last one ends the
 /// section; or the first that is not. Whether the log may go on behind such an end is not looked at.
 pub fn check(alloc: Global, form: &Form, section: &Section<'_>) -> Result<Verdict, OutOfMemory>
-    ensures { IfOk result (λ verdict. (finding : PlainFinding) × IsFoundOf true form.now section.now finding × IsVerdictOf finding verdict) }
+    ensures { IfOk result (λ verdict. (finding : PlainFinding)
+        × IsFoundOf true form.now section.now finding × IsVerdictOf finding verdict) }
 {
     Ok(verdict_of(found_in(alloc, form, true, section)?))
 }
@@ -443,7 +457,8 @@ pub fn check_silent(
     form: &Form,
     section: &Section<'_>,
 ) -> Result<Verdict, OutOfMemory>
-    ensures { IfOk result (λ verdict. (finding : PlainFinding) × IsFoundOf false form.now section.now finding × IsVerdictOf finding verdict) }
+    ensures { IfOk result (λ verdict. (finding : PlainFinding)
+        × IsFoundOf false form.now section.now finding × IsVerdictOf finding verdict) }
 {
     Ok(verdict_of(found_in(alloc, form, false, section)?))
 }

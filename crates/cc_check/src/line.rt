@@ -56,7 +56,8 @@ fn is_line_feed(text: &[u8]) -> bool
 
 // Reads numbers up to the line feed, whether they are there or not.
 fn read_numbers(text: &[u8], numbers: &mut Vec<u32>) -> Result<bool, OutOfMemory>
-    ensures { IfOk result (λ read. MatchBool read (AreNumbers text.now numbers.new.items) (HasNoNumbers text.now)) }
+    ensures { IfOk result (λ read.
+        MatchBool read (AreNumbers text.now numbers.new.items) (HasNoNumbers text.now)) }
 {
     numbers.clear();
     let mut rest = text;
@@ -78,7 +79,8 @@ fn read_literals<'b>(
     text: &'b [u8],
     literals: &mut Vec<Named>,
 ) -> Result<Option<&'b [u8]>, OutOfMemory>
-    ensures { IfOk result (λ rest. MatchOption rest (HasNoLiterals text.now) (λ rest. AreLiterals text.now literals.new.items rest.now)) }
+    ensures { IfOk result (λ rest. MatchOption rest (HasNoLiterals text.now) (λ rest.
+        AreLiterals text.now literals.new.items rest.now)) }
 {
     literals.clear();
     let mut rest = text;
@@ -100,7 +102,8 @@ fn read_literals<'b>(
 
 // Takes away the 0 that ends a chain, and says whether what is left is one.
 fn take_end(numbers: &mut Vec<u32>) -> bool
-    ensures { MatchBool result (IsEndedChain numbers.old.items numbers.new.items) ((chain : List ℕ) → IsEndedChain numbers.old.items chain → ⊥) }
+    ensures { MatchBool result (IsEndedChain numbers.old.items numbers.new.items)
+        ((chain : List ℕ) → IsEndedChain numbers.old.items chain → ⊥) }
 {
     match numbers.pop() {
         Some(0) => numbers.len() % 2 == 1,
@@ -110,7 +113,8 @@ fn take_end(numbers: &mut Vec<u32>) -> bool
 
 // Reads what stands behind the letter of a derived line.
 fn read_derived(body: &[u8], room: &mut Room) -> Result<Option<Kind>, OutOfMemory>
-    ensures { IfOk result (λ kind. MatchOption kind (HasNoForm First (100 ∷ body.now)) (IsRead (100 ∷ body.now) room.new.literals.items room.new.numbers.items)) }
+    ensures { IfOk result (λ kind. MatchOption kind (HasNoForm First (100 ∷ body.now))
+        (IsRead (100 ∷ body.now) room.new.literals.items room.new.numbers.items)) }
 {
     let Some(tail) = read_literals(body, &mut room.literals)? else {
         return Ok(None);
@@ -126,7 +130,8 @@ fn read_derived(body: &[u8], room: &mut Room) -> Result<Option<Kind>, OutOfMemor
 
 // Reads what stands behind the letter of a block.
 fn read_block(body: &[u8], room: &mut Room) -> Result<Option<Kind>, OutOfMemory>
-    ensures { IfOk result (λ kind. MatchOption kind (HasNoForm First (98 ∷ body.now)) (IsRead (98 ∷ body.now) room.new.literals.items room.new.numbers.items)) }
+    ensures { IfOk result (λ kind. MatchOption kind (HasNoForm First (98 ∷ body.now))
+        (IsRead (98 ∷ body.now) room.new.literals.items room.new.numbers.items)) }
 {
     if !read_numbers(body, &mut room.numbers)? {
         return Ok(None);
@@ -162,7 +167,8 @@ fn last_number(text: &[u8]) -> Option<u32>
 
 /// What a line, its line feed included, says as a heading. Nothing: it is none.
 pub fn heading_of(text: &[u8]) -> Option<Heading>
-    ensures { MatchOption result (IsNoHeading First text.now) (λ heading. IsLine text.now (lines.Section heading.conditions heading.horizon)) }
+    ensures { MatchOption result (IsNoHeading First text.now) (λ heading.
+        IsLine text.now (lines.Section heading.conditions heading.horizon)) }
 {
     let [letter, space, behind @ ..] = text else {
         return None;
@@ -184,7 +190,8 @@ pub fn heading_of(text: &[u8]) -> Option<Heading>
 /// Reads a line, its line feed included: what it is, and its literals and numbers into the room, in the place of what is there.
 /// Nothing: it is no line of a log. A line's variables may be past those that a `LogLine` can hold.
 pub fn read_line(text: &[u8], room: &mut Room) -> Result<Option<Kind>, OutOfMemory>
-    ensures { IfOk result (λ kind. MatchOption kind (HasNoForm First text.now) (IsRead text.now room.new.literals.items room.new.numbers.items)) }
+    ensures { IfOk result (λ kind. MatchOption kind (HasNoForm First text.now)
+        (IsRead text.now room.new.literals.items room.new.numbers.items)) }
 {
     let [letter, body @ ..] = text else {
         return Ok(None);
@@ -200,7 +207,8 @@ pub fn read_line(text: &[u8], room: &mut Room) -> Result<Option<Kind>, OutOfMemo
 
 // A line that is neither a derived one nor a block.
 fn other_of(text: &[u8]) -> Option<Kind>
-    ensures { MatchOption result (IsNoHeading First text.now × IsNoEnd text.now) (λ kind. (literals : List Literal) (numbers : List ℕ) → IsRead text.now literals numbers kind) }
+    ensures { MatchOption result (IsNoHeading First text.now × IsNoEnd text.now) (λ kind.
+        (literals : List Literal) (numbers : List ℕ) → IsRead text.now literals numbers kind) }
 {
     match end_of(text) {
         Some(word) => Some(Kind::End(word)),

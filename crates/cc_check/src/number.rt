@@ -19,7 +19,8 @@ impl Model for Named {
 
     ghost view = { λ named. record { variable = named.variable; positive = named.positive } };
 
-    ghost inverse = { λ literal. record { variable = literal.variable; positive = literal.positive } };
+    ghost inverse = { λ literal.
+        record { variable = literal.variable; positive = literal.positive } };
 }
 
 impl Named {
@@ -39,7 +40,8 @@ impl Named {
 /// The number of at most nine digits, with no zero before another digit, that a text begins with, and what stands
 /// behind it.
 pub fn number_at(bytes: &[u8]) -> Option<(u32, &[u8])>
-    ensures { MatchOption result (HasNoNumber bytes.now) (λ read. IsNumberAt bytes.now read.0 read.1.now) }
+    ensures { MatchOption result
+        (HasNoNumber bytes.now) (λ read. IsNumberAt bytes.now read.0 read.1.now) }
 {
     let [first, behind @ ..] = bytes else {
         return None;
@@ -65,7 +67,8 @@ pub fn number_at(bytes: &[u8]) -> Option<(u32, &[u8])>
 /// The literal that a text begins with, or the number 0 as one that is positive: its variable and whether it is positive,
 /// and what stands behind it.
 pub(crate) fn signed_at(bytes: &[u8]) -> Option<(u32, bool, &[u8])>
-    ensures { MatchOption result (HasNoSigned bytes.now) (λ read. IsSignedAt bytes.now (record { variable = read.0; positive = read.1 }) read.2.now) }
+    ensures { MatchOption result (HasNoSigned bytes.now) (λ read.
+        IsSignedAt bytes.now (record { variable = read.0; positive = read.1 }) read.2.now) }
 {
     let [first, behind @ ..] = bytes else {
         return None;
@@ -81,7 +84,9 @@ pub(crate) fn signed_at(bytes: &[u8]) -> Option<(u32, bool, &[u8])>
 
 // The negative literal whose variable a text begins with.
 fn negative_at(bytes: &[u8]) -> Option<(u32, bool, &[u8])>
-    ensures { MatchOption result ((number : ℕ) (rest : List ℕ) → 0 < number → IsNumberAt bytes.now number rest → ⊥) (λ read. (read.1 ≡ false) × (0 < read.0) × IsNumberAt bytes.now read.0 read.2.now) }
+    ensures { MatchOption result ((number : ℕ) (rest : List ℕ) →
+        0 < number → IsNumberAt bytes.now number rest →
+        ⊥) (λ read. (read.1 ≡ false) × (0 < read.0) × IsNumberAt bytes.now read.0 read.2.now) }
 {
     let (variable, rest) = number_at(bytes)?;
     if variable == 0 {

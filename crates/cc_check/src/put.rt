@@ -20,7 +20,8 @@ pub fn put_line(alloc: Global, line: &LogLine) -> Result<Text, OutOfMemory>
 
 // Writes the parts of a line, with a space between each two.
 fn push_parts(text: &mut String, line: &LogLine) -> Result<(), OutOfMemory>
-    ensures { OnOk result (string_bytes text.new ≡ string_bytes text.old ++ join_with_byte 32 (line_parts line.now)) }
+    ensures { OnOk result
+        (string_bytes text.new ≡ string_bytes text.old ++ join_with_byte 32 (line_parts line.now)) }
 {
     match line {
         LogLine::Section {
@@ -39,14 +40,17 @@ fn push_parts(text: &mut String, line: &LogLine) -> Result<(), OutOfMemory>
 
 // Writes a letter, and a space and a number for each of the numbers.
 fn push_after(text: &mut String, letter: &str, numbers: &[u32]) -> Result<(), OutOfMemory>
-    ensures { OnOk result (string_bytes text.new ≡ string_bytes text.old ++ (letter.now ++ flat_map (λ number. 32 ∷ decimal number) numbers.now)) }
+    ensures { OnOk result (string_bytes text.new ≡ string_bytes text.old
+        ++ (letter.now ++ flat_map (λ number. 32 ∷ decimal number) numbers.now)) }
 {
     text.push_str(letter)?;
     push_numbers(text, numbers)
 }
 
 fn push_derived(text: &mut String, clause: &[Lit], chain: &[u32]) -> Result<(), OutOfMemory>
-    ensures { OnOk result (string_bytes text.new ≡ string_bytes text.old ++ (codes "d" ++ (flat_map (λ literal. 32 ∷ literal_text literal) clause.now ++ (codes " 0" ++ (flat_map (λ number. 32 ∷ decimal number) chain.now ++ codes " 0"))))) }
+    ensures { OnOk result (string_bytes text.new ≡ string_bytes text.old
+        ++ (codes "d" ++ (flat_map (λ literal. 32 ∷ literal_text literal) clause.now
+        ++ (codes " 0" ++ (flat_map (λ number. 32 ∷ decimal number) chain.now ++ codes " 0"))))) }
 {
     text.push_str("d")?;
     push_literals(text, clause)?;
@@ -57,7 +61,8 @@ fn push_derived(text: &mut String, clause: &[Lit], chain: &[u32]) -> Result<(), 
 }
 
 fn push_end(text: &mut String, word: EndWord) -> Result<(), OutOfMemory>
-    ensures { OnOk result (string_bytes text.new ≡ string_bytes text.old ++ codes "e " ++ end_word_text word) }
+    ensures { OnOk result
+        (string_bytes text.new ≡ string_bytes text.old ++ codes "e " ++ end_word_text word) }
 {
     text.push_str("e ")?;
     text.push_str(text_of(word))?;
@@ -76,7 +81,8 @@ fn text_of(word: EndWord) -> &'static str
 
 // Writes a space and a number, for each of the numbers.
 fn push_numbers(text: &mut String, numbers: &[u32]) -> Result<(), OutOfMemory>
-    ensures { OnOk result (string_bytes text.new ≡ string_bytes text.old ++ flat_map (λ number. 32 ∷ decimal number) numbers.now) }
+    ensures { OnOk result (string_bytes text.new
+        ≡ string_bytes text.old ++ flat_map (λ number. 32 ∷ decimal number) numbers.now) }
 {
     for number in numbers {
         text.push_str(" ")?;
@@ -96,7 +102,8 @@ fn push_number(text: &mut String, number: u32) -> Result<(), OutOfMemory>
 
 // Writes a space and a literal, for each of the literals.
 fn push_literals(text: &mut String, literals: &[Lit]) -> Result<(), OutOfMemory>
-    ensures { OnOk result (string_bytes text.new ≡ string_bytes text.old ++ flat_map (λ literal. 32 ∷ literal_text literal) literals.now) }
+    ensures { OnOk result (string_bytes text.new
+        ≡ string_bytes text.old ++ flat_map (λ literal. 32 ∷ literal_text literal) literals.now) }
 {
     for literal in literals {
         push_literal(text, *literal)?;
@@ -105,7 +112,8 @@ fn push_literals(text: &mut String, literals: &[Lit]) -> Result<(), OutOfMemory>
 }
 
 fn push_literal(text: &mut String, literal: Lit) -> Result<(), OutOfMemory>
-    ensures { OnOk result (string_bytes text.new ≡ string_bytes text.old ++ 32 ∷ literal_text literal) }
+    ensures { OnOk result
+        (string_bytes text.new ≡ string_bytes text.old ++ 32 ∷ literal_text literal) }
 {
     let sign = if literal.is_positive() { " " } else { " -" };
     text.push_str(sign)?;

@@ -76,7 +76,13 @@ impl<'b> Section<'b> {
     ) -> Section<'b>
         requires few { length bytes.now ≤ most_log_bytes }
         requires line { line ≤ most_log_bytes + 1 }
-        ensures { result ≡ record { version = version; conditions = conditions; horizon = horizon; line = line; bytes = bytes.entry.now } }
+        ensures { result ≡ record {
+          version = version;
+          conditions = conditions;
+          horizon = horizon;
+          line = line;
+          bytes = bytes.entry.now;
+        } }
     {
         Section {
             version,
@@ -191,7 +197,8 @@ fn inside_of<'b>(
     room: &mut Room,
 ) -> Result<Inside<'b>, OutOfMemory>
     requires { length all.now ≤ most_log_bytes }
-    ensures { IfOk result (λ inside. IsInside version all.now inside.bytes.now inside.count inside.next) }
+    ensures { IfOk result (λ inside.
+        IsInside version all.now inside.bytes.now inside.count inside.next) }
 {
     let mut rest = all;
     let mut count = 0;
@@ -222,7 +229,8 @@ fn parts_of<'b>(
     room: &mut Room,
 ) -> Result<Vec<Part<'b>>, OutOfMemory>
     requires { length behind.now ≤ 268435448 }
-    ensures sections { IfOk result (λ parts. (text : List ℕ) → IsSpelled version text (lines.Section first.conditions first.horizon) →
+    ensures sections { IfOk result (λ parts. (text : List ℕ) →
+        IsSpelled version text (lines.Section first.conditions first.horizon) →
         AreSectionsFrom version text behind.now (parts_view parts.items)) }
     ensures parts { IfOk result (λ parts. AllByRecursion IsPart parts.items) }
 {
@@ -278,7 +286,8 @@ fn read_behind<'b>(
     body: &'b [u8],
 ) -> Result<Vec<Part<'b>>, CheckFault>
     requires { length body.now ≤ 268435448 }
-    ensures read { IfOk result (λ parts. AreSectionsBehind version body.now (parts_view parts.items)) }
+    ensures read { IfOk result (λ parts.
+        AreSectionsBehind version body.now (parts_view parts.items)) }
     ensures parts { IfOk result (λ parts. AllByRecursion IsPart parts.items) }
     ensures refused { IfErr result (IsRefusalBehind version body.now) }
 {

@@ -37,20 +37,25 @@ pub trait Silent {
 
     /// What the text of a line, with its line feed, says as a heading.
     fn read(&self, text: &[u8]) -> Option<Self::Heading>
-        ensures { (of : Of) → Is self.now of → MatchOption result (IsUnread (subject of) text.now) ((subject of).Reads text.now) };
+        ensures { (of : Of) → Is self.now of →
+            MatchOption result (IsUnread (subject of) text.now) ((subject of).Reads text.now) };
 
     /// Whether a log may have a section under this heading.
     fn is_right(&self, heading: &Self::Heading) -> bool
-        ensures right { (of : Of) → Is self.now of → IsTrue result ↔ (subject of).Right heading.now }
+        ensures right { (of : Of) →
+            Is self.now of → IsTrue result ↔ (subject of).Right heading.now }
         ensures can { IsTrue result → can_form self.now heading.now };
 
     /// The axioms of the section under a right heading. Refuses exactly the limit that they pass.
     fn form(&self, alloc: Global, heading: &Self::Heading) -> Result<Form, Fault>
         requires can { can_form self.now heading.now }
         requires right { (of : Of) → Is self.now of → (subject of).Right heading.now }
-        ensures made { (of : Of) → Is self.now of → IfOk result (λ form. form ≡ (subject of).axioms heading.now) }
-        ensures within { (of : Of) → Is self.now of → OnOk result ((subject of).limit heading.now ≡ None) }
-        ensures refused { (of : Of) → Is self.now of → IfErr result (IsRefusedBy ((subject of).limit heading.now)) };
+        ensures made { (of : Of) →
+            Is self.now of → IfOk result (λ form. form ≡ (subject of).axioms heading.now) }
+        ensures within { (of : Of) →
+            Is self.now of → OnOk result ((subject of).limit heading.now ≡ None) }
+        ensures refused { (of : Of) →
+            Is self.now of → IfErr result (IsRefusedBy ((subject of).limit heading.now)) };
 }
 
 /// What a checker says of a log of silent sections.
@@ -91,7 +96,8 @@ fn is_header<S: Silent>(kind: &S, text: &[u8]) -> bool
 
 // Whether a text is that of a heading.
 fn is_read<S: Silent>(kind: &S, text: &[u8]) -> bool
-    ensures { (of : S.Of) → S.Is kind.now of → MatchBool result ((heading : S.Heading) × (S.subject of).Reads text.now heading) (IsUnread (S.subject of) text.now) }
+    ensures { (of : S.Of) → S.Is kind.now of → MatchBool result ((heading : S.Heading)
+        × (S.subject of).Reads text.now heading) (IsUnread (S.subject of) text.now) }
 {
     match kind.read(text) {
         Some(_) => true,
@@ -102,7 +108,8 @@ fn is_read<S: Silent>(kind: &S, text: &[u8]) -> bool
 // The lines up to the next heading.
 fn inside_of<'b, S: Silent>(kind: &S, all: &'b [u8]) -> SilentInside<'b>
     requires { length all.now ≤ most_log_bytes }
-    ensures inside { (of : S.Of) → S.Is kind.now of → IsSilentInside (S.subject of) all.now result.bytes.now result.count result.rest.now }
+    ensures inside { (of : S.Of) → S.Is kind.now of →
+        IsSilentInside (S.subject of) all.now result.bytes.now result.count result.rest.now }
     ensures few { length result.bytes.now ≤ length all.now }
     ensures fewer { result.count + length result.rest.now ≤ length all.now }
 {
@@ -156,9 +163,11 @@ fn pass_section<'b, S: Silent>(
 ) -> Result<Passed<'b>, Fault>
     requires few { length behind.now ≤ most_log_bytes }
     requires line { line ≤ most_log_bytes + 1 }
-    ensures passed { (of : S.Of) → S.Is kind.now of → IfOk result (IsPassedFrom (S.subject of) line (text.now ∷ lines_in behind.now)) }
+    ensures passed { (of : S.Of) → S.Is kind.now of →
+        IfOk result (IsPassedFrom (S.subject of) line (text.now ∷ lines_in behind.now)) }
     ensures shorter { IfOk result (IsShorter (length behind.now)) }
-    ensures refused { (of : S.Of) → S.Is kind.now of → IfErr result (IsPassFault (S.subject of) line (text.now ∷ lines_in behind.now)) }
+    ensures refused { (of : S.Of) → S.Is kind.now of →
+        IfErr result (IsPassFault (S.subject of) line (text.now ∷ lines_in behind.now)) }
 {
     let Some(heading) = kind.read(text) else {
         let cause = second_cause(alloc, text)?;
@@ -182,8 +191,10 @@ fn pass_section<'b, S: Silent>(
 // The verdict of the sections behind the header.
 fn judge_behind<S: Silent>(alloc: Global, kind: &S, body: &[u8]) -> Result<SilentVerdict, Fault>
     requires { length body.now ≤ most_log_bytes }
-    ensures within { (of : S.Of) → S.Is kind.now of → IfOk result (IsSilentVerdictBehind (S.subject of) (PassesNoLimit (S.subject of)) (lines_in body.now)) }
-    ensures refused { (of : S.Of) → S.Is kind.now of → IfErr result (IsBehindFault (S.subject of) (lines_in body.now)) }
+    ensures within { (of : S.Of) → S.Is kind.now of → IfOk result
+        (IsSilentVerdictBehind (S.subject of) (PassesNoLimit (S.subject of)) (lines_in body.now)) }
+    ensures refused { (of : S.Of) →
+        S.Is kind.now of → IfErr result (IsBehindFault (S.subject of) (lines_in body.now)) }
 {
     let mut rest = body;
     let mut line = 2;
@@ -214,10 +225,13 @@ pub fn judge_silent<S: Silent>(
     bytes: &[u8],
 ) -> Result<SilentVerdict, Fault>
     requires { length bytes.now ≤ most_log_bytes }
-    ensures verdict { (of : S.Of) → S.Is kind.now of → IfOk result (IsSilentVerdict (S.subject of) bytes.now) }
+    ensures verdict { (of : S.Of) →
+        S.Is kind.now of → IfOk result (IsSilentVerdict (S.subject of) bytes.now) }
     // No section that is looked at for it passes a limit.
-    ensures within { (of : S.Of) → S.Is kind.now of → IfOk result (IsSilentVerdictWithin (S.subject of) bytes.now) }
-    ensures refused { (of : S.Of) → S.Is kind.now of → IfErr result (IsSilentFault (S.subject of) bytes.now) }
+    ensures within { (of : S.Of) →
+        S.Is kind.now of → IfOk result (IsSilentVerdictWithin (S.subject of) bytes.now) }
+    ensures refused { (of : S.Of) →
+        S.Is kind.now of → IfErr result (IsSilentFault (S.subject of) bytes.now) }
 {
     if bytes.is_empty() {
         return Ok(refused(1, Cause::Header));

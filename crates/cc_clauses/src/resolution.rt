@@ -67,7 +67,8 @@ fn higher_part(clause: &[Lit], pivot: u32) -> &[Lit]
 fn around<'a>(clause: &'a [Lit], literal: Lit) -> (&'a [Lit], &'a [Lit])
     requires { IsClause clause.now }
     ensures clause { IsClause result.1.now }
-    ensures merged { (others : List Literal) → merge (literal ∷ others) clause.now ≡ result.0.now ++ literal ∷ merge others result.1.now }
+    ensures merged { (others : List Literal) →
+        merge (literal ∷ others) clause.now ≡ result.0.now ++ literal ∷ merge others result.1.now }
 {
     match clause.binary_search(&literal) {
         Ok(place) => (&clause[..place], &clause[place + 1..]),
@@ -83,7 +84,8 @@ fn write_through<'a>(
 ) -> Result<&'a [Lit], OutOfMemory>
     requires { IsClause clause.now }
     ensures clause { IfOk result (λ rest. IsClause rest.now) }
-    ensures written { IfOk result (λ rest. (others : List Literal) → out.new.items ++ merge others rest.now ≡ out.old.items ++ merge (literal ∷ others) clause.now) }
+    ensures written { IfOk result (λ rest. (others : List Literal) → out.new.items
+        ++ merge others rest.now ≡ out.old.items ++ merge (literal ∷ others) clause.now) }
 {
     let (before, behind) = around(clause, literal);
     out.extend_from_slice(before)?;

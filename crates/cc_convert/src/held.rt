@@ -48,8 +48,8 @@ fn name_distances(own: u32, chain: &mut Vec<u32>)
 
 // Names the clauses of a chain by their numbers, where the version of the log has distances from the own number.
 fn name_clauses(version: Version, own: u32, chain: &mut Vec<u32>)
-    ensures { (clause : List Literal) →
-        lines.Derived clause chain.new.items ≡ line_meant version own (lines.Derived clause chain.old.items) }
+    ensures { (clause : List Literal) → lines.Derived clause chain.new.items
+        ≡ line_meant version own (lines.Derived clause chain.old.items) }
 {
     match version {
         Version::First => {}
@@ -66,7 +66,8 @@ fn derived_line(
     numbers: Vec<u32>,
 ) -> Result<LogLine, OutOfMemory>
     requires { IsOver most_variables literals.now }
-    ensures { IfOk result (λ line. line ≡ line_meant version own (lines.Derived literals.now numbers.items)) }
+    ensures { IfOk result (λ line.
+        line ≡ line_meant version own (lines.Derived literals.now numbers.items)) }
 {
     let clause = lits_of(alloc, literals)?;
     let mut chain = numbers;

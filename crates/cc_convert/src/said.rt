@@ -18,7 +18,8 @@ const BINARY_HEADER: &[u8] = b"ccalclg2";
 
 /// The version of a log, by its first eight bytes.
 pub fn version_of(bytes: &[u8]) -> Version
-    ensures { (version : Written) (rest : List ℕ) → bytes.now ≡ header_of version ++ rest → result ≡ version }
+    ensures { (version : Written) (rest : List ℕ) →
+        bytes.now ≡ header_of version ++ rest → result ≡ version }
 {
     match bytes.strip_prefix(BINARY_HEADER) {
         Some(_) => Version::Second,
@@ -49,7 +50,8 @@ fn section_of(heading: Heading) -> LogLine
 // The line that a text of version 1 is, its line feed included.
 fn text_line(alloc: Global, text: &[u8]) -> Result<LogLine, OutOfMemory>
     requires { (line : Line) × IsLine text.now line × IsOverMost line }
-    ensures { (line : Line) → IsLine text.now line → IsOverMost line → IfOk result (λ found. found ≡ line) }
+    ensures { (line : Line) →
+        IsLine text.now line → IsOverMost line → IfOk result (λ found. found ≡ line) }
 {
     if let Some(heading) = heading_of(text) {
         return Ok(section_of(heading));
@@ -63,9 +65,10 @@ fn text_line(alloc: Global, text: &[u8]) -> Result<LogLine, OutOfMemory>
 
 // The first line of bytes of version 1, and what stands behind it.
 fn said_text<'b>(alloc: Global, bytes: &'b [u8]) -> Result<(LogLine, &'b [u8]), OutOfMemory>
-    requires { (line : Line) × (rest : List ℕ) × IsFormed line × IsOverMost line × (bytes.now ≡ line_text line ++ rest) }
-    ensures { (line : Line) (rest : List ℕ) → IsFormed line → IsOverMost line → bytes.now ≡ line_text line ++ rest →
-        IfOk result (λ found. (found.0 ≡ line) × (found.1.now ≡ rest)) }
+    requires { (line : Line)
+        × (rest : List ℕ) × IsFormed line × IsOverMost line × (bytes.now ≡ line_text line ++ rest) }
+    ensures { (line : Line) (rest : List ℕ) → IsFormed line → IsOverMost line → bytes.now
+        ≡ line_text line ++ rest → IfOk result (λ found. (found.0 ≡ line) × (found.1.now ≡ rest)) }
 {
     let (text, rest) = first_line(bytes);
     let line = text_line(alloc, text)?;
@@ -78,8 +81,10 @@ fn said_entry<'b>(
     own: u32,
     bytes: &'b [u8],
 ) -> Result<(LogLine, &'b [u8]), OutOfMemory>
-    requires { (line : Line) × (rest : List ℕ) × IsSayableAt own line × (bytes.now ≡ entry_bytes (line_behind own line) ++ rest) }
-    ensures { (line : Line) (rest : List ℕ) → IsSayableAt own line → bytes.now ≡ entry_bytes (line_behind own line) ++ rest →
+    requires { (line : Line) × (rest : List ℕ)
+        × IsSayableAt own line × (bytes.now ≡ entry_bytes (line_behind own line) ++ rest) }
+    ensures { (line : Line) (rest : List ℕ) →
+        IsSayableAt own line → bytes.now ≡ entry_bytes (line_behind own line) ++ rest →
         IfOk result (λ found. (found.0 ≡ line) × (found.1.now ≡ rest)) }
 {
     if let Some((heading, rest)) = heading_in(bytes) {
@@ -102,9 +107,10 @@ pub fn said_line<'b>(
     own: u32,
     bytes: &'b [u8],
 ) -> Result<(LogLine, &'b [u8]), OutOfMemory>
-    requires { (line : Line) × (rest : List ℕ) × IsSayableAt own line × (bytes.now ≡ line_bytes version own line ++ rest) }
-    ensures { (line : Line) (rest : List ℕ) → IsSayableAt own line → bytes.now ≡ line_bytes version own line ++ rest →
-        IfOk result (λ found. (found.0 ≡ line) × (found.1.now ≡ rest)) }
+    requires { (line : Line) × (rest : List ℕ)
+        × IsSayableAt own line × (bytes.now ≡ line_bytes version own line ++ rest) }
+    ensures { (line : Line) (rest : List ℕ) → IsSayableAt own line → bytes.now ≡ line_bytes
+        version own line ++ rest → IfOk result (λ found. (found.0 ≡ line) × (found.1.now ≡ rest)) }
 {
     match version {
         Version::First => said_text(alloc, bytes),

@@ -29,17 +29,28 @@ impl Model for Sig {
 
     ghost Value = { Signature };
 
-    ghost view = { λ sig. record { fluents = sig.fluents.items; actions = sig.actions.items; numbers = sig.numbers.items } };
+    ghost view = { λ sig. record {
+      fluents = sig.fluents.items;
+      actions = sig.actions.items;
+      numbers = sig.numbers.items;
+    } };
 
-    ghost invariant = { λ sig. IsSignature (record { fluents = sig.fluents.items; actions = sig.actions.items; numbers = sig.numbers.items })
-        × (sig.fluents_ordered ≡ true → AreOrdered sig.fluents.items) × (sig.actions_ordered ≡ true → AreOrdered sig.actions.items) };
+    ghost invariant = { λ sig.
+        IsSignature (record {
+          fluents = sig.fluents.items;
+          actions = sig.actions.items;
+          numbers = sig.numbers.items;
+        }) × (sig.fluents_ordered ≡ true → AreOrdered sig.fluents.items)
+        × (sig.actions_ordered ≡ true → AreOrdered sig.actions.items) };
 }
 
 impl Sig {
     /// The signature of these fluents and actions, and of objects that are these numbers. It takes no memory.
     pub fn of(fluents: Vec<Const>, actions: Vec<Const>, numbers: Vec<Option<u32>>) -> Sig
-        requires { IsSignature (record { fluents = fluents.items; actions = actions.items; numbers = numbers.items }) }
-        ensures { result ≡ record { fluents = fluents.items; actions = actions.items; numbers = numbers.items } }
+        requires { IsSignature
+            (record { fluents = fluents.items; actions = actions.items; numbers = numbers.items }) }
+        ensures { result
+            ≡ record { fluents = fluents.items; actions = actions.items; numbers = numbers.items } }
     {
         let fluents_ordered = are_ordered(&fluents);
         let actions_ordered = are_ordered(&actions);
@@ -102,7 +113,9 @@ impl Sig {
     /// How many values the ground constant at a position has.
     pub fn domain_size(&self, position: u64) -> u32
         requires { 0 < length (ground_constants self.now) }
-        ensures { option_map (λ constant. length constant.domain) (slice_get (ground_constants self.now) (position % length (ground_constants self.now))) ≡ Some result }
+        ensures { option_map (λ constant. length constant.domain)
+            (slice_get (ground_constants self.now) (position % length (ground_constants self.now)))
+            ≡ Some result }
     {
         let count = self.fluents.len() as u64 + self.actions.len() as u64;
         let constant = self.constant((position % count) as u32);

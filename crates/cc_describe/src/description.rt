@@ -47,22 +47,29 @@ pub enum DescribeStop {
 pub fn describe<D: Desk>(alloc: Global, desk: &mut D, name: &str) -> Result<Described, DescribeStop>
     // Where the desk tells its files, Ok is what they describe, and a refusal is exactly the first that they have; the files
     // that were opened are there.
-    ensures described { IfSome (D.told desk.old) (λ contents. IfOk result (Describes contents.files name.now)) }
-    ensures refused { IfSome (D.told desk.old) (λ contents. IfErr result (HasStopped contents.files name.now)) }
+    ensures described { IfSome (D.told desk.old) (λ contents.
+        IfOk result (Describes contents.files name.now)) }
+    ensures refused { IfSome (D.told desk.old) (λ contents.
+        IfErr result (HasStopped contents.files name.now)) }
     // Whatever it told, Ok is what some places say, and a refusal is the first of some places.
     ensures whole { IfOk result SaysAll }
     ensures stopped { IfErr result IsOfSome }
     ensures forms { IfOk result HasForms }
     ensures formulas { IfOk result AsksFormulas }
     // A fault is answered only where the desk counted one.
-    ensures failed { IsErrOf result DescribeStop.ReadFault → Rose (D.read_faults desk.old) (D.read_faults desk.new) }
-    ensures after { (rest : Items ℕ) × (D.told desk.new ≡ option_map (with_rest rest) (D.told desk.old)) }
+    ensures failed { IsErrOf result DescribeStop.ReadFault →
+        Rose (D.read_faults desk.old) (D.read_faults desk.new) }
+    ensures after { (rest : Items ℕ)
+        × (D.told desk.new ≡ option_map (with_rest rest) (D.told desk.old)) }
     ensures begun { D.begun desk.new ≡ D.begun desk.old }
     // The names that are opened are those of its files, in their order, and no others; no log is begun.
-    ensures calls { (more : Items Call) × (D.calls desk.new ≡ with_calls more (D.calls desk.old)) × (names_begun more ≡ []) ×
-        IfSome (D.told desk.old) (λ contents. OpensFor contents.files name.now result (names_opened more)) }
+    ensures calls { (more : Items Call) × (D.calls desk.new ≡ with_calls more (D.calls desk.old))
+        × (names_begun more ≡ []) × IfSome (D.told desk.old) (λ contents.
+        OpensFor contents.files name.now result (names_opened more)) }
     // Where no fault is answered, the desk counted none.
-    ensures calm { (IsErrOf result DescribeStop.ReadFault → ⊥) → (D.read_faults desk.new ≡ D.read_faults desk.old) × (D.write_faults desk.new ≡ D.write_faults desk.old) }
+    ensures calm { (IsErrOf result DescribeStop.ReadFault → ⊥) →
+        (D.read_faults desk.new ≡ D.read_faults desk.old)
+        × (D.write_faults desk.new ≡ D.write_faults desk.old) }
     ensures reads_count { D.read_faults desk.old ≤ D.read_faults desk.new }
     ensures writes_count { D.write_faults desk.old ≤ D.write_faults desk.new }
 {
@@ -115,9 +122,10 @@ fn stop_of(alloc: Global, names: &[Name], halt: Halt) -> DescribeStop
 
 /// What all statements say together.
 fn finish(alloc: Global, progress: Progress) -> Result<Described, DescribeStop>
-    ensures described { (places : Items Place) → IsProgress progress places →
-        IfOk result (λ described. (signature_refusal (declared_in places) ≡ None) × IsDescribed places described) }
-    ensures refused { (places : Items Place) → IsProgress progress places → IfErr result (IsRefusedWhole places) }
+    ensures described { (places : Items Place) → IsProgress progress places → IfOk result (λ
+        described. (signature_refusal (declared_in places) ≡ None) × IsDescribed places described) }
+    ensures refused { (places : Items Place) →
+        IsProgress progress places → IfErr result (IsRefusedWhole places) }
     ensures no_read_fault { IfErr result (λ stop. stop ≢ DescribeStop.ReadFault) }
 {
     let sig = match progress.table.signature(alloc) {

@@ -55,24 +55,35 @@ fn open<D: Desk>(
     progress: &mut Progress,
     name: &str,
 ) -> Result<(Bytes, u32), Halt>
-    ensures opened { (contents : Contents) (before : Items Place) → D.told desk.old ≡ Some contents → IsProgress progress.old before →
-        IfOk result (λ read. (read.0 ≡ content contents.files name.now) × IsOpened before name.now read.0 progress.new × (read.1 ≡ length (opened_in before))) }
-    ensures refused { (contents : Contents) (before : Items Place) → D.told desk.old ≡ Some contents → IsProgress progress.old before →
-        IfErr result (λ halt. IsRefusedOpening before name.now (content contents.files name.now) halt progress.new) }
+    ensures opened { (contents : Contents) (before : Items Place) →
+        D.told desk.old ≡ Some contents → IsProgress progress.old before →
+        IfOk result (λ read. (read.0 ≡ content contents.files name.now)
+        × IsOpened before name.now read.0 progress.new × (read.1 ≡ length (opened_in before))) }
+    ensures refused { (contents : Contents) (before : Items Place) →
+        D.told desk.old ≡ Some contents → IsProgress progress.old before → IfErr result (λ halt.
+        IsRefusedOpening before name.now (content contents.files name.now) halt progress.new) }
     // Whatever the desk told, some bytes were read.
-    ensures kept { (before : Items Place) → IsProgress progress.old before → IfOk result (λ read. IsOpened before name.now read.0 progress.new) }
-    ensures stopped { (before : Items Place) → IsProgress progress.old before →
-        IfErr result (λ halt. (bytes : Items ℕ) × IsRefusedOpening before name.now bytes halt progress.new) }
-    ensures there { (contents : Contents) → D.told desk.old ≡ Some contents → AreThere contents.files progress.old.names.items →
+    ensures kept { (before : Items Place) → IsProgress progress.old before →
+        IfOk result (λ read. IsOpened before name.now read.0 progress.new) }
+    ensures stopped { (before : Items Place) → IsProgress progress.old before → IfErr result
+        (λ halt. (bytes : Items ℕ) × IsRefusedOpening before name.now bytes halt progress.new) }
+    ensures there { (contents : Contents) →
+        D.told desk.old ≡ Some contents → AreThere contents.files progress.old.names.items →
         FindsFiles contents.files result progress.new.names.items }
     ensures within { IfOk result (λ read. length read.0 ≤ limit_number limits.FileBytes) }
-    ensures around { OnOk result (progress.new.around.items ≡ progress.old.around.items ++ name.now ∷ []) }
-    ensures failed { IsErrOf result Halt.ReadFault → Rose (D.read_faults desk.old) (D.read_faults desk.new) }
-    ensures after { (rest : Items ℕ) × (D.told desk.new ≡ option_map (with_rest rest) (D.told desk.old)) }
+    ensures around { OnOk result
+        (progress.new.around.items ≡ progress.old.around.items ++ name.now ∷ []) }
+    ensures failed { IsErrOf result Halt.ReadFault →
+        Rose (D.read_faults desk.old) (D.read_faults desk.new) }
+    ensures after { (rest : Items ℕ)
+        × (D.told desk.new ≡ option_map (with_rest rest) (D.told desk.old)) }
     ensures begun { D.begun desk.new ≡ D.begun desk.old }
     // Each file whose name is kept was opened, and no other; no log was begun.
-    ensures calls { OpensAsKept progress.old.names.items progress.new.names.items (D.calls desk.old) (D.calls desk.new) }
-    ensures calm { (IsErrOf result Halt.ReadFault → ⊥) → (D.read_faults desk.new ≡ D.read_faults desk.old) × (D.write_faults desk.new ≡ D.write_faults desk.old) }
+    ensures calls { OpensAsKept progress.old.names.items progress.new.names.items
+        (D.calls desk.old) (D.calls desk.new) }
+    ensures calm { (IsErrOf result Halt.ReadFault → ⊥) →
+        (D.read_faults desk.new ≡ D.read_faults desk.old)
+        × (D.write_faults desk.new ≡ D.write_faults desk.old) }
     ensures reads_count { D.read_faults desk.old ≤ D.read_faults desk.new }
     ensures writes_count { D.write_faults desk.old ≤ D.write_faults desk.new }
 {
@@ -101,18 +112,26 @@ pub(crate) fn read_file<D: Desk>(
     deep: u32,
 ) -> Result<(), Halt>
     requires { length progress.now.around.items + deep ≡ limit_number limits.IncludeDepth }
-    ensures gone { (contents : Contents) (before : Items Place) → D.told desk.old ≡ Some contents → IsProgress progress.old before →
-        GoesThrough (ArePlaces deep contents.files progress.old.around.items (length (opened_in before)) name.now) before result progress.new }
-    ensures kept { (before : Items Place) → IsProgress progress.old before → GoesSomewhere before result progress.new }
-    ensures there { (contents : Contents) → D.told desk.old ≡ Some contents → AreThere contents.files progress.old.names.items →
+    ensures gone { (contents : Contents) (before : Items Place) → D.told desk.old ≡ Some contents →
+        IsProgress progress.old before → GoesThrough (ArePlaces deep contents.files
+        progress.old.around.items (length (opened_in before)) name.now) before result progress.new }
+    ensures kept { (before : Items Place) →
+        IsProgress progress.old before → GoesSomewhere before result progress.new }
+    ensures there { (contents : Contents) →
+        D.told desk.old ≡ Some contents → AreThere contents.files progress.old.names.items →
         FindsFiles contents.files result progress.new.names.items }
     ensures around { OnOk result (progress.new.around.items ≡ progress.old.around.items) }
-    ensures failed { IsErrOf result Halt.ReadFault → Rose (D.read_faults desk.old) (D.read_faults desk.new) }
-    ensures after { (rest : Items ℕ) × (D.told desk.new ≡ option_map (with_rest rest) (D.told desk.old)) }
+    ensures failed { IsErrOf result Halt.ReadFault →
+        Rose (D.read_faults desk.old) (D.read_faults desk.new) }
+    ensures after { (rest : Items ℕ)
+        × (D.told desk.new ≡ option_map (with_rest rest) (D.told desk.old)) }
     ensures begun { D.begun desk.new ≡ D.begun desk.old }
     // Each file whose name is kept was opened, and no other; no log was begun.
-    ensures calls { OpensAsKept progress.old.names.items progress.new.names.items (D.calls desk.old) (D.calls desk.new) }
-    ensures calm { (IsErrOf result Halt.ReadFault → ⊥) → (D.read_faults desk.new ≡ D.read_faults desk.old) × (D.write_faults desk.new ≡ D.write_faults desk.old) }
+    ensures calls { OpensAsKept progress.old.names.items progress.new.names.items
+        (D.calls desk.old) (D.calls desk.new) }
+    ensures calm { (IsErrOf result Halt.ReadFault → ⊥) →
+        (D.read_faults desk.new ≡ D.read_faults desk.old)
+        × (D.write_faults desk.new ≡ D.write_faults desk.old) }
     ensures reads_count { D.read_faults desk.old ≤ D.read_faults desk.new }
     ensures writes_count { D.write_faults desk.old ≤ D.write_faults desk.new }
 {

@@ -39,7 +39,8 @@ impl Labels {
 
     /// Adds a label, if it is not there.
     pub(crate) fn add(&mut self, alloc: Global, label: &str) -> Result<(), OutOfMemory>
-        ensures added { OnOk result (self.new ≡ (if is_among self.old label.now then self.old else self.old ++ label.now ∷ [])) }
+        ensures added { OnOk result (self.new
+            ≡ (if is_among self.old label.now then self.old else self.old ++ label.now ∷ [])) }
         ensures unchanged { OnErr result (self.new ≡ self.old) }
     {
         let label = String::from_str(alloc, label)?;

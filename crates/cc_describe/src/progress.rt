@@ -64,7 +64,8 @@ fn has_taken_label(labels: &Labels, item: &QueryItem<'_>) -> bool
 
 /// Whether a query gives a label that is there.
 fn gives_taken_label(labels: &Labels, items: &[QueryItem<'_>]) -> bool
-    ensures { result ≡ list_any (is_among labels.now) (flat_map labels_in (map plain_query_item items.now)) }
+    ensures { result
+        ≡ list_any (is_among labels.now) (flat_map labels_in (map plain_query_item items.now)) }
 {
     items.iter().any(|item| has_taken_label(labels, item))
 }
@@ -88,12 +89,13 @@ impl Progress {
 
     /// Adds the base laws of a statement whose declarations are in the table.
     fn expand(&mut self, alloc: Global, file: u32, statement: &Statement<'_>) -> Result<(), Fault>
-        ensures expanded { (left : Items Declaration) → IsTable self.old.table left → OnOk result
-            ((law_refusal file (vocabulary left) (plain_statement statement.now) ≡ None)
-            × (map plain_base_law self.new.laws.items ≡ map plain_base_law self.old.laws.items
-            ++ base_laws file (vocabulary left) (plain_statement statement.now).line (plain_statement statement.now).part)) }
-        ensures refused { (left : Items Declaration) → IsTable self.old.table left →
-            IfErr result (IsRefusedBy (law_refusal file (vocabulary left) (plain_statement statement.now))) }
+        ensures expanded { (left : Items Declaration) → IsTable self.old.table left →
+            OnOk result ((law_refusal file (vocabulary left) (plain_statement statement.now) ≡ None)
+            × (map plain_base_law self.new.laws.items
+            ≡ map plain_base_law self.old.laws.items ++ base_laws file (vocabulary left)
+            (plain_statement statement.now).line (plain_statement statement.now).part)) }
+        ensures refused { (left : Items Declaration) → IsTable self.old.table left → IfErr result
+            (IsRefusedBy (law_refusal file (vocabulary left) (plain_statement statement.now))) }
         ensures rest { self.new ≡ record self.old { laws = self.new.laws } }
     {
         let laws = expand(alloc, file, &self.table, statement)?;
@@ -104,10 +106,11 @@ impl Progress {
     /// Takes up a statement of declarations.
     fn declare(&mut self, alloc: Global, file: u32, statement: &Statement<'_>) -> Result<(), Fault>
         requires { IsTrue (declares (plain_statement statement.now).part) }
-        ensures said { (before : Items Place) → IsProgress self.old before →
-            OnOk result (Says before file self.old.around.items (plain_statement statement.now) self.new) }
-        ensures refused { (before : Items Place) → IsProgress self.old before →
-            IfErr result (IsRefusedBy (declaration_refusal file (declared_in before) (plain_statement statement.now))) }
+        ensures said { (before : Items Place) → IsProgress self.old before → OnOk result
+            (Says before file self.old.around.items (plain_statement statement.now) self.new) }
+        ensures refused { (before : Items Place) →
+            IsProgress self.old before → IfErr result (IsRefusedBy
+            (declaration_refusal file (declared_in before) (plain_statement statement.now))) }
         ensures around { self.new.around ≡ self.old.around }
         ensures names { self.new.names ≡ self.old.names }
     {
@@ -117,9 +120,12 @@ impl Progress {
 
     /// Keeps a query, and its label if that is not there.
     fn keep(&mut self, alloc: Global, query: Query) -> Result<(), OutOfMemory>
-        ensures kept { OnOk result (map plain_query self.new.queries.items ≡ map plain_query self.old.queries.items ++ plain_query query ∷ []) }
-        ensures labelled { IfSome query.label (λ label. is_among self.old.labels label ≡ false) → OnOk result (self.new.labels ≡ self.old.labels ++ optional query.label) }
-        ensures rest { self.new ≡ record self.old { queries = self.new.queries; labels = self.new.labels } }
+        ensures kept { OnOk result (map plain_query self.new.queries.items
+            ≡ map plain_query self.old.queries.items ++ plain_query query ∷ []) }
+        ensures labelled { IfSome query.label (λ label. is_among self.old.labels label ≡ false) →
+            OnOk result (self.new.labels ≡ self.old.labels ++ optional query.label) }
+        ensures rest { self.new
+            ≡ record self.old { queries = self.new.queries; labels = self.new.labels } }
     {
         if let Some(label) = &query.label {
             self.labels.add(alloc, label.text())?;
@@ -137,10 +143,10 @@ impl Progress {
         items: &[QueryItem<'_>],
     ) -> Result<(), Fault>
         requires { (plain_statement statement.now).part ≡ asks (map plain_query_item items.now) }
-        ensures said { (before : Items Place) → IsProgress self.old before →
-            OnOk result (Says before file self.old.around.items (plain_statement statement.now) self.new) }
-        ensures refused { (before : Items Place) → IsProgress self.old before →
-            IfErr result (IsRefusedBy (asking_refusal before file (plain_statement statement.now))) }
+        ensures said { (before : Items Place) → IsProgress self.old before → OnOk result
+            (Says before file self.old.around.items (plain_statement statement.now) self.new) }
+        ensures refused { (before : Items Place) → IsProgress self.old before → IfErr result
+            (IsRefusedBy (asking_refusal before file (plain_statement statement.now))) }
         ensures around { self.new.around ≡ self.old.around }
         ensures names { self.new.names ≡ self.old.names }
     {
@@ -154,8 +160,10 @@ impl Progress {
 
     /// Whether a file may be included where it is named.
     fn include(&self, file: u32, line: u32, name: &str) -> Result<(), Fault>
-        ensures included { OnOk result (include_refusal file self.now.around.items line name.now ≡ None) }
-        ensures refused { IfErr result (IsRefusedBy (include_refusal file self.now.around.items line name.now)) }
+        ensures included { OnOk result
+            (include_refusal file self.now.around.items line name.now ≡ None) }
+        ensures refused { IfErr result
+            (IsRefusedBy (include_refusal file self.now.around.items line name.now)) }
     {
         let around: &[Name] = &self.around;
         if has_name(around, name) {
@@ -169,10 +177,11 @@ impl Progress {
 
     /// Takes up a statement, whose tree this is.
     fn say(&mut self, alloc: Global, file: u32, statement: &Statement<'_>) -> Result<(), Fault>
-        ensures said { (before : Items Place) → IsProgress self.old before →
-            OnOk result (Says before file self.old.around.items (plain_statement statement.now) self.new) }
+        ensures said { (before : Items Place) → IsProgress self.old before → OnOk result
+            (Says before file self.old.around.items (plain_statement statement.now) self.new) }
         ensures refused { (before : Items Place) → IsProgress self.old before →
-            IfErr result (IsRefusedBy (statement_refusal before file self.old.around.items (plain_statement statement.now) (plain_statement statement.now).part)) }
+            IfErr result (IsRefusedBy (statement_refusal before file self.old.around.items
+            (plain_statement statement.now) (plain_statement statement.now).part)) }
         ensures around { self.new.around ≡ self.old.around }
         ensures names { self.new.names ≡ self.old.names }
     {
@@ -193,11 +202,13 @@ impl Progress {
         file: u32,
         statement: &Statement<'s>,
     ) -> Result<Option<&'s str>, Fault>
-        ensures said { (before : Items Place) → IsProgress self.old before →
-            OnOk result (Says before file self.old.around.items (plain_statement statement.now) self.new) }
-        ensures name { IfOk result (λ name. option_copied name ≡ included (plain_statement statement.now).part) }
+        ensures said { (before : Items Place) → IsProgress self.old before → OnOk result
+            (Says before file self.old.around.items (plain_statement statement.now) self.new) }
+        ensures name { IfOk result (λ name.
+            option_copied name ≡ included (plain_statement statement.now).part) }
         ensures refused { (before : Items Place) → IsProgress self.old before →
-            IfErr result (IsRefusedBy (statement_refusal before file self.old.around.items (plain_statement statement.now) (plain_statement statement.now).part)) }
+            IfErr result (IsRefusedBy (statement_refusal before file self.old.around.items
+            (plain_statement statement.now) (plain_statement statement.now).part)) }
         ensures around { self.new.around ≡ self.old.around }
         ensures names { self.new.names ≡ self.old.names }
     {
@@ -215,9 +226,10 @@ impl Progress {
         requires some { 0 < length tokens.now }
         requires are { AreTokens (token_views tokens.now) }
         ensures taken { (before : Items Place) → IsProgress self.old before →
-            IfOk result (λ name. IsTaken before file self.old.around.items (token_views tokens.now) (option_copied name) self.new) }
-        ensures refused { (before : Items Place) → IsProgress self.old before →
-            IfErr result (IsRefusedStatement before file self.old.around.items (token_views tokens.now)) }
+            IfOk result (λ name. IsTaken before file self.old.around.items
+            (token_views tokens.now) (option_copied name) self.new) }
+        ensures refused { (before : Items Place) → IsProgress self.old before → IfErr result
+            (IsRefusedStatement before file self.old.around.items (token_views tokens.now)) }
         ensures around { self.new.around ≡ self.old.around }
         ensures names { self.new.names ≡ self.old.names }
     {
@@ -236,8 +248,10 @@ impl Progress {
         ensures number { IfOk result (λ file. file ≡ length self.old.names.items) }
         ensures names { OnOk result (self.new.names.items ≡ self.old.names.items ++ name.now ∷ []) }
         ensures unnamed { OnErr result (self.new.names.items ≡ self.old.names.items) }
-        ensures around { OnOk result (self.new.around.items ≡ self.old.around.items ++ name.now ∷ []) }
-        ensures rest { self.new ≡ record self.old { names = self.new.names; around = self.new.around } }
+        ensures around { OnOk result
+            (self.new.around.items ≡ self.old.around.items ++ name.now ∷ []) }
+        ensures rest { self.new
+            ≡ record self.old { names = self.new.names; around = self.new.around } }
     {
         let number = self.names.len();
         if number >= 4_000_000_000 {
@@ -251,7 +265,8 @@ impl Progress {
 
     /// Notes that a file was read to its end.
     pub(crate) fn leave(&mut self)
-        ensures around { self.new.around.items ≡ take (length self.old.around.items - 1) self.old.around.items }
+        ensures around { self.new.around.items
+            ≡ take (length self.old.around.items - 1) self.old.around.items }
         ensures rest { self.new ≡ record self.old { around = self.new.around } }
     {
         drop(self.around.pop());
@@ -260,8 +275,11 @@ impl Progress {
     /// Adds to the bytes of all files, as far as the limit goes.
     pub(crate) fn count(&mut self, file: u32, bytes: usize) -> Result<(), Fault>
         requires { bytes ≤ limit_number limits.FileBytes }
-        ensures counted { OnOk result ((self.new.bytes ≡ self.old.bytes + bytes) × (self.old.bytes + bytes ≤ limit_number limits.TotalBytes)) }
-        ensures refused { IfErr result (λ fault. (fault ≡ Fault.Refused (words.past_at limits.TotalBytes file 1)) × (limit_number limits.TotalBytes < self.old.bytes + bytes)) }
+        ensures counted { OnOk result ((self.new.bytes ≡ self.old.bytes + bytes)
+            × (self.old.bytes + bytes ≤ limit_number limits.TotalBytes)) }
+        ensures refused { IfErr result (λ fault.
+            (fault ≡ Fault.Refused (words.past_at limits.TotalBytes file 1))
+            × (limit_number limits.TotalBytes < self.old.bytes + bytes)) }
         ensures rest { self.new ≡ record self.old { bytes = self.new.bytes } }
     {
         let all = self.bytes.saturating_add(bytes);

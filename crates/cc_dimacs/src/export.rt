@@ -19,7 +19,8 @@ fn push_number(text: &mut String, number: u32) -> Result<(), OutOfMemory>
 
 // Writes a literal, and a space.
 fn push_literal(text: &mut String, literal: Lit) -> Result<(), OutOfMemory>
-    ensures { OnOk result (string_bytes text.new ≡ string_bytes text.old ++ (literal_text literal ++ codes " ")) }
+    ensures { OnOk result
+        (string_bytes text.new ≡ string_bytes text.old ++ (literal_text literal ++ codes " ")) }
 {
     let sign = if literal.is_positive() { "" } else { "-" };
     text.push_str(sign)?;
@@ -30,7 +31,8 @@ fn push_literal(text: &mut String, literal: Lit) -> Result<(), OutOfMemory>
 
 // Writes each of the literals, and a space.
 fn push_literals(text: &mut String, clause: &[Lit]) -> Result<(), OutOfMemory>
-    ensures { OnOk result (string_bytes text.new ≡ string_bytes text.old ++ flat_map (λ literal. literal_text literal ++ codes " ") clause.now) }
+    ensures { OnOk result (string_bytes text.new ≡ string_bytes text.old
+        ++ flat_map (λ literal. literal_text literal ++ codes " ") clause.now) }
 {
     for literal in clause {
         push_literal(text, *literal)?;
@@ -40,7 +42,8 @@ fn push_literals(text: &mut String, clause: &[Lit]) -> Result<(), OutOfMemory>
 
 // Writes the line of a clause.
 fn push_clause(text: &mut String, clause: &[Lit]) -> Result<(), OutOfMemory>
-    ensures { OnOk result (string_bytes text.new ≡ string_bytes text.old ++ clause_line clause.now) }
+    ensures { OnOk result
+        (string_bytes text.new ≡ string_bytes text.old ++ clause_line clause.now) }
 {
     push_literals(text, clause)?;
     text.push_str("0\n")?;
@@ -54,7 +57,8 @@ fn push_heading(
     variables: u32,
     count: u32,
 ) -> Result<(), OutOfMemory>
-    ensures { OnOk result (string_bytes text.new ≡ string_bytes text.old ++ heading_text horizon variables count) }
+    ensures { OnOk result
+        (string_bytes text.new ≡ string_bytes text.old ++ heading_text horizon variables count) }
 {
     text.push_str("c ccalc horizon ")?;
     push_number(text, horizon)?;
@@ -69,7 +73,8 @@ fn push_heading(
 /// The first lines of the text of a clause list: a comment with the horizon, and the heading with the numbers of variables and
 /// of clauses.
 pub fn export_heading(alloc: Global, form: &Form, horizon: u32) -> Result<Text, OutOfMemory>
-    ensures { IfOk result (λ text. text ≡ heading_text horizon form.now.variables (length form.now.clauses)) }
+    ensures { IfOk result (λ text.
+        text ≡ heading_text horizon form.now.variables (length form.now.clauses)) }
 {
     let mut text = String::new(alloc);
     push_heading(&mut text, horizon, form.variables(), form.count())?;
@@ -88,7 +93,8 @@ pub fn export_line(alloc: Global, clause: &[Lit]) -> Result<Text, OutOfMemory>
 /// A clause list in the DIMACS form (1993): the heading with a comment on the horizon, and a line a clause, in order. Near the
 /// limits it is some 400 MB; `export_heading` and `export_line` give it in pieces.
 pub fn export_text(alloc: Global, form: &Form, horizon: u32) -> Result<Text, OutOfMemory>
-    ensures { IfOk result (λ text. text ≡ export_of horizon (record { variables = form.now.variables; clauses = form.now.clauses })) }
+    ensures { IfOk result (λ text. text ≡ export_of horizon
+        (record { variables = form.now.variables; clauses = form.now.clauses })) }
 {
     let mut text = String::new(alloc);
     push_heading(&mut text, horizon, form.variables(), form.count())?;

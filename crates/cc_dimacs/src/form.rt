@@ -61,7 +61,8 @@ fn write_clauses(
     requires over { AreOver variables clauses.now }
     requires most { variables ≤ 1999999 }
     requires last { draft.old.last ≡ 2 * variables + 1 }
-    ensures { (sizes : List ℕ) (made : Asserted) → IsDraft sizes draft.old made → OnOk result (IsDraft sizes draft.new (with_clauses made clauses.now)) }
+    ensures { (sizes : List ℕ) (made : Asserted) → IsDraft sizes draft.old made →
+        OnOk result (IsDraft sizes draft.new (with_clauses made clauses.now)) }
 {
     let mut atoms = Vec::new(alloc);
     for index in 0..clauses.count() {

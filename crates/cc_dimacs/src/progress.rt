@@ -19,7 +19,8 @@ pub(crate) struct Heading {
 
 /// The heading that a line is: `p cnf` and two numbers.
 pub(crate) fn heading_in(line: &[u8]) -> Option<Heading>
-    ensures { MatchOption result (IsNoHeading line.now) (λ heading. IsHeading (words_in line.now) heading.variables heading.count) }
+    ensures { MatchOption result (IsNoHeading line.now) (λ heading.
+        IsHeading (words_in line.now) heading.variables heading.count) }
 {
     let name = behind_word(line, b"p")?;
     let numbers = behind_word(name, b"cnf")?;
@@ -50,7 +51,12 @@ impl Model for Progress {
 
     ghost Value = { Taken };
 
-    ghost view = { λ progress. record { done = progress.done; is_open = progress.is_open; clauses = progress.clauses; rest = progress.rest.items } };
+    ghost view = { λ progress. record {
+      done = progress.done;
+      is_open = progress.is_open;
+      clauses = progress.clauses;
+      rest = progress.rest.items;
+    } };
 }
 
 /// Whether the clauses of so many variables are kept.
@@ -134,7 +140,8 @@ impl Progress {
     /// Takes a word; false where no text can go on with it.
     fn take(&mut self, heading: Heading, word: &[u8]) -> Result<bool, OutOfMemory>
         requires { heading.count ≤ 999999999 }
-        ensures { IfOk result (IsRead (word_read heading.variables heading.count self.old word.now) self.new) }
+        ensures { IfOk result
+            (IsRead (word_read heading.variables heading.count self.old word.now) self.new) }
     {
         let Some(named) = named_in(word) else {
             return Ok(false);
@@ -156,7 +163,8 @@ impl Progress {
     /// Takes the words of a line; false where one is wrong.
     pub(crate) fn take_line(&mut self, heading: Heading, line: &[u8]) -> Result<bool, OutOfMemory>
         requires { heading.count ≤ 999999999 }
-        ensures { IfOk result (IsRead (line_read heading.variables heading.count self.old line.now) self.new) }
+        ensures { IfOk result
+            (IsRead (line_read heading.variables heading.count self.old line.now) self.new) }
     {
         let mut rest = line;
         while let Some((word, behind)) = next_word(rest) {

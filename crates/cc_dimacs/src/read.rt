@@ -28,9 +28,11 @@ fn take_text(
     requires count { heading.count ≤ 999999999 }
     requires some { 0 < first }
     requires most { first + length text.now ≤ most_log_bytes + 1 }
-    ensures taken { OnOk result (lines_read heading.variables heading.count progress.old (told_from first text.now) ≡ Ok progress.new) }
+    ensures taken { OnOk result (lines_read heading.variables heading.count progress.old
+        (told_from first text.now) ≡ Ok progress.new) }
     ensures last { IfOk result (λ last. last ≡ last_from first text.now) }
-    ensures refused { IfErr result (IsWrongLine (lines_read heading.variables heading.count progress.old (told_from first text.now))) }
+    ensures refused { IfErr result (IsWrongLine
+        (lines_read heading.variables heading.count progress.old (told_from first text.now))) }
 {
     let mut rest = text;
     let mut number = first;
@@ -56,9 +58,11 @@ fn take_text(
 fn read_behind(alloc: Global, number: u32, line: &[u8], behind: &[u8]) -> Result<Cnf, Fault>
     requires some { 0 < number }
     requires most { number + length behind.now ≤ most_log_bytes }
-    ensures text { (bytes : List ℕ) → IsTextFrom bytes number line.now behind.now → IfOk result (λ cnf. IsCnfText bytes (plain_cnf cnf)) }
+    ensures text { (bytes : List ℕ) → IsTextFrom bytes number line.now behind.now →
+        IfOk result (λ cnf. IsCnfText bytes (plain_cnf cnf)) }
     ensures few { IfOk result (λ cnf. cnf.variables ≤ most_cnf_variables) }
-    ensures refused { (bytes : List ℕ) → IsTextFrom bytes number line.now behind.now → IfErr result (IsCnfRefusal bytes) }
+    ensures refused { (bytes : List ℕ) →
+        IsTextFrom bytes number line.now behind.now → IfErr result (IsCnfRefusal bytes) }
 {
     let Some(heading) = heading_in(line) else {
         return Err(wrong(number));

@@ -21,7 +21,8 @@ impl Model for Named {
 
     ghost view = { λ named. record { variable = named.variable; positive = named.positive } };
 
-    ghost inverse = { λ literal. record { variable = literal.variable; positive = literal.positive } };
+    ghost inverse = { λ literal.
+        record { variable = literal.variable; positive = literal.positive } };
 }
 
 impl Named {
@@ -77,7 +78,8 @@ fn cut_word(text: &[u8]) -> (&[u8], &[u8])
 
 /// The first word of a line, and what stands behind it.
 pub(crate) fn next_word(line: &[u8]) -> Option<(&[u8], &[u8])>
-    ensures { MatchOption result (words_in line.now ≡ []) (λ word. IsFirstWord line.now word.0.now word.1.now) }
+    ensures { MatchOption result (words_in line.now ≡ []) (λ word.
+        IsFirstWord line.now word.0.now word.1.now) }
 {
     let text = without_spaces(line);
     if text.is_empty() {
@@ -144,7 +146,8 @@ pub(crate) fn named_in(word: &[u8]) -> Option<Named>
 
 /// What stands behind the first word of a line, where it is this one.
 pub(crate) fn behind_word<'t>(line: &'t [u8], expected: &[u8]) -> Option<&'t [u8]>
-    ensures { MatchOption result (BeginWith expected.now (words_in line.now) → ⊥) (λ rest. words_in line.now ≡ expected.now ∷ words_in rest.now) }
+    ensures { MatchOption result (BeginWith expected.now (words_in line.now) → ⊥) (λ rest.
+        words_in line.now ≡ expected.now ∷ words_in rest.now) }
 {
     let (word, rest) = next_word(line)?;
     if word == expected { Some(rest) } else { None }
@@ -152,7 +155,8 @@ pub(crate) fn behind_word<'t>(line: &'t [u8], expected: &[u8]) -> Option<&'t [u8
 
 /// The number that the first word of a line spells, and what stands behind it.
 pub(crate) fn behind_number(line: &[u8]) -> Option<(u32, &[u8])>
-    ensures { MatchOption result (BeginWithNone line.now) (λ read. BeginWithNumber line.now read.0 read.1.now) }
+    ensures { MatchOption result (BeginWithNone line.now) (λ read.
+        BeginWithNumber line.now read.0 read.1.now) }
 {
     let (word, rest) = next_word(line)?;
     let number = number_in(word)?;

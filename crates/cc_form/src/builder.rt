@@ -33,7 +33,11 @@ impl Model for Builder {
 
     ghost Value = { Axioms };
 
-    ghost view = { λ builder. record { sizes = builder.writer.places; variables = builder.writer.last; clauses = builder.writer.store.kept.arena } };
+    ghost view = { λ builder. record {
+      sizes = builder.writer.places;
+      variables = builder.writer.last;
+      clauses = builder.writer.store.kept.arena;
+    } };
 
     ghost invariant = { λ builder. IsWhole builder.writer };
 }
@@ -42,9 +46,12 @@ impl Builder {
     /// A list over positions with so many values each. Refuses, in this order, more than 4,000,000 variables, 8,000,000
     /// clauses and 40,000,000 literals (14, with the limit), as each call does that puts something behind.
     pub fn new(alloc: Global, sizes: &[u32]) -> Result<Builder, Fault>
-        ensures built { IfOk result (λ builder. builder ≡ axioms_behind sizes.now (record { last = true_variable sizes.now; clauses = [] })) }
-        ensures within { OnOk result (axioms_refusal (axioms_behind sizes.now (record { last = true_variable sizes.now; clauses = [] })) ≡ None) }
-        ensures refused { IfErr result (IsRefusedBy (axioms_refusal (axioms_behind sizes.now (record { last = true_variable sizes.now; clauses = [] })))) }
+        ensures built { IfOk result (λ builder. builder
+            ≡ axioms_behind sizes.now (record { last = true_variable sizes.now; clauses = [] })) }
+        ensures within { OnOk result (axioms_refusal (axioms_behind sizes.now
+            (record { last = true_variable sizes.now; clauses = [] })) ≡ None) }
+        ensures refused { IfErr result (IsRefusedBy (axioms_refusal
+            (axioms_behind sizes.now (record { last = true_variable sizes.now; clauses = [] })))) }
     {
         let mut own = Vec::new(alloc);
         own.extend_from_slice(sizes)?;
@@ -59,13 +66,20 @@ impl Builder {
     pub fn literal(&mut self, nodes: &[Node], first: u64) -> Result<Lit, Fault>
         requires first { first ≤ 9000000000000 }
         requires term { IsTermOver self.old.sizes (moved_nodes first nodes.now) }
-        ensures literal { IfOk result (λ literal. literal ≡ (made_nodes self.old.sizes self.old.variables (moved_nodes first nodes.now)).literal) }
-        ensures built { OnOk result (self.new ≡ nodes_behind self.old (moved_nodes first nodes.now)) }
+        ensures literal { IfOk result (λ literal. literal ≡ (made_nodes
+            self.old.sizes self.old.variables (moved_nodes first nodes.now)).literal) }
+        ensures built { OnOk result
+            (self.new ≡ nodes_behind self.old (moved_nodes first nodes.now)) }
         ensures over { IfOk result (λ literal. IsLiteralOver self.new.variables literal) }
         ensures rises { OnOk result (self.old.variables ≤ self.new.variables) }
-        ensures extends { (term : Ground) → postfix term ≡ moved_nodes first nodes.now → Contains self.old.clauses (positive (true_variable self.old.sizes) ∷ []) → IfOk result (λ literal. Extends self.old self.new literal (λ row. truth (λ position. slice_index row position) term)) }
-        ensures within { OnOk result (axioms_refusal (nodes_behind self.old (moved_nodes first nodes.now)) ≡ None) }
-        ensures refused { IfErr result (IsRefusedBy (axioms_refusal (nodes_behind self.old (moved_nodes first nodes.now)))) }
+        ensures extends { (term : Ground) → postfix term ≡ moved_nodes first nodes.now →
+            Contains self.old.clauses (positive (true_variable self.old.sizes) ∷ []) →
+            IfOk result (λ literal. Extends self.old self.new literal (λ row.
+            truth (λ position. slice_index row position) term)) }
+        ensures within { OnOk result
+            (axioms_refusal (nodes_behind self.old (moved_nodes first nodes.now)) ≡ None) }
+        ensures refused { IfErr result
+            (IsRefusedBy (axioms_refusal (nodes_behind self.old (moved_nodes first nodes.now)))) }
     {
         let mut writer = replace(&mut self.writer, Writer::none(self.alloc));
         let literal = writer.literal(nodes, first)?;
@@ -79,7 +93,8 @@ impl Builder {
         requires { AllByRecursion (IsLiteralOver self.old.variables) literals.now }
         ensures built { OnOk result (self.new ≡ clause_behind self.old literals.now) }
         ensures within { OnOk result (axioms_refusal (clause_behind self.old literals.now) ≡ None) }
-        ensures refused { IfErr result (IsRefusedBy (axioms_refusal (clause_behind self.old literals.now))) }
+        ensures refused { IfErr result
+            (IsRefusedBy (axioms_refusal (clause_behind self.old literals.now))) }
     {
         let mut writer = replace(&mut self.writer, Writer::none(self.alloc));
         write_all(&mut writer.store, literals)?;

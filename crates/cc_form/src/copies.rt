@@ -24,8 +24,10 @@ pub(crate) fn copy_of(alloc: Global, clauses: &ClauseArena) -> Result<ClauseAren
 /// Whether one clause of one literal more keeps the clauses and their literals within their limits.
 pub(crate) fn fits_one(clauses: &ClauseArena) -> Result<(), Fault>
     ensures few { OnOk result (length clauses.now < most_clauses) }
-    ensures within { (literal : Literal) → OnOk result (count_refusal (clauses.now ++ (literal ∷ []) ∷ []) ≡ None) }
-    ensures refused { (literal : Literal) → IfErr result (IsRefusedBy (count_refusal (clauses.now ++ (literal ∷ []) ∷ []))) }
+    ensures within { (literal : Literal) →
+        OnOk result (count_refusal (clauses.now ++ (literal ∷ []) ∷ []) ≡ None) }
+    ensures refused { (literal : Literal) →
+        IfErr result (IsRefusedBy (count_refusal (clauses.now ++ (literal ∷ []) ∷ []))) }
 {
     if clauses.count() >= LimitAt::AxiomClauses.number() as usize {
         return Err(Fault::Refused(Refusal::past(LimitAt::AxiomClauses)));

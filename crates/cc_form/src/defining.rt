@@ -9,7 +9,8 @@ use cc_defs::{Lit, OutOfMemory};
 
 /// For each literal the clause of the first one and this one.
 fn write_with_each(store: &mut Store, first: Lit, literals: &[Lit]) -> Result<(), OutOfMemory>
-    ensures { OnOk result (Gives store.old.kept store.new.kept (all_written (map (λ literal. first ∷ literal ∷ []) literals.now))) }
+    ensures { OnOk result (Gives store.old.kept store.new.kept
+        (all_written (map (λ literal. first ∷ literal ∷ []) literals.now))) }
 {
     for literal in literals {
         store.write_two(first, *literal)?;
@@ -23,7 +24,8 @@ fn write_with_each_opposite(
     first: Lit,
     literals: &[Lit],
 ) -> Result<(), OutOfMemory>
-    ensures { OnOk result (Gives store.old.kept store.new.kept (all_written (map (λ literal. first ∷ opposite literal ∷ []) literals.now))) }
+    ensures { OnOk result (Gives store.old.kept store.new.kept
+        (all_written (map (λ literal. first ∷ opposite literal ∷ []) literals.now))) }
 {
     for literal in literals {
         store.write_two(first, literal.opposite())?;
@@ -33,7 +35,8 @@ fn write_with_each_opposite(
 
 /// The clause of a literal and those of others.
 fn write_all_of(store: &mut Store, first: Lit, literals: &[Lit]) -> Result<(), OutOfMemory>
-    ensures { OnOk result (Gives store.old.kept store.new.kept (all_written ((first ∷ literals.now) ∷ []))) }
+    ensures { OnOk result
+        (Gives store.old.kept store.new.kept (all_written ((first ∷ literals.now) ∷ []))) }
 {
     store.begin();
     store.stage(first)?;
@@ -43,7 +46,8 @@ fn write_all_of(store: &mut Store, first: Lit, literals: &[Lit]) -> Result<(), O
 
 /// The clause of a literal and the opposites of others.
 fn write_all_opposites(store: &mut Store, first: Lit, literals: &[Lit]) -> Result<(), OutOfMemory>
-    ensures { OnOk result (Gives store.old.kept store.new.kept (all_written ((first ∷ map opposite literals.now) ∷ []))) }
+    ensures { OnOk result (Gives store.old.kept store.new.kept
+        (all_written ((first ∷ map opposite literals.now) ∷ []))) }
 {
     store.begin();
     store.stage(first)?;
@@ -62,7 +66,8 @@ pub(crate) fn write_all(store: &mut Store, literals: &[Lit]) -> Result<(), OutOf
 
 /// The literal is true exactly where all of the others are.
 pub(crate) fn define_all(store: &mut Store, x: Lit, literals: &[Lit]) -> Result<(), OutOfMemory>
-    ensures { OnOk result (Gives store.old.kept store.new.kept (all_written (all_clauses x literals.now))) }
+    ensures { OnOk result
+        (Gives store.old.kept store.new.kept (all_written (all_clauses x literals.now))) }
 {
     write_with_each(store, x.opposite(), literals)?;
     write_all_opposites(store, x, literals)
@@ -70,7 +75,8 @@ pub(crate) fn define_all(store: &mut Store, x: Lit, literals: &[Lit]) -> Result<
 
 /// The literal is true exactly where one of the others is.
 pub(crate) fn define_any(store: &mut Store, x: Lit, literals: &[Lit]) -> Result<(), OutOfMemory>
-    ensures { OnOk result (Gives store.old.kept store.new.kept (all_written (any_clauses x literals.now))) }
+    ensures { OnOk result
+        (Gives store.old.kept store.new.kept (all_written (any_clauses x literals.now))) }
 {
     write_all_of(store, x.opposite(), literals)?;
     write_with_each_opposite(store, x, literals)

@@ -47,7 +47,8 @@ pub(crate) fn write_first(writer: &mut Writer) -> Result<(), OutOfMemory>
     requires { sum writer.old.places ≤ most_variables }
     ensures places { writer.new.places ≡ writer.old.places }
     ensures last { writer.new.last ≡ writer.old.last }
-    ensures clauses { OnOk result (Gives writer.old.store.kept writer.new.store.kept (first_clauses writer.old.places)) }
+    ensures clauses { OnOk result
+        (Gives writer.old.store.kept writer.new.store.kept (first_clauses writer.old.places)) }
 {
     let truth = writer.places.truth();
     writer.store.keep_one(truth)?;
@@ -57,7 +58,8 @@ pub(crate) fn write_first(writer: &mut Writer) -> Result<(), OutOfMemory>
 impl Draft {
     /// A draft over positions with so many values each. Refuses more than 4,000,000 variables (14).
     pub fn new(alloc: Global, sizes: Vec<u32>) -> Result<Draft, Fault>
-        ensures draft { IfOk result (λ draft. IsDraft sizes.items draft (record { last = true_variable sizes.items; clauses = [] })) }
+        ensures draft { IfOk result (λ draft.
+            IsDraft sizes.items draft (record { last = true_variable sizes.items; clauses = [] })) }
         ensures places { IfOk result (λ draft. draft.places ≡ sizes.items) }
         ensures refused { IfErr result (IsPast (true_variable sizes.items)) }
     {
@@ -72,12 +74,16 @@ impl Draft {
     pub fn literal(&mut self, nodes: &[Node], first: u64) -> Result<Lit, Fault>
         requires first { first ≤ 9000000000000 }
         requires term { IsTermOver self.old.places (moved_nodes first nodes.now) }
-        ensures literal { (sizes : List ℕ) (made : Asserted) → IsDraft sizes self.old made → IfOk result (λ literal. literal ≡ (made_nodes sizes made.last (moved_nodes first nodes.now)).literal) }
-        ensures draft { (sizes : List ℕ) (made : Asserted) → IsDraft sizes self.old made → OnOk result (IsDraft sizes self.new (with_nodes sizes made (moved_nodes first nodes.now))) }
+        ensures literal { (sizes : List ℕ) (made : Asserted) →
+            IsDraft sizes self.old made → IfOk result (λ literal.
+            literal ≡ (made_nodes sizes made.last (moved_nodes first nodes.now)).literal) }
+        ensures draft { (sizes : List ℕ) (made : Asserted) → IsDraft sizes self.old made → OnOk
+            result (IsDraft sizes self.new (with_nodes sizes made (moved_nodes first nodes.now))) }
         ensures over { IfOk result (λ literal. IsLiteralOver self.new.last literal) }
         ensures rises { OnOk result (self.old.last ≤ self.new.last) }
         ensures places { OnOk result (self.new.places ≡ self.old.places) }
-        ensures refused { (sizes : List ℕ) (made : Asserted) → IsDraft sizes self.old made → IfErr result (IsPast (made_nodes sizes made.last (moved_nodes first nodes.now)).last) }
+        ensures refused { (sizes : List ℕ) (made : Asserted) → IsDraft sizes self.old made →
+            IfErr result (IsPast (made_nodes sizes made.last (moved_nodes first nodes.now)).last) }
     {
         let mut writer = replace(&mut self.writer, Writer::none(self.alloc));
         let literal = writer.literal(nodes, first)?;
@@ -88,7 +94,8 @@ impl Draft {
     /// Puts a clause behind the others: each literal once, ascending; one with a variable in both signs is left out.
     pub fn clause(&mut self, literals: &[Lit]) -> Result<(), OutOfMemory>
         requires { AllByRecursion (IsLiteralOver self.old.last) literals.now }
-        ensures draft { (sizes : List ℕ) (made : Asserted) → IsDraft sizes self.old made → OnOk result (IsDraft sizes self.new (with_clause made literals.now)) }
+        ensures draft { (sizes : List ℕ) (made : Asserted) → IsDraft sizes self.old made →
+            OnOk result (IsDraft sizes self.new (with_clause made literals.now)) }
         ensures last { OnOk result (self.new.last ≡ self.old.last) }
         ensures places { OnOk result (self.new.places ≡ self.old.places) }
     {
@@ -100,9 +107,12 @@ impl Draft {
 
     /// The clause list. Refuses, in this order, more than 8,000,000 clauses and 40,000,000 literals (14, with the limit).
     pub fn close(self) -> Result<Form, Fault>
-        ensures form { (sizes : List ℕ) (made : Asserted) → IsDraft sizes self made → IfOk result (λ form. form ≡ axioms_behind sizes made) }
-        ensures within { (sizes : List ℕ) (made : Asserted) → IsDraft sizes self made → OnOk result (count_refusal (axioms_behind sizes made).clauses ≡ None) }
-        ensures refused { (sizes : List ℕ) (made : Asserted) → IsDraft sizes self made → IfErr result (IsRefusedBy (count_refusal (axioms_behind sizes made).clauses)) }
+        ensures form { (sizes : List ℕ) (made : Asserted) →
+            IsDraft sizes self made → IfOk result (λ form. form ≡ axioms_behind sizes made) }
+        ensures within { (sizes : List ℕ) (made : Asserted) → IsDraft sizes self made →
+            OnOk result (count_refusal (axioms_behind sizes made).clauses ≡ None) }
+        ensures refused { (sizes : List ℕ) (made : Asserted) → IsDraft sizes self made →
+            IfErr result (IsRefusedBy (count_refusal (axioms_behind sizes made).clauses)) }
     {
         let Draft { writer, alloc: _ } = self;
         close(writer)

@@ -57,9 +57,11 @@ impl Model for Form {
 
     ghost Value = { Axioms };
 
-    ghost view = { λ form. record { sizes = form.places; variables = form.variables; clauses = form.clauses } };
+    ghost view = { λ form.
+        record { sizes = form.places; variables = form.variables; clauses = form.clauses } };
 
-    ghost invariant = { λ form. IsForm (record { sizes = form.places; variables = form.variables; clauses = form.clauses }) };
+    ghost invariant = { λ form. IsForm
+        (record { sizes = form.places; variables = form.variables; clauses = form.clauses }) };
 }
 
 impl Form {
@@ -94,7 +96,8 @@ impl Form {
     /// How many values each position has. That each has exactly one of them is said by clauses of the list.
     pub fn sizes(&self) -> &[u32]
         ensures sizes { result.now ≡ self.now.sizes }
-        ensures choices { (clause : List Literal) → Contains (positions_from 1 self.now.sizes) clause → Contains self.now.clauses clause }
+        ensures choices { (clause : List Literal) →
+            Contains (positions_from 1 self.now.sizes) clause → Contains self.now.clauses clause }
     {
         self.places.sizes()
     }
@@ -130,10 +133,13 @@ impl Form {
     /// The same clauses, and behind them one that says that a position has the value of this index. Refuses exactly the limit that
     /// they pass (14, axiom clauses or axiom literals).
     pub fn with_atom(&self, alloc: Global, position: u64, value: u32) -> Result<Form, Fault>
-        requires atom { (size : ℕ) × (slice_get self.now.sizes position ≡ Some size) × (value < size) }
+        requires atom { (size : ℕ)
+            × (slice_get self.now.sizes position ≡ Some size) × (value < size) }
         ensures made { IfOk result (λ form. form ≡ with_atom self.now position value) }
-        ensures within { OnOk result (count_refusal (with_atom self.now position value).clauses ≡ None) }
-        ensures refused { IfErr result (IsRefusedBy (count_refusal (with_atom self.now position value).clauses)) }
+        ensures within { OnOk result
+            (count_refusal (with_atom self.now position value).clauses ≡ None) }
+        ensures refused { IfErr result
+            (IsRefusedBy (count_refusal (with_atom self.now position value).clauses)) }
     {
         fits_one(&self.clauses)?;
         let places = self.places.copy(alloc)?;
@@ -169,7 +175,8 @@ fn add_rules(
     requires bound { stride ≤ 8589934592 }
     requires stride { stride ≡ stride_of theory.now.signature }
     requires places { writer.old.places ≡ position_sizes theory.now.signature theory.now.horizon }
-    ensures { Adds writer.old writer.new result (rules_list writer.old.places stride theory.now.rules) }
+    ensures { Adds writer.old writer.new result
+        (rules_list writer.old.places stride theory.now.rules) }
 {
     write_first(writer)?;
     let horizon = theory.horizon();
@@ -196,8 +203,11 @@ fn deny_if(
 ) -> Result<(), Fault>
     requires last { writer.old.last ≤ most_variables }
     requires bound { stride ≤ 8589934592 }
-    requires claim { IfSome claim (λ claim. IsOverPlaces writer.old.places stride horizon (plain_ground_condition claim)) }
-    ensures { Adds writer.old writer.new result (denied_nodes writer.old.places writer.old.last (nodes_if with_claim (option_map (λ claim. condition_nodes stride horizon (plain_ground_condition claim)) claim.entry))) }
+    requires claim { IfSome claim (λ claim.
+        IsOverPlaces writer.old.places stride horizon (plain_ground_condition claim)) }
+    ensures { Adds writer.old writer.new result
+        (denied_nodes writer.old.places writer.old.last (nodes_if with_claim (option_map (λ claim.
+        condition_nodes stride horizon (plain_ground_condition claim)) claim.entry))) }
 {
     if with_claim {
         return match claim {
@@ -212,7 +222,8 @@ fn deny_if(
 fn follow_if(writer: &mut Writer, after: Option<&Key>) -> Result<(), Fault>
     requires last { writer.old.last ≤ most_variables }
     requires key { IfSome after (λ key. IsRow writer.old.places key.now.row) }
-    ensures { Adds writer.old writer.new result (asserted_nodes writer.old.places writer.old.last (map postfix (key_terms writer.old.places (option_map (λ key. key.now) after.entry)))) }
+    ensures { Adds writer.old writer.new result (asserted_nodes writer.old.places writer.old.last
+        (map postfix (key_terms writer.old.places (option_map (λ key. key.now) after.entry)))) }
 {
     match after {
         Some(key) => follow(writer, key.row.items()),
@@ -231,10 +242,16 @@ pub(crate) fn add_query(
 ) -> Result<(), Fault>
     requires last { writer.old.last ≤ most_variables }
     requires bound { stride ≤ 8589934592 }
-    requires conditions { AllByRecursion (λ condition. IsOverPlaces writer.old.places stride horizon (plain_ground_condition condition)) query.now.conditions }
-    requires claim { IfSome query.now.claim (λ claim. IsOverPlaces writer.old.places stride horizon (plain_ground_condition claim)) }
+    requires conditions { AllByRecursion (λ condition. IsOverPlaces writer.old.places stride horizon
+        (plain_ground_condition condition)) query.now.conditions }
+    requires claim { IfSome query.now.claim (λ claim.
+        IsOverPlaces writer.old.places stride horizon (plain_ground_condition claim)) }
     requires key { IfSome after (λ key. IsRow writer.old.places key.now.row) }
-    ensures { Adds writer.old writer.new result (query_list writer.old.places writer.old.last (map (λ condition. condition_nodes stride horizon (plain_ground_condition condition)) query.now.conditions) (nodes_if with_claim (option_map (λ claim. condition_nodes stride horizon (plain_ground_condition claim)) query.now.claim)) (map postfix (key_terms writer.old.places (option_map (λ key. key.now) after.entry)))) }
+    ensures { Adds writer.old writer.new result (query_list writer.old.places writer.old.last
+        (map (λ condition. condition_nodes stride horizon (plain_ground_condition condition))
+        query.now.conditions) (nodes_if with_claim (option_map (λ claim.
+        condition_nodes stride horizon (plain_ground_condition claim)) query.now.claim))
+        (map postfix (key_terms writer.old.places (option_map (λ key. key.now) after.entry)))) }
 {
     assert_all(writer, stride, horizon, query.conditions.items())?;
     deny_if(writer, stride, horizon, query.claim, with_claim)?;
@@ -244,7 +261,11 @@ pub(crate) fn add_query(
 /// The form of what was built, all of whose clauses are kept.
 pub(crate) fn form_of_whole(writer: Writer) -> Form
     requires { IsWhole writer }
-    ensures { result ≡ record { sizes = writer.places; variables = writer.last; clauses = writer.store.kept.arena } }
+    ensures { result ≡ record {
+      sizes = writer.places;
+      variables = writer.last;
+      clauses = writer.store.kept.arena;
+    } }
 {
     let (places, variables, clauses) = writer.close();
     Form {
@@ -257,9 +278,12 @@ pub(crate) fn form_of_whole(writer: Writer) -> Form
 /// The form of what was built, where it is within its limits.
 pub(crate) fn close(writer: Writer) -> Result<Form, Fault>
     requires { IsBuiltForm writer }
-    ensures form { (kept : List (List Literal)) → Holds writer.store.kept kept → IfOk result (λ form. form ≡ record { sizes = writer.places; variables = writer.last; clauses = kept }) }
-    ensures few { (kept : List (List Literal)) → Holds writer.store.kept kept → OnOk result (AreFew kept) }
-    ensures refused { (kept : List (List Literal)) → Holds writer.store.kept kept → IfErr result (IsRefusedBy (count_refusal kept)) }
+    ensures form { (kept : List (List Literal)) → Holds writer.store.kept kept → IfOk result
+        (λ form. form ≡ record { sizes = writer.places; variables = writer.last; clauses = kept }) }
+    ensures few { (kept : List (List Literal)) →
+        Holds writer.store.kept kept → OnOk result (AreFew kept) }
+    ensures refused { (kept : List (List Literal)) →
+        Holds writer.store.kept kept → IfErr result (IsRefusedBy (count_refusal kept)) }
 {
     writer.fits()?;
     Ok(form_of_whole(writer))
@@ -273,10 +297,14 @@ fn build(
     with_claim: bool,
     after: Option<&Key>,
 ) -> Result<Writer, Fault>
-    requires query { IsQueryAt theory.now.signature theory.now.horizon (plain_ground_query query.now) }
+    requires query { IsQueryAt theory.now.signature theory.now.horizon
+        (plain_ground_query query.now) }
     requires key { IfSome after (λ key. IsKeyAt theory.now.signature theory.now.horizon key.now) }
-    ensures built { IfOk result (IsSection (position_sizes theory.now.signature theory.now.horizon) (section_list theory.now (plain_ground_query query.now) with_claim (option_map (λ key. key.now) after.entry))) }
-    ensures refused { IfErr result (IsPast (section_list theory.now (plain_ground_query query.now) with_claim (option_map (λ key. key.now) after.entry)).variables) }
+    ensures built { IfOk result
+        (IsSection (position_sizes theory.now.signature theory.now.horizon) (section_list theory.now
+        (plain_ground_query query.now) with_claim (option_map (λ key. key.now) after.entry))) }
+    ensures refused { IfErr result (IsPast (section_list theory.now (plain_ground_query query.now)
+        with_claim (option_map (λ key. key.now) after.entry)).variables) }
     ensures ready { IfOk result IsBuiltForm }
     ensures horizon { theory.now.horizon ≤ most_steps }
     ensures rules { AreRulesAt theory.now.signature theory.now.horizon theory.now.rules }
@@ -304,12 +332,22 @@ pub fn clauses(
     with_claim: bool,
     after: Option<&Key>,
 ) -> Result<Form, Fault>
-    requires query { IsQueryAt theory.now.signature theory.now.horizon (plain_ground_query query.now) }
+    requires query { IsQueryAt theory.now.signature theory.now.horizon
+        (plain_ground_query query.now) }
     requires key { IfSome after (λ key. IsKeyAt theory.now.signature theory.now.horizon key.now) }
-    ensures list { (d : Description) (q : Query) → IsTheoryOf theory.now d → StandsForQuery (plain_ground_query query.now) d q → IfOk result (λ form. form ≡ form_of d q theory.now.horizon with_claim (option_map (λ key. key.now) after.entry)) }
-    ensures refused { (d : Description) (q : Query) → IsTheoryOf theory.now d → StandsForQuery (plain_ground_query query.now) d q → IfErr result (IsRefusedBy (form_refusal (clause_list d q theory.now.horizon with_claim (option_map (λ key. key.now) after.entry)))) }
-    ensures within { (d : Description) (q : Query) → IsTheoryOf theory.now d → StandsForQuery (plain_ground_query query.now) d q → OnOk result (form_refusal (clause_list d q theory.now.horizon with_claim (option_map (λ key. key.now) after.entry)) ≡ None) }
-    ensures tells { (d : Description) (q : Query) → IsTheoryOf theory.now d → StandsForQuery (plain_ground_query query.now) d q → IfOk result (λ form. TellsHistories d (asked with_claim q) theory.now.horizon (option_map (λ key. key.now.row) after.entry) form) }
+    ensures list { (d : Description) (q : Query) → IsTheoryOf theory.now d →
+        StandsForQuery (plain_ground_query query.now) d q → IfOk result (λ form. form
+        ≡ form_of d q theory.now.horizon with_claim (option_map (λ key. key.now) after.entry)) }
+    ensures refused { (d : Description) (q : Query) → IsTheoryOf theory.now d → StandsForQuery
+        (plain_ground_query query.now) d q → IfErr result (IsRefusedBy (form_refusal (clause_list
+        d q theory.now.horizon with_claim (option_map (λ key. key.now) after.entry)))) }
+    ensures within { (d : Description) (q : Query) → IsTheoryOf theory.now d →
+        StandsForQuery (plain_ground_query query.now) d q → OnOk result (form_refusal (clause_list
+        d q theory.now.horizon with_claim (option_map (λ key. key.now) after.entry)) ≡ None) }
+    ensures tells { (d : Description) (q : Query) →
+        IsTheoryOf theory.now d → StandsForQuery (plain_ground_query query.now) d q →
+        IfOk result (λ form. TellsHistories d (asked with_claim q) theory.now.horizon
+        (option_map (λ key. key.now.row) after.entry) form) }
 {
     clauses_tell_rows();
     models_meet_completion();

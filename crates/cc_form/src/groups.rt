@@ -20,7 +20,8 @@ use cc_theory::{Theory, TimedHead, TimedRule};
 fn some_value(store: &mut Store, first: u32, size: u32) -> Result<(), OutOfMemory>
     requires some { 1 ≤ first }
     requires most { first + size ≤ 4000001 }
-    ensures { OnOk result (Gives store.old.kept store.new.kept (position_variables first size ∷ [])) }
+    ensures { OnOk result
+        (Gives store.old.kept store.new.kept (position_variables first size ∷ [])) }
 {
     store.begin();
     for value in 0..size {
@@ -34,7 +35,8 @@ fn no_value_with(store: &mut Store, low: u32, end: u32) -> Result<(), OutOfMemor
     requires some { 1 ≤ low }
     requires below { low < end }
     requires most { end ≤ 4000001 }
-    ensures { OnOk result (Gives store.old.kept store.new.kept (map (λ v. opposite (positive low) ∷ opposite v ∷ []) (position_variables (low + 1) (end - (low + 1))))) }
+    ensures { OnOk result (Gives store.old.kept store.new.kept (map (λ v. opposite (positive low)
+        ∷ opposite v ∷ []) (position_variables (low + 1) (end - (low + 1))))) }
 {
     for high in low + 1..end {
         store.keep_two(Lit::negative(low), Lit::negative(high))?;
@@ -48,7 +50,8 @@ fn no_two_values(store: &mut Store, first: u32, end: u32) -> Result<(), OutOfMem
     requires some { 1 ≤ first }
     requires ordered { first ≤ end }
     requires most { end ≤ 4000001 }
-    ensures { OnOk result (Gives store.old.kept store.new.kept (pairs_denied (position_variables first (end - first)))) }
+    ensures { OnOk result (Gives store.old.kept store.new.kept
+        (pairs_denied (position_variables first (end - first)))) }
 {
     for low in first..end {
         if store.is_full() {
@@ -63,7 +66,8 @@ fn no_two_values(store: &mut Store, first: u32, end: u32) -> Result<(), OutOfMem
 fn exactly_one(store: &mut Store, first: u32, size: u32) -> Result<(), OutOfMemory>
     requires some { 1 ≤ first }
     requires most { first + size ≤ 4000001 }
-    ensures { OnOk result (Gives store.old.kept store.new.kept (exactly_one_of (position_variables first size))) }
+    ensures { OnOk result
+        (Gives store.old.kept store.new.kept (exactly_one_of (position_variables first size))) }
 {
     some_value(store, first, size)?;
     no_two_values(store, first, first + size)
@@ -107,7 +111,9 @@ fn complete_atom(
     requires places { places.now ≡ position_sizes theory.now.signature theory.now.horizon }
     requires bodies { length bodies.now ≡ length theory.now.rules }
     requires within { (size : ℕ) × (slice_get places.now position ≡ Some size) × (value < size) }
-    ensures { OnOk result (Gives store.old.kept store.new.kept (all_written (completion_of (positive (atom_variable places.now position value)) (bodies_of position value (bodied theory.now.rules bodies.now))))) }
+    ensures { OnOk result (Gives store.old.kept store.new.kept
+        (all_written (completion_of (positive (atom_variable places.now position value))
+        (bodies_of position value (bodied theory.now.rules bodies.now))))) }
 {
     pick(bodies, theory.completion(position, value), causes)?;
     define_any(store, places.atom(position, value), causes)
@@ -125,7 +131,9 @@ fn complete_position(
     requires places { places.now ≡ position_sizes theory.now.signature theory.now.horizon }
     requires bodies { length bodies.now ≡ length theory.now.rules }
     requires within { position < length places.now }
-    ensures { OnOk result (Gives store.old.kept store.new.kept (all_written (position_completion places.now (bodied theory.now.rules bodies.now) position (slice_index places.now position)))) }
+    ensures { OnOk result
+        (Gives store.old.kept store.new.kept (all_written (position_completion places.now
+        (bodied theory.now.rules bodies.now) position (slice_index places.now position)))) }
 {
     let size = places.sizes()[position];
     if size < 2 {
@@ -155,7 +163,8 @@ pub(crate) fn complete(
 ) -> Result<(), OutOfMemory>
     requires places { places.now ≡ position_sizes theory.now.signature theory.now.horizon }
     requires bodies { length bodies.now ≡ length theory.now.rules }
-    ensures { OnOk result (Gives store.old.kept store.new.kept (all_written (completion_from places.now (bodied theory.now.rules bodies.now) 0 places.now))) }
+    ensures { OnOk result (Gives store.old.kept store.new.kept (all_written
+        (completion_from places.now (bodied theory.now.rules bodies.now) 0 places.now))) }
 {
     for position in 0..places.sizes().len() {
         complete_position(store, places, theory, bodies, causes, position)?;
@@ -170,7 +179,8 @@ pub(crate) fn deny_falsity(
     bodies: &[Lit],
 ) -> Result<(), OutOfMemory>
     requires { length bodies.now ≡ length theory.now.rules }
-    ensures { OnOk result (Gives store.old.kept store.new.kept (all_written (denials_of (bodied theory.now.rules bodies.now)))) }
+    ensures { OnOk result (Gives store.old.kept store.new.kept
+        (all_written (denials_of (bodied theory.now.rules bodies.now)))) }
 {
     for number in theory.denials() {
         store.write_one(bodies[*number as usize].opposite())?;
@@ -192,7 +202,9 @@ pub(crate) fn complete_between(
     requires bodies { length bodies.now ≡ length theory.now.rules }
     requires ordered { start ≤ end }
     requires within { end ≤ length places.now }
-    ensures { OnOk result (Gives store.old.kept store.new.kept (all_written (completion_from places.now (bodied theory.now.rules bodies.now) start (take (end - start) (drop start places.now))))) }
+    ensures { OnOk result
+        (Gives store.old.kept store.new.kept (all_written (completion_from places.now
+        (bodied theory.now.rules bodies.now) start (take (end - start) (drop start places.now))))) }
 {
     for position in start..end {
         complete_position(store, places, theory, bodies, causes, position)?;
@@ -202,7 +214,8 @@ pub(crate) fn complete_between(
 
 /// Where the head of a rule is falsity, that it does not have its body.
 fn deny_one(store: &mut Store, head: TimedHead, body: Lit) -> Result<(), OutOfMemory>
-    ensures { OnOk result (Gives store.old.kept store.new.kept (all_written (denials_of (record { head = plain_head head; body = body } ∷ [])))) }
+    ensures { OnOk result (Gives store.old.kept store.new.kept
+        (all_written (denials_of (record { head = plain_head head; body = body } ∷ [])))) }
 {
     match head {
         TimedHead::Falsity => store.write_one(body.opposite()),
@@ -217,7 +230,8 @@ pub(crate) fn deny_each(
     bodies: &[Lit],
 ) -> Result<(), OutOfMemory>
     requires { length bodies.now ≡ length rules.now }
-    ensures { OnOk result (Gives store.old.kept store.new.kept (all_written (denials_of (bodied rules.now bodies.now)))) }
+    ensures { OnOk result (Gives store.old.kept store.new.kept
+        (all_written (denials_of (bodied rules.now bodies.now)))) }
 {
     for number in 0..rules.len() {
         deny_one(store, rules[number].head, bodies[number])?;

@@ -78,7 +78,8 @@ fn moved(by: &Move, literal: Lit) -> Lit
 fn stage_moved(store: &mut Store, by: &Move, clause: &[Lit]) -> Result<(), OutOfMemory>
     requires { (top : ℕ) × IsOver top clause.now × CanMove by.now top }
     ensures kept { OnOk result (store.new.kept ≡ store.old.kept) }
-    ensures staged { OnOk result (store.new.staged.items ≡ store.old.staged.items ++ map (renamed (variable_of by.now)) clause.now) }
+    ensures staged { OnOk result (store.new.staged.items
+        ≡ store.old.staged.items ++ map (renamed (variable_of by.now)) clause.now) }
 {
     for literal in clause {
         store.stage(moved(by, *literal))?;
@@ -89,7 +90,8 @@ fn stage_moved(store: &mut Store, by: &Move, clause: &[Lit]) -> Result<(), OutOf
 /// Keeps a clause where it has moved to.
 fn keep_moved(store: &mut Store, by: &Move, clause: &[Lit]) -> Result<(), OutOfMemory>
     requires { (top : ℕ) × IsOver top clause.now × CanMove by.now top }
-    ensures { OnOk result (Gives store.old.kept store.new.kept (map (renamed (variable_of by.now)) clause.now ∷ [])) }
+    ensures { OnOk result
+        (Gives store.old.kept store.new.kept (map (renamed (variable_of by.now)) clause.now ∷ [])) }
 {
     store.begin();
     stage_moved(store, by, clause)?;
@@ -120,7 +122,8 @@ fn keep_later(
 ) -> Result<(), OutOfMemory>
     requires steps { steps + 2 ≤ horizon }
     requires can { (top : ℕ) × AreOver top clauses.now × CanPlace way.now horizon top }
-    ensures { OnOk result (Gives store.old.kept store.new.kept (moved_clauses (way_at way.now steps) clauses.now)) }
+    ensures { OnOk result
+        (Gives store.old.kept store.new.kept (moved_clauses (way_at way.now steps) clauses.now)) }
 {
     keep_all_moved(store, &move_by(way, steps), clauses)
 }
@@ -133,7 +136,8 @@ fn keep_each(
     clauses: &ClauseArena,
 ) -> Result<(), OutOfMemory>
     requires { (top : ℕ) × AreOver top clauses.now × CanPlace way.now horizon top }
-    ensures { OnOk result (Gives store.old.kept store.new.kept (flat_map (λ steps. moved_clauses (way_at way.now steps) clauses.now) (upto (horizon - 1)))) }
+    ensures { OnOk result (Gives store.old.kept store.new.kept (flat_map (λ steps.
+        moved_clauses (way_at way.now steps) clauses.now) (upto (horizon - 1)))) }
 {
     for steps in 0..horizon - 1 {
         keep_later(store, way, horizon, steps, clauses)?;
@@ -150,8 +154,10 @@ pub(crate) fn place(
     later: &ClauseArena,
     last: &ClauseArena,
 ) -> Result<(), OutOfMemory>
-    requires { (top : ℕ) × AreOver top first.now × AreOver top later.now × AreOver top last.now × CanPlace way.now horizon top }
-    ensures { OnOk result (Gives store.old.kept store.new.kept (placed_by way.now horizon first.now later.now last.now)) }
+    requires { (top : ℕ) × AreOver top first.now
+        × AreOver top later.now × AreOver top last.now × CanPlace way.now horizon top }
+    ensures { OnOk result (Gives store.old.kept store.new.kept
+        (placed_by way.now horizon first.now later.now last.now)) }
 {
     keep_later(store, way, horizon, 0, first)?;
     keep_each(store, way, horizon, later)?;

@@ -74,7 +74,8 @@ fn constant_sizes(alloc: Global, sig: &Sig) -> Result<Vec<u32>, OutOfMemory>
 
 /// How many values the ground constants have together, up to one more than the limit of variables.
 pub(crate) fn value_count_of(alloc: Global, sig: &Sig) -> Result<u32, OutOfMemory>
-    ensures { IfOk result (λ count. count ≡ min (sum (domain_sizes (ground_constants sig.now))) 4000001) }
+    ensures { IfOk result (λ count.
+        count ≡ min (sum (domain_sizes (ground_constants sig.now))) 4000001) }
 {
     let sizes = constant_sizes(alloc, sig)?;
     Ok(value_count(&sizes))

@@ -44,7 +44,8 @@ fn both(writer: &mut Writer, stride: u64, now: Timed<'_>, before: Timed<'_>) -> 
     requires before_step { before.step ≤ most_steps }
     requires now { IsTermOver writer.old.places (part_nodes stride now) }
     requires before { IsTermOver writer.old.places (part_nodes stride before) }
-    ensures { Makes writer.old writer.new result (made_nodes writer.old.places writer.old.last (part_nodes stride now.entry ++ part_nodes stride before.entry ++ nodes.All 2 ∷ [])) }
+    ensures { Makes writer.old writer.new result (made_nodes writer.old.places writer.old.last
+        (part_nodes stride now.entry ++ part_nodes stride before.entry ++ nodes.All 2 ∷ [])) }
 {
     writer.begin();
     writer.run(now.nodes, offset_of(stride, now.step))?;
@@ -61,7 +62,8 @@ fn joined(writer: &mut Writer, stride: u64, now: Timed<'_>, before: Timed<'_>) -
     requires before_step { before.step ≤ most_steps }
     requires now { IsTermOver writer.old.places (part_nodes stride now) }
     requires before { IsTermOver writer.old.places (part_nodes stride before) }
-    ensures { Makes writer.old writer.new result (made_nodes writer.old.places writer.old.last (joined_nodes (part_nodes stride now.entry) (part_nodes stride before.entry))) }
+    ensures { Makes writer.old writer.new result (made_nodes writer.old.places writer.old.last
+        (joined_nodes (part_nodes stride now.entry) (part_nodes stride before.entry))) }
 {
     if is_truth(now.nodes) {
         return writer.literal(before.nodes, offset_of(stride, before.step));
@@ -76,8 +78,11 @@ fn joined(writer: &mut Writer, stride: u64, now: Timed<'_>, before: Timed<'_>) -
 fn head_literal(writer: &mut Writer, head: TimedHead) -> Lit
     requires head { IsTermOver writer.old.places (head_nodes head) }
     requires last { writer.old.last ≤ most_variables }
-    ensures literal { result ≡ (made_nodes writer.old.places writer.old.last (head_nodes head)).literal }
-    ensures built { IsBuilt writer.old writer.new (made_nodes writer.old.places writer.old.last (head_nodes head)).last (made_nodes writer.old.places writer.old.last (head_nodes head)).clauses }
+    ensures literal { result
+        ≡ (made_nodes writer.old.places writer.old.last (head_nodes head)).literal }
+    ensures built { IsBuilt writer.old writer.new
+        (made_nodes writer.old.places writer.old.last (head_nodes head)).last
+        (made_nodes writer.old.places writer.old.last (head_nodes head)).clauses }
 {
     match head {
         TimedHead::Atom { position, value } => writer.places.atom(position, value),
@@ -90,7 +95,8 @@ fn body(writer: &mut Writer, stride: u64, rule: TimedRule<'_>) -> Result<Lit, Fa
     requires last { writer.old.last ≤ most_variables }
     requires stride { stride ≤ 8589934592 }
     requires fits { IsBodyOver writer.old.places stride rule }
-    ensures { Makes writer.old writer.new result (made_nodes writer.old.places writer.old.last (body_nodes stride rule.entry)) }
+    ensures { Makes writer.old writer.new result
+        (made_nodes writer.old.places writer.old.last (body_nodes stride rule.entry)) }
 {
     match rule.now {
         None => Ok(head_literal(writer, rule.head)),
@@ -117,7 +123,8 @@ fn made_rule(writer: &mut Writer, stride: u64, rule: TimedRule<'_>) -> Result<Li
     requires last { writer.old.last ≤ most_variables }
     requires stride { stride ≤ 8589934592 }
     requires fits { IsBodyOver writer.old.places stride rule }
-    ensures { Makes writer.old writer.new result (made_rule_of writer.old.places stride writer.old.last rule.entry) }
+    ensures { Makes writer.old writer.new result
+        (made_rule_of writer.old.places stride writer.old.last rule.entry) }
 {
     if is_certain(&writer.places, rule.head) {
         return Ok(writer.places.truth());
@@ -135,9 +142,13 @@ pub(crate) fn bodies(
     requires last { writer.old.last ≤ most_variables }
     requires stride { stride ≤ 8589934592 }
     requires fits { AllByRecursion (IsBodyOver writer.old.places stride) rules.now }
-    ensures literals { IfOk result (λ bodies. bodies.items ≡ map (λ rule. rule.body) (made_bodies writer.old.places stride writer.old.last rules.now).rules) }
-    ensures built { OnOk result (IsBuilt writer.old writer.new (made_bodies writer.old.places stride writer.old.last rules.now).last (made_bodies writer.old.places stride writer.old.last rules.now).clauses) }
-    ensures refused { IfErr result (IsPast (made_bodies writer.old.places stride writer.old.last rules.now).last) }
+    ensures literals { IfOk result (λ bodies. bodies.items ≡ map (λ rule. rule.body)
+        (made_bodies writer.old.places stride writer.old.last rules.now).rules) }
+    ensures built { OnOk result (IsBuilt writer.old writer.new
+        (made_bodies writer.old.places stride writer.old.last rules.now).last
+        (made_bodies writer.old.places stride writer.old.last rules.now).clauses) }
+    ensures refused { IfErr result
+        (IsPast (made_bodies writer.old.places stride writer.old.last rules.now).last) }
 {
     let mut bodies = Vec::with_capacity(alloc, rules.len())?;
     for rule in rules {
@@ -158,10 +169,15 @@ pub(crate) fn bodies_within(
     requires last { writer.old.last ≤ most_variables }
     requires bound { stride ≤ 8589934592 }
     requires horizon { horizon ≤ most_steps }
-    requires fits { (signature : Signature) × (stride ≡ stride_of signature) × (writer.old.places ≡ position_sizes signature horizon) × AreRulesAt signature horizon rules.now }
-    ensures literals { IfOk result (λ bodies. bodies.items ≡ map (λ rule. rule.body) (made_bodies writer.old.places stride writer.old.last rules.now).rules) }
-    ensures built { OnOk result (IsBuilt writer.old writer.new (made_bodies writer.old.places stride writer.old.last rules.now).last (made_bodies writer.old.places stride writer.old.last rules.now).clauses) }
-    ensures refused { IfErr result (IsPast (made_bodies writer.old.places stride writer.old.last rules.now).last) }
+    requires fits { (signature : Signature) × (stride ≡ stride_of signature) × (writer.old.places
+        ≡ position_sizes signature horizon) × AreRulesAt signature horizon rules.now }
+    ensures literals { IfOk result (λ bodies. bodies.items ≡ map (λ rule. rule.body)
+        (made_bodies writer.old.places stride writer.old.last rules.now).rules) }
+    ensures built { OnOk result (IsBuilt writer.old writer.new
+        (made_bodies writer.old.places stride writer.old.last rules.now).last
+        (made_bodies writer.old.places stride writer.old.last rules.now).clauses) }
+    ensures refused { IfErr result
+        (IsPast (made_bodies writer.old.places stride writer.old.last rules.now).last) }
 {
     bodies(alloc, writer, stride, rules)
 }

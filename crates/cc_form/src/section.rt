@@ -38,8 +38,10 @@ fn literal_at(
     requires last { writer.old.last ≤ most_variables }
     requires stride { stride ≤ 8589934592 }
     requires step { step_of_at condition.at horizon ≤ most_steps }
-    requires term { IsTermOver writer.old.places (condition_nodes stride horizon (plain_ground_condition condition)) }
-    ensures { Makes writer.old writer.new result (made_nodes writer.old.places writer.old.last (condition_nodes stride horizon (plain_ground_condition condition.entry))) }
+    requires term { IsTermOver writer.old.places
+        (condition_nodes stride horizon (plain_ground_condition condition)) }
+    ensures { Makes writer.old writer.new result (made_nodes writer.old.places writer.old.last
+        (condition_nodes stride horizon (plain_ground_condition condition.entry))) }
 {
     let step = step_of(condition.at, horizon);
     writer.literal(condition.nodes, offset_of(stride, step))
@@ -54,8 +56,12 @@ pub(crate) fn assert_all(
 ) -> Result<(), Fault>
     requires last { writer.old.last ≤ most_variables }
     requires stride { stride ≤ 8589934592 }
-    requires fit { AllByRecursion (λ condition. (step_of_at condition.at horizon ≤ most_steps) × IsTermOver writer.old.places (condition_nodes stride horizon (plain_ground_condition condition))) conditions.now }
-    ensures { Adds writer.old writer.new result (asserted_nodes writer.old.places writer.old.last (map (λ condition. condition_nodes stride horizon (plain_ground_condition condition)) conditions.now)) }
+    requires fit { AllByRecursion (λ condition.
+        (step_of_at condition.at horizon ≤ most_steps) × IsTermOver writer.old.places
+        (condition_nodes stride horizon (plain_ground_condition condition))) conditions.now }
+    ensures { Adds writer.old writer.new result
+        (asserted_nodes writer.old.places writer.old.last (map (λ condition.
+        condition_nodes stride horizon (plain_ground_condition condition)) conditions.now)) }
 {
     for condition in conditions {
         let literal = literal_at(writer, stride, horizon, *condition)?;
@@ -74,8 +80,10 @@ pub(crate) fn deny(
     requires last { writer.old.last ≤ most_variables }
     requires stride { stride ≤ 8589934592 }
     requires step { step_of_at claim.at horizon ≤ most_steps }
-    requires term { IsTermOver writer.old.places (condition_nodes stride horizon (plain_ground_condition claim)) }
-    ensures { Adds writer.old writer.new result (denied_nodes writer.old.places writer.old.last (Some (condition_nodes stride horizon (plain_ground_condition claim.entry)))) }
+    requires term { IsTermOver writer.old.places
+        (condition_nodes stride horizon (plain_ground_condition claim)) }
+    ensures { Adds writer.old writer.new result (denied_nodes writer.old.places writer.old.last
+        (Some (condition_nodes stride horizon (plain_ground_condition claim.entry)))) }
 {
     let literal = literal_at(writer, stride, horizon, claim)?;
     writer.store.keep_one(literal.opposite())?;
@@ -87,7 +95,9 @@ fn step_above(writer: &mut Writer, position: u64, value: u32, size: u32) -> Resu
     requires last { writer.old.last ≤ most_variables }
     requires size { slice_get writer.old.places position ≡ Some size }
     requires value { value < size }
-    ensures runs { RunsTo writer.old writer.new result (run_of writer.old.places (nodes_above position value (size - (value + 1)) ++ nodes.Any (size - (value + 1)) ∷ []) writer.old.stack.items writer.old.last) }
+    ensures runs { RunsTo writer.old writer.new result
+        (run_of writer.old.places (nodes_above position value (size - (value + 1))
+        ++ nodes.Any (size - (value + 1)) ∷ []) writer.old.stack.items writer.old.last) }
     ensures long { OnOk result (length writer.new.stack.items ≡ length writer.old.stack.items + 1) }
 {
     for more in value + 1..size {
@@ -101,7 +111,8 @@ fn step_part(writer: &mut Writer, position: u64, value: u32, size: u32) -> Resul
     requires last { writer.old.last ≤ most_variables }
     requires size { slice_get writer.old.places position ≡ Some size }
     requires value { value < size }
-    ensures runs { RunsTo writer.old writer.new result (run_of writer.old.places (key_part position size value) writer.old.stack.items writer.old.last) }
+    ensures runs { RunsTo writer.old writer.new result (run_of writer.old.places
+        (key_part position size value) writer.old.stack.items writer.old.last) }
     ensures long { OnOk result (length writer.new.stack.items ≡ length writer.old.stack.items + 2) }
 {
     step_above(writer, position, value, size)?;
@@ -112,8 +123,10 @@ fn step_part(writer: &mut Writer, position: u64, value: u32, size: u32) -> Resul
 fn step_down(writer: &mut Writer, row: &[u32]) -> Result<(), Fault>
     requires last { writer.old.last ≤ most_variables }
     requires row { IsRow writer.old.places row.now }
-    ensures runs { RunsTo writer.old writer.new result (run_of writer.old.places (key_down writer.old.places row.now (length row.now)) writer.old.stack.items writer.old.last) }
-    ensures long { OnOk result (length writer.new.stack.items ≡ length writer.old.stack.items + 2 * length row.now) }
+    ensures runs { RunsTo writer.old writer.new result (run_of writer.old.places (key_down
+        writer.old.places row.now (length row.now)) writer.old.stack.items writer.old.last) }
+    ensures long { OnOk result
+        (length writer.new.stack.items ≡ length writer.old.stack.items + 2 * length row.now) }
 {
     for position in 0..row.len() {
         let size = writer.places.sizes()[position];
@@ -127,7 +140,8 @@ fn step_down(writer: &mut Writer, row: &[u32]) -> Result<(), Fault>
 fn step_up(writer: &mut Writer, count: usize) -> Result<(), Fault>
     requires last { writer.old.last ≤ most_variables }
     requires long { 2 * count < length writer.old.stack.items }
-    ensures { RunsTo writer.old writer.new result (run_of writer.old.places (key_up count) writer.old.stack.items writer.old.last) }
+    ensures { RunsTo writer.old writer.new result
+        (run_of writer.old.places (key_up count) writer.old.stack.items writer.old.last) }
 {
     for pair in 0..count {
         step_pair(writer)?;
@@ -138,7 +152,8 @@ fn step_up(writer: &mut Writer, count: usize) -> Result<(), Fault>
 fn step_pair(writer: &mut Writer) -> Result<(), Fault>
     requires last { writer.old.last ≤ most_variables }
     requires long { 3 ≤ length writer.old.stack.items }
-    ensures runs { RunsTo writer.old writer.new result (run_of writer.old.places (nodes.All 2 ∷ nodes.Any 2 ∷ []) writer.old.stack.items writer.old.last) }
+    ensures runs { RunsTo writer.old writer.new result (run_of writer.old.places
+        (nodes.All 2 ∷ nodes.Any 2 ∷ []) writer.old.stack.items writer.old.last) }
     ensures long { OnOk result (length writer.new.stack.items + 2 ≡ length writer.old.stack.items) }
 {
     writer.step(Node::All(2), 0)?;
@@ -149,7 +164,8 @@ fn step_pair(writer: &mut Writer) -> Result<(), Fault>
 pub(crate) fn follow(writer: &mut Writer, row: &[u32]) -> Result<(), Fault>
     requires last { writer.old.last ≤ most_variables }
     requires row { IsRow writer.old.places row.now }
-    ensures { Adds writer.old writer.new result (asserted_nodes writer.old.places writer.old.last (postfix (after_key 0 writer.old.places row.now) ∷ [])) }
+    ensures { Adds writer.old writer.new result (asserted_nodes writer.old.places writer.old.last
+        (postfix (after_key 0 writer.old.places row.now) ∷ [])) }
 {
     let literal = follow_literal(writer, row)?;
     writer.store.keep_one(literal)?;
@@ -159,7 +175,9 @@ pub(crate) fn follow(writer: &mut Writer, row: &[u32]) -> Result<(), Fault>
 fn follow_literal(writer: &mut Writer, row: &[u32]) -> Result<Lit, Fault>
     requires last { writer.old.last ≤ most_variables }
     requires row { IsRow writer.old.places row.now }
-    ensures { Makes writer.old writer.new result (made_nodes writer.old.places writer.old.last (key_down writer.old.places row.now (length row.now) ++ nodes.False ∷ [] ++ key_up (length row.now))) }
+    ensures { Makes writer.old writer.new result
+        (made_nodes writer.old.places writer.old.last (key_down writer.old.places row.now
+        (length row.now) ++ nodes.False ∷ [] ++ key_up (length row.now))) }
 {
     writer.begin();
     step_down(writer, row)?;

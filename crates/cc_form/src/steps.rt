@@ -74,7 +74,8 @@ struct ThreeComplete {
 
 /// Takes the clauses out, where they are within their limits.
 fn taken(alloc: Global, writer: &mut Writer) -> Result<ClauseArena, Fault>
-    ensures arena { (clauses : List (List Literal)) → Holds writer.old.store.kept clauses → IfOk result (λ arena. arena ≡ clauses) }
+    ensures arena { (clauses : List (List Literal)) →
+        Holds writer.old.store.kept clauses → IfOk result (λ arena. arena ≡ clauses) }
     ensures none { OnOk result (Holds writer.new.store.kept []) }
     ensures places { OnOk result (writer.new.places ≡ writer.old.places) }
     ensures last { OnOk result (writer.new.last ≡ writer.old.last) }
@@ -96,10 +97,14 @@ fn ruled(
     requires bound { stride ≤ 8589934592 }
     requires fits { AllByRecursion (IsBodyOver writer.old.places stride) rules.now }
     requires none { Holds writer.old.store.kept [] }
-    ensures bodies { IfOk result (λ ruled. ruled.bodies ≡ (made_bodies writer.old.places stride writer.old.last rules.now).clauses) }
-    ensures denials { IfOk result (λ ruled. ruled.denials ≡ all_written (denials_of (made_bodies writer.old.places stride writer.old.last rules.now).rules)) }
-    ensures literals { OnOk result (literals.new.items ≡ literals.old.items ++ map (λ rule. rule.body) (made_bodies writer.old.places stride writer.old.last rules.now).rules) }
-    ensures last { OnOk result (writer.new.last ≡ (made_bodies writer.old.places stride writer.old.last rules.now).last) }
+    ensures bodies { IfOk result (λ ruled.
+        ruled.bodies ≡ (made_bodies writer.old.places stride writer.old.last rules.now).clauses) }
+    ensures denials { IfOk result (λ ruled. ruled.denials ≡ all_written
+        (denials_of (made_bodies writer.old.places stride writer.old.last rules.now).rules)) }
+    ensures literals { OnOk result (literals.new.items ≡ literals.old.items ++ map (λ rule.
+        rule.body) (made_bodies writer.old.places stride writer.old.last rules.now).rules) }
+    ensures last { OnOk result
+        (writer.new.last ≡ (made_bodies writer.old.places stride writer.old.last rules.now).last) }
     ensures most { OnOk result (writer.new.last ≤ most_variables) }
     ensures places { OnOk result (writer.new.places ≡ writer.old.places) }
     ensures empty { OnOk result (Holds writer.new.store.kept []) }
@@ -125,7 +130,9 @@ fn begin(
     requires last { writer.old.last ≡ truth_at sig.now 2 }
     requires within { writer.old.last ≤ most_variables }
     requires none { Holds writer.old.store.kept [] }
-    ensures literals { OnOk result (literals.new.items ≡ literals.old.items ++ map (λ rule. rule.body) (made_bodies (position_sizes sig.now 2) (stride_of sig.now) (truth_at sig.now 2) (all_initial 0 sig.now.fluents)).rules) }
+    ensures literals { OnOk result (literals.new.items
+        ≡ literals.old.items ++ map (λ rule. rule.body) (made_bodies (position_sizes sig.now 2)
+        (stride_of sig.now) (truth_at sig.now 2) (all_initial 0 sig.now.fluents)).rules) }
     ensures last { OnOk result (writer.new.last ≡ writer.old.last) }
     ensures places { OnOk result (writer.new.places ≡ writer.old.places) }
     ensures empty { OnOk result (Holds writer.new.store.kept []) }
@@ -153,10 +160,14 @@ fn go_on(
     requires within { writer.old.last ≤ most_variables }
     requires none { Holds writer.old.store.kept [] }
     ensures bodies { IfOk result (λ ruled. ruled.bodies ≡ bodies_of_step sig.now laws.now 2 step) }
-    ensures denials { IfOk result (λ ruled. ruled.denials ≡ denials_of_step sig.now laws.now 2 step) }
-    ensures literals { OnOk result (literals.new.items ≡ literals.old.items ++ map (λ rule. rule.body) (bodies_in sig.now laws.now (own_variables sig.now laws.now) 2 step).rules) }
-    ensures last { OnOk result (writer.new.last ≡ (bodies_in sig.now laws.now (own_variables sig.now laws.now) 2 step).last) }
-    ensures next { step < 2 → OnOk result (writer.new.last ≡ truth_at sig.now 2 + (step + 1) * own_variables sig.now laws.now) }
+    ensures denials { IfOk result (λ ruled.
+        ruled.denials ≡ denials_of_step sig.now laws.now 2 step) }
+    ensures literals { OnOk result (literals.new.items ≡ literals.old.items ++ map (λ rule.
+        rule.body) (bodies_in sig.now laws.now (own_variables sig.now laws.now) 2 step).rules) }
+    ensures last { OnOk result (writer.new.last
+        ≡ (bodies_in sig.now laws.now (own_variables sig.now laws.now) 2 step).last) }
+    ensures next { step < 2 → OnOk result
+        (writer.new.last ≡ truth_at sig.now 2 + (step + 1) * own_variables sig.now laws.now) }
     ensures most { OnOk result (writer.new.last ≤ most_variables) }
     ensures places { OnOk result (writer.new.places ≡ writer.old.places) }
     ensures empty { OnOk result (Holds writer.new.store.kept []) }
@@ -185,7 +196,8 @@ fn three_ruled(
     ensures later { IfOk result (λ three. IsRuled sig.now laws.now 1 three.later) }
     ensures last { IfOk result (λ three. IsRuled sig.now laws.now 2 three.last) }
     ensures own { IfOk result (λ three. three.own ≡ own_variables sig.now laws.now) }
-    ensures literals { OnOk result (literals.new.items ≡ map (λ rule. rule.body) (bodies_at sig.now laws.now 2).rules) }
+    ensures literals { OnOk result
+        (literals.new.items ≡ map (λ rule. rule.body) (bodies_at sig.now laws.now 2).rules) }
     ensures ends { OnOk result (writer.new.last ≡ (bodies_at sig.now laws.now 2).last) }
     ensures most { OnOk result (writer.new.last ≤ most_variables) }
     ensures places { OnOk result (writer.new.places ≡ writer.old.places) }
@@ -220,7 +232,9 @@ fn completed(
     requires ordered { start ≤ end }
     requires within { end ≤ length writer.old.places }
     requires none { Holds writer.old.store.kept [] }
-    ensures completion { IfOk result (λ arena. arena ≡ all_written (completion_from writer.old.places (bodied theory.now.rules literals.now) start (take (end - start) (drop start writer.old.places)))) }
+    ensures completion { IfOk result (λ arena. arena
+        ≡ all_written (completion_from writer.old.places (bodied theory.now.rules literals.now)
+        start (take (end - start) (drop start writer.old.places)))) }
     ensures last { OnOk result (writer.new.last ≡ writer.old.last) }
     ensures places { OnOk result (writer.new.places ≡ writer.old.places) }
     ensures empty { OnOk result (Holds writer.new.store.kept []) }
@@ -248,7 +262,8 @@ fn three_complete(
 ) -> Result<ThreeComplete, Fault>
     requires laws { AreLawsFor sig.now laws.now }
     requires places { writer.old.places ≡ position_sizes sig.now 2 }
-    requires literals { literals.now ≡ map (λ rule. rule.body) (bodies_at sig.now laws.now 2).rules }
+    requires literals { literals.now
+        ≡ map (λ rule. rule.body) (bodies_at sig.now laws.now 2).rules }
     requires none { Holds writer.old.store.kept [] }
     ensures first { IfOk result (λ three. three.first ≡ completion_of_step sig.now laws.now 2 0) }
     ensures later { IfOk result (λ three. three.later ≡ completion_of_step sig.now laws.now 2 1) }

@@ -54,7 +54,8 @@ impl<'a> Model for Template<'a> {
 
     ghost view = { λ template. record { signature = template.sig.now; laws = template.laws.now } };
 
-    ghost invariant = { λ template. AreLawsFor template.sig.now template.laws.now × IfSome template.steps (AreSteps template.sig.now template.laws.now) };
+    ghost invariant = { λ template. AreLawsFor template.sig.now template.laws.now
+        × IfSome template.steps (AreSteps template.sig.now template.laws.now) };
 }
 
 /// The clauses of a horizon of two, where it passes no limit.
@@ -80,7 +81,8 @@ fn steps_at<'t>(
     requires steps { IfSome steps.now (AreSteps sig.now laws.now) }
     ensures steps { IfSome result (λ steps. AreSteps sig.now laws.now steps.now) }
     ensures some { IfSome result (λ steps. 2 ≤ horizon) }
-    ensures few { IfSome result (λ steps. length (rules_for sig.now laws.now horizon) ≤ most_rules) }
+    ensures few { IfSome result (λ steps.
+        length (rules_for sig.now laws.now horizon) ≤ most_rules) }
 {
     if horizon < 2 || !are_rules_few(sig, laws, horizon) {
         return None;
@@ -91,7 +93,12 @@ fn steps_at<'t>(
 /// How the clauses of steps move to a horizon whose variable that is true is this one.
 fn way_to(steps: &Steps, truth: u32) -> Way
     requires { steps.now.atoms + 1 ≤ truth }
-    ensures { result ≡ record { atoms = steps.now.atoms; values = steps.now.values; middle = truth - (steps.now.atoms + 1); own = steps.now.own } }
+    ensures { result ≡ record {
+      atoms = steps.now.atoms;
+      values = steps.now.values;
+      middle = truth - (steps.now.atoms + 1);
+      own = steps.now.own;
+    } }
 {
     Way {
         atoms: steps.atoms,
@@ -105,9 +112,12 @@ fn way_to(steps: &Steps, truth: u32) -> Way
 fn last_variable(way: &Way, ends: u32, horizon: u32) -> Result<u32, Fault>
     requires some { 2 ≤ horizon }
     requires most { horizon ≤ most_steps }
-    ensures last { IfOk result (λ last. last ≡ ends + (way.now.middle + (horizon - 2) * way.now.own)) }
-    ensures within { OnOk result (ends + (way.now.middle + (horizon - 2) * way.now.own) ≤ most_variables) }
-    ensures refused { IfErr result (IsPast (ends + (way.now.middle + (horizon - 2) * way.now.own))) }
+    ensures last { IfOk result (λ last.
+        last ≡ ends + (way.now.middle + (horizon - 2) * way.now.own)) }
+    ensures within { OnOk result
+        (ends + (way.now.middle + (horizon - 2) * way.now.own) ≤ most_variables) }
+    ensures refused { IfErr result
+        (IsPast (ends + (way.now.middle + (horizon - 2) * way.now.own))) }
 {
     let own = u64::from(horizon - 2) * u64::from(way.own);
     let last = u64::from(ends) + (u64::from(way.middle) + own);
@@ -132,7 +142,8 @@ fn place_steps(
     requires places { writer.old.places ≡ position_sizes sig.now horizon }
     requires last { writer.old.last ≡ true_variable writer.old.places }
     requires within { writer.old.last ≤ most_variables }
-    ensures { Adds writer.old writer.new result (rules_list writer.old.places (stride_of sig.now) (rules_for sig.now laws.now horizon)) }
+    ensures { Adds writer.old writer.new result
+        (rules_list writer.old.places (stride_of sig.now) (rules_for sig.now laws.now horizon)) }
 {
     laws_give_rules();
     let way = way_to(steps, writer.last);
@@ -151,7 +162,8 @@ fn place_groups(
     horizon: u32,
 ) -> Result<(), OutOfMemory>
     requires { (top : ℕ) × AreOverSteps top steps.now × CanPlace way.now horizon top }
-    ensures { OnOk result (Gives store.old.kept store.new.kept (placed_steps way.now horizon steps.now)) }
+    ensures { OnOk result
+        (Gives store.old.kept store.new.kept (placed_steps way.now horizon steps.now)) }
 {
     place(
         store,
@@ -196,8 +208,16 @@ fn build(
     requires most { horizon ≤ most_steps }
     requires query { IsQueryAt sig.now horizon (plain_ground_query query.now) }
     requires key { IfSome after (λ key. IsKeyAt sig.now horizon key.now) }
-    ensures built { IfOk result (IsSection (position_sizes sig.now horizon) (section_list (record { signature = sig.now; horizon = horizon; rules = rules_for sig.now laws.now horizon }) (plain_ground_query query.now) with_claim (option_map (λ key. key.now) after.entry))) }
-    ensures refused { IfErr result (IsPast (section_list (record { signature = sig.now; horizon = horizon; rules = rules_for sig.now laws.now horizon }) (plain_ground_query query.now) with_claim (option_map (λ key. key.now) after.entry)).variables) }
+    ensures built { IfOk result (IsSection (position_sizes sig.now horizon) (section_list (record
+        { signature = sig.now; horizon = horizon; rules = rules_for sig.now laws.now horizon })
+        (plain_ground_query query.now) with_claim (option_map (λ key. key.now) after.entry))) }
+    ensures refused { IfErr result (IsPast (section_list (record {
+      signature = sig.now;
+      horizon
+          = horizon;
+      rules = rules_for sig.now laws.now horizon;
+    }) (plain_ground_query query.now)
+        with_claim (option_map (λ key. key.now) after.entry)).variables) }
     ensures ready { IfOk result IsBuiltForm }
 {
     laws_give_rules();
@@ -227,7 +247,9 @@ fn put_together(
     requires few { length (rules_for sig.now laws.now horizon) ≤ most_rules }
     requires query { IsQueryAt sig.now horizon (plain_ground_query query.now) }
     requires key { IfSome after (λ key. IsKeyAt sig.now horizon key.now) }
-    ensures { IsFormAt sig.now laws.now horizon (plain_ground_query query.now) with_claim (option_map (λ key. key.now) after.entry) (option_map (λ key. key.now.row) after.entry) result }
+    ensures { IsFormAt sig.now laws.now horizon
+        (plain_ground_query query.now) with_claim (option_map (λ key. key.now) after.entry)
+        (option_map (λ key. key.now.row) after.entry) result }
 {
     laws_give_rules();
     clauses_tell_rows();
@@ -253,7 +275,9 @@ fn made(
     requires horizon { horizon ≤ most_steps }
     requires query { IsQueryAt sig.now horizon (plain_ground_query query.now) }
     requires key { IfSome after (λ key. IsKeyAt sig.now horizon key.now) }
-    ensures { IsFormAt sig.now laws.now horizon (plain_ground_query query.now) with_claim (option_map (λ key. key.now) after.entry) (option_map (λ key. key.now.row) after.entry) result }
+    ensures { IsFormAt sig.now laws.now horizon
+        (plain_ground_query query.now) with_claim (option_map (λ key. key.now) after.entry)
+        (option_map (λ key. key.now.row) after.entry) result }
 {
     let theory = Theory::at(alloc, sig, laws, horizon)?;
     clauses(alloc, &theory, query, with_claim, after)
@@ -263,7 +287,8 @@ impl<'a> Template<'a> {
     /// The clauses of the steps of a horizon of two. Where it passes a limit none are kept, and each list is made rule by rule.
     pub fn new(alloc: Global, sig: &'a Sig, laws: &'a Laws<'a>) -> Result<Template<'a>, OutOfMemory>
         requires laws { AreLawsFor sig.now laws.now }
-        ensures { IfOk result (λ template. template ≡ record { signature = sig.now; laws = laws.now }) }
+        ensures { IfOk result (λ template.
+            template ≡ record { signature = sig.now; laws = laws.now }) }
     {
         let steps = steps_within(alloc, sig, laws)?;
         Ok(Template { sig, laws, steps })
@@ -282,10 +307,19 @@ impl<'a> Template<'a> {
         requires horizon { horizon ≤ most_steps }
         requires query { IsQueryAt self.now.signature horizon (plain_ground_query query.now) }
         requires key { IfSome after (λ key. IsKeyAt self.now.signature horizon key.now) }
-        ensures made { (d : Description) (q : Query) → AreLawsOf self.now.signature self.now.laws d → StandsForQuery (plain_ground_query query.now) d q → IfOk result (λ form. form ≡ form_of d q horizon with_claim (option_map (λ key. key.now) after.entry)) }
-        ensures tells { (d : Description) (q : Query) → AreLawsOf self.now.signature self.now.laws d → StandsForQuery (plain_ground_query query.now) d q → OnOk result (TellsHistories d (asked with_claim q) horizon (option_map (λ key. key.now.row) after.entry) (form_of d q horizon with_claim (option_map (λ key. key.now) after.entry))) }
-        ensures within { (d : Description) (q : Query) → AreLawsOf self.now.signature self.now.laws d → StandsForQuery (plain_ground_query query.now) d q → OnOk result (section_refusal d q horizon with_claim (option_map (λ key. key.now) after.entry) ≡ None) }
-        ensures refused { (d : Description) (q : Query) → AreLawsOf self.now.signature self.now.laws d → StandsForQuery (plain_ground_query query.now) d q → IfErr result (IsRefusedBy (section_refusal d q horizon with_claim (option_map (λ key. key.now) after.entry))) }
+        ensures made { (d : Description) (q : Query) → AreLawsOf self.now.signature self.now.laws
+            d → StandsForQuery (plain_ground_query query.now) d q → IfOk result (λ form.
+            form ≡ form_of d q horizon with_claim (option_map (λ key. key.now) after.entry)) }
+        ensures tells { (d : Description) (q : Query) → AreLawsOf self.now.signature self.now.laws
+            d → StandsForQuery (plain_ground_query query.now) d q → OnOk result (TellsHistories d
+            (asked with_claim q) horizon (option_map (λ key. key.now.row) after.entry)
+            (form_of d q horizon with_claim (option_map (λ key. key.now) after.entry))) }
+        ensures within { (d : Description) (q : Query) → AreLawsOf self.now.signature self.now.laws
+            d → StandsForQuery (plain_ground_query query.now) d q → OnOk result (section_refusal
+            d q horizon with_claim (option_map (λ key. key.now) after.entry) ≡ None) }
+        ensures refused { (d : Description) (q : Query) → AreLawsOf self.now.signature self.now.laws
+            d → StandsForQuery (plain_ground_query query.now) d q → IfErr result (IsRefusedBy
+            (section_refusal d q horizon with_claim (option_map (λ key. key.now) after.entry))) }
     {
         match steps_at(self.sig, self.laws, &self.steps, horizon) {
             Some(steps) => put_together(

@@ -62,11 +62,15 @@ fn fresh(last: &mut u32) -> Result<Lit, Fault>
 /// The literal of all of these.
 fn made_all(truth: Lit, operands: &[Lit], last: &mut u32, store: &mut Store) -> Result<Lit, Fault>
     requires { last.old ≤ most_variables }
-    ensures literal { IfOk result (λ literal. literal ≡ (made_all_of truth (record { literals = operands.now; last = last.old; clauses = [] }) operands.now).literal) }
-    ensures last { OnOk result (last.new ≡ (made_all_of truth (record { literals = operands.now; last = last.old; clauses = [] }) operands.now).last) }
+    ensures literal { IfOk result (λ literal. literal ≡ (made_all_of truth
+        (record { literals = operands.now; last = last.old; clauses = [] }) operands.now).literal) }
+    ensures last { OnOk result (last.new ≡ (made_all_of truth
+        (record { literals = operands.now; last = last.old; clauses = [] }) operands.now).last) }
     ensures within { OnOk result (last.new ≤ most_variables) }
-    ensures clauses { OnOk result (Gives store.old.kept store.new.kept (made_all_of truth (record { literals = operands.now; last = last.old; clauses = [] }) operands.now).clauses) }
-    ensures refused { IfErr result (IsPast (made_all_of truth (record { literals = operands.now; last = last.old; clauses = [] }) operands.now).last) }
+    ensures clauses { OnOk result (Gives store.old.kept store.new.kept (made_all_of truth
+        (record { literals = operands.now; last = last.old; clauses = [] }) operands.now).clauses) }
+    ensures refused { IfErr result (IsPast (made_all_of truth
+        (record { literals = operands.now; last = last.old; clauses = [] }) operands.now).last) }
 {
     match operands {
         [] => Ok(truth),
@@ -82,11 +86,15 @@ fn made_all(truth: Lit, operands: &[Lit], last: &mut u32, store: &mut Store) -> 
 /// The literal of one of these.
 fn made_any(truth: Lit, operands: &[Lit], last: &mut u32, store: &mut Store) -> Result<Lit, Fault>
     requires { last.old ≤ most_variables }
-    ensures literal { IfOk result (λ literal. literal ≡ (made_any_of truth (record { literals = operands.now; last = last.old; clauses = [] }) operands.now).literal) }
-    ensures last { OnOk result (last.new ≡ (made_any_of truth (record { literals = operands.now; last = last.old; clauses = [] }) operands.now).last) }
+    ensures literal { IfOk result (λ literal. literal ≡ (made_any_of truth
+        (record { literals = operands.now; last = last.old; clauses = [] }) operands.now).literal) }
+    ensures last { OnOk result (last.new ≡ (made_any_of truth
+        (record { literals = operands.now; last = last.old; clauses = [] }) operands.now).last) }
     ensures within { OnOk result (last.new ≤ most_variables) }
-    ensures clauses { OnOk result (Gives store.old.kept store.new.kept (made_any_of truth (record { literals = operands.now; last = last.old; clauses = [] }) operands.now).clauses) }
-    ensures refused { IfErr result (IsPast (made_any_of truth (record { literals = operands.now; last = last.old; clauses = [] }) operands.now).last) }
+    ensures clauses { OnOk result (Gives store.old.kept store.new.kept (made_any_of truth
+        (record { literals = operands.now; last = last.old; clauses = [] }) operands.now).clauses) }
+    ensures refused { IfErr result (IsPast (made_any_of truth
+        (record { literals = operands.now; last = last.old; clauses = [] }) operands.now).last) }
 {
     match operands {
         [] => Ok(truth.opposite()),
@@ -102,11 +110,15 @@ fn made_any(truth: Lit, operands: &[Lit], last: &mut u32, store: &mut Store) -> 
 /// The literal of both of these, or neither.
 fn made_same(f: Lit, g: Lit, last: &mut u32, store: &mut Store) -> Result<Lit, Fault>
     requires { last.old ≤ most_variables }
-    ensures literal { IfOk result (λ literal. literal ≡ (made_same_of (plain_made f last.old) (plain_made g last.old)).literal) }
-    ensures last { OnOk result (last.new ≡ (made_same_of (plain_made f last.old) (plain_made g last.old)).last) }
+    ensures literal { IfOk result (λ literal.
+        literal ≡ (made_same_of (plain_made f last.old) (plain_made g last.old)).literal) }
+    ensures last { OnOk result
+        (last.new ≡ (made_same_of (plain_made f last.old) (plain_made g last.old)).last) }
     ensures within { OnOk result (last.new ≤ most_variables) }
-    ensures clauses { OnOk result (Gives store.old.kept store.new.kept (made_same_of (plain_made f last.old) (plain_made g last.old)).clauses) }
-    ensures refused { IfErr result (IsPast (made_same_of (plain_made f last.old) (plain_made g last.old)).last) }
+    ensures clauses { OnOk result (Gives store.old.kept store.new.kept
+        (made_same_of (plain_made f last.old) (plain_made g last.old)).clauses) }
+    ensures refused { IfErr result
+        (IsPast (made_same_of (plain_made f last.old) (plain_made g last.old)).last) }
 {
     let x = fresh(last)?;
     define_same(store, x, f, g)?;
@@ -126,11 +138,15 @@ fn made(
     requires offset { offset ≤ 9000000000000 }
     requires fits { Fits places.now (moved_node offset node) }
     requires operands { length operands.now ≡ arity_of node }
-    ensures literal { IfOk result (λ literal. literal ≡ (made_node places.now (moved_node offset node) operands.now last.old).literal) }
-    ensures last { OnOk result (last.new ≡ (made_node places.now (moved_node offset node) operands.now last.old).last) }
+    ensures literal { IfOk result (λ literal.
+        literal ≡ (made_node places.now (moved_node offset node) operands.now last.old).literal) }
+    ensures last { OnOk result
+        (last.new ≡ (made_node places.now (moved_node offset node) operands.now last.old).last) }
     ensures within { OnOk result (last.new ≤ most_variables) }
-    ensures clauses { OnOk result (Gives store.old.kept store.new.kept (made_node places.now (moved_node offset node) operands.now last.old).clauses) }
-    ensures refused { IfErr result (IsPast (made_node places.now (moved_node offset node) operands.now last.old).last) }
+    ensures clauses { OnOk result (Gives store.old.kept store.new.kept
+        (made_node places.now (moved_node offset node) operands.now last.old).clauses) }
+    ensures refused { IfErr result
+        (IsPast (made_node places.now (moved_node offset node) operands.now last.old).last) }
 {
     match node {
         Node::True => Ok(places.truth()),
@@ -181,8 +197,10 @@ impl Writer {
         requires offset { offset ≤ 9000000000000 }
         requires fits { Fits self.old.places (moved_node offset node) }
         requires operands { arity_of node ≤ length self.old.stack.items }
-        ensures ran { OnOk result (IsRan self.old self.new (stepped self.old.places (moved_node offset node) self.old.stack.items self.old.last)) }
-        ensures refused { IfErr result (IsPast (stepped self.old.places (moved_node offset node) self.old.stack.items self.old.last).last) }
+        ensures ran { OnOk result (IsRan self.old self.new
+            (stepped self.old.places (moved_node offset node) self.old.stack.items self.old.last)) }
+        ensures refused { IfErr result (IsPast (stepped self.old.places
+            (moved_node offset node) self.old.stack.items self.old.last).last) }
     {
         let start = self.stack.len() - arity(node);
         let operands = &self.stack[start..];
@@ -203,8 +221,10 @@ impl Writer {
     pub(crate) fn step_atom(&mut self, position: u64, value: u32) -> Result<(), Fault>
         requires last { self.old.last ≤ most_variables }
         requires fits { Fits self.old.places (nodes.Atom position value) }
-        ensures ran { OnOk result (IsRan self.old self.new (stepped self.old.places (nodes.Atom position value) self.old.stack.items self.old.last)) }
-        ensures refused { IfErr result (IsPast (stepped self.old.places (nodes.Atom position value) self.old.stack.items self.old.last).last) }
+        ensures ran { OnOk result (IsRan self.old self.new (stepped self.old.places
+            (nodes.Atom position value) self.old.stack.items self.old.last)) }
+        ensures refused { IfErr result (IsPast (stepped self.old.places
+            (nodes.Atom position value) self.old.stack.items self.old.last).last) }
     {
         self.stack.push(self.places.atom(position, value))?;
         Ok(())
@@ -216,8 +236,10 @@ impl Writer {
         requires offset { offset ≤ 9000000000000 }
         requires fits { AllByRecursion (Fits self.old.places) (moved_nodes offset term.now) }
         requires ready { IsReady (length self.old.stack.items) (moved_nodes offset term.now) }
-        ensures ran { OnOk result (IsRan self.old self.new (run_of self.old.places (moved_nodes offset term.now) self.old.stack.items self.old.last)) }
-        ensures refused { IfErr result (IsPast (run_of self.old.places (moved_nodes offset term.now) self.old.stack.items self.old.last).last) }
+        ensures ran { OnOk result (IsRan self.old self.new (run_of self.old.places
+            (moved_nodes offset term.now) self.old.stack.items self.old.last)) }
+        ensures refused { IfErr result (IsPast (run_of self.old.places
+            (moved_nodes offset term.now) self.old.stack.items self.old.last).last) }
     {
         for node in term {
             self.step(*node, offset)?;
@@ -248,9 +270,13 @@ impl Writer {
         requires last { self.old.last ≤ most_variables }
         requires offset { offset ≤ 9000000000000 }
         requires term { IsTermOver self.old.places (moved_nodes offset term.now) }
-        ensures literal { IfOk result (λ literal. literal ≡ (made_nodes self.old.places self.old.last (moved_nodes offset term.now)).literal) }
-        ensures built { OnOk result (IsBuilt self.old self.new (made_nodes self.old.places self.old.last (moved_nodes offset term.now)).last (made_nodes self.old.places self.old.last (moved_nodes offset term.now)).clauses) }
-        ensures refused { IfErr result (IsPast (made_nodes self.old.places self.old.last (moved_nodes offset term.now)).last) }
+        ensures literal { IfOk result (λ literal. literal
+            ≡ (made_nodes self.old.places self.old.last (moved_nodes offset term.now)).literal) }
+        ensures built { OnOk result (IsBuilt self.old self.new
+            (made_nodes self.old.places self.old.last (moved_nodes offset term.now)).last
+            (made_nodes self.old.places self.old.last (moved_nodes offset term.now)).clauses) }
+        ensures refused { IfErr result
+            (IsPast (made_nodes self.old.places self.old.last (moved_nodes offset term.now)).last) }
     {
         self.begin();
         self.run(term, offset)?;
@@ -259,9 +285,12 @@ impl Writer {
 
     /// Refuses more clauses or literals than their limits.
     pub(crate) fn fits(&self) -> Result<(), Fault>
-        ensures kept { (clauses : List (List Literal)) → Holds self.now.store.kept clauses → OnOk result (self.now.store.kept.arena ≡ clauses) }
-        ensures few { (clauses : List (List Literal)) → Holds self.now.store.kept clauses → OnOk result (AreFew clauses) }
-        ensures refused { (clauses : List (List Literal)) → Holds self.now.store.kept clauses → IfErr result (IsRefusedBy (count_refusal clauses)) }
+        ensures kept { (clauses : List (List Literal)) →
+            Holds self.now.store.kept clauses → OnOk result (self.now.store.kept.arena ≡ clauses) }
+        ensures few { (clauses : List (List Literal)) →
+            Holds self.now.store.kept clauses → OnOk result (AreFew clauses) }
+        ensures refused { (clauses : List (List Literal)) →
+            Holds self.now.store.kept clauses → IfErr result (IsRefusedBy (count_refusal clauses)) }
     {
         if self.store.is_full() {
             return Err(Fault::Refused(Refusal::past(LimitAt::AxiomClauses)));

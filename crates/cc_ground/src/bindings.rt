@@ -65,7 +65,8 @@ impl Bindings {
 
     /// The last variable of the law that has a value has none.
     pub(crate) fn take_back(&mut self)
-        ensures { (value : ℕ) (before : BindingsView) → self.old ≡ with_value value before → self.new ≡ before }
+        ensures { (value : ℕ) (before : BindingsView) →
+            self.old ≡ with_value value before → self.new ≡ before }
     {
         self.values.pop();
     }
@@ -73,7 +74,8 @@ impl Bindings {
     /// A bracket binds a variable to an object.
     pub(crate) fn bind(&mut self, variable: u32, object: u32) -> Result<(), OutOfMemory>
         ensures bound { OnOk result (self.new ≡ with_bound variable object self.old) }
-        ensures binds { OnOk result (environment_of self.new ≡ bind_in variable object (environment_of self.old)) }
+        ensures binds { OnOk result
+            (environment_of self.new ≡ bind_in variable object (environment_of self.old)) }
     {
         self.bound.push((variable, object))?;
         Ok(())
@@ -81,7 +83,8 @@ impl Bindings {
 
     /// The innermost bracket is left.
     pub(crate) fn unbind(&mut self)
-        ensures { (variable object : ℕ) (before : BindingsView) → self.old ≡ with_bound variable object before → self.new ≡ before }
+        ensures { (variable object : ℕ) (before : BindingsView) →
+            self.old ≡ with_bound variable object before → self.new ≡ before }
     {
         self.bound.pop();
     }

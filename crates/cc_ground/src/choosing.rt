@@ -58,7 +58,8 @@ fn has_constant(term: &Term) -> bool
 /// Whether one is of one of two terms.
 #[tactic(auto, using(crate::proofs::Counted::any_both))]
 fn have_constant(left: &Term, right: &Term) -> bool
-    ensures { result ≡ has_any (constants_of (plain_term left.now) ++ constants_of (plain_term right.now)) }
+    ensures { result
+        ≡ has_any (constants_of (plain_term left.now) ++ constants_of (plain_term right.now)) }
 {
     has_constant(left) || has_constant(right)
 }
@@ -85,7 +86,8 @@ pub(crate) fn has_lists(formula: &Formula) -> bool
 
 /// How many lists of values these constants have.
 fn product(table: &Table, sig: &Sig, constants: &[u32]) -> Result<usize, OutOfMemory>
-    ensures { IfOk result (λ count. count ≡ min (product_of (universe_of table.now sig.now) constants.now) 16000001) }
+    ensures { IfOk result (λ count.
+        count ≡ min (product_of (universe_of table.now sig.now) constants.now) 16000001) }
 {
     let mut count = 1;
     for constant in constants {
@@ -103,7 +105,9 @@ fn lists_between(
     left: &Term,
     right: &Term,
 ) -> Result<usize, OutOfMemory>
-    ensures { IfOk result (λ count. count ≡ min (lists_of (universe_of table.now sig.now) (environment_of env.now) (constants_of (plain_term left.now) ++ constants_of (plain_term right.now))) 16000001) }
+    ensures { IfOk result (λ count.
+        count ≡ min (lists_of (universe_of table.now sig.now) (environment_of env.now)
+        (constants_of (plain_term left.now) ++ constants_of (plain_term right.now))) 16000001) }
 {
     if !have_constant(left, right) {
         return Ok(0);
@@ -123,7 +127,9 @@ fn with_lists(
     left: &Term,
     right: &Term,
 ) -> Result<usize, OutOfMemory>
-    ensures { IfOk result (λ new. new ≡ min (count + lists_of (universe_of table.now sig.now) (environment_of env.now) (constants_of (plain_term left.now) ++ constants_of (plain_term right.now))) 16000001) }
+    ensures { IfOk result (λ new.
+        new ≡ min (count + lists_of (universe_of table.now sig.now) (environment_of env.now)
+        (constants_of (plain_term left.now) ++ constants_of (plain_term right.now))) 16000001) }
 {
     Ok(with(count, lists_between(alloc, table, sig, env, left, right)?))
 }
@@ -139,7 +145,9 @@ fn with_equation(
     right: &Term,
 ) -> Result<usize, OutOfMemory>
     requires { count ≤ 16000001 }
-    ensures { IfOk result (λ new. new ≡ min (count + choices_of (universe_of table.now sig.now) (environment_of env.now) (resolved.Equal (plain_term left.now) (plain_term right.now))) 16000001) }
+    ensures { IfOk result (λ new.
+        new ≡ min (count + choices_of (universe_of table.now sig.now) (environment_of env.now)
+        (resolved.Equal (plain_term left.now) (plain_term right.now))) 16000001) }
 {
     if !has_sum(left, right) {
         return Ok(count);
@@ -160,7 +168,9 @@ fn with_instances(
     formula: &Formula,
 ) -> Result<usize, OutOfMemory>
     requires { count ≤ 16000001 }
-    ensures count { IfOk result (λ new. new ≡ min (count + bracket_choices (universe_of table.now sig.now) (environment_of env.old) variable (plain_formula formula.now) (objects_in (universe_of table.now sig.now) sort)) 16000001) }
+    ensures count { IfOk result (λ new. new ≡ min
+        (count + bracket_choices (universe_of table.now sig.now) (environment_of env.old) variable
+        (plain_formula formula.now) (objects_in (universe_of table.now sig.now) sort)) 16000001) }
     ensures env { OnOk result (env.new ≡ env.old) }
 {
     if !has_lists(formula) {
@@ -186,7 +196,9 @@ fn with_formula(
     formula: &Formula,
 ) -> Result<usize, OutOfMemory>
     requires { count ≤ 16000001 }
-    ensures count { IfOk result (λ new. new ≡ min (count + choices_of (universe_of table.now sig.now) (environment_of env.old) (plain_formula formula.now)) 16000001) }
+    ensures count { IfOk result (λ new.
+        new ≡ min (count + choices_of (universe_of table.now sig.now)
+        (environment_of env.old) (plain_formula formula.now)) 16000001) }
     ensures env { OnOk result (env.new ≡ env.old) }
 {
     if count >= MANY_CHOICES {
@@ -234,7 +246,9 @@ fn with_part(
     part: &Option<Formula>,
 ) -> Result<usize, OutOfMemory>
     requires { count ≤ 16000001 }
-    ensures count { IfOk result (λ new. new ≡ min (count + part_choices (universe_of table.now sig.now) (environment_of env.old) (option_map plain_formula part.now)) 16000001) }
+    ensures count { IfOk result (λ new.
+        new ≡ min (count + part_choices (universe_of table.now sig.now)
+        (environment_of env.old) (option_map plain_formula part.now)) 16000001) }
     ensures env { OnOk result (env.new ≡ env.old) }
 {
     match part {
@@ -254,7 +268,8 @@ fn with_instance(
 ) -> Result<usize, OutOfMemory>
     requires few { count ≤ 16000001 }
     requires unbound { env.now.bound ≡ [] }
-    ensures count { IfOk result (λ new. new ≡ min (count + choices_under (universe_of table.now sig.now) (plain_law law.now) (env.old.values ∷ [])) 16000001) }
+    ensures count { IfOk result (λ new. new ≡ min (count + choices_under
+        (universe_of table.now sig.now) (plain_law law.now) (env.old.values ∷ [])) 16000001) }
     ensures env { OnOk result (env.new ≡ env.old) }
 {
     heads_there_are_ground();
@@ -280,7 +295,8 @@ fn with_choices(
 ) -> Result<usize, OutOfMemory>
     requires few { count ≤ 16000001 }
     requires unbound { env.now.bound ≡ [] }
-    ensures count { IfOk result (λ new. new ≡ min (count + choices_behind (universe_of table.now sig.now) (plain_law law.now) env.old.values ranges.now) 16000001) }
+    ensures count { IfOk result (λ new. new ≡ min (count + choices_behind
+        (universe_of table.now sig.now) (plain_law law.now) env.old.values ranges.now) 16000001) }
     ensures env { OnOk result (env.new ≡ env.old) }
 {
     if count >= MANY_CHOICES {
@@ -320,7 +336,8 @@ fn with_base_law(
 ) -> Result<usize, OutOfMemory>
     requires few { count ≤ 16000001 }
     requires empty { env.now ≡ no_bindings }
-    ensures count { IfOk result (λ new. new ≡ min (count + base_choices (universe_of table.now sig.now) (plain_base_law law.now)) 16000001) }
+    ensures count { IfOk result (λ new. new ≡ min
+        (count + base_choices (universe_of table.now sig.now) (plain_base_law law.now)) 16000001) }
     ensures env { OnOk result (env.new ≡ env.old) }
 {
     match law {
@@ -340,7 +357,8 @@ fn with_law(
 ) -> Result<usize, OutOfMemory>
     requires few { count ≤ 16000001 }
     requires empty { env.now ≡ no_bindings }
-    ensures count { IfOk result (λ new. new ≡ min (count + choices_behind (universe_of table.now sig.now) (plain_law law.now) [] law.now.ranges) 16000001) }
+    ensures count { IfOk result (λ new. new ≡ min (count + choices_behind
+        (universe_of table.now sig.now) (plain_law law.now) [] law.now.ranges) 16000001) }
     ensures env { OnOk result (env.new ≡ env.old) }
 {
     if !has_lists(&law.body) && !part_has_lists(&law.after) {
@@ -359,7 +377,8 @@ pub(crate) fn choices_of_laws(
     sig: &Sig,
     laws: &[BaseLaw],
 ) -> Result<usize, OutOfMemory>
-    ensures { IfOk result (λ count. count ≡ min (choices_of_all (universe_of table.now sig.now) (map plain_base_law laws.now)) 16000001) }
+    ensures { IfOk result (λ count. count ≡ min
+        (choices_of_all (universe_of table.now sig.now) (map plain_base_law laws.now)) 16000001) }
 {
     let mut env = Bindings::new(alloc);
     let mut count = 0;
@@ -378,7 +397,8 @@ fn choices_of_conditions(
     conditions: &[Condition],
 ) -> Result<usize, OutOfMemory>
     requires { env.now ≡ no_bindings }
-    ensures count { IfOk result (λ count. count ≡ min (conditions_choices (universe_of table.now sig.now) (map plain_condition conditions.now)) 16000001) }
+    ensures count { IfOk result (λ count. count ≡ min (conditions_choices
+        (universe_of table.now sig.now) (map plain_condition conditions.now)) 16000001) }
     ensures env { OnOk result (env.new ≡ env.old) }
 {
     let mut count = 0;
@@ -395,7 +415,8 @@ pub(crate) fn choices_of_asked(
     sig: &Sig,
     query: &Query,
 ) -> Result<usize, OutOfMemory>
-    ensures { IfOk result (λ count. count ≡ min (choices_of_query (universe_of table.now sig.now) (plain_query query.now)) 16000001) }
+    ensures { IfOk result (λ count. count
+        ≡ min (choices_of_query (universe_of table.now sig.now) (plain_query query.now)) 16000001) }
 {
     let mut env = Bindings::new(alloc);
     let count = choices_of_conditions(alloc, table, sig, &mut env, query.conditions.items())?;

@@ -16,7 +16,8 @@ use cc_sorts::Table;
 
 /// Whether there are both values, and they are the same.
 fn is_same(one: Option<Value>, other: Option<Value>) -> Result<bool, OutOfMemory>
-    ensures { IfOk result (λ same. same ≡ same_value (option_map plain_value one) (option_map plain_value other)) }
+    ensures { IfOk result (λ same.
+        same ≡ same_value (option_map plain_value one) (option_map plain_value other)) }
 {
     match (one, other) {
         (Some(Value::Thing(one)), Some(Value::Thing(other))) => Ok(one == other),
@@ -29,7 +30,8 @@ fn is_same(one: Option<Value>, other: Option<Value>) -> Result<bool, OutOfMemory
 
 /// Whether both are numbers, and the first is less.
 fn is_less(one: Option<Value>, other: Option<Value>) -> Result<bool, OutOfMemory>
-    ensures { IfOk result (λ less. less ≡ less_value (option_map plain_value one) (option_map plain_value other)) }
+    ensures { IfOk result (λ less.
+        less ≡ less_value (option_map plain_value one) (option_map plain_value other)) }
 {
     match (one, other) {
         (Some(Value::Whole(plus, minus)), Some(Value::Whole(other, another))) => {
@@ -41,7 +43,8 @@ fn is_less(one: Option<Value>, other: Option<Value>) -> Result<bool, OutOfMemory
 
 /// Whether both are numbers, and the first is not greater.
 fn is_at_most(one: Option<Value>, other: Option<Value>) -> Result<bool, OutOfMemory>
-    ensures { IfOk result (λ at_most. at_most ≡ at_most_value (option_map plain_value one) (option_map plain_value other)) }
+    ensures { IfOk result (λ at_most.
+        at_most ≡ at_most_value (option_map plain_value one) (option_map plain_value other)) }
 {
     match (one, other) {
         (Some(Value::Whole(plus, minus)), Some(Value::Whole(other, another))) => {
@@ -54,7 +57,8 @@ fn is_at_most(one: Option<Value>, other: Option<Value>) -> Result<bool, OutOfMem
 /// Whether both terms have a value, and the same.
 #[tactic(auto, using(crate::proofs::Bare::bare_value))]
 fn are_same(table: &Table, env: &Bindings, left: &Term, right: &Term) -> Result<bool, OutOfMemory>
-    ensures { IfOk result (λ passed. passed ≡ satisfied (bare_universe table.now) (λ number. 0) (environment_of env.now) (resolved.Equal (plain_term left.now) (plain_term right.now))) }
+    ensures { IfOk result (λ passed. passed ≡ satisfied (bare_universe table.now) (λ number. 0)
+        (environment_of env.now) (resolved.Equal (plain_term left.now) (plain_term right.now))) }
 {
     is_same(
         given_value(table, env, left)?,
@@ -64,7 +68,8 @@ fn are_same(table: &Table, env: &Bindings, left: &Term, right: &Term) -> Result<
 
 #[tactic(auto, using(crate::proofs::Bare::bare_value))]
 fn are_less(table: &Table, env: &Bindings, left: &Term, right: &Term) -> Result<bool, OutOfMemory>
-    ensures { IfOk result (λ passed. passed ≡ satisfied (bare_universe table.now) (λ number. 0) (environment_of env.now) (resolved.Less (plain_term left.now) (plain_term right.now))) }
+    ensures { IfOk result (λ passed. passed ≡ satisfied (bare_universe table.now) (λ number. 0)
+        (environment_of env.now) (resolved.Less (plain_term left.now) (plain_term right.now))) }
 {
     is_less(
         given_value(table, env, left)?,
@@ -79,7 +84,8 @@ fn are_at_most(
     left: &Term,
     right: &Term,
 ) -> Result<bool, OutOfMemory>
-    ensures { IfOk result (λ passed. passed ≡ satisfied (bare_universe table.now) (λ number. 0) (environment_of env.now) (resolved.AtMost (plain_term left.now) (plain_term right.now))) }
+    ensures { IfOk result (λ passed. passed ≡ satisfied (bare_universe table.now) (λ number. 0)
+        (environment_of env.now) (resolved.AtMost (plain_term left.now) (plain_term right.now))) }
 {
     is_at_most(
         given_value(table, env, left)?,
@@ -96,8 +102,9 @@ fn each_passes(
     sort: u32,
     formula: &Formula,
 ) -> Result<bool, OutOfMemory>
-    ensures passed { IfOk result (λ passed. passed ≡
-        list_all (λ object. satisfied (bare_universe table.now) (λ number. 0) (bind variable object (environment_of env.old)) (plain_formula formula.now)) (objects_in (bare_universe table.now) sort)) }
+    ensures passed { IfOk result (λ passed. passed ≡ list_all (λ object. satisfied
+        (bare_universe table.now) (λ number. 0) (bind variable object (environment_of env.old))
+        (plain_formula formula.now)) (objects_in (bare_universe table.now) sort)) }
     ensures env { OnOk result (env.new ≡ env.old) }
 {
     for object in objects_of(table, sort) {
@@ -119,8 +126,9 @@ fn some_passes(
     sort: u32,
     formula: &Formula,
 ) -> Result<bool, OutOfMemory>
-    ensures passed { IfOk result (λ passed. passed ≡
-        list_any (λ object. satisfied (bare_universe table.now) (λ number. 0) (bind variable object (environment_of env.old)) (plain_formula formula.now)) (objects_in (bare_universe table.now) sort)) }
+    ensures passed { IfOk result (λ passed. passed ≡ list_any (λ object. satisfied
+        (bare_universe table.now) (λ number. 0) (bind variable object (environment_of env.old))
+        (plain_formula formula.now)) (objects_in (bare_universe table.now) sort)) }
     ensures env { OnOk result (env.new ≡ env.old) }
 {
     for object in objects_of(table, sort) {
@@ -141,7 +149,8 @@ pub(crate) fn passes(
     env: &mut Bindings,
     formula: &Formula,
 ) -> Result<bool, OutOfMemory>
-    ensures passed { IfOk result (λ passed. passed ≡ satisfied (bare_universe table.now) (λ number. 0) (environment_of env.old) (plain_formula formula.now)) }
+    ensures passed { IfOk result (λ passed. passed ≡ satisfied (bare_universe table.now)
+        (λ number. 0) (environment_of env.old) (plain_formula formula.now)) }
     ensures env { OnOk result (env.new ≡ env.old) }
 {
     match formula {

@@ -23,7 +23,8 @@ fn times(count: usize, number: usize) -> usize
 
 /// How many lists of values of their ranges there are.
 pub(crate) fn choice_count(table: &Table, sig: &Sig, ranges: &[Range]) -> usize
-    ensures { result ≡ min (length (choices (map (range_values (universe_of table.now sig.now)) ranges.now))) 1000001 }
+    ensures { result ≡ min
+        (length (choices (map (range_values (universe_of table.now sig.now)) ranges.now))) 1000001 }
 {
     let mut count = 1;
     for range in ranges {
@@ -44,7 +45,8 @@ fn pair_count(number: usize) -> usize
 /// How many instances a base law has before its test.
 fn count_of(table: &Table, sig: &Sig, actions: &[u32], law: &BaseLaw) -> usize
     requires { actions.now ≡ boolean_actions (universe_of table.now sig.now) }
-    ensures { result ≡ min (instance_count (universe_of table.now sig.now) (plain_base_law law.now)) 1000001 }
+    ensures { result
+        ≡ min (instance_count (universe_of table.now sig.now) (plain_base_law law.now)) 1000001 }
 {
     match law {
         BaseLaw::One(law) => choice_count(table, sig, law.ranges.items()),
@@ -55,7 +57,8 @@ fn count_of(table: &Table, sig: &Sig, actions: &[u32], law: &BaseLaw) -> usize
 /// How many instances base laws have before their tests; the actions are the Boolean ones.
 pub(crate) fn count_all(table: &Table, sig: &Sig, actions: &[u32], laws: &[BaseLaw]) -> usize
     requires { actions.now ≡ boolean_actions (universe_of table.now sig.now) }
-    ensures { result ≡ min (instances_of_all (universe_of table.now sig.now) (map plain_base_law laws.now)) 1000001 }
+    ensures { result ≡ min
+        (instances_of_all (universe_of table.now sig.now) (map plain_base_law laws.now)) 1000001 }
 {
     let mut count = 0;
     for law in laws {

@@ -15,7 +15,8 @@ use std::alloc::Global;
 
 /// The head that a constant has a value.
 fn head_of_sides(left: Side<'_>, right: Side<'_>) -> Result<Option<GroundHead>, OutOfMemory>
-    ensures { IfOk result (λ head. head ≡ words.head_of_sides (plain_side left.entry) (plain_side right.entry)) }
+    ensures { IfOk result (λ head.
+        head ≡ words.head_of_sides (plain_side left.entry) (plain_side right.entry)) }
 {
     let (Side::Constant { number, values }, Side::Value(value)) = (left, right) else {
         return Ok(None);
@@ -37,7 +38,8 @@ pub(crate) fn head_under(
     env: &Bindings,
     head: &Head,
 ) -> Result<Option<GroundHead>, OutOfMemory>
-    ensures { IfOk result (λ found. found ≡ words.ground_head (universe_of table.now sig.now) (environment_of env.now) (plain_head head.now)) }
+    ensures { IfOk result (λ found. found ≡ words.ground_head
+        (universe_of table.now sig.now) (environment_of env.now) (plain_head head.now)) }
 {
     let Head::Atom {
         symbol,

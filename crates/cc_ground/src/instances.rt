@@ -44,10 +44,16 @@ impl<'t> Maker<'t> {
         terms: Terms<'a>,
         part: &Option<Formula>,
     ) -> Result<Option<&'a [Node]>, Halt>
-        ensures term { IfOk result (λ term. option_map (λ nodes. nodes.now) term ≡ option_map (λ f. nodes_of (universe_in self.old) (environment_of self.old.env) (plain_formula f)) part.now) }
-        ensures room { OnOk result (self.new.room + length_of_part (option_map (λ f. nodes_of (universe_in self.old) (environment_of self.old.env) (plain_formula f)) part.now) ≡ self.old.room) }
+        ensures term { IfOk result (λ term.
+            option_map (λ nodes. nodes.now) term ≡ option_map (λ f. nodes_of
+            (universe_in self.old) (environment_of self.old.env) (plain_formula f)) part.now) }
+        ensures room { OnOk result
+            (self.new.room + length_of_part (option_map (λ f. nodes_of (universe_in self.old)
+            (environment_of self.old.env) (plain_formula f)) part.now) ≡ self.old.room) }
         ensures like { OnOk result (IsLike self.old self.new) }
-        ensures full { IfErr result (LacksRoom (length_of_part (option_map (λ f. nodes_of (universe_in self.old) (environment_of self.old.env) (plain_formula f)) part.now)) self.old.room) }
+        ensures full { IfErr result
+            (LacksRoom (length_of_part (option_map (λ f. nodes_of (universe_in self.old)
+            (environment_of self.old.env) (plain_formula f)) part.now)) self.old.room) }
     {
         match part {
             Some(formula) => Ok(Some(self.term(alloc, terms, formula)?)),
@@ -65,8 +71,11 @@ impl<'t> Maker<'t> {
         law: &Law,
         head: GroundHead,
     ) -> Result<(), Halt>
-        ensures made { OnOk result (HasMade (words.law_with (universe_in self.old) base (plain_law law.now) (environment_of self.old.env) (Some head)) made.old.items made.new.items self.old self.new) }
-        ensures full { IfErr result (LacksRoom (nodes_in (words.law_with (universe_in self.old) base (plain_law law.now) (environment_of self.old.env) (Some head))) self.old.room) }
+        ensures made { OnOk result (HasMade (words.law_with (universe_in self.old) base
+            (plain_law law.now) (environment_of self.old.env) (Some head))
+            made.old.items made.new.items self.old self.new) }
+        ensures full { IfErr result (LacksRoom (nodes_in (words.law_with (universe_in self.old) base
+            (plain_law law.now) (environment_of self.old.env) (Some head))) self.old.room) }
     {
         let body = self.term(alloc, terms, &law.body)?;
         let after = self.part(alloc, terms, &law.after)?;
@@ -91,8 +100,11 @@ impl<'t> Maker<'t> {
         law: &Law,
     ) -> Result<(), Halt>
         requires { self.now.env.bound ≡ [] }
-        ensures made { OnOk result (HasMade (laws_under (universe_in self.old) base (plain_law law.now) (self.old.env.values ∷ [])) made.old.items made.new.items self.old self.new) }
-        ensures full { IfErr result (LacksRoom (nodes_in (laws_under (universe_in self.old) base (plain_law law.now) (self.old.env.values ∷ []))) self.old.room) }
+        ensures made { OnOk result
+            (HasMade (laws_under (universe_in self.old) base (plain_law law.now)
+            (self.old.env.values ∷ [])) made.old.items made.new.items self.old self.new) }
+        ensures full { IfErr result (LacksRoom (nodes_in (laws_under (universe_in self.old) base
+            (plain_law law.now) (self.old.env.values ∷ []))) self.old.room) }
     {
         heads_there_are_ground();
         if !passes(self.table, &mut self.env, &law.test)? {
@@ -115,8 +127,11 @@ impl<'t> Maker<'t> {
         ranges: &[Range],
     ) -> Result<(), Halt>
         requires { self.now.env.bound ≡ [] }
-        ensures made { OnOk result (HasMade (laws_behind (universe_in self.old) base (plain_law law.now) self.old.env.values ranges.now) made.old.items made.new.items self.old self.new) }
-        ensures full { IfErr result (LacksRoom (nodes_in (laws_behind (universe_in self.old) base (plain_law law.now) self.old.env.values ranges.now)) self.old.room) }
+        ensures made { OnOk result
+            (HasMade (laws_behind (universe_in self.old) base (plain_law law.now)
+            self.old.env.values ranges.now) made.old.items made.new.items self.old self.new) }
+        ensures full { IfErr result (LacksRoom (nodes_in (laws_behind (universe_in self.old) base
+            (plain_law law.now) self.old.env.values ranges.now)) self.old.room) }
     {
         let Some((range, others)) = ranges.split_first() else {
             return self.add_instance(alloc, terms, made, base, law);
@@ -140,8 +155,11 @@ impl<'t> Maker<'t> {
         law: &Law,
     ) -> Result<(), Halt>
         requires { self.now.env ≡ no_bindings }
-        ensures made { OnOk result (HasMade (laws_behind (universe_in self.old) base (plain_law law.now) [] law.now.ranges) made.old.items made.new.items self.old self.new) }
-        ensures full { IfErr result (LacksRoom (nodes_in (laws_behind (universe_in self.old) base (plain_law law.now) [] law.now.ranges)) self.old.room) }
+        ensures made { OnOk result
+            (HasMade (laws_behind (universe_in self.old) base (plain_law law.now) [] law.now.ranges)
+            made.old.items made.new.items self.old self.new) }
+        ensures full { IfErr result (LacksRoom (nodes_in (laws_behind
+            (universe_in self.old) base (plain_law law.now) [] law.now.ranges)) self.old.room) }
     {
         if choice_count(self.table, self.sig, law.ranges.items()) == 0 {
             return Ok(());
@@ -161,8 +179,10 @@ impl<'t> Maker<'t> {
     ) -> Result<(), Halt>
         requires empty { self.now.env ≡ no_bindings }
         requires actions { actions.now ≡ boolean_actions (universe_in self.now) }
-        ensures made { OnOk result (HasMade (laws_of (universe_in self.old) base (plain_base_law law.now)) made.old.items made.new.items self.old self.new) }
-        ensures full { IfErr result (LacksRoom (nodes_in (laws_of (universe_in self.old) base (plain_base_law law.now))) self.old.room) }
+        ensures made { OnOk result (HasMade (laws_of (universe_in self.old) base
+            (plain_base_law law.now)) made.old.items made.new.items self.old self.new) }
+        ensures full { IfErr result (LacksRoom (nodes_in
+            (laws_of (universe_in self.old) base (plain_base_law law.now))) self.old.room) }
     {
         match law {
             BaseLaw::One(law) => self.add_instances(alloc, terms, made, base, law),
@@ -181,8 +201,10 @@ impl<'t> Maker<'t> {
     ) -> Result<(), Halt>
         requires empty { self.now.env ≡ no_bindings }
         requires actions { actions.now ≡ boolean_actions (universe_in self.now) }
-        ensures made { OnOk result (HasMade (words.ground_laws (universe_in self.old) (map plain_base_law laws.now)) made.old.items made.new.items self.old self.new) }
-        ensures full { IfErr result (LacksRoom (nodes_in (words.ground_laws (universe_in self.old) (map plain_base_law laws.now))) self.old.room) }
+        ensures made { OnOk result (HasMade (words.ground_laws (universe_in self.old)
+            (map plain_base_law laws.now)) made.old.items made.new.items self.old self.new) }
+        ensures full { IfErr result (LacksRoom (nodes_in (words.ground_laws
+            (universe_in self.old) (map plain_base_law laws.now))) self.old.room) }
     {
         for (base, law) in laws.iter().enumerate() {
             self.add_base_law(alloc, terms, made, narrow(base)?, actions, law)?;
@@ -200,9 +222,12 @@ fn ground_laws<'a>(
     terms: &Terms<'a>,
 ) -> Result<Laws<'a>, Fault>
     requires { IsSignatureFor table.now sig.now }
-    ensures made { IfOk result (λ made. plain_ground_laws made ≡ words.ground_laws (universe_of table.now sig.now) (map plain_base_law laws.now)) }
-    ensures unrefused { OnOk result (laws_refusal (universe_of table.now sig.now) (map plain_base_law laws.now) ≡ None) }
-    ensures refused { IfErr result (IsRefusedBy (laws_refusal (universe_of table.now sig.now) (map plain_base_law laws.now))) }
+    ensures made { IfOk result (λ made. plain_ground_laws made
+        ≡ words.ground_laws (universe_of table.now sig.now) (map plain_base_law laws.now)) }
+    ensures unrefused { OnOk result
+        (laws_refusal (universe_of table.now sig.now) (map plain_base_law laws.now) ≡ None) }
+    ensures refused { IfErr result
+        (IsRefusedBy (laws_refusal (universe_of table.now sig.now) (map plain_base_law laws.now))) }
 {
     let actions = boolean_actions_of(alloc, table, sig)?;
     if count_all(table, sig, &actions, laws.items()) > LimitAt::LawInstances.number() as usize {
@@ -236,15 +261,21 @@ pub fn ground<'a>(
     terms: &Terms<'a>,
 ) -> Result<Laws<'a>, Fault>
     requires { IsSignatureFor table.now sig.now }
-    ensures made { (declarations : Items Declaration) → IsTable table.now declarations → IsSignatureOf declarations sig.now →
-        IfOk result (λ made. plain_ground_laws made ≡ words.ground_laws (universe declarations) (map plain_base_law laws.now)) }
-    ensures unrefused { (declarations : Items Declaration) → IsTable table.now declarations → IsSignatureOf declarations sig.now →
+    ensures made { (declarations : Items Declaration) → IsTable table.now declarations →
+        IsSignatureOf declarations sig.now → IfOk result (λ made. plain_ground_laws made
+        ≡ words.ground_laws (universe declarations) (map plain_base_law laws.now)) }
+    ensures unrefused { (declarations : Items Declaration) →
+        IsTable table.now declarations → IsSignatureOf declarations sig.now →
         OnOk result (laws_refusal (universe declarations) (map plain_base_law laws.now) ≡ None) }
-    ensures refused { (declarations : Items Declaration) → IsTable table.now declarations → IsSignatureOf declarations sig.now →
-        IfErr result (IsRefusedBy (laws_refusal (universe declarations) (map plain_base_law laws.now))) }
-    ensures meant { (declarations : Items Declaration) → IsTable table.now declarations → IsSignatureOf declarations sig.now →
-        IfOk result (λ made. MeanLaws (universe declarations) (map plain_base_law laws.now) (plain_ground_laws made)) }
-    ensures fits { (declarations : Items Declaration) → IsTable table.now declarations → IsSignatureOf declarations sig.now → HaveForms (symbols declarations) (map plain_base_law laws.now) →
+    ensures refused { (declarations : Items Declaration) →
+        IsTable table.now declarations → IsSignatureOf declarations sig.now → IfErr result
+        (IsRefusedBy (laws_refusal (universe declarations) (map plain_base_law laws.now))) }
+    ensures meant { (declarations : Items Declaration) →
+        IsTable table.now declarations → IsSignatureOf declarations sig.now → IfOk result (λ made.
+        MeanLaws (universe declarations) (map plain_base_law laws.now) (plain_ground_laws made)) }
+    ensures fits { (declarations : Items Declaration) →
+        IsTable table.now declarations → IsSignatureOf declarations sig.now →
+        HaveForms (symbols declarations) (map plain_base_law laws.now) →
         IfOk result (λ made. AreGroundLaws (universe declarations) (plain_ground_laws made)) }
 {
     declared_have_own_values();

@@ -55,7 +55,8 @@ fn chosen(constants: &[u32], indexes: &[u32], number: u32) -> u32
 
 /// The number that the value of this index of a constant is.
 fn number_at_index(table: &Table, sig: &Sig, constant: u32, index: u32) -> Option<u32>
-    ensures { result ≡ option_and_then (number_at table.now.numbers) (option_and_then (λ constant. slice_get constant.domain index) (slice_get (ground_constants sig.now) constant)) }
+    ensures { result ≡ option_and_then (number_at table.now.numbers) (option_and_then (λ constant.
+        slice_get constant.domain index) (slice_get (ground_constants sig.now) constant)) }
 {
     if !is_constant(sig, constant) {
         return None;
@@ -68,7 +69,8 @@ fn number_at_index(table: &Table, sig: &Sig, constant: u32, index: u32) -> Optio
 
 /// The number that a piece is.
 fn number_of(equation: &Equation<'_>, indexes: &[u32], piece: Piece) -> Option<u32>
-    ensures { result ≡ number_in (universe_at equation.now) (chosen_in equation.now.constants.now indexes.now) piece }
+    ensures { result ≡ number_in
+        (universe_at equation.now) (chosen_in equation.now.constants.now indexes.now) piece }
 {
     match piece {
         Piece::Nothing => None,
@@ -91,7 +93,8 @@ struct Total {
 
 /// A number more, which is added or taken.
 fn counted(total: Total, minus: bool, number: u32) -> Result<Total, OutOfMemory>
-    ensures { IfOk result (λ new. Some (Whole new.plus new.minus) ≡ joined minus (Some (Whole total.plus total.minus)) (Some (Whole number 0))) }
+    ensures { IfOk result (λ new. Some (Whole new.plus new.minus)
+        ≡ joined minus (Some (Whole total.plus total.minus)) (Some (Whole number 0))) }
 {
     let number = u64::from(number);
     if minus {
@@ -141,9 +144,12 @@ fn with_more(count: u32, more: u32) -> Result<u32, OutOfMemory>
 impl<'t> Maker<'t> {
     /// That each constant has the value of the index beside it. Answers how many these are.
     fn put_atoms(&mut self, constants: &[u32], indexes: &[u32]) -> Result<u32, Halt>
-        ensures put { OnOk result (HasPut (atom_nodes constants.now indexes.now) self.old self.new) }
-        ensures count { IfOk result (λ count. count ≡ length (atom_nodes constants.now indexes.now)) }
-        ensures full { IfErr result (LacksRoom (length (atom_nodes constants.now indexes.now)) self.old.room) }
+        ensures put { OnOk result
+            (HasPut (atom_nodes constants.now indexes.now) self.old self.new) }
+        ensures count { IfOk result (λ count.
+            count ≡ length (atom_nodes constants.now indexes.now)) }
+        ensures full { IfErr result
+            (LacksRoom (length (atom_nodes constants.now indexes.now)) self.old.room) }
     {
         let Some((constant, others)) = constants.split_first() else {
             return Ok(0);
@@ -163,7 +169,8 @@ impl<'t> Maker<'t> {
     fn put_list(&mut self, equation: &Equation<'_>, indexes: &[u32]) -> Result<u32, Halt>
         ensures put { OnOk result (HasPut (list_nodes equation.now indexes.now) self.old self.new) }
         ensures count { IfOk result (λ count. count ≡ list_count equation.now indexes.now) }
-        ensures full { IfErr result (LacksRoom (length (list_nodes equation.now indexes.now)) self.old.room) }
+        ensures full { IfErr result
+            (LacksRoom (length (list_nodes equation.now indexes.now)) self.old.room) }
     {
         if !holds(equation, indexes)? {
             return Ok(0);
@@ -181,10 +188,13 @@ impl<'t> Maker<'t> {
         indexes: &mut Vec<u32>,
         left: &[u32],
     ) -> Result<u32, Halt>
-        ensures put { OnOk result (HasPut (nodes_behind equation.now indexes.old.items left.now) self.old self.new) }
-        ensures count { IfOk result (λ count. count ≡ count_behind equation.now indexes.old.items left.now) }
+        ensures put { OnOk result
+            (HasPut (nodes_behind equation.now indexes.old.items left.now) self.old self.new) }
+        ensures count { IfOk result (λ count.
+            count ≡ count_behind equation.now indexes.old.items left.now) }
         ensures indexes { OnOk result (indexes.new.items ≡ indexes.old.items) }
-        ensures full { IfErr result (LacksRoom (length (nodes_behind equation.now indexes.old.items left.now)) self.old.room) }
+        ensures full { IfErr result (LacksRoom
+            (length (nodes_behind equation.now indexes.old.items left.now)) self.old.room) }
     {
         let Some((constant, others)) = left.split_first() else {
             return self.put_list(equation, indexes);
@@ -209,8 +219,10 @@ impl<'t> Maker<'t> {
 
     /// All lists of value indexes of an equation's constants that make it true; without a constant, whether it is true.
     fn put_all_lists(&mut self, alloc: Global, equation: &Equation<'_>) -> Result<(), Halt>
-        ensures put { OnOk result (HasPut (nodes_over equation.now equation.now.constants.now) self.old self.new) }
-        ensures full { IfErr result (LacksRoom (length (nodes_over equation.now equation.now.constants.now)) self.old.room) }
+        ensures put { OnOk result
+            (HasPut (nodes_over equation.now equation.now.constants.now) self.old self.new) }
+        ensures full { IfErr result (LacksRoom
+            (length (nodes_over equation.now equation.now.constants.now)) self.old.room) }
     {
         if equation.constants.is_empty() {
             return self.put_truth(holds(equation, &[])?);
@@ -228,8 +240,14 @@ impl<'t> Maker<'t> {
         pieces: &[Signed],
         constants: &[u32],
     ) -> Result<(), Halt>
-        ensures put { (env : Environment) (s t : PlainTerm) → IsOfPieces (universe_in self.old) env sign s t pieces.now constants.now → OnOk result (HasPut (postfix (judged (universe_in self.old) env (formula_of sign s t) (constants_of s ++ constants_of t))) self.old self.new) }
-        ensures full { (env : Environment) (s t : PlainTerm) → IsOfPieces (universe_in self.old) env sign s t pieces.now constants.now → IfErr result (LacksRoom (length (postfix (judged (universe_in self.old) env (formula_of sign s t) (constants_of s ++ constants_of t)))) self.old.room) }
+        ensures put { (env : Environment) (s t : PlainTerm) →
+            IsOfPieces (universe_in self.old) env sign s t pieces.now constants.now →
+            OnOk result (HasPut (postfix (judged (universe_in self.old) env
+            (formula_of sign s t) (constants_of s ++ constants_of t))) self.old self.new) }
+        ensures full { (env : Environment) (s t : PlainTerm) →
+            IsOfPieces (universe_in self.old) env sign s t pieces.now constants.now →
+            IfErr result (LacksRoom (length (postfix (judged (universe_in self.old) env
+            (formula_of sign s t) (constants_of s ++ constants_of t)))) self.old.room) }
     {
         let equation = Equation {
             table: self.table,
@@ -250,8 +268,14 @@ impl<'t> Maker<'t> {
         right: &Term,
     ) -> Result<(), Halt>
         requires { IsJudged sign (plain_term left.now) (plain_term right.now) }
-        ensures put { OnOk result (HasPut (postfix (judged (universe_in self.old) (environment_of self.old.env) (formula_of sign (plain_term left.now) (plain_term right.now)) (constants_of (plain_term left.now) ++ constants_of (plain_term right.now)))) self.old self.new) }
-        ensures full { IfErr result (LacksRoom (length (postfix (judged (universe_in self.old) (environment_of self.old.env) (formula_of sign (plain_term left.now) (plain_term right.now)) (constants_of (plain_term left.now) ++ constants_of (plain_term right.now))))) self.old.room) }
+        ensures put { OnOk result
+            (HasPut (postfix (judged (universe_in self.old) (environment_of self.old.env)
+            (formula_of sign (plain_term left.now) (plain_term right.now)) (constants_of
+            (plain_term left.now) ++ constants_of (plain_term right.now)))) self.old self.new) }
+        ensures full { IfErr result
+            (LacksRoom (length (postfix (judged (universe_in self.old) (environment_of self.old.env)
+            (formula_of sign (plain_term left.now) (plain_term right.now)) (constants_of
+            (plain_term left.now) ++ constants_of (plain_term right.now))))) self.old.room) }
     {
         let mut constants = Vec::new(alloc);
         let there = gather_both(

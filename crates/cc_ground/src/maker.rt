@@ -102,8 +102,10 @@ impl<'t> Maker<'t> {
 
     /// A constant has a value, which may be none of its own.
     fn put_atom(&mut self, constant: u32, values: &[u32], value: u32) -> Result<(), Halt>
-        ensures put { OnOk result (HasPut (postfix (words.atom constant values.now value)) self.old self.new) }
-        ensures full { IfErr result (LacksRoom (length (postfix (words.atom constant values.now value))) self.old.room) }
+        ensures put { OnOk result
+            (HasPut (postfix (words.atom constant values.now value)) self.old self.new) }
+        ensures full { IfErr result
+            (LacksRoom (length (postfix (words.atom constant values.now value))) self.old.room) }
     {
         match index_in(values, value) {
             Some(index) => {
@@ -122,7 +124,8 @@ impl<'t> Maker<'t> {
         other: u32,
         place: u32,
     ) -> Result<(), Halt>
-        ensures put { OnOk result (HasPut (postfix (all_of (terms.Atom constant value ∷ terms.Atom other place ∷ []))) self.old self.new) }
+        ensures put { OnOk result (HasPut (postfix
+            (all_of (terms.Atom constant value ∷ terms.Atom other place ∷ []))) self.old self.new) }
         ensures full { IfErr result (LacksRoom 3 self.old.room) }
     {
         self.push(Node::Atom { constant, value })?;
@@ -141,9 +144,12 @@ impl<'t> Maker<'t> {
         other: u32,
         others: &[u32],
     ) -> Result<u32, Halt>
-        ensures put { OnOk result (HasPut (postfixes (operands_behind nothing (words.common_values constant 0 values.now other others.now))) self.old self.new) }
-        ensures count { IfOk result (λ count. count ≡ operand_count (operands_behind nothing (words.common_values constant 0 values.now other others.now))) }
-        ensures full { IfErr result (LacksRoom (length (postfixes (operands_behind nothing (words.common_values constant 0 values.now other others.now)))) self.old.room) }
+        ensures put { OnOk result (HasPut (postfixes (operands_behind nothing
+            (words.common_values constant 0 values.now other others.now))) self.old self.new) }
+        ensures count { IfOk result (λ count. count ≡ operand_count (operands_behind nothing
+            (words.common_values constant 0 values.now other others.now))) }
+        ensures full { IfErr result (LacksRoom (length (postfixes (operands_behind nothing
+            (words.common_values constant 0 values.now other others.now)))) self.old.room) }
     {
         let mut count: usize = 0;
         for (index, value) in values.iter().enumerate() {
@@ -163,8 +169,12 @@ impl<'t> Maker<'t> {
         other: u32,
         others: &[u32],
     ) -> Result<(), Halt>
-        ensures put { OnOk result (HasPut (postfix (words.equation (words.Constant constant values.now) (words.Constant other others.now))) self.old self.new) }
-        ensures full { IfErr result (LacksRoom (length (postfix (words.equation (words.Constant constant values.now) (words.Constant other others.now)))) self.old.room) }
+        ensures put { OnOk result
+            (HasPut (postfix (words.equation (words.Constant constant values.now)
+            (words.Constant other others.now))) self.old self.new) }
+        ensures full { IfErr result
+            (LacksRoom (length (postfix (words.equation (words.Constant constant values.now)
+            (words.Constant other others.now)))) self.old.room) }
     {
         let count = self.put_commons(constant, values, other, others)?;
         self.push(Node::Any(count))
@@ -172,8 +182,10 @@ impl<'t> Maker<'t> {
 
     /// The equation of two sides.
     fn put_sides(&mut self, left: Side<'_>, right: Side<'_>) -> Result<(), Halt>
-        ensures put { OnOk result (HasPut (postfix (words.equation (plain_side left.entry) (plain_side right.entry))) self.old self.new) }
-        ensures full { IfErr result (LacksRoom (length (postfix (words.equation (plain_side left.entry) (plain_side right.entry)))) self.old.room) }
+        ensures put { OnOk result (HasPut (postfix
+            (words.equation (plain_side left.entry) (plain_side right.entry))) self.old self.new) }
+        ensures full { IfErr result (LacksRoom (length (postfix
+            (words.equation (plain_side left.entry) (plain_side right.entry)))) self.old.room) }
     {
         match (left, right) {
             (Side::Absent, _) | (_, Side::Absent) => self.push(Node::False),
@@ -199,8 +211,14 @@ impl<'t> Maker<'t> {
     }
 
     fn put_equation(&mut self, alloc: Global, left: &Term, right: &Term) -> Result<(), Halt>
-        ensures put { OnOk result (HasPut (postfix (words.equation (words.side (universe_in self.old) (environment_of self.old.env) (plain_term left.now)) (words.side (universe_in self.old) (environment_of self.old.env) (plain_term right.now)))) self.old self.new) }
-        ensures full { IfErr result (LacksRoom (length (postfix (words.equation (words.side (universe_in self.old) (environment_of self.old.env) (plain_term left.now)) (words.side (universe_in self.old) (environment_of self.old.env) (plain_term right.now))))) self.old.room) }
+        ensures put { OnOk result
+            (HasPut (postfix (words.equation (words.side (universe_in self.old)
+            (environment_of self.old.env) (plain_term left.now)) (words.side (universe_in self.old)
+            (environment_of self.old.env) (plain_term right.now)))) self.old self.new) }
+        ensures full { IfErr result
+            (LacksRoom (length (postfix (words.equation (words.side (universe_in self.old)
+            (environment_of self.old.env) (plain_term left.now)) (words.side (universe_in self.old)
+            (environment_of self.old.env) (plain_term right.now))))) self.old.room) }
     {
         let left = term_side(alloc, self.table, self.sig, &self.env, left)?;
         let right = term_side(alloc, self.table, self.sig, &self.env, right)?;
@@ -209,8 +227,12 @@ impl<'t> Maker<'t> {
 
     /// An equation, which is judged where it has a sum.
     fn put_equal(&mut self, alloc: Global, left: &Term, right: &Term) -> Result<(), Halt>
-        ensures put { OnOk result (HasPut (nodes_of (universe_in self.old) (environment_of self.old.env) (resolved.Equal (plain_term left.now) (plain_term right.now))) self.old self.new) }
-        ensures full { IfErr result (LacksRoom (length (nodes_of (universe_in self.old) (environment_of self.old.env) (resolved.Equal (plain_term left.now) (plain_term right.now)))) self.old.room) }
+        ensures put { OnOk result
+            (HasPut (nodes_of (universe_in self.old) (environment_of self.old.env)
+            (resolved.Equal (plain_term left.now) (plain_term right.now))) self.old self.new) }
+        ensures full { IfErr result
+            (LacksRoom (length (nodes_of (universe_in self.old) (environment_of self.old.env)
+            (resolved.Equal (plain_term left.now) (plain_term right.now)))) self.old.room) }
     {
         if has_sum(left, right) {
             return self.put_judged(alloc, Sign::Equal, left, right);
@@ -227,9 +249,16 @@ impl<'t> Maker<'t> {
         sort: u32,
         formula: &Formula,
     ) -> Result<u32, Halt>
-        ensures put { OnOk result (HasPut (postfixes (operands_behind nothing (map (λ object. words.term_of (universe_in self.old) (bind variable object (environment_of self.old.env)) (plain_formula formula.now)) (objects_in (universe_in self.old) sort)))) self.old self.new) }
-        ensures count { IfOk result (λ count. count ≡ length (objects_in (universe_in self.old) sort)) }
-        ensures full { IfErr result (LacksRoom (length (postfixes (operands_behind nothing (map (λ object. words.term_of (universe_in self.old) (bind variable object (environment_of self.old.env)) (plain_formula formula.now)) (objects_in (universe_in self.old) sort))))) self.old.room) }
+        ensures put { OnOk result (HasPut
+            (postfixes (operands_behind nothing (map (λ object. words.term_of (universe_in self.old)
+            (bind variable object (environment_of self.old.env)) (plain_formula formula.now))
+            (objects_in (universe_in self.old) sort)))) self.old self.new) }
+        ensures count { IfOk result (λ count.
+            count ≡ length (objects_in (universe_in self.old) sort)) }
+        ensures full { IfErr result (LacksRoom (length
+            (postfixes (operands_behind nothing (map (λ object. words.term_of (universe_in self.old)
+            (bind variable object (environment_of self.old.env)) (plain_formula formula.now))
+            (objects_in (universe_in self.old) sort))))) self.old.room) }
     {
         let objects = objects_of(self.table, sort);
         for object in objects {
@@ -243,8 +272,10 @@ impl<'t> Maker<'t> {
     /// The nodes of a formula under the environment, behind those that are there.
     #[cycle(formula)]
     pub(crate) fn put(&mut self, alloc: Global, formula: &Formula) -> Result<(), Halt>
-        ensures put { OnOk result (HasPut (nodes_of (universe_in self.old) (environment_of self.old.env) (plain_formula formula.now)) self.old self.new) }
-        ensures full { IfErr result (LacksRoom (length (nodes_of (universe_in self.old) (environment_of self.old.env) (plain_formula formula.now))) self.old.room) }
+        ensures put { OnOk result (HasPut (nodes_of (universe_in self.old)
+            (environment_of self.old.env) (plain_formula formula.now)) self.old self.new) }
+        ensures full { IfErr result (LacksRoom (length (nodes_of (universe_in self.old)
+            (environment_of self.old.env) (plain_formula formula.now))) self.old.room) }
     {
         match formula {
             Formula::True => self.push(Node::True),
@@ -295,10 +326,13 @@ impl<'t> Maker<'t> {
         terms: Terms<'a>,
         formula: &Formula,
     ) -> Result<&'a [Node], Halt>
-        ensures term { IfOk result (λ term. term.now ≡ nodes_of (universe_in self.old) (environment_of self.old.env) (plain_formula formula.now)) }
-        ensures room { OnOk result (self.new.room + length (nodes_of (universe_in self.old) (environment_of self.old.env) (plain_formula formula.now)) ≡ self.old.room) }
+        ensures term { IfOk result (λ term. term.now ≡ nodes_of
+            (universe_in self.old) (environment_of self.old.env) (plain_formula formula.now)) }
+        ensures room { OnOk result (self.new.room + length (nodes_of (universe_in self.old)
+            (environment_of self.old.env) (plain_formula formula.now)) ≡ self.old.room) }
         ensures like { OnOk result (IsLike self.old self.new) }
-        ensures full { IfErr result (LacksRoom (length (nodes_of (universe_in self.old) (environment_of self.old.env) (plain_formula formula.now))) self.old.room) }
+        ensures full { IfErr result (LacksRoom (length (nodes_of (universe_in self.old)
+            (environment_of self.old.env) (plain_formula formula.now))) self.old.room) }
     {
         self.nodes.clear();
         self.put(alloc, formula)?;

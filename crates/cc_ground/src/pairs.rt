@@ -16,7 +16,8 @@ use std::alloc::Global;
 /// Whether the values of a symbol are `false` and `true`. The first sort is `boolean`; an attribute has values of another
 /// kind.
 fn is_boolean_symbol(table: &Table, symbol: u32) -> bool
-    ensures { (sig : Signature) → result ≡ is_boolean_kind (slice_get (universe_of table.now sig).symbols symbol) }
+    ensures { (sig : Signature) →
+        result ≡ is_boolean_kind (slice_get (universe_of table.now sig).symbols symbol) }
 {
     if (symbol as usize) >= table.symbol_count() {
         return false;
@@ -47,7 +48,8 @@ pub(crate) fn boolean_actions_of(
     table: &Table,
     sig: &Sig,
 ) -> Result<Vec<u32>, OutOfMemory>
-    ensures { IfOk result (λ numbers. numbers.items ≡ boolean_actions (universe_of table.now sig.now)) }
+    ensures { IfOk result (λ numbers.
+        numbers.items ≡ boolean_actions (universe_of table.now sig.now)) }
 {
     let mut numbers = Vec::new(alloc);
     for number in 0..constant_count(sig)? {
@@ -68,7 +70,8 @@ impl<'t> Maker<'t> {
         one: u32,
         other: u32,
     ) -> Result<(), Halt>
-        ensures made { OnOk result (HasMade (pair_law base (one, other) ∷ []) made.old.items made.new.items self.old self.new) }
+        ensures made { OnOk result (HasMade
+            (pair_law base (one, other) ∷ []) made.old.items made.new.items self.old self.new) }
         ensures full { IfErr result (LacksRoom 4 self.old.room) }
     {
         self.nodes.clear();
@@ -96,8 +99,10 @@ impl<'t> Maker<'t> {
         one: u32,
         others: &[u32],
     ) -> Result<(), Halt>
-        ensures made { OnOk result (HasMade (map (λ other. pair_law base (one, other)) others.now) made.old.items made.new.items self.old self.new) }
-        ensures full { IfErr result (LacksRoom (nodes_in (map (λ other. pair_law base (one, other)) others.now)) self.old.room) }
+        ensures made { OnOk result (HasMade (map (λ other. pair_law base (one, other)) others.now)
+            made.old.items made.new.items self.old self.new) }
+        ensures full { IfErr result (LacksRoom
+            (nodes_in (map (λ other. pair_law base (one, other)) others.now)) self.old.room) }
     {
         for other in others {
             self.add_pair(terms, made, base, one, *other)?;
@@ -113,8 +118,10 @@ impl<'t> Maker<'t> {
         base: u32,
         actions: &[u32],
     ) -> Result<(), Halt>
-        ensures made { OnOk result (HasMade (map (pair_law base) (pairs_of actions.now)) made.old.items made.new.items self.old self.new) }
-        ensures full { IfErr result (LacksRoom (nodes_in (map (pair_law base) (pairs_of actions.now))) self.old.room) }
+        ensures made { OnOk result (HasMade (map (pair_law base) (pairs_of actions.now))
+            made.old.items made.new.items self.old self.new) }
+        ensures full { IfErr result
+            (LacksRoom (nodes_in (map (pair_law base) (pairs_of actions.now))) self.old.room) }
     {
         let mut left = actions;
         while let Some((one, others)) = left.split_first() {

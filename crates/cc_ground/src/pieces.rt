@@ -74,7 +74,8 @@ fn add_new(numbers: &mut Vec<u32>, number: u32) -> Result<(), OutOfMemory>
 
 /// The constant that is meant behind others, if it is there, and none of them. Answers whether it is there.
 fn add_meant(constants: &mut Vec<u32>, found: Option<u32>) -> Result<bool, OutOfMemory>
-    ensures constants { OnOk result (constants.new.items ≡ gathered constants.old.items (some_meant found [])) }
+    ensures constants { OnOk result
+        (constants.new.items ≡ gathered constants.old.items (some_meant found [])) }
     ensures all { IfOk result (λ all. all ≡ is_some found) }
 {
     let Some(number) = found else {
@@ -94,8 +95,12 @@ fn gather_constant(
     terms: &[Term],
     constants: &mut Vec<u32>,
 ) -> Result<bool, OutOfMemory>
-    ensures constants { OnOk result (constants.new.items ≡ gathered constants.old.items (those_meant (universe_of table.now sig.now) (environment_of env.now) (constants_of (resolved.Constant symbol (terms_of (map plain_term terms.now)))))) }
-    ensures all { IfOk result (λ all. all ≡ is_some (all_meant (universe_of table.now sig.now) (environment_of env.now) (constants_of (resolved.Constant symbol (terms_of (map plain_term terms.now)))))) }
+    ensures constants { OnOk result (constants.new.items ≡ gathered constants.old.items
+        (those_meant (universe_of table.now sig.now) (environment_of env.now)
+        (constants_of (resolved.Constant symbol (terms_of (map plain_term terms.now)))))) }
+    ensures all { IfOk result (λ all.
+        all ≡ is_some (all_meant (universe_of table.now sig.now) (environment_of env.now)
+        (constants_of (resolved.Constant symbol (terms_of (map plain_term terms.now)))))) }
 {
     let found = constant_meant(alloc, table, sig, env, symbol, terms)?;
     add_meant(constants, found)
@@ -112,8 +117,11 @@ fn gather(
     term: &Term,
     constants: &mut Vec<u32>,
 ) -> Result<bool, OutOfMemory>
-    ensures constants { OnOk result (constants.new.items ≡ gathered constants.old.items (those_meant (universe_of table.now sig.now) (environment_of env.now) (constants_of (plain_term term.now)))) }
-    ensures all { IfOk result (λ all. all ≡ is_some (all_meant (universe_of table.now sig.now) (environment_of env.now) (constants_of (plain_term term.now)))) }
+    ensures constants { OnOk result (constants.new.items
+        ≡ gathered constants.old.items (those_meant (universe_of table.now sig.now)
+        (environment_of env.now) (constants_of (plain_term term.now)))) }
+    ensures all { IfOk result (λ all. all ≡ is_some (all_meant (universe_of table.now sig.now)
+        (environment_of env.now) (constants_of (plain_term term.now)))) }
 {
     match term {
         Term::Constant { symbol, args } => {
@@ -140,8 +148,12 @@ pub(crate) fn gather_both(
     right: &Term,
     constants: &mut Vec<u32>,
 ) -> Result<bool, OutOfMemory>
-    ensures constants { OnOk result (constants.new.items ≡ gathered constants.old.items (those_meant (universe_of table.now sig.now) (environment_of env.now) (constants_of (plain_term left.now) ++ constants_of (plain_term right.now)))) }
-    ensures all { IfOk result (λ all. all ≡ is_some (all_meant (universe_of table.now sig.now) (environment_of env.now) (constants_of (plain_term left.now) ++ constants_of (plain_term right.now)))) }
+    ensures constants { OnOk result (constants.new.items ≡ gathered constants.old.items
+        (those_meant (universe_of table.now sig.now) (environment_of env.now)
+        (constants_of (plain_term left.now) ++ constants_of (plain_term right.now)))) }
+    ensures all { IfOk result (λ all.
+        all ≡ is_some (all_meant (universe_of table.now sig.now) (environment_of env.now)
+        (constants_of (plain_term left.now) ++ constants_of (plain_term right.now)))) }
 {
     let one = gather(alloc, table, sig, env, left, constants)?;
     let other = gather(alloc, table, sig, env, right, constants)?;
@@ -194,7 +206,9 @@ fn add_constant(
     terms: &[Term],
     pieces: &mut Vec<Signed>,
 ) -> Result<(), OutOfMemory>
-    ensures { OnOk result (pieces.new.items ≡ pieces.old.items ++ pieces_of (universe_of table.now sig.now) (environment_of env.now) minus (resolved.Constant symbol (terms_of (map plain_term terms.now)))) }
+    ensures { OnOk result (pieces.new.items ≡ pieces.old.items
+        ++ pieces_of (universe_of table.now sig.now) (environment_of env.now) minus
+        (resolved.Constant symbol (terms_of (map plain_term terms.now)))) }
 {
     let found = constant_meant(alloc, table, sig, env, symbol, terms)?;
     add_piece(pieces, minus, meant_piece(found))
@@ -210,7 +224,8 @@ fn add_pieces(
     term: &Term,
     pieces: &mut Vec<Signed>,
 ) -> Result<(), OutOfMemory>
-    ensures { OnOk result (pieces.new.items ≡ pieces.old.items ++ pieces_of (universe_of table.now sig.now) (environment_of env.now) minus (plain_term term.now)) }
+    ensures { OnOk result (pieces.new.items ≡ pieces.old.items ++ pieces_of
+        (universe_of table.now sig.now) (environment_of env.now) minus (plain_term term.now)) }
 {
     match term {
         Term::Constant { symbol, args } => {
@@ -243,7 +258,9 @@ pub(crate) fn add_both(
     right: &Term,
     pieces: &mut Vec<Signed>,
 ) -> Result<(), OutOfMemory>
-    ensures { OnOk result (pieces.new.items ≡ pieces.old.items ++ pieces_between (universe_of table.now sig.now) (environment_of env.now) (plain_term left.now) (plain_term right.now)) }
+    ensures { OnOk result
+        (pieces.new.items ≡ pieces.old.items ++ pieces_between (universe_of table.now sig.now)
+        (environment_of env.now) (plain_term left.now) (plain_term right.now)) }
 {
     add_pieces(alloc, table, sig, env, false, left, pieces)?;
     add_pieces(alloc, table, sig, env, true, right, pieces)

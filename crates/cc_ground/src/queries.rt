@@ -33,10 +33,13 @@ impl<'t> Maker<'t> {
         condition: &Condition,
     ) -> Result<GroundCondition<'a>, Halt>
         requires { self.now.env ≡ no_bindings }
-        ensures made { IfOk result (λ made. plain_ground_condition made ≡ words.ground_condition (universe_in self.old) (plain_condition condition.now)) }
-        ensures room { OnOk result (self.new.room + length (words.ground_condition (universe_in self.old) (plain_condition condition.now)).nodes ≡ self.old.room) }
+        ensures made { IfOk result (λ made. plain_ground_condition made
+            ≡ words.ground_condition (universe_in self.old) (plain_condition condition.now)) }
+        ensures room { OnOk result (self.new.room + length (words.ground_condition
+            (universe_in self.old) (plain_condition condition.now)).nodes ≡ self.old.room) }
         ensures like { OnOk result (IsLike self.old self.new) }
-        ensures full { IfErr result (LacksRoom (length (words.ground_condition (universe_in self.old) (plain_condition condition.now)).nodes) self.old.room) }
+        ensures full { IfErr result (LacksRoom (length (words.ground_condition
+            (universe_in self.old) (plain_condition condition.now)).nodes) self.old.room) }
     {
         Ok(GroundCondition {
             at: condition.at,
@@ -52,10 +55,14 @@ impl<'t> Maker<'t> {
         conditions: &[Condition],
     ) -> Result<Vec<GroundCondition<'a>>, Halt>
         requires { self.now.env ≡ no_bindings }
-        ensures made { IfOk result (λ made. map plain_ground_condition made.items ≡ map (words.ground_condition (universe_in self.old)) (map plain_condition conditions.now)) }
-        ensures room { OnOk result (self.new.room + nodes_of_conditions (map (words.ground_condition (universe_in self.old)) (map plain_condition conditions.now)) ≡ self.old.room) }
+        ensures made { IfOk result (λ made. map plain_ground_condition made.items ≡ map
+            (words.ground_condition (universe_in self.old)) (map plain_condition conditions.now)) }
+        ensures room { OnOk result (self.new.room + nodes_of_conditions (map (words.ground_condition
+            (universe_in self.old)) (map plain_condition conditions.now)) ≡ self.old.room) }
         ensures like { OnOk result (IsLike self.old self.new) }
-        ensures full { IfErr result (LacksRoom (nodes_of_conditions (map (words.ground_condition (universe_in self.old)) (map plain_condition conditions.now))) self.old.room) }
+        ensures full { IfErr result
+            (LacksRoom (nodes_of_conditions (map (words.ground_condition (universe_in self.old))
+            (map plain_condition conditions.now))) self.old.room) }
     {
         let mut made = Vec::new(alloc);
         for condition in conditions {
@@ -72,9 +79,15 @@ impl<'t> Maker<'t> {
         claim: &Option<Condition>,
     ) -> Result<Option<GroundCondition<'a>>, Halt>
         requires { self.now.env ≡ no_bindings }
-        ensures made { IfOk result (λ made. option_map plain_ground_condition made ≡ option_map (words.ground_condition (universe_in self.old)) (option_map plain_condition claim.now)) }
-        ensures full { IfErr result (LacksRoom (nodes_of_claim (option_map (words.ground_condition (universe_in self.old)) (option_map plain_condition claim.now))) self.old.room) }
-        ensures within { OnOk result (nodes_of_claim (option_map (words.ground_condition (universe_in self.old)) (option_map plain_condition claim.now)) ≤ self.old.room) }
+        ensures made { IfOk result (λ made. option_map plain_ground_condition made
+            ≡ option_map (words.ground_condition (universe_in self.old))
+            (option_map plain_condition claim.now)) }
+        ensures full { IfErr result
+            (LacksRoom (nodes_of_claim (option_map (words.ground_condition (universe_in self.old))
+            (option_map plain_condition claim.now))) self.old.room) }
+        ensures within { OnOk result
+            (nodes_of_claim (option_map (words.ground_condition (universe_in self.old))
+            (option_map plain_condition claim.now)) ≤ self.old.room) }
     {
         match claim {
             Some(claim) => Ok(Some(self.condition(alloc, terms, claim)?)),
@@ -91,9 +104,12 @@ impl<'t> Maker<'t> {
         query: &Query,
     ) -> Result<GroundQuery<'a>, Halt>
         requires { self.now.env ≡ no_bindings }
-        ensures made { IfOk result (λ made. plain_ground_query made ≡ words.ground_query (universe_in self.old) range (plain_query query.now)) }
-        ensures within { OnOk result (nodes_in_query (words.ground_query (universe_in self.old) range (plain_query query.now)) ≤ self.old.room) }
-        ensures full { IfErr result (LacksRoom (nodes_in_query (words.ground_query (universe_in self.old) range (plain_query query.now))) self.old.room) }
+        ensures made { IfOk result (λ made. plain_ground_query made
+            ≡ words.ground_query (universe_in self.old) range (plain_query query.now)) }
+        ensures within { OnOk result (nodes_in_query (words.ground_query
+            (universe_in self.old) range (plain_query query.now)) ≤ self.old.room) }
+        ensures full { IfErr result (LacksRoom (nodes_in_query (words.ground_query
+            (universe_in self.old) range (plain_query query.now))) self.old.room) }
     {
         let conditions = self.conditions(alloc, terms, query.conditions.items())?;
         let claim = self.claim(alloc, terms, &query.claim)?;
@@ -119,15 +135,22 @@ pub fn ground_query<'a>(
 ) -> Result<GroundQuery<'a>, Fault>
     requires signature { IsSignatureFor table.now sig.now }
     requires range { IsSome query.now.range }
-    ensures made { (declarations : Items Declaration) (range : ℕ × ℕ) → IsTable table.now declarations → IsSignatureOf declarations sig.now → query.now.range ≡ Some range →
-        IfOk result (λ made. plain_ground_query made ≡ words.ground_query (universe declarations) range (plain_query query.now)) }
-    ensures unrefused { (declarations : Items Declaration) (range : ℕ × ℕ) → IsTable table.now declarations → IsSignatureOf declarations sig.now → query.now.range ≡ Some range →
+    ensures made { (declarations : Items Declaration) (range : ℕ × ℕ) →
+        IsTable table.now declarations → IsSignatureOf declarations sig.now →
+        query.now.range ≡ Some range → IfOk result (λ made. plain_ground_query made
+        ≡ words.ground_query (universe declarations) range (plain_query query.now)) }
+    ensures unrefused { (declarations : Items Declaration) (range : ℕ × ℕ) → IsTable
+        table.now declarations → IsSignatureOf declarations sig.now → query.now.range ≡ Some range →
         OnOk result (query_refusal (universe declarations) range (plain_query query.now) ≡ None) }
-    ensures refused { (declarations : Items Declaration) (range : ℕ × ℕ) → IsTable table.now declarations → IsSignatureOf declarations sig.now → query.now.range ≡ Some range →
-        IfErr result (IsRefusedBy (query_refusal (universe declarations) range (plain_query query.now))) }
-    ensures meant { (declarations : Items Declaration) (range : ℕ × ℕ) → IsTable table.now declarations → IsSignatureOf declarations sig.now → query.now.range ≡ Some range →
-        IfOk result (λ made. MeansQuery (universe declarations) (plain_query query.now) (plain_ground_query made)) }
-    ensures fits { (declarations : Items Declaration) (range : ℕ × ℕ) → IsTable table.now declarations → IsSignatureOf declarations sig.now → query.now.range ≡ Some range →
+    ensures refused { (declarations : Items Declaration) (range : ℕ × ℕ) → IsTable table.now
+        declarations → IsSignatureOf declarations sig.now → query.now.range ≡ Some range → IfErr
+        result (IsRefusedBy (query_refusal (universe declarations) range (plain_query query.now))) }
+    ensures meant { (declarations : Items Declaration) (range : ℕ × ℕ) →
+        IsTable table.now declarations →
+        IsSignatureOf declarations sig.now → query.now.range ≡ Some range → IfOk result (λ made.
+        MeansQuery (universe declarations) (plain_query query.now) (plain_ground_query made)) }
+    ensures fits { (declarations : Items Declaration) (range : ℕ × ℕ) → IsTable
+        table.now declarations → IsSignatureOf declarations sig.now → query.now.range ≡ Some range →
         IfOk result (λ made. IsGroundQuery (universe declarations) (plain_ground_query made)) }
 {
     declared_have_own_values();

@@ -29,7 +29,8 @@ pub(crate) enum Side<'t> {
 
 /// The object that an argument stands for.
 fn argument(table: &Table, env: &Bindings, term: &Term) -> Result<Option<u32>, OutOfMemory>
-    ensures { IfOk result (λ found. found ≡ words.argument (bare_universe table.now) (environment_of env.now) (plain_term term.now)) }
+    ensures { IfOk result (λ found. found
+        ≡ words.argument (bare_universe table.now) (environment_of env.now) (plain_term term.now)) }
 {
     match term {
         Term::Object(object) => Ok(Some(*object)),
@@ -49,7 +50,8 @@ fn arguments(
     env: &Bindings,
     terms: &[Term],
 ) -> Result<Option<Vec<u32>>, OutOfMemory>
-    ensures { IfOk result (λ found. option_map (λ args. args.items) found ≡ words.arguments (bare_universe table.now) (environment_of env.now) (terms_of (map plain_term terms.now))) }
+    ensures { IfOk result (λ found. option_map (λ args. args.items) found ≡ words.arguments
+        (bare_universe table.now) (environment_of env.now) (terms_of (map plain_term terms.now))) }
 {
     let mut args = Vec::with_capacity(alloc, terms.len())?;
     for term in terms {
@@ -71,7 +73,8 @@ pub(crate) fn constant_meant(
     symbol: u32,
     terms: &[Term],
 ) -> Result<Option<u32>, OutOfMemory>
-    ensures { IfOk result (λ found. found ≡ words.constant_meant (universe_of table.now sig.now) (environment_of env.now) symbol (terms_of (map plain_term terms.now))) }
+    ensures { IfOk result (λ found. found ≡ words.constant_meant (universe_of table.now sig.now)
+        (environment_of env.now) symbol (terms_of (map plain_term terms.now))) }
 {
     match arguments(alloc, table, env, terms)? {
         Some(args) => Ok(sig.ground_number(symbol, &args)),
@@ -108,7 +111,8 @@ pub(crate) fn constant_side<'t>(
     symbol: u32,
     terms: &[Term],
 ) -> Result<Side<'t>, OutOfMemory>
-    ensures { IfOk result (λ side. plain_side side ≡ side_of (universe_of table.now sig.now) (environment_of env.now) (resolved.Constant symbol (terms_of (map plain_term terms.now)))) }
+    ensures { IfOk result (λ side. plain_side side ≡ side_of (universe_of table.now sig.now)
+        (environment_of env.now) (resolved.Constant symbol (terms_of (map plain_term terms.now)))) }
 {
     Ok(numbered_side(sig, constant_meant(alloc, table, sig, env, symbol, terms)?))
 }
@@ -131,7 +135,9 @@ fn sum_side<'t>(
     env: &Bindings,
     term: &Term,
 ) -> Result<Side<'t>, OutOfMemory>
-    ensures { IfOk result (λ side. plain_side side ≡ side_with (option_and_then (words.object_of_value (universe_of table.now sig.now)) (words.given_value (universe_of table.now sig.now) (environment_of env.now) (plain_term term.now)))) }
+    ensures { IfOk result (λ side. plain_side side ≡ side_with
+        (option_and_then (words.object_of_value (universe_of table.now sig.now)) (words.given_value
+        (universe_of table.now sig.now) (environment_of env.now) (plain_term term.now)))) }
 {
     Ok(value_side(object_given(table, env, term)?))
 }
@@ -144,7 +150,8 @@ pub(crate) fn term_side<'t>(
     env: &Bindings,
     term: &Term,
 ) -> Result<Side<'t>, OutOfMemory>
-    ensures { IfOk result (λ side. plain_side side ≡ side_of (universe_of table.now sig.now) (environment_of env.now) (plain_term term.now)) }
+    ensures { IfOk result (λ side. plain_side side
+        ≡ side_of (universe_of table.now sig.now) (environment_of env.now) (plain_term term.now)) }
 {
     match term {
         Term::Constant { symbol, args } => constant_side(alloc, table, sig, env, *symbol, args),

@@ -30,7 +30,8 @@ pub(crate) fn sum_of(one: u64, other: u64) -> Result<u64, OutOfMemory>
 }
 
 fn add(first: Option<Value>, second: Option<Value>) -> Result<Option<Value>, OutOfMemory>
-    ensures { IfOk result (λ sum. option_map plain_value sum ≡ added (option_map plain_value first) (option_map plain_value second)) }
+    ensures { IfOk result (λ sum. option_map plain_value sum
+        ≡ added (option_map plain_value first) (option_map plain_value second)) }
 {
     let (Some(Value::Whole(plus, minus)), Some(Value::Whole(other, another))) = (first, second)
     else {
@@ -40,7 +41,8 @@ fn add(first: Option<Value>, second: Option<Value>) -> Result<Option<Value>, Out
 }
 
 fn take(first: Option<Value>, second: Option<Value>) -> Result<Option<Value>, OutOfMemory>
-    ensures { IfOk result (λ left. option_map plain_value left ≡ taken (option_map plain_value first) (option_map plain_value second)) }
+    ensures { IfOk result (λ left. option_map plain_value left
+        ≡ taken (option_map plain_value first) (option_map plain_value second)) }
 {
     let (Some(Value::Whole(plus, minus)), Some(Value::Whole(other, another))) = (first, second)
     else {
@@ -61,7 +63,8 @@ fn meant(table: &Table, object: u32) -> Value
 
 /// What an object is, if there is one.
 fn meant_if(table: &Table, object: Option<u32>) -> Option<Value>
-    ensures { option_map plain_value result ≡ option_map (words.meant (bare_universe table.now)) object }
+    ensures { option_map plain_value result
+        ≡ option_map (words.meant (bare_universe table.now)) object }
 {
     match object {
         Some(object) => Some(meant(table, object)),
@@ -75,7 +78,8 @@ pub(crate) fn given_value(
     env: &Bindings,
     term: &Term,
 ) -> Result<Option<Value>, OutOfMemory>
-    ensures { IfOk result (λ found. option_map plain_value found ≡ words.given_value (bare_universe table.now) (environment_of env.now) (plain_term term.now)) }
+    ensures { IfOk result (λ found. option_map plain_value found ≡ words.given_value
+        (bare_universe table.now) (environment_of env.now) (plain_term term.now)) }
 {
     match term {
         Term::Constant { .. } => Ok(None),
@@ -133,7 +137,8 @@ fn object_of_whole(table: &Table, plus: u64, minus: u64) -> Result<Option<u32>, 
 
 /// The object that a value is.
 fn object_of(table: &Table, value: Value) -> Result<Option<u32>, OutOfMemory>
-    ensures { IfOk result (λ found. found ≡ words.object_of_value (bare_universe table.now) (plain_value value)) }
+    ensures { IfOk result (λ found.
+        found ≡ words.object_of_value (bare_universe table.now) (plain_value value)) }
 {
     match value {
         Value::Thing(object) => Ok(Some(object)),
@@ -147,7 +152,9 @@ pub(crate) fn object_given(
     env: &Bindings,
     term: &Term,
 ) -> Result<Option<u32>, OutOfMemory>
-    ensures { IfOk result (λ found. found ≡ option_and_then (words.object_of_value (bare_universe table.now)) (words.given_value (bare_universe table.now) (environment_of env.now) (plain_term term.now))) }
+    ensures { IfOk result (λ found.
+        found ≡ option_and_then (words.object_of_value (bare_universe table.now)) (words.given_value
+        (bare_universe table.now) (environment_of env.now) (plain_term term.now))) }
 {
     match given_value(table, env, term)? {
         Some(value) => object_of(table, value),

@@ -25,7 +25,8 @@ impl<'t> Model for Values<'t> {
 
     ghost Value = { List ℕ };
 
-    ghost view = { λ values. if values.with_none then none_value ∷ values.objects.now else values.objects.now };
+    ghost view = { λ values.
+        if values.with_none then none_value ∷ values.objects.now else values.objects.now };
 }
 
 impl<'t> Values<'t> {

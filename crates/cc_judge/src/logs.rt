@@ -36,18 +36,22 @@ fn judge_section(
 ) -> Result<Next, Fault>
     requires laws { AreLawsFor sig.now laws.now }
     requires most { query.now.hi ≤ most_steps }
-    requires steps { (horizon : ℕ) → query.now.lo ≤ horizon → horizon ≤ query.now.hi → IsQueryAt sig.now horizon (plain_ground_query query.now) }
+    requires steps { (horizon : ℕ) → query.now.lo ≤ horizon →
+        horizon ≤ query.now.hi → IsQueryAt sig.now horizon (plain_ground_query query.now) }
     requires key { IfSome after (λ key. Fits sig.now (plain_ground_query query.now) key.now) }
-    requires first { first_at (plain_ground_query query.now) (option_map (λ key. key.now) after) ≤ standing.now.horizon }
+    requires first { first_at
+        (plain_ground_query query.now) (option_map (λ key. key.now) after) ≤ standing.now.horizon }
     requires early { IsEarlyIn standing.now.blocked section.now }
-    ensures judged { (d : Description) (q : Query) → AreLawsOf sig.now laws.now d → StandsForQuery (plain_ground_query query.now) d q →
-        (text : SectionText) → IsTextOf section.now text →
-        IfOk result (IsJudgedTo (scope_of d q (option_map (λ key. key.now) after.entry)) (seen standing.now) text) }
-    ensures forward { (text : SectionText) → IsTextOf section.now text → IsEarly standing.now.blocked text →
-        IfOk result (IsForward (seen standing.now) text) }
-    ensures refused { (d : Description) (q : Query) → AreLawsOf sig.now laws.now d → StandsForQuery (plain_ground_query query.now) d q →
-        (text : SectionText) → IsTextOf section.now text →
-        IfErr result (IsSectionFault (scope_of d q (option_map (λ key. key.now) after.entry)) (seen standing.now) text) }
+    ensures judged { (d : Description) (q : Query) →
+        AreLawsOf sig.now laws.now d → StandsForQuery (plain_ground_query query.now) d q →
+        (text : SectionText) → IsTextOf section.now text → IfOk result (IsJudgedTo
+        (scope_of d q (option_map (λ key. key.now) after.entry)) (seen standing.now) text) }
+    ensures forward { (text : SectionText) → IsTextOf section.now text →
+        IsEarly standing.now.blocked text → IfOk result (IsForward (seen standing.now) text) }
+    ensures refused { (d : Description) (q : Query) →
+        AreLawsOf sig.now laws.now d → StandsForQuery (plain_ground_query query.now) d q →
+        (text : SectionText) → IsTextOf section.now text → IfErr result (IsSectionFault
+        (scope_of d q (option_map (λ key. key.now) after.entry)) (seen standing.now) text) }
 {
     resolvents_are_sound();
     denial_leaves_others();
@@ -81,13 +85,16 @@ fn judge_sections(
 ) -> Result<LogVerdict, Fault>
     requires laws { AreLawsFor sig.now laws.now }
     requires most { query.now.hi ≤ most_steps }
-    requires steps { (horizon : ℕ) → query.now.lo ≤ horizon → horizon ≤ query.now.hi → IsQueryAt sig.now horizon (plain_ground_query query.now) }
+    requires steps { (horizon : ℕ) → query.now.lo ≤ horizon →
+        horizon ≤ query.now.hi → IsQueryAt sig.now horizon (plain_ground_query query.now) }
     requires key { IfSome after (λ key. Fits sig.now (plain_ground_query query.now) key.now) }
     requires few { AreFewIn sections.now }
-    ensures judged { (d : Description) (q : Query) → AreLawsOf sig.now laws.now d → StandsForQuery (plain_ground_query query.now) d q →
+    ensures judged { (d : Description) (q : Query) →
+        AreLawsOf sig.now laws.now d → StandsForQuery (plain_ground_query query.now) d q →
         (all : List SectionText) → AreTextsOf sections.now all → AreFew all →
         IfOk result (IsVerdictOn (scope_of d q (option_map (λ key. key.now) after.entry)) all) }
-    ensures refused { (d : Description) (q : Query) → AreLawsOf sig.now laws.now d → StandsForQuery (plain_ground_query query.now) d q →
+    ensures refused { (d : Description) (q : Query) →
+        AreLawsOf sig.now laws.now d → StandsForQuery (plain_ground_query query.now) d q →
         (all : List SectionText) → AreTextsOf sections.now all → AreFew all →
         IfErr result (IsFaultOn (scope_of d q (option_map (λ key. key.now) after.entry)) all) }
 {
@@ -123,18 +130,23 @@ pub fn judge(
     requires laws { AreLawsFor sig.now laws.now }
     requires ordered { query.now.lo ≤ query.now.hi }
     requires most { query.now.hi ≤ most_steps }
-    requires steps { (horizon : ℕ) → query.now.lo ≤ horizon → horizon ≤ query.now.hi → IsQueryAt sig.now horizon (plain_ground_query query.now) }
+    requires steps { (horizon : ℕ) → query.now.lo ≤ horizon →
+        horizon ≤ query.now.hi → IsQueryAt sig.now horizon (plain_ground_query query.now) }
     requires key { IfSome after (λ key. Fits sig.now (plain_ground_query query.now) key.now) }
     requires few { length bytes.now ≤ most_log_bytes }
     // It is the verdict of the log, and where that is accepted, each history of the log's horizons is blocked in it.
-    ensures verdict { (d : Description) (q : Query) → AreLawsOf sig.now laws.now d → StandsForQuery (plain_ground_query query.now) d q →
-        IfOk result (IsVerdict (subject_of d q (option_map (λ key. key.now) after.entry)) bytes.now) }
-    ensures whole { (d : Description) (q : Query) → AreLawsOf sig.now laws.now d → StandsForQuery (plain_ground_query query.now) d q →
+    ensures verdict { (d : Description) (q : Query) → AreLawsOf sig.now laws.now d →
+        StandsForQuery (plain_ground_query query.now) d q → IfOk result
+        (IsVerdict (subject_of d q (option_map (λ key. key.now) after.entry)) bytes.now) }
+    ensures whole { (d : Description) (q : Query) →
+        AreLawsOf sig.now laws.now d → StandsForQuery (plain_ground_query query.now) d q →
         IfOk result (BlocksHistories d q (option_map (λ key. key.now) after.entry) bytes.now) }
     // No section that is judged for it passes a limit.
-    ensures within { (d : Description) (q : Query) → AreLawsOf sig.now laws.now d → StandsForQuery (plain_ground_query query.now) d q →
+    ensures within { (d : Description) (q : Query) →
+        AreLawsOf sig.now laws.now d → StandsForQuery (plain_ground_query query.now) d q →
         IfOk result (IsVerdictWithin d q (option_map (λ key. key.now) after.entry) bytes.now) }
-    ensures refused { (d : Description) (q : Query) → AreLawsOf sig.now laws.now d → StandsForQuery (plain_ground_query query.now) d q →
+    ensures refused { (d : Description) (q : Query) →
+        AreLawsOf sig.now laws.now d → StandsForQuery (plain_ground_query query.now) d q →
         IfErr result (IsJudgeFault d q (option_map (λ key. key.now) after.entry) bytes.now) }
 {
     misreads_are_verdicts();

@@ -18,7 +18,8 @@ use std::alloc::Global;
 
 // Whether a section is the only one: no other stands before it, and it is headed by horizon 0.
 fn is_only(standing: &Standing, section: &Section<'_>) -> bool
-    ensures { IsTrue result ↔ IsOnly (seen standing.now) section.now.conditions section.now.horizon }
+    ensures { IsTrue result
+        ↔ IsOnly (seen standing.now) section.now.conditions section.now.horizon }
 {
     !section.conditions() && section.horizon() == 0 && standing.horizon == 0
 }
@@ -33,8 +34,8 @@ fn judge_only(
     requires { IsEarlyIn standing.now.blocked section.now }
     ensures judged { (text : SectionText) → IsTextOf section.now text →
         IfOk result (IsJudgedTo (scope_over form.now) (seen standing.now) text) }
-    ensures forward { (text : SectionText) → IsTextOf section.now text → IsEarly standing.now.blocked text →
-        IfOk result (IsForward (seen standing.now) text) }
+    ensures forward { (text : SectionText) → IsTextOf section.now text →
+        IsEarly standing.now.blocked text → IfOk result (IsForward (seen standing.now) text) }
 {
     resolvents_are_sound();
     denial_leaves_others();

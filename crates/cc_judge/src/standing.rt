@@ -30,7 +30,8 @@ pub(crate) enum Next {
 
 /// The first horizon of a log of a query, or of its listing after a key.
 pub(crate) fn first_of(query: &GroundQuery<'_>, after: Option<&Key>) -> u32
-    ensures { result ≡ first_at (plain_ground_query query.now) (option_map (λ key. key.now) after.entry) }
+    ensures { result
+        ≡ first_at (plain_ground_query query.now) (option_map (λ key. key.now) after.entry) }
 {
     match after {
         None => query.lo,
@@ -40,7 +41,8 @@ pub(crate) fn first_of(query: &GroundQuery<'_>, after: Option<&Key>) -> u32
 
 /// The last one.
 pub(crate) fn last_of(query: &GroundQuery<'_>, after: Option<&Key>) -> u32
-    ensures { result ≡ last_at (plain_ground_query query.now) (option_map (λ key. key.now) after.entry) }
+    ensures { result
+        ≡ last_at (plain_ground_query query.now) (option_map (λ key. key.now) after.entry) }
 {
     match after {
         None => query.hi,
@@ -72,8 +74,9 @@ pub(crate) fn is_next(
     standing: &Standing,
     section: &Section<'_>,
 ) -> bool
-    ensures { IsTrue result ↔ IsPlaced (plain_ground_query query.now) (option_map (λ key. key.now) after.entry) (seen standing.now)
-        section.now.conditions section.now.horizon }
+    ensures { IsTrue result
+        ↔ IsPlaced (plain_ground_query query.now) (option_map (λ key. key.now) after.entry)
+        (seen standing.now) section.now.conditions section.now.horizon }
 {
     section.conditions() == asks_conditions(query, standing)
         && section.horizon() == standing.horizon

@@ -160,7 +160,8 @@ impl Kernel {
     /// A kernel of no clauses over the variables 1, .., `variables`.
     pub fn new(alloc: Global, variables: u32) -> Result<Kernel, OutOfMemory>
         requires { variables ≤ most_variables }
-        ensures { result ≡ Ok (record { variables = variables; entries = []; staged = None; chain = [] }) }
+        ensures { result
+            ≡ Ok (record { variables = variables; entries = []; staged = None; chain = [] }) }
     {
         Ok(Kernel::of(alloc, variables, ClauseArena::new(alloc)))
     }
@@ -171,7 +172,12 @@ impl Kernel {
         requires few { length axioms ≤ 4000000000 }
         requires clauses { All IsClause axioms }
         requires over { All (IsOver variables) axioms }
-        ensures kernel { result ≡ record { variables = variables; entries = axioms_of axioms; staged = None; chain = [] } }
+        ensures kernel { result ≡ record {
+          variables = variables;
+          entries = axioms_of axioms;
+          staged = None;
+          chain = [];
+        } }
         ensures axioms { AreAxioms result.entries }
     {
         let first = first_empty_of(&axioms);
@@ -302,7 +308,8 @@ impl Kernel {
         requires few { length self.old.entries < 4000000000 }
         ensures number { IfOk result (λ number. number ≡ length self.old.entries + 1) }
         ensures added { OnOk result (IsFinished self.old self.new) }
-        ensures reached { IfSome self.old.staged (λ clause. Reaches (clauses_of self.old) self.old.chain clause) }
+        ensures reached { IfSome self.old.staged (λ clause.
+            Reaches (clauses_of self.old) self.old.chain clause) }
         ensures follow { DerivedFollow self.new.entries }
         ensures kept { OnErr result (self.new ≡ self.old) }
     {

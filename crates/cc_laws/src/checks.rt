@@ -27,7 +27,8 @@ use std::alloc::Global;
 
 /// Whether a part that may be missing fails the check.
 fn part_fails(table: &Table, check: Check, part: &Option<Tree<'_>>) -> bool
-    ensures { result ≡ list_any (fails (vocabulary_of table.now) check) (optional (option_map plain_tree part.now)) }
+    ensures { result ≡ list_any
+        (fails (vocabulary_of table.now) check) (optional (option_map plain_tree part.now)) }
 {
     match part {
         Some(formula) => formula_fails(table, check, formula),
@@ -37,7 +38,8 @@ fn part_fails(table: &Table, check: Check, part: &Option<Tree<'_>>) -> bool
 
 /// Whether a formula of a law before `where` fails the check.
 fn formulas_fail(table: &Table, check: Check, law: &LawTree<'_>) -> bool
-    ensures { result ≡ list_any (fails (vocabulary_of table.now) check) (faults.formulas (plain_law law.now)) }
+    ensures { result
+        ≡ list_any (fails (vocabulary_of table.now) check) (faults.formulas (plain_law law.now)) }
 {
     match law {
         LawTree::Caused(first, body, after) | LawTree::Default(first, body, after) => {
@@ -68,14 +70,16 @@ fn subject<'t, 's>(law: &'t LawTree<'s>) -> Option<&'t TermTree<'s>>
 
 /// Whether a formula of a law or its test fails the check.
 fn law_fails(table: &Table, check: Check, law: &LawTree<'_>, test: &Option<Tree<'_>>) -> bool
-    ensures { result ≡ list_any (fails (vocabulary_of table.now) check) (faults.formulas (plain_law law.now) ++ optional (option_map plain_tree test.now)) }
+    ensures { result ≡ list_any (fails (vocabulary_of table.now) check)
+        (faults.formulas (plain_law law.now) ++ optional (option_map plain_tree test.now)) }
 {
     formulas_fail(table, check, law) || part_fails(table, check, test)
 }
 
 /// Whether what is exogenous or inertial has a name with the property.
 fn subject_has(table: &Table, property: Property, law: &LawTree<'_>) -> bool
-    ensures { result ≡ faults.subject_satisfies (term_has (vocabulary_of table.now) (asks property)) (faults.subject (plain_law law.now)) }
+    ensures { result ≡ faults.subject_satisfies
+        (term_has (vocabulary_of table.now) (asks property)) (faults.subject (plain_law law.now)) }
 {
     match subject(law) {
         Some(constant) => has(table, property, constant),
@@ -85,13 +89,15 @@ fn subject_has(table: &Table, property: Property, law: &LawTree<'_>) -> bool
 
 #[tactic(auto, using(crate::proofs::Failing::some_unknown))]
 fn law_has_unknown(table: &Table, law: &LawTree<'_>, test: &Option<Tree<'_>>) -> bool
-    ensures { result ≡ faults.law_has_unknown (vocabulary_of table.now) (plain_law law.now) (optional (option_map plain_tree test.now)) }
+    ensures { result ≡ faults.law_has_unknown
+        (vocabulary_of table.now) (plain_law law.now) (optional (option_map plain_tree test.now)) }
 {
     law_fails(table, Check::Unknown, law, test) || subject_has(table, Property::Unknown, law)
 }
 
 fn law_has_miscounted(table: &Table, law: &LawTree<'_>, test: &Option<Tree<'_>>) -> bool
-    ensures { result ≡ faults.law_has_miscounted (vocabulary_of table.now) (plain_law law.now) (optional (option_map plain_tree test.now)) }
+    ensures { result ≡ faults.law_has_miscounted
+        (vocabulary_of table.now) (plain_law law.now) (optional (option_map plain_tree test.now)) }
 {
     law_fails(table, Check::Mentions(Property::Miscounted), law, test)
         || subject_has(table, Property::Miscounted, law)
@@ -106,7 +112,8 @@ fn subject_misfits(table: &Table, constant: &TermTree<'_>) -> bool
 
 /// Whether something in a law or its test does not fit.
 fn law_misfits(table: &Table, law: &LawTree<'_>, test: &Option<Tree<'_>>) -> bool
-    ensures { result ≡ faults.law_misfits (vocabulary_of table.now) (plain_law law.now) (optional (option_map plain_tree test.now)) }
+    ensures { result ≡ faults.law_misfits
+        (vocabulary_of table.now) (plain_law law.now) (optional (option_map plain_tree test.now)) }
 {
     let in_subject = match subject(law) {
         Some(constant) => subject_misfits(table, constant),
@@ -123,7 +130,8 @@ fn add_part(
     part: &Option<Tree<'_>>,
     found: &mut Vec<u32>,
 ) -> Result<(), OutOfMemory>
-    ensures added { OnOk result (found.new.items ≡ found.old.items ++ flat_map (free (vocabulary_of table.now) bound.old.items) (optional (option_map plain_tree part.now))) }
+    ensures added { OnOk result (found.new.items ≡ found.old.items ++ flat_map (free
+        (vocabulary_of table.now) bound.old.items) (optional (option_map plain_tree part.now))) }
     ensures closed { OnOk result (bound.new.items ≡ bound.old.items) }
 {
     match part {
@@ -139,7 +147,10 @@ fn add_law(
     law: &LawTree<'_>,
     found: &mut Vec<u32>,
 ) -> Result<(), OutOfMemory>
-    ensures { OnOk result (found.new.items ≡ found.old.items ++ (flat_map (free (vocabulary_of table.now) bound.old.items) (faults.formulas (plain_law law.now)) ++ unbound bound.old.items (faults.subject_variables (vocabulary_of table.now) (faults.subject (plain_law law.now))))) }
+    ensures { OnOk result (found.new.items
+        ≡ found.old.items ++ (flat_map (free (vocabulary_of table.now) bound.old.items)
+        (faults.formulas (plain_law law.now)) ++ unbound bound.old.items (faults.subject_variables
+        (vocabulary_of table.now) (faults.subject (plain_law law.now))))) }
 {
     match law {
         LawTree::Caused(first, body, after) | LawTree::Default(first, body, after) => {
@@ -174,7 +185,8 @@ pub(crate) fn law_variables(
     table: &Table,
     law: &LawTree<'_>,
 ) -> Result<Vec<u32>, OutOfMemory>
-    ensures { IfOk result (λ variables. variables.items ≡ faults.law_variables (vocabulary_of table.now) (plain_law law.now)) }
+    ensures { IfOk result (λ variables.
+        variables.items ≡ faults.law_variables (vocabulary_of table.now) (plain_law law.now)) }
 {
     let mut found = Vec::new(alloc);
     let mut bound = Vec::new(alloc);
@@ -189,7 +201,9 @@ fn has_unbound(
     law: &LawTree<'_>,
     test: &Option<Tree<'_>>,
 ) -> Result<bool, OutOfMemory>
-    ensures { IfOk result (λ unbound. unbound ≡ list_any (faults.has_unbound (vocabulary_of table.now) (faults.law_variables (vocabulary_of table.now) (plain_law law.now))) (optional (option_map plain_tree test.now))) }
+    ensures { IfOk result (λ unbound. unbound ≡ list_any (faults.has_unbound
+        (vocabulary_of table.now) (faults.law_variables (vocabulary_of table.now)
+        (plain_law law.now))) (optional (option_map plain_tree test.now))) }
 {
     let Some(test) = test else {
         return Ok(false);
@@ -206,7 +220,8 @@ fn law_fault(
     law: &LawTree<'_>,
     test: &Option<Tree<'_>>,
 ) -> Result<Option<u8>, OutOfMemory>
-    ensures { IfOk result (λ fault. fault ≡ least (faults.law_faults (vocabulary_of table.now) (plain_law law.now) (optional (option_map plain_tree test.now)))) }
+    ensures { IfOk result (λ fault. fault ≡ least (faults.law_faults (vocabulary_of table.now)
+        (plain_law law.now) (optional (option_map plain_tree test.now)))) }
 {
     if law_has_unknown(table, law, test) {
         return Ok(Some(5));
@@ -234,7 +249,8 @@ fn law_fault(
 
 /// The least number of a fault of a statement's part: a law alone has one.
 fn part_fault(alloc: Global, table: &Table, part: &Part<'_>) -> Result<Option<u8>, OutOfMemory>
-    ensures { IfOk result (λ fault. fault ≡ faults.part_fault (vocabulary_of table.now) (plain_part part.now)) }
+    ensures { IfOk result (λ fault.
+        fault ≡ faults.part_fault (vocabulary_of table.now) (plain_part part.now)) }
 {
     match part {
         Part::Law(law, test) => law_fault(alloc, table, law, test),
@@ -260,8 +276,10 @@ pub(crate) fn check(
     table: &Table,
     statement: &Statement<'_>,
 ) -> Result<(), Fault>
-    ensures checked { (left : Items Declared) → IsTable table.now left → IfOk result (λ nothing. law_refusal file (vocabulary left) (plain_statement statement.now) ≡ None) }
-    ensures refused { (left : Items Declared) → IsTable table.now left → IfErr result (IsRefusedBy (law_refusal file (vocabulary left) (plain_statement statement.now))) }
+    ensures checked { (left : Items Declared) → IsTable table.now left → IfOk result (λ nothing.
+        law_refusal file (vocabulary left) (plain_statement statement.now) ≡ None) }
+    ensures refused { (left : Items Declared) → IsTable table.now left → IfErr result
+        (IsRefusedBy (law_refusal file (vocabulary left) (plain_statement statement.now))) }
 {
     match part_fault(alloc, table, &statement.part)? {
         Some(number) => Err(refused(number, file, statement.line)),

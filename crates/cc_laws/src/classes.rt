@@ -13,7 +13,8 @@ use cc_sorts::Table;
 
 /// The class of a law with this head and this `after` part.
 pub(crate) fn class(table: &Table, head: &Head, after: &Option<Formula>) -> LawKind
-    ensures { result ≡ class_of (vocabulary_of table.now).symbols (plain_head head.now) (option_map plain_formula after.now) }
+    ensures { result ≡ class_of (vocabulary_of table.now).symbols
+        (plain_head head.now) (option_map plain_formula after.now) }
 {
     if after.is_some() {
         return LawKind::FluentDynamic;
@@ -27,7 +28,8 @@ pub(crate) fn class(table: &Table, head: &Head, after: &Option<Formula>) -> LawK
 /// The class of a law of one of the three forms: fluent dynamic with an `after` part; else action dynamic where its head
 /// has an action, and static where it has not. It takes no memory.
 pub fn classify(table: &Table, law: &Law) -> LawKind
-    ensures { (kind : Kind) → IsOfKind kind (vocabulary_of table.now).symbols (plain_law law.now) → result ≡ kind }
+    ensures { (kind : Kind) →
+        IsOfKind kind (vocabulary_of table.now).symbols (plain_law law.now) → result ≡ kind }
 {
     class(table, &law.head, &law.after)
 }

@@ -42,7 +42,8 @@ pub(crate) struct Source<'t, 's> {
 
 /// The sort of a variable; 0 where there is none.
 fn sort_of(table: &Table, variable: u32) -> u32
-    ensures { result ≡ Rattle.cc_laws.specs.Vocabulary.sort_of_entry (vocabulary_of table.now).variables variable }
+    ensures { result ≡ Rattle.cc_laws.specs.Vocabulary.sort_of_entry
+        (vocabulary_of table.now).variables variable }
 {
     if (variable as usize) < table.variable_count() {
         table.sort_of(variable)
@@ -52,7 +53,8 @@ fn sort_of(table: &Table, variable: u32) -> u32
 }
 
 fn sort_ranges(alloc: Global, table: &Table, variables: &[u32]) -> Result<Vec<Range>, OutOfMemory>
-    ensures { IfOk result (λ ranges. ranges.items ≡ words.sort_ranges (vocabulary_of table.now) variables.now) }
+    ensures { IfOk result (λ ranges.
+        ranges.items ≡ words.sort_ranges (vocabulary_of table.now) variables.now) }
 {
     let mut ranges = Vec::with_capacity(alloc, variables.len())?;
     for variable in variables {
@@ -68,9 +70,11 @@ fn written(
     names: &mut Names,
     piece: Piece<'_, '_>,
 ) -> Result<Formula, OutOfMemory>
-    ensures made { IfOk result (λ made. plain_formula made ≡ words.part (vocabulary_of table.now) (scope_of names.old) names.old.next (plain_piece piece.entry)) }
+    ensures made { IfOk result (λ made. plain_formula made ≡ words.part
+        (vocabulary_of table.now) (scope_of names.old) names.old.next (plain_piece piece.entry)) }
     ensures kept { OnOk result (names.new.bindings.items ≡ names.old.bindings.items) }
-    ensures next { OnOk result (names.new.next ≡ names.old.next + words.part_brackets (plain_piece piece.entry)) }
+    ensures next { OnOk result
+        (names.new.next ≡ names.old.next + words.part_brackets (plain_piece piece.entry)) }
 {
     match resolve_piece(alloc, table, names, piece)? {
         Some(formula) => Ok(formula),
@@ -80,7 +84,8 @@ fn written(
 
 /// What the base laws of a law have in common.
 fn law_frame(alloc: Global, table: &Table, source: Source<'_, '_>) -> Result<Frame, OutOfMemory>
-    ensures { IfOk result (λ made. frame_of made ≡ frame_from (vocabulary_of table.now) source.entry) }
+    ensures { IfOk result (λ made.
+        frame_of made ≡ frame_from (vocabulary_of table.now) source.entry) }
 {
     let ranges = sort_ranges(alloc, table, source.variables)?;
     let mut names = names_of(alloc, source.variables)?;
@@ -105,7 +110,8 @@ fn is_missing(piece: Piece<'_, '_>) -> bool
 
 /// Whether a law denies a step where a part of its head is `false`. It goes through the whole head: asked once for a law.
 fn denies(table: &Table, law: Caused<'_, '_>) -> bool
-    ensures { result ≡ is_none (plain_caused law.entry).after && words.part_acts (vocabulary_of table.now) (plain_caused law.entry).head }
+    ensures { result ≡ is_none (plain_caused law.entry).after
+        && words.part_acts (vocabulary_of table.now) (plain_caused law.entry).head }
 {
     match law.head {
         HeadPiece::Falsity => false,
@@ -131,8 +137,14 @@ fn law_parts(
     law: Caused<'_, '_>,
     denied: bool,
 ) -> Result<Parts, OutOfMemory>
-    ensures body { IfOk result (λ made. plain_formula made.body ≡ (if denied then resolved.Truth else words.part (vocabulary_of table.now) (scope_of names.old) names.old.next (plain_caused law.entry).body)) }
-    ensures after { IfOk result (λ made. option_map plain_formula made.after ≡ (if denied then Some (words.part (vocabulary_of table.now) (scope_of names.old) names.old.next (plain_caused law.entry).body) else option_map (resolve (vocabulary_of table.now) (scope_of names.old) (names.old.next + words.part_brackets (plain_caused law.entry).body)) (plain_caused law.entry).after)) }
+    ensures body { IfOk result (λ made. plain_formula made.body
+        ≡ (if denied then resolved.Truth else words.part (vocabulary_of table.now)
+        (scope_of names.old) names.old.next (plain_caused law.entry).body)) }
+    ensures after { IfOk result (λ made. option_map plain_formula made.after ≡ (if denied then Some
+        (words.part (vocabulary_of table.now) (scope_of names.old) names.old.next
+        (plain_caused law.entry).body) else option_map (resolve (vocabulary_of table.now)
+        (scope_of names.old) (names.old.next + words.part_brackets (plain_caused law.entry).body))
+        (plain_caused law.entry).after)) }
 {
     let body = written(alloc, table, names, law.body)?;
     if denied {
@@ -154,8 +166,11 @@ fn law_for(
     denying: bool,
     head: Head,
 ) -> Result<BaseLaw, OutOfMemory>
-    requires { denying ≡ is_none (plain_caused law).after && words.part_acts (vocabulary_of table.now) (plain_caused law).head }
-    ensures { IfOk result (λ made. plain_base_law made ≡ words.law_for (vocabulary_of table.now) (frame_from (vocabulary_of table.now) source.entry) (plain_caused law.entry) (plain_head head)) }
+    requires { denying ≡ is_none (plain_caused law).after
+        && words.part_acts (vocabulary_of table.now) (plain_caused law).head }
+    ensures { IfOk result (λ made.
+        plain_base_law made ≡ words.law_for (vocabulary_of table.now) (frame_from
+        (vocabulary_of table.now) source.entry) (plain_caused law.entry) (plain_head head)) }
 {
     let denied = denies_step(denying, &head);
     let mut frame = law_frame(alloc, table, source)?;
@@ -170,7 +185,8 @@ fn head_parts(
     variables: &[u32],
     head: HeadPiece<'_, '_>,
 ) -> Result<Vec<Head>, OutOfMemory>
-    ensures { IfOk result (λ found. map plain_head found.items ≡ words.head_parts (vocabulary_of table.now) (numbered_from 0 variables.now) (head_piece head.entry)) }
+    ensures { IfOk result (λ found. map plain_head found.items ≡ words.head_parts
+        (vocabulary_of table.now) (numbered_from 0 variables.now) (head_piece head.entry)) }
 {
     match head {
         HeadPiece::Falsity => {
@@ -192,7 +208,9 @@ fn split(
     source: Source<'_, '_>,
     law: Caused<'_, '_>,
 ) -> Result<Vec<BaseLaw>, OutOfMemory>
-    ensures { IfOk result (λ made. map plain_base_law made.items ≡ words.split (vocabulary_of table.now) (frame_from (vocabulary_of table.now) source.entry) (plain_caused law.entry)) }
+    ensures { IfOk result (λ made.
+        map plain_base_law made.items ≡ words.split (vocabulary_of table.now)
+        (frame_from (vocabulary_of table.now) source.entry) (plain_caused law.entry)) }
 {
     let heads = head_parts(alloc, table, source.variables, law.head)?;
     let denying = denies(table, law);
@@ -220,7 +238,9 @@ fn subject_laws(
     persistence: Persistence,
     constant: &TermTree<'_>,
 ) -> Result<Vec<BaseLaw>, OutOfMemory>
-    ensures { IfOk result (λ made. map plain_base_law made.items ≡ words.subject_laws (vocabulary_of table.now) (frame_from (vocabulary_of table.now) source.entry) (persistence_of persistence) (plain_term constant.now)) }
+    ensures { IfOk result (λ made. map plain_base_law made.items ≡ words.subject_laws
+        (vocabulary_of table.now) (frame_from (vocabulary_of table.now) source.entry)
+        (persistence_of persistence) (plain_term constant.now)) }
 {
     let frame = law_frame(alloc, table, source)?;
     match resolve_term(alloc, table, &frame.names, constant)? {
@@ -234,7 +254,8 @@ fn subject_laws(
 
 /// The law `caused F if G after H` that a law is short for, if it is short for one.
 fn short_for<'t, 's>(table: &Table, law: &'t LawTree<'s>) -> Option<Caused<'t, 's>>
-    ensures { option_map plain_caused result ≡ law_short_for (vocabulary_of table.now) (plain_law law.now) }
+    ensures { option_map plain_caused result
+        ≡ law_short_for (vocabulary_of table.now) (plain_law law.now) }
 {
     match law {
         LawTree::Caused(f, g, h) => {
@@ -265,7 +286,9 @@ fn other_laws(
     source: Source<'_, '_>,
     law: &LawTree<'_>,
 ) -> Result<Vec<BaseLaw>, OutOfMemory>
-    ensures { IfOk result (λ made. map plain_base_law made.items ≡ laws_of_others (vocabulary_of table.now) (frame_from (vocabulary_of table.now) source.entry) (plain_law law.now)) }
+    ensures { IfOk result (λ made.
+        map plain_base_law made.items ≡ laws_of_others (vocabulary_of table.now)
+        (frame_from (vocabulary_of table.now) source.entry) (plain_law law.now)) }
 {
     match law {
         LawTree::Exogenous(constant) => {
@@ -289,7 +312,9 @@ fn laws_with(
     source: Source<'_, '_>,
     law: &LawTree<'_>,
 ) -> Result<Vec<BaseLaw>, OutOfMemory>
-    ensures { IfOk result (λ made. map plain_base_law made.items ≡ words.laws_with (vocabulary_of table.now) (frame_from (vocabulary_of table.now) source.entry) (plain_law law.now)) }
+    ensures { IfOk result (λ made.
+        map plain_base_law made.items ≡ words.laws_with (vocabulary_of table.now)
+        (frame_from (vocabulary_of table.now) source.entry) (plain_law law.now)) }
 {
     match short_for(table, law) {
         Some(short) => split(alloc, table, source, short),
@@ -306,7 +331,8 @@ fn laws_in(
     law: &LawTree<'_>,
     test: &Option<Tree<'_>>,
 ) -> Result<Vec<BaseLaw>, OutOfMemory>
-    ensures { IfOk result (λ made. map plain_base_law made.items ≡ words.laws_in file (vocabulary_of table.now) line (plain_law law.now) (option_map plain_tree test.now)) }
+    ensures { IfOk result (λ made. map plain_base_law made.items ≡ words.laws_in file
+        (vocabulary_of table.now) line (plain_law law.now) (option_map plain_tree test.now)) }
 {
     let variables = law_variables(alloc, table, law)?;
     let source = Source {
@@ -363,7 +389,9 @@ fn shape_law(
     sorts: &[u32],
 ) -> Result<BaseLaw, OutOfMemory>
     requires { length sorts.now < 4000000000 }
-    ensures { IfOk result (λ made. plain_base_law made ≡ words.value_law (vocabulary_of table.now) (words.shape_frame file line sorts.now) (persistence_of persistence) number (words.places 0 sorts.now)) }
+    ensures { IfOk result (λ made. plain_base_law made
+        ≡ words.value_law (vocabulary_of table.now) (words.shape_frame file line sorts.now)
+        (persistence_of persistence) number (words.places 0 sorts.now)) }
 {
     let args = places(alloc, sorts)?;
     let frame = shape_frame(alloc, file, line, sorts)?;
@@ -373,7 +401,8 @@ fn shape_law(
 /// That a constant with a variable for each argument has a value.
 fn equation(alloc: Global, symbol: u32, sorts: &[u32], value: Term) -> Result<Formula, OutOfMemory>
     requires { length sorts.now < 4000000000 }
-    ensures { IfOk result (λ made. plain_formula made ≡ resolved.Equal (resolved.Constant symbol (words.places 0 sorts.now)) (resolved.plain_term value)) }
+    ensures { IfOk result (λ made. plain_formula made ≡ resolved.Equal
+        (resolved.Constant symbol (words.places 0 sorts.now)) (resolved.plain_term value)) }
 {
     let args = places(alloc, sorts)?;
     Ok(equation_of(symbol, args, value))
@@ -387,7 +416,9 @@ fn denied_attribute(
     sorts: &[u32],
 ) -> Result<Formula, OutOfMemory>
     requires { length sorts.now < 4000000000 }
-    ensures { IfOk result (λ made. plain_formula made ≡ resolved.Not (resolved.Same (resolved.Equal (resolved.Constant number (words.places 0 sorts.now)) resolved.Nothing) (resolved.Not (alone (resolved.Constant action (words.places 0 sorts.now)))))) }
+    ensures { IfOk result (λ made. plain_formula made ≡ resolved.Not (resolved.Same
+        (resolved.Equal (resolved.Constant number (words.places 0 sorts.now)) resolved.Nothing)
+        (resolved.Not (alone (resolved.Constant action (words.places 0 sorts.now)))))) }
 {
     let done = equation(alloc, action, sorts, Term::Object(1))?;
     let denied = Box::new(alloc, negated(alloc, done)?)?;
@@ -406,7 +437,9 @@ fn attribute_law(
     sorts: &[u32],
 ) -> Result<BaseLaw, OutOfMemory>
     requires { length sorts.now < 4000000000 }
-    ensures { IfOk result (λ made. plain_base_law made ≡ words.attribute_law (vocabulary_of table.now) (words.shape_frame file line sorts.now) number action (words.places 0 sorts.now)) }
+    ensures { IfOk result (λ made.
+        plain_base_law made ≡ words.attribute_law (vocabulary_of table.now)
+        (words.shape_frame file line sorts.now) number action (words.places 0 sorts.now)) }
 {
     let frame = shape_frame(alloc, file, line, sorts)?;
     let differ = denied_attribute(alloc, number, action, sorts)?;
@@ -436,7 +469,9 @@ fn word_laws(
     sorts: &[u32],
 ) -> Result<Vec<BaseLaw>, OutOfMemory>
     requires { length sorts.now < 4000000000 }
-    ensures { IfOk result (λ made. map plain_base_law made.items ≡ words.word_laws (vocabulary_of table.now) (words.shape_frame file line sorts.now) word number (words.places 0 sorts.now)) }
+    ensures { IfOk result (λ made.
+        map plain_base_law made.items ≡ words.word_laws (vocabulary_of table.now)
+        (words.shape_frame file line sorts.now) word number (words.places 0 sorts.now)) }
 {
     match persistence_for(word) {
         Some(persistence) => only(
@@ -458,7 +493,9 @@ fn attribute_laws(
     sorts: &[u32],
 ) -> Result<Vec<BaseLaw>, OutOfMemory>
     requires { length sorts.now < 4000000000 }
-    ensures { IfOk result (λ made. map plain_base_law made.items ≡ words.attribute_laws (vocabulary_of table.now) (words.shape_frame file line sorts.now) number action (words.places 0 sorts.now)) }
+    ensures { IfOk result (λ made.
+        map plain_base_law made.items ≡ words.attribute_laws (vocabulary_of table.now)
+        (words.shape_frame file line sorts.now) number action (words.places 0 sorts.now)) }
 {
     let Some(action) = action else {
         return Ok(Vec::new(alloc));
@@ -486,7 +523,8 @@ fn constant_laws(
     kind: &KindTree<'_>,
     means: &Meaning<'_>,
 ) -> Result<Vec<BaseLaw>, OutOfMemory>
-    ensures { IfOk result (λ made. map plain_base_law made.items ≡ words.constant_laws file (vocabulary_of table.now) line (plain_kind kind.now) (plain_meaning means.now)) }
+    ensures { IfOk result (λ made. map plain_base_law made.items ≡ words.constant_laws file
+        (vocabulary_of table.now) line (plain_kind kind.now) (plain_meaning means.now)) }
 {
     let Meaning::Constant(number, symbol) = means else {
         return Ok(Vec::new(alloc));
@@ -512,7 +550,8 @@ fn add_item(
     item: &ConstItem<'_>,
     laws: &mut Vec<BaseLaw>,
 ) -> Result<(), OutOfMemory>
-    ensures { OnOk result (map plain_base_law laws.new.items ≡ map plain_base_law laws.old.items ++ words.item_laws file (vocabulary_of table.now) line (plain_const_item item.now)) }
+    ensures { OnOk result (map plain_base_law laws.new.items ≡ map plain_base_law laws.old.items
+        ++ words.item_laws file (vocabulary_of table.now) line (plain_const_item item.now)) }
 {
     let shapes = item.shapes.items();
     for shape in shapes {
@@ -531,7 +570,8 @@ fn declared_laws(
     line: u32,
     items: &[ConstItem<'_>],
 ) -> Result<Vec<BaseLaw>, OutOfMemory>
-    ensures { IfOk result (λ made. map plain_base_law made.items ≡ flat_map (words.item_laws file (vocabulary_of table.now) line) (map plain_const_item items.now)) }
+    ensures { IfOk result (λ made. map plain_base_law made.items ≡ flat_map
+        (words.item_laws file (vocabulary_of table.now) line) (map plain_const_item items.now)) }
 {
     let mut made = Vec::new(alloc);
     for item in items {
@@ -548,7 +588,8 @@ fn base_laws(
     line: u32,
     part: &Part<'_>,
 ) -> Result<Vec<BaseLaw>, OutOfMemory>
-    ensures { IfOk result (λ made. map plain_base_law made.items ≡ words.base_laws file (vocabulary_of table.now) line (plain_part part.now)) }
+    ensures { IfOk result (λ made. map plain_base_law made.items
+        ≡ words.base_laws file (vocabulary_of table.now) line (plain_part part.now)) }
 {
     match part {
         Part::Law(law, test) => laws_in(alloc, file, table, line, law, test),
@@ -569,8 +610,10 @@ pub fn expand(
     table: &Table,
     statement: &Statement<'_>,
 ) -> Result<BaseLaws, Fault>
-    ensures expanded { (left : Items Declared) → IsTable table.now left → IfOk result (λ laws. Expands file left (plain_statement statement.now) (map plain_base_law laws)) }
-    ensures refused { (left : Items Declared) → IsTable table.now left → IfErr result (IsRefusedBy (law_refusal file (vocabulary left) (plain_statement statement.now))) }
+    ensures expanded { (left : Items Declared) → IsTable table.now left → IfOk result (λ laws.
+        Expands file left (plain_statement statement.now) (map plain_base_law laws)) }
+    ensures refused { (left : Items Declared) → IsTable table.now left → IfErr result
+        (IsRefusedBy (law_refusal file (vocabulary left) (plain_statement statement.now))) }
 {
     check(alloc, file, table, statement)?;
     let laws = base_laws(alloc, file, table, statement.line, &statement.part)?;

@@ -17,26 +17,30 @@ use cc_defs::{LawTree, Tree};
 use cc_sorts::Table;
 
 pub(crate) fn has(table: &Table, property: Property, formula: &Tree<'_>) -> bool
-    ensures { result ≡ formulas.formula_has (vocabulary_of table.now) (asks property) (plain_tree formula.now) }
+    ensures { result
+        ≡ formulas.formula_has (vocabulary_of table.now) (asks property) (plain_tree formula.now) }
 {
     formula_fails(table, Check::Mentions(property), formula)
 }
 
 pub(crate) fn is_fluent_formula(table: &Table, formula: &Tree<'_>) -> bool
-    ensures { result ≡ formulas.is_fluent_formula (vocabulary_of table.now) (plain_tree formula.now) }
+    ensures { result
+        ≡ formulas.is_fluent_formula (vocabulary_of table.now) (plain_tree formula.now) }
 {
     !has(table, Property::Action, formula)
 }
 
 fn is_action_formula(table: &Table, formula: &Tree<'_>) -> bool
-    ensures { result ≡ formulas.is_action_formula (vocabulary_of table.now) (plain_tree formula.now) }
+    ensures { result
+        ≡ formulas.is_action_formula (vocabulary_of table.now) (plain_tree formula.now) }
 {
     has(table, Property::Action, formula) && !has(table, Property::Fluent, formula)
 }
 
 /// Whether a part that may be missing has no action.
 fn is_fluent_part(table: &Table, part: &Option<Tree<'_>>) -> bool
-    ensures { result ≡ list_all (formulas.is_fluent_formula (vocabulary_of table.now)) (optional (option_map plain_tree part.now)) }
+    ensures { result ≡ list_all (formulas.is_fluent_formula (vocabulary_of table.now))
+        (optional (option_map plain_tree part.now)) }
 {
     match part {
         Some(formula) => is_fluent_formula(table, formula),
@@ -51,7 +55,8 @@ fn has_form(
     body: &Option<Tree<'_>>,
     after: &Option<Tree<'_>>,
 ) -> bool
-    ensures { result ≡ faults.has_form (vocabulary_of table.now) (plain_tree head.now) (optional (option_map plain_tree body.now)) (option_map plain_tree after.now) }
+    ensures { result ≡ faults.has_form (vocabulary_of table.now) (plain_tree head.now)
+        (optional (option_map plain_tree body.now)) (option_map plain_tree after.now) }
 {
     let of_fluents = is_fluent_formula(table, head) && is_fluent_part(table, body);
     match after {
@@ -83,7 +88,8 @@ pub(crate) fn lacks_form(table: &Table, law: &LawTree<'_>) -> bool
 
 /// Whether the head of a law with an `after` part has a statically determined fluent.
 fn has_determined_after(table: &Table, head: &Tree<'_>, after: &Option<Tree<'_>>) -> bool
-    ensures { result ≡ faults.has_determined_after (vocabulary_of table.now) (plain_tree head.now) (option_map plain_tree after.now) }
+    ensures { result ≡ faults.has_determined_after
+        (vocabulary_of table.now) (plain_tree head.now) (option_map plain_tree after.now) }
 {
     match after {
         Some(_) => has(table, Property::Determined, head),

@@ -18,7 +18,8 @@ use std::alloc::Global;
 
 /// The other one of `false` and `true`.
 fn opposite(table: &Table, value: &TermTree<'_>) -> Term
-    ensures { resolved_term result ≡ words.opposite (vocabulary_of table.now) (plain_term value.now) }
+    ensures { resolved_term result
+        ≡ words.opposite (vocabulary_of table.now) (plain_term value.now) }
 {
     match meaning_of_term(table, value) {
         Meaning::Object(0, _) => Term::Object(1),
@@ -35,7 +36,9 @@ fn add_atom(
     value: Term,
     found: &mut Vec<Head>,
 ) -> Result<bool, OutOfMemory>
-    ensures { IfOk result (λ definite. only_if definite (Some (map plain_head found.new.items)) ≡ both_heads (Some (map plain_head found.old.items)) (words.atom (vocabulary_of table.now) (scope_of names.now) (plain_term constant.now) (resolved_term value))) }
+    ensures { IfOk result (λ definite. only_if definite (Some (map plain_head found.new.items))
+        ≡ both_heads (Some (map plain_head found.old.items)) (words.atom (vocabulary_of table.now)
+        (scope_of names.now) (plain_term constant.now) (resolved_term value))) }
 {
     match resolve_term(alloc, table, names, constant)? {
         Term::Constant { symbol, args } => {
@@ -59,7 +62,9 @@ fn add_bare(
     term: &TermTree<'_>,
     found: &mut Vec<Head>,
 ) -> Result<bool, OutOfMemory>
-    ensures { IfOk result (λ definite. only_if definite (Some (map plain_head found.new.items)) ≡ both_heads (Some (map plain_head found.old.items)) (words.definite_heads (vocabulary_of table.now) (scope_of names.now) (bare (plain_term term.now)))) }
+    ensures { IfOk result (λ definite. only_if definite (Some (map plain_head found.new.items))
+        ≡ both_heads (Some (map plain_head found.old.items)) (words.definite_heads
+        (vocabulary_of table.now) (scope_of names.now) (bare (plain_term term.now)))) }
 {
     if is_falsity_term(table, term) {
         found.push(Head::Falsity)?;
@@ -80,7 +85,10 @@ fn add_value(
     value: &SumTree<'_>,
     found: &mut Vec<Head>,
 ) -> Result<bool, OutOfMemory>
-    ensures { IfOk result (λ definite. only_if definite (Some (map plain_head found.new.items)) ≡ both_heads (Some (map plain_head found.old.items)) (words.atom (vocabulary_of table.now) (scope_of names.now) (plain_term constant.now) (resolving.resolve_sum (vocabulary_of table.now) (scope_of names.now) (plain_sum value.now)))) }
+    ensures { IfOk result (λ definite. only_if definite (Some (map plain_head found.new.items))
+        ≡ both_heads (Some (map plain_head found.old.items)) (words.atom (vocabulary_of table.now)
+        (scope_of names.now) (plain_term constant.now) (resolving.resolve_sum
+        (vocabulary_of table.now) (scope_of names.now) (plain_sum value.now)))) }
 {
     let value = resolve_sum(alloc, table, names, value)?;
     add_atom(alloc, table, names, constant, value, found)
@@ -96,7 +104,10 @@ fn add_equation(
     right: &SumTree<'_>,
     found: &mut Vec<Head>,
 ) -> Result<bool, OutOfMemory>
-    ensures { IfOk result (λ definite. only_if definite (Some (map plain_head found.new.items)) ≡ both_heads (Some (map plain_head found.old.items)) (words.definite_heads (vocabulary_of table.now) (scope_of names.now) (comparison equal (plain_sum left.now) (plain_sum right.now)))) }
+    ensures { IfOk result (λ definite.
+        only_if definite (Some (map plain_head found.new.items)) ≡ both_heads
+        (Some (map plain_head found.old.items)) (words.definite_heads (vocabulary_of table.now)
+        (scope_of names.now) (comparison equal (plain_sum left.now) (plain_sum right.now)))) }
 {
     match constant_beside(table, left, right) {
         Some(first) => add_value(alloc, table, names, first, right, found),
@@ -116,7 +127,10 @@ fn add_opposite(
     truth: &TermTree<'_>,
     found: &mut Vec<Head>,
 ) -> Result<bool, OutOfMemory>
-    ensures { IfOk result (λ definite. only_if definite (Some (map plain_head found.new.items)) ≡ both_heads (Some (map plain_head found.old.items)) (words.atom (vocabulary_of table.now) (scope_of names.now) (plain_term constant.now) (words.opposite (vocabulary_of table.now) (plain_term truth.now)))) }
+    ensures { IfOk result (λ definite. only_if definite (Some (map plain_head found.new.items))
+        ≡ both_heads (Some (map plain_head found.old.items))
+        (words.atom (vocabulary_of table.now) (scope_of names.now) (plain_term constant.now)
+        (words.opposite (vocabulary_of table.now) (plain_term truth.now)))) }
 {
     add_atom(alloc, table, names, constant, opposite(table, truth), found)
 }
@@ -130,7 +144,10 @@ fn add_denial<'t, 's>(
     right: &'t SumTree<'s>,
     found: &mut Vec<Head>,
 ) -> Result<bool, OutOfMemory>
-    ensures { IfOk result (λ definite. only_if definite (Some (map plain_head found.new.items)) ≡ both_heads (Some (map plain_head found.old.items)) (words.definite_heads (vocabulary_of table.now) (scope_of names.now) (comparison differs (plain_sum left.now) (plain_sum right.now)))) }
+    ensures { IfOk result (λ definite.
+        only_if definite (Some (map plain_head found.new.items)) ≡ both_heads
+        (Some (map plain_head found.old.items)) (words.definite_heads (vocabulary_of table.now)
+        (scope_of names.now) (comparison differs (plain_sum left.now) (plain_sum right.now)))) }
 {
     match truth_beside(table, left, right) {
         Some(pair) => add_opposite(alloc, table, names, pair.0, pair.1, found),
@@ -146,7 +163,9 @@ fn add_denied_term(
     term: &TermTree<'_>,
     found: &mut Vec<Head>,
 ) -> Result<bool, OutOfMemory>
-    ensures { IfOk result (λ definite. only_if definite (Some (map plain_head found.new.items)) ≡ both_heads (Some (map plain_head found.old.items)) (words.denied_heads (vocabulary_of table.now) (scope_of names.now) (bare (plain_term term.now)))) }
+    ensures { IfOk result (λ definite. only_if definite (Some (map plain_head found.new.items))
+        ≡ both_heads (Some (map plain_head found.old.items)) (words.denied_heads
+        (vocabulary_of table.now) (scope_of names.now) (bare (plain_term term.now)))) }
 {
     if is_boolean_term(table, term) {
         return add_atom(alloc, table, names, term, Term::Object(0), found);
@@ -163,7 +182,10 @@ fn add_denied_equation<'t, 's>(
     right: &'t SumTree<'s>,
     found: &mut Vec<Head>,
 ) -> Result<bool, OutOfMemory>
-    ensures { IfOk result (λ definite. only_if definite (Some (map plain_head found.new.items)) ≡ both_heads (Some (map plain_head found.old.items)) (words.denied_heads (vocabulary_of table.now) (scope_of names.now) (comparison equal (plain_sum left.now) (plain_sum right.now)))) }
+    ensures { IfOk result (λ definite.
+        only_if definite (Some (map plain_head found.new.items)) ≡ both_heads
+        (Some (map plain_head found.old.items)) (words.denied_heads (vocabulary_of table.now)
+        (scope_of names.now) (comparison equal (plain_sum left.now) (plain_sum right.now)))) }
 {
     match truth_beside(table, left, right) {
         Some(pair) => add_opposite(alloc, table, names, pair.0, pair.1, found),
@@ -182,7 +204,9 @@ fn add_denied(
     formula: &Tree<'_>,
     found: &mut Vec<Head>,
 ) -> Result<bool, OutOfMemory>
-    ensures { IfOk result (λ definite. only_if definite (Some (map plain_head found.new.items)) ≡ both_heads (Some (map plain_head found.old.items)) (words.denied_heads (vocabulary_of table.now) (scope_of names.now) (plain_tree formula.now))) }
+    ensures { IfOk result (λ definite. only_if definite (Some (map plain_head found.new.items))
+        ≡ both_heads (Some (map plain_head found.old.items)) (words.denied_heads
+        (vocabulary_of table.now) (scope_of names.now) (plain_tree formula.now))) }
 {
     match formula {
         Tree::Bare(term) => add_denied_term(alloc, table, names, term, found),
@@ -200,7 +224,9 @@ fn add_heads(
     formula: &Tree<'_>,
     found: &mut Vec<Head>,
 ) -> Result<bool, OutOfMemory>
-    ensures { IfOk result (λ definite. only_if definite (Some (map plain_head found.new.items)) ≡ both_heads (Some (map plain_head found.old.items)) (words.definite_heads (vocabulary_of table.now) (scope_of names.now) (plain_tree formula.now))) }
+    ensures { IfOk result (λ definite. only_if definite (Some (map plain_head found.new.items))
+        ≡ both_heads (Some (map plain_head found.old.items)) (words.definite_heads
+        (vocabulary_of table.now) (scope_of names.now) (plain_tree formula.now))) }
 {
     match formula {
         Tree::Bare(term) => add_bare(alloc, table, names, term, found),
@@ -226,7 +252,8 @@ pub(crate) fn heads_of(
     names: &Names,
     formula: &Tree<'_>,
 ) -> Result<Vec<Head>, OutOfMemory>
-    ensures { IfOk result (λ heads. map plain_head heads.items ≡ unwrap_or (words.definite_heads (vocabulary_of table.now) (scope_of names.now) (plain_tree formula.now)) []) }
+    ensures { IfOk result (λ heads. map plain_head heads.items ≡ unwrap_or (words.definite_heads
+        (vocabulary_of table.now) (scope_of names.now) (plain_tree formula.now)) []) }
 {
     let mut found = Vec::new(alloc);
     if add_heads(alloc, table, names, formula, &mut found)? {

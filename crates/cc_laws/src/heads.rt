@@ -43,7 +43,8 @@ pub(crate) fn constant_beside<'t, 's>(
     constant: &'t SumTree<'s>,
     value: &SumTree<'_>,
 ) -> Option<&'t TermTree<'s>>
-    ensures { option_map (λ term. plain_term term.now) result ≡ is_beside (vocabulary_of table.now) (alone (plain_sum constant.now)) (plain_sum value.now) }
+    ensures { option_map (λ term. plain_term term.now) result ≡ is_beside
+        (vocabulary_of table.now) (alone (plain_sum constant.now)) (plain_sum value.now) }
 {
     match lone(constant) {
         Some(term) => {
@@ -58,7 +59,8 @@ pub(crate) fn constant_beside<'t, 's>(
 }
 
 fn has_constant_beside(table: &Table, constant: &SumTree<'_>, value: &SumTree<'_>) -> bool
-    ensures { result ≡ is_some (is_beside (vocabulary_of table.now) (alone (plain_sum constant.now)) (plain_sum value.now)) }
+    ensures { result ≡ is_some (is_beside
+        (vocabulary_of table.now) (alone (plain_sum constant.now)) (plain_sum value.now)) }
 {
     match constant_beside(table, constant, value) {
         Some(_) => true,
@@ -72,7 +74,9 @@ pub(crate) fn truth_beside<'t, 's>(
     constant: &'t SumTree<'s>,
     value: &'t SumTree<'s>,
 ) -> Option<(&'t TermTree<'s>, &'t TermTree<'s>)>
-    ensures { option_map (λ pair. (plain_term pair.0.now, plain_term pair.1.now)) result ≡ are_beside (vocabulary_of table.now) (alone (plain_sum constant.now)) (alone (plain_sum value.now)) }
+    ensures { option_map (λ pair. (plain_term pair.0.now, plain_term pair.1.now)) result
+        ≡ are_beside
+        (vocabulary_of table.now) (alone (plain_sum constant.now)) (alone (plain_sum value.now)) }
 {
     match (lone(constant), lone(value)) {
         (Some(term), Some(truth)) => {
@@ -91,7 +95,8 @@ fn has_truth_beside<'t, 's>(
     constant: &'t SumTree<'s>,
     value: &'t SumTree<'s>,
 ) -> bool
-    ensures { result ≡ is_some (are_beside (vocabulary_of table.now) (alone (plain_sum constant.now)) (alone (plain_sum value.now))) }
+    ensures { result ≡ is_some (are_beside
+        (vocabulary_of table.now) (alone (plain_sum constant.now)) (alone (plain_sum value.now))) }
 {
     match truth_beside(table, constant, value) {
         Some(_) => true,
@@ -110,7 +115,8 @@ fn is_definite_term(table: &Table, term: &TermTree<'_>) -> bool
 /// Whether an equation is an atom: one side is a constant alone and the other has none.
 #[tactic(auto, using(crate::proofs::HeadTests::equation_definite))]
 fn is_atom(table: &Table, left: &SumTree<'_>, right: &SumTree<'_>) -> bool
-    ensures { result ≡ faults.is_definite (vocabulary_of table.now) (comparison equal (plain_sum left.now) (plain_sum right.now)) }
+    ensures { result ≡ faults.is_definite
+        (vocabulary_of table.now) (comparison equal (plain_sum left.now) (plain_sum right.now)) }
 {
     has_constant_beside(table, left, right) || has_constant_beside(table, right, left)
 }
@@ -118,14 +124,16 @@ fn is_atom(table: &Table, left: &SumTree<'_>, right: &SumTree<'_>) -> bool
 /// Whether the denial of an equation is a head: a Boolean constant is compared with `false` or `true`.
 #[tactic(auto, using(crate::proofs::HeadTests::denial_definite))]
 fn is_definite_denial<'t, 's>(table: &Table, left: &'t SumTree<'s>, right: &'t SumTree<'s>) -> bool
-    ensures { result ≡ faults.is_definite (vocabulary_of table.now) (comparison differs (plain_sum left.now) (plain_sum right.now)) }
+    ensures { result ≡ faults.is_definite
+        (vocabulary_of table.now) (comparison differs (plain_sum left.now) (plain_sum right.now)) }
 {
     has_truth_beside(table, left, right)
 }
 
 #[tactic(auto, using(crate::proofs::HeadTests::bare_deniable))]
 fn is_deniable_term(table: &Table, term: &TermTree<'_>) -> bool
-    ensures { result ≡ is_some (words.denied_heads (vocabulary_of table.now) [] (bare (plain_term term.now))) }
+    ensures { result
+        ≡ is_some (words.denied_heads (vocabulary_of table.now) [] (bare (plain_term term.now))) }
 {
     is_boolean_term(table, term)
 }
@@ -136,14 +144,16 @@ fn is_deniable_equation<'t, 's>(
     left: &'t SumTree<'s>,
     right: &'t SumTree<'s>,
 ) -> bool
-    ensures { result ≡ is_some (words.denied_heads (vocabulary_of table.now) [] (comparison equal (plain_sum left.now) (plain_sum right.now))) }
+    ensures { result ≡ is_some (words.denied_heads (vocabulary_of table.now) []
+        (comparison equal (plain_sum left.now) (plain_sum right.now))) }
 {
     has_truth_beside(table, left, right) || has_truth_beside(table, right, left)
 }
 
 /// Whether a head may be the denial of the formula.
 fn is_deniable(table: &Table, formula: &Tree<'_>) -> bool
-    ensures { result ≡ is_some (words.denied_heads (vocabulary_of table.now) [] (plain_tree formula.now)) }
+    ensures { result
+        ≡ is_some (words.denied_heads (vocabulary_of table.now) [] (plain_tree formula.now)) }
 {
     match formula {
         Tree::Bare(term) => is_deniable_term(table, term),

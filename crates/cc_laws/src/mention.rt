@@ -29,7 +29,8 @@ pub(crate) enum Property {
 /// Whether a term has a name with the property, in its arguments too.
 #[cycle(has)]
 pub(crate) fn term_has(table: &Table, property: Property, term: &TermTree<'_>) -> bool
-    ensures { result ≡ faults.term_has (vocabulary_of table.now) (asks property) (plain_term term.now) }
+    ensures { result
+        ≡ faults.term_has (vocabulary_of table.now) (asks property) (plain_term term.now) }
 {
     if meaning_of(table, term.name).has(property, term.args.len()) {
         return true;
@@ -45,7 +46,8 @@ pub(crate) fn term_has(table: &Table, property: Property, term: &TermTree<'_>) -
 /// Whether a sum has such a name.
 #[cycle(has)]
 pub(crate) fn sum_has(table: &Table, property: Property, sum: &SumTree<'_>) -> bool
-    ensures { result ≡ faults.sum_has (vocabulary_of table.now) (asks property) (plain_sum sum.now) }
+    ensures { result
+        ≡ faults.sum_has (vocabulary_of table.now) (asks property) (plain_sum sum.now) }
 {
     if piece_has(table, property, &sum.first) {
         return true;

@@ -47,7 +47,8 @@ fn piece_misfits(table: &Table, piece: &Piece<'_>) -> bool
 }
 
 fn some_piece_misfits(table: &Table, sum: &SumTree<'_>) -> bool
-    ensures { result ≡ list_any (faults.piece_misfits (vocabulary_of table.now)) (pieces (plain_sum sum.now)) }
+    ensures { result
+        ≡ list_any (faults.piece_misfits (vocabulary_of table.now)) (pieces (plain_sum sum.now)) }
 {
     if piece_misfits(table, &sum.first) {
         return true;
@@ -72,7 +73,8 @@ fn sum_misfits(table: &Table, sum: &SumTree<'_>) -> bool
 
 /// Whether a name alone with this meaning is no argument of the sort; what is no name alone has none.
 fn name_misfits(table: &Table, sort: u32, name: &Option<Meaning<'_>>) -> bool
-    ensures { result ≡ faults.name_misfits (vocabulary_of table.now) sort (option_map plain_meaning name.now) }
+    ensures { result
+        ≡ faults.name_misfits (vocabulary_of table.now) sort (option_map plain_meaning name.now) }
 {
     match name {
         None => false,
@@ -85,7 +87,8 @@ fn name_misfits(table: &Table, sort: u32, name: &Option<Meaning<'_>>) -> bool
 
 /// Whether a sum is no argument of the sort.
 fn argument_misfits(table: &Table, sort: u32, argument: &SumTree<'_>) -> bool
-    ensures { result ≡ faults.argument_misfits (vocabulary_of table.now) sort (plain_sum argument.now) }
+    ensures { result
+        ≡ faults.argument_misfits (vocabulary_of table.now) sort (plain_sum argument.now) }
 {
     sum_has(table, Property::Constant, argument)
         || (sum_misfits(table, argument)
@@ -94,7 +97,8 @@ fn argument_misfits(table: &Table, sort: u32, argument: &SumTree<'_>) -> bool
 
 /// Whether an argument does not fit its sort, as far as there are sorts.
 fn some_argument_misfits(table: &Table, sorts: &[u32], args: &[SumTree<'_>]) -> bool
-    ensures { result ≡ faults.some_argument_misfits (vocabulary_of table.now) sorts.now (plain_sums args.now) }
+    ensures { result
+        ≡ faults.some_argument_misfits (vocabulary_of table.now) sorts.now (plain_sums args.now) }
 {
     for place in 0..sorts.len() {
         let Some(argument) = args.get(place) else {
@@ -109,7 +113,8 @@ fn some_argument_misfits(table: &Table, sorts: &[u32], args: &[SumTree<'_>]) -> 
 
 /// Whether an argument of a name with this meaning does not fit.
 fn arguments_misfit(table: &Table, means: &Meaning<'_>, args: &[SumTree<'_>]) -> bool
-    ensures { result ≡ faults.arguments_misfit (vocabulary_of table.now) (plain_meaning means.now) (plain_sums args.now) }
+    ensures { result ≡ faults.arguments_misfit
+        (vocabulary_of table.now) (plain_meaning means.now) (plain_sums args.now) }
 {
     match means {
         Meaning::Constant(_, symbol) => some_argument_misfits(table, symbol.sorts.items(), args),
@@ -135,7 +140,8 @@ fn piece_term_misfits(table: &Table, piece: &Piece<'_>) -> bool
 
 /// Whether an argument of a piece does not fit.
 fn some_term_misfits(table: &Table, sum: &SumTree<'_>) -> bool
-    ensures { result ≡ list_any (faults.piece_term_misfits (vocabulary_of table.now)) (pieces (plain_sum sum.now)) }
+    ensures { result ≡ list_any
+        (faults.piece_term_misfits (vocabulary_of table.now)) (pieces (plain_sum sum.now)) }
 {
     if piece_term_misfits(table, &sum.first) {
         return true;
@@ -157,7 +163,8 @@ fn side_misfits(table: &Table, sum: &SumTree<'_>) -> bool
 
 /// Whether a term with this meaning is no value of the symbol.
 fn value_misfits(table: &Table, symbol: &Symbol, value: &Meaning<'_>) -> bool
-    ensures { result ≡ faults.value_misfits (vocabulary_of table.now) symbol.now (plain_meaning value.now) }
+    ensures { result
+        ≡ faults.value_misfits (vocabulary_of table.now) symbol.now (plain_meaning value.now) }
 {
     match value {
         Meaning::Unknown | Meaning::Constant(..) => false,
@@ -179,7 +186,8 @@ fn nothing_misfits(means: &Meaning<'_>) -> bool
 
 /// Whether two terms with these meanings may not be compared.
 fn sides_misfit(table: &Table, left: &Meaning<'_>, right: &Meaning<'_>) -> bool
-    ensures { result ≡ faults.sides_misfit (vocabulary_of table.now) (plain_meaning left.now) (plain_meaning right.now) }
+    ensures { result ≡ faults.sides_misfit
+        (vocabulary_of table.now) (plain_meaning left.now) (plain_meaning right.now) }
 {
     match (left, right) {
         (Meaning::Constant(_, symbol), other) => value_misfits(table, symbol, other),
@@ -194,7 +202,8 @@ fn equal_sides_misfit(
     left: &Option<Meaning<'_>>,
     right: &Option<Meaning<'_>>,
 ) -> bool
-    ensures { result ≡ faults.equal_sides_misfit (vocabulary_of table.now) (option_map plain_meaning left.now) (option_map plain_meaning right.now) }
+    ensures { result ≡ faults.equal_sides_misfit (vocabulary_of table.now)
+        (option_map plain_meaning left.now) (option_map plain_meaning right.now) }
 {
     match (left, right) {
         (Some(one), Some(other)) => sides_misfit(table, one, other),
@@ -215,7 +224,8 @@ fn is_part_misfit(name: &Option<Meaning<'_>>) -> bool
 
 /// Whether an order may not stand between them.
 fn order_sides_misfit(left: &Option<Meaning<'_>>, right: &Option<Meaning<'_>>) -> bool
-    ensures { result ≡ faults.order_sides_misfit (option_map plain_meaning left.now) (option_map plain_meaning right.now) }
+    ensures { result ≡ faults.order_sides_misfit
+        (option_map plain_meaning left.now) (option_map plain_meaning right.now) }
 {
     is_part_misfit(left) || is_part_misfit(right)
 }
@@ -227,7 +237,8 @@ fn compared_misfit(
     left: &Option<Meaning<'_>>,
     right: &Option<Meaning<'_>>,
 ) -> bool
-    ensures { result ≡ faults.compared_misfit (comparison_of comparison) (vocabulary_of table.now) (option_map plain_meaning left.now) (option_map plain_meaning right.now) }
+    ensures { result ≡ faults.compared_misfit (comparison_of comparison) (vocabulary_of table.now)
+        (option_map plain_meaning left.now) (option_map plain_meaning right.now) }
 {
     match comparison {
         Comparison::Equal | Comparison::Differs => equal_sides_misfit(table, left, right),
@@ -249,7 +260,8 @@ pub(crate) fn comparison_misfits(
     left: &SumTree<'_>,
     right: &SumTree<'_>,
 ) -> bool
-    ensures { result ≡ faults.leaf_misfits (vocabulary_of table.now) (Compared (comparison_of comparison) (plain_sum left.now) (plain_sum right.now)) }
+    ensures { result ≡ faults.leaf_misfits (vocabulary_of table.now)
+        (Compared (comparison_of comparison) (plain_sum left.now) (plain_sum right.now)) }
 {
     compared_misfit(
         table,

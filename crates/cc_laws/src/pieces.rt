@@ -49,7 +49,8 @@ pub(crate) fn law_of<'t, 's>(
     body: Piece<'t, 's>,
     after: Piece<'t, 's>,
 ) -> Caused<'t, 's>
-    ensures { plain_caused result ≡ words.caused (head_piece head.entry) (plain_piece body.entry) (plain_piece after.entry) }
+    ensures { plain_caused result
+        ≡ words.caused (head_piece head.entry) (plain_piece body.entry) (plain_piece after.entry) }
 {
     Caused { head, body, after }
 }
@@ -61,7 +62,8 @@ pub(crate) fn effect<'t, 's>(
     head: &'t Tree<'s>,
     body: &'t Option<Tree<'s>>,
 ) -> Caused<'t, 's>
-    ensures { plain_caused result ≡ words.effect fluent (plain_tree actions.now) (plain_tree head.now) (option_map plain_tree body.now) }
+    ensures { plain_caused result ≡ words.effect fluent
+        (plain_tree actions.now) (plain_tree head.now) (option_map plain_tree body.now) }
 {
     let cause = Piece::Both(actions, body);
     let head = HeadPiece::One(head);
@@ -79,9 +81,12 @@ fn resolve_both(
     first: &Tree<'_>,
     second: &Option<Tree<'_>>,
 ) -> Result<Formula, OutOfMemory>
-    ensures made { IfOk result (λ made. plain_formula made ≡ resolving.resolve (vocabulary_of table.now) (scope_of names.old) names.old.next (words.both (plain_tree first.now) (option_map plain_tree second.now))) }
+    ensures made { IfOk result (λ made.
+        plain_formula made ≡ resolving.resolve (vocabulary_of table.now) (scope_of names.old)
+        names.old.next (words.both (plain_tree first.now) (option_map plain_tree second.now))) }
     ensures kept { OnOk result (names.new.bindings.items ≡ names.old.bindings.items) }
-    ensures next { OnOk result (names.new.next ≡ names.old.next + resolving.brackets (words.both (plain_tree first.now) (option_map plain_tree second.now))) }
+    ensures next { OnOk result (names.new.next ≡ names.old.next + resolving.brackets
+        (words.both (plain_tree first.now) (option_map plain_tree second.now))) }
 {
     match second {
         Some(second) => resolve_two(alloc, table, names, Joint::Both, first, second),
@@ -96,9 +101,12 @@ pub(crate) fn resolve_piece(
     names: &mut Names,
     piece: Piece<'_, '_>,
 ) -> Result<Option<Formula>, OutOfMemory>
-    ensures made { IfOk result (λ made. option_map plain_formula made ≡ option_map (resolving.resolve (vocabulary_of table.now) (scope_of names.old) names.old.next) (plain_piece piece.entry)) }
+    ensures made { IfOk result (λ made.
+        option_map plain_formula made ≡ option_map (resolving.resolve
+        (vocabulary_of table.now) (scope_of names.old) names.old.next) (plain_piece piece.entry)) }
     ensures kept { OnOk result (names.new.bindings.items ≡ names.old.bindings.items) }
-    ensures next { OnOk result (names.new.next ≡ names.old.next + words.part_brackets (plain_piece piece.entry)) }
+    ensures next { OnOk result
+        (names.new.next ≡ names.old.next + words.part_brackets (plain_piece piece.entry)) }
 {
     match piece {
         Piece::Missing | Piece::Maybe(None) => Ok(None),

@@ -81,7 +81,8 @@ fn gives_twice(items: &[QueryItem<'_>]) -> bool
 
 /// Whether a formula fails the check.
 fn some_fails(table: &Table, check: Check, formulas: &[Tree<'_>]) -> bool
-    ensures { result ≡ list_any (fails (vocabulary_of table.now) check) (map plain_tree formulas.now) }
+    ensures { result
+        ≡ list_any (fails (vocabulary_of table.now) check) (map plain_tree formulas.now) }
 {
     for formula in formulas {
         if formula_fails(table, check, formula) {
@@ -103,7 +104,8 @@ fn formulas_in<'t, 's>(item: &'t QueryItem<'s>) -> &'t [Tree<'s>]
 
 /// Whether a formula of a query fails the check.
 fn query_fails(table: &Table, check: Check, items: &[QueryItem<'_>]) -> bool
-    ensures { result ≡ list_any (fails (vocabulary_of table.now) check) (flat_map words.formulas_in (map plain_query_item items.now)) }
+    ensures { result ≡ list_any (fails (vocabulary_of table.now) check)
+        (flat_map words.formulas_in (map plain_query_item items.now)) }
 {
     for item in items {
         if some_fails(table, check, formulas_in(item)) {
@@ -115,21 +117,24 @@ fn query_fails(table: &Table, check: Check, items: &[QueryItem<'_>]) -> bool
 
 #[tactic(auto, using(crate::proofs::Failing::some_unknown))]
 fn query_has_unknown(table: &Table, items: &[QueryItem<'_>]) -> bool
-    ensures { result ≡ list_any (has_unknown (vocabulary_of table.now)) (flat_map words.formulas_in (map plain_query_item items.now)) }
+    ensures { result ≡ list_any (has_unknown (vocabulary_of table.now))
+        (flat_map words.formulas_in (map plain_query_item items.now)) }
 {
     query_fails(table, Check::Unknown, items)
 }
 
 /// Whether a formula has a free variable.
 fn has_free(alloc: Global, table: &Table, formula: &Tree<'_>) -> Result<bool, OutOfMemory>
-    ensures { IfOk result (λ found. found ≡ words.has_free (vocabulary_of table.now) (plain_tree formula.now)) }
+    ensures { IfOk result (λ found.
+        found ≡ words.has_free (vocabulary_of table.now) (plain_tree formula.now)) }
 {
     Ok(!free(alloc, table, formula)?.is_empty())
 }
 
 /// Whether one of the formulas has a free variable.
 fn some_has_free(alloc: Global, table: &Table, formulas: &[Tree<'_>]) -> Result<bool, OutOfMemory>
-    ensures { IfOk result (λ found. found ≡ list_any (words.has_free (vocabulary_of table.now)) (map plain_tree formulas.now)) }
+    ensures { IfOk result (λ found.
+        found ≡ list_any (words.has_free (vocabulary_of table.now)) (map plain_tree formulas.now)) }
 {
     for formula in formulas {
         if has_free(alloc, table, formula)? {
@@ -145,7 +150,8 @@ fn query_has_free(
     table: &Table,
     items: &[QueryItem<'_>],
 ) -> Result<bool, OutOfMemory>
-    ensures { IfOk result (λ found. found ≡ list_any (words.has_free (vocabulary_of table.now)) (flat_map words.formulas_in (map plain_query_item items.now))) }
+    ensures { IfOk result (λ found. found ≡ list_any (words.has_free (vocabulary_of table.now))
+        (flat_map words.formulas_in (map plain_query_item items.now))) }
 {
     for item in items {
         if some_has_free(alloc, table, formulas_in(item))? {
@@ -161,7 +167,8 @@ fn query_fault(
     table: &Table,
     items: &[QueryItem<'_>],
 ) -> Result<Option<u8>, OutOfMemory>
-    ensures { IfOk result (λ fault. fault ≡ least (words.query_faults (vocabulary_of table.now) (map plain_query_item items.now))) }
+    ensures { IfOk result (λ fault. fault
+        ≡ least (words.query_faults (vocabulary_of table.now) (map plain_query_item items.now))) }
 {
     if gives_twice(items) {
         return Ok(Some(4));
@@ -183,7 +190,8 @@ fn query_fault(
 
 /// The first label.
 fn label_of(alloc: Global, items: &[QueryItem<'_>]) -> Result<Option<Name>, OutOfMemory>
-    ensures { IfOk result (λ label. label ≡ words.first (flat_map words.labels_in (map plain_query_item items.now))) }
+    ensures { IfOk result (λ label.
+        label ≡ words.first (flat_map words.labels_in (map plain_query_item items.now))) }
 {
     for item in items {
         if let QueryItem::Label(label) = item {
@@ -214,9 +222,11 @@ fn and_next(
     formula: &Tree<'_>,
 ) -> Result<Formula, OutOfMemory>
     requires { names.old.bindings.items ≡ [] }
-    ensures made { IfOk result (λ joined. plain_formula joined ≡ both (plain_formula made) (resolving.resolve (vocabulary_of table.now) [] names.old.next (plain_tree formula.now))) }
+    ensures made { IfOk result (λ joined. plain_formula joined ≡ both (plain_formula made)
+        (resolving.resolve (vocabulary_of table.now) [] names.old.next (plain_tree formula.now))) }
     ensures kept { OnOk result (names.new.bindings.items ≡ []) }
-    ensures next { OnOk result (names.new.next ≡ names.old.next + resolving.brackets (plain_tree formula.now)) }
+    ensures next { OnOk result
+        (names.new.next ≡ names.old.next + resolving.brackets (plain_tree formula.now)) }
 {
     let made = Box::new(alloc, made)?;
     let next = Box::new(alloc, resolve(alloc, table, names, formula)?)?;
@@ -231,9 +241,11 @@ fn joined(
     formulas: &[Tree<'_>],
 ) -> Result<Formula, OutOfMemory>
     requires { names.old.bindings.items ≡ [] }
-    ensures made { IfOk result (λ made. plain_formula made ≡ words.joined (resolving.resolve_all (vocabulary_of table.now) names.old.next (map plain_tree formulas.now))) }
+    ensures made { IfOk result (λ made. plain_formula made ≡ words.joined (resolving.resolve_all
+        (vocabulary_of table.now) names.old.next (map plain_tree formulas.now))) }
     ensures kept { OnOk result (names.new.bindings.items ≡ []) }
-    ensures next { OnOk result (names.new.next ≡ names.old.next + resolving.brackets_in (map plain_tree formulas.now)) }
+    ensures next { OnOk result
+        (names.new.next ≡ names.old.next + resolving.brackets_in (map plain_tree formulas.now)) }
 {
     let Some((first, others)) = formulas.split_first() else {
         return Ok(Formula::True);
@@ -254,9 +266,11 @@ fn condition(
     formulas: &[Tree<'_>],
 ) -> Result<Condition, OutOfMemory>
     requires { names.old.bindings.items ≡ [] }
-    ensures made { IfOk result (λ made. plain_condition made ≡ words.condition_asked (vocabulary_of table.now) names.old.next (words.asked at (map plain_tree formulas.now))) }
+    ensures made { IfOk result (λ made. plain_condition made ≡ words.condition_asked
+        (vocabulary_of table.now) names.old.next (words.asked at (map plain_tree formulas.now))) }
     ensures kept { OnOk result (names.new.bindings.items ≡ []) }
-    ensures next { OnOk result (names.new.next ≡ names.old.next + resolving.brackets_in (map plain_tree formulas.now)) }
+    ensures next { OnOk result
+        (names.new.next ≡ names.old.next + resolving.brackets_in (map plain_tree formulas.now)) }
 {
     Ok(Condition {
         at,
@@ -272,9 +286,12 @@ fn conditions_of(
     items: &[QueryItem<'_>],
 ) -> Result<Vec<Condition>, OutOfMemory>
     requires { names.old.bindings.items ≡ [] }
-    ensures made { IfOk result (λ made. map plain_condition made.items ≡ words.conditions_asked (vocabulary_of table.now) names.old.next (flat_map words.conditions_in (map plain_query_item items.now))) }
+    ensures made { IfOk result (λ made.
+        map plain_condition made.items ≡ words.conditions_asked (vocabulary_of table.now)
+        names.old.next (flat_map words.conditions_in (map plain_query_item items.now))) }
     ensures kept { OnOk result (names.new.bindings.items ≡ []) }
-    ensures next { OnOk result (names.new.next ≡ names.old.next + words.brackets_asked (flat_map words.conditions_in (map plain_query_item items.now))) }
+    ensures next { OnOk result (names.new.next ≡ names.old.next + words.brackets_asked
+        (flat_map words.conditions_in (map plain_query_item items.now))) }
 {
     let mut made = Vec::new(alloc);
     for item in items {
@@ -298,7 +315,9 @@ fn claim_of(
     items: &[QueryItem<'_>],
 ) -> Result<Option<Condition>, OutOfMemory>
     requires { names.old.bindings.items ≡ [] }
-    ensures { IfOk result (λ made. option_map plain_condition made ≡ option_map (words.condition_asked (vocabulary_of table.now) names.old.next) (words.first (flat_map words.claims_in (map plain_query_item items.now)))) }
+    ensures { IfOk result (λ made. option_map plain_condition made
+        ≡ option_map (words.condition_asked (vocabulary_of table.now) names.old.next)
+        (words.first (flat_map words.claims_in (map plain_query_item items.now)))) }
 {
     for item in items {
         if let QueryItem::Condition {
@@ -321,7 +340,8 @@ fn query_of(
     line: u32,
     items: &[QueryItem<'_>],
 ) -> Result<Query, OutOfMemory>
-    ensures { IfOk result (λ query. plain_query query ≡ words.query_of file (vocabulary_of table.now) line (map plain_query_item items.now)) }
+    ensures { IfOk result (λ query. plain_query query
+        ≡ words.query_of file (vocabulary_of table.now) line (map plain_query_item items.now)) }
 {
     let label = label_of(alloc, items)?;
     let mut names = Names {
@@ -350,8 +370,10 @@ pub fn question(
     table: &Table,
     statement: &Statement<'_>,
 ) -> Result<Query, Fault>
-    ensures asked { (left : Items Declared) → IsTable table.now left → IfOk result (λ query. Asks file left (plain_statement statement.now) (plain_query query)) }
-    ensures refused { (left : Items Declared) → IsTable table.now left → IfErr result (IsRefusedBy (query_refusal file (vocabulary left) (plain_statement statement.now))) }
+    ensures asked { (left : Items Declared) → IsTable table.now left →
+        IfOk result (λ query. Asks file left (plain_statement statement.now) (plain_query query)) }
+    ensures refused { (left : Items Declared) → IsTable table.now left → IfErr result
+        (IsRefusedBy (query_refusal file (vocabulary left) (plain_statement statement.now))) }
 {
     let items = items_of(&statement.part);
     match query_fault(alloc, table, items)? {

@@ -18,7 +18,8 @@ use std::alloc::Global;
 /// A term that has this meaning and these arguments.
 #[tactic(auto, using(crate::proofs::TermRows::row_made))]
 fn term_meant(names: &Names, means: Meaning<'_>, args: Vec<Term>) -> Term
-    ensures { resolved_term result ≡ words.term_meant (scope_of names.now) (plain_meaning means.entry) (row_terms args.items) }
+    ensures { resolved_term result
+        ≡ words.term_meant (scope_of names.now) (plain_meaning means.entry) (row_terms args.items) }
 {
     match means {
         Meaning::Unknown | Meaning::Nothing => Term::Nothing,
@@ -33,7 +34,8 @@ fn term_meant(names: &Names, means: Meaning<'_>, args: Vec<Term>) -> Term
 
 /// A term with another that is added, or taken away.
 fn joined(alloc: Global, made: Term, minus: bool, piece: Term) -> Result<Term, OutOfMemory>
-    ensures { IfOk result (λ sum. resolved_term sum ≡ words.joined minus (resolved_term made) (resolved_term piece)) }
+    ensures { IfOk result (λ sum.
+        resolved_term sum ≡ words.joined minus (resolved_term made) (resolved_term piece)) }
 {
     let made = Box::new(alloc, made)?;
     let piece = Box::new(alloc, piece)?;
@@ -52,7 +54,8 @@ pub(crate) fn resolve_term(
     names: &Names,
     term: &TermTree<'_>,
 ) -> Result<Term, OutOfMemory>
-    ensures { IfOk result (λ made. resolved_term made ≡ words.resolve_term (vocabulary_of table.now) (scope_of names.now) (plain_term term.now)) }
+    ensures { IfOk result (λ made. resolved_term made
+        ≡ words.resolve_term (vocabulary_of table.now) (scope_of names.now) (plain_term term.now)) }
 {
     let mut args = Vec::with_capacity(alloc, term.args.len())?;
     for argument in &term.args {
@@ -69,7 +72,8 @@ pub(crate) fn resolve_sum(
     names: &Names,
     sum: &SumTree<'_>,
 ) -> Result<Term, OutOfMemory>
-    ensures { IfOk result (λ made. resolved_term made ≡ words.resolve_sum (vocabulary_of table.now) (scope_of names.now) (plain_sum sum.now)) }
+    ensures { IfOk result (λ made. resolved_term made
+        ≡ words.resolve_sum (vocabulary_of table.now) (scope_of names.now) (plain_sum sum.now)) }
 {
     let mut made = resolve_piece(alloc, table, names, &sum.first)?;
     for addend in &sum.rest {
@@ -91,7 +95,8 @@ fn resolve_piece(
     names: &Names,
     piece: &Piece<'_>,
 ) -> Result<Term, OutOfMemory>
-    ensures { IfOk result (λ made. resolved_term made ≡ words.resolve_piece (vocabulary_of table.now) (scope_of names.now) (plain_piece piece.now)) }
+    ensures { IfOk result (λ made. resolved_term made ≡ words.resolve_piece
+        (vocabulary_of table.now) (scope_of names.now) (plain_piece piece.now)) }
 {
     match piece {
         Piece::Number(number) => Ok(Term::Number(*number)),
@@ -139,7 +144,8 @@ fn bracket_of(
     sort: u32,
     inside: Formula,
 ) -> Result<Formula, OutOfMemory>
-    ensures { IfOk result (λ made. plain_formula made ≡ bracket_over bracket variable sort (plain_formula inside)) }
+    ensures { IfOk result (λ made.
+        plain_formula made ≡ bracket_over bracket variable sort (plain_formula inside)) }
 {
     let inside = Box::new(alloc, inside)?;
     Ok(match bracket {
@@ -155,7 +161,8 @@ fn compared(
     left: Term,
     right: Term,
 ) -> Result<Formula, OutOfMemory>
-    ensures { IfOk result (λ made. plain_formula made ≡ words.compared (comparison_of comparison) (resolved_term left) (resolved_term right)) }
+    ensures { IfOk result (λ made. plain_formula made
+        ≡ words.compared (comparison_of comparison) (resolved_term left) (resolved_term right)) }
 {
     match comparison {
         Comparison::Equal => Ok(Formula::Equal(left, right)),
@@ -176,7 +183,9 @@ fn resolve_compared(
     left: &SumTree<'_>,
     right: &SumTree<'_>,
 ) -> Result<Formula, OutOfMemory>
-    ensures { IfOk result (λ made. plain_formula made ≡ words.compared (comparison_of comparison) (words.resolve_sum (vocabulary_of table.now) (scope_of names.now) (plain_sum left.now)) (words.resolve_sum (vocabulary_of table.now) (scope_of names.now) (plain_sum right.now))) }
+    ensures { IfOk result (λ made. plain_formula made ≡ words.compared (comparison_of comparison)
+        (words.resolve_sum (vocabulary_of table.now) (scope_of names.now) (plain_sum left.now))
+        (words.resolve_sum (vocabulary_of table.now) (scope_of names.now) (plain_sum right.now))) }
 {
     let left = resolve_sum(alloc, table, names, left)?;
     let right = resolve_sum(alloc, table, names, right)?;
@@ -189,7 +198,8 @@ fn resolve_alone(
     names: &Names,
     term: &TermTree<'_>,
 ) -> Result<Formula, OutOfMemory>
-    ensures { IfOk result (λ made. plain_formula made ≡ words.alone (words.resolve_term (vocabulary_of table.now) (scope_of names.now) (plain_term term.now))) }
+    ensures { IfOk result (λ made. plain_formula made ≡ words.alone
+        (words.resolve_term (vocabulary_of table.now) (scope_of names.now) (plain_term term.now))) }
 {
     Ok(alone(resolve_term(alloc, table, names, term)?))
 }
@@ -202,9 +212,11 @@ pub(crate) fn resolve_not(
     names: &mut Names,
     inner: &Tree<'_>,
 ) -> Result<Formula, OutOfMemory>
-    ensures made { IfOk result (λ made. plain_formula made ≡ resolved.Not (words.resolve (vocabulary_of table.now) (scope_of names.old) names.old.next (plain_tree inner.now))) }
+    ensures made { IfOk result (λ made. plain_formula made ≡ resolved.Not (words.resolve
+        (vocabulary_of table.now) (scope_of names.old) names.old.next (plain_tree inner.now))) }
     ensures kept { OnOk result (names.new.bindings.items ≡ names.old.bindings.items) }
-    ensures next { OnOk result (names.new.next ≡ names.old.next + words.brackets (plain_tree inner.now)) }
+    ensures next { OnOk result
+        (names.new.next ≡ names.old.next + words.brackets (plain_tree inner.now)) }
 {
     let inner = resolve(alloc, table, names, inner)?;
     negated(alloc, inner)
@@ -221,9 +233,13 @@ pub(crate) fn resolve_two(
     first: &Tree<'_>,
     second: &Tree<'_>,
 ) -> Result<Formula, OutOfMemory>
-    ensures made { IfOk result (λ made. plain_formula made ≡ joined_by joint (words.resolve (vocabulary_of table.now) (scope_of names.old) names.old.next (plain_tree first.now)) (words.resolve (vocabulary_of table.now) (scope_of names.old) (names.old.next + words.brackets (plain_tree first.now)) (plain_tree second.now))) }
+    ensures made { IfOk result (λ made. plain_formula made ≡ joined_by joint
+        (words.resolve (vocabulary_of table.now) (scope_of names.old) names.old.next
+        (plain_tree first.now)) (words.resolve (vocabulary_of table.now) (scope_of names.old)
+        (names.old.next + words.brackets (plain_tree first.now)) (plain_tree second.now))) }
     ensures kept { OnOk result (names.new.bindings.items ≡ names.old.bindings.items) }
-    ensures next { OnOk result (names.new.next ≡ names.old.next + (words.brackets (plain_tree first.now) + words.brackets (plain_tree second.now))) }
+    ensures next { OnOk result (names.new.next ≡ names.old.next + (words.brackets
+        (plain_tree first.now) + words.brackets (plain_tree second.now))) }
 {
     let first = Box::new(alloc, resolve(alloc, table, names, first)?)?;
     let second = Box::new(alloc, resolve(alloc, table, names, second)?)?;
@@ -244,9 +260,11 @@ fn resolve_inside(
     binding: Binding,
     inner: &Tree<'_>,
 ) -> Result<Formula, OutOfMemory>
-    ensures made { IfOk result (λ made. plain_formula made ≡ words.resolve (vocabulary_of table.now) (plain_binding binding ∷ scope_of names.old) names.old.next (plain_tree inner.now)) }
+    ensures made { IfOk result (λ made. plain_formula made ≡ words.resolve (vocabulary_of table.now)
+        (plain_binding binding ∷ scope_of names.old) names.old.next (plain_tree inner.now)) }
     ensures kept { OnOk result (names.new.bindings.items ≡ names.old.bindings.items) }
-    ensures next { OnOk result (names.new.next ≡ names.old.next + words.brackets (plain_tree inner.now)) }
+    ensures next { OnOk result
+        (names.new.next ≡ names.old.next + words.brackets (plain_tree inner.now)) }
 {
     names.bindings.push(binding)?;
     let made = resolve(alloc, table, names, inner)?;
@@ -266,9 +284,13 @@ fn resolve_bracket(
     name: &str,
     inner: &Tree<'_>,
 ) -> Result<Formula, OutOfMemory>
-    ensures made { IfOk result (λ made. plain_formula made ≡ words.resolve_bracket (bracket_over bracket) (scope_of names.old) names.old.next (vocabulary.meaning (vocabulary_of table.now) name.now) (λ scope. words.resolve (vocabulary_of table.now) scope (names.old.next + 1) (plain_tree inner.now))) }
+    ensures made { IfOk result (λ made. plain_formula made
+        ≡ words.resolve_bracket (bracket_over bracket) (scope_of names.old) names.old.next
+        (vocabulary.meaning (vocabulary_of table.now) name.now) (λ scope. words.resolve
+        (vocabulary_of table.now) scope (names.old.next + 1) (plain_tree inner.now))) }
     ensures kept { OnOk result (names.new.bindings.items ≡ names.old.bindings.items) }
-    ensures next { OnOk result (names.new.next ≡ names.old.next + (words.brackets (plain_tree inner.now) + 1)) }
+    ensures next { OnOk result
+        (names.new.next ≡ names.old.next + (words.brackets (plain_tree inner.now) + 1)) }
 {
     let number = names.fresh()?;
     match meaning_of(table, name) {
@@ -292,9 +314,11 @@ pub(crate) fn resolve(
     names: &mut Names,
     formula: &Tree<'_>,
 ) -> Result<Formula, OutOfMemory>
-    ensures made { IfOk result (λ made. plain_formula made ≡ words.resolve (vocabulary_of table.now) (scope_of names.old) names.old.next (plain_tree formula.now)) }
+    ensures made { IfOk result (λ made. plain_formula made ≡ words.resolve
+        (vocabulary_of table.now) (scope_of names.old) names.old.next (plain_tree formula.now)) }
     ensures kept { OnOk result (names.new.bindings.items ≡ names.old.bindings.items) }
-    ensures next { OnOk result (names.new.next ≡ names.old.next + words.brackets (plain_tree formula.now)) }
+    ensures next { OnOk result
+        (names.new.next ≡ names.old.next + words.brackets (plain_tree formula.now)) }
 {
     match formula {
         Tree::Bare(term) => resolve_alone(alloc, table, names, term),

@@ -24,7 +24,8 @@ pub(crate) fn is_action_symbol(table: &Table, symbol: u32) -> bool
 
 /// Whether a term has an action.
 fn term_names_action(table: &Table, term: &Term) -> bool
-    ensures { result ≡ list_any (forms.is_action_symbol (vocabulary_of table.now).symbols) (forms.term_symbols (plain_term term.now)) }
+    ensures { result ≡ list_any (forms.is_action_symbol (vocabulary_of table.now).symbols)
+        (forms.term_symbols (plain_term term.now)) }
 {
     match term {
         Term::Constant { symbol, args } => {
@@ -47,7 +48,8 @@ fn term_names_action(table: &Table, term: &Term) -> bool
 
 /// Whether a formula has an action.
 fn names_action(table: &Table, formula: &Formula) -> bool
-    ensures { result ≡ forms.names_action (vocabulary_of table.now).symbols (plain_formula formula.now) }
+    ensures { result
+        ≡ forms.names_action (vocabulary_of table.now).symbols (plain_formula formula.now) }
 {
     match formula {
         Formula::True | Formula::False => false,
@@ -67,7 +69,8 @@ fn names_action(table: &Table, formula: &Formula) -> bool
 
 /// Whether the formula of a condition may not stand at its step in a query with this least horizon.
 fn condition_fails(table: &Table, lo: u32, condition: &Condition) -> bool
-    ensures { result ≡ words.condition_fails (vocabulary_of table.now).symbols lo (plain_condition condition.now) }
+    ensures { result ≡ words.condition_fails
+        (vocabulary_of table.now).symbols lo (plain_condition condition.now) }
 {
     let formula = &condition.formula;
     match condition.at {
@@ -77,7 +80,8 @@ fn condition_fails(table: &Table, lo: u32, condition: &Condition) -> bool
 }
 
 fn some_condition_fails(table: &Table, lo: u32, conditions: &[Condition]) -> bool
-    ensures { result ≡ list_any (words.condition_fails (vocabulary_of table.now).symbols lo) (map plain_condition conditions.now) }
+    ensures { result ≡ list_any (words.condition_fails (vocabulary_of table.now).symbols lo)
+        (map plain_condition conditions.now) }
 {
     for condition in conditions {
         if condition_fails(table, lo, condition) {
@@ -88,7 +92,8 @@ fn some_condition_fails(table: &Table, lo: u32, conditions: &[Condition]) -> boo
 }
 
 fn claim_fails(table: &Table, lo: u32, claim: &Option<Condition>) -> bool
-    ensures { result ≡ words.claim_fails (vocabulary_of table.now).symbols lo (option_map plain_condition claim.now) }
+    ensures { result ≡ words.claim_fails
+        (vocabulary_of table.now).symbols lo (option_map plain_condition claim.now) }
 {
     match claim {
         Some(claim) => condition_fails(table, lo, claim),
@@ -103,7 +108,8 @@ fn step_refusal(query: &Query) -> Refusal
 }
 
 fn range_refusal(table: &Table, query: &Query, lo: u32, hi: u32) -> Option<Refusal>
-    ensures { result ≡ words.range_refusal (vocabulary_of table.now).symbols (plain_query query.now) lo hi }
+    ensures { result
+        ≡ words.range_refusal (vocabulary_of table.now).symbols (plain_query query.now) lo hi }
 {
     if lo > hi
         || (some_condition_fails(table, lo, query.conditions.items())
@@ -121,7 +127,8 @@ fn range_refusal(table: &Table, query: &Query, lo: u32, hi: u32) -> Option<Refus
 /// horizon is above its greatest, a condition or the claim stands at a step above the least horizon, or a formula with an
 /// action stands at the last step or may; else 14 where its greatest horizon passes the limit horizon. It takes no memory.
 pub fn query_steps(table: &Table, query: &Query) -> Option<Refusal>
-    ensures { result ≡ words.steps_refusal (vocabulary_of table.now).symbols (plain_query query.now) }
+    ensures { result
+        ≡ words.steps_refusal (vocabulary_of table.now).symbols (plain_query query.now) }
 {
     match query.range {
         Some((lo, hi)) => range_refusal(table, query, lo, hi),

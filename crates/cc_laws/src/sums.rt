@@ -37,7 +37,8 @@ pub(crate) fn is_single(sum: &SumTree<'_>) -> bool
 }
 
 fn piece_name<'t, 's>(piece: &'t Piece<'s>) -> Option<&'t TermTree<'s>>
-    ensures { option_map (λ term. plain_term term.now) result ≡ views.piece_name (plain_piece piece.now) }
+    ensures { option_map (λ term. plain_term term.now) result
+        ≡ views.piece_name (plain_piece piece.now) }
 {
     match piece {
         Piece::Number(_) => None,
@@ -57,7 +58,8 @@ pub(crate) fn lone<'t, 's>(sum: &'t SumTree<'s>) -> Option<&'t TermTree<'s>>
 
 /// The meaning of the term that a sum is, where it is one alone.
 pub(crate) fn lone_meaning<'t>(table: &'t Table, sum: &SumTree<'_>) -> Option<Meaning<'t>>
-    ensures { option_map plain_meaning result ≡ faults.lone_meaning (vocabulary_of table.now) (plain_sum sum.now) }
+    ensures { option_map plain_meaning result
+        ≡ faults.lone_meaning (vocabulary_of table.now) (plain_sum sum.now) }
 {
     match lone(sum) {
         Some(term) => Some(meaning_of_term(table, term)),

@@ -44,7 +44,8 @@ pub(crate) fn base_law(
     body: Formula,
     after: Option<Formula>,
 ) -> BaseLaw
-    ensures { plain_base_law result ≡ words.base_law (vocabulary_of table.now) (frame_of frame) (resolved.plain_head head) (plain_formula body) (option_map plain_formula after) }
+    ensures { plain_base_law result ≡ words.base_law (vocabulary_of table.now) (frame_of frame)
+        (resolved.plain_head head) (plain_formula body) (option_map plain_formula after) }
 {
     let kind = class(table, &head, &after);
     BaseLaw::One(Law {
@@ -104,7 +105,8 @@ pub(crate) fn copy_terms(alloc: Global, terms: &[Term]) -> Result<Vec<Term>, Out
 
 /// That a constant with these arguments has a value.
 pub(crate) fn equation_of(symbol: u32, args: Vec<Term>, value: Term) -> Formula
-    ensures { plain_formula result ≡ resolved.Equal (resolved.Constant symbol (row_terms args.items)) (resolved_term value) }
+    ensures { plain_formula result
+        ≡ resolved.Equal (resolved.Constant symbol (row_terms args.items)) (resolved_term value) }
 {
     Formula::Equal(Term::Constant { symbol, args }, value)
 }
@@ -124,8 +126,12 @@ fn value_parts(
     args: &[Term],
     variable: u32,
 ) -> Result<Parts, OutOfMemory>
-    ensures body { IfOk result (λ made. plain_formula made.body ≡ words.body_of (persistence_of persistence) (resolved.Equal (resolved.Constant symbol (row_terms args.now)) (resolved.Variable variable))) }
-    ensures after { IfOk result (λ made. option_map plain_formula made.after ≡ words.after_of (persistence_of persistence) (resolved.Equal (resolved.Constant symbol (row_terms args.now)) (resolved.Variable variable))) }
+    ensures body { IfOk result (λ made.
+        plain_formula made.body ≡ words.body_of (persistence_of persistence) (resolved.Equal
+        (resolved.Constant symbol (row_terms args.now)) (resolved.Variable variable))) }
+    ensures after { IfOk result (λ made. option_map plain_formula made.after
+        ≡ words.after_of (persistence_of persistence) (resolved.Equal
+        (resolved.Constant symbol (row_terms args.now)) (resolved.Variable variable))) }
 {
     let copies = copy_terms(alloc, args)?;
     match persistence {
@@ -149,7 +155,8 @@ fn value_parts(
 
 /// Adds the range of a constant's value; answers the place of its variable, which is behind the others.
 fn add_domain(ranges: &mut Vec<Range>, symbol: u32) -> Result<u32, OutOfMemory>
-    ensures added { IfOk result (λ place. ranges.new.items ≡ ranges.old.items ++ variants.Domain symbol ∷ []) }
+    ensures added { IfOk result (λ place.
+        ranges.new.items ≡ ranges.old.items ++ variants.Domain symbol ∷ []) }
     ensures place { IfOk result (λ place. place ≡ length ranges.old.items) }
 {
     let count = ranges.len();
@@ -169,7 +176,8 @@ pub(crate) fn value_law(
     symbol: u32,
     args: Vec<Term>,
 ) -> Result<BaseLaw, OutOfMemory>
-    ensures { IfOk result (λ made. plain_base_law made ≡ words.value_law (vocabulary_of table.now) (frame_of frame) (persistence_of persistence) symbol (row_terms args.items)) }
+    ensures { IfOk result (λ made. plain_base_law made ≡ words.value_law (vocabulary_of table.now)
+        (frame_of frame) (persistence_of persistence) symbol (row_terms args.items)) }
 {
     let variable = add_domain(&mut frame.ranges, symbol)?;
     let parts = value_parts(alloc, persistence, symbol, &args, variable)?;

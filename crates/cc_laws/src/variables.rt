@@ -24,7 +24,8 @@ pub(crate) fn is_among(numbers: &[u32], number: u32) -> bool
 
 /// The number of the variable that a name is.
 pub(crate) fn variable(table: &Table, name: &str) -> Option<u32>
-    ensures { words.variable_meant (vocabulary.meaning (vocabulary_of table.now) name.now) ≡ words.optional result }
+    ensures { words.variable_meant (vocabulary.meaning (vocabulary_of table.now) name.now)
+        ≡ words.optional result }
 {
     match meaning_of(table, name) {
         Meaning::Variable(number, _) => Some(number),
@@ -39,7 +40,8 @@ fn add_name(
     name: &str,
     found: &mut Vec<u32>,
 ) -> Result<(), OutOfMemory>
-    ensures { OnOk result (found.new.items ≡ found.old.items ++ words.unbound bound.now (words.variable_meant (vocabulary.meaning (vocabulary_of table.now) name.now))) }
+    ensures { OnOk result (found.new.items ≡ found.old.items ++ words.unbound bound.now
+        (words.variable_meant (vocabulary.meaning (vocabulary_of table.now) name.now))) }
 {
     let Some(number) = variable(table, name) else {
         return Ok(());
@@ -59,7 +61,8 @@ pub(crate) fn add_unbound(
     term: &TermTree<'_>,
     found: &mut Vec<u32>,
 ) -> Result<(), OutOfMemory>
-    ensures { OnOk result (found.new.items ≡ found.old.items ++ words.unbound bound.now (words.term_variables (vocabulary_of table.now) (plain_term term.now))) }
+    ensures { OnOk result (found.new.items ≡ found.old.items ++ words.unbound bound.now
+        (words.term_variables (vocabulary_of table.now) (plain_term term.now))) }
 {
     add_name(table, bound, term.name, found)?;
     for argument in &term.args {
@@ -76,7 +79,8 @@ fn add_unbound_sum(
     sum: &SumTree<'_>,
     found: &mut Vec<u32>,
 ) -> Result<(), OutOfMemory>
-    ensures { OnOk result (found.new.items ≡ found.old.items ++ words.unbound bound.now (words.sum_variables (vocabulary_of table.now) (plain_sum sum.now))) }
+    ensures { OnOk result (found.new.items ≡ found.old.items ++ words.unbound bound.now
+        (words.sum_variables (vocabulary_of table.now) (plain_sum sum.now))) }
 {
     add_unbound_piece(table, bound, &sum.first, found)?;
     for addend in &sum.rest {
@@ -93,7 +97,8 @@ fn add_unbound_piece(
     piece: &Piece<'_>,
     found: &mut Vec<u32>,
 ) -> Result<(), OutOfMemory>
-    ensures { OnOk result (found.new.items ≡ found.old.items ++ words.unbound bound.now (piece_variables (vocabulary_of table.now) (plain_piece piece.now))) }
+    ensures { OnOk result (found.new.items ≡ found.old.items ++ words.unbound bound.now
+        (piece_variables (vocabulary_of table.now) (plain_piece piece.now))) }
 {
     match piece {
         Piece::Number(_) => Ok(()),
@@ -109,7 +114,9 @@ fn add_unbound_sides(
     right: &SumTree<'_>,
     found: &mut Vec<u32>,
 ) -> Result<(), OutOfMemory>
-    ensures { OnOk result (found.new.items ≡ found.old.items ++ (words.unbound bound.now (words.sum_variables (vocabulary_of table.now) (plain_sum left.now)) ++ words.unbound bound.now (words.sum_variables (vocabulary_of table.now) (plain_sum right.now)))) }
+    ensures { OnOk result (found.new.items ≡ found.old.items ++ (words.unbound bound.now
+        (words.sum_variables (vocabulary_of table.now) (plain_sum left.now)) ++ words.unbound
+        bound.now (words.sum_variables (vocabulary_of table.now) (plain_sum right.now)))) }
 {
     add_unbound_sum(table, bound, left, found)?;
     add_unbound_sum(table, bound, right, found)
@@ -122,7 +129,8 @@ pub(crate) fn add_free(
     formula: &Tree<'_>,
     found: &mut Vec<u32>,
 ) -> Result<(), OutOfMemory>
-    ensures added { OnOk result (found.new.items ≡ found.old.items ++ words.free (vocabulary_of table.now) bound.old.items (plain_tree formula.now)) }
+    ensures added { OnOk result (found.new.items ≡ found.old.items
+        ++ words.free (vocabulary_of table.now) bound.old.items (plain_tree formula.now)) }
     ensures closed { OnOk result (bound.new.items ≡ bound.old.items) }
 {
     match formula {
@@ -161,7 +169,8 @@ pub(crate) fn free(
     table: &Table,
     formula: &Tree<'_>,
 ) -> Result<Vec<u32>, OutOfMemory>
-    ensures { IfOk result (λ found. found.items ≡ words.free (vocabulary_of table.now) [] (plain_tree formula.now)) }
+    ensures { IfOk result (λ found.
+        found.items ≡ words.free (vocabulary_of table.now) [] (plain_tree formula.now)) }
 {
     let mut found = Vec::new(alloc);
     let mut bound = Vec::new(alloc);

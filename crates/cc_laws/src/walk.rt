@@ -36,7 +36,8 @@ fn bare_fails(table: &Table, check: Check, term: &TermTree<'_>) -> bool
 
 /// Whether one of two sums has a name with the property.
 fn sides_have(table: &Table, property: Property, left: &SumTree<'_>, right: &SumTree<'_>) -> bool
-    ensures { result ≡ faults.sum_has (vocabulary_of table.now) (asks property) (plain_sum left.now) || faults.sum_has (vocabulary_of table.now) (asks property) (plain_sum right.now) }
+    ensures { result ≡ faults.sum_has (vocabulary_of table.now) (asks property) (plain_sum left.now)
+        || faults.sum_has (vocabulary_of table.now) (asks property) (plain_sum right.now) }
 {
     sum_has(table, property, left) || sum_has(table, property, right)
 }
@@ -48,7 +49,8 @@ fn comparison_fails(
     left: &SumTree<'_>,
     right: &SumTree<'_>,
 ) -> bool
-    ensures { result ≡ leaf_test (vocabulary_of table.now) check (Compared (comparison_of comparison) (plain_sum left.now) (plain_sum right.now)) }
+    ensures { result ≡ leaf_test (vocabulary_of table.now) check
+        (Compared (comparison_of comparison) (plain_sum left.now) (plain_sum right.now)) }
 {
     match check {
         Check::Mentions(property) => sides_have(table, property, left, right),

@@ -22,7 +22,11 @@ impl<'a> Model for TextDesk<'a> {
 
     ghost Value = { Single };
 
-    ghost view = { λ desk. record { text = desk.text.now; rest = drop desk.at desk.text.now; write_faults = desk.write_faults } };
+    ghost view = { λ desk. record {
+      text = desk.text.now;
+      rest = drop desk.at desk.text.now;
+      write_faults = desk.write_faults;
+    } };
 }
 
 impl<'a> TextDesk<'a> {

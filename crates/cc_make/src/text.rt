@@ -28,7 +28,8 @@ const HEAD: &str =
 /// Writes the names of the locks behind the first one.
 fn push_names(text: &mut String, size: u32) -> Result<(), OutOfMemory>
     requires { 1 ≤ size }
-    ensures { OnOk result (string_bytes text.new ≡ string_bytes text.old ++ of_each name_behind (size - 1)) }
+    ensures { OnOk result
+        (string_bytes text.new ≡ string_bytes text.old ++ of_each name_behind (size - 1)) }
 {
     for lock in 0..size - 1 {
         push_name(text, lock + 1)?;
@@ -48,7 +49,8 @@ fn push_name(text: &mut String, lock: u32) -> Result<(), OutOfMemory>
 /// Writes the laws of the locks behind the first one.
 fn push_laws(text: &mut String, size: u32) -> Result<(), OutOfMemory>
     requires { 1 ≤ size }
-    ensures { OnOk result (string_bytes text.new ≡ string_bytes text.old ++ of_each law_behind (size - 1)) }
+    ensures { OnOk result
+        (string_bytes text.new ≡ string_bytes text.old ++ of_each law_behind (size - 1)) }
 {
     for lock in 0..size - 1 {
         push_law(text, lock + 1)?;
@@ -94,7 +96,8 @@ fn push_line(
     second: u32,
     last: &str,
 ) -> Result<(), OutOfMemory>
-    ensures { OnOk result (string_bytes text.new ≡ string_bytes text.old ++ line (front.now ++ decimal first ++ middle.now ++ decimal second ++ last.now)) }
+    ensures { OnOk result (string_bytes text.new ≡ string_bytes text.old
+        ++ line (front.now ++ decimal first ++ middle.now ++ decimal second ++ last.now)) }
 {
     text.push_str(front)?;
     push_number(text, first)?;

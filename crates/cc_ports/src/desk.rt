@@ -34,13 +34,16 @@ pub trait Desk {
     /// Begins the reading of a file, and ends that of the one before. A name that is not there is a fault of reading.
     /// After a fault nothing is known of the file being read.
     fn open_file(&mut self, name: &str) -> Result<(), Failed>
-        ensures opened { OnOk result (told self.new ≡ option_map (λ c. with_rest (content_of c name.now) c) (told self.old)) }
+        ensures opened { OnOk result (told self.new
+            ≡ option_map (λ c. with_rest (content_of c name.now) c) (told self.old)) }
         ensures there { OnOk result (IfSome (told self.old) (λ c. IsSome (c.files name.now))) }
-        ensures failed { OnErr result ((rest : List ℕ) × (told self.new ≡ option_map (with_rest rest) (told self.old))) }
+        ensures failed { OnErr result ((rest : List ℕ)
+            × (told self.new ≡ option_map (with_rest rest) (told self.old))) }
         ensures cause { OnErr result (Rose (read_faults self.old) (read_faults self.new)) }
         ensures begun { begun self.new ≡ begun self.old }
         ensures calls { calls self.new ≡ with_call (Opens name.now) (calls self.old) }
-        ensures calm { OnOk result ((read_faults self.new ≡ read_faults self.old) × (write_faults self.new ≡ write_faults self.old)) }
+        ensures calm { OnOk result ((read_faults self.new ≡ read_faults self.old)
+            × (write_faults self.new ≡ write_faults self.old)) }
         ensures reads_count { read_faults self.old ≤ read_faults self.new }
         ensures writes_count { write_faults self.old ≤ write_faults self.new };
 
@@ -50,11 +53,13 @@ pub trait Desk {
         requires { 0 < length buffer.old }
         ensures count { IfOk result (λ n. n ≤ length buffer.old) }
         ensures after { told self.new ≡ option_map (after_read result) (told self.old) }
-        ensures bytes { IfOk result (λ n. IfSome (told self.old) (λ c. ReadsFrom c.rest n buffer.new)) }
+        ensures bytes { IfOk result (λ n.
+            IfSome (told self.old) (λ c. ReadsFrom c.rest n buffer.new)) }
         ensures cause { OnErr result (Rose (read_faults self.old) (read_faults self.new)) }
         ensures begun { begun self.new ≡ begun self.old }
         ensures calls { calls self.new ≡ with_call (Reads (length buffer.old)) (calls self.old) }
-        ensures calm { OnOk result ((read_faults self.new ≡ read_faults self.old) × (write_faults self.new ≡ write_faults self.old)) }
+        ensures calm { OnOk result ((read_faults self.new ≡ read_faults self.old)
+            × (write_faults self.new ≡ write_faults self.old)) }
         ensures reads_count { read_faults self.old ≤ read_faults self.new }
         ensures writes_count { write_faults self.old ≤ write_faults self.new };
 
@@ -64,7 +69,8 @@ pub trait Desk {
         ensures begun { begun self.new ≡ (if is_ok result then true else begun self.old) }
         ensures cause { OnErr result (Rose (write_faults self.old) (write_faults self.new)) }
         ensures calls { calls self.new ≡ with_call (Begins name.now) (calls self.old) }
-        ensures calm { OnOk result ((read_faults self.new ≡ read_faults self.old) × (write_faults self.new ≡ write_faults self.old)) }
+        ensures calm { OnOk result ((read_faults self.new ≡ read_faults self.old)
+            × (write_faults self.new ≡ write_faults self.old)) }
         ensures reads_count { read_faults self.old ≤ read_faults self.new }
         ensures writes_count { write_faults self.old ≤ write_faults self.new };
 
@@ -74,11 +80,13 @@ pub trait Desk {
         requires { 0 < length bytes.now }
         ensures some { IfOk result (λ n. 0 < n) }
         ensures count { IfOk result (λ n. n ≤ length bytes.now) }
-        ensures after { told self.new ≡ option_map (after_give to result bytes.now) (told self.old) }
+        ensures after { told self.new
+            ≡ option_map (after_give to result bytes.now) (told self.old) }
         ensures begun { begun self.new ≡ begun self.old }
         ensures cause { OnErr result (Rose (write_faults self.old) (write_faults self.new)) }
         ensures calls { calls self.new ≡ with_call (Gives to bytes.now) (calls self.old) }
-        ensures calm { OnOk result ((read_faults self.new ≡ read_faults self.old) × (write_faults self.new ≡ write_faults self.old)) }
+        ensures calm { OnOk result ((read_faults self.new ≡ read_faults self.old)
+            × (write_faults self.new ≡ write_faults self.old)) }
         ensures reads_count { read_faults self.old ≤ read_faults self.new }
         ensures writes_count { write_faults self.old ≤ write_faults self.new };
 }

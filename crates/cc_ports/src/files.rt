@@ -60,8 +60,10 @@ impl Files {
         buffer: &mut [u8],
         most: usize,
     ) -> usize
-        ensures count { result ≡ min (length buffer.old) (min most (length (bytes_at self.now place) - at.old)) }
-        ensures front { take result buffer.new ≡ take result (drop at.old (bytes_at self.now place)) }
+        ensures count { result
+            ≡ min (length buffer.old) (min most (length (bytes_at self.now place) - at.old)) }
+        ensures front { take result buffer.new
+            ≡ take result (drop at.old (bytes_at self.now place)) }
         ensures at { at.new ≡ at.old + result }
     {
         let bytes = self.bytes_at(place);

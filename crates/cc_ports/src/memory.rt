@@ -134,16 +134,20 @@ impl Desk for MemoryDesk {
     ghost calls = { λ _. None };
 
     fn open_file(&mut self, name: &str) -> Result<(), Failed>
-        ensures opened { OnOk result (Some (contents_of self.new) ≡ option_map (λ c. with_rest (content_of c name.now) c) (Some (contents_of self.old))) }
+        ensures opened { OnOk result (Some (contents_of self.new)
+            ≡ option_map (λ c. with_rest (content_of c name.now) c) (Some (contents_of self.old))) }
         ensures there { OnOk result (IsSome (file_in self.old.files name.now)) }
-        ensures failed { OnErr result ((rest : List ℕ) × (Some (contents_of self.new) ≡ option_map (with_rest rest) (Some (contents_of self.old)))) }
+        ensures failed { OnErr result ((rest : List ℕ) × (Some (contents_of self.new)
+            ≡ option_map (with_rest rest) (Some (contents_of self.old)))) }
         ensures cause { OnErr result (Rose self.old.read_faults self.new.read_faults) }
         ensures begun { self.new.begun ≡ self.old.begun }
         ensures reads_count { self.old.read_faults ≤ self.new.read_faults }
         ensures writes_count { self.old.write_faults ≤ self.new.write_faults }
         ensures kept { OnErr result (contents_of self.new ≡ contents_of self.old) }
-        ensures fails { IsErr result ↔ (CallFails self.old ⊎ IsNone (file_in self.old.files name.now)) }
-        ensures read_faults { self.new.read_faults ≡ (if is_ok result then self.old.read_faults else next self.old.read_faults) }
+        ensures fails { IsErr result
+            ↔ (CallFails self.old ⊎ IsNone (file_in self.old.files name.now)) }
+        ensures read_faults { self.new.read_faults
+            ≡ (if is_ok result then self.old.read_faults else next self.old.read_faults) }
         ensures write_faults { self.new.write_faults ≡ self.old.write_faults }
         ensures calls { self.new.calls ≡ next self.old.calls }
         ensures setting { KeepsSetting self.old self.new }
@@ -164,15 +168,18 @@ impl Desk for MemoryDesk {
     fn read(&mut self, buffer: &mut [u8]) -> Result<usize, Failed>
         requires { 0 < length buffer.old }
         ensures count { IfOk result (λ n. n ≤ length buffer.old) }
-        ensures after { Some (contents_of self.new) ≡ option_map (after_read result) (Some (contents_of self.old)) }
+        ensures after { Some (contents_of self.new)
+            ≡ option_map (after_read result) (Some (contents_of self.old)) }
         ensures bytes { IfOk result (λ n. ReadsFrom self.old.rest n buffer.new) }
         ensures cause { OnErr result (Rose self.old.read_faults self.new.read_faults) }
         ensures begun { self.new.begun ≡ self.old.begun }
         ensures reads_count { self.old.read_faults ≤ self.new.read_faults }
         ensures writes_count { self.old.write_faults ≤ self.new.write_faults }
         ensures fails { IsErr result ↔ CallFails self.old }
-        ensures least { IfOk result (λ n. n ≡ min (length buffer.old) (min self.old.most (length self.old.rest))) }
-        ensures read_faults { self.new.read_faults ≡ (if is_ok result then self.old.read_faults else next self.old.read_faults) }
+        ensures least { IfOk result (λ n.
+            n ≡ min (length buffer.old) (min self.old.most (length self.old.rest))) }
+        ensures read_faults { self.new.read_faults
+            ≡ (if is_ok result then self.old.read_faults else next self.old.read_faults) }
         ensures write_faults { self.new.write_faults ≡ self.old.write_faults }
         ensures calls { self.new.calls ≡ next self.old.calls }
         ensures setting { KeepsSetting self.old self.new }
@@ -187,14 +194,16 @@ impl Desk for MemoryDesk {
     }
 
     fn create_file(&mut self, _name: &str) -> Result<(), Failed>
-        ensures after { Some (contents_of self.new) ≡ option_map (after_create (is_ok result)) (Some (contents_of self.old)) }
+        ensures after { Some (contents_of self.new)
+            ≡ option_map (after_create (is_ok result)) (Some (contents_of self.old)) }
         ensures begun { self.new.begun ≡ (if is_ok result then true else self.old.begun) }
         ensures cause { OnErr result (Rose self.old.write_faults self.new.write_faults) }
         ensures reads_count { self.old.read_faults ≤ self.new.read_faults }
         ensures writes_count { self.old.write_faults ≤ self.new.write_faults }
         ensures fails { IsErr result ↔ CallFails self.old }
         ensures read_faults { self.new.read_faults ≡ self.old.read_faults }
-        ensures write_faults { self.new.write_faults ≡ (if is_ok result then self.old.write_faults else next self.old.write_faults) }
+        ensures write_faults { self.new.write_faults
+            ≡ (if is_ok result then self.old.write_faults else next self.old.write_faults) }
         ensures calls { self.new.calls ≡ next self.old.calls }
         ensures setting { KeepsSetting self.old self.new }
     {
@@ -210,15 +219,18 @@ impl Desk for MemoryDesk {
         requires { 0 < length bytes.now }
         ensures some { IfOk result (λ n. 0 < n) }
         ensures count { IfOk result (λ n. n ≤ length bytes.now) }
-        ensures after { Some (contents_of self.new) ≡ option_map (after_give to result bytes.now) (Some (contents_of self.old)) }
+        ensures after { Some (contents_of self.new)
+            ≡ option_map (after_give to result bytes.now) (Some (contents_of self.old)) }
         ensures begun { self.new.begun ≡ self.old.begun }
         ensures cause { OnErr result (Rose self.old.write_faults self.new.write_faults) }
         ensures reads_count { self.old.read_faults ≤ self.new.read_faults }
         ensures writes_count { self.old.write_faults ≤ self.new.write_faults }
         ensures fails { IsErr result ↔ (CallFails self.old ⊎ IsFull to self.old) }
-        ensures most { IfOk result (λ n. n ≡ min (length bytes.now) (room_of to self.old - length (output_of to (contents_of self.old)))) }
+        ensures most { IfOk result (λ n. n ≡ min (length bytes.now)
+            (room_of to self.old - length (output_of to (contents_of self.old)))) }
         ensures read_faults { self.new.read_faults ≡ self.old.read_faults }
-        ensures write_faults { self.new.write_faults ≡ (if is_ok result then self.old.write_faults else next self.old.write_faults) }
+        ensures write_faults { self.new.write_faults
+            ≡ (if is_ok result then self.old.write_faults else next self.old.write_faults) }
         ensures calls { self.new.calls ≡ next self.old.calls }
         ensures setting { KeepsSetting self.old self.new }
     {

@@ -21,7 +21,8 @@ impl Model for Sheet {
 
     ghost view = { λ value. record { bytes = value.bytes.items; room = value.room } };
 
-    ghost invariant = { λ value. (vec_len value.bytes ≤ value.room) × (value.room ≤ vec_capacity value.bytes) };
+    ghost invariant = { λ value.
+        (vec_len value.bytes ≤ value.room) × (value.room ≤ vec_capacity value.bytes) };
 }
 
 impl Sheet {
@@ -48,8 +49,10 @@ impl Sheet {
     pub(crate) fn append(&mut self, piece: &[u8]) -> Result<usize, Failed>
         requires { 0 < length piece.now }
         ensures fails { IsErr result ↔ (self.old.room ≤ length self.old.bytes) }
-        ensures most { IfOk result (λ n. n ≡ min (length piece.now) (self.old.room - length self.old.bytes)) }
-        ensures after { IfOk result (λ n. self.new ≡ record { bytes = self.old.bytes ++ take n piece.now; room = self.old.room }) }
+        ensures most { IfOk result (λ n.
+            n ≡ min (length piece.now) (self.old.room - length self.old.bytes)) }
+        ensures after { IfOk result (λ n. self.new
+            ≡ record { bytes = self.old.bytes ++ take n piece.now; room = self.old.room }) }
         ensures full { OnErr result (self.new ≡ self.old) }
     {
         let n = piece.len().min(self.room - self.bytes.len());

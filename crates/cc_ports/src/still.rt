@@ -24,7 +24,11 @@ impl Model for StillDesk {
 
     ghost use Rattle.cc_ports.specs.MemoryFields.{rest_of};
 
-    ghost view = { λ desk. record { files = desk.files; rest = rest_of desk.files desk.reading desk.at; begun = desk.begun } };
+    ghost view = { λ desk. record {
+      files = desk.files;
+      rest = rest_of desk.files desk.reading desk.at;
+      begun = desk.begun;
+    } };
 }
 
 impl StillDesk {
@@ -57,7 +61,8 @@ impl Desk for StillDesk {
     fn open_file(&mut self, name: &str) -> Result<(), Failed>
         ensures ok { IsOk result }
         ensures begun { self.new.begun ≡ self.old.begun }
-        ensures after { self.new ≡ record self.old { rest = unwrap_or (file_in self.old.files name.now) [] } }
+        ensures after { self.new
+            ≡ record self.old { rest = unwrap_or (file_in self.old.files name.now) [] } }
     {
         self.reading = self.files.place_of(name);
         self.at = 0;
@@ -70,7 +75,8 @@ impl Desk for StillDesk {
         ensures front { IfOk result (λ n. take n buffer.new ≡ take n self.old.rest) }
         ensures ok { IsOk result }
         ensures begun { self.new.begun ≡ self.old.begun }
-        ensures after { IfOk result (λ n. self.new ≡ record self.old { rest = drop n self.old.rest }) }
+        ensures after { IfOk result (λ n.
+            self.new ≡ record self.old { rest = drop n self.old.rest }) }
     {
         let Some(place) = self.reading else {
             return Ok(0);

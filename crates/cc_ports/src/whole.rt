@@ -54,15 +54,21 @@ pub fn read_all<D: Desk>(
     name: &str,
     most: usize,
 ) -> Result<Bytes, ReadStop>
-    ensures bytes { IfOk result (λ bytes. IfSome (D.told desk.old) (λ c. c.files name.now ≡ Some bytes)) }
+    ensures bytes { IfOk result (λ bytes.
+        IfSome (D.told desk.old) (λ c. c.files name.now ≡ Some bytes)) }
     ensures within { IfOk result (λ bytes. length bytes ≤ most) }
-    ensures limit { IsErrOf result ReadStop.Limit →
-        IfSome (D.told desk.old) (λ c. (bytes : List ℕ) × (c.files name.now ≡ Some bytes) × (most < length bytes)) }
-    ensures failed { IsErrOf result ReadStop.Failed → Rose (D.read_faults desk.old) (D.read_faults desk.new) }
-    ensures after { (rest : List ℕ) × (D.told desk.new ≡ option_map (with_rest rest) (D.told desk.old)) }
+    ensures limit { IsErrOf result ReadStop.Limit → IfSome (D.told desk.old) (λ c.
+        (bytes : List ℕ) × (c.files name.now ≡ Some bytes) × (most < length bytes)) }
+    ensures failed { IsErrOf result ReadStop.Failed →
+        Rose (D.read_faults desk.old) (D.read_faults desk.new) }
+    ensures after { (rest : List ℕ)
+        × (D.told desk.new ≡ option_map (with_rest rest) (D.told desk.old)) }
     ensures begun { D.begun desk.new ≡ D.begun desk.old }
-    ensures calls { (more : List Call) × AreReadings name.now most more × (D.calls desk.new ≡ with_calls more (D.calls desk.old)) }
-    ensures calm { (IsErrOf result ReadStop.Failed → ⊥) → (D.read_faults desk.new ≡ D.read_faults desk.old) × (D.write_faults desk.new ≡ D.write_faults desk.old) }
+    ensures calls { (more : List Call)
+        × AreReadings name.now most more × (D.calls desk.new ≡ with_calls more (D.calls desk.old)) }
+    ensures calm { (IsErrOf result ReadStop.Failed → ⊥) →
+        (D.read_faults desk.new ≡ D.read_faults desk.old)
+        × (D.write_faults desk.new ≡ D.write_faults desk.old) }
     ensures reads_count { D.read_faults desk.old ≤ D.read_faults desk.new }
     ensures writes_count { D.write_faults desk.old ≤ D.write_faults desk.new }
 {
@@ -83,13 +89,16 @@ pub fn read_all<D: Desk>(
 
 /// Gives all the bytes to an output. It takes no memory.
 pub fn give_all<D: Desk>(desk: &mut D, to: To, bytes: &[u8]) -> Result<(), Failed>
-    ensures all { OnOk result (D.told desk.new ≡ option_map (appended to bytes.now) (D.told desk.old)) }
+    ensures all { OnOk result
+        (D.told desk.new ≡ option_map (appended to bytes.now) (D.told desk.old)) }
     ensures some { OnErr result ((front : List ℕ) × IsPrefix front bytes.now
         × (D.told desk.new ≡ option_map (appended to front) (D.told desk.old))) }
     ensures failed { OnErr result (Rose (D.write_faults desk.old) (D.write_faults desk.new)) }
     ensures begun { D.begun desk.new ≡ D.begun desk.old }
-    ensures calls { (more : List Call) × AreGivings to more × (D.calls desk.new ≡ with_calls more (D.calls desk.old)) }
-    ensures calm { OnOk result ((D.read_faults desk.new ≡ D.read_faults desk.old) × (D.write_faults desk.new ≡ D.write_faults desk.old)) }
+    ensures calls { (more : List Call)
+        × AreGivings to more × (D.calls desk.new ≡ with_calls more (D.calls desk.old)) }
+    ensures calm { OnOk result ((D.read_faults desk.new ≡ D.read_faults desk.old)
+        × (D.write_faults desk.new ≡ D.write_faults desk.old)) }
     ensures reads_count { D.read_faults desk.old ≤ D.read_faults desk.new }
     ensures writes_count { D.write_faults desk.old ≤ D.write_faults desk.new }
 {

@@ -25,8 +25,9 @@ pub fn atom_text(
 ) -> Result<Text, OutOfMemory>
     requires signature { IsSignatureFor table.now sig.now }
     requires atom { IsAtomOf sig.now position value }
-    ensures { (d : Description) (declarations : List Declaration) → IsTable table.now declarations → IsSignatureOf declarations sig.now →
-        d.universe ≡ universe declarations → d.objects ≡ map (λ object. object.0) (objects declarations) →
+    ensures { (d : Description) (declarations : List Declaration) → IsTable table.now declarations →
+        IsSignatureOf declarations sig.now → d.universe ≡ universe declarations →
+        d.objects ≡ map (λ object. object.0) (objects declarations) →
         IfOk result (λ text. text ≡ atoms.atom_text d position value) }
 {
     written(alloc, table, sig, position, value)
@@ -42,7 +43,8 @@ fn written(
 ) -> Result<Text, OutOfMemory>
     requires named { AreNamed table.now sig.now }
     requires atom { IsAtomOf sig.now position value }
-    ensures { IfOk result (λ text. text ≡ atoms.atom_text (described table.now sig.now) position value) }
+    ensures { IfOk result (λ text.
+        text ≡ atoms.atom_text (described table.now sig.now) position value) }
 {
     let mut text = String::new(alloc);
     push_atom(&mut text, table, sig, position, value)?;
@@ -59,7 +61,8 @@ fn push_atom(
 ) -> Result<(), OutOfMemory>
     requires named { AreNamed table.now sig.now }
     requires atom { IsAtomOf sig.now position value }
-    ensures { OnOk result (string_bytes text.new ≡ string_bytes text.old ++ atoms.atom_text (described table.now sig.now) position value) }
+    ensures { OnOk result (string_bytes text.new
+        ≡ string_bytes text.old ++ atoms.atom_text (described table.now sig.now) position value) }
 {
     let stride = u64::from(sig.fluents()) + u64::from(sig.actions());
     push_count(text, position / stride)?;
@@ -76,7 +79,8 @@ fn push_value(
 ) -> Result<(), OutOfMemory>
     requires named { IsNamed table.now constant.now }
     requires within { index < length constant.now.domain }
-    ensures { OnOk result (string_bytes text.new ≡ string_bytes text.old ++ atoms.value_text (named_by table.now) (Some constant.now) index) }
+    ensures { OnOk result (string_bytes text.new ≡ string_bytes text.old
+        ++ atoms.value_text (named_by table.now) (Some constant.now) index) }
 {
     push_constant(text, table, constant)?;
     text.push_str("=")?;

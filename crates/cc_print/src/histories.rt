@@ -31,9 +31,11 @@ pub fn history_text(
     row: &[u32],
 ) -> Result<Text, OutOfMemory>
     requires signature { IsSignatureFor table.now sig.now }
-    requires row { (d : Description) → IsSignatureOfDescription d sig.now → IsRow (sizes_at d horizon) row.now }
-    ensures { (d : Description) (declarations : List Declaration) → IsTable table.now declarations → IsSignatureOf declarations sig.now →
-        d.universe ≡ universe declarations → d.objects ≡ map (λ object. object.0) (objects declarations) →
+    requires row { (d : Description) →
+        IsSignatureOfDescription d sig.now → IsRow (sizes_at d horizon) row.now }
+    ensures { (d : Description) (declarations : List Declaration) → IsTable table.now declarations →
+        IsSignatureOf declarations sig.now → d.universe ≡ universe declarations →
+        d.objects ≡ map (λ object. object.0) (objects declarations) →
         IfOk result (λ text. text ≡ texts.history_text d horizon row.now) }
 {
     written(alloc, table, sig, horizon, row)
@@ -49,7 +51,8 @@ fn written(
 ) -> Result<Text, OutOfMemory>
     requires named { AreNamed table.now sig.now }
     requires row { IsRow (sizes_at (described table.now sig.now) horizon) row.now }
-    ensures { IfOk result (λ text. text ≡ texts.history_text (described table.now sig.now) horizon row.now) }
+    ensures { IfOk result (λ text.
+        text ≡ texts.history_text (described table.now sig.now) horizon row.now) }
 {
     let mut text = String::new(alloc);
     push_history(&mut text, table, sig, horizon, row)?;
@@ -66,7 +69,8 @@ fn push_history(
 ) -> Result<(), OutOfMemory>
     requires named { AreNamed table.now sig.now }
     requires row { IsRow (sizes_at (described table.now sig.now) horizon) row.now }
-    ensures { OnOk result (string_bytes text.new ≡ string_bytes text.old ++ texts.history_text (described table.now sig.now) horizon row.now) }
+    ensures { OnOk result (string_bytes text.new ≡ string_bytes text.old
+        ++ texts.history_text (described table.now sig.now) horizon row.now) }
 {
     let stride = sig.fluents() as usize + sig.actions() as usize;
     push_state(text, table, sig, row, 0, 0)?;
@@ -90,7 +94,8 @@ fn push_state(
 ) -> Result<(), OutOfMemory>
     requires at { place ≡ step * stride (described table.now sig.now) }
     requires given { AreGiven table.now row.now sig.now.fluents place }
-    ensures { OnOk result (string_bytes text.new ≡ string_bytes text.old ++ texts.state_text (described table.now sig.now) row.now step) }
+    ensures { OnOk result (string_bytes text.new
+        ≡ string_bytes text.old ++ texts.state_text (described table.now sig.now) row.now step) }
 {
     push_number(text, step)?;
     text.push_str(":")?;
@@ -111,7 +116,8 @@ fn push_actions(
     requires at { place ≡ step * stride (described table.now sig.now) }
     requires few { length sig.now.fluents + length sig.now.actions < 2 ^ 32 }
     requires given { AreGiven table.now row.now sig.now.actions (place + length sig.now.fluents) }
-    ensures { OnOk result (string_bytes text.new ≡ string_bytes text.old ++ texts.actions_text (described table.now sig.now) row.now step) }
+    ensures { OnOk result (string_bytes text.new
+        ≡ string_bytes text.old ++ texts.actions_text (described table.now sig.now) row.now step) }
 {
     let fluents = sig.fluents();
     text.push_str("ACTIONS:")?;
@@ -138,9 +144,11 @@ fn push_constants(
     place: usize,
 ) -> Result<(), OutOfMemory>
     requires within { numbers.1 ≤ length (ground_constants sig.now) }
-    requires given { AreGiven table.now row.now (constants_between sig.now numbers.0 numbers.1) (place + numbers.0) }
-    ensures { OnOk result (string_bytes text.new ≡ string_bytes text.old
-        ++ texts.constants_shown (named_by table.now) (constants_between sig.now numbers.0 numbers.1) numbers.0 (λ number. slice_index row.now (place + number))) }
+    requires given { AreGiven table.now row.now
+        (constants_between sig.now numbers.0 numbers.1) (place + numbers.0) }
+    ensures { OnOk result (string_bytes text.new ≡ string_bytes text.old ++ texts.constants_shown
+        (named_by table.now) (constants_between sig.now numbers.0 numbers.1) numbers.0
+        (λ number. slice_index row.now (place + number))) }
 {
     let (from, to) = numbers;
     for number in from..to {
@@ -178,7 +186,8 @@ fn push_shown(
 /// Writes two spaces and a constant.
 fn push_indented(text: &mut String, table: &Table, constant: &Const) -> Result<(), OutOfMemory>
     requires { IsNamed table.now constant.now }
-    ensures { OnOk result (string_bytes text.new ≡ string_bytes text.old ++ (codes "  " ++ texts.constant_text (named_by table.now) constant.now)) }
+    ensures { OnOk result (string_bytes text.new ≡ string_bytes text.old
+        ++ (codes "  " ++ texts.constant_text (named_by table.now) constant.now)) }
 {
     text.push_str("  ")?;
     push_constant(text, table, constant)
@@ -191,7 +200,8 @@ pub(crate) fn push_constant(
     constant: &Const,
 ) -> Result<(), OutOfMemory>
     requires { IsNamed table.now constant.now }
-    ensures { OnOk result (string_bytes text.new ≡ string_bytes text.old ++ texts.constant_text (named_by table.now) constant.now) }
+    ensures { OnOk result (string_bytes text.new
+        ≡ string_bytes text.old ++ texts.constant_text (named_by table.now) constant.now) }
 {
     text.push_str(symbol_name(table, constant.symbol))?;
     push_arguments(text, table, constant.args.items())
@@ -200,7 +210,8 @@ pub(crate) fn push_constant(
 /// Writes arguments in parentheses.
 fn push_arguments(text: &mut String, table: &Table, args: &[u32]) -> Result<(), OutOfMemory>
     requires { AllByRecursion (IsNamedValue table.now) args.now }
-    ensures { OnOk result (string_bytes text.new ≡ string_bytes text.old ++ texts.arguments_text (named_by table.now) args.now) }
+    ensures { OnOk result (string_bytes text.new
+        ≡ string_bytes text.old ++ texts.arguments_text (named_by table.now) args.now) }
 {
     match args {
         [] => Ok(()),
@@ -230,7 +241,8 @@ fn push_other_arguments(text: &mut String, table: &Table, args: &[u32]) -> Resul
 /// Whether the constants of a symbol are Boolean: they have the sort `boolean`, which is sort 0, and are no attributes.
 fn is_boolean(table: &Table, symbol: u32) -> bool
     requires { symbol < length table.now.symbols }
-    ensures { result ≡ is_boolean_symbol (slice_get (map (λ placed. placed.symbol) table.now.symbols) symbol) }
+    ensures { result
+        ≡ is_boolean_symbol (slice_get (map (λ placed. placed.symbol) table.now.symbols) symbol) }
 {
     let symbol = table.symbol_of(symbol);
     symbol.attribute.is_none() && symbol.domain == 0

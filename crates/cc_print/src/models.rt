@@ -10,7 +10,8 @@ use std::alloc::Global;
 
 /// A variable with a hyphen before it where its value is not 1.
 fn push_literal(text: &mut String, variable: u32, value: u32) -> Result<(), OutOfMemory>
-    ensures { OnOk result (string_bytes text.new ≡ string_bytes text.old ++ model_words variable (value ∷ [])) }
+    ensures { OnOk result
+        (string_bytes text.new ≡ string_bytes text.old ++ model_words variable (value ∷ [])) }
 {
     text.push_str(" ")?;
     if value != 1 {

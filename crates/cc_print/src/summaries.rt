@@ -29,7 +29,8 @@ fn push_summary(text: &mut String, size: u32, told: &[Told]) -> Result<(), OutOf
 
 /// Writes a line of a name and a number.
 fn push_line(text: &mut String, name: &str, number: u64) -> Result<(), OutOfMemory>
-    ensures { OnOk result (string_bytes text.new ≡ string_bytes text.old ++ number_line name.now number) }
+    ensures { OnOk result
+        (string_bytes text.new ≡ string_bytes text.old ++ number_line name.now number) }
 {
     text.push_str(name)?;
     text.push_str(" ")?;
@@ -40,7 +41,8 @@ fn push_line(text: &mut String, name: &str, number: u64) -> Result<(), OutOfMemo
 
 /// Writes what is said of the ending, where there is one.
 fn push_endings(text: &mut String, told: &[Told]) -> Result<(), OutOfMemory>
-    ensures { OnOk result (string_bytes text.new ≡ string_bytes text.old ++ flat_map (ending_lines (unwrap_or (last_or None (empty_horizons told.now)) 0)) (endings_told told.now)) }
+    ensures { OnOk result (string_bytes text.new ≡ string_bytes text.old ++ flat_map (ending_lines
+        (unwrap_or (last_or None (empty_horizons told.now)) 0)) (endings_told told.now)) }
 {
     let tried = last_empty(told).unwrap_or(0);
     for one in told {
@@ -53,7 +55,8 @@ fn push_endings(text: &mut String, told: &[Told]) -> Result<(), OutOfMemory>
 
 /// Writes what is said of an ending; `tried` is the last horizon without a history.
 fn push_ending(text: &mut String, tried: u32, ending: Ending) -> Result<(), OutOfMemory>
-    ensures { OnOk result (string_bytes text.new ≡ string_bytes text.old ++ ending_lines tried ending) }
+    ensures { OnOk result
+        (string_bytes text.new ≡ string_bytes text.old ++ ending_lines tried ending) }
 {
     match ending {
         Ending::Complete { horizon, listed } => push_ended(text, horizon, listed, "complete"),
@@ -68,7 +71,8 @@ fn push_ending(text: &mut String, tried: u32, ending: Ending) -> Result<(), OutO
 
 /// Writes the last horizon that was tried, how many histories were listed, and the word of the ending.
 fn push_ended(text: &mut String, horizon: u32, listed: u32, word: &str) -> Result<(), OutOfMemory>
-    ensures { OnOk result (string_bytes text.new ≡ string_bytes text.old ++ ended_lines horizon listed word.now) }
+    ensures { OnOk result
+        (string_bytes text.new ≡ string_bytes text.old ++ ended_lines horizon listed word.now) }
 {
     push_line(text, "horizon", u64::from(horizon))?;
     push_line(text, "histories", u64::from(listed))?;

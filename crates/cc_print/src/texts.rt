@@ -46,7 +46,8 @@ fn horizon_line(alloc: Global, horizon: u32, said: &str) -> Result<Text, OutOfMe
 
 /// The line before a history.
 fn history_line(alloc: Global, horizon: u32, number: u32) -> Result<Text, OutOfMemory>
-    ensures { IfOk result (λ text. text ≡ events.of_horizon horizon (codes "history " ++ decimal number)) }
+    ensures { IfOk result (λ text.
+        text ≡ events.of_horizon horizon (codes "history " ++ decimal number)) }
 {
     let text = format!(in alloc; "horizon {horizon}: history {number}\n")?;
     Ok(Text::of(text))
@@ -54,7 +55,8 @@ fn history_line(alloc: Global, horizon: u32, number: u32) -> Result<Text, OutOfM
 
 /// A line that says how many histories were listed at a horizon.
 fn listed_line(alloc: Global, horizon: u32, said: &str, listed: u32) -> Result<Text, OutOfMemory>
-    ensures { IfOk result (λ text. text ≡ events.of_horizon horizon (said.now ++ decimal listed ++ codes " listed")) }
+    ensures { IfOk result (λ text.
+        text ≡ events.of_horizon horizon (said.now ++ decimal listed ++ codes " listed")) }
 {
     let mut line = String::from_str(alloc, said)?;
     push_number(&mut line, listed)?;
@@ -104,7 +106,8 @@ pub fn refusal_text(alloc: Global, refusal: &Refusal, file: &str) -> Result<Text
 
 /// Writes the indexes of a row with `,` between them.
 fn push_row(text: &mut String, row: &[u32]) -> Result<(), OutOfMemory>
-    ensures { OnOk result (string_bytes text.new ≡ string_bytes text.old ++ join_with_byte 44 (map decimal row.now)) }
+    ensures { OnOk result
+        (string_bytes text.new ≡ string_bytes text.old ++ join_with_byte 44 (map decimal row.now)) }
 {
     match row {
         [] => Ok(()),
@@ -117,7 +120,8 @@ fn push_row(text: &mut String, row: &[u32]) -> Result<(), OutOfMemory>
 
 /// Writes a `,` and an index, for each index.
 fn push_others(text: &mut String, others: &[u32]) -> Result<(), OutOfMemory>
-    ensures { OnOk result (string_bytes text.new ≡ string_bytes text.old ++ flat_map (λ digits. 44 ∷ digits) (map decimal others.now)) }
+    ensures { OnOk result (string_bytes text.new
+        ≡ string_bytes text.old ++ flat_map (λ digits. 44 ∷ digits) (map decimal others.now)) }
 {
     for index in others {
         text.push_str(",")?;
@@ -128,7 +132,8 @@ fn push_others(text: &mut String, others: &[u32]) -> Result<(), OutOfMemory>
 
 /// Writes the file and the line of a refusal that has a place.
 fn push_place(text: &mut String, refusal: &Refusal, file: &str) -> Result<(), OutOfMemory>
-    ensures { OnOk result (string_bytes text.new ≡ string_bytes text.old ++ place_text refusal.now file.now) }
+    ensures { OnOk result
+        (string_bytes text.new ≡ string_bytes text.old ++ place_text refusal.now file.now) }
 {
     if refusal.line == 0 {
         return Ok(());

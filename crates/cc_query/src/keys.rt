@@ -14,7 +14,8 @@ use cc_defs::{Key, Sig};
 /// Whether a row has an index for each position of a horizon, below the number of its values. It takes no memory.
 pub fn is_row(sig: &Sig, horizon: u32, row: &[u32]) -> bool
     ensures is { IsTrue result ↔ IsRow (position_sizes sig.now horizon) row.now }
-    ensures described { (d : Description) → IsSignatureOfDescription d sig.now → IsTrue result ↔ IsRow (sizes_at d horizon) row.now }
+    ensures described { (d : Description) →
+        IsSignatureOfDescription d sig.now → IsTrue result ↔ IsRow (sizes_at d horizon) row.now }
 {
     has_indexes(sig, horizon, row)
 }
@@ -62,7 +63,8 @@ fn is_fit(sig: &Sig, query: &GroundQuery<'_>, key: &Key) -> bool
 /// range, and the row has an index for each position of that horizon, below the number of its values. It takes no memory.
 pub fn fits(sig: &Sig, query: &GroundQuery<'_>, key: &Key) -> bool
     ensures fits { IsTrue result ↔ Fits sig.now (plain_ground_query query.now) key.now }
-    ensures described { (d : Description) → IsSignatureOfDescription d sig.now → IsTrue result ↔ FitsIn d (plain_ground_query query.now) key.now }
+    ensures described { (d : Description) → IsSignatureOfDescription d sig.now →
+        IsTrue result ↔ FitsIn d (plain_ground_query query.now) key.now }
 {
     is_fit(sig, query, key)
 }

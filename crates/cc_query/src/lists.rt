@@ -37,7 +37,8 @@ impl<'a> Model for Lists<'a> {
 
     ghost view = { λ lists. record { signature = lists.sig.now; laws = lists.laws.now } };
 
-    ghost invariant = { λ lists. AreLawsFor lists.sig.now lists.laws.now × IfSome lists.template (λ template. template ≡ record { signature = lists.sig.now; laws = lists.laws.now }) };
+    ghost invariant = { λ lists. AreLawsFor lists.sig.now lists.laws.now × IfSome lists.template
+        (λ template. template ≡ record { signature = lists.sig.now; laws = lists.laws.now }) };
 }
 
 impl<'a> Lists<'a> {
@@ -74,10 +75,19 @@ impl<'a> Lists<'a> {
         requires horizon { horizon ≤ most_steps }
         requires query { IsQueryAt self.now.signature horizon (plain_ground_query query.now) }
         requires key { IfSome after (λ key. IsKeyAt self.now.signature horizon key.now) }
-        ensures made { (d : Description) (q : Query) → AreLawsOf self.now.signature self.now.laws d → StandsForQuery (plain_ground_query query.now) d q → IfOk result (λ form. form ≡ form_of d q horizon with_claim (option_map (λ key. key.now) after.entry)) }
-        ensures tells { (d : Description) (q : Query) → AreLawsOf self.now.signature self.now.laws d → StandsForQuery (plain_ground_query query.now) d q → OnOk result (TellsHistories d (asked with_claim q) horizon (option_map (λ key. key.now.row) after.entry) (form_of d q horizon with_claim (option_map (λ key. key.now) after.entry))) }
-        ensures within { (d : Description) (q : Query) → AreLawsOf self.now.signature self.now.laws d → StandsForQuery (plain_ground_query query.now) d q → OnOk result (refusal_at d q horizon with_claim (option_map (λ key. key.now) after.entry) ≡ None) }
-        ensures refused { (d : Description) (q : Query) → AreLawsOf self.now.signature self.now.laws d → StandsForQuery (plain_ground_query query.now) d q → IfErr result (IsRefusedBy (refusal_at d q horizon with_claim (option_map (λ key. key.now) after.entry))) }
+        ensures made { (d : Description) (q : Query) → AreLawsOf self.now.signature self.now.laws
+            d → StandsForQuery (plain_ground_query query.now) d q → IfOk result (λ form.
+            form ≡ form_of d q horizon with_claim (option_map (λ key. key.now) after.entry)) }
+        ensures tells { (d : Description) (q : Query) → AreLawsOf self.now.signature self.now.laws
+            d → StandsForQuery (plain_ground_query query.now) d q → OnOk result (TellsHistories d
+            (asked with_claim q) horizon (option_map (λ key. key.now.row) after.entry)
+            (form_of d q horizon with_claim (option_map (λ key. key.now) after.entry))) }
+        ensures within { (d : Description) (q : Query) → AreLawsOf self.now.signature
+            self.now.laws d → StandsForQuery (plain_ground_query query.now) d q → OnOk result
+            (refusal_at d q horizon with_claim (option_map (λ key. key.now) after.entry) ≡ None) }
+        ensures refused { (d : Description) (q : Query) → AreLawsOf self.now.signature self.now.laws
+            d → StandsForQuery (plain_ground_query query.now) d q → IfErr result (IsRefusedBy
+            (refusal_at d q horizon with_claim (option_map (λ key. key.now) after.entry))) }
     {
         match &self.template {
             Some(template) => template.clauses(alloc, horizon, query, with_claim, after),

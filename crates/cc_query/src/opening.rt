@@ -50,10 +50,19 @@ pub fn form_at(
     requires horizon { horizon ≤ most_steps }
     requires query { IsQueryAt sig.now horizon (plain_ground_query query.now) }
     requires key { IfSome after (λ key. IsKeyAt sig.now horizon key.now) }
-    ensures made { (d : Description) (q : Query) → AreLawsOf sig.now laws.now d → StandsForQuery (plain_ground_query query.now) d q → IfOk result (λ form. form ≡ form_of d q horizon with_claim (option_map (λ key. key.now) after.entry)) }
-    ensures tells { (d : Description) (q : Query) → AreLawsOf sig.now laws.now d → StandsForQuery (plain_ground_query query.now) d q → OnOk result (TellsHistories d (asked with_claim q) horizon (option_map (λ key. key.now.row) after.entry) (form_of d q horizon with_claim (option_map (λ key. key.now) after.entry))) }
-    ensures within { (d : Description) (q : Query) → AreLawsOf sig.now laws.now d → StandsForQuery (plain_ground_query query.now) d q → OnOk result (refusal_at d q horizon with_claim (option_map (λ key. key.now) after.entry) ≡ None) }
-    ensures refused { (d : Description) (q : Query) → AreLawsOf sig.now laws.now d → StandsForQuery (plain_ground_query query.now) d q → IfErr result (IsRefusedBy (refusal_at d q horizon with_claim (option_map (λ key. key.now) after.entry))) }
+    ensures made { (d : Description) (q : Query) → AreLawsOf sig.now laws.now d →
+        StandsForQuery (plain_ground_query query.now) d q → IfOk result (λ form.
+        form ≡ form_of d q horizon with_claim (option_map (λ key. key.now) after.entry)) }
+    ensures tells { (d : Description) (q : Query) → AreLawsOf sig.now laws.now d →
+        StandsForQuery (plain_ground_query query.now) d q → OnOk result
+        (TellsHistories d (asked with_claim q) horizon (option_map (λ key. key.now.row) after.entry)
+        (form_of d q horizon with_claim (option_map (λ key. key.now) after.entry))) }
+    ensures within { (d : Description) (q : Query) → AreLawsOf sig.now laws.now d →
+        StandsForQuery (plain_ground_query query.now) d q → OnOk result
+        (refusal_at d q horizon with_claim (option_map (λ key. key.now) after.entry) ≡ None) }
+    ensures refused { (d : Description) (q : Query) → AreLawsOf sig.now laws.now d →
+        StandsForQuery (plain_ground_query query.now) d q → IfErr result (IsRefusedBy
+        (refusal_at d q horizon with_claim (option_map (λ key. key.now) after.entry))) }
 {
     let theory = Theory::at(alloc, sig, laws, horizon)?;
     clauses(alloc, &theory, query, with_claim, after)

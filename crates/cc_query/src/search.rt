@@ -48,9 +48,11 @@ impl Model for Search {
 
     ghost Value = { SearchView };
 
-    ghost view = { λ s. record { ask = s.ask; axioms = s.axioms; row = s.row.items; stage = s.stage } };
+    ghost view = { λ s.
+        record { ask = s.ask; axioms = s.axioms; row = s.row.items; stage = s.stage } };
 
-    ghost invariant = { λ s. IsSearch (record { ask = s.ask; axioms = s.axioms; row = s.row.items; stage = s.stage }) };
+    ghost invariant = { λ s.
+        IsSearch (record { ask = s.ask; axioms = s.axioms; row = s.row.items; stage = s.stage }) };
 }
 
 impl Search {
@@ -96,7 +98,8 @@ impl Search {
     /// How many axioms the section has: the clauses of its own lines are numbered behind them.
     pub fn axioms(&self) -> u32
         ensures value { result ≡ self.now.axioms }
-        ensures axioms { (axioms : Axioms) (count : Option ℕ) (budget : ℕ) (section : Section) → Stands axioms count budget self.now section → result ≡ length axioms.clauses }
+        ensures axioms { (axioms : Axioms) (count : Option ℕ) (budget : ℕ) (section : Section) →
+            Stands axioms count budget self.now section → result ≡ length axioms.clauses }
     {
         self.axioms
     }
@@ -115,8 +118,11 @@ impl Search {
         requires ready { IsReady self.old.ask (stages.Searching solver listed) }
         requires some { 0 < length solver.kernel.entries }
         requires over { IsOver self.old }
-        ensures find { (clause : List Literal) → IsNumbered (clauses_of solver.kernel) (length solver.kernel.entries) clause → IfOk result (λ find. find ≡ finds.Line (lines.Derived clause solver.kernel.chain)) }
-        ensures stands { OnOk result (self.new ≡ record self.old { stage = stages.Searching solver listed }) }
+        ensures find { (clause : List Literal) →
+            IsNumbered (clauses_of solver.kernel) (length solver.kernel.entries) clause →
+            IfOk result (λ find. find ≡ finds.Line (lines.Derived clause solver.kernel.chain)) }
+        ensures stands { OnOk result
+            (self.new ≡ record self.old { stage = stages.Searching solver listed }) }
         ensures fault { IfErr result (λ fault. fault ≡ faults.OutOfMemory) }
         ensures over { OnErr result (IsOver self.new) }
     {
@@ -129,7 +135,9 @@ impl Search {
     fn empty_line(&mut self, solver: Solver) -> Result<Find, Fault>
         requires some { 0 < length solver.kernel.entries }
         requires over { IsOver self.old }
-        ensures find { (clause : List Literal) → IsNumbered (clauses_of solver.kernel) (length solver.kernel.entries) clause → IfOk result (λ find. find ≡ finds.Line (lines.Derived clause solver.kernel.chain)) }
+        ensures find { (clause : List Literal) →
+            IsNumbered (clauses_of solver.kernel) (length solver.kernel.entries) clause →
+            IfOk result (λ find. find ≡ finds.Line (lines.Derived clause solver.kernel.chain)) }
         ensures stands { OnOk result (self.new ≡ record self.old { stage = stages.Refuted }) }
         ensures fault { IfErr result (λ fault. fault ≡ faults.OutOfMemory) }
         ensures over { OnErr result (IsOver self.new) }
@@ -145,7 +153,8 @@ impl Search {
         requires within { IsWithin self.old.ask solver listed }
         requires over { IsOver self.old }
         ensures find { IfOk result (λ find. find ≡ finds.Row) }
-        ensures stands { OnOk result (self.new ≡ record self.old { row = row.items; stage = stages.Denying solver (listed + 1) }) }
+        ensures stands { OnOk result (self.new
+            ≡ record self.old { row = row.items; stage = stages.Denying solver (listed + 1) }) }
         ensures fault { IfErr result (λ fault. fault ≡ faults.Refused (past limits.Histories)) }
         ensures many { OnErr result (listed ≡ most_histories) }
         ensures few { OnOk result (listed + 1 ≤ most_histories) }
@@ -167,8 +176,12 @@ impl Search {
         requires found { HasFound solver }
         requires within { IsWithin self.old.ask solver listed }
         requires over { IsOver self.old }
-        ensures gives { (before : SolverView) → IsStep self.old.ask.budget before solver answers.Found → IfOk result (Gives (record self.old { stage = stages.Searching before listed }) self.new) }
-        ensures fault { (before : SolverView) → IsStep self.old.ask.budget before solver answers.Found → IfErr result (IsRightFault (record self.old { stage = stages.Searching before listed })) }
+        ensures gives { (before : SolverView) →
+            IsStep self.old.ask.budget before solver answers.Found → IfOk result
+            (Gives (record self.old { stage = stages.Searching before listed }) self.new) }
+        ensures fault { (before : SolverView) →
+            IsStep self.old.ask.budget before solver answers.Found → IfErr result
+            (IsRightFault (record self.old { stage = stages.Searching before listed })) }
         ensures over { OnErr result (IsOver self.new) }
     {
         search_laws();
@@ -180,8 +193,10 @@ impl Search {
     fn block(&mut self, mut solver: Solver, listed: u32) -> Result<Find, Fault>
         requires ready { IsReady self.old.ask (stages.Denying solver listed) }
         requires over { IsOver self.old }
-        ensures find { (row : List ℕ) → solver.standing ≡ IsFound row → IfOk result (λ find. find ≡ finds.Line (lines.Block row)) }
-        ensures stands { OnOk result ((blocked : SolverView) × IsBlocked solver blocked × (self.new ≡ record self.old { stage = stages.Searching blocked listed })) }
+        ensures find { (row : List ℕ) → solver.standing ≡ IsFound row →
+            IfOk result (λ find. find ≡ finds.Line (lines.Block row)) }
+        ensures stands { OnOk result ((blocked : SolverView) × IsBlocked solver blocked
+            × (self.new ≡ record self.old { stage = stages.Searching blocked listed })) }
         ensures fault { IfErr result (λ fault. fault ≡ faults.OutOfMemory) }
         ensures over { OnErr result (IsOver self.new) }
     {
@@ -195,7 +210,8 @@ impl Search {
     fn deny(&mut self, solver: Solver, listed: u32) -> Result<Find, Fault>
         requires ready { IsReady self.old.ask (stages.Denying solver listed) }
         requires over { IsOver self.old }
-        ensures gives { IfOk result (Gives (record self.old { stage = stages.Denying solver listed }) self.new) }
+        ensures gives { IfOk result
+            (Gives (record self.old { stage = stages.Denying solver listed }) self.new) }
         ensures fault { IfErr result (λ fault. fault ≡ faults.OutOfMemory) }
         ensures over { OnErr result (IsOver self.new) }
     {
@@ -211,8 +227,10 @@ impl Search {
     fn go_on(&mut self, solver: Solver, listed: u32) -> Result<Find, Fault>
         requires ready { IsReady self.old.ask (stages.Searching solver listed) }
         requires over { IsOver self.old }
-        ensures gives { IfOk result (Gives (record self.old { stage = stages.Searching solver listed }) self.new) }
-        ensures fault { IfErr result (IsRightFault (record self.old { stage = stages.Searching solver listed })) }
+        ensures gives { IfOk result
+            (Gives (record self.old { stage = stages.Searching solver listed }) self.new) }
+        ensures fault { IfErr result
+            (IsRightFault (record self.old { stage = stages.Searching solver listed })) }
         ensures over { OnErr result (IsOver self.new) }
     {
         search_laws();
@@ -229,8 +247,10 @@ impl Search {
         requires ready { IsReady self.old.ask (stages.Searching solver listed) }
         requires none { HasNoEmpty (clauses_of solver.kernel) }
         requires over { IsOver self.old }
-        ensures gives { IfOk result (Gives (record self.old { stage = stages.Searching solver listed }) self.new) }
-        ensures fault { IfErr result (IsRightFault (record self.old { stage = stages.Searching solver listed })) }
+        ensures gives { IfOk result
+            (Gives (record self.old { stage = stages.Searching solver listed }) self.new) }
+        ensures fault { IfErr result
+            (IsRightFault (record self.old { stage = stages.Searching solver listed })) }
         ensures over { OnErr result (IsOver self.new) }
     {
         search_laws();
@@ -273,7 +293,9 @@ impl Search {
     /// only a row past the 100,000,000 that may be told (14, histories). After an error, as after the end, nothing more is told.
     pub fn next(&mut self) -> Result<Find, Fault>
         requires { HasMore self.old }
-        ensures tells { (axioms : Axioms) (count : Option ℕ) (budget : ℕ) (section : Section) → Stands axioms count budget self.old section → IfOk result (λ find. IsBehind section find × Stands axioms count budget self.new (found_behind section self.new.row find)) }
+        ensures tells { (axioms : Axioms) (count : Option ℕ) (budget : ℕ) (section : Section) →
+            Stands axioms count budget self.old section → IfOk result (λ find. IsBehind section find
+            × Stands axioms count budget self.new (found_behind section self.new.row find)) }
         ensures refused { IfErr result (IsRightFault self.old) }
         ensures short { IfOk result IsShortFind }
         ensures less { OnOk result (left_of self.new < left_of self.old) }

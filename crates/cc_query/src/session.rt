@@ -70,15 +70,35 @@ impl<'a> Model for Session<'a> {
 
     ghost Value = { SessionView };
 
-    ghost view = { λ s. record { signature = s.lists.signature; laws = s.lists.laws; query = plain_ground_query s.query; ask = s.ask; horizon = s.horizon; met = s.met; row = s.row.items; phase = s.phase } };
+    ghost view = { λ s. record {
+      signature = s.lists.signature;
+      laws = s.lists.laws;
+      query = plain_ground_query s.query;
+      ask = s.ask;
+      horizon = s.horizon;
+      met = s.met;
+      row = s.row.items;
+      phase = s.phase;
+    } };
 
-    ghost invariant = { λ s. IsSession (record { signature = s.lists.signature; laws = s.lists.laws; query = plain_ground_query s.query; ask = s.ask; horizon = s.horizon; met = s.met; row = s.row.items; phase = s.phase }) };
+    ghost invariant = { λ s. IsSession (record {
+      signature = s.lists.signature;
+      laws = s.lists.laws;
+      query = plain_ground_query s.query;
+      ask = s.ask;
+      horizon = s.horizon;
+      met = s.met;
+      row = s.row.items;
+      phase = s.phase;
+    }) };
 }
 
 /// The line of the clause that was derived last.
 fn derived(alloc: Global, kernel: &Kernel) -> Result<Event, OutOfMemory>
     requires { 0 < length kernel.now.entries }
-    ensures { (clause : List Literal) → IsNumbered (clauses_of kernel.now) (length kernel.now.entries) clause → IfOk result (λ event. event ≡ events.Log (lines.Derived clause kernel.now.chain)) }
+    ensures { (clause : List Literal) →
+        IsNumbered (clauses_of kernel.now) (length kernel.now.entries) clause →
+        IfOk result (λ event. event ≡ events.Log (lines.Derived clause kernel.now.chain)) }
 {
     let line = derived_line(alloc, kernel)?;
     Ok(Event::Log(line))
@@ -187,7 +207,8 @@ impl<'a> Session<'a> {
         requires laws { AreLawsFor sig.now laws.now }
         requires ordered { query.lo ≤ query.hi }
         requires most { query.hi ≤ most_steps }
-        requires steps { (horizon : ℕ) → query.lo ≤ horizon → horizon ≤ query.hi → IsQueryAt sig.now horizon (plain_ground_query query) }
+        requires steps { (horizon : ℕ) → query.lo ≤ horizon →
+            horizon ≤ query.hi → IsQueryAt sig.now horizon (plain_ground_query query) }
         requires key { IfSome ask.after (Fits sig.now (plain_ground_query query)) }
         requires count { IfSome ask.count (λ most. 1 ≤ most) }
         requires budget { ask.budget ≤ 2000000 }
@@ -195,7 +216,8 @@ impl<'a> Session<'a> {
         ensures laws { IfOk result (λ session. session.laws ≡ laws.now) }
         ensures query { IfOk result (λ session. session.query ≡ plain_ground_query query.entry) }
         ensures ask { IfOk result (λ session. session.ask ≡ ask) }
-        ensures begun { (d : Description) (q : Query) → IfOk result (λ session. IsSessionOf session d q → After d q session []) }
+        ensures begun { (d : Description) (q : Query) →
+            IfOk result (λ session. IsSessionOf session d q → After d q session []) }
         ensures more { IfOk result (λ session. HasMore session) }
     {
         let horizon = first_horizon(&query, &ask);
@@ -223,7 +245,9 @@ impl<'a> Session<'a> {
     /// How many axioms the section has whose heading was the last event: the clauses of its own lines are numbered behind them.
     pub fn axioms(&self) -> u32
         requires { (conditions : Bool) × (horizon : ℕ) × IsOpened self.now conditions horizon }
-        ensures { (d : Description) (q : Query) (given : List Told) (conditions : Bool) (horizon : ℕ) → After d q self.now given → IsOpened self.now conditions horizon → result ≡ length ((axioms_of d q self.now.ask.after conditions horizon).clauses) }
+        ensures { (d : Description) (q : Query) (given : List Told) (conditions : Bool)
+            (horizon : ℕ) → After d q self.now given → IsOpened self.now conditions horizon →
+            result ≡ length ((axioms_of d q self.now.ask.after conditions horizon).clauses) }
     {
         match &self.phase {
             Phase::Searching { solver, .. } => solver.kernel().count(),
@@ -234,11 +258,16 @@ impl<'a> Session<'a> {
     // The search over the clauses of a section, at the horizon that is tried.
     fn solver(&self, part: Part) -> Result<Solver, Fault>
         requires { self.now.horizon ≤ last_at self.now.query self.now.ask.after }
-        ensures made { (d : Description) (q : Query) → IsSessionOf self.now d q → IfOk result (λ solver. Holds (axioms_at d q self.now.ask self.now.horizon part) [] solver) }
-        ensures rows { (d : Description) (q : Query) → IsSessionOf self.now d q → OnOk result (RowsAreHistories d q self.now.ask self.now.horizon part) }
-        ensures within { (d : Description) (q : Query) → IsSessionOf self.now d q → OnOk result (opening_refusal d q self.now.ask self.now.horizon (is_conditions part) ≡ None) }
-        ensures refused { (d : Description) (q : Query) → IsSessionOf self.now d q → IfErr result (IsRefusedBy (opening_refusal d q self.now.ask self.now.horizon (is_conditions part))) }
-        ensures good { (d : Description) (q : Query) → IsSessionOf self.now d q → OnOk result (AreGoodAxioms (axioms_at d q self.now.ask self.now.horizon part)) }
+        ensures made { (d : Description) (q : Query) → IsSessionOf self.now d q → IfOk result
+            (λ solver. Holds (axioms_at d q self.now.ask self.now.horizon part) [] solver) }
+        ensures rows { (d : Description) (q : Query) → IsSessionOf self.now d q →
+            OnOk result (RowsAreHistories d q self.now.ask self.now.horizon part) }
+        ensures within { (d : Description) (q : Query) → IsSessionOf self.now d q → OnOk result
+            (opening_refusal d q self.now.ask self.now.horizon (is_conditions part) ≡ None) }
+        ensures refused { (d : Description) (q : Query) → IsSessionOf self.now d q → IfErr result
+            (IsRefusedBy (opening_refusal d q self.now.ask self.now.horizon (is_conditions part))) }
+        ensures good { (d : Description) (q : Query) → IsSessionOf self.now d q →
+            OnOk result (AreGoodAxioms (axioms_at d q self.now.ask self.now.horizon part)) }
         ensures ready { IfOk result (λ solver. solver.standing ≡ Ready) }
         ensures few { IfOk result (λ solver. IsWithin self.now.ask solver 0) }
         ensures fresh { IfOk result (λ solver. derived_count solver.kernel.entries ≡ 0) }
@@ -256,7 +285,8 @@ impl<'a> Session<'a> {
 
     // What comes next.
     fn stand(&mut self, phase: Phase)
-        requires { IsReady self.old.ask self.old.horizon (last_at self.old.query self.old.ask.after) phase }
+        requires { IsReady self.old.ask self.old.horizon
+            (last_at self.old.query self.old.ask.after) phase }
         ensures { self.new ≡ record self.old { phase = phase } }
     {
         let before = mem::replace(&mut self.phase, phase);
@@ -276,8 +306,10 @@ impl<'a> Session<'a> {
     // The heading of the section of a part, with all that its search needs.
     fn open(&mut self, part: Part) -> Result<Event, Fault>
         requires { self.old.horizon ≤ last_at self.old.query self.old.ask.after }
-        ensures gives { (phase : PhaseSeen) → opens_at phase ≡ Some part → IfOk result (Gives (record self.old { phase = phase }) self.new) }
-        ensures fault { (phase : PhaseSeen) → opens_at phase ≡ Some part → IfErr result (IsRightFault (record self.old { phase = phase })) }
+        ensures gives { (phase : PhaseSeen) → opens_at phase ≡ Some part →
+            IfOk result (Gives (record self.old { phase = phase }) self.new) }
+        ensures fault { (phase : PhaseSeen) → opens_at phase ≡ Some part →
+            IfErr result (IsRightFault (record self.old { phase = phase })) }
     {
         search_laws();
         self.prepare()?;
@@ -294,8 +326,10 @@ impl<'a> Session<'a> {
     // The same where all is prepared.
     fn open_prepared(&mut self, part: Part) -> Result<Event, Fault>
         requires { self.old.horizon ≤ last_at self.old.query self.old.ask.after }
-        ensures gives { (phase : PhaseSeen) → opens_at phase ≡ Some part → IfOk result (Gives (record self.old { phase = phase }) self.new) }
-        ensures fault { (phase : PhaseSeen) → opens_at phase ≡ Some part → IfErr result (IsRightFault (record self.old { phase = phase })) }
+        ensures gives { (phase : PhaseSeen) → opens_at phase ≡ Some part →
+            IfOk result (Gives (record self.old { phase = phase }) self.new) }
+        ensures fault { (phase : PhaseSeen) → opens_at phase ≡ Some part →
+            IfErr result (IsRightFault (record self.old { phase = phase })) }
     {
         search_laws();
         let solver = self.solver(part)?;
@@ -310,8 +344,10 @@ impl<'a> Session<'a> {
     // The heading of the next horizon's first section, or the ending behind the last one.
     fn begin(&mut self, part: Part) -> Result<Event, Fault>
         requires { self.old.phase ≡ phases.Ended }
-        ensures gives { IfOk result (Gives (record self.old { phase = phases.Opening part }) self.new) }
-        ensures fault { IfErr result (IsRightFault (record self.old { phase = phases.Opening part })) }
+        ensures gives { IfOk result
+            (Gives (record self.old { phase = phases.Opening part }) self.new) }
+        ensures fault { IfErr result
+            (IsRightFault (record self.old { phase = phases.Opening part })) }
     {
         search_laws();
         if self.horizon > last_horizon(&self.query, &self.ask) {
@@ -323,10 +359,14 @@ impl<'a> Session<'a> {
 
     // A derived line.
     fn line(&mut self, part: Part, solver: Solver, listed: u32) -> Result<Event, Fault>
-        requires ready { IsReady self.old.ask self.old.horizon (last_at self.old.query self.old.ask.after) (phases.Searching part solver listed) }
+        requires ready { IsReady self.old.ask self.old.horizon
+            (last_at self.old.query self.old.ask.after) (phases.Searching part solver listed) }
         requires some { 0 < length solver.kernel.entries }
-        ensures event { (clause : List Literal) → IsNumbered (clauses_of solver.kernel) (length solver.kernel.entries) clause → IfOk result (λ event. event ≡ events.Log (lines.Derived clause solver.kernel.chain)) }
-        ensures stands { OnOk result (self.new ≡ record self.old { phase = phases.Searching part solver listed }) }
+        ensures event { (clause : List Literal) →
+            IsNumbered (clauses_of solver.kernel) (length solver.kernel.entries) clause →
+            IfOk result (λ event. event ≡ events.Log (lines.Derived clause solver.kernel.chain)) }
+        ensures stands { OnOk result
+            (self.new ≡ record self.old { phase = phases.Searching part solver listed }) }
         ensures fault { IfErr result (λ fault. fault ≡ faults.OutOfMemory) }
     {
         let event = derived(self.alloc, solver.kernel())?;
@@ -342,8 +382,11 @@ impl<'a> Session<'a> {
     fn empty_line(&mut self, part: Part, solver: Solver, listed: u32) -> Result<Event, Fault>
         requires low { self.old.horizon ≤ last_at self.old.query self.old.ask.after }
         requires some { 0 < length solver.kernel.entries }
-        ensures event { (clause : List Literal) → IsNumbered (clauses_of solver.kernel) (length solver.kernel.entries) clause → IfOk result (λ event. event ≡ events.Log (lines.Derived clause solver.kernel.chain)) }
-        ensures stands { OnOk result (self.new ≡ record self.old { phase = phases.Refuted part listed }) }
+        ensures event { (clause : List Literal) →
+            IsNumbered (clauses_of solver.kernel) (length solver.kernel.entries) clause →
+            IfOk result (λ event. event ≡ events.Log (lines.Derived clause solver.kernel.chain)) }
+        ensures stands { OnOk result
+            (self.new ≡ record self.old { phase = phases.Refuted part listed }) }
         ensures fault { IfErr result (λ fault. fault ≡ faults.OutOfMemory) }
     {
         let event = derived(self.alloc, solver.kernel())?;
@@ -356,8 +399,10 @@ impl<'a> Session<'a> {
         requires low { self.old.horizon ≤ last_at self.old.query self.old.ask.after }
         requires found { HasFound solver }
         requires within { IsWithin self.old.ask solver listed }
-        ensures event { IfOk result (λ event. event ≡ events.History self.old.horizon (listed + 1)) }
-        ensures stands { OnOk result (self.new ≡ record self.old { row = row.items; phase = phases.Denying solver (listed + 1) }) }
+        ensures event { IfOk result (λ event.
+            event ≡ events.History self.old.horizon (listed + 1)) }
+        ensures stands { OnOk result (self.new
+            ≡ record self.old { row = row.items; phase = phases.Denying solver (listed + 1) }) }
         ensures fault { IfErr result (λ fault. fault ≡ faults.Refused (past limits.Histories)) }
         ensures many { OnErr result (listed ≡ most_histories) }
         ensures few { OnOk result (listed + 1 ≤ most_histories) }
@@ -378,9 +423,12 @@ impl<'a> Session<'a> {
 
     // The line that denies the history that was told.
     fn block(&mut self, mut solver: Solver, listed: u32) -> Result<Event, Fault>
-        requires { IsReady self.old.ask self.old.horizon (last_at self.old.query self.old.ask.after) (phases.Denying solver listed) }
-        ensures event { (row : List ℕ) → solver.standing ≡ IsFound row → IfOk result (λ event. event ≡ events.Log (lines.Block row)) }
-        ensures stands { OnOk result ((blocked : SolverView) × IsBlocked solver blocked × (self.new ≡ record self.old { phase = phases.Searching parts.Histories blocked listed })) }
+        requires { IsReady self.old.ask self.old.horizon
+            (last_at self.old.query self.old.ask.after) (phases.Denying solver listed) }
+        ensures event { (row : List ℕ) → solver.standing ≡ IsFound row →
+            IfOk result (λ event. event ≡ events.Log (lines.Block row)) }
+        ensures stands { OnOk result ((blocked : SolverView) × IsBlocked solver blocked × (self.new
+            ≡ record self.old { phase = phases.Searching parts.Histories blocked listed })) }
         ensures fault { IfErr result (λ fault. fault ≡ faults.OutOfMemory) }
     {
         let row = Vec::from_slice(self.alloc, solver.row())?;
@@ -395,8 +443,10 @@ impl<'a> Session<'a> {
 
     // Behind a history: it is the last one that was asked for, or it is denied.
     fn deny(&mut self, solver: Solver, listed: u32) -> Result<Event, Fault>
-        requires { IsReady self.old.ask self.old.horizon (last_at self.old.query self.old.ask.after) (phases.Denying solver listed) }
-        ensures gives { IfOk result (Gives (record self.old { phase = phases.Denying solver listed }) self.new) }
+        requires { IsReady self.old.ask self.old.horizon
+            (last_at self.old.query self.old.ask.after) (phases.Denying solver listed) }
+        ensures gives { IfOk result
+            (Gives (record self.old { phase = phases.Denying solver listed }) self.new) }
         ensures fault { IfErr result (λ fault. fault ≡ faults.OutOfMemory) }
     {
         search_laws();
@@ -410,7 +460,8 @@ impl<'a> Session<'a> {
     // A path that meets the conditions, or that does not meet the claim either: the end line.
     fn path(&mut self, part: Part, row: Vec<u32>, listed: u32) -> Event
         requires { self.old.horizon ≤ last_at self.old.query self.old.ask.after }
-        ensures stands { self.new ≡ record self.old { row = row.items; phase = phases.Closed part words.Found listed } }
+        ensures stands { self.new
+            ≡ record self.old { row = row.items; phase = phases.Closed part words.Found listed } }
         ensures event { result ≡ events.Log (lines.End words.Found) }
     {
         self.row = row;
@@ -422,8 +473,12 @@ impl<'a> Session<'a> {
         requires low { self.old.horizon ≤ last_at self.old.query self.old.ask.after }
         requires found { HasFound solver }
         requires within { IsWithin self.old.ask solver listed }
-        ensures gives { (before : SolverView) → IsStep self.old.ask.budget before solver answers.Found → IfOk result (Gives (record self.old { phase = phases.Searching part before listed }) self.new) }
-        ensures fault { (before : SolverView) → IsStep self.old.ask.budget before solver answers.Found → IfErr result (IsRightFault (record self.old { phase = phases.Searching part before listed })) }
+        ensures gives { (before : SolverView) →
+            IsStep self.old.ask.budget before solver answers.Found → IfOk result
+            (Gives (record self.old { phase = phases.Searching part before listed }) self.new) }
+        ensures fault { (before : SolverView) →
+            IsStep self.old.ask.budget before solver answers.Found → IfErr result
+            (IsRightFault (record self.old { phase = phases.Searching part before listed })) }
     {
         search_laws();
         let row = Vec::from_slice(self.alloc, solver.row())?;
@@ -436,9 +491,12 @@ impl<'a> Session<'a> {
 
     // The next line of a section, or its next history.
     fn search(&mut self, part: Part, solver: Solver, listed: u32) -> Result<Event, Fault>
-        requires { IsReady self.old.ask self.old.horizon (last_at self.old.query self.old.ask.after) (phases.Searching part solver listed) }
-        ensures gives { IfOk result (Gives (record self.old { phase = phases.Searching part solver listed }) self.new) }
-        ensures fault { IfErr result (IsRightFault (record self.old { phase = phases.Searching part solver listed })) }
+        requires { IsReady self.old.ask self.old.horizon
+            (last_at self.old.query self.old.ask.after) (phases.Searching part solver listed) }
+        ensures gives { IfOk result
+            (Gives (record self.old { phase = phases.Searching part solver listed }) self.new) }
+        ensures fault { IfErr result
+            (IsRightFault (record self.old { phase = phases.Searching part solver listed })) }
     {
         search_laws();
         let _ = &self.alloc;
@@ -451,10 +509,13 @@ impl<'a> Session<'a> {
 
     // The same where no clause is empty.
     fn search_on(&mut self, part: Part, mut solver: Solver, listed: u32) -> Result<Event, Fault>
-        requires ready { IsReady self.old.ask self.old.horizon (last_at self.old.query self.old.ask.after) (phases.Searching part solver listed) }
+        requires ready { IsReady self.old.ask self.old.horizon
+            (last_at self.old.query self.old.ask.after) (phases.Searching part solver listed) }
         requires none { HasNoEmpty (clauses_of solver.kernel) }
-        ensures gives { IfOk result (Gives (record self.old { phase = phases.Searching part solver listed }) self.new) }
-        ensures fault { IfErr result (IsRightFault (record self.old { phase = phases.Searching part solver listed })) }
+        ensures gives { IfOk result
+            (Gives (record self.old { phase = phases.Searching part solver listed }) self.new) }
+        ensures fault { IfErr result
+            (IsRightFault (record self.old { phase = phases.Searching part solver listed })) }
     {
         search_laws();
         let budget = budget_of(&self.ask);
@@ -469,7 +530,11 @@ impl<'a> Session<'a> {
     // The next horizon, whose first section is of this part.
     fn pass(&mut self, part: Part, met: bool)
         requires { self.old.horizon ≤ last_at self.old.query self.old.ask.after }
-        ensures { self.new ≡ record self.old { horizon = self.old.horizon + 1; met = met; phase = phases.Opening part } }
+        ensures { self.new ≡ record self.old {
+          horizon = self.old.horizon + 1;
+          met = met;
+          phase = phases.Opening part;
+        } }
     {
         self.stand(Phase::Opening { part });
         self.horizon += 1;
@@ -480,7 +545,8 @@ impl<'a> Session<'a> {
     fn complete(&mut self, listed: u32) -> Event
         requires low { self.old.horizon ≤ last_at self.old.query self.old.ask.after }
         requires over { self.old.phase ≡ phases.Ended }
-        ensures { Gives (record self.old { phase = phases.Closed parts.Histories words.Empty listed }) self.new result }
+        ensures { Gives (record
+            self.old { phase = phases.Closed parts.Histories words.Empty listed }) self.new result }
     {
         search_laws();
         let horizon = self.horizon;
@@ -497,7 +563,8 @@ impl<'a> Session<'a> {
     fn exhaust(&mut self, part: Part, listed: u32) -> Event
         requires low { self.old.horizon ≤ last_at self.old.query self.old.ask.after }
         requires over { self.old.phase ≡ phases.Ended }
-        ensures { Gives (record self.old { phase = phases.Closed part words.Empty listed }) self.new result }
+        ensures { Gives
+            (record self.old { phase = phases.Closed part words.Empty listed }) self.new result }
     {
         search_laws();
         let horizon = self.horizon;
@@ -519,8 +586,10 @@ impl<'a> Session<'a> {
     fn stop(&mut self, part: Part, listed: u32) -> Result<Event, Fault>
         requires low { self.old.horizon ≤ last_at self.old.query self.old.ask.after }
         requires over { self.old.phase ≡ phases.Ended }
-        ensures gives { IfOk result (Gives (record self.old { phase = phases.Closed part words.Found listed }) self.new) }
-        ensures fault { IfErr result (IsRightFault (record self.old { phase = phases.Closed part words.Found listed })) }
+        ensures gives { IfOk result
+            (Gives (record self.old { phase = phases.Closed part words.Found listed }) self.new) }
+        ensures fault { IfErr result
+            (IsRightFault (record self.old { phase = phases.Closed part words.Found listed })) }
     {
         search_laws();
         let horizon = self.horizon;
@@ -538,8 +607,10 @@ impl<'a> Session<'a> {
     fn conclude(&mut self, part: Part, word: EndWord, listed: u32) -> Result<Event, Fault>
         requires low { self.old.horizon ≤ last_at self.old.query self.old.ask.after }
         requires over { self.old.phase ≡ phases.Ended }
-        ensures gives { IfOk result (Gives (record self.old { phase = phases.Closed part word listed }) self.new) }
-        ensures fault { IfErr result (IsRightFault (record self.old { phase = phases.Closed part word listed })) }
+        ensures gives { IfOk result
+            (Gives (record self.old { phase = phases.Closed part word listed }) self.new) }
+        ensures fault { IfErr result
+            (IsRightFault (record self.old { phase = phases.Closed part word listed })) }
     {
         search_laws();
         let horizon = self.horizon;
@@ -554,7 +625,8 @@ impl<'a> Session<'a> {
     fn take(&mut self) -> Phase
         ensures taken { result ≡ self.old.phase }
         ensures left { self.new ≡ record self.old { phase = phases.Ended } }
-        ensures ready { IsReady self.old.ask self.old.horizon (last_at self.old.query self.old.ask.after) result }
+        ensures ready { IsReady self.old.ask self.old.horizon
+            (last_at self.old.query self.old.ask.after) result }
     {
         mem::replace(&mut self.phase, Phase::Ended)
     }
@@ -587,11 +659,14 @@ impl<'a> Session<'a> {
     /// 100,000,000 that may be told at a horizon (14, histories). After an error, as after the ending, nothing more is told.
     pub fn next(&mut self) -> Result<Event, Fault>
         requires { HasMore self.old }
-        ensures event { (d : Description) (q : Query) (given : List Told) → IsSessionOf self.old d q → After d q self.old given → IfOk result (λ event. After d q self.new (given ++ with_row event self.new.row ∷ []) × IsSessionOf self.new d q) }
+        ensures event { (d : Description) (q : Query) (given : List Told) →
+            IsSessionOf self.old d q → After d q self.old given → IfOk result (λ event. After
+            d q self.new (given ++ with_row event self.new.row ∷ []) × IsSessionOf self.new d q) }
         ensures refused { IfErr result (IsRightFault self.old) }
         ensures opened { IfOk result (OpensWithin self.old) }
         ensures same { OnOk result (IsSame self.old self.new) }
-        ensures more { IfOk result (λ event. ((ending : EndingSeen) → event ≢ events.Ended ending) → HasMore self.new) }
+        ensures more { IfOk result (λ event. ((ending : EndingSeen) → event ≢ events.Ended ending) →
+            HasMore self.new) }
         ensures less { OnOk result (left_of self.new < left_of self.old) }
         ensures short { IfOk result IsShortEvent }
         ensures good { IfOk result (OpensGood self.old) }

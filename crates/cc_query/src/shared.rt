@@ -14,7 +14,9 @@ use std::alloc::Global;
 /// The line of the clause that was derived last.
 pub(crate) fn derived_line(alloc: Global, kernel: &Kernel) -> Result<LogLine, OutOfMemory>
     requires { 0 < length kernel.now.entries }
-    ensures { (clause : List Literal) → IsNumbered (clauses_of kernel.now) (length kernel.now.entries) clause → IfOk result (λ line. line ≡ lines.Derived clause kernel.now.chain) }
+    ensures { (clause : List Literal) →
+        IsNumbered (clauses_of kernel.now) (length kernel.now.entries) clause →
+        IfOk result (λ line. line ≡ lines.Derived clause kernel.now.chain) }
 {
     let clause = Vec::from_slice(alloc, kernel.clause(kernel.count()))?;
     let chain = Vec::from_slice(alloc, kernel.chain())?;

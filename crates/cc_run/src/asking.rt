@@ -50,7 +50,8 @@ fn has_label(query: &Query, label: &str) -> bool
 
 /// The first query with the label.
 fn labelled<'q>(queries: &'q [Query], label: &str) -> Option<&'q Query>
-    ensures { option_map (λ query. plain_query query.now) result ≡ find (tasks.has_label label.now) (map plain_query queries.now) }
+    ensures { option_map (λ query. plain_query query.now) result
+        ≡ find (tasks.has_label label.now) (map plain_query queries.now) }
 {
     for query in queries {
         if has_label(query, label) {
@@ -62,7 +63,8 @@ fn labelled<'q>(queries: &'q [Query], label: &str) -> Option<&'q Query>
 
 /// The first query with the label; without a label, the first one.
 pub(crate) fn query_named<'q>(queries: &'q [Query], label: Option<&str>) -> Option<&'q Query>
-    ensures { option_map (λ query. plain_query query.now) result ≡ tasks.query_named (plain_text label.entry) (map plain_query queries.now) }
+    ensures { option_map (λ query. plain_query query.now) result
+        ≡ tasks.query_named (plain_text label.entry) (map plain_query queries.now) }
 {
     match label {
         Some(label) => labelled(queries, label),
@@ -72,9 +74,13 @@ pub(crate) fn query_named<'q>(queries: &'q [Query], label: Option<&str>) -> Opti
 
 /// The query that is named. Refuses an absent query (15), a step that does not fit (16), and a horizon that is too great (14).
 fn query_found<'q>(described: &'q Described, label: Option<&str>) -> Result<&'q Query, Fault>
-    ensures named { IfOk result (λ query. tasks.query_named (plain_text label.entry) (map plain_query described.now.queries) ≡ Some (plain_query query.now)) }
-    ensures steps { IfOk result (λ query. steps_refusal (vocabulary_of described.now.table).symbols (plain_query query.now) ≡ None) }
-    ensures refused { IfErr result (IsRefusedBy (found_refusal (vocabulary_of described.now.table).symbols (tasks.query_named (plain_text label.entry) (map plain_query described.now.queries)))) }
+    ensures named { IfOk result (λ query. tasks.query_named (plain_text label.entry)
+        (map plain_query described.now.queries) ≡ Some (plain_query query.now)) }
+    ensures steps { IfOk result (λ query.
+        steps_refusal (vocabulary_of described.now.table).symbols (plain_query query.now) ≡ None) }
+    ensures refused { IfErr result
+        (IsRefusedBy (found_refusal (vocabulary_of described.now.table).symbols
+        (tasks.query_named (plain_text label.entry) (map plain_query described.now.queries)))) }
 {
     let Some(query) = query_named(described.queries.items(), label) else {
         return Err(Fault::Refused(Refusal::at(15, 0, 0)));
@@ -95,11 +101,14 @@ fn query_asked<'a>(
     requires signature { IsSignatureFor described.now.table described.now.sig }
     requires formulas { AsksFormulas described.now }
     ensures range { IfOk result (λ made. (made.lo ≤ made.hi) × (made.hi ≤ most_steps)) }
-    ensures steps { IfOk result (λ made. (horizon : ℕ) → made.lo ≤ horizon → horizon ≤ made.hi → IsQueryAt described.now.sig horizon (plain_ground_query made)) }
-    ensures named { (d : Description) → IsDescriptionOf described.now d → IfOk result (λ made.
-        IsAskedAs d (map plain_query described.now.queries) (plain_text label.entry) (plain_ground_query made)) }
-    ensures refused { (d : Description) → IsDescriptionOf described.now d →
-        IfErr result (IsRefusedBy (tasks.query_refusal d (tasks.query_named (plain_text label.entry) (map plain_query described.now.queries)))) }
+    ensures steps { IfOk result (λ made. (horizon : ℕ) → made.lo ≤ horizon →
+        horizon ≤ made.hi → IsQueryAt described.now.sig horizon (plain_ground_query made)) }
+    ensures named { (d : Description) → IsDescriptionOf described.now d →
+        IfOk result (λ made. IsAskedAs d (map plain_query described.now.queries)
+        (plain_text label.entry) (plain_ground_query made)) }
+    ensures refused { (d : Description) →
+        IsDescriptionOf described.now d → IfErr result (IsRefusedBy (tasks.query_refusal d
+        (tasks.query_named (plain_text label.entry) (map plain_query described.now.queries)))) }
 {
     let query = query_found(described, label)?;
     query_of(alloc, described, query, terms)
@@ -108,8 +117,12 @@ fn query_asked<'a>(
 /// A key, where it is one of a query; refuses another (18).
 fn fitting(sig: &Sig, query: &GroundQuery<'_>, key: Key) -> Result<Key, Fault>
     ensures fits { IfOk result (Fits sig.now (plain_ground_query query.now)) }
-    ensures is { (text : Text) (d : Description) (q : QueryAsked) → IsKeyText text key → IsSignatureOfDescription d sig.now → StandsForQuery (plain_ground_query query.now) d q → IfOk result (tasks.IsKeyOf d q text) }
-    ensures refused { (text : Text) (d : Description) (q : QueryAsked) → IsKeyText text key → IsSignatureOfDescription d sig.now → StandsForQuery (plain_ground_query query.now) d q → IfErr result (IsKeyFault d q (Some text)) }
+    ensures is { (text : Text) (d : Description) (q : QueryAsked) →
+        IsKeyText text key → IsSignatureOfDescription d sig.now →
+        StandsForQuery (plain_ground_query query.now) d q → IfOk result (tasks.IsKeyOf d q text) }
+    ensures refused { (text : Text) (d : Description) (q : QueryAsked) → IsKeyText text key →
+        IsSignatureOfDescription d sig.now → StandsForQuery (plain_ground_query query.now) d q →
+        IfErr result (IsKeyFault d q (Some text)) }
 {
     one_key();
     if fits(sig, query, &key) {
@@ -121,8 +134,12 @@ fn fitting(sig: &Sig, query: &GroundQuery<'_>, key: Key) -> Result<Key, Fault>
 /// The key of a query that a text is; refuses another text (18).
 fn key_of(alloc: Global, sig: &Sig, query: &GroundQuery<'_>, text: &str) -> Result<Key, Fault>
     ensures fits { IfOk result (Fits sig.now (plain_ground_query query.now)) }
-    ensures is { (d : Description) (q : QueryAsked) → IsSignatureOfDescription d sig.now → StandsForQuery (plain_ground_query query.now) d q → IfOk result (tasks.IsKeyOf d q text.now) }
-    ensures refused { (d : Description) (q : QueryAsked) → IsSignatureOfDescription d sig.now → StandsForQuery (plain_ground_query query.now) d q → IfErr result (IsKeyFault d q (Some text.now)) }
+    ensures is { (d : Description) (q : QueryAsked) →
+        IsSignatureOfDescription d sig.now → StandsForQuery (plain_ground_query query.now) d q →
+        IfOk result (tasks.IsKeyOf d q text.now) }
+    ensures refused { (d : Description) (q : QueryAsked) →
+        IsSignatureOfDescription d sig.now → StandsForQuery (plain_ground_query query.now) d q →
+        IfErr result (IsKeyFault d q (Some text.now)) }
 {
     match read_key(alloc, text)? {
         Some(key) => fitting(sig, query, key),
@@ -138,8 +155,12 @@ fn key_named(
     after: Option<&str>,
 ) -> Result<Option<Key>, Fault>
     ensures fits { IfOk result (λ key. IfSome key (Fits sig.now (plain_ground_query query.now))) }
-    ensures is { (d : Description) (q : QueryAsked) → IsSignatureOfDescription d sig.now → StandsForQuery (plain_ground_query query.now) d q → IfOk result (tasks.IsKeyNamed d q (plain_text after.entry)) }
-    ensures refused { (d : Description) (q : QueryAsked) → IsSignatureOfDescription d sig.now → StandsForQuery (plain_ground_query query.now) d q → IfErr result (IsKeyFault d q (plain_text after.entry)) }
+    ensures is { (d : Description) (q : QueryAsked) →
+        IsSignatureOfDescription d sig.now → StandsForQuery (plain_ground_query query.now) d q →
+        IfOk result (tasks.IsKeyNamed d q (plain_text after.entry)) }
+    ensures refused { (d : Description) (q : QueryAsked) →
+        IsSignatureOfDescription d sig.now → StandsForQuery (plain_ground_query query.now) d q →
+        IfErr result (IsKeyFault d q (plain_text after.entry)) }
 {
     match after {
         Some(text) => Ok(Some(key_of(alloc, sig, query, text)?)),
@@ -160,12 +181,15 @@ pub(crate) fn prepare<'a>(
     requires signature { IsSignatureFor described.now.table described.now.sig }
     requires forms { HasForms described.now }
     requires formulas { AsksFormulas described.now }
-    ensures searchable { IfOk result (λ made. AreSearchable described.now.sig made.laws (plain_ground_query made.query) made.key) }
-    ensures named { (d : Description) → IsDescriptionOf described.now d → IfOk result (λ made.
-        (q : QueryAsked) × AreOf described.now.sig made.laws (plain_ground_query made.query) d q
-        × AreNamed d (map plain_query described.now.queries) (plain_text label.entry) (plain_text after.entry) q made.key) }
-    ensures refused { (d : Description) → IsDescriptionOf described.now d →
-        IfErr result (IsFaultNamed d (map plain_query described.now.queries) (plain_text label.entry) (plain_text after.entry)) }
+    ensures searchable { IfOk result (λ made.
+        AreSearchable described.now.sig made.laws (plain_ground_query made.query) made.key) }
+    ensures named { (d : Description) → IsDescriptionOf described.now d →
+        IfOk result (λ made. (q : QueryAsked) × AreOf described.now.sig made.laws
+        (plain_ground_query made.query) d q × AreNamed d (map plain_query described.now.queries)
+        (plain_text label.entry) (plain_text after.entry) q made.key) }
+    ensures refused { (d : Description) →
+        IsDescriptionOf described.now d → IfErr result (IsFaultNamed d
+        (map plain_query described.now.queries) (plain_text label.entry) (plain_text after.entry)) }
 {
     let laws = laws_of(alloc, described, terms)?;
     let query = query_asked(alloc, described, label, terms)?;

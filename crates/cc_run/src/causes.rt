@@ -51,7 +51,8 @@ fn place_text(alloc: Global, names: &[Name], file: u32, line: u32) -> Result<Str
 
 /// The place of a law; an empty text where there is none.
 fn law_text(alloc: Global, names: &[Name], law: Option<&BaseLaw>) -> Result<String, OutOfMemory>
-    ensures { IfOk result (λ text. string_bytes text ≡ texts.law_text names.now (option_map (λ law. plain_base_law law.now) law.entry)) }
+    ensures { IfOk result (λ text. string_bytes text
+        ≡ texts.law_text names.now (option_map (λ law. plain_base_law law.now) law.entry)) }
 {
     match law {
         Some(BaseLaw::One(law)) => place_text(alloc, names, law.file, law.line),
@@ -62,7 +63,8 @@ fn law_text(alloc: Global, names: &[Name], law: Option<&BaseLaw>) -> Result<Stri
 
 /// The words of a cause.
 fn cause_text(alloc: Global, described: &Described, cause: Cause) -> Result<String, OutOfMemory>
-    ensures { IfOk result (λ text. string_bytes text ≡ texts.cause_text described.now.files (map plain_base_law described.now.laws) (Some cause)) }
+    ensures { IfOk result (λ text. string_bytes text ≡ texts.cause_text described.now.files
+        (map plain_base_law described.now.laws) (Some cause)) }
 {
     match cause {
         Cause::OneValue => Ok(String::from_str(alloc, "one value")?),
@@ -85,8 +87,8 @@ fn cause_line(
 ) -> Result<String, OutOfMemory>
     requires signature { IsSignatureFor described.now.table described.now.sig }
     requires atom { IsAtomOf described.now.sig position value }
-    ensures { (d : Description) → IsDescriptionOf described.now d →
-        IfOk result (λ line. string_bytes line ≡ lines.cause_line d described.now.files position value (Some cause)) }
+    ensures { (d : Description) → IsDescriptionOf described.now d → IfOk result (λ line.
+        string_bytes line ≡ lines.cause_line d described.now.files position value (Some cause)) }
 {
     let atom = atom_text(alloc, &described.table, &described.sig, position, value)?;
     let cause = cause_text(alloc, described, cause)?;
@@ -108,8 +110,10 @@ fn tell_cause<D: Desk>(
 ) -> Result<(), Stop>
     requires signature { IsSignatureFor described.now.table described.now.sig }
     requires atom { IsAtomOf described.now.sig position value }
-    ensures { (d : Description) → IsDescriptionOf described.now d →
-        Step (given_to outputs.Out (lines.cause_line d described.now.files position value (Some cause))) (moment D.told D.begun D.read_faults D.write_faults D.calls desk.old) (moment D.told D.begun D.read_faults D.write_faults D.calls desk.new) result }
+    ensures { (d : Description) → IsDescriptionOf described.now d → Step
+        (given_to outputs.Out (lines.cause_line d described.now.files position value (Some cause)))
+        (moment D.told D.begun D.read_faults D.write_faults D.calls desk.old)
+        (moment D.told D.begun D.read_faults D.write_faults D.calls desk.new) result }
 {
     let line = cause_line(alloc, described, position, value, cause)?;
     give(desk, To::Out, line.as_bytes())
@@ -124,11 +128,14 @@ pub(crate) fn tell_causes<D: Desk>(
     causes: &[Cause],
 ) -> Result<(), Stop>
     requires signature { IsSignatureFor described.now.table described.now.sig }
-    requires atoms { (position : ℕ) → position < length row.now → IsAtomOf described.now.sig position (slice_index row.now position) }
+    requires atoms { (position : ℕ) → position < length row.now →
+        IsAtomOf described.now.sig position (slice_index row.now position) }
     requires each { length causes.now ≡ length row.now }
     ensures { (d : Description) (horizon : ℕ) → IsDescriptionOf described.now d →
         map (λ cause. Some cause) causes.now ≡ causes_at d horizon row.now →
-        Step (given_to outputs.Out (why_text d described.now.files horizon row.now)) (moment D.told D.begun D.read_faults D.write_faults D.calls desk.old) (moment D.told D.begun D.read_faults D.write_faults D.calls desk.new) result }
+        Step (given_to outputs.Out (why_text d described.now.files horizon row.now))
+        (moment D.told D.begun D.read_faults D.write_faults D.calls desk.old)
+        (moment D.told D.begun D.read_faults D.write_faults D.calls desk.new) result }
 {
     for position in 0..row.len() {
         let value = row[position];

@@ -33,7 +33,8 @@ use std::alloc::Global;
 
 /// The line before an example.
 fn example_line(alloc: Global, horizon: u32, number: u32) -> Result<String, OutOfMemory>
-    ensures { IfOk result (λ line. string_bytes line ≡ of_horizon horizon (codes "example " ++ decimal number)) }
+    ensures { IfOk result (λ line.
+        string_bytes line ≡ of_horizon horizon (codes "example " ++ decimal number)) }
 {
     let line = format!(in alloc; "horizon {horizon}: example {number}\n")?;
     Ok(line)
@@ -49,10 +50,12 @@ fn tell_example<D: Desk>(
     row: &[u32],
 ) -> Result<(), Stop>
     requires signature { IsSignatureFor described.now.table described.now.sig }
-    requires row { (d : Description) → IsSignatureOfDescription d described.now.sig → IsRow (sizes_at d horizon) row.now }
-    ensures { (d : Description) → IsDescriptionOf described.now d →
-        Step (given_to outputs.Out (of_horizon horizon (codes "example " ++ decimal number) ++ (history_text d horizon row.now ++ key_line horizon row.now)))
-        (moment D.told D.begun D.read_faults D.write_faults D.calls desk.old) (moment D.told D.begun D.read_faults D.write_faults D.calls desk.new) result }
+    requires row { (d : Description) →
+        IsSignatureOfDescription d described.now.sig → IsRow (sizes_at d horizon) row.now }
+    ensures { (d : Description) → IsDescriptionOf described.now d → Step (given_to outputs.Out
+        (of_horizon horizon (codes "example " ++ decimal number) ++ (history_text d horizon row.now
+        ++ key_line horizon row.now))) (moment D.told D.begun D.read_faults D.write_faults D.calls
+        desk.old) (moment D.told D.begun D.read_faults D.write_faults D.calls desk.new) result }
 {
     let line = example_line(alloc, horizon, number)?;
     give(desk, To::Out, line.as_bytes())?;
@@ -69,7 +72,8 @@ fn push_words(text: &mut String, words: &str) -> Result<(), OutOfMemory>
 
 /// Writes that an atom is possible, as this example shows.
 fn push_possible(text: &mut String, example: u32) -> Result<(), OutOfMemory>
-    ensures { OnOk result (string_bytes text.new ≡ string_bytes text.old ++ (codes " possible, example " ++ decimal example)) }
+    ensures { OnOk result (string_bytes text.new
+        ≡ string_bytes text.old ++ (codes " possible, example " ++ decimal example)) }
 {
     text.push_str(" possible, example ")?;
     push_number(text, example)
@@ -96,8 +100,8 @@ fn answer_line(
 ) -> Result<String, OutOfMemory>
     requires signature { IsSignatureFor described.now.table described.now.sig }
     requires atom { IsAtomOf described.now.sig position value }
-    ensures { (d : Description) → IsDescriptionOf described.now d →
-        IfOk result (λ line. string_bytes line ≡ atoms.atom_text d position value ++ answer_words answer ++ 10 ∷ []) }
+    ensures { (d : Description) → IsDescriptionOf described.now d → IfOk result (λ line.
+        string_bytes line ≡ atoms.atom_text d position value ++ answer_words answer ++ 10 ∷ []) }
 {
     let atom = atom_text(alloc, &described.table, &described.sig, position, value)?;
     let mut line = String::from_str(alloc, atom.text())?;
@@ -117,9 +121,10 @@ fn tell_answer<D: Desk>(
 ) -> Result<(), Stop>
     requires signature { IsSignatureFor described.now.table described.now.sig }
     requires atom { IsAtomOf described.now.sig position value }
-    ensures { (d : Description) → IsDescriptionOf described.now d →
-        Step (given_to outputs.Out (atoms.atom_text d position value ++ answer_words answer ++ 10 ∷ []))
-        (moment D.told D.begun D.read_faults D.write_faults D.calls desk.old) (moment D.told D.begun D.read_faults D.write_faults D.calls desk.new) result }
+    ensures { (d : Description) → IsDescriptionOf described.now d → Step
+        (given_to outputs.Out (atoms.atom_text d position value ++ answer_words answer ++ 10 ∷ []))
+        (moment D.told D.begun D.read_faults D.write_faults D.calls desk.old)
+        (moment D.told D.begun D.read_faults D.write_faults D.calls desk.new) result }
 {
     let line = answer_line(alloc, described, position, value, answer)?;
     give(desk, To::Out, line.as_bytes())
@@ -135,10 +140,12 @@ fn tell_answers<D: Desk>(
 ) -> Result<(), Stop>
     requires signature { IsSignatureFor described.now.table described.now.sig }
     requires few { length answers.now ≤ most_variables }
-    requires atoms { (value : ℕ) → value < length answers.now → IsAtomOf described.now.sig position value }
+    requires atoms { (value : ℕ) →
+        value < length answers.now → IsAtomOf described.now.sig position value }
     ensures { (d : Description) → IsDescriptionOf described.now d →
         Step (given_to outputs.Out (answer_lines d position 0 answers.now))
-        (moment D.told D.begun D.read_faults D.write_faults D.calls desk.old) (moment D.told D.begun D.read_faults D.write_faults D.calls desk.new) result }
+        (moment D.told D.begun D.read_faults D.write_faults D.calls desk.old)
+        (moment D.told D.begun D.read_faults D.write_faults D.calls desk.new) result }
 {
     for value in 0..answers.len() {
         tell_answer(
@@ -190,7 +197,9 @@ fn tell_heading<D: Desk>(
     horizon: u32,
     atom: Option<(u64, u32)>,
 ) -> Result<(), Stop>
-    ensures { Step (given_to outputs.Log (heading_of horizon atom)) (moment D.told D.begun D.read_faults D.write_faults D.calls desk.old) (moment D.told D.begun D.read_faults D.write_faults D.calls desk.new) result }
+    ensures { Step (given_to outputs.Log (heading_of horizon atom))
+        (moment D.told D.begun D.read_faults D.write_faults D.calls desk.old)
+        (moment D.told D.begun D.read_faults D.write_faults D.calls desk.new) result }
 {
     let text = heading_text(alloc, horizon, atom)?;
     give(desk, To::Log, text.as_bytes())
@@ -199,7 +208,9 @@ fn tell_heading<D: Desk>(
 /// Gives lines to Log.
 fn tell_lines<D: Desk>(alloc: Global, desk: &mut D, lines: &[LogLine]) -> Result<(), Stop>
     requires formed { AllByRecursion IsFormed lines.now }
-    ensures { Step (given_to outputs.Log (flat_map line_text lines.now)) (moment D.told D.begun D.read_faults D.write_faults D.calls desk.old) (moment D.told D.begun D.read_faults D.write_faults D.calls desk.new) result }
+    ensures { Step (given_to outputs.Log (flat_map line_text lines.now))
+        (moment D.told D.begun D.read_faults D.write_faults D.calls desk.old)
+        (moment D.told D.begun D.read_faults D.write_faults D.calls desk.new) result }
 {
     for i in 0..lines.len() {
         tell_line(alloc, desk, &lines[i])?;
@@ -216,7 +227,9 @@ fn tell_section<D: Desk>(
     lines: &[LogLine],
 ) -> Result<(), Stop>
     requires formed { AllByRecursion IsFormed lines.now }
-    ensures { Step (given_to outputs.Log (heading_of horizon atom ++ flat_map line_text lines.now)) (moment D.told D.begun D.read_faults D.write_faults D.calls desk.old) (moment D.told D.begun D.read_faults D.write_faults D.calls desk.new) result }
+    ensures { Step (given_to outputs.Log (heading_of horizon atom ++ flat_map line_text lines.now))
+        (moment D.told D.begun D.read_faults D.write_faults D.calls desk.old)
+        (moment D.told D.begun D.read_faults D.write_faults D.calls desk.new) result }
 {
     tell_heading(alloc, desk, horizon, atom)?;
     tell_lines(alloc, desk, lines)
@@ -231,8 +244,13 @@ fn tell_spent<D: Desk>(
     lines: &[LogLine],
 ) -> Result<(), Stop>
     requires formed { AllByRecursion IsFormed lines.now }
-    ensures { Step (record { out = codes "budget spent" ++ 10 ∷ []; err = []; log = heading_of horizon atom ++ flat_map line_text lines.now })
-        (moment D.told D.begun D.read_faults D.write_faults D.calls desk.old) (moment D.told D.begun D.read_faults D.write_faults D.calls desk.new) result }
+    ensures { Step (record {
+      out = codes "budget spent" ++ 10 ∷ [];
+      err = [];
+      log = heading_of horizon atom ++ flat_map line_text lines.now;
+    })
+        (moment D.told D.begun D.read_faults D.write_faults D.calls desk.old)
+        (moment D.told D.begun D.read_faults D.write_faults D.calls desk.new) result }
 {
     tell_section(alloc, desk, horizon, atom, lines)?;
     give(desk, To::Out, b"budget spent\n")
@@ -240,7 +258,9 @@ fn tell_spent<D: Desk>(
 
 /// Gives the line of a horizon without a history to Out.
 fn tell_none<D: Desk>(alloc: Global, desk: &mut D, horizon: u32) -> Result<(), Stop>
-    ensures { Step (given_to outputs.Out (of_horizon horizon (codes "no history"))) (moment D.told D.begun D.read_faults D.write_faults D.calls desk.old) (moment D.told D.begun D.read_faults D.write_faults D.calls desk.new) result }
+    ensures { Step (given_to outputs.Out (of_horizon horizon (codes "no history")))
+        (moment D.told D.begun D.read_faults D.write_faults D.calls desk.old)
+        (moment D.told D.begun D.read_faults D.write_faults D.calls desk.new) result }
 {
     tell_event(alloc, desk, &Event::NoHistory { horizon })
 }
@@ -255,8 +275,9 @@ fn tell<D: Desk>(
 ) -> Result<(), Stop>
     requires signature { IsSignatureFor described.now.table described.now.sig }
     requires printable { IsPrintable described.now.sig horizon event.now }
-    ensures { (d : Description) → IsDescriptionOf described.now d →
-        Step (given_of d horizon event.now) (moment D.told D.begun D.read_faults D.write_faults D.calls desk.old) (moment D.told D.begun D.read_faults D.write_faults D.calls desk.new) result }
+    ensures { (d : Description) → IsDescriptionOf described.now d → Step
+        (given_of d horizon event.now) (moment D.told D.begun D.read_faults D.write_faults D.calls
+        desk.old) (moment D.told D.begun D.read_faults D.write_faults D.calls desk.new) result }
 {
     match event {
         SureEvent::NoHistory { horizon: empty } => tell_none(alloc, desk, *empty),
@@ -310,8 +331,9 @@ pub(crate) fn tell_sure<D: Desk>(
 ) -> Result<Option<Status>, Stop>
     requires signature { IsSignatureFor described.now.table described.now.sig }
     requires printable { IsPrintable described.now.sig horizon event.now }
-    ensures told { (d : Description) → IsDescriptionOf described.now d →
-        Step (given_of d horizon event.now) (moment D.told D.begun D.read_faults D.write_faults D.calls desk.old) (moment D.told D.begun D.read_faults D.write_faults D.calls desk.new) result }
+    ensures told { (d : Description) → IsDescriptionOf described.now d → Step
+        (given_of d horizon event.now) (moment D.told D.begun D.read_faults D.write_faults D.calls
+        desk.old) (moment D.told D.begun D.read_faults D.write_faults D.calls desk.new) result }
     ensures status { IfOk result (λ status. status ≡ sures.status_behind event.now) }
 {
     tell(alloc, desk, described, horizon, event)?;

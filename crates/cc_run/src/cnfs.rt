@@ -46,14 +46,21 @@ fn form_of(alloc: Global, bytes: &[u8]) -> Result<Form, Fault>
 /// Reads the CNF of a file. Refuses more than 1,048,576 bytes (14, at line 1), a text that is none (19, at its line), and what
 /// passes a limit (14, without a place).
 pub(crate) fn read_form<D: Desk>(alloc: Global, desk: &mut D, file: &str) -> Result<Form, CnfStop>
-    ensures form { IfOk result (λ form. (cnf : PlainCnf) × IsFormOf cnf form × IfSome (D.told desk.old) (λ c. IsCnfIn c.files file.now cnf)) }
-    ensures refused { IfErr result (λ stop. (refusal : RefusalSeen) → stop ≡ CnfStop.Refused refusal →
-        IfSome (D.told desk.old) (λ c. RefusesCnf c.files file.now refusal (refusals.file_named (file.now ∷ []) refusal))) }
-    ensures failed { IsErrOf result CnfStop.ReadFault → Rose (D.read_faults desk.old) (D.read_faults desk.new) }
-    ensures after { (rest : List ℕ) × (D.told desk.new ≡ option_map (with_rest rest) (D.told desk.old)) }
+    ensures form { IfOk result (λ form. (cnf : PlainCnf)
+        × IsFormOf cnf form × IfSome (D.told desk.old) (λ c. IsCnfIn c.files file.now cnf)) }
+    ensures refused { IfErr result (λ stop. (refusal : RefusalSeen) →
+        stop ≡ CnfStop.Refused refusal → IfSome (D.told desk.old) (λ c.
+        RefusesCnf c.files file.now refusal (refusals.file_named (file.now ∷ []) refusal))) }
+    ensures failed { IsErrOf result CnfStop.ReadFault →
+        Rose (D.read_faults desk.old) (D.read_faults desk.new) }
+    ensures after { (rest : List ℕ)
+        × (D.told desk.new ≡ option_map (with_rest rest) (D.told desk.old)) }
     ensures begun { D.begun desk.new ≡ D.begun desk.old }
-    ensures called { Called (file.now ∷ []) [] (moment D.told D.begun D.read_faults D.write_faults D.calls desk.old) (moment D.told D.begun D.read_faults D.write_faults D.calls desk.new) }
-    ensures calm { (IsErrOf result CnfStop.ReadFault → ⊥) → IsCalm (moment D.told D.begun D.read_faults D.write_faults D.calls desk.old) (moment D.told D.begun D.read_faults D.write_faults D.calls desk.new) }
+    ensures called { Called (file.now ∷ []) [] (moment D.told D.begun D.read_faults D.write_faults
+        D.calls desk.old) (moment D.told D.begun D.read_faults D.write_faults D.calls desk.new) }
+    ensures calm { (IsErrOf result CnfStop.ReadFault → ⊥) →
+        IsCalm (moment D.told D.begun D.read_faults D.write_faults D.calls desk.old)
+        (moment D.told D.begun D.read_faults D.write_faults D.calls desk.new) }
     ensures reads_count { D.read_faults desk.old ≤ D.read_faults desk.new }
     ensures writes_count { D.write_faults desk.old ≤ D.write_faults desk.new }
 {

@@ -38,8 +38,10 @@ pub(crate) struct LookedAt<'a> {
 /// A key, where it is that of a row; refuses another (18).
 fn fitting(sig: &Sig, key: Key) -> Result<Key, Fault>
     ensures most { IfOk result (λ key. key.horizon ≤ most_steps) }
-    ensures named { (text : Text) (d : Description) → IsKeyText text key → IsSignatureOfDescription d sig.now → IfOk result (IsRowNamed d text) }
-    ensures refused { (text : Text) (d : Description) → IsKeyText text key → IsSignatureOfDescription d sig.now → IfErr result (IsRowFault d text) }
+    ensures named { (text : Text) (d : Description) →
+        IsKeyText text key → IsSignatureOfDescription d sig.now → IfOk result (IsRowNamed d text) }
+    ensures refused { (text : Text) (d : Description) →
+        IsKeyText text key → IsSignatureOfDescription d sig.now → IfErr result (IsRowFault d text) }
 {
     one_key();
     if key.horizon > LimitAt::Horizon.number() {
@@ -54,8 +56,10 @@ fn fitting(sig: &Sig, key: Key) -> Result<Key, Fault>
 /// The key of a row that a text is; refuses another text (18).
 fn row_named(alloc: Global, sig: &Sig, text: &str) -> Result<Key, Fault>
     ensures most { IfOk result (λ key. key.horizon ≤ most_steps) }
-    ensures named { (d : Description) → IsSignatureOfDescription d sig.now → IfOk result (IsRowNamed d text.now) }
-    ensures refused { (d : Description) → IsSignatureOfDescription d sig.now → IfErr result (IsRowFault d text.now) }
+    ensures named { (d : Description) →
+        IsSignatureOfDescription d sig.now → IfOk result (IsRowNamed d text.now) }
+    ensures refused { (d : Description) →
+        IsSignatureOfDescription d sig.now → IfErr result (IsRowFault d text.now) }
 {
     match read_key(alloc, text)? {
         Some(key) => fitting(sig, key),
@@ -67,10 +71,14 @@ fn row_named(alloc: Global, sig: &Sig, text: &str) -> Result<Key, Fault>
 fn row_is_path(alloc: Global, sig: &Sig, laws: &Laws<'_>, key: &Key) -> Result<bool, Fault>
     requires horizon { key.now.horizon ≤ most_steps }
     requires laws { AreLawsFor sig.now laws.now }
-    requires row { (d : Description) → IsSignatureOfDescription d sig.now → IsRow (sizes_at d key.now.horizon) key.now.row }
-    ensures is { (d : Description) → AreLawsOf sig.now laws.now d → IfOk result (λ is. IsTrue is ↔ IsPath d key.now.horizon key.now.row) }
-    ensures unrefused { (d : Description) → AreLawsOf sig.now laws.now d → OnOk result (rules_refusal d key.now.horizon ≡ None) }
-    ensures refused { (d : Description) → AreLawsOf sig.now laws.now d → IfErr result (IsRefusedBy (rules_refusal d key.now.horizon)) }
+    requires row { (d : Description) →
+        IsSignatureOfDescription d sig.now → IsRow (sizes_at d key.now.horizon) key.now.row }
+    ensures is { (d : Description) → AreLawsOf sig.now laws.now d →
+        IfOk result (λ is. IsTrue is ↔ IsPath d key.now.horizon key.now.row) }
+    ensures unrefused { (d : Description) →
+        AreLawsOf sig.now laws.now d → OnOk result (rules_refusal d key.now.horizon ≡ None) }
+    ensures refused { (d : Description) → AreLawsOf sig.now laws.now d →
+        IfErr result (IsRefusedBy (rules_refusal d key.now.horizon)) }
 {
     let theory = Theory::at(alloc, sig, laws, key.horizon)?;
     Ok(is_history(&theory, key.row.items()))
@@ -88,9 +96,10 @@ pub(crate) fn look_at<'a>(
     requires forms { HasForms described.now }
     ensures laws { IfOk result (λ made. AreLawsFor described.now.sig made.laws) }
     ensures most { IfOk result (λ made. made.key.horizon ≤ most_steps) }
-    ensures named { (d : Description) → IsDescriptionOf described.now d →
-        IfOk result (λ made. IsLookedAt d described.now.sig text.now made.laws made.key made.is_path) }
-    ensures refused { (d : Description) → IsDescriptionOf described.now d → IfErr result (IsExplainingFault d text.now) }
+    ensures named { (d : Description) → IsDescriptionOf described.now d → IfOk result (λ made.
+        IsLookedAt d described.now.sig text.now made.laws made.key made.is_path) }
+    ensures refused { (d : Description) →
+        IsDescriptionOf described.now d → IfErr result (IsExplainingFault d text.now) }
 {
     let laws = laws_of(alloc, described, terms)?;
     let key = row_named(alloc, &described.sig, text)?;

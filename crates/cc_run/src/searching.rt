@@ -33,7 +33,9 @@ use std::alloc::Global;
 
 /// Begins a log where one is named.
 pub(crate) fn begin_log<D: Desk>(desk: &mut D, name: Option<&str>) -> Result<(), Stop>
-    ensures { Begins (is_some name.entry) (optional (plain_text name.entry)) (moment D.told D.begun D.read_faults D.write_faults D.calls desk.old) (moment D.told D.begun D.read_faults D.write_faults D.calls desk.new) result }
+    ensures { Begins (is_some name.entry) (optional (plain_text name.entry))
+        (moment D.told D.begun D.read_faults D.write_faults D.calls desk.old)
+        (moment D.told D.begun D.read_faults D.write_faults D.calls desk.new) result }
 {
     match name {
         Some(name) => match desk.create_file(name) {
@@ -75,8 +77,8 @@ fn status_behind(event: &Event) -> Option<Status>
 fn axioms_behind(session: &Session<'_>, event: &Event) -> u32
     requires opened { StandsOpened session.now event.now }
     requires few { HasFewAxioms session.now event.now }
-    ensures counted { (d : Description) (q : QueryAsked) (given : List Told) → After d q session.now given →
-        IsCounted (counts_of d q session.now.ask.after) event.now result }
+    ensures counted { (d : Description) (q : QueryAsked) (given : List Told) → After
+        d q session.now given → IsCounted (counts_of d q session.now.ask.after) event.now result }
     ensures few { result ≤ most_clauses }
 {
     match event {
@@ -108,11 +110,17 @@ fn tell_next<D: Desk>(
     requires short { IsShortEvent event.now }
     requires writable { IsWritableBy teller.old event.now }
     requires few { axioms ≤ most_clauses }
-    ensures told { (d : Description) (counts : Bool → ℕ → ℕ) (before : List Told) → IsDescriptionOf described.now d → KeepsUp counts teller.old before →
-        Step (texts_behind (manner_of counts teller.old) d before (with_row event.now row.now)) (moment D.told D.begun D.read_faults D.write_faults D.calls desk.old) (moment D.told D.begun D.read_faults D.write_faults D.calls desk.new) result }
-    ensures keeps { IfOk result (λ _. (counts : Bool → ℕ → ℕ) (before : List Told) → IsCounted counts event.now axioms → KeepsUp counts teller.old before →
-        IsNone (status_told event.now) → KeepsUp counts teller.new (before ++ with_row event.now row.now ∷ [])) }
-    ensures manner { (counts : Bool → ℕ → ℕ) → manner_of counts teller.new ≡ manner_of counts teller.old }
+    ensures told { (d : Description) (counts : Bool → ℕ → ℕ) (before : List Told) →
+        IsDescriptionOf described.now d → KeepsUp counts teller.old before →
+        Step (texts_behind (manner_of counts teller.old) d before (with_row event.now row.now))
+        (moment D.told D.begun D.read_faults D.write_faults D.calls desk.old)
+        (moment D.told D.begun D.read_faults D.write_faults D.calls desk.new) result }
+    ensures keeps { IfOk result (λ _. (counts : Bool → ℕ → ℕ) (before : List Told) →
+        IsCounted counts event.now axioms →
+        KeepsUp counts teller.old before → IsNone (status_told event.now) →
+        KeepsUp counts teller.new (before ++ with_row event.now row.now ∷ [])) }
+    ensures manner { (counts : Bool → ℕ → ℕ) →
+        manner_of counts teller.new ≡ manner_of counts teller.old }
     ensures status { IfOk result (λ status. status ≡ status_told event.now) }
 {
     tell_by(alloc, desk, described, teller, event, row, axioms)?;
@@ -125,7 +133,9 @@ pub(crate) fn tell_limit<D: Desk>(
     desk: &mut D,
     refusal: &Refusal,
 ) -> Result<Option<Status>, Stop>
-    ensures told { Step (only_err (refusals.refusal_text refusal.now [])) (moment D.told D.begun D.read_faults D.write_faults D.calls desk.old) (moment D.told D.begun D.read_faults D.write_faults D.calls desk.new) result }
+    ensures told { Step (only_err (refusals.refusal_text refusal.now []))
+        (moment D.told D.begun D.read_faults D.write_faults D.calls desk.old)
+        (moment D.told D.begun D.read_faults D.write_faults D.calls desk.new) result }
     ensures status { IfOk result (λ status. status ≡ Some Status.Refused) }
 {
     let status = refuse(alloc, desk, refusal, "")?;
@@ -145,11 +155,17 @@ fn list_event<D: Desk>(
     requires more { HasMore session.old }
     requires budget { session.old.ask.budget ≤ 2000000 }
     requires of { IsOfSome described.now teller.old session.old }
-    ensures goes { (d : Description) (q : QueryAsked) (given : List Told) → IsDescriptionOf described.now d → IsSessionOf session.old d q →
-        After d q session.old given → HasGoodLines d q session.old.ask.after given → KeepsUp (counts_of d q session.old.ask.after) teller.old given →
-        GoesOn (manner_of (counts_of d q session.old.ask.after) teller.old) d q given teller.new session.old session.new (moment D.told D.begun D.read_faults D.write_faults D.calls desk.old) (moment D.told D.begun D.read_faults D.write_faults D.calls desk.new) result }
-    ensures next { IfOk result (λ status. IsNone status → IsSame session.old session.new × HasMore session.new × (left_of session.new < left_of session.old)) }
-    ensures manner { (counts : Bool → ℕ → ℕ) → manner_of counts teller.new ≡ manner_of counts teller.old }
+    ensures goes { (d : Description) (q : QueryAsked) (given : List Told) →
+        IsDescriptionOf described.now d → IsSessionOf session.old d q →
+        After d q session.old given → HasGoodLines d q session.old.ask.after given →
+        KeepsUp (counts_of d q session.old.ask.after) teller.old given →
+        GoesOn (manner_of (counts_of d q session.old.ask.after) teller.old) d q given teller.new
+        session.old session.new (moment D.told D.begun D.read_faults D.write_faults D.calls
+        desk.old) (moment D.told D.begun D.read_faults D.write_faults D.calls desk.new) result }
+    ensures next { IfOk result (λ status. IsNone status → IsSame session.old session.new
+        × HasMore session.new × (left_of session.new < left_of session.old)) }
+    ensures manner { (counts : Bool → ℕ → ℕ) →
+        manner_of counts teller.new ≡ manner_of counts teller.old }
 {
     log_laws();
     spent_budgets_are_small();
@@ -183,11 +199,16 @@ fn list_events<D: Desk>(
     requires same { described.now.sig ≡ session.signature }
     requires more { HasMore session }
     requires budget { session.ask.budget ≤ 2000000 }
-    requires of { (d : Description) × (q : QueryAsked) × IsDescriptionOf described.now d × IsSessionOf session d q × After d q session [] }
+    requires of { (d : Description) × (q : QueryAsked)
+        × IsDescriptionOf described.now d × IsSessionOf session d q × After d q session [] }
     requires keeps { (counts : Bool → ℕ → ℕ) → KeepsUp counts teller [] }
-    ensures { (d : Description) (q : QueryAsked) → IsDescriptionOf described.now d → IsSessionOf session.entry d q → After d q session.entry [] →
-        Searches (manner_of (counts_of d q session.entry.ask.after) teller) (record { description = d; query = q; ask = session.entry.ask })
-        (only_log (header_told (manner_of (counts_of d q session.entry.ask.after) teller))) (moment D.told D.begun D.read_faults D.write_faults D.calls desk.old) (moment D.told D.begun D.read_faults D.write_faults D.calls desk.new) result }
+    ensures { (d : Description) (q : QueryAsked) → IsDescriptionOf described.now d →
+        IsSessionOf session.entry d q → After d q session.entry [] →
+        Searches (manner_of (counts_of d q session.entry.ask.after) teller)
+        (record { description = d; query = q; ask = session.entry.ask })
+        (only_log (header_told (manner_of (counts_of d q session.entry.ask.after) teller)))
+        (moment D.told D.begun D.read_faults D.write_faults D.calls desk.old)
+        (moment D.told D.begun D.read_faults D.write_faults D.calls desk.new) result }
 {
     loop {
         match list_event(alloc, desk, described, &mut teller, &mut session)? {
@@ -209,13 +230,19 @@ pub(crate) fn search<D: Desk>(
     teller: Teller,
 ) -> Result<Status, Stop>
     requires signature { IsSignatureFor described.now.table described.now.sig }
-    requires searchable { AreSearchable described.now.sig laws.now (plain_ground_query query) ask.after }
+    requires searchable { AreSearchable described.now.sig laws.now
+        (plain_ground_query query) ask.after }
     requires count { IfSome ask.count (λ most. 1 ≤ most) }
     requires budget { ask.budget ≤ 2000000 }
-    requires of { (d : Description) × (q : QueryAsked) × IsDescriptionOf described.now d × AreOf described.now.sig laws.now (plain_ground_query query) d q }
+    requires of { (d : Description) × (q : QueryAsked) × IsDescriptionOf described.now d
+        × AreOf described.now.sig laws.now (plain_ground_query query) d q }
     requires keeps { (counts : Bool → ℕ → ℕ) → KeepsUp counts teller [] }
-    ensures { (d : Description) (q : QueryAsked) → IsDescriptionOf described.now d → AreOf described.now.sig laws.now (plain_ground_query query.entry) d q →
-        Searches (manner_of (counts_of d q ask.after) teller) (record { description = d; query = q; ask = ask }) nothing (moment D.told D.begun D.read_faults D.write_faults D.calls desk.old) (moment D.told D.begun D.read_faults D.write_faults D.calls desk.new) result }
+    ensures { (d : Description) (q : QueryAsked) → IsDescriptionOf described.now d →
+        AreOf described.now.sig laws.now (plain_ground_query query.entry) d q →
+        Searches (manner_of (counts_of d q ask.after) teller)
+        (record { description = d; query = q; ask = ask }) nothing
+        (moment D.told D.begun D.read_faults D.write_faults D.calls desk.old)
+        (moment D.told D.begun D.read_faults D.write_faults D.calls desk.new) result }
 {
     give_header(desk, &teller)?;
     let session = Session::new(alloc, &described.sig, laws, query, ask)?;

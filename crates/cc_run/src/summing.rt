@@ -26,9 +26,14 @@ pub(crate) fn sum<D: Desk>(
     event: &Event,
 ) -> Result<(), Stop>
     requires short { IsShortEvent event.now }
-    ensures told { (d : Description) (before : List ToldEvent) (row : List ℕ) → SumUp outcome.old.items before → endings_told before ≡ [] →
-        Step (texts_behind (Summed size) d before (with_row event.now row)) (moment D.told D.begun D.read_faults D.write_faults D.calls desk.old) (moment D.told D.begun D.read_faults D.write_faults D.calls desk.new) result }
-    ensures keeps { IfOk result (λ _. (before : List ToldEvent) (row : List ℕ) → SumUp outcome.old.items before → IsNone (status_told event.now) → SumUp outcome.new.items (before ++ with_row event.now row ∷ [])) }
+    ensures told { (d : Description) (before : List ToldEvent) (row : List ℕ) →
+        SumUp outcome.old.items before → endings_told before ≡ [] →
+        Step (texts_behind (Summed size) d before (with_row event.now row))
+        (moment D.told D.begun D.read_faults D.write_faults D.calls desk.old)
+        (moment D.told D.begun D.read_faults D.write_faults D.calls desk.new) result }
+    ensures keeps { IfOk result (λ _. (before : List ToldEvent) (row : List ℕ) →
+        SumUp outcome.old.items before → IsNone (status_told event.now) →
+        SumUp outcome.new.items (before ++ with_row event.now row ∷ [])) }
 {
     match event {
         Event::Log(line) => tell_line(alloc, desk, line),
@@ -49,7 +54,8 @@ pub(crate) fn sum<D: Desk>(
 
 /// Keeps an event.
 fn keep(outcome: &mut Vec<Told>, event: Event) -> Result<(), OutOfMemory>
-    ensures { OnOk result (outcome.new.items ≡ outcome.old.items ++ record { event = event; row = None } ∷ []) }
+    ensures { OnOk result
+        (outcome.new.items ≡ outcome.old.items ++ record { event = event; row = None } ∷ []) }
 {
     outcome.push(Told { event, row: None })?;
     Ok(())
@@ -62,7 +68,9 @@ fn tell_summary<D: Desk>(
     size: u32,
     outcome: &mut Vec<Told>,
 ) -> Result<(), Stop>
-    ensures { Step (given_to outputs.Out (summary size outcome.old.items)) (moment D.told D.begun D.read_faults D.write_faults D.calls desk.old) (moment D.told D.begun D.read_faults D.write_faults D.calls desk.new) result }
+    ensures { Step (given_to outputs.Out (summary size outcome.old.items))
+        (moment D.told D.begun D.read_faults D.write_faults D.calls desk.old)
+        (moment D.told D.begun D.read_faults D.write_faults D.calls desk.new) result }
 {
     let told = Items::of(replace(outcome, Vec::new(alloc)));
     let text = summary_text(alloc, size, &told)?;

@@ -43,7 +43,9 @@ pub(crate) enum Teller {
 /// Gives the header of a log.
 pub(crate) fn give_header<D: Desk>(desk: &mut D, teller: &Teller) -> Result<(), Stop>
     ensures { (counts : Bool → ℕ → ℕ) →
-        Step (given_to outputs.Log (header_told (manner_of counts teller.now))) (moment D.told D.begun D.read_faults D.write_faults D.calls desk.old) (moment D.told D.begun D.read_faults D.write_faults D.calls desk.new) result }
+        Step (given_to outputs.Log (header_told (manner_of counts teller.now)))
+        (moment D.told D.begun D.read_faults D.write_faults D.calls desk.old)
+        (moment D.told D.begun D.read_faults D.write_faults D.calls desk.new) result }
 {
     match teller {
         Teller::OneByOne {
@@ -60,7 +62,9 @@ pub(crate) fn give_header<D: Desk>(desk: &mut D, teller: &Teller) -> Result<(), 
 
 /// Gives the lines of a text to Out, one after another.
 pub(crate) fn give_lines<D: Desk>(desk: &mut D, text: &str) -> Result<(), Stop>
-    ensures { Step (given_to outputs.Out text.now) (moment D.told D.begun D.read_faults D.write_faults D.calls desk.old) (moment D.told D.begun D.read_faults D.write_faults D.calls desk.new) result }
+    ensures { Step (given_to outputs.Out text.now)
+        (moment D.told D.begun D.read_faults D.write_faults D.calls desk.old)
+        (moment D.told D.begun D.read_faults D.write_faults D.calls desk.new) result }
 {
     for line in text.split_inclusive('\n') {
         give(desk, To::Out, line.as_bytes())?;
@@ -88,9 +92,12 @@ pub(crate) fn tell_row<D: Desk>(
     row: &[u32],
 ) -> Result<(), Stop>
     requires signature { IsSignatureFor described.now.table described.now.sig }
-    requires row { (d : Description) → IsSignatureOfDescription d described.now.sig → IsRow (sizes_at d horizon) row.now }
+    requires row { (d : Description) →
+        IsSignatureOfDescription d described.now.sig → IsRow (sizes_at d horizon) row.now }
     ensures { (d : Description) → IsDescriptionOf described.now d →
-        Step (given_to outputs.Out (texts.history_text d horizon row.now ++ texts.key_line horizon row.now)) (moment D.told D.begun D.read_faults D.write_faults D.calls desk.old) (moment D.told D.begun D.read_faults D.write_faults D.calls desk.new) result }
+        Step (given_to outputs.Out (texts.history_text d horizon row.now ++ texts.key_line
+        horizon row.now)) (moment D.told D.begun D.read_faults D.write_faults D.calls desk.old)
+        (moment D.told D.begun D.read_faults D.write_faults D.calls desk.new) result }
 {
     let history = history_text(alloc, &described.table, &described.sig, horizon, row)?;
     give_lines(desk, history.text())?;
@@ -99,7 +106,9 @@ pub(crate) fn tell_row<D: Desk>(
 
 /// Gives the line of a key to Out.
 fn tell_key<D: Desk>(alloc: Global, desk: &mut D, horizon: u32, row: &[u32]) -> Result<(), Stop>
-    ensures { Step (given_to outputs.Out (texts.key_line horizon row.now)) (moment D.told D.begun D.read_faults D.write_faults D.calls desk.old) (moment D.told D.begun D.read_faults D.write_faults D.calls desk.new) result }
+    ensures { Step (given_to outputs.Out (texts.key_line horizon row.now))
+        (moment D.told D.begun D.read_faults D.write_faults D.calls desk.old)
+        (moment D.told D.begun D.read_faults D.write_faults D.calls desk.new) result }
 {
     let line = key_line(alloc, horizon, row)?;
     give(desk, To::Out, line.as_bytes())
@@ -107,7 +116,9 @@ fn tell_key<D: Desk>(alloc: Global, desk: &mut D, horizon: u32, row: &[u32]) -> 
 
 /// Gives the line of an event to Out.
 pub(crate) fn tell_event<D: Desk>(alloc: Global, desk: &mut D, event: &Event) -> Result<(), Stop>
-    ensures { Step (given_to outputs.Out (event_line event.now)) (moment D.told D.begun D.read_faults D.write_faults D.calls desk.old) (moment D.told D.begun D.read_faults D.write_faults D.calls desk.new) result }
+    ensures { Step (given_to outputs.Out (event_line event.now))
+        (moment D.told D.begun D.read_faults D.write_faults D.calls desk.old)
+        (moment D.told D.begun D.read_faults D.write_faults D.calls desk.new) result }
 {
     let text = event_text(alloc, event)?;
     give(desk, To::Out, text.text().as_bytes())
@@ -116,7 +127,9 @@ pub(crate) fn tell_event<D: Desk>(alloc: Global, desk: &mut D, event: &Event) ->
 /// Gives a line of the log to Log.
 pub(crate) fn tell_line<D: Desk>(alloc: Global, desk: &mut D, line: &LogLine) -> Result<(), Stop>
     requires { IsFormed line.now }
-    ensures { Step (given_to outputs.Log (line_text line.now)) (moment D.told D.begun D.read_faults D.write_faults D.calls desk.old) (moment D.told D.begun D.read_faults D.write_faults D.calls desk.new) result }
+    ensures { Step (given_to outputs.Log (line_text line.now))
+        (moment D.told D.begun D.read_faults D.write_faults D.calls desk.old)
+        (moment D.told D.begun D.read_faults D.write_faults D.calls desk.new) result }
 {
     let text = put_line(alloc, line)?;
     give(desk, To::Log, text.text().as_bytes())
@@ -126,7 +139,9 @@ pub(crate) fn tell_line<D: Desk>(alloc: Global, desk: &mut D, line: &LogLine) ->
 fn tell_entry<D: Desk>(alloc: Global, desk: &mut D, own: u32, line: &LogLine) -> Result<(), Stop>
     requires formed { IsFormed line.now }
     requires writable { IsWritable own line.now }
-    ensures { Step (given_to outputs.Log (entry_bytes (line_behind own line.now))) (moment D.told D.begun D.read_faults D.write_faults D.calls desk.old) (moment D.told D.begun D.read_faults D.write_faults D.calls desk.new) result }
+    ensures { Step (given_to outputs.Log (entry_bytes (line_behind own line.now)))
+        (moment D.told D.begun D.read_faults D.write_faults D.calls desk.old)
+        (moment D.told D.begun D.read_faults D.write_faults D.calls desk.new) result }
 {
     let bytes = put_binary(alloc, line, own)?;
     give(desk, To::Log, bytes.items())
@@ -142,7 +157,9 @@ pub(crate) fn tell_line_in<D: Desk>(
 ) -> Result<(), Stop>
     requires formed { IsFormed line.now }
     requires writable { IsWritable own line.now }
-    ensures { Step (given_to outputs.Log (line_bytes version own line.now)) (moment D.told D.begun D.read_faults D.write_faults D.calls desk.old) (moment D.told D.begun D.read_faults D.write_faults D.calls desk.new) result }
+    ensures { Step (given_to outputs.Log (line_bytes version own line.now))
+        (moment D.told D.begun D.read_faults D.write_faults D.calls desk.old)
+        (moment D.told D.begun D.read_faults D.write_faults D.calls desk.new) result }
 {
     match version {
         Version::First => tell_line(alloc, desk, line),
@@ -160,9 +177,12 @@ fn tell_history<D: Desk>(
     row: &[u32],
 ) -> Result<(), Stop>
     requires signature { IsSignatureFor described.now.table described.now.sig }
-    requires row { (d : Description) → IsSignatureOfDescription d described.now.sig → IsRow (sizes_at d horizon) row.now }
-    ensures { (d : Description) → IsDescriptionOf described.now d →
-        Step (given_to outputs.Out (event_line event.now ++ (texts.history_text d horizon row.now ++ texts.key_line horizon row.now))) (moment D.told D.begun D.read_faults D.write_faults D.calls desk.old) (moment D.told D.begun D.read_faults D.write_faults D.calls desk.new) result }
+    requires row { (d : Description) →
+        IsSignatureOfDescription d described.now.sig → IsRow (sizes_at d horizon) row.now }
+    ensures { (d : Description) → IsDescriptionOf described.now d → Step (given_to outputs.Out
+        (event_line event.now ++ (texts.history_text d horizon row.now ++ texts.key_line
+        horizon row.now))) (moment D.told D.begun D.read_faults D.write_faults D.calls desk.old)
+        (moment D.told D.begun D.read_faults D.write_faults D.calls desk.new) result }
 {
     tell_event(alloc, desk, event)?;
     tell_row(alloc, desk, described, horizon, row)
@@ -183,8 +203,9 @@ fn tell<D: Desk>(
     requires row { IsRowOfEvent described.now.sig event.now row.now }
     requires short { IsShortEvent event.now }
     requires writable { IsWritableEvent own event.now }
-    ensures { (d : Description) → IsDescriptionOf described.now d →
-        Step (texts_at version own d (with_row event.now row.now)) (moment D.told D.begun D.read_faults D.write_faults D.calls desk.old) (moment D.told D.begun D.read_faults D.write_faults D.calls desk.new) result }
+    ensures { (d : Description) → IsDescriptionOf described.now d → Step (texts_at version own d
+        (with_row event.now row.now)) (moment D.told D.begun D.read_faults D.write_faults D.calls
+        desk.old) (moment D.told D.begun D.read_faults D.write_faults D.calls desk.new) result }
 {
     match event {
         Event::Log(line) => tell_line_in(alloc, desk, version, own, line),
@@ -205,7 +226,8 @@ fn tell<D: Desk>(
 pub(crate) fn own_behind_line(own: u32, axioms: u32, line: &LogLine) -> u32
     requires low { own ≤ 999999999 }
     requires few { axioms ≤ most_clauses }
-    ensures { (counts : Bool → ℕ → ℕ) → IsCounted counts (Event.Log line.now) axioms → result ≡ own_behind counts own line.now }
+    ensures { (counts : Bool → ℕ → ℕ) →
+        IsCounted counts (Event.Log line.now) axioms → result ≡ own_behind counts own line.now }
 {
     match line {
         LogLine::Section { .. } => axioms + 1,
@@ -219,7 +241,8 @@ pub(crate) fn own_behind_line(own: u32, axioms: u32, line: &LogLine) -> u32
 fn own_behind_event(own: u32, axioms: u32, event: &Event) -> u32
     requires writable { IsWritableEvent own event.now }
     requires few { axioms ≤ most_clauses }
-    ensures { (counts : Bool → ℕ → ℕ) → IsCounted counts event.now axioms → result ≡ own_after counts own (line_told event.now) }
+    ensures { (counts : Bool → ℕ → ℕ) →
+        IsCounted counts event.now axioms → result ≡ own_after counts own (line_told event.now) }
 {
     match event {
         Event::Log(line) => own_behind_line(own, axioms, line),
@@ -249,8 +272,11 @@ fn tell_numbered<D: Desk>(
     requires writable { IsWritableEvent own.old event.now }
     requires few { axioms ≤ most_clauses }
     ensures told { (d : Description) → IsDescriptionOf described.now d →
-        Step (texts_at version own.old d (with_row event.now row.now)) (moment D.told D.begun D.read_faults D.write_faults D.calls desk.old) (moment D.told D.begun D.read_faults D.write_faults D.calls desk.new) result }
-    ensures number { OnOk result ((counts : Bool → ℕ → ℕ) → IsCounted counts event.now axioms → own.new ≡ own_after counts own.old (line_told event.now)) }
+        Step (texts_at version own.old d (with_row event.now row.now))
+        (moment D.told D.begun D.read_faults D.write_faults D.calls desk.old)
+        (moment D.told D.begun D.read_faults D.write_faults D.calls desk.new) result }
+    ensures number { OnOk result ((counts : Bool → ℕ → ℕ) → IsCounted counts event.now axioms →
+        own.new ≡ own_after counts own.old (line_told event.now)) }
 {
     tell(alloc, desk, described, version, *own, event, row)?;
     *own = own_behind_event(*own, axioms, event);
@@ -273,11 +299,17 @@ pub(crate) fn tell_by<D: Desk>(
     requires short { IsShortEvent event.now }
     requires writable { IsWritableBy teller.old event.now }
     requires few { axioms ≤ most_clauses }
-    ensures told { (d : Description) (counts : Bool → ℕ → ℕ) (before : List ToldEvent) → IsDescriptionOf described.now d → KeepsUp counts teller.old before →
-        Step (texts_behind (manner_of counts teller.old) d before (with_row event.now row.now)) (moment D.told D.begun D.read_faults D.write_faults D.calls desk.old) (moment D.told D.begun D.read_faults D.write_faults D.calls desk.new) result }
-    ensures keeps { IfOk result (λ _. (counts : Bool → ℕ → ℕ) (before : List ToldEvent) → IsCounted counts event.now axioms → KeepsUp counts teller.old before →
-        IsNone (status_told event.now) → KeepsUp counts teller.new (before ++ with_row event.now row.now ∷ [])) }
-    ensures manner { (counts : Bool → ℕ → ℕ) → manner_of counts teller.new ≡ manner_of counts teller.old }
+    ensures told { (d : Description) (counts : Bool → ℕ → ℕ) (before : List ToldEvent) →
+        IsDescriptionOf described.now d → KeepsUp counts teller.old before →
+        Step (texts_behind (manner_of counts teller.old) d before (with_row event.now row.now))
+        (moment D.told D.begun D.read_faults D.write_faults D.calls desk.old)
+        (moment D.told D.begun D.read_faults D.write_faults D.calls desk.new) result }
+    ensures keeps { IfOk result (λ _. (counts : Bool → ℕ → ℕ) (before : List ToldEvent) →
+        IsCounted counts event.now axioms →
+        KeepsUp counts teller.old before → IsNone (status_told event.now) →
+        KeepsUp counts teller.new (before ++ with_row event.now row.now ∷ [])) }
+    ensures manner { (counts : Bool → ℕ → ℕ) →
+        manner_of counts teller.new ≡ manner_of counts teller.old }
 {
     match teller {
         Teller::OneByOne { version, own } => tell_numbered(

@@ -54,22 +54,29 @@ pub fn run<D: Desk>(alloc: Global, words: &[String], desk: &mut D) -> Status
     // query, in ascending order, each once, marked complete only where they are all, and a horizon said to be empty only where
     // it has none, with the log of the search; or, where a horizon passes a limit, that refusal behind what was told before; or
     // what a checker says of the log that they name; or why the values of a history hold; or, after a fault, fronts of these.
-    ensures answer { IfSome (D.told desk.old) (λ before. IsFresh before → D.begun desk.old ≡ false →
-        IsSomeAnd (D.told desk.new) (λ after. Answered before after (D.begun desk.new) (map string_bytes words.now) result
-        (counts (D.read_faults desk.old) (D.read_faults desk.new) (D.write_faults desk.old) (D.write_faults desk.new)))) }
+    ensures answer { IfSome (D.told desk.old) (λ before. IsFresh before →
+        D.begun desk.old ≡ false → IsSomeAnd (D.told desk.new) (λ after. Answered before after
+        (D.begun desk.new) (map string_bytes words.now) result (counts (D.read_faults desk.old)
+        (D.read_faults desk.new) (D.write_faults desk.old) (D.write_faults desk.new)))) }
     // The names that are opened are those of the words and of the description, in their order, and no others; the log that is begun
     // has the name that the words give it.
     ensures names { (more : List Call) × (D.calls desk.new ≡ with_calls more (D.calls desk.old))
         × BeginsAsked (request_of (map string_bytes words.now)) result (names_begun more)
-        × IfSome (D.told desk.old) (λ before. OpensAsked before.files (request_of (map string_bytes words.now)) result (names_opened more)) }
+        × IfSome (D.told desk.old) (λ before. OpensAsked before.files
+        (request_of (map string_bytes words.now)) result (names_opened more)) }
     // Where it comes to its end, it is with a status that its request may have, and the desk counted no fault.
-    ensures ends { IsEndStatus result → MayEndWith (request_of (map string_bytes words.now)) result }
-    ensures calm { IsEndStatus result → (D.read_faults desk.new ≡ D.read_faults desk.old) × (D.write_faults desk.new ≡ D.write_faults desk.old) }
+    ensures ends { IsEndStatus result →
+        MayEndWith (request_of (map string_bytes words.now)) result }
+    ensures calm { IsEndStatus result → (D.read_faults desk.new ≡ D.read_faults desk.old)
+        × (D.write_faults desk.new ≡ D.write_faults desk.old) }
     // A log is begun only where the words name one.
-    ensures no_log { names_log (request_of (map string_bytes words.now)) ≡ false → D.begun desk.new ≡ D.begun desk.old }
+    ensures no_log { names_log (request_of (map string_bytes words.now)) ≡ false →
+        D.begun desk.new ≡ D.begun desk.old }
     // A fault is answered only where the desk counted one.
-    ensures read_fault { result ≡ Status.ReadFault → Rose (D.read_faults desk.old) (D.read_faults desk.new) }
-    ensures write_fault { result ≡ Status.WriteFault → Rose (D.write_faults desk.old) (D.write_faults desk.new) }
+    ensures read_fault { result ≡ Status.ReadFault →
+        Rose (D.read_faults desk.old) (D.read_faults desk.new) }
+    ensures write_fault { result ≡ Status.WriteFault →
+        Rose (D.write_faults desk.old) (D.write_faults desk.new) }
 {
     match answer(alloc, words, desk) {
         Ok(status) => status,
@@ -79,7 +86,10 @@ pub fn run<D: Desk>(alloc: Global, words: &[String], desk: &mut D) -> Status
 
 /// The answer up to its end, or to where it stops.
 fn answer<D: Desk>(alloc: Global, words: &[String], desk: &mut D) -> Result<Status, Stop>
-    ensures { PrintsAsked (map string_bytes words.now) (names_log (request_of (map string_bytes words.now))) (moment D.told D.begun D.read_faults D.write_faults D.calls desk.old) (moment D.told D.begun D.read_faults D.write_faults D.calls desk.new) result }
+    ensures { PrintsAsked
+        (map string_bytes words.now) (names_log (request_of (map string_bytes words.now)))
+        (moment D.told D.begun D.read_faults D.write_faults D.calls desk.old)
+        (moment D.told D.begun D.read_faults D.write_faults D.calls desk.new) result }
 {
     has_places();
     match read(alloc, words)? {
@@ -92,7 +102,9 @@ fn answer<D: Desk>(alloc: Global, words: &[String], desk: &mut D) -> Result<Stat
 fn answer_asked<D: Desk>(alloc: Global, desk: &mut D, asked: &Asked<'_>) -> Result<Status, Stop>
     requires within { IsWithin (plain_request asked.now) }
     ensures { (words : List Text) → request_of words ≡ Some (plain_request asked.now) →
-        PrintsAsked words (names_log (Some (plain_request asked.now))) (moment D.told D.begun D.read_faults D.write_faults D.calls desk.old) (moment D.told D.begun D.read_faults D.write_faults D.calls desk.new) result }
+        PrintsAsked words (names_log (Some (plain_request asked.now)))
+        (moment D.told D.begun D.read_faults D.write_faults D.calls desk.old)
+        (moment D.told D.begun D.read_faults D.write_faults D.calls desk.new) result }
 {
     match asked {
         Asked::List(list) => answer_file(alloc, desk, asked, list.file),
@@ -117,8 +129,11 @@ fn answer_file<D: Desk>(
 ) -> Result<Status, Stop>
     requires within { IsWithin (plain_request asked.now) }
     requires description { AsksDescription (plain_request asked.now) }
-    ensures { (words : List Text) → request_of words ≡ Some (plain_request asked.now) → IsFileOf (plain_request asked.now) file.now →
-        PrintsAsked words (names_log (Some (plain_request asked.now))) (moment D.told D.begun D.read_faults D.write_faults D.calls desk.old) (moment D.told D.begun D.read_faults D.write_faults D.calls desk.new) result }
+    ensures { (words : List Text) → request_of words ≡ Some (plain_request asked.now) →
+        IsFileOf (plain_request asked.now) file.now →
+        PrintsAsked words (names_log (Some (plain_request asked.now)))
+        (moment D.told D.begun D.read_faults D.write_faults D.calls desk.old)
+        (moment D.told D.begun D.read_faults D.write_faults D.calls desk.new) result }
 {
     let described = describe(alloc, desk, file);
     answer_described(alloc, desk, asked, described)
@@ -134,8 +149,11 @@ fn answer_made<D: Desk>(
     requires within { IsWithin (plain_request asked.now) }
     requires description { AsksDescription (plain_request asked.now) }
     requires size { 1 ≤ size }
-    ensures { (words : List Text) (budget : ℕ) → request_of words ≡ Some (plain_request asked.now) → plain_request asked.now ≡ ToMake size budget →
-        PrintsAsked words (names_log (Some (plain_request asked.now))) (moment D.told D.begun D.read_faults D.write_faults D.calls desk.old) (moment D.told D.begun D.read_faults D.write_faults D.calls desk.new) result }
+    ensures { (words : List Text) (budget : ℕ) → request_of words ≡ Some (plain_request asked.now) →
+        plain_request asked.now ≡ ToMake size budget →
+        PrintsAsked words (names_log (Some (plain_request asked.now)))
+        (moment D.told D.begun D.read_faults D.write_faults D.calls desk.old)
+        (moment D.told D.begun D.read_faults D.write_faults D.calls desk.new) result }
 {
     let text = make_text(alloc, size)?;
     let mut source = TextDesk::of(text.text().as_bytes());
@@ -155,8 +173,11 @@ fn answer_described<D: Desk>(
     requires says { IfOk described SaysAll }
     requires forms { IfOk described HasForms }
     requires formulas { IfOk described AsksFormulas }
-    ensures { (words : List Text) (request : Request) (earlier : Moment) → request_of words ≡ Some request → plain_request asked.now ≡ request →
-        Reads request described earlier (moment D.told D.begun D.read_faults D.write_faults D.calls desk.old) → PrintsAsked words (names_log (Some request)) earlier (moment D.told D.begun D.read_faults D.write_faults D.calls desk.new) result }
+    ensures { (words : List Text) (request : Request) (earlier : Moment) →
+        request_of words ≡ Some request → plain_request asked.now ≡ request → Reads request
+        described earlier (moment D.told D.begun D.read_faults D.write_faults D.calls desk.old) →
+        PrintsAsked words (names_log (Some request)) earlier
+        (moment D.told D.begun D.read_faults D.write_faults D.calls desk.new) result }
 {
     match described {
         Ok(described) => {
@@ -182,9 +203,12 @@ fn answer_read<D: Desk>(
     requires says { SaysAll described.now }
     requires forms { HasForms described.now }
     requires formulas { AsksFormulas described.now }
-    ensures { (words : List Text) (request : Request) → request_of words ≡ Some request → plain_request asked.now ≡ request →
-        IfSome (D.told desk.old) (λ before. Describes (source_of request before.files) (named_of request).file described.now) →
-        Prints words (names_log (Some request)) (opens_behind request) (moment D.told D.begun D.read_faults D.write_faults D.calls desk.old) (moment D.told D.begun D.read_faults D.write_faults D.calls desk.new) result }
+    ensures { (words : List Text) (request : Request) → request_of words ≡ Some request →
+        plain_request asked.now ≡ request → IfSome (D.told desk.old) (λ before.
+        Describes (source_of request before.files) (named_of request).file described.now) →
+        Prints words (names_log (Some request))
+        (opens_behind request) (moment D.told D.begun D.read_faults D.write_faults D.calls desk.old)
+        (moment D.told D.begun D.read_faults D.write_faults D.calls desk.new) result }
 {
     match asked {
         Asked::Explain(explain) => why::explain(alloc, desk, described, explain.key),
@@ -212,9 +236,12 @@ fn answer_query<D: Desk>(
     requires says { SaysAll described.now }
     requires forms { HasForms described.now }
     requires formulas { AsksFormulas described.now }
-    ensures { (words : List Text) (request : Request) → request_of words ≡ Some request → plain_request asked.now ≡ request →
-        IfSome (D.told desk.old) (λ before. Describes (source_of request before.files) (named_of request).file described.now) →
-        Prints words (names_log (Some request)) (opens_behind request) (moment D.told D.begun D.read_faults D.write_faults D.calls desk.old) (moment D.told D.begun D.read_faults D.write_faults D.calls desk.new) result }
+    ensures { (words : List Text) (request : Request) → request_of words ≡ Some request →
+        plain_request asked.now ≡ request → IfSome (D.told desk.old) (λ before.
+        Describes (source_of request before.files) (named_of request).file described.now) →
+        Prints words (names_log (Some request))
+        (opens_behind request) (moment D.told D.begun D.read_faults D.write_faults D.calls desk.old)
+        (moment D.told D.begun D.read_faults D.write_faults D.calls desk.new) result }
 {
     let arena = Bump::new(alloc);
     let terms = Terms::new(&arena);
@@ -275,12 +302,22 @@ fn answer_prepared<D: Desk>(
     requires within { IsWithin (plain_request asked.now) }
     requires query { AsksQuery (plain_request asked.now) }
     requires signature { IsSignatureFor described.now.table described.now.sig }
-    requires searchable { AreSearchable described.now.sig prepared.laws (plain_ground_query prepared.query) prepared.key }
-    requires of { (d : Description) × (q : Query) × IsDescriptionOf described.now d × AreOf described.now.sig prepared.laws (plain_ground_query prepared.query) d q }
-    ensures { (words : List Text) (request : Request) (d : Description) (q : Query) → request_of words ≡ Some request → plain_request asked.now ≡ request →
-        IsDescriptionOf described.now d → AreOf described.now.sig prepared.entry.laws (plain_ground_query prepared.entry.query) d q →
-        ((count : Option ℕ) (budget : ℕ) → IfSome (D.told desk.old) (λ before. IsTask (source_of request before.files) (named_of request) (record { description = d; query = q; ask = record { count = count; budget = budget; after = prepared.entry.key } }))) →
-        Prints words (names_log (Some request)) (opens_behind request) (moment D.told D.begun D.read_faults D.write_faults D.calls desk.old) (moment D.told D.begun D.read_faults D.write_faults D.calls desk.new) result }
+    requires searchable { AreSearchable described.now.sig prepared.laws
+        (plain_ground_query prepared.query) prepared.key }
+    requires of { (d : Description) × (q : Query) × IsDescriptionOf described.now d
+        × AreOf described.now.sig prepared.laws (plain_ground_query prepared.query) d q }
+    ensures { (words : List Text) (request : Request) (d : Description) (q : Query) → request_of
+        words ≡ Some request → plain_request asked.now ≡ request → IsDescriptionOf described.now d →
+        AreOf described.now.sig prepared.entry.laws (plain_ground_query prepared.entry.query) d q →
+        ((count : Option ℕ) (budget : ℕ) → IfSome (D.told desk.old) (λ before. IsTask
+        (source_of request before.files) (named_of request) (record {
+          description = d;
+          query = q;
+          ask = record { count = count; budget = budget; after = prepared.entry.key };
+        }))) →
+        Prints words (names_log (Some request))
+        (opens_behind request) (moment D.told D.begun D.read_faults D.write_faults D.calls desk.old)
+        (moment D.told D.begun D.read_faults D.write_faults D.calls desk.new) result }
 {
     match asked {
         Asked::List(list) => list::list(alloc, desk, described, list, prepared),
@@ -301,7 +338,8 @@ fn answer_prepared<D: Desk>(
 /// Runs over a desk that never fails: neither fault is answered, since its counts of faults stay 0; and words that ask for nothing
 /// are refused.
 pub fn run_still(alloc: Global, words: &[String], files: Files) -> Status
-    ensures ends { IsEndStatus result → MayEndWith (request_of (map string_bytes words.now)) result }
+    ensures ends { IsEndStatus result →
+        MayEndWith (request_of (map string_bytes words.now)) result }
     ensures no_read_fault { result ≢ Status.ReadFault }
     ensures no_write_fault { result ≢ Status.WriteFault }
 {

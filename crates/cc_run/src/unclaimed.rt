@@ -29,7 +29,8 @@ fn claim_of(query: &Query) -> Option<Refusal>
 
 /// The refusal of the query that is named, where it has a claim.
 fn claim_named(queries: &[Query], label: Option<&str>) -> Option<Refusal>
-    ensures { result ≡ claimed_named (tasks.query_named (plain_text label.entry) (map plain_query queries.now)) }
+    ensures { result
+        ≡ claimed_named (tasks.query_named (plain_text label.entry) (map plain_query queries.now)) }
 {
     match query_named(queries, label) {
         Some(query) => claim_of(query),
@@ -49,13 +50,14 @@ pub(crate) fn prepare_unclaimed<'a>(
     requires forms { HasForms described.now }
     requires formulas { AsksFormulas described.now }
     requires of { (d : Description) × IsDescriptionOf described.now d }
-    ensures searchable { IfOk result (λ made. AreSearchable described.now.sig made.laws (plain_ground_query made.query) None) }
+    ensures searchable { IfOk result (λ made.
+        AreSearchable described.now.sig made.laws (plain_ground_query made.query) None) }
     ensures claim { IfOk result (λ made. IsNone made.query.claim) }
     ensures named { (d : Description) → IsDescriptionOf described.now d → IfOk result (λ made.
         (q : QueryAsked) × AreOf described.now.sig made.laws (plain_ground_query made.query) d q
         × IsUnclaimed d (map plain_query described.now.queries) (plain_text label.entry) q) }
-    ensures refused { (d : Description) → IsDescriptionOf described.now d →
-        IfErr result (IsClaimFault d (map plain_query described.now.queries) (plain_text label.entry)) }
+    ensures refused { (d : Description) → IsDescriptionOf described.now d → IfErr result
+        (IsClaimFault d (map plain_query described.now.queries) (plain_text label.entry)) }
 {
     let prepared = prepare(alloc, described, label, None, terms)?;
     match claim_named(described.queries.items(), label) {

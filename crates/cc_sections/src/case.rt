@@ -107,7 +107,8 @@ fn query_asked<'a>(
     requires signature { IsSignatureFor described.now.table described.now.sig }
     requires formulas { AsksFormulas described.now }
     ensures most { IfOk result (λ made. made.hi ≤ most_steps) }
-    ensures steps { IfOk result (λ made. (horizon : ℕ) → made.lo ≤ horizon → horizon ≤ made.hi → IsQueryAt described.now.sig horizon (plain_ground_query made)) }
+    ensures steps { IfOk result (λ made. (horizon : ℕ) → made.lo ≤ horizon →
+        horizon ≤ made.hi → IsQueryAt described.now.sig horizon (plain_ground_query made)) }
 {
     let Some(query) = described.queries.items().get(number as usize) else {
         return Err(Halt::Query);

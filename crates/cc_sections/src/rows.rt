@@ -31,7 +31,8 @@ pub(crate) fn solver_of(alloc: Global, form: Form) -> Result<Solver, OutOfMemory
 fn step(solver: &mut Solver) -> Result<Step, Halt>
     requires { solver.old.standing ≡ Ready }
     ensures line { IfOk result (λ step. step ≡ steps.Line → solver.new.standing ≡ Ready) }
-    ensures found { IfOk result (λ step. step ≡ steps.Found → (row : List ℕ) × (solver.new.standing ≡ IsFound row)) }
+    ensures found { IfOk result (λ step. step ≡ steps.Found →
+        (row : List ℕ) × (solver.new.standing ≡ IsFound row)) }
 {
     if solver.kernel().count() >= MOST_CLAUSES {
         return Err(Halt::Search);
@@ -42,7 +43,8 @@ fn step(solver: &mut Solver) -> Result<Step, Halt>
 /// Searches up to the next row, and answers whether there is one.
 fn find(solver: &mut Solver) -> Result<bool, Halt>
     requires { solver.old.standing ≡ Ready }
-    ensures { IfOk result (λ found. found ≡ true → (row : List ℕ) × (solver.new.standing ≡ IsFound row)) }
+    ensures { IfOk result (λ found. found ≡ true →
+        (row : List ℕ) × (solver.new.standing ≡ IsFound row)) }
 {
     for turn in 0..MOST_STEPS {
         match step(solver)? {

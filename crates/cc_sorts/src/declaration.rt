@@ -35,7 +35,8 @@ pub(crate) fn declarations<'t, 's>(
     alloc: Global,
     statement: &'t Statement<'s>,
 ) -> Result<Vec<Declaration<'t, 's>>, OutOfMemory>
-    ensures { (file : ℕ) → IfOk result (λ found. plain_declarations file statement.now.line found.items ≡ declarations_of file (plain_statement statement.now)) }
+    ensures { (file : ℕ) → IfOk result (λ found. plain_declarations file
+        statement.now.line found.items ≡ declarations_of file (plain_statement statement.now)) }
 {
     let mut found = Vec::new(alloc);
     add_declarations(&mut found, statement)?;
@@ -46,7 +47,9 @@ fn add_declarations<'t, 's>(
     found: &mut Vec<Declaration<'t, 's>>,
     statement: &'t Statement<'s>,
 ) -> Result<(), OutOfMemory>
-    ensures { (file : ℕ) → OnOk result (plain_declarations file statement.now.line found.new.items ≡ plain_declarations file statement.now.line found.old.items ++ declarations_of file (plain_statement statement.now)) }
+    ensures { (file : ℕ) → OnOk result (plain_declarations file statement.now.line found.new.items
+        ≡ plain_declarations file statement.now.line found.old.items
+        ++ declarations_of file (plain_statement statement.now)) }
 {
     match &statement.part {
         Part::Sorts(items) => add_sort_items(found, items.items()),
@@ -61,7 +64,9 @@ fn add_sort_items<'t, 's>(
     found: &mut Vec<Declaration<'t, 's>>,
     items: &'t [SortItem<'s>],
 ) -> Result<(), OutOfMemory>
-    ensures { (file line : ℕ) → OnOk result (plain_declarations file line found.new.items ≡ plain_declarations file line found.old.items ++ flat_map sort_declarations (map plain_sort_item items.now)) }
+    ensures { (file line : ℕ) →
+        OnOk result (plain_declarations file line found.new.items ≡ plain_declarations
+        file line found.old.items ++ flat_map sort_declarations (map plain_sort_item items.now)) }
 {
     for item in items {
         add_sort_item(found, item)?;
@@ -73,7 +78,9 @@ fn add_object_items<'t, 's>(
     found: &mut Vec<Declaration<'t, 's>>,
     items: &'t [ObjItem<'s>],
 ) -> Result<(), OutOfMemory>
-    ensures { (file line : ℕ) → OnOk result (plain_declarations file line found.new.items ≡ plain_declarations file line found.old.items ++ flat_map object_declarations (map plain_obj_item items.now)) }
+    ensures { (file line : ℕ) →
+        OnOk result (plain_declarations file line found.new.items ≡ plain_declarations
+        file line found.old.items ++ flat_map object_declarations (map plain_obj_item items.now)) }
 {
     for item in items {
         add_members(found, item.members.items(), item.sort)?;
@@ -85,7 +92,9 @@ fn add_variable_items<'t, 's>(
     found: &mut Vec<Declaration<'t, 's>>,
     items: &'t [ListItem<'s>],
 ) -> Result<(), OutOfMemory>
-    ensures { (file line : ℕ) → OnOk result (plain_declarations file line found.new.items ≡ plain_declarations file line found.old.items ++ flat_map variable_declarations (map plain_list_item items.now)) }
+    ensures { (file line : ℕ) →
+        OnOk result (plain_declarations file line found.new.items ≡ plain_declarations file
+        line found.old.items ++ flat_map variable_declarations (map plain_list_item items.now)) }
 {
     for item in items {
         add_variables(found, item.names.items(), item.sort)?;
@@ -97,7 +106,9 @@ fn add_const_items<'t, 's>(
     found: &mut Vec<Declaration<'t, 's>>,
     items: &'t [ConstItem<'s>],
 ) -> Result<(), OutOfMemory>
-    ensures { (file line : ℕ) → OnOk result (plain_declarations file line found.new.items ≡ plain_declarations file line found.old.items ++ flat_map (constant_declarations file line) (map plain_const_item items.now)) }
+    ensures { (file line : ℕ) → OnOk result
+        (plain_declarations file line found.new.items ≡ plain_declarations file line found.old.items
+        ++ flat_map (constant_declarations file line) (map plain_const_item items.now)) }
 {
     for item in items {
         add_const_item(found, item)?;
@@ -109,7 +120,9 @@ fn add_const_item<'t, 's>(
     found: &mut Vec<Declaration<'t, 's>>,
     item: &'t ConstItem<'s>,
 ) -> Result<(), OutOfMemory>
-    ensures { (file line : ℕ) → OnOk result (plain_declarations file line found.new.items ≡ plain_declarations file line found.old.items ++ constant_declarations file line (plain_const_item item.now)) }
+    ensures { (file line : ℕ) →
+        OnOk result (plain_declarations file line found.new.items ≡ plain_declarations
+        file line found.old.items ++ constant_declarations file line (plain_const_item item.now)) }
 {
     add_constants(found, item.shapes.items(), &item.kind)?;
     put_last(found, Declaration::Kinds(&item.shapes, &item.kind))
@@ -119,7 +132,9 @@ fn add_sort_item<'t, 's>(
     found: &mut Vec<Declaration<'t, 's>>,
     item: &SortItem<'s>,
 ) -> Result<(), OutOfMemory>
-    ensures { (file line : ℕ) → OnOk result (plain_declarations file line found.new.items ≡ plain_declarations file line found.old.items ++ sort_declarations (plain_sort_item item.now)) }
+    ensures { (file line : ℕ) →
+        OnOk result (plain_declarations file line found.new.items ≡ plain_declarations
+        file line found.old.items ++ sort_declarations (plain_sort_item item.now)) }
 {
     match item {
         SortItem::Names(names) => add_sorts(found, names.items()),
@@ -131,7 +146,9 @@ fn add_sorts<'t, 's>(
     found: &mut Vec<Declaration<'t, 's>>,
     names: &[&'s str],
 ) -> Result<(), OutOfMemory>
-    ensures { (file line : ℕ) → OnOk result (plain_declarations file line found.new.items ≡ plain_declarations file line found.old.items ++ map Sort (map (λ name. name.now) names.now)) }
+    ensures { (file line : ℕ) →
+        OnOk result (plain_declarations file line found.new.items ≡ plain_declarations
+        file line found.old.items ++ map Sort (map (λ name. name.now) names.now)) }
 {
     for name in names {
         put_last(found, Declaration::Sort(name))?;
@@ -144,7 +161,9 @@ fn add_chain<'t, 's>(
     found: &mut Vec<Declaration<'t, 's>>,
     names: &[&'s str],
 ) -> Result<(), OutOfMemory>
-    ensures { (file line : ℕ) → OnOk result (plain_declarations file line found.new.items ≡ plain_declarations file line found.old.items ++ sort_declarations (Chain (map (λ name. name.now) names.now))) }
+    ensures { (file line : ℕ) →
+        OnOk result (plain_declarations file line found.new.items ≡ plain_declarations
+        file line found.old.items ++ sort_declarations (Chain (map (λ name. name.now) names.now))) }
 {
     let Some((first, lower)) = names.split_first() else {
         return Ok(());
@@ -163,7 +182,9 @@ fn add_link<'t, 's>(
     upper: &'s str,
     name: &'s str,
 ) -> Result<(), OutOfMemory>
-    ensures { (file line : ℕ) → OnOk result (plain_declarations file line found.new.items ≡ plain_declarations file line found.old.items ++ Link name.now ∷ Subsort upper.now name.now ∷ []) }
+    ensures { (file line : ℕ) →
+        OnOk result (plain_declarations file line found.new.items ≡ plain_declarations
+        file line found.old.items ++ Link name.now ∷ Subsort upper.now name.now ∷ []) }
 {
     put_last(found, Declaration::Link(name))?;
     put_last(found, Declaration::Subsort(upper, name))
@@ -174,7 +195,9 @@ fn add_members<'t, 's>(
     members: &[Member<'s>],
     sort: &'s str,
 ) -> Result<(), OutOfMemory>
-    ensures { (file line : ℕ) → OnOk result (plain_declarations file line found.new.items ≡ plain_declarations file line found.old.items ++ flat_map (member_declarations sort.now) (map plain_member members.now)) }
+    ensures { (file line : ℕ) →
+        OnOk result (plain_declarations file line found.new.items ≡ plain_declarations file line
+        found.old.items ++ flat_map (member_declarations sort.now) (map plain_member members.now)) }
 {
     for member in members {
         add_member(found, member, sort)?;
@@ -187,7 +210,9 @@ fn add_member<'t, 's>(
     member: &Member<'s>,
     sort: &'s str,
 ) -> Result<(), OutOfMemory>
-    ensures { (file line : ℕ) → OnOk result (plain_declarations file line found.new.items ≡ plain_declarations file line found.old.items ++ member_declarations sort.now (plain_member member.now)) }
+    ensures { (file line : ℕ) →
+        OnOk result (plain_declarations file line found.new.items ≡ plain_declarations
+        file line found.old.items ++ member_declarations sort.now (plain_member member.now)) }
 {
     match member {
         Member::Name(name) => put_last(found, Declaration::Object(name, sort)),
@@ -200,7 +225,9 @@ fn add_variables<'t, 's>(
     names: &[&'s str],
     sort: &'s str,
 ) -> Result<(), OutOfMemory>
-    ensures { (file line : ℕ) → OnOk result (plain_declarations file line found.new.items ≡ plain_declarations file line found.old.items ++ map (λ name. Variable name sort.now) (map (λ name. name.now) names.now)) }
+    ensures { (file line : ℕ) → OnOk result
+        (plain_declarations file line found.new.items ≡ plain_declarations file line found.old.items
+        ++ map (λ name. Variable name sort.now) (map (λ name. name.now) names.now)) }
 {
     for name in names {
         put_last(found, Declaration::Variable(name, sort))?;
@@ -213,7 +240,9 @@ fn add_constants<'t, 's>(
     shapes: &'t [Shape<'s>],
     kind: &'t KindTree<'s>,
 ) -> Result<(), OutOfMemory>
-    ensures { (file line : ℕ) → OnOk result (plain_declarations file line found.new.items ≡ plain_declarations file line found.old.items ++ map (λ shape. Constant shape (plain_kind kind.now) file line) (map plain_shape shapes.now)) }
+    ensures { (file line : ℕ) → OnOk result (plain_declarations file line found.new.items
+        ≡ plain_declarations file line found.old.items ++ map (λ shape.
+        Constant shape (plain_kind kind.now) file line) (map plain_shape shapes.now)) }
 {
     for shape in shapes {
         put_last(found, Declaration::Constant(shape, kind))?;

@@ -69,7 +69,8 @@ fn count_of(low: u32, high: u32) -> usize
 /// How much a declaration puts into sorts.
 fn puts_of(declaration: &Declaration<'_, '_>) -> usize
     ensures within { result ≤ 4294967296 }
-    ensures counted { (file line : ℕ) → result ≡ length (flat_map put_declared (plain_declaration file line declaration.now)) }
+    ensures counted { (file line : ℕ) →
+        result ≡ length (flat_map put_declared (plain_declaration file line declaration.now)) }
 {
     match declaration {
         Declaration::Object(..) => 1,
@@ -85,7 +86,8 @@ fn puts_of(declaration: &Declaration<'_, '_>) -> usize
 
 /// How much is put into sorts; counting stops at MANY.
 fn count_puts(new: &[Declaration<'_, '_>]) -> usize
-    ensures { (file line : ℕ) → result ≡ min (length (flat_map put_declared (plain_declarations file line new.now))) 10000 }
+    ensures { (file line : ℕ) →
+        result ≡ min (length (flat_map put_declared (plain_declarations file line new.now))) 10000 }
 {
     let mut count = 0;
     for declaration in new {
@@ -206,7 +208,8 @@ impl Register {
     }
 
     fn put_number(&mut self, alloc: Global, number: u32, sort: &str) -> Result<(), OutOfMemory>
-        ensures put { OnOk result (self.new ≡ object_put self.old (decimal number) sort.now (Some number)) }
+        ensures put { OnOk result
+            (self.new ≡ object_put self.old (decimal number) sort.now (Some number)) }
         ensures unchanged { OnErr result (self.new ≡ self.old) }
     {
         let digits = format!(in alloc; "{number}")?;
@@ -223,8 +226,10 @@ impl Register {
         high: u32,
         sort: &str,
     ) -> Result<(), OutOfMemory>
-        ensures put { OnOk result (self.new ≡ behind_all self.old (numbers_of sort.now (from_to low high))) }
-        ensures front { OnErr result (IsFrontOf self.old (numbers_of sort.now (from_to low high)) self.new) }
+        ensures put { OnOk result
+            (self.new ≡ behind_all self.old (numbers_of sort.now (from_to low high))) }
+        ensures front { OnErr result
+            (IsFrontOf self.old (numbers_of sort.now (from_to low high)) self.new) }
     {
         for more in 0..count_of(low, high) {
             self.put_number(alloc, (low as usize + more) as u32, sort)?;
@@ -257,7 +262,8 @@ impl Register {
     }
 
     fn sort_numbers(&self, alloc: Global, names: &[&str]) -> Result<Vec<u32>, OutOfMemory>
-        ensures { IfOk result (λ numbers. numbers.items ≡ map (number_in self.now.sorts.names) (map (λ name. name.now) names.now)) }
+        ensures { IfOk result (λ numbers. numbers.items
+            ≡ map (number_in self.now.sorts.names) (map (λ name. name.now) names.now)) }
     {
         let mut numbers = Vec::new(alloc);
         for name in names {
@@ -288,7 +294,8 @@ impl Register {
         file: u32,
         line: u32,
     ) -> Result<Placed, OutOfMemory>
-        ensures { IfOk result (λ placed. placed ≡ placed_in self.now (plain_shape shape.now) (plain_kind kind.now) file line) }
+        ensures { IfOk result (λ placed.
+            placed ≡ placed_in self.now (plain_shape shape.now) (plain_kind kind.now) file line) }
     {
         let name = String::from_str(alloc, shape.name)?;
         let sorts = self.sort_numbers(alloc, shape.sorts.items())?;
@@ -311,7 +318,8 @@ impl Register {
         file: u32,
         line: u32,
     ) -> Result<(), OutOfMemory>
-        ensures put { OnOk result (self.new ≡ symbol_put self.old (plain_shape shape.now) (plain_kind kind.now) file line) }
+        ensures put { OnOk result (self.new
+            ≡ symbol_put self.old (plain_shape shape.now) (plain_kind kind.now) file line) }
         ensures unchanged { OnErr result (self.new ≡ self.old) }
     {
         if self.symbols.find(shape.name).is_some() {
@@ -332,8 +340,10 @@ impl Register {
         line: u32,
         declaration: &Declaration<'_, '_>,
     ) -> Result<(), OutOfMemory>
-        ensures put { OnOk result (self.new ≡ behind_all self.old (plain_declaration file line declaration.now)) }
-        ensures front { OnErr result (IsFrontOf self.old (plain_declaration file line declaration.now) self.new) }
+        ensures put { OnOk result
+            (self.new ≡ behind_all self.old (plain_declaration file line declaration.now)) }
+        ensures front { OnErr result
+            (IsFrontOf self.old (plain_declaration file line declaration.now) self.new) }
     {
         match declaration {
             Declaration::Sort(name) => self.put_sort(alloc, name),
@@ -355,8 +365,10 @@ impl Register {
         line: u32,
         new: &[Declaration<'_, '_>],
     ) -> Result<(), OutOfMemory>
-        ensures put { OnOk result (self.new ≡ behind_all self.old (plain_declarations file line new.now)) }
-        ensures front { OnErr result (IsFrontOf self.old (plain_declarations file line new.now) self.new) }
+        ensures put { OnOk result
+            (self.new ≡ behind_all self.old (plain_declarations file line new.now)) }
+        ensures front { OnErr result
+            (IsFrontOf self.old (plain_declarations file line new.now) self.new) }
     {
         for declaration in new {
             self.put(alloc, file, line, declaration)?;
@@ -372,7 +384,8 @@ impl Register {
         line: u32,
         new: &[Declaration<'_, '_>],
     ) -> Result<Option<Refusal>, OutOfMemory>
-        ensures { (left : Items Declared) → IsEntered self.now left → IfOk result (λ refusal. refusal ≡ judged_refusal file line left (plain_declarations file line new.now)) }
+        ensures { (left : Items Declared) → IsEntered self.now left → IfOk result (λ refusal.
+            refusal ≡ judged_refusal file line left (plain_declarations file line new.now)) }
     {
         if let Some(number) = least_fault(alloc, self, new)? {
             return Ok(Some(Refusal::at(number, file, line)));
@@ -392,8 +405,12 @@ impl Register {
         line: u32,
         new: &[Declaration<'_, '_>],
     ) -> Result<(), Fault>
-        ensures declared { (left : Items Declared) (part : PlainPart) → IsEntered self.old left → AreOfPart file line part new.now → OnOk result (Enters file left (statement_of line part) self.new) }
-        ensures refused { (left : Items Declared) (part : PlainPart) → IsEntered self.old left → AreOfPart file line part new.now → IfErr result (IsRefusedFor file left (statement_of line part) self.old self.new) }
+        ensures declared { (left : Items Declared) (part : PlainPart) →
+            IsEntered self.old left → AreOfPart file line part new.now →
+            OnOk result (Enters file left (statement_of line part) self.new) }
+        ensures refused { (left : Items Declared) (part : PlainPart) →
+            IsEntered self.old left → AreOfPart file line part new.now →
+            IfErr result (IsRefusedFor file left (statement_of line part) self.old self.new) }
     {
         if let Some(refusal) = self.refusal_of(alloc, file, line, new)? {
             return Err(Fault::Refused(refusal));
@@ -409,8 +426,10 @@ impl Register {
         file: u32,
         statement: &Statement<'_>,
     ) -> Result<(), Fault>
-        ensures declared { (left : Items Declared) → IsEntered self.old left → OnOk result (Enters file left (plain_statement statement.now) self.new) }
-        ensures refused { (left : Items Declared) → IsEntered self.old left → IfErr result (IsRefusedFor file left (plain_statement statement.now) self.old self.new) }
+        ensures declared { (left : Items Declared) → IsEntered self.old left →
+            OnOk result (Enters file left (plain_statement statement.now) self.new) }
+        ensures refused { (left : Items Declared) → IsEntered self.old left → IfErr result
+            (IsRefusedFor file left (plain_statement statement.now) self.old self.new) }
     {
         let new = match declarations(alloc, statement) {
             Ok(new) => new,

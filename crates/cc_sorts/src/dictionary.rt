@@ -19,7 +19,8 @@ impl<V: Drop> Model for Dictionary<V> {
 
     ghost Value = { List (List ℕ × V) };
 
-    ghost view = { λ dictionary. map (λ entry. (string_bytes entry.0, entry.1)) dictionary.entries.entries };
+    ghost view = { λ dictionary.
+        map (λ entry. (string_bytes entry.0, entry.1)) dictionary.entries.entries };
 }
 
 impl<V: Drop> Dictionary<V> {

@@ -31,7 +31,8 @@ pub(crate) fn least_fault(
     table: &Register,
     new: &[Declaration],
 ) -> Result<Option<u8>, OutOfMemory>
-    ensures { (file line : ℕ) (left : Items Declared) → IsEntered table.now left → IfOk result (λ fault. fault ≡ declaration_fault left (plain_declarations file line new.now)) }
+    ensures { (file line : ℕ) (left : Items Declared) → IsEntered table.now left → IfOk result
+        (λ fault. fault ≡ declaration_fault left (plain_declarations file line new.now)) }
 {
     if any_in(alloc, table, FaultKind::Twice, new)? {
         return Ok(Some(4));
@@ -55,7 +56,8 @@ fn any_in(
     fault: FaultKind,
     new: &[Declaration],
 ) -> Result<bool, OutOfMemory>
-    ensures { (file line : ℕ) (left : Items Declared) → IsEntered table.now left → IfOk result (λ any. any ≡ any_has (fault_of fault) left (plain_declarations file line new.now)) }
+    ensures { (file line : ℕ) (left : Items Declared) → IsEntered table.now left → IfOk result
+        (λ any. any ≡ any_has (fault_of fault) left (plain_declarations file line new.now)) }
 {
     let mut left = Left::new(alloc, table);
     let any = any_behind(alloc, &mut left, fault, new);
@@ -70,7 +72,8 @@ fn any_behind<'t, 's>(
     fault: FaultKind,
     new: &[Declaration<'t, 's>],
 ) -> Result<bool, OutOfMemory>
-    ensures { (file line : ℕ) (declared : Items Declared) → IsLeft left.old declared → IfOk result (λ any. any ≡ any_has (fault_of fault) declared (plain_declarations file line new.now)) }
+    ensures { (file line : ℕ) (declared : Items Declared) → IsLeft left.old declared → IfOk result
+        (λ any. any ≡ any_has (fault_of fault) declared (plain_declarations file line new.now)) }
 {
     for declaration in new {
         if has(alloc, left, fault, declaration)? {
@@ -88,7 +91,9 @@ fn has<'t, 's>(
     fault: FaultKind,
     declaration: &Declaration<'t, 's>,
 ) -> Result<bool, OutOfMemory>
-    ensures { (file line : ℕ) (declared : Items Declared) → IsLeft left.now declared → IfOk result (λ has. has ≡ any_has (fault_of fault) declared (plain_declaration file line declaration.now)) }
+    ensures { (file line : ℕ) (declared : Items Declared) →
+        IsLeft left.now declared → IfOk result (λ has.
+        has ≡ any_has (fault_of fault) declared (plain_declaration file line declaration.now)) }
 {
     match fault {
         FaultKind::Twice => Ok(left.is_twice(declaration)),

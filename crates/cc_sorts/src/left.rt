@@ -134,20 +134,24 @@ impl<'d, 't, 's> Left<'d, 't, 's> {
     }
 
     fn are_sorts(&self, names: &List<&str>) -> bool
-        ensures { (left : Items Declared) → IsLeft self.now left → result ≡ are_sorts left (map (λ name. name.now) names.now) }
+        ensures { (left : Items Declared) →
+            IsLeft self.now left → result ≡ are_sorts left (map (λ name. name.now) names.now) }
     {
         self.has_each(names.items())
     }
 
     /// Whether the sort of an attribute, its action and the sorts of that one were declared.
     fn knows_attribute(&self, sort: &str, action: &Shape) -> bool
-        ensures { (left : Items Declared) → IsLeft self.now left → result ≡ (is_sort left sort.now && (are_sorts left (map (λ sort. sort.now) action.now.sorts) && is_taken left action.now.name.now)) }
+        ensures { (left : Items Declared) →
+            IsLeft self.now left → result ≡ (is_sort left sort.now && (are_sorts left
+            (map (λ sort. sort.now) action.now.sorts) && is_taken left action.now.name.now)) }
     {
         self.is_sort(sort) && (self.are_sorts(&action.sorts) && self.is_taken(action.name))
     }
 
     fn has_unknown(&self, kind: &KindTree) -> bool
-        ensures { (left : Items Declared) → IsLeft self.now left → result ≡ has_unknown left (plain_kind kind.now) }
+        ensures { (left : Items Declared) →
+            IsLeft self.now left → result ≡ has_unknown left (plain_kind kind.now) }
     {
         match kind {
             KindTree::Plain(_, Some(sort)) => !self.is_sort(sort),
@@ -158,7 +162,8 @@ impl<'d, 't, 's> Left<'d, 't, 's> {
 
     /// Whether the declaration names a sort or an action that was not declared.
     pub(crate) fn is_unknown(&self, declaration: &Declaration) -> bool
-        ensures { (file line : ℕ) (left : Items Declared) → IsLeft self.now left → result ≡ is_unknown left (plain_head file line declaration.now) }
+        ensures { (file line : ℕ) (left : Items Declared) →
+            IsLeft self.now left → result ≡ is_unknown left (plain_head file line declaration.now) }
     {
         match declaration {
             Declaration::Object(_, sort) => !self.is_sort(sort),
@@ -172,7 +177,8 @@ impl<'d, 't, 's> Left<'d, 't, 's> {
 
     /// How many arguments a constant has. Objects and variables have none.
     fn sort_count(&self, name: &str) -> usize
-        ensures { (left : Items Declared) → IsLeft self.now left → result ≡ length (declared_sorts left name.now) }
+        ensures { (left : Items Declared) →
+            IsLeft self.now left → result ≡ length (declared_sorts left name.now) }
     {
         match symbol_named(self.table, name) {
             Some(symbol) => symbol.sorts.items().len(),
@@ -191,14 +197,17 @@ impl<'d, 't, 's> Left<'d, 't, 's> {
 
     /// Whether the action was declared with as many arguments as it has here, and the attribute has as many.
     fn has_count(&self, shapes: &List<Shape>, action: &Shape) -> bool
-        ensures { (left : Items Declared) → IsLeft self.now left → result ≡ ((length action.now.sorts == length (declared_sorts left action.now.name.now)) && list_all (λ shape. length shape.sorts == length action.now.sorts) (map plain_shape shapes.now)) }
+        ensures { (left : Items Declared) → IsLeft self.now left → result ≡ ((length
+            action.now.sorts == length (declared_sorts left action.now.name.now)) && list_all
+            (λ shape. length shape.sorts == length action.now.sorts) (map plain_shape shapes.now)) }
     {
         let count = action.sorts.items().len();
         count == self.sort_count(action.name) && have_count(shapes, count)
     }
 
     fn has_other_count(&self, shapes: &List<Shape>, kind: &KindTree) -> bool
-        ensures { (left : Items Declared) → IsLeft self.now left → result ≡ has_other_count left (map plain_shape shapes.now) (plain_kind kind.now) }
+        ensures { (left : Items Declared) → IsLeft self.now left →
+            result ≡ has_other_count left (map plain_shape shapes.now) (plain_kind kind.now) }
     {
         match kind {
             KindTree::Plain(_, _) => false,
@@ -208,7 +217,8 @@ impl<'d, 't, 's> Left<'d, 't, 's> {
 
     /// Whether an action has another number of arguments than its declaration, or than its attribute.
     pub(crate) fn has_wrong_count(&self, declaration: &Declaration) -> bool
-        ensures { (file line : ℕ) (left : Items Declared) → IsLeft self.now left → result ≡ has_wrong_count left (plain_head file line declaration.now) }
+        ensures { (file line : ℕ) (left : Items Declared) → IsLeft self.now left →
+            result ≡ has_wrong_count left (plain_head file line declaration.now) }
     {
         match declaration {
             Declaration::Kinds(shapes, kind) => self.has_other_count(shapes, kind),
@@ -224,7 +234,8 @@ impl<'d, 't, 's> Left<'d, 't, 's> {
         alloc: Global,
         declaration: &Declaration<'t, 's>,
     ) -> Result<bool, OutOfMemory>
-        ensures { (file line : ℕ) (left : Items Declared) → IsLeft self.now left → IfOk result (λ wrong. wrong ≡ has_wrong_sort left (plain_head file line declaration.now)) }
+        ensures { (file line : ℕ) (left : Items Declared) → IsLeft self.now left → IfOk result
+            (λ wrong. wrong ≡ has_wrong_sort left (plain_head file line declaration.now)) }
     {
         match declaration {
             Declaration::Link(name) => Ok(is_boolean(name)),
@@ -240,7 +251,8 @@ impl<'d, 't, 's> Left<'d, 't, 's> {
 
     /// Whether a sort is the other or below it. Only a sort with others below it asks for a search.
     fn is_below(&self, alloc: Global, lower: &'s str, upper: &'s str) -> Result<bool, OutOfMemory>
-        ensures { (left : Items Declared) → IsLeft self.now left → IfOk result (λ below. below ≡ is_below (pairs left) lower.now upper.now) }
+        ensures { (left : Items Declared) → IsLeft self.now left →
+            IfOk result (λ below. below ≡ is_below (pairs left) lower.now upper.now) }
     {
         if self.has_lower(upper) {
             return self.is_found_above(alloc, lower, upper);
@@ -263,7 +275,8 @@ impl<'d, 't, 's> Left<'d, 't, 's> {
         lower: &'a str,
         upper: &'a str,
     ) -> Result<bool, OutOfMemory>
-        ensures { (left : Items Declared) → IsLeft self.now left → IfOk result (λ below. below ≡ is_below (pairs left) lower.now upper.now) }
+        ensures { (left : Items Declared) → IsLeft self.now left →
+            IfOk result (λ below. below ≡ is_below (pairs left) lower.now upper.now) }
     {
         let mut found: IndexSet<&'a str> = IndexSet::new(alloc);
         let mut closed: IndexSet<&'a str> = IndexSet::new(alloc);
@@ -304,7 +317,8 @@ impl<'d, 't, 's> Left<'d, 't, 's> {
         closed: &mut IndexSet<&'a str>,
     ) -> Result<(), OutOfMemory>
         requires { AreClosed self.now closed.old.keys found.old.keys }
-        ensures grown { OnOk result (Grows found.old.keys found.new.keys (all_uppers self.now sort.now)) }
+        ensures grown { OnOk result
+            (Grows found.old.keys found.new.keys (all_uppers self.now sort.now)) }
         ensures closed { OnOk result (AreClosed self.now closed.new.keys found.new.keys) }
     {
         self.add_by_table(sort, found, closed)?;
@@ -320,7 +334,8 @@ impl<'d, 't, 's> Left<'d, 't, 's> {
         closed: &mut IndexSet<&'a str>,
     ) -> Result<(), OutOfMemory>
         requires { AreClosed self.now closed.old.keys found.old.keys }
-        ensures grown { OnOk result (Grows found.old.keys found.new.keys (table_uppers self.now.table.now.sorts sort.now)) }
+        ensures grown { OnOk result
+            (Grows found.old.keys found.new.keys (table_uppers self.now.table.now.sorts sort.now)) }
         ensures closed { OnOk result (AreClosed self.now closed.new.keys found.new.keys) }
     {
         if closed.contains(sort) {
@@ -346,7 +361,8 @@ impl<'d, 't, 's> Left<'d, 't, 's> {
     }
 
     fn has_other_sorts(&self, shapes: &List<Shape>, kind: &KindTree) -> bool
-        ensures { (left : Items Declared) → IsLeft self.now left → result ≡ has_other_sorts left (map plain_shape shapes.now) (plain_kind kind.now) }
+        ensures { (left : Items Declared) → IsLeft self.now left →
+            result ≡ has_other_sorts left (map plain_shape shapes.now) (plain_kind kind.now) }
     {
         match kind {
             KindTree::Plain(_, _) => false,
@@ -356,7 +372,9 @@ impl<'d, 't, 's> Left<'d, 't, 's> {
 
     /// Whether the action was declared as a Boolean action with the sorts that it has here, and the attribute has these too.
     fn has_sorts(&self, shapes: &List<Shape>, action: &Shape) -> bool
-        ensures { (left : Items Declared) → IsLeft self.now left → result ≡ action_fits (constant_named left action.now.name.now) (map (λ sort. sort.now) action.now.sorts) (map plain_shape shapes.now) }
+        ensures { (left : Items Declared) →
+            IsLeft self.now left → result ≡ action_fits (constant_named left action.now.name.now)
+            (map (λ sort. sort.now) action.now.sorts) (map plain_shape shapes.now) }
     {
         match symbol_named(self.table, action.name) {
             Some(symbol) => symbol_fits(self.table, symbol, shapes, action),
@@ -365,7 +383,8 @@ impl<'d, 't, 's> Left<'d, 't, 's> {
     }
 
     fn new_fits(&self, shapes: &List<Shape>, action: &Shape) -> bool
-        ensures { result ≡ shaped_fits (left_constant self.now action.now.name.now) (map (λ sort. sort.now) action.now.sorts) (map plain_shape shapes.now) }
+        ensures { result ≡ shaped_fits (left_constant self.now action.now.name.now)
+            (map (λ sort. sort.now) action.now.sorts) (map plain_shape shapes.now) }
     {
         match self.constants.get(action.name) {
             Some(constant) => constant_fits(constant, shapes, action),
@@ -379,7 +398,8 @@ impl<'d, 't, 's> Left<'d, 't, 's> {
         alloc: Global,
         declaration: &Declaration<'t, 's>,
     ) -> Result<(), OutOfMemory>
-        ensures { (file line : ℕ) → OnOk result (Adds self.old self.new (plain_declaration file line declaration.now)) }
+        ensures { (file line : ℕ) →
+            OnOk result (Adds self.old self.new (plain_declaration file line declaration.now)) }
     {
         match declaration {
             Declaration::Sort(name) => self.add_sort(name),
@@ -400,14 +420,17 @@ impl<'d, 't, 's> Left<'d, 't, 's> {
     }
 
     fn add_name(&mut self, name: &'s str) -> Result<(), OutOfMemory>
-        ensures object { (sort : Items ℕ) → OnOk result (Adds self.old self.new (Object name.now sort ∷ [])) }
-        ensures variable { (sort : Items ℕ) → OnOk result (Adds self.old self.new (Variable name.now sort ∷ [])) }
+        ensures object { (sort : Items ℕ) →
+            OnOk result (Adds self.old self.new (Object name.now sort ∷ [])) }
+        ensures variable { (sort : Items ℕ) →
+            OnOk result (Adds self.old self.new (Variable name.now sort ∷ [])) }
     {
         put_key(&mut self.names, name)
     }
 
     fn add_range(&mut self, low: u32, high: u32, sort: &'s str) -> Result<(), OutOfMemory>
-        ensures { OnOk result (Adds self.old self.new (Span low high sort.now ∷ numbers_of sort.now (from_to low high))) }
+        ensures { OnOk result (Adds self.old self.new
+            (Span low high sort.now ∷ numbers_of sort.now (from_to low high))) }
     {
         put_last(&mut self.ranges, Range { low, high, sort })
     }
@@ -417,7 +440,8 @@ impl<'d, 't, 's> Left<'d, 't, 's> {
         shape: &'t Shape<'s>,
         kind: &'t KindTree<'s>,
     ) -> Result<(), OutOfMemory>
-        ensures { (file line : ℕ) → OnOk result (Adds self.old self.new (ConstantOf (plain_shape shape.now) (plain_kind kind.now) file line ∷ [])) }
+        ensures { (file line : ℕ) → OnOk result (Adds self.old self.new
+            (ConstantOf (plain_shape shape.now) (plain_kind kind.now) file line ∷ [])) }
     {
         put_key(&mut self.names, shape.name)?;
         if self.constants.contains_key(shape.name) {
@@ -461,7 +485,8 @@ fn add_upper<'s>(
     upper: &'s str,
     lower: &'s str,
 ) -> Result<(), OutOfMemory>
-    ensures { OnOk result (AddsUpper uppers_of.old.entries uppers_of.new.entries (upper.now, lower.now)) }
+    ensures { OnOk result
+        (AddsUpper uppers_of.old.entries uppers_of.new.entries (upper.now, lower.now)) }
 {
     if let Some(uppers) = uppers_of.get_mut(lower) {
         return put_last(uppers, upper);
@@ -490,7 +515,8 @@ fn add_numbered<'a>(
     found: &mut IndexSet<&'a str>,
 ) -> Result<(), OutOfMemory>
     requires { AreBelow (length sorts.now.names) numbers.now }
-    ensures { OnOk result (Grows found.old.keys found.new.keys (map (name_at sorts.now) numbers.now)) }
+    ensures { OnOk result
+        (Grows found.old.keys found.new.keys (map (name_at sorts.now) numbers.now)) }
 {
     for number in numbers {
         put_key(found, sorts.name(*number as usize))?;
@@ -535,7 +561,8 @@ fn symbol_named<'a>(table: &'a Register, name: &str) -> Option<&'a Symbol>
 
 /// Whether each shape has so many arguments.
 fn have_count(shapes: &List<Shape>, count: usize) -> bool
-    ensures { result ≡ list_all (λ shape. length shape.sorts == count) (map plain_shape shapes.now) }
+    ensures { result
+        ≡ list_all (λ shape. length shape.sorts == count) (map plain_shape shapes.now) }
 {
     let items = shapes.items();
     for shape in items {
@@ -554,7 +581,8 @@ fn is_boolean(sort: &str) -> bool
 
 /// Whether a symbol of the table is a Boolean action with these sorts.
 fn symbol_fits(table: &Register, symbol: &Symbol, shapes: &List<Shape>, action: &Shape) -> bool
-    ensures { result ≡ numbers_fit table.now symbol.now (map (λ sort. sort.now) action.now.sorts) (map plain_shape shapes.now) }
+    ensures { result ≡ numbers_fit table.now symbol.now
+        (map (λ sort. sort.now) action.now.sorts) (map plain_shape shapes.now) }
 {
     is_boolean_action_symbol(symbol)
         && (are_numbered(table, action.sorts.items(), symbol.sorts.items())
@@ -579,7 +607,8 @@ fn has_number(table: &Register, sort: &str, number: u32) -> bool
 
 /// Whether these are the numbers of the sorts.
 fn are_numbered(table: &Register, sorts: &[&str], numbers: &[u32]) -> bool
-    ensures { result ≡ are_numbered table.now.sorts.names (map (λ sort. sort.now) sorts.now) numbers.now }
+    ensures { result
+        ≡ are_numbered table.now.sorts.names (map (λ sort. sort.now) sorts.now) numbers.now }
 {
     if sorts.len() != numbers.len() {
         return false;
@@ -593,7 +622,8 @@ fn are_numbered(table: &Register, sorts: &[&str], numbers: &[u32]) -> bool
 }
 
 fn have_numbers(table: &Register, shapes: &List<Shape>, numbers: &[u32]) -> bool
-    ensures { result ≡ list_all (λ shape. are_numbered table.now.sorts.names shape.sorts numbers.now) (map plain_shape shapes.now) }
+    ensures { result ≡ list_all (λ shape.
+        are_numbered table.now.sorts.names shape.sorts numbers.now) (map plain_shape shapes.now) }
 {
     let items = shapes.items();
     for shape in items {
@@ -606,7 +636,8 @@ fn have_numbers(table: &Register, shapes: &List<Shape>, numbers: &[u32]) -> bool
 
 /// Whether a new constant is a Boolean action with these sorts.
 fn constant_fits(constant: &Constant, shapes: &List<Shape>, action: &Shape) -> bool
-    ensures { result ≡ shaped_fits (Some (plain_constant constant.now)) (map (λ sort. sort.now) action.now.sorts) (map plain_shape shapes.now) }
+    ensures { result ≡ shaped_fits (Some (plain_constant constant.now))
+        (map (λ sort. sort.now) action.now.sorts) (map plain_shape shapes.now) }
 {
     is_boolean_action(constant.kind)
         && (same_sorts(action.sorts.items(), constant.shape.sorts.items())
@@ -627,13 +658,15 @@ fn is_boolean_action(kind: &KindTree) -> bool
 }
 
 fn same_sorts(sorts: &[&str], others: &[&str]) -> bool
-    ensures { result ≡ same_sorts (map (λ sort. sort.now) sorts.now) (map (λ sort. sort.now) others.now) }
+    ensures { result
+        ≡ same_sorts (map (λ sort. sort.now) sorts.now) (map (λ sort. sort.now) others.now) }
 {
     sorts == others
 }
 
 fn each_has_sorts(shapes: &List<Shape>, sorts: &[&str]) -> bool
-    ensures { result ≡ list_all (λ shape. same_sorts shape.sorts (map (λ sort. sort.now) sorts.now)) (map plain_shape shapes.now) }
+    ensures { result ≡ list_all (λ shape.
+        same_sorts shape.sorts (map (λ sort. sort.now) sorts.now)) (map plain_shape shapes.now) }
 {
     let items = shapes.items();
     for shape in items {

@@ -18,7 +18,8 @@ fn make_room_at(
 ) -> Result<(), OutOfMemory>
     requires { number < vec_len lists.old }
     ensures same { lists_of lists.new.items ≡ lists_of lists.old.items }
-    ensures grown { (k : ℕ) → slice_index_or (capacities_of lists.old.items) k 0 ≤ slice_index_or (capacities_of lists.new.items) k 0 }
+    ensures grown { (k : ℕ) → slice_index_or
+        (capacities_of lists.old.items) k 0 ≤ slice_index_or (capacities_of lists.new.items) k 0 }
     ensures grown_to_move { vec_capacity moved.old ≤ vec_capacity moved.new }
     ensures room { OnOk result (HasRoom lists.new.items more (vec_capacity moved.new) number) }
 {
@@ -39,7 +40,8 @@ pub(crate) fn make_room(
     requires { AreBelow (vec_len lists.old) numbers.now }
     ensures same { lists_of lists.new.items ≡ lists_of lists.old.items }
     ensures grown { vec_capacity moved.old ≤ vec_capacity moved.new }
-    ensures room { OnOk result (HaveRoom lists.new.items more (vec_capacity moved.new) numbers.now) }
+    ensures room { OnOk result
+        (HaveRoom lists.new.items more (vec_capacity moved.new) numbers.now) }
 {
     'widening: for number in numbers {
         make_room_at(lists, *number, more, moved)?;
@@ -59,8 +61,10 @@ fn unite_at(
     requires others { Ascends others.now }
     requires room { HasRoom lists.old.items (length others.now) (vec_capacity moved.old) number }
     ensures done { IsOk result }
-    ensures united { lists_of lists.new.items ≡ slice_set (lists_of lists.old.items) number (union (list_at (lists_of lists.old.items) number) others.now) }
-    ensures kept { (k : ℕ) → k ≢ number → slice_index_or (capacities_of lists.new.items) k 0 ≡ slice_index_or (capacities_of lists.old.items) k 0 }
+    ensures united { lists_of lists.new.items ≡ slice_set (lists_of lists.old.items) number
+        (union (list_at (lists_of lists.old.items) number) others.now) }
+    ensures kept { (k : ℕ) → k ≢ number → slice_index_or (capacities_of lists.new.items) k 0
+        ≡ slice_index_or (capacities_of lists.old.items) k 0 }
     ensures kept_to_move { vec_capacity moved.old ≤ vec_capacity moved.new }
 {
     let list = &mut lists[number as usize];
@@ -78,10 +82,12 @@ pub(crate) fn unite_each(
     requires numbers { Ascends numbers.now }
     requires lists { AllAscend (lists_of lists.old.items) }
     requires others { Ascends others.now }
-    requires room { HaveRoom lists.old.items (length others.now) (vec_capacity moved.old) numbers.now }
+    requires room { HaveRoom lists.old.items
+        (length others.now) (vec_capacity moved.old) numbers.now }
     ensures done { IsOk result }
     ensures kept { vec_capacity moved.old ≤ vec_capacity moved.new }
-    ensures united { lists_of lists.new.items ≡ at_each numbers.now (λ list. union list others.now) (lists_of lists.old.items) }
+    ensures united { lists_of lists.new.items
+        ≡ at_each numbers.now (λ list. union list others.now) (lists_of lists.old.items) }
 {
     'widening: for number in numbers {
         unite_at(lists, *number, others, moved)?;
@@ -115,9 +121,12 @@ fn widen(
     requires above { AllAscend (lists_of above.old.items) }
     requires below { AllAscend (lists_of below.old.items) }
     requires members { AllAscend (lists_of members.old.items) }
-    ensures above { lists_of above.new.items ≡ (if is_ok result then at_each lowers.now (λ list. union list uppers.now) (lists_of above.old.items) else lists_of above.old.items) }
-    ensures below { lists_of below.new.items ≡ (if is_ok result then at_each uppers.now (λ list. union list lowers.now) (lists_of below.old.items) else lists_of below.old.items) }
-    ensures members { lists_of members.new.items ≡ (if is_ok result then at_each uppers.now (λ list. union list objects.now) (lists_of members.old.items) else lists_of members.old.items) }
+    ensures above { lists_of above.new.items ≡ (if is_ok result then at_each lowers.now
+        (λ list. union list uppers.now) (lists_of above.old.items) else lists_of above.old.items) }
+    ensures below { lists_of below.new.items ≡ (if is_ok result then at_each uppers.now
+        (λ list. union list lowers.now) (lists_of below.old.items) else lists_of below.old.items) }
+    ensures members { lists_of members.new.items ≡ (if is_ok result then at_each uppers.now (λ list.
+        union list objects.now) (lists_of members.old.items) else lists_of members.old.items) }
 {
     make_room(above, lowers, uppers.len(), moved)?;
     make_room(below, uppers, lowers.len(), moved)?;
@@ -151,9 +160,12 @@ impl Moves {
         requires upper { upper < length above.now }
         requires lower { lower < length below.now }
         requires members { lower < length members.now }
-        ensures uppers { IfOk result (λ moves. moves.uppers.items ≡ list_at (lists_of above.now) upper) }
-        ensures lowers { IfOk result (λ moves. moves.lowers.items ≡ list_at (lists_of below.now) lower) }
-        ensures objects { IfOk result (λ moves. moves.objects.items ≡ list_at (lists_of members.now) lower) }
+        ensures uppers { IfOk result (λ moves.
+            moves.uppers.items ≡ list_at (lists_of above.now) upper) }
+        ensures lowers { IfOk result (λ moves.
+            moves.lowers.items ≡ list_at (lists_of below.now) lower) }
+        ensures objects { IfOk result (λ moves.
+            moves.objects.items ≡ list_at (lists_of members.now) lower) }
     {
         let uppers = copy_at(alloc, above, upper)?;
         let lowers = copy_at(alloc, below, lower)?;
@@ -183,9 +195,15 @@ impl Moves {
         requires above { AllAscend (lists_of above.old.items) }
         requires below { AllAscend (lists_of below.old.items) }
         requires members { AllAscend (lists_of members.old.items) }
-        ensures above { lists_of above.new.items ≡ (if is_ok result then at_each self.now.lowers.items (λ list. union list self.now.uppers.items) (lists_of above.old.items) else lists_of above.old.items) }
-        ensures below { lists_of below.new.items ≡ (if is_ok result then at_each self.now.uppers.items (λ list. union list self.now.lowers.items) (lists_of below.old.items) else lists_of below.old.items) }
-        ensures members { lists_of members.new.items ≡ (if is_ok result then at_each self.now.uppers.items (λ list. union list self.now.objects.items) (lists_of members.old.items) else lists_of members.old.items) }
+        ensures above { lists_of above.new.items ≡ (if is_ok
+            result then at_each self.now.lowers.items (λ list. union list self.now.uppers.items)
+            (lists_of above.old.items) else lists_of above.old.items) }
+        ensures below { lists_of below.new.items ≡ (if is_ok
+            result then at_each self.now.uppers.items (λ list. union list self.now.lowers.items)
+            (lists_of below.old.items) else lists_of below.old.items) }
+        ensures members { lists_of members.new.items ≡ (if is_ok
+            result then at_each self.now.uppers.items (λ list. union list self.now.objects.items)
+            (lists_of members.old.items) else lists_of members.old.items) }
     {
         widen(
             above,
@@ -208,9 +226,12 @@ pub(crate) fn put_lists(
     members: &mut Vec<Vec<u32>>,
     number: u32,
 ) -> Result<(), OutOfMemory>
-    ensures above { lists_of above.new.items ≡ (if is_ok result then lists_of above.old.items ++ (number ∷ []) ∷ [] else lists_of above.old.items) }
-    ensures below { lists_of below.new.items ≡ (if is_ok result then lists_of below.old.items ++ (number ∷ []) ∷ [] else lists_of below.old.items) }
-    ensures members { lists_of members.new.items ≡ (if is_ok result then lists_of members.old.items ++ [] ∷ [] else lists_of members.old.items) }
+    ensures above { lists_of above.new.items ≡ (if is_ok result then lists_of above.old.items
+        ++ (number ∷ []) ∷ [] else lists_of above.old.items) }
+    ensures below { lists_of below.new.items ≡ (if is_ok result then lists_of below.old.items
+        ++ (number ∷ []) ∷ [] else lists_of below.old.items) }
+    ensures members { lists_of members.new.items ≡ (if is_ok result then lists_of members.old.items
+        ++ [] ∷ [] else lists_of members.old.items) }
 {
     above.reserve(1)?;
     below.reserve(1)?;

@@ -29,7 +29,8 @@ impl Model for Objects {
 
     ghost view = { λ objects. record { named = objects.names; numbers = objects.numbers.items } };
 
-    ghost invariant = { λ objects. AreObjects objects.names objects.numbers.items objects.places.entries };
+    ghost invariant = { λ objects.
+        AreObjects objects.names objects.numbers.items objects.places.entries };
 }
 
 impl Objects {

@@ -44,9 +44,18 @@ impl Model for Register {
 
     ghost Value = { TableView };
 
-    ghost view = { λ register. record { sorts = register.sorts; puts = register.puts.items; objects = register.objects.named; numbers = register.objects.numbers; variables = register.variables; symbols = values_of register.symbols } };
+    ghost view = { λ register. record {
+      sorts = register.sorts;
+      puts = register.puts.items;
+      objects = register.objects.named;
+      numbers = register.objects.numbers;
+      variables = register.variables;
+      symbols = values_of register.symbols;
+    } };
 
-    ghost invariant = { λ register. Fits register.sorts register.puts.items (lists_of register.lists.items) register.objects.named register.variables register.symbols };
+    ghost invariant = { λ register.
+        Fits register.sorts register.puts.items (lists_of register.lists.items)
+        register.objects.named register.variables register.symbols };
 }
 
 const FALSE: PutAt = PutAt {
@@ -192,7 +201,8 @@ impl Register {
 
     /// Whether a name was put under this name.
     pub(crate) fn has_put_as(&self, name: &str) -> bool
-        ensures { result ≡ list_any (is_put_as (number_of (names_of self.now.objects) name.now)) self.now.puts }
+        ensures { result
+            ≡ list_any (is_put_as (number_of (names_of self.now.objects) name.now)) self.now.puts }
     {
         match self.objects.find(name) {
             Some(object) => is_put_as(&self.puts, object as u32),
@@ -221,7 +231,8 @@ impl Register {
     /// The symbol of a constant.
     pub(crate) fn symbol_of(&self, symbol: u32) -> &Symbol
         requires { symbol < length self.now.symbols }
-        ensures { Some result.now ≡ option_map (λ placed. placed.symbol) (slice_get self.now.symbols symbol) }
+        ensures { Some result.now
+            ≡ option_map (λ placed. placed.symbol) (slice_get self.now.symbols symbol) }
     {
         &self.symbols.value(symbol as usize).unwrap().symbol
     }
@@ -252,7 +263,8 @@ impl Register {
     pub(crate) fn below(&self, lower: u32, upper: u32) -> bool
         requires lower { lower < length self.now.sorts.names }
         requires upper { upper < length self.now.sorts.names }
-        ensures { result ≡ is_below self.now.sorts.pairs (name_at self.now.sorts lower) (name_at self.now.sorts upper) }
+        ensures { result ≡ is_below self.now.sorts.pairs
+            (name_at self.now.sorts lower) (name_at self.now.sorts upper) }
     {
         self.sorts.below(lower as usize, upper as usize)
     }

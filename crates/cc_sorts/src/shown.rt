@@ -53,7 +53,8 @@ pub(crate) fn has_put_from(puts: &[PutAt], low: u32, high: u32, sort: u32) -> bo
 fn reserve_at(lists: &mut Vec<Vec<u32>>, number: u32, more: usize) -> Result<(), OutOfMemory>
     requires { number < vec_len lists.old }
     ensures same { lists_of lists.new.items ≡ lists_of lists.old.items }
-    ensures grown { (k : ℕ) → slice_index_or (capacities_of lists.old.items) k 0 ≤ slice_index_or (capacities_of lists.new.items) k 0 }
+    ensures grown { (k : ℕ) → slice_index_or
+        (capacities_of lists.old.items) k 0 ≤ slice_index_or (capacities_of lists.new.items) k 0 }
     ensures room { OnOk result (HasSpace lists.new.items more number) }
 {
     let list = &mut lists[number as usize];
@@ -65,7 +66,8 @@ fn reserve_at(lists: &mut Vec<Vec<u32>>, number: u32, more: usize) -> Result<(),
 fn reserve_each(lists: &mut Vec<Vec<u32>>, numbers: &[u32]) -> Result<(), OutOfMemory>
     requires { AreBelow (vec_len lists.old) numbers.now }
     ensures same { lists_of lists.new.items ≡ lists_of lists.old.items }
-    ensures room { OnOk result ((k : ℕ) → k < length numbers.now → HasSpace lists.new.items 1 (slice_index_or numbers.now k 0)) }
+    ensures room { OnOk result ((k : ℕ) →
+        k < length numbers.now → HasSpace lists.new.items 1 (slice_index_or numbers.now k 0)) }
 {
     'widening: for number in numbers {
         reserve_at(lists, *number, 1)?;
@@ -83,7 +85,9 @@ fn reserve_above(
     requires within { AreBelow (vec_len lists.old) numbers.now }
     requires known { AreBelow (length sorts.now.names) numbers.now }
     ensures same { lists_of lists.new.items ≡ lists_of lists.old.items }
-    ensures room { OnOk result ((k : ℕ) → k < length numbers.now → length (members_at sorts.now (slice_index_or numbers.now k 0)) + more ≤ slice_index_or (capacities_of lists.new.items) (slice_index_or numbers.now k 0) 0) }
+    ensures room { OnOk result ((k : ℕ) → k < length numbers.now →
+        length (members_at sorts.now (slice_index_or numbers.now k 0)) + more ≤ slice_index_or
+        (capacities_of lists.new.items) (slice_index_or numbers.now k 0) 0) }
 {
     'widening: for number in numbers {
         let members = sorts.members(*number as usize);
@@ -140,10 +144,13 @@ fn show_at(
 ) -> Result<(), OutOfMemory>
     requires number { number < vec_len lists.old }
     requires room { HasSpace lists.old.items 1 number }
-    requires fresh { fresh ≡ true → is_among object (list_at (lists_of lists.old.items) number) ≡ false }
+    requires fresh { fresh ≡ true →
+        is_among object (list_at (lists_of lists.old.items) number) ≡ false }
     ensures done { IsOk result }
-    ensures shown { lists_of lists.new.items ≡ slice_set (lists_of lists.old.items) number (put_end object (list_at (lists_of lists.old.items) number)) }
-    ensures kept { (k : ℕ) → k ≢ number → slice_index_or (capacities_of lists.new.items) k 0 ≡ slice_index_or (capacities_of lists.old.items) k 0 }
+    ensures shown { lists_of lists.new.items ≡ slice_set (lists_of lists.old.items) number
+        (put_end object (list_at (lists_of lists.old.items) number)) }
+    ensures kept { (k : ℕ) → k ≢ number → slice_index_or (capacities_of lists.new.items) k 0
+        ≡ slice_index_or (capacities_of lists.old.items) k 0 }
 {
     let list = &mut lists[number as usize];
     show(list, object, fresh)
@@ -158,10 +165,13 @@ fn show_each(
 ) -> Result<(), OutOfMemory>
     requires within { AreBelow (vec_len lists.old) numbers.now }
     requires numbers { Ascends numbers.now }
-    requires room { (k : ℕ) → k < length numbers.now → HasSpace lists.old.items 1 (slice_index_or numbers.now k 0) }
-    requires fresh { fresh ≡ true → AllByRecursion (λ list. is_among object list ≡ false) (lists_of lists.old.items) }
+    requires room { (k : ℕ) →
+        k < length numbers.now → HasSpace lists.old.items 1 (slice_index_or numbers.now k 0) }
+    requires fresh { fresh ≡ true →
+        AllByRecursion (λ list. is_among object list ≡ false) (lists_of lists.old.items) }
     ensures done { IsOk result }
-    ensures shown { lists_of lists.new.items ≡ at_each numbers.now (put_end object) (lists_of lists.old.items) }
+    ensures shown { lists_of lists.new.items
+        ≡ at_each numbers.now (put_end object) (lists_of lists.old.items) }
 {
     'showing: for number in numbers {
         show_at(lists, *number, object, fresh)?;
@@ -202,8 +212,10 @@ fn fill_at(
     requires room { length numbers.now ≤ slice_index_or (capacities_of lists.old.items) number 0 }
     requires within { AreBelow (length puts.now) numbers.now }
     ensures done { IsOk result }
-    ensures filled { lists_of lists.new.items ≡ slice_set (lists_of lists.old.items) number (shown_list puts.now numbers.now) }
-    ensures kept { (k : ℕ) → k ≢ number → slice_index_or (capacities_of lists.new.items) k 0 ≡ slice_index_or (capacities_of lists.old.items) k 0 }
+    ensures filled { lists_of lists.new.items
+        ≡ slice_set (lists_of lists.old.items) number (shown_list puts.now numbers.now) }
+    ensures kept { (k : ℕ) → k ≢ number → slice_index_or (capacities_of lists.new.items) k 0
+        ≡ slice_index_or (capacities_of lists.old.items) k 0 }
 {
     let list = &mut lists[number as usize];
     fill(list, numbers, puts)
@@ -220,9 +232,12 @@ fn fill_each(
     requires known { AreBelow (length sorts.now.names) numbers.now }
     requires numbers { Ascends numbers.now }
     requires past { IsPast (length puts.now) sorts.now }
-    requires room { (k : ℕ) → k < length numbers.now → length (members_at sorts.now (slice_index_or numbers.now k 0)) ≤ slice_index_or (capacities_of lists.old.items) (slice_index_or numbers.now k 0) 0 }
+    requires room { (k : ℕ) → k < length numbers.now →
+        length (members_at sorts.now (slice_index_or numbers.now k 0)) ≤ slice_index_or
+        (capacities_of lists.old.items) (slice_index_or numbers.now k 0) 0 }
     ensures done { IsOk result }
-    ensures filled { lists_of lists.new.items ≡ set_each numbers.now (λ number. shown_list puts.now (members_at sorts.now number)) (lists_of lists.old.items) }
+    ensures filled { lists_of lists.new.items ≡ set_each numbers.now (λ number.
+        shown_list puts.now (members_at sorts.now number)) (lists_of lists.old.items) }
 {
     'filling: for number in numbers {
         fill_at(lists, *number, sorts.members(*number as usize), puts)?;
@@ -260,7 +275,8 @@ pub(crate) fn add_pair(
 ) -> Result<(), OutOfMemory>
     requires upper { upper < length sorts.old.names }
     requires lower { lower < length sorts.old.names }
-    requires apart { is_below sorts.old.pairs (name_at sorts.old upper) (name_at sorts.old lower) ≡ false }
+    requires apart { is_below sorts.old.pairs (name_at sorts.old upper) (name_at sorts.old lower)
+        ≡ false }
     requires past { IsPast (length puts.now) sorts.old }
     requires as_many { length sorts.old.members ≡ length sorts.old.names }
     requires shown { lists_of lists.old.items ≡ shown_lists puts.now sorts.old.members }
@@ -287,8 +303,10 @@ pub(crate) fn add_put(
     requires past { IsPast (length puts.old.items) sorts.old }
     requires as_many { length sorts.old.members ≡ length sorts.old.names }
     requires shown { lists_of lists.old.items ≡ shown_lists puts.old.items sorts.old.members }
-    requires fresh { fresh ≡ true → AllByRecursion (λ other. other.object < put.object) puts.old.items }
-    ensures added { OnOk result (sorts.new ≡ with_object sorts.old put.sort (length puts.old.items)) }
+    requires fresh { fresh ≡ true →
+        AllByRecursion (λ other. other.object < put.object) puts.old.items }
+    ensures added { OnOk result
+        (sorts.new ≡ with_object sorts.old put.sort (length puts.old.items)) }
     ensures unchanged { OnErr result (sorts.new ≡ sorts.old) }
     ensures put { OnOk result (puts.new.items ≡ puts.old.items ++ put ∷ []) }
     ensures puts_kept { OnErr result (puts.new.items ≡ puts.old.items) }

@@ -54,7 +54,8 @@ fn longer_rows(
     row: &[u32],
     objects: &[u32],
 ) -> Result<(), OutOfMemory>
-    ensures { OnOk result (rows.new.items ≡ rows.old.items ++ map (λ object. row.now ++ object ∷ []) objects.now) }
+    ensures { OnOk result
+        (rows.new.items ≡ rows.old.items ++ map (λ object. row.now ++ object ∷ []) objects.now) }
 {
     for object in objects {
         put_last(rows, longer_row(alloc, row, *object)?)?;
@@ -64,7 +65,8 @@ fn longer_rows(
 
 /// All rows with each object behind them.
 fn with_objects(alloc: Global, rows: &[Nums], objects: &[u32]) -> Result<Vec<Nums>, OutOfMemory>
-    ensures { IfOk result (λ longer. longer.items ≡ flat_map (λ row. map (λ object. row ++ object ∷ []) objects.now) rows.now) }
+    ensures { IfOk result (λ longer.
+        longer.items ≡ flat_map (λ row. map (λ object. row ++ object ∷ []) objects.now) rows.now) }
 {
     let mut longer = Vec::new(alloc);
     for row in rows {
@@ -116,7 +118,8 @@ impl Register {
 
     /// How many instances a symbol has among the actions or the fluents; counting stops at MANY.
     fn count(&self, actions: bool, placed: &Placed) -> usize
-        ensures { (number : ℕ) → result ≡ min (length (instances_by (shown self.now).sorts actions number placed.now)) 20001 }
+        ensures { (number : ℕ) → result
+            ≡ min (length (instances_by (shown self.now).sorts actions number placed.now)) 20001 }
     {
         if passes(actions, placed.symbol.kind) {
             self.row_count(placed.symbol.sorts.items())
@@ -138,14 +141,16 @@ impl Register {
 
     /// Whether a symbol has an instance without a value.
     fn has_empty(&self, actions: bool, placed: &Placed) -> bool
-        ensures { (number : ℕ) → result ≡ list_any is_empty (instances_by (shown self.now).sorts actions number placed.now) }
+        ensures { (number : ℕ) → result
+            ≡ list_any is_empty (instances_by (shown self.now).sorts actions number placed.now) }
     {
         self.count(actions, placed) > 0 && !self.has_more_values(&placed.symbol, 0)
     }
 
     /// Whether a symbol has an instance with too many values.
     fn has_wide(&self, actions: bool, placed: &Placed) -> bool
-        ensures { (number : ℕ) → result ≡ passes_domain_values (instances_by (shown self.now).sorts actions number placed.now) }
+        ensures { (number : ℕ) → result
+            ≡ passes_domain_values (instances_by (shown self.now).sorts actions number placed.now) }
     {
         let most = LimitAt::DomainValues.number() as usize;
         self.count(actions, placed) > 0 && self.has_more_values(&placed.symbol, most)
@@ -153,7 +158,8 @@ impl Register {
 
     /// The symbol of the first instance without a value.
     fn first_empty(&self, actions: bool) -> Option<usize>
-        ensures { result ≡ option_map (λ constant. constant.symbol) (find is_empty (instances_from (shown self.now).sorts actions 0 self.now.symbols)) }
+        ensures { result ≡ option_map (λ constant. constant.symbol)
+            (find is_empty (instances_from (shown self.now).sorts actions 0 self.now.symbols)) }
     {
         for number in 0..self.symbol_count() {
             if self.has_empty(actions, self.placed_at(number)) {
@@ -165,7 +171,8 @@ impl Register {
 
     /// Whether an instance has too many values.
     fn any_wide(&self, actions: bool) -> bool
-        ensures { result ≡ passes_domain_values (instances_from (shown self.now).sorts actions 0 self.now.symbols) }
+        ensures { result ≡ passes_domain_values
+            (instances_from (shown self.now).sorts actions 0 self.now.symbols) }
     {
         for number in 0..self.symbol_count() {
             if self.has_wide(actions, self.placed_at(number)) {
@@ -177,7 +184,8 @@ impl Register {
 
     /// How many instances there are; counting stops at MANY.
     fn total(&self, actions: bool) -> usize
-        ensures { result ≡ min (length (instances_from (shown self.now).sorts actions 0 self.now.symbols)) 20001 }
+        ensures { result ≡ min
+            (length (instances_from (shown self.now).sorts actions 0 self.now.symbols)) 20001 }
     {
         let mut total = 0;
         for number in 0..self.symbol_count() {
@@ -199,7 +207,8 @@ impl Register {
 
     /// The first symbol, fluents before actions, with an instance that has no value.
     fn empty_symbol(&self) -> Option<usize>
-        ensures { result ≡ option_map (λ constant. constant.symbol) (find is_empty (all_instances (shown self.now))) }
+        ensures { result ≡ option_map
+            (λ constant. constant.symbol) (find is_empty (all_instances (shown self.now))) }
     {
         match self.first_empty(false) {
             Some(number) => Some(number),
@@ -271,7 +280,8 @@ impl Register {
         symbol: &Symbol,
         rows: Vec<Nums>,
     ) -> Result<(), OutOfMemory>
-        ensures { OnOk result (written.new.items ≡ written.old.items ++ map (constant_by (shown self.now).sorts number symbol.now) rows.items) }
+        ensures { OnOk result (written.new.items ≡ written.old.items
+            ++ map (constant_by (shown self.now).sorts number symbol.now) rows.items) }
     {
         for args in rows {
             let constant = Const {
@@ -294,7 +304,8 @@ impl Register {
         number: u32,
         placed: &Placed,
     ) -> Result<(), OutOfMemory>
-        ensures { OnOk result (written.new.items ≡ written.old.items ++ instances_by (shown self.now).sorts actions number placed.now) }
+        ensures { OnOk result (written.new.items
+            ≡ written.old.items ++ instances_by (shown self.now).sorts actions number placed.now) }
     {
         let sorts = placed.symbol.sorts.items();
         if !passes(actions, placed.symbol.kind) || self.row_count(sorts) == 0 {
@@ -306,7 +317,8 @@ impl Register {
 
     /// The instances of all actions or of all fluents, in order.
     fn instances(&self, alloc: Global, actions: bool) -> Result<Vec<Const>, OutOfMemory>
-        ensures made { IfOk result (λ made. made.items ≡ instances_from (shown self.now).sorts actions 0 self.now.symbols) }
+        ensures made { IfOk result (λ made.
+            made.items ≡ instances_from (shown self.now).sorts actions 0 self.now.symbols) }
         ensures numbered { length self.now.objects ≤ none_value }
     {
         let mut made = Vec::new(alloc);
@@ -319,8 +331,10 @@ impl Register {
 
     /// The ground constants of all that was declared, or their refusal: `Table::signature`.
     pub(crate) fn signature(&self, alloc: Global) -> Result<Sig, Fault>
-        ensures made { (declarations : Items Declared) → IsEntered self.now declarations → IfOk result (IsSignatureOf declarations) }
-        ensures refused { (declarations : Items Declared) → IsEntered self.now declarations → IfErr result (IsRefusedBy (signature_refusal declarations)) }
+        ensures made { (declarations : Items Declared) →
+            IsEntered self.now declarations → IfOk result (IsSignatureOf declarations) }
+        ensures refused { (declarations : Items Declared) → IsEntered self.now declarations →
+            IfErr result (IsRefusedBy (signature_refusal declarations)) }
     {
         if let Some(refusal) = self.refusal() {
             return Err(Fault::Refused(refusal));

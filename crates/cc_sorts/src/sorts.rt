@@ -83,9 +83,15 @@ impl Model for Sorts {
     ghost use Rattle.cc_sorts.specs.Lists.{lists_of};
     ghost use Rattle.cc_sorts.specs.SortParts.{named_pairs, AreKept};
 
-    ghost view = { λ sorts. record { names = names_of sorts.names; pairs = named_pairs (names_of sorts.names) sorts.pairs.items; members = lists_of sorts.members.items } };
+    ghost view = { λ sorts. record {
+      names = names_of sorts.names;
+      pairs = named_pairs
+          (names_of sorts.names) sorts.pairs.items;
+      members = lists_of sorts.members.items;
+    } };
 
-    ghost invariant = { λ sorts. AreKept (names_of sorts.names) sorts.pairs.items sorts.known.keys (lists_of sorts.above.items) (lists_of sorts.below.items) (lists_of sorts.members.items) };
+    ghost invariant = { λ sorts. AreKept (names_of sorts.names) sorts.pairs.items sorts.known.keys
+        (lists_of sorts.above.items) (lists_of sorts.below.items) (lists_of sorts.members.items) };
 }
 
 impl Sorts {
@@ -146,7 +152,8 @@ impl Sorts {
     pub(crate) fn below(&self, lower: usize, upper: usize) -> bool
         requires lower { lower < length self.now.names }
         requires upper { upper < length self.now.names }
-        ensures { result ≡ is_below self.now.pairs (name_at self.now lower) (name_at self.now upper) }
+        ensures { result
+            ≡ is_below self.now.pairs (name_at self.now lower) (name_at self.now upper) }
     {
         has(&self.above[lower], upper as u32)
     }
@@ -155,7 +162,8 @@ impl Sorts {
     pub(crate) fn has_pair(&self, upper: usize, lower: usize) -> bool
         requires upper { upper < length self.now.names }
         requires lower { lower < length self.now.names }
-        ensures { result ≡ list_any (same_pair (name_at self.now upper, name_at self.now lower)) self.now.pairs }
+        ensures { result
+            ≡ list_any (same_pair (name_at self.now upper, name_at self.now lower)) self.now.pairs }
     {
         let known = &self.known;
         known.contains(&SortPair {
@@ -180,7 +188,8 @@ impl Sorts {
     /// The numbers of the sorts that a sort is below, and its own, ascending. It takes no memory.
     pub(crate) fn above(&self, sort: usize) -> &[u32]
         requires { sort < length self.now.names }
-        ensures { result.now ≡ numbers_where (λ name. is_below self.now.pairs (name_at self.now sort) name) 0 self.now.names }
+        ensures { result.now ≡ numbers_where (λ name.
+            is_below self.now.pairs (name_at self.now sort) name) 0 self.now.names }
     {
         &self.above[sort]
     }
@@ -234,8 +243,10 @@ impl Sorts {
     pub(crate) fn add_implied(&mut self, upper: usize, lower: usize) -> Result<(), OutOfMemory>
         requires upper { upper < length self.now.names }
         requires lower { lower < length self.now.names }
-        requires apart { is_below self.now.pairs (name_at self.now upper) (name_at self.now lower) ≡ false }
-        requires implied { is_below self.now.pairs (name_at self.now lower) (name_at self.now upper) ≡ true }
+        requires apart { is_below self.now.pairs (name_at self.now upper) (name_at self.now lower)
+            ≡ false }
+        requires implied { is_below self.now.pairs (name_at self.now lower) (name_at self.now upper)
+            ≡ true }
         ensures added { OnOk result (self.new ≡ with_implied self.old upper lower) }
         ensures unchanged { OnErr result (self.new ≡ self.old) }
     {
@@ -256,7 +267,8 @@ impl Sorts {
     ) -> Result<(), OutOfMemory>
         requires upper { upper < length self.now.names }
         requires lower { lower < length self.now.names }
-        requires apart { is_below self.now.pairs (name_at self.now upper) (name_at self.now lower) ≡ false }
+        requires apart { is_below self.now.pairs (name_at self.now upper) (name_at self.now lower)
+            ≡ false }
         ensures added { OnOk result (self.new ≡ with_pair self.old upper lower) }
         ensures unchanged { OnErr result (self.new ≡ self.old) }
     {

@@ -68,8 +68,10 @@ impl Table {
     /// has another number of arguments (6), or a sort that does not fit (7); then too many objects (14, with the limit
     /// objects). After a refusal nothing is changed; after want of memory a front of a statement without a fault is there.
     pub fn declare(&mut self, file: u32, statement: &Statement<'_>) -> Result<(), Fault>
-        ensures declared { (left : Items Declared) → IsTable self.old left → OnOk result (Declares file left (plain_statement statement.now) self.new) }
-        ensures refused { (left : Items Declared) → IsTable self.old left → IfErr result (HasRefused file left (plain_statement statement.now) self.old self.new) }
+        ensures declared { (left : Items Declared) → IsTable self.old left →
+            OnOk result (Declares file left (plain_statement statement.now) self.new) }
+        ensures refused { (left : Items Declared) → IsTable self.old left →
+            IfErr result (HasRefused file left (plain_statement statement.now) self.old self.new) }
         ensures unchanged { IfErr result (IsUnchangedBy self.old self.new) }
     {
         let alloc = self.alloc;
@@ -81,8 +83,10 @@ impl Table {
     /// values, then more of them than the limit ground constants (14); nothing that passes a limit is made.
     pub fn signature(&self, alloc: Global) -> Result<Sig, Fault>
         ensures its { IfOk result (IsSignatureFor self.now) }
-        ensures made { (declarations : Items Declared) → IsTable self.now declarations → IfOk result (IsSignatureOf declarations) }
-        ensures refused { (declarations : Items Declared) → IsTable self.now declarations → IfErr result (IsRefusedBy (signature_refusal declarations)) }
+        ensures made { (declarations : Items Declared) →
+            IsTable self.now declarations → IfOk result (IsSignatureOf declarations) }
+        ensures refused { (declarations : Items Declared) → IsTable self.now declarations →
+            IfErr result (IsRefusedBy (signature_refusal declarations)) }
     {
         self.register.signature(alloc)
     }
@@ -194,7 +198,8 @@ impl Table {
     /// The symbol of a constant.
     pub fn symbol_of(&self, symbol: u32) -> &Symbol
         requires { symbol < length self.now.symbols }
-        ensures { Some result.now ≡ option_map (λ placed. placed.symbol) (slice_get self.now.symbols symbol) }
+        ensures { Some result.now
+            ≡ option_map (λ placed. placed.symbol) (slice_get self.now.symbols symbol) }
     {
         self.register.symbol_of(symbol)
     }
@@ -233,7 +238,8 @@ impl Table {
     pub fn below(&self, lower: u32, upper: u32) -> bool
         requires lower { lower < length self.now.sorts.names }
         requires upper { upper < length self.now.sorts.names }
-        ensures { result ≡ is_below self.now.sorts.pairs (name_at self.now.sorts lower) (name_at self.now.sorts upper) }
+        ensures { result ≡ is_below self.now.sorts.pairs
+            (name_at self.now.sorts lower) (name_at self.now.sorts upper) }
     {
         self.register.below(lower, upper)
     }

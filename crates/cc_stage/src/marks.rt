@@ -57,7 +57,8 @@ fn is_alone_in(clause: &[Lit], literal: Lit) -> bool
 
 // Whether a literal is marked alone, and a clause has its opposite alone.
 fn clash_at(marks: &[bool], clause: &[Lit], literal: Lit) -> bool
-    ensures { IsTrue result ↔ (HasAlone (clause_of marks.now) literal × HasAlone clause.now (opposite literal)) }
+    ensures { IsTrue result
+        ↔ (HasAlone (clause_of marks.now) literal × HasAlone clause.now (opposite literal)) }
 {
     has_alone(marks, literal) && is_alone_in(clause, literal.opposite())
 }
@@ -187,7 +188,8 @@ pub fn make_room(
     ensures same { SameMarks marks.new.items marks.old.items }
     ensures touched { touched.new.items ≡ touched.old.items }
     ensures within { OnOk result (HasRoom marks.new.items clause.now) }
-    ensures room { OnOk result (vec_len touched.new + length clause.now ≤ vec_capacity touched.new) }
+    ensures room { OnOk result
+        (vec_len touched.new + length clause.now ≤ vec_capacity touched.new) }
 {
     touched.reserve(clause.len())?;
     lengthen_for(marks, clause)

@@ -64,7 +64,8 @@ fn resolve_with(
     requires clash { Clash (clause_of marks.old.items) clause.now pivot }
     requires covered { IsCovered marks.old.items touched.old.items }
     ensures covered { IsCovered marks.new.items touched.new.items }
-    ensures resolved { OnOk result (IsResolvent (clause_of marks.old.items) clause.now pivot (clause_of marks.new.items)) }
+    ensures resolved { OnOk result
+        (IsResolvent (clause_of marks.old.items) clause.now pivot (clause_of marks.new.items)) }
     ensures kept { OnErr result (clause_of marks.new.items ≡ clause_of marks.old.items) }
 {
     make_room(marks, touched, clause)?;

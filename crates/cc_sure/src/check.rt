@@ -49,14 +49,23 @@ impl<'a> Model for Atoms<'a> {
 
     ghost Value = { AtomsView };
 
-    ghost view = { λ atoms. record { signature = atoms.sig.now; laws = atoms.laws.now; query = plain_ground_query atoms.query.now } };
+    ghost view = { λ atoms. record {
+      signature = atoms.sig.now;
+      laws = atoms.laws.now;
+      query = plain_ground_query atoms.query.now;
+    } };
 
-    ghost invariant = { λ atoms. AreAtoms (record { signature = atoms.sig.now; laws = atoms.laws.now; query = plain_ground_query atoms.query.now }) };
+    ghost invariant = { λ atoms. AreAtoms (record {
+      signature = atoms.sig.now;
+      laws = atoms.laws.now;
+      query = plain_ground_query atoms.query.now;
+    }) };
 }
 
 /// What stands behind the letter of a heading and a space.
 fn behind_letter(text: &[u8]) -> Option<&[u8]>
-    ensures { MatchOption result ((behind : List ℕ) → text.now ≡ 97 ∷ 32 ∷ behind → ⊥) (λ behind. text.now ≡ 97 ∷ 32 ∷ behind.now) }
+    ensures { MatchOption result ((behind : List ℕ) →
+        text.now ≡ 97 ∷ 32 ∷ behind → ⊥) (λ behind. text.now ≡ 97 ∷ 32 ∷ behind.now) }
 {
     let [b'a', b' ', behind @ ..] = text else {
         return None;
@@ -66,7 +75,8 @@ fn behind_letter(text: &[u8]) -> Option<&[u8]>
 
 /// What stands behind a space.
 fn behind_space(text: &[u8]) -> Option<&[u8]>
-    ensures { MatchOption result ((behind : List ℕ) → text.now ≡ 32 ∷ behind → ⊥) (λ behind. text.now ≡ 32 ∷ behind.now) }
+    ensures { MatchOption result
+        ((behind : List ℕ) → text.now ≡ 32 ∷ behind → ⊥) (λ behind. text.now ≡ 32 ∷ behind.now) }
 {
     let [b' ', behind @ ..] = text else {
         return None;
@@ -95,7 +105,8 @@ fn number_and_space(text: &[u8]) -> Option<(u32, &[u8])>
 
 /// The number that is all of a text but its line feed.
 fn last_number(text: &[u8]) -> Option<u32>
-    ensures { MatchOption result ((number : ℕ) → IsLastPart text.now number → ⊥) (IsLastPart text.now) }
+    ensures { MatchOption result
+        ((number : ℕ) → IsLastPart text.now number → ⊥) (IsLastPart text.now) }
 {
     let Some((number, rest)) = number_at(text) else {
         return None;
@@ -108,7 +119,8 @@ fn last_number(text: &[u8]) -> Option<u32>
 
 /// What a text, with its line feed, says as the heading of an atom.
 fn heading_of(text: &[u8]) -> Option<AtomHeading>
-    ensures { MatchOption result ((heading : AtomHeading) → IsAtomHeading text.now heading → ⊥) (IsAtomHeading text.now) }
+    ensures { MatchOption result ((heading : AtomHeading) →
+        IsAtomHeading text.now heading → ⊥) (IsAtomHeading text.now) }
 {
     let Some(numbers) = behind_letter(text) else {
         return None;
@@ -131,7 +143,8 @@ fn heading_of(text: &[u8]) -> Option<AtomHeading>
 
 /// Whether a horizon has an atom.
 fn is_atom(sig: &Sig, heading: &AtomHeading) -> bool
-    ensures { (d : Description) → IsSignatureOfDescription d sig.now → IsTrue result ↔ IsAtomAt d heading.now.horizon heading.now.position heading.now.value }
+    ensures { (d : Description) → IsSignatureOfDescription d sig.now →
+        IsTrue result ↔ IsAtomAt d heading.now.horizon heading.now.position heading.now.value }
 {
     positions_have_sizes();
     let position = u64::from(heading.position);
@@ -147,9 +160,12 @@ fn is_tried(query: &GroundQuery<'_>, horizon: u32) -> bool
 
 /// The axioms with that of an atom, where they have it.
 fn form_with(alloc: Global, form: Form, position: u32, value: u32) -> Result<Form, Fault>
-    ensures made { HasAtom form position value → IfOk result (λ made. made ≡ with_atom form position value) }
-    ensures within { HasAtom form position value → OnOk result (count_refusal (with_atom form position value).clauses ≡ None) }
-    ensures refused { HasAtom form position value → IfErr result (IsRefusedBy (count_refusal (with_atom form position value).clauses)) }
+    ensures made { HasAtom form position value →
+        IfOk result (λ made. made ≡ with_atom form position value) }
+    ensures within { HasAtom form position value →
+        OnOk result (count_refusal (with_atom form position value).clauses ≡ None) }
+    ensures refused { HasAtom form position value →
+        IfErr result (IsRefusedBy (count_refusal (with_atom form position value).clauses)) }
 {
     match form.sizes().get(position as usize) {
         Some(size) => {
@@ -177,7 +193,8 @@ impl<'a> Silent for Atoms<'a> {
 
     ghost subject = { λ of. sure_subject of.0 of.1 };
 
-    ghost can_form = { λ atoms heading. (atoms.query.lo ≤ heading.horizon) × (heading.horizon ≤ atoms.query.hi) };
+    ghost can_form = { λ atoms heading.
+        (atoms.query.lo ≤ heading.horizon) × (heading.horizon ≤ atoms.query.hi) };
 
     fn header(&self) -> &[u8] {
         b"ccalc sure 1\n".as_slice()
@@ -218,16 +235,20 @@ pub fn check_sure(
     requires laws { AreLawsFor sig.now laws.now }
     requires ordered { query.now.lo ≤ query.now.hi }
     requires most { query.now.hi ≤ most_steps }
-    requires steps { (horizon : ℕ) → query.now.lo ≤ horizon → horizon ≤ query.now.hi → IsQueryAt sig.now horizon (plain_ground_query query.now) }
+    requires steps { (horizon : ℕ) → query.now.lo ≤ horizon →
+        horizon ≤ query.now.hi → IsQueryAt sig.now horizon (plain_ground_query query.now) }
     requires few { length bytes.now ≤ most_log_bytes }
-    ensures verdict { (d : Description) (q : Query) → AreLawsOf sig.now laws.now d → StandsForQuery (plain_ground_query query.now) d q →
+    ensures verdict { (d : Description) (q : Query) →
+        AreLawsOf sig.now laws.now d → StandsForQuery (plain_ground_query query.now) d q →
         IfOk result (IsSilentVerdict (sure_subject d q) bytes.now) }
-    ensures within { (d : Description) (q : Query) → AreLawsOf sig.now laws.now d → StandsForQuery (plain_ground_query query.now) d q →
+    ensures within { (d : Description) (q : Query) →
+        AreLawsOf sig.now laws.now d → StandsForQuery (plain_ground_query query.now) d q →
         IfOk result (IsSilentVerdictWithin (sure_subject d q) bytes.now) }
-    ensures refused { (d : Description) (q : Query) → AreLawsOf sig.now laws.now d → StandsForQuery (plain_ground_query query.now) d q →
+    ensures refused { (d : Description) (q : Query) →
+        AreLawsOf sig.now laws.now d → StandsForQuery (plain_ground_query query.now) d q →
         IfErr result (IsSilentFault (sure_subject d q) bytes.now) }
-    ensures refutes { (d : Description) (q : Query) → AreLawsOf sig.now laws.now d → StandsForQuery (plain_ground_query query.now) d q →
-        IfOk result (RefutesAtoms d q bytes.now) }
+    ensures refutes { (d : Description) (q : Query) → AreLawsOf sig.now laws.now d → StandsForQuery
+        (plain_ground_query query.now) d q → IfOk result (RefutesAtoms d q bytes.now) }
 {
     silent_sections_have_no_rows();
     lists_tell_histories();

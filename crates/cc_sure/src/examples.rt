@@ -22,7 +22,8 @@ fn has(row: &Row, position: u64, value: u32) -> bool
 
 /// Whether some example has an atom.
 pub(crate) fn some_has(examples: &[Row], position: u64, value: u32) -> bool
-    ensures { MatchBool result (SomeHas examples.now position value) (IsNew examples.now position value) }
+    ensures { MatchBool result
+        (SomeHas examples.now position value) (IsNew examples.now position value) }
 {
     for i in 0..examples.len() {
         if has(&examples[i], position, value) {
@@ -48,7 +49,9 @@ fn first_with(examples: &[Row], position: u64, value: u32) -> u32
 
 /// Whether no history has any other value of a position.
 fn is_alone(never: &[bool], value: usize) -> bool
-    ensures { MatchBool result ((other : ℕ) → other < length never.now → other ≢ value → slice_get never.now other ≡ Some true) ((other : ℕ) × (other ≢ value) × (slice_get never.now other ≡ Some false)) }
+    ensures { MatchBool result ((other : ℕ) → other < length never.now →
+        other ≢ value → slice_get never.now other ≡ Some true) ((other : ℕ)
+        × (other ≢ value) × (slice_get never.now other ≡ Some false)) }
 {
     for other in 0..never.len() {
         if other != value && !never[other] {
@@ -84,7 +87,8 @@ pub(crate) fn answers_of(
     never: &[bool],
 ) -> Result<List<Answer>, OutOfMemory>
     requires few { length examples.now ≤ most_variables }
-    requires known { (value : ℕ) → slice_get never.now value ≡ Some false → SomeHas examples.now position value }
+    requires known { (value : ℕ) →
+        slice_get never.now value ≡ Some false → SomeHas examples.now position value }
     requires short { length never.now ≤ most_variables }
     ensures answers { IfOk result (AreAnswersFor examples.now position never.now 0) }
     ensures all { IfOk result (λ answers. length answers ≡ length never.now) }

@@ -36,8 +36,10 @@ fn ended(mut lines: Vec<LogLine>, word: EndWord) -> Result<List<LogLine>, OutOfM
 /// What comes of a search that ends so, and has found no row.
 fn outcome_of(lines: Vec<LogLine>, word: EndWord) -> Result<Outcome, Fault>
     requires { word ≢ words.Found }
-    ensures empty { word ≡ words.Empty → IfOk result (λ outcome. outcome ≡ outcomes.Empty (lines.items ++ ends.End word ∷ [])) }
-    ensures spent { word ≡ words.Spent → IfOk result (λ outcome. outcome ≡ outcomes.Spent (lines.items ++ ends.End word ∷ [])) }
+    ensures empty { word ≡ words.Empty →
+        IfOk result (λ outcome. outcome ≡ outcomes.Empty (lines.items ++ ends.End word ∷ [])) }
+    ensures spent { word ≡ words.Spent →
+        IfOk result (λ outcome. outcome ≡ outcomes.Spent (lines.items ++ ends.End word ∷ [])) }
     ensures fault { IfErr result (λ fault. fault ≡ faults.OutOfMemory) }
 {
     let list = ended(lines, word)?;
@@ -63,9 +65,12 @@ fn follow(
     lines: &mut Vec<LogLine>,
 ) -> Result<Option<Outcome>, Fault>
     requires more { HasMore search.old }
-    requires told { (axioms : Axioms) × (budget : ℕ) × HasTold axioms budget search.old lines.old.items }
-    ensures tells { (axioms : Axioms) (budget : ℕ) → HasTold axioms budget search.old lines.old.items → IfOk result (TellsOutcome axioms budget search.new lines.new.items) }
-    ensures next { IfOk result (λ outcome. IsNone outcome → HasMore search.new × (left_of search.new < left_of search.old)) }
+    requires told { (axioms : Axioms)
+        × (budget : ℕ) × HasTold axioms budget search.old lines.old.items }
+    ensures tells { (axioms : Axioms) (budget : ℕ) → HasTold axioms budget search.old
+        lines.old.items → IfOk result (TellsOutcome axioms budget search.new lines.new.items) }
+    ensures next { IfOk result (λ outcome. IsNone outcome →
+        HasMore search.new × (left_of search.new < left_of search.old)) }
     ensures fault { IfErr result (λ fault. fault ≡ faults.OutOfMemory) }
 {
     match search.next()? {

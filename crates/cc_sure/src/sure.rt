@@ -54,9 +54,31 @@ impl<'a> Model for Sure<'a> {
 
     ghost Value = { SureView };
 
-    ghost view = { λ s. record { signature = s.sig.now; laws = s.laws.now; query = plain_ground_query s.query.now; budget = s.budget; horizon = s.horizon; examples = s.examples.items; position = s.position; never = s.never.items; phase = s.phase } };
+    ghost view = { λ s. record {
+      signature = s.sig.now;
+      laws = s.laws.now;
+      query = plain_ground_query s.query.now;
+      budget = s.budget;
+      horizon = s.horizon;
+      examples
+          = s.examples.items;
+      position = s.position;
+      never = s.never.items;
+      phase = s.phase;
+    } };
 
-    ghost invariant = { λ s. IsSure (record { signature = s.sig.now; laws = s.laws.now; query = plain_ground_query s.query.now; budget = s.budget; horizon = s.horizon; examples = s.examples.items; position = s.position; never = s.never.items; phase = s.phase }) };
+    ghost invariant = { λ s. IsSure (record {
+      signature = s.sig.now;
+      laws = s.laws.now;
+      query = plain_ground_query s.query.now;
+      budget = s.budget;
+      horizon = s.horizon;
+      examples
+          = s.examples.items;
+      position = s.position;
+      never = s.never.items;
+      phase = s.phase;
+    }) };
 }
 
 /// How many values a position has, where the axioms have it.
@@ -78,14 +100,16 @@ impl<'a> Sure<'a> {
         requires laws { AreLawsFor sig.now laws.now }
         requires ordered { query.now.lo ≤ query.now.hi }
         requires most { query.now.hi ≤ most_steps }
-        requires steps { (horizon : ℕ) → query.now.lo ≤ horizon → horizon ≤ query.now.hi → IsQueryAt sig.now horizon (plain_ground_query query.now) }
+        requires steps { (horizon : ℕ) → query.now.lo ≤ horizon →
+            horizon ≤ query.now.hi → IsQueryAt sig.now horizon (plain_ground_query query.now) }
         requires claim { IsNone query.now.claim }
         requires budget { budget ≤ 2000000 }
         ensures signature { result.signature ≡ sig.now }
         ensures laws { result.laws ≡ laws.now }
         ensures query { result.query ≡ plain_ground_query query.now }
         ensures budget { result.budget ≡ budget }
-        ensures begun { (d : Description) (q : Query) → IsSureOf result d q → Stands d q result nothing_told }
+        ensures begun { (d : Description) (q : Query) →
+            IsSureOf result d q → Stands d q result nothing_told }
         ensures more { HasMore result }
     {
         Sure {
@@ -130,8 +154,10 @@ impl<'a> Sure<'a> {
     // The axioms of the horizon.
     fn form(&self) -> Result<Form, Fault>
         requires { self.now.horizon ≤ self.now.query.hi }
-        ensures made { (d : Description) (q : Query) → IsSureOf self.now d q → IfOk result (IsFormOf d q self.now.horizon) }
-        ensures refused { (d : Description) (q : Query) → IsSureOf self.now d q → IfErr result (IsRefusedBy (section_refusal d q self.now.horizon true None)) }
+        ensures made { (d : Description) (q : Query) →
+            IsSureOf self.now d q → IfOk result (IsFormOf d q self.now.horizon) }
+        ensures refused { (d : Description) (q : Query) → IsSureOf self.now d q →
+            IfErr result (IsRefusedBy (section_refusal d q self.now.horizon true None)) }
     {
         form_at(
             self.alloc,
@@ -147,7 +173,8 @@ impl<'a> Sure<'a> {
     // Adds an example.
     fn add_example(&mut self, row: Row) -> Result<(), OutOfMemory>
         requires over { IsOver self.old }
-        ensures added { OnOk result (self.new ≡ record self.old { examples = self.old.examples ++ row ∷ [] }) }
+        ensures added { OnOk result
+            (self.new ≡ record self.old { examples = self.old.examples ++ row ∷ [] }) }
         ensures over { IsOver self.new }
         ensures same { IsSame self.old self.new }
     {
@@ -158,7 +185,8 @@ impl<'a> Sure<'a> {
     // Notes of the value that is next whether no history has it.
     fn add_tried(&mut self, never: bool) -> Result<(), OutOfMemory>
         requires over { IsOver self.old }
-        ensures added { OnOk result (self.new ≡ record self.old { never = self.old.never ++ never ∷ [] }) }
+        ensures added { OnOk result
+            (self.new ≡ record self.old { never = self.old.never ++ never ∷ [] }) }
         ensures over { IsOver self.new }
         ensures same { IsSame self.old self.new }
     {
@@ -221,7 +249,8 @@ impl<'a> Sure<'a> {
         requires low { self.old.horizon ≤ self.old.query.hi }
         ensures event { result ≡ events.NoHistory self.old.horizon }
         ensures few { self.old.horizon ≤ most_steps }
-        ensures new { self.new ≡ record self.old { horizon = self.old.horizon + 1; phase = phases.Looking } }
+        ensures new { self.new
+            ≡ record self.old { horizon = self.old.horizon + 1; phase = phases.Looking } }
     {
         let horizon = self.horizon;
         self.horizon = horizon + 1;
@@ -281,8 +310,10 @@ impl<'a> Sure<'a> {
 
     // Whether an example has the next value of a position with so many.
     fn is_known(&self, size: u32) -> bool
-        ensures known { result ≡ true → (length self.now.never < size) × SomeHas self.now.examples self.now.position (length self.now.never) }
-        ensures new { result ≡ false → length self.now.never < size → IsNew self.now.examples self.now.position (length self.now.never) }
+        ensures known { result ≡ true → (length self.now.never < size)
+            × SomeHas self.now.examples self.now.position (length self.now.never) }
+        ensures new { result ≡ false → length self.now.never < size →
+            IsNew self.now.examples self.now.position (length self.now.never) }
     {
         let value = self.never.len();
         value < size as usize && some_has(&self.examples, self.position, value as u32)
@@ -294,7 +325,8 @@ impl<'a> Sure<'a> {
         requires asking { IsAsking self.old form.now }
         requires size { slice_get form.now.sizes self.old.position ≡ Some size }
         ensures passes { OnOk result (PassesTo form.now self.old self.new) }
-        ensures new { OnOk result (length self.new.never < size → IsNew self.new.examples self.new.position (length self.new.never)) }
+        ensures new { OnOk result (length self.new.never < size →
+            IsNew self.new.examples self.new.position (length self.new.never)) }
         ensures over { IsOver self.new }
         ensures same { IsSame self.old self.new }
     {
@@ -308,11 +340,15 @@ impl<'a> Sure<'a> {
     fn add(&mut self, form: Form, row: Row) -> Result<SureEvent, OutOfMemory>
         requires over { IsOver self.old }
         requires asking { IsAsking self.old form }
-        requires next { (size : ℕ) × (slice_get form.sizes self.old.position ≡ Some size) × (length self.old.never < size) }
+        requires next { (size : ℕ) × (slice_get form.sizes self.old.position ≡ Some size)
+            × (length self.old.never < size) }
         requires new { IsNew self.old.examples self.old.position (length self.old.never) }
-        requires within { count_refusal (with_atom form self.old.position (length self.old.never)).clauses ≡ None }
-        requires found { IsOutcome (with_atom form self.old.position (length self.old.never)) self.old.budget (outcomes.Found row) }
-        ensures gives { IfOk result (Gives (record self.old { phase = phases.Asking form }) self.new) }
+        requires within { count_refusal
+            (with_atom form self.old.position (length self.old.never)).clauses ≡ None }
+        requires found { IsOutcome (with_atom form self.old.position (length self.old.never))
+            self.old.budget (outcomes.Found row) }
+        ensures gives { IfOk result
+            (Gives (record self.old { phase = phases.Asking form }) self.new) }
         ensures over { OnErr result (IsOver self.new) }
         ensures same { IsSame self.old self.new }
     {
@@ -328,11 +364,15 @@ impl<'a> Sure<'a> {
     fn deny(&mut self, form: Form, lines: List<LogLine>) -> Result<SureEvent, OutOfMemory>
         requires over { IsOver self.old }
         requires asking { IsAsking self.old form }
-        requires next { (size : ℕ) × (slice_get form.sizes self.old.position ≡ Some size) × (length self.old.never < size) }
+        requires next { (size : ℕ) × (slice_get form.sizes self.old.position ≡ Some size)
+            × (length self.old.never < size) }
         requires new { IsNew self.old.examples self.old.position (length self.old.never) }
-        requires within { count_refusal (with_atom form self.old.position (length self.old.never)).clauses ≡ None }
-        requires none { IsOutcome (with_atom form self.old.position (length self.old.never)) self.old.budget (outcomes.Empty lines) }
-        ensures gives { IfOk result (Gives (record self.old { phase = phases.Asking form }) self.new) }
+        requires within { count_refusal
+            (with_atom form self.old.position (length self.old.never)).clauses ≡ None }
+        requires none { IsOutcome (with_atom form self.old.position (length self.old.never))
+            self.old.budget (outcomes.Empty lines) }
+        ensures gives { IfOk result
+            (Gives (record self.old { phase = phases.Asking form }) self.new) }
         ensures over { OnErr result (IsOver self.new) }
         ensures same { IsSame self.old self.new }
     {
@@ -350,11 +390,15 @@ impl<'a> Sure<'a> {
     fn tried(&mut self, form: Form, outcome: Outcome) -> Result<SureEvent, OutOfMemory>
         requires over { IsOver self.old }
         requires asking { IsAsking self.old form }
-        requires next { (size : ℕ) × (slice_get form.sizes self.old.position ≡ Some size) × (length self.old.never < size) }
+        requires next { (size : ℕ) × (slice_get form.sizes self.old.position ≡ Some size)
+            × (length self.old.never < size) }
         requires new { IsNew self.old.examples self.old.position (length self.old.never) }
-        requires within { count_refusal (with_atom form self.old.position (length self.old.never)).clauses ≡ None }
-        requires outcome { IsOutcome (with_atom form self.old.position (length self.old.never)) self.old.budget outcome }
-        ensures gives { IfOk result (Gives (record self.old { phase = phases.Asking form }) self.new) }
+        requires within { count_refusal
+            (with_atom form self.old.position (length self.old.never)).clauses ≡ None }
+        requires outcome { IsOutcome
+            (with_atom form self.old.position (length self.old.never)) self.old.budget outcome }
+        ensures gives { IfOk result
+            (Gives (record self.old { phase = phases.Asking form }) self.new) }
         ensures over { OnErr result (IsOver self.new) }
         ensures same { IsSame self.old self.new }
     {
@@ -373,10 +417,13 @@ impl<'a> Sure<'a> {
     fn try_value(&mut self, form: Form) -> Result<SureEvent, Fault>
         requires over { IsOver self.old }
         requires asking { IsAsking self.old form }
-        requires next { (size : ℕ) × (slice_get form.sizes self.old.position ≡ Some size) × (length self.old.never < size) }
+        requires next { (size : ℕ) × (slice_get form.sizes self.old.position ≡ Some size)
+            × (length self.old.never < size) }
         requires new { IsNew self.old.examples self.old.position (length self.old.never) }
-        ensures gives { IfOk result (Gives (record self.old { phase = phases.Asking form }) self.new) }
-        ensures fault { IfErr result (IsRightFault (record self.old { phase = phases.Asking form })) }
+        ensures gives { IfOk result
+            (Gives (record self.old { phase = phases.Asking form }) self.new) }
+        ensures fault { IfErr result
+            (IsRightFault (record self.old { phase = phases.Asking form })) }
         ensures over { OnErr result (IsOver self.new) }
         ensures same { IsSame self.old self.new }
     {
@@ -391,7 +438,8 @@ impl<'a> Sure<'a> {
         requires few { length self.now.examples ≤ most_variables }
         requires short { length self.now.never ≤ most_variables }
         requires known { AreKnown self.now }
-        ensures answers { IfOk result (AreAnswersFor self.now.examples self.now.position self.now.never 0) }
+        ensures answers { IfOk result
+            (AreAnswersFor self.now.examples self.now.position self.now.never 0) }
         ensures all { IfOk result (λ answers. length answers ≡ length self.now.never) }
     {
         answers_of(self.alloc, &self.examples, self.position, &self.never)
@@ -402,7 +450,8 @@ impl<'a> Sure<'a> {
         requires over { IsOver self.old }
         requires asking { IsAsking self.old form }
         requires all { slice_get form.sizes self.old.position ≡ Some (length self.old.never) }
-        ensures gives { IfOk result (Gives (record self.old { phase = phases.Asking form }) self.new) }
+        ensures gives { IfOk result
+            (Gives (record self.old { phase = phases.Asking form }) self.new) }
         ensures over { OnErr result (IsOver self.new) }
         ensures same { IsSame self.old self.new }
     {
@@ -418,9 +467,12 @@ impl<'a> Sure<'a> {
         requires over { IsOver self.old }
         requires asking { IsAsking self.old form }
         requires size { slice_get form.sizes self.old.position ≡ Some size }
-        requires new { length self.old.never < size → IsNew self.old.examples self.old.position (length self.old.never) }
-        ensures gives { IfOk result (Gives (record self.old { phase = phases.Asking form }) self.new) }
-        ensures fault { IfErr result (IsRightFault (record self.old { phase = phases.Asking form })) }
+        requires new { length self.old.never < size →
+            IsNew self.old.examples self.old.position (length self.old.never) }
+        ensures gives { IfOk result
+            (Gives (record self.old { phase = phases.Asking form }) self.new) }
+        ensures fault { IfErr result
+            (IsRightFault (record self.old { phase = phases.Asking form })) }
         ensures over { OnErr result (IsOver self.new) }
         ensures same { IsSame self.old self.new }
     {
@@ -436,8 +488,10 @@ impl<'a> Sure<'a> {
         requires over { IsOver self.old }
         requires asking { IsAsking self.old form }
         requires size { slice_get form.sizes self.old.position ≡ Some size }
-        ensures gives { IfOk result (Gives (record self.old { phase = phases.Asking form }) self.new) }
-        ensures fault { IfErr result (IsRightFault (record self.old { phase = phases.Asking form })) }
+        ensures gives { IfOk result
+            (Gives (record self.old { phase = phases.Asking form }) self.new) }
+        ensures fault { IfErr result
+            (IsRightFault (record self.old { phase = phases.Asking form })) }
         ensures over { OnErr result (IsOver self.new) }
         ensures same { IsSame self.old self.new }
     {
@@ -449,8 +503,10 @@ impl<'a> Sure<'a> {
     fn ask(&mut self, form: Form) -> Result<SureEvent, Fault>
         requires over { IsOver self.old }
         requires asking { IsAsking self.old form }
-        ensures gives { IfOk result (Gives (record self.old { phase = phases.Asking form }) self.new) }
-        ensures fault { IfErr result (IsRightFault (record self.old { phase = phases.Asking form })) }
+        ensures gives { IfOk result
+            (Gives (record self.old { phase = phases.Asking form }) self.new) }
+        ensures fault { IfErr result
+            (IsRightFault (record self.old { phase = phases.Asking form })) }
         ensures over { OnErr result (IsOver self.new) }
         ensures same { IsSame self.old self.new }
     {
@@ -480,7 +536,8 @@ impl<'a> Sure<'a> {
     /// ending, nothing more is told.
     pub fn next(&mut self) -> Result<SureEvent, Fault>
         requires { HasMore self.old }
-        ensures tells { (d : Description) (q : Query) (run : SureRun) → IsSureOf self.old d q → Stands d q self.old run → IfOk result (TellsNext d q self.new run) }
+        ensures tells { (d : Description) (q : Query) (run : SureRun) → IsSureOf self.old d q →
+            Stands d q self.old run → IfOk result (TellsNext d q self.new run) }
         ensures same { IsSame self.old self.new }
         ensures refused { IfErr result (IsRightFault self.old) }
         ensures less { OnOk result (left_of self.new < left_of self.old) }

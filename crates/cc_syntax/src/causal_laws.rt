@@ -35,7 +35,8 @@ fn optional<'s>(
     text: &str,
 ) -> Result<(Option<Tree<'s>>, usize), Stop>
     requires { AreTokens (token_views tokens.now) }
-    ensures { Reads (λ read. option_map plain_tree read) tokens.now result (optional_at formula_at text.now (drop at (seen tokens.now))) }
+    ensures { Reads (λ read. option_map plain_tree read) tokens.now result
+        (optional_at formula_at text.now (drop at (seen tokens.now))) }
 {
     let Ok(next) = word(tokens, at, text) else {
         return Ok((None, at));
@@ -53,9 +54,9 @@ fn optional_behind<'s, K: Drop>(
     text: &str,
 ) -> Result<((K, Option<Tree<'s>>), usize), Stop>
     requires { AreTokens (token_views tokens.now) }
-    ensures { MatchResult read
-        (λ r. IfOk result (λ both. both.0.0 ≡ r.0) × Reads (λ both. option_map plain_tree both.1) tokens.now result (optional_at formula_at text.now (drop r.1 (seen tokens.now))))
-        (λ stop. result ≡ Err stop) }
+    ensures { MatchResult read (λ r. IfOk result (λ both. both.0.0 ≡ r.0)
+        × Reads (λ both. option_map plain_tree both.1) tokens.now result (optional_at
+        formula_at text.now (drop r.1 (seen tokens.now)))) (λ stop. result ≡ Err stop) }
 {
     let (kept, next) = read?;
     let (formula, next) = optional(alloc, tokens, next, text)?;
@@ -67,7 +68,8 @@ fn optional_behind<'s, K: Drop>(
 fn effect<'s>(alloc: Global, tokens: &[Token<'s>], at: usize) -> Result<(Effect<'s>, usize), Stop>
     requires { AreTokens (token_views tokens.now) }
     ensures { (make : PlainTree → Option PlainTree → PlainLaw) →
-        Reads (λ read. make (plain_tree read.0) (option_map plain_tree read.1)) tokens.now result (effect_at make (drop at (seen tokens.now))) }
+        Reads (λ read. make (plain_tree read.0) (option_map plain_tree read.1)) tokens.now result
+        (effect_at make (drop at (seen tokens.now))) }
 {
     optional_behind(alloc, tokens, formula(alloc, tokens, at), "if")
 }
@@ -76,8 +78,9 @@ fn effect<'s>(alloc: Global, tokens: &[Token<'s>], at: usize) -> Result<(Effect<
 #[tactic(auto, unfolding(crate::specs::Laws::caused_at))]
 fn caused<'s>(alloc: Global, tokens: &[Token<'s>], at: usize) -> Result<(Caused<'s>, usize), Stop>
     requires { AreTokens (token_views tokens.now) }
-    ensures { (make : PlainTree → Option PlainTree → Option PlainTree → PlainLaw) →
-        Reads (λ read. make (plain_tree read.0.0) (option_map plain_tree read.0.1) (option_map plain_tree read.1)) tokens.now result (caused_at make (drop at (seen tokens.now))) }
+    ensures { (make : PlainTree → Option PlainTree → Option PlainTree → PlainLaw) → Reads (λ read.
+        make (plain_tree read.0.0) (option_map plain_tree read.0.1) (option_map plain_tree read.1))
+        tokens.now result (caused_at make (drop at (seen tokens.now))) }
 {
     let formula = formula(alloc, tokens, at);
     let effect = optional_behind(alloc, tokens, formula, "if");
@@ -86,7 +89,8 @@ fn caused<'s>(alloc: Global, tokens: &[Token<'s>], at: usize) -> Result<(Caused<
 
 /// `caused`, with what is behind it.
 fn caused_tree<'s>(parts: Caused<'s>) -> LawTree<'s>
-    ensures { plain_law result ≡ trees.Caused (plain_tree parts.entry.0.0) (option_map plain_tree parts.entry.0.1) (option_map plain_tree parts.entry.1) }
+    ensures { plain_law result ≡ trees.Caused (plain_tree parts.entry.0.0)
+        (option_map plain_tree parts.entry.0.1) (option_map plain_tree parts.entry.1) }
 {
     let ((formula, condition), before) = parts;
     LawTree::Caused(formula, condition, before)
@@ -94,7 +98,8 @@ fn caused_tree<'s>(parts: Caused<'s>) -> LawTree<'s>
 
 /// `default`, with what is behind it.
 fn default_tree<'s>(parts: Caused<'s>) -> LawTree<'s>
-    ensures { plain_law result ≡ trees.Default (plain_tree parts.entry.0.0) (option_map plain_tree parts.entry.0.1) (option_map plain_tree parts.entry.1) }
+    ensures { plain_law result ≡ trees.Default (plain_tree parts.entry.0.0)
+        (option_map plain_tree parts.entry.0.1) (option_map plain_tree parts.entry.1) }
 {
     let ((formula, condition), before) = parts;
     LawTree::Default(formula, condition, before)
@@ -102,7 +107,8 @@ fn default_tree<'s>(parts: Caused<'s>) -> LawTree<'s>
 
 /// `nonexecutable`, with what is behind it.
 fn nonexecutable_tree<'s>(parts: Effect<'s>) -> LawTree<'s>
-    ensures { plain_law result ≡ trees.Nonexecutable (plain_tree parts.entry.0) (option_map plain_tree parts.entry.1) }
+    ensures { plain_law result
+        ≡ trees.Nonexecutable (plain_tree parts.entry.0) (option_map plain_tree parts.entry.1) }
 {
     let (formula, condition) = parts;
     LawTree::Nonexecutable(formula, condition)
@@ -115,7 +121,8 @@ fn inertial<'s>(
     at: usize,
 ) -> Result<(TermTree<'s>, usize), Stop>
     requires { AreTokens (token_views tokens.now) }
-    ensures { Reads plain_term tokens.now result (given (word_at (codes "inertial") (drop at (seen tokens.now))) None term_at) }
+    ensures { Reads plain_term tokens.now result
+        (given (word_at (codes "inertial") (drop at (seen tokens.now))) None term_at) }
 {
     let next = word(tokens, at, "inertial")?;
     term(alloc, tokens, next)
@@ -158,7 +165,8 @@ fn effect_behind<'s, K: Drop>(
     requires { AreTokens (token_views tokens.now) }
     ensures kept { IfOk result (λ read. read.0.0 ≡ kept) }
     ensures read { (make : PlainTree → Option PlainTree → PlainLaw) →
-        Reads (λ read. make (plain_tree read.1.0) (option_map plain_tree read.1.1)) tokens.now result (effect_at make (drop at (seen tokens.now))) }
+        Reads (λ read. make (plain_tree read.1.0) (option_map plain_tree read.1.1))
+        tokens.now result (effect_at make (drop at (seen tokens.now))) }
 {
     let (parts, next) = effect(alloc, tokens, at)?;
     Ok(((kept, parts), next))
@@ -166,7 +174,8 @@ fn effect_behind<'s, K: Drop>(
 
 /// `causes`, between an action and its effect.
 fn causes_tree<'s>(read: (Tree<'s>, Effect<'s>)) -> LawTree<'s>
-    ensures { plain_law result ≡ trees.Causes (plain_tree read.entry.0) (plain_tree read.entry.1.0) (option_map plain_tree read.entry.1.1) }
+    ensures { plain_law result ≡ trees.Causes (plain_tree read.entry.0)
+        (plain_tree read.entry.1.0) (option_map plain_tree read.entry.1.1) }
 {
     let (action, (formula, condition)) = read;
     LawTree::Causes(action, formula, condition)
@@ -174,7 +183,8 @@ fn causes_tree<'s>(read: (Tree<'s>, Effect<'s>)) -> LawTree<'s>
 
 /// `may cause`, between an action and its effect.
 fn may_cause_tree<'s>(read: (Tree<'s>, Effect<'s>)) -> LawTree<'s>
-    ensures { plain_law result ≡ trees.MayCause (plain_tree read.entry.0) (plain_tree read.entry.1.0) (option_map plain_tree read.entry.1.1) }
+    ensures { plain_law result ≡ trees.MayCause (plain_tree read.entry.0)
+        (plain_tree read.entry.1.0) (option_map plain_tree read.entry.1.1) }
 {
     let (action, (formula, condition)) = read;
     LawTree::MayCause(action, formula, condition)
@@ -182,7 +192,8 @@ fn may_cause_tree<'s>(read: (Tree<'s>, Effect<'s>)) -> LawTree<'s>
 
 /// `may cause`
 fn may_cause_words(tokens: &[Token], at: usize) -> Result<usize, Stop>
-    ensures { Passes tokens.now result (given (word_at (codes "may") (drop at (seen tokens.now))) None (word_at (codes "cause"))) }
+    ensures { Passes tokens.now result
+        (given (word_at (codes "may") (drop at (seen tokens.now))) None (word_at (codes "cause"))) }
 {
     let next = word(tokens, at, "may")?;
     word(tokens, next, "cause")
@@ -239,7 +250,8 @@ fn no_concurrency<'s>() -> Part<'s>
 
 /// A law and its test.
 fn law_part<'s>(read: (LawTree<'s>, Option<Tree<'s>>)) -> Part<'s>
-    ensures { plain_part result ≡ trees.Law (plain_law read.entry.0) (option_map plain_tree read.entry.1) }
+    ensures { plain_part result
+        ≡ trees.Law (plain_law read.entry.0) (option_map plain_tree read.entry.1) }
 {
     let (law, test) = read;
     Part::Law(law, test)

@@ -24,7 +24,8 @@ pub(crate) fn names<'s>(
     at: usize,
     mark: Mark,
 ) -> Result<(Vec<&'s str>, usize), Stop>
-    ensures { Reads (λ names. map (λ text. text.now) names.items) tokens.now result (listed_at name_at mark (drop at (seen tokens.now))) }
+    ensures { Reads (λ names. map (λ text. text.now) names.items) tokens.now result
+        (listed_at name_at mark (drop at (seen tokens.now))) }
 {
     let mut names = Vec::new(alloc);
     let mut next = at;
@@ -94,7 +95,8 @@ fn members<'s>(
     at: usize,
 ) -> Result<(Vec<Member<'s>>, usize), Stop>
     requires { AreTokens (token_views tokens.now) }
-    ensures { Reads (λ members. map plain_member members.items) tokens.now result (listed_at member_at marks.Comma (drop at (seen tokens.now))) }
+    ensures { Reads (λ members. map plain_member members.items) tokens.now result
+        (listed_at member_at marks.Comma (drop at (seen tokens.now))) }
 {
     let mut members = Vec::new(alloc);
     let mut next = at;
@@ -154,7 +156,8 @@ pub(crate) fn list_item<'s>(
 
 /// The sorts of a shape's arguments, none without a bracket.
 fn sorts<'s>(alloc: Global, tokens: &[Token<'s>], at: usize) -> Result<(Vec<&'s str>, usize), Stop>
-    ensures { Reads (λ sorts. map (λ sort. sort.now) sorts.items) tokens.now result (sorts_at (drop at (seen tokens.now))) }
+    ensures { Reads (λ sorts. map (λ sort. sort.now) sorts.items) tokens.now result
+        (sorts_at (drop at (seen tokens.now))) }
 {
     let Ok(next) = sign(tokens, at, Mark::LeftParen) else {
         return Ok((Vec::new(alloc), at));
@@ -187,7 +190,8 @@ fn shapes<'s>(
     tokens: &[Token<'s>],
     at: usize,
 ) -> Result<(Vec<Shape<'s>>, usize), Stop>
-    ensures { Reads (λ shapes. map plain_shape shapes.items) tokens.now result (listed_at shape_at marks.Comma (drop at (seen tokens.now))) }
+    ensures { Reads (λ shapes. map plain_shape shapes.items) tokens.now result
+        (listed_at shape_at marks.Comma (drop at (seen tokens.now))) }
 {
     let mut shapes = Vec::new(alloc);
     let mut next = at;
@@ -229,7 +233,8 @@ fn kind_word(tokens: &[Token], at: usize) -> Result<(KindWord, usize), Stop>
 
 /// The sort of a constant's values, none without a bracket.
 fn value_sort<'s>(tokens: &[Token<'s>], at: usize) -> Result<(Option<&'s str>, usize), Stop>
-    ensures { Reads (λ sort. option_map (λ name. name.now) sort) tokens.now result (sort_at (drop at (seen tokens.now))) }
+    ensures { Reads (λ sort. option_map (λ name. name.now) sort) tokens.now result
+        (sort_at (drop at (seen tokens.now))) }
 {
     let Ok(next) = sign(tokens, at, Mark::LeftParen) else {
         return Ok((None, at));
@@ -297,7 +302,8 @@ pub(crate) fn sort_items<'s>(
     tokens: &[Token<'s>],
     at: usize,
 ) -> Result<(Vec<SortItem<'s>>, usize), Stop>
-    ensures { Reads (λ items. map plain_sort_item items.items) tokens.now result (listed_at sort_item_at marks.Semicolon (drop at (seen tokens.now))) }
+    ensures { Reads (λ items. map plain_sort_item items.items) tokens.now result
+        (listed_at sort_item_at marks.Semicolon (drop at (seen tokens.now))) }
 {
     let mut items = Vec::new(alloc);
     let mut next = at;
@@ -320,7 +326,8 @@ pub(crate) fn obj_items<'s>(
     at: usize,
 ) -> Result<(Vec<ObjItem<'s>>, usize), Stop>
     requires { AreTokens (token_views tokens.now) }
-    ensures { Reads (λ items. map plain_obj_item items.items) tokens.now result (listed_at obj_item_at marks.Semicolon (drop at (seen tokens.now))) }
+    ensures { Reads (λ items. map plain_obj_item items.items) tokens.now result
+        (listed_at obj_item_at marks.Semicolon (drop at (seen tokens.now))) }
 {
     let mut items = Vec::new(alloc);
     let mut next = at;
@@ -342,7 +349,8 @@ pub(crate) fn list_items<'s>(
     tokens: &[Token<'s>],
     at: usize,
 ) -> Result<(Vec<ListItem<'s>>, usize), Stop>
-    ensures { Reads (λ items. map plain_list_item items.items) tokens.now result (listed_at list_item_at marks.Semicolon (drop at (seen tokens.now))) }
+    ensures { Reads (λ items. map plain_list_item items.items) tokens.now result
+        (listed_at list_item_at marks.Semicolon (drop at (seen tokens.now))) }
 {
     let mut items = Vec::new(alloc);
     let mut next = at;
@@ -364,7 +372,8 @@ pub(crate) fn const_items<'s>(
     tokens: &[Token<'s>],
     at: usize,
 ) -> Result<(Vec<ConstItem<'s>>, usize), Stop>
-    ensures { Reads (λ items. map plain_const_item items.items) tokens.now result (listed_at const_item_at marks.Semicolon (drop at (seen tokens.now))) }
+    ensures { Reads (λ items. map plain_const_item items.items) tokens.now result
+        (listed_at const_item_at marks.Semicolon (drop at (seen tokens.now))) }
 {
     let mut items = Vec::new(alloc);
     let mut next = at;

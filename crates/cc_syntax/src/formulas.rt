@@ -39,7 +39,8 @@ enum Turn<'s> {
 
 /// A variable and the bar behind it.
 fn variable<'s>(tokens: &[Token<'s>], at: usize) -> Result<(&'s str, usize), Stop>
-    ensures { Reads (λ text. text.now) tokens.now result ((name_at ◁ sign_at marks.Bar) (drop at (seen tokens.now))) }
+    ensures { Reads (λ text. text.now) tokens.now result
+        ((name_at ◁ sign_at marks.Bar) (drop at (seen tokens.now))) }
 {
     let (name, next) = name(tokens, at)?;
     let next = sign(tokens, next, Mark::Bar)?;
@@ -76,7 +77,8 @@ fn has_more(rest: &[Addend]) -> bool
 
 /// The term that a sum is, where it has one piece and this is no number.
 fn alone<'s>(parts: Parts<'s>) -> Option<TermTree<'s>>
-    ensures { option_map plain_term result ≡ alone_of (Summed (plain_piece parts.entry.0) (addends_of (map plain_addend parts.entry.1.items))) }
+    ensures { option_map plain_term result ≡ alone_of
+        (Summed (plain_piece parts.entry.0) (addends_of (map plain_addend parts.entry.1.items))) }
 {
     let (first, rest) = parts;
     if has_more(&rest) {
@@ -90,7 +92,8 @@ fn alone<'s>(parts: Parts<'s>) -> Option<TermTree<'s>>
 
 /// A term alone, that was read as a sum.
 fn bare<'s>(tokens: &[Token<'s>], parts: Parts<'s>, at: usize) -> Result<(Tree<'s>, usize), Stop>
-    ensures { Reads plain_tree tokens.now result (bare_at (Summed (plain_piece parts.entry.0) (addends_of (map plain_addend parts.entry.1.items))) (drop at (seen tokens.now))) }
+    ensures { Reads plain_tree tokens.now result (bare_at (Summed (plain_piece parts.entry.0)
+        (addends_of (map plain_addend parts.entry.1.items))) (drop at (seen tokens.now))) }
 {
     match alone(parts) {
         Some(term) => Ok((Tree::Bare(term), at)),
@@ -119,7 +122,8 @@ fn sum_behind<'s, K: Drop>(
 ) -> Result<((K, Box<SumTree<'s>>), usize), Stop>
     requires { AreTokens (token_views tokens.now) }
     ensures kept { IfOk result (λ read. read.0.0 ≡ kept) }
-    ensures read { Reads (λ read. plain_sum read.1.value) tokens.now result (sum_at (drop at (seen tokens.now))) }
+    ensures read { Reads
+        (λ read. plain_sum read.1.value) tokens.now result (sum_at (drop at (seen tokens.now))) }
 {
     let (right, next) = sum(alloc, tokens, at)?;
     let both = boxed_sum(alloc, right, kept)?;
@@ -128,7 +132,8 @@ fn sum_behind<'s, K: Drop>(
 
 /// A comparison of its sign and its sums.
 fn compared_tree<'s>(read: ((Comparing, Box<SumTree<'s>>), Box<SumTree<'s>>)) -> Tree<'s>
-    ensures { plain_tree result ≡ trees.Compared (compared_as read.entry.0.0) (plain_sum read.entry.0.1.value) (plain_sum read.entry.1.value) }
+    ensures { plain_tree result ≡ trees.Compared (compared_as read.entry.0.0)
+        (plain_sum read.entry.0.1.value) (plain_sum read.entry.1.value) }
 {
     let ((comparing, left), right) = read;
     comparing.compared(left, right)
@@ -143,7 +148,8 @@ fn compared<'s>(
     left: SumTree<'s>,
 ) -> Result<(Tree<'s>, usize), Stop>
     requires { AreTokens (token_views tokens.now) }
-    ensures { Reads plain_tree tokens.now result (side_at (compared_as comparing) (plain_sum left.entry) (drop at (seen tokens.now))) }
+    ensures { Reads plain_tree tokens.now result
+        (side_at (compared_as comparing) (plain_sum left.entry) (drop at (seen tokens.now))) }
 {
     let kept = boxed_sum(alloc, left, comparing)?;
     made(sum_behind(alloc, tokens, at, kept), compared_tree)
@@ -171,7 +177,8 @@ fn begin<'s>(
     at: usize,
 ) -> Result<Turn<'s>, Stop>
     requires { AreTokens (token_views tokens.now) }
-    ensures { Turns tokens.now frames.new.items result (begun (stack frames.old.items) (drop at (seen tokens.now))) }
+    ensures { Turns tokens.now frames.new.items result
+        (begun (stack frames.old.items) (drop at (seen tokens.now))) }
 {
     match opening(tokens, at) {
         Ok((frame, next)) => {
@@ -194,7 +201,11 @@ fn shut_frame<'s>(
     tree: Tree<'s>,
     at: usize,
 ) -> Result<Turn<'s>, Stop>
-    ensures { (frames : List Frame) → Turns tokens.now frames result (shut (plain_frame frame.entry ∷ stack frames, plain_tree tree.entry) (drop at (seen tokens.now))) }
+    ensures { (frames : List Frame) → Turns tokens.now frames result (shut (
+      plain_frame frame.entry
+          ∷ stack frames,
+      plain_tree tree.entry,
+    ) (drop at (seen tokens.now))) }
 {
     let mark = frame.closing();
     let ((frame, tree), next) = sign_behind(tokens, at, mark, (frame, tree))?;
@@ -209,7 +220,8 @@ fn shut_innermost<'s>(
     tree: Tree<'s>,
     at: usize,
 ) -> Result<Turn<'s>, Stop>
-    ensures { Turns tokens.now frames.new.items result (shut (stack frames.old.items, plain_tree tree.entry) (drop at (seen tokens.now))) }
+    ensures { Turns tokens.now frames.new.items result
+        (shut (stack frames.old.items, plain_tree tree.entry) (drop at (seen tokens.now))) }
 {
     match frames.pop() {
         None => Ok(Turn::Ends(tree, at)),
@@ -226,7 +238,8 @@ fn go_on<'s>(
     tree: Tree<'s>,
     at: usize,
 ) -> Result<Turn<'s>, Stop>
-    ensures { Turns tokens.now frames.new.items result (gone_on (stack frames.old.items) (plain_tree tree.entry) (drop at (seen tokens.now))) }
+    ensures { Turns tokens.now frames.new.items result
+        (gone_on (stack frames.old.items) (plain_tree tree.entry) (drop at (seen tokens.now))) }
 {
     match next_operator(tokens, at) {
         Some((operator, next)) => {
@@ -249,7 +262,8 @@ fn turned<'s>(
     turn: Turn<'s>,
 ) -> Result<Turn<'s>, Stop>
     requires { AreTokens (token_views tokens.now) }
-    ensures { Turns tokens.now frames.new.items result (turn_of (stack frames.old.items, plain_turn tokens.now turn.entry)) }
+    ensures { Turns tokens.now frames.new.items result
+        (turn_of (stack frames.old.items, plain_turn tokens.now turn.entry)) }
 {
     match turn {
         Turn::Wants(next) => begin(alloc, tokens, frames, next),
@@ -267,7 +281,9 @@ fn run<'s>(
     at: usize,
 ) -> Result<(Tree<'s>, usize), Stop>
     requires { AreTokens (token_views tokens.now) }
-    ensures { Reads plain_tree tokens.now result (run_from (suc (length (drop at (seen tokens.now)))) (stack frames.old.items, Wants (drop at (seen tokens.now)))) }
+    ensures { Reads plain_tree tokens.now result
+        (run_from (suc (length (drop at (seen tokens.now))))
+        (stack frames.old.items, Wants (drop at (seen tokens.now)))) }
 {
     let mut turn = Turn::Wants(at);
     // A turn takes a token, but for the last, which finds that the formula ends.

@@ -31,7 +31,8 @@ pub(crate) type Frames<'s> = SmallVec<Frame<'s>, 8>;
 impl<'s> Frame<'s> {
     /// The frame with its operand.
     pub(crate) fn filled(self, alloc: Global, tree: Tree<'s>) -> Result<Tree<'s>, AllocError>
-        ensures { IfOk result (λ whole. plain_tree whole ≡ filled (plain_frame self.entry) (plain_tree tree.entry)) }
+        ensures { IfOk result (λ whole.
+            plain_tree whole ≡ filled (plain_frame self.entry) (plain_tree tree.entry)) }
     {
         let (tree, frame) = boxed(alloc, tree, self)?;
         match frame {
@@ -82,7 +83,8 @@ pub(crate) fn close<'s>(
     tree: Tree<'s>,
     bound: u8,
 ) -> Result<Tree<'s>, AllocError>
-    ensures { IfOk result (λ whole. closed bound (stack frames.old.items) (plain_tree tree.entry) ≡ (stack frames.new.items, plain_tree whole)) }
+    ensures { IfOk result (λ whole. closed bound (stack frames.old.items) (plain_tree tree.entry)
+        ≡ (stack frames.new.items, plain_tree whole)) }
 {
     let mut whole = tree;
     while let Some(frame) = pop_ending(frames, bound) {

@@ -53,7 +53,8 @@ impl Operator {
         left: Tree<'s>,
         right: Box<Tree<'s>>,
     ) -> Result<Tree<'s>, AllocError>
-        ensures { IfOk result (λ whole. plain_tree whole ≡ joined self (plain_tree left.entry) (plain_tree right.entry.value)) }
+        ensures { IfOk result (λ whole.
+            plain_tree whole ≡ joined self (plain_tree left.entry) (plain_tree right.entry.value)) }
     {
         let (left, right) = boxed(alloc, left, right)?;
         Ok(match self {
@@ -79,7 +80,8 @@ pub(crate) fn boxed<'s, K: Drop>(
 
 /// The operator at the place, and the place behind it.
 pub(crate) fn next_operator(tokens: &[Token], at: usize) -> Option<(Operator, usize)>
-    ensures { option_map (λ read. (read.0, drop read.1 (seen tokens.now))) result ≡ operator_at (drop at (seen tokens.now)) }
+    ensures { option_map (λ read. (read.0, drop read.1 (seen tokens.now))) result
+        ≡ operator_at (drop at (seen tokens.now)) }
 {
     match token_at(tokens, at)?.kind {
         TokenKind::Mark(Mark::And) => Some((Operator::Both, at + 1)),
@@ -110,7 +112,8 @@ pub(crate) enum Comparing {
 impl Comparing {
     /// The formula that it makes of its sums.
     pub(crate) fn compared<'s>(self, left: Box<SumTree<'s>>, right: Box<SumTree<'s>>) -> Tree<'s>
-        ensures { plain_tree result ≡ trees.Compared (compared_as self) (plain_sum left.entry.value) (plain_sum right.entry.value) }
+        ensures { plain_tree result ≡ trees.Compared
+            (compared_as self) (plain_sum left.entry.value) (plain_sum right.entry.value) }
     {
         match self {
             Comparing::Equal => Tree::Equal(left, right),
@@ -125,7 +128,8 @@ impl Comparing {
 
 /// The sign of a comparison at the place, and the place behind it.
 pub(crate) fn next_comparison(tokens: &[Token], at: usize) -> Option<(Comparing, usize)>
-    ensures { option_map (λ read. (compared_as read.0, drop read.1 (seen tokens.now))) result ≡ comparison_at (drop at (seen tokens.now)) }
+    ensures { option_map (λ read. (compared_as read.0, drop read.1 (seen tokens.now))) result
+        ≡ comparison_at (drop at (seen tokens.now)) }
 {
     match token_at(tokens, at)?.kind {
         TokenKind::Mark(Mark::Equal) => Some((Comparing::Equal, at + 1)),

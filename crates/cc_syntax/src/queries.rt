@@ -23,7 +23,8 @@ fn formulas<'s>(
     at: usize,
 ) -> Result<(Vec<Tree<'s>>, usize), Stop>
     requires { AreTokens (token_views tokens.now) }
-    ensures { Reads (λ formulas. map plain_tree formulas.items) tokens.now result (listed_at formula_at marks.Comma (drop at (seen tokens.now))) }
+    ensures { Reads (λ formulas. map plain_tree formulas.items) tokens.now result
+        (listed_at formula_at marks.Comma (drop at (seen tokens.now))) }
 {
     let mut formulas = Vec::new(alloc);
     let mut next = at;
@@ -47,7 +48,8 @@ fn condition<'s>(
     step: At,
 ) -> Result<(QueryItem<'s>, usize), Stop>
     requires { AreTokens (token_views tokens.now) }
-    ensures { Reads plain_query_item tokens.now result (condition_at claim step (drop at (seen tokens.now))) }
+    ensures { Reads plain_query_item tokens.now result
+        (condition_at claim step (drop at (seen tokens.now))) }
 {
     let next = sign(tokens, at, Mark::Colon)?;
     let (parts, next) = formulas(alloc, tokens, next)?;
@@ -82,7 +84,8 @@ fn stepped<'s>(
     claim: bool,
 ) -> Result<(QueryItem<'s>, usize), Stop>
     requires { AreTokens (token_views tokens.now) }
-    ensures { Reads plain_query_item tokens.now result (stepped_at claim (drop at (seen tokens.now))) }
+    ensures { Reads plain_query_item tokens.now result
+        (stepped_at claim (drop at (seen tokens.now))) }
 {
     let (step, next) = step(tokens, at)?;
     condition(alloc, tokens, next, claim, step)
@@ -153,7 +156,8 @@ pub(crate) fn query_items<'s>(
     at: usize,
 ) -> Result<(Vec<QueryItem<'s>>, usize), Stop>
     requires { AreTokens (token_views tokens.now) }
-    ensures { Reads (λ items. map plain_query_item items.items) tokens.now result (listed_at query_item_at marks.Semicolon (drop at (seen tokens.now))) }
+    ensures { Reads (λ items. map plain_query_item items.items) tokens.now result
+        (listed_at query_item_at marks.Semicolon (drop at (seen tokens.now))) }
 {
     let mut items = Vec::new(alloc);
     let mut next = at;

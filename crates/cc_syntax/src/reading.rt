@@ -11,7 +11,8 @@ pub(crate) fn made<T: Drop, U: Drop, F: FnOnce(T) -> U>(
     make: F,
 ) -> Result<(U, usize), Stop>
     requires { F.IsAlwaysCallable make }
-    ensures { MatchResult read (λ r. IfOk result (λ w. F.post make r.0 w.0 × (w.1 ≡ r.1)) × IsOk result) (λ stop. result ≡ Err stop) }
+    ensures { MatchResult read (λ r. IfOk result (λ w. F.post make r.0 w.0 × (w.1 ≡ r.1))
+        × IsOk result) (λ stop. result ≡ Err stop) }
 {
     match read {
         Ok((value, next)) => Ok((make(value), next)),

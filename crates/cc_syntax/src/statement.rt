@@ -65,7 +65,8 @@ fn query_part<'s>(items: Vec<QueryItem<'s>>) -> Part<'s>
 /// `include`, and the name of the file behind it.
 fn include<'s>(tokens: &[Token<'s>], at: usize) -> Result<(&'s str, usize), Stop>
     requires { AreTokens (token_views tokens.now) }
-    ensures { Reads (λ text. text.now) tokens.now result (given (word_at (codes "include") (drop at (seen tokens.now))) None quoted_at) }
+    ensures { Reads (λ text. text.now) tokens.now result
+        (given (word_at (codes "include") (drop at (seen tokens.now))) None quoted_at) }
 {
     let next = word(tokens, at, "include")?;
     quoted(tokens, next)
@@ -109,8 +110,8 @@ fn part<'s>(alloc: Global, tokens: &[Token<'s>], at: usize) -> Result<(Part<'s>,
 
 /// Whether only the dot of a statement is left.
 fn ends(tokens: &[Token], at: usize) -> bool
-    ensures { (part : PlainPart) →
-        given (given (sign_at marks.Dot (drop at (seen tokens.now))) None (λ rest. Some (part, rest))) None nothing_left ≡ then_some result part }
+    ensures { (part : PlainPart) → given (given (sign_at marks.Dot (drop at (seen tokens.now))) None
+        (λ rest. Some (part, rest))) None nothing_left ≡ then_some result part }
 {
     let Ok(next) = sign(tokens, at, Mark::Dot) else {
         return false;
@@ -130,8 +131,8 @@ fn whole<'s>(alloc: Global, tokens: &[Token<'s>]) -> Result<Part<'s>, Stop>
 
 /// The word of a directive.
 fn directive_word<'s>(tokens: &[Token<'s>]) -> Option<&'s str>
-    ensures { (words : Items (Items ℕ)) →
-        begins_directive words (seen tokens.now) ≡ given result false (λ text. list_any (same_text text.now) words) }
+    ensures { (words : Items (Items ℕ)) → begins_directive words (seen tokens.now)
+        ≡ given result false (λ text. list_any (same_text text.now) words) }
 {
     let Ok(next) = sign(tokens, 0, Mark::Turn) else {
         return None;
@@ -176,8 +177,10 @@ fn too_long(limit: LimitAt, file: u32, tokens: &[Token]) -> Fault
 pub fn parse<'s>(alloc: Global, file: u32, tokens: &[Token<'s>]) -> Result<Statement<'s>, Fault>
     requires some { 0 < length tokens.now }
     requires are { AreTokens (token_views tokens.now) }
-    ensures parsed { IfOk result (λ tree. IsParsed (token_views tokens.now) (plain_statement tree)) }
-    ensures one { (other : PlainStatement) → Spells other (token_views tokens.now) → IfOk result (λ tree. plain_statement tree ≡ other) }
+    ensures parsed { IfOk result (λ tree.
+        IsParsed (token_views tokens.now) (plain_statement tree)) }
+    ensures one { (other : PlainStatement) →
+        Spells other (token_views tokens.now) → IfOk result (λ tree. plain_statement tree ≡ other) }
     ensures refused { IfErr result (HasRefused file (token_views tokens.now)) }
 {
     let limit = token_limit(tokens);

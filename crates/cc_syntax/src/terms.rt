@@ -47,7 +47,8 @@ fn leaf<'s>(alloc: Global, tokens: &[Token<'s>], at: usize) -> Result<(TermTree<
 
 /// The sign before a piece: whether it takes the piece away, and the place behind it.
 fn additive(tokens: &[Token], at: usize) -> Option<(bool, usize)>
-    ensures { option_map (λ read. (read.0, drop read.1 (seen tokens.now))) result ≡ additive_at (drop at (seen tokens.now)) }
+    ensures { option_map (λ read. (read.0, drop read.1 (seen tokens.now))) result
+        ≡ additive_at (drop at (seen tokens.now)) }
 {
     match token_at(tokens, at)?.kind {
         TokenKind::Mark(Mark::Plus) => Some((false, at + 1)),
@@ -65,7 +66,8 @@ fn piece_within<'s>(
     steps: usize,
 ) -> Result<(Piece<'s>, usize), Stop>
     requires { AreTokens (token_views tokens.now) }
-    ensures { Reads plain_piece tokens.now result (piece_by (term_from steps) (drop at (seen tokens.now))) }
+    ensures { Reads plain_piece tokens.now result
+        (piece_by (term_from steps) (drop at (seen tokens.now))) }
 {
     match numeral(tokens, at) {
         Ok((number, next)) => Ok((Piece::Number(number), next)),
@@ -86,7 +88,8 @@ fn addends_within<'s>(
     steps: usize,
 ) -> Result<(Vec<Addend<'s>>, usize), Stop>
     requires { AreTokens (token_views tokens.now) }
-    ensures { Reads (λ addends. map plain_addend addends.items) tokens.now result (addends_by (term_from steps) (drop at (seen tokens.now))) }
+    ensures { Reads (λ addends. map plain_addend addends.items) tokens.now result
+        (addends_by (term_from steps) (drop at (seen tokens.now))) }
 {
     let mut addends = Vec::new(alloc);
     let mut next = at;
@@ -111,7 +114,8 @@ fn sum_within<'s>(
     steps: usize,
 ) -> Result<(SumTree<'s>, usize), Stop>
     requires { AreTokens (token_views tokens.now) }
-    ensures { Reads plain_sum tokens.now result (sum_by (term_from steps) (drop at (seen tokens.now))) }
+    ensures { Reads plain_sum tokens.now result
+        (sum_by (term_from steps) (drop at (seen tokens.now))) }
 {
     let (first, next) = piece_within(alloc, tokens, at, steps)?;
     let (rest, next) = addends_within(alloc, tokens, next, steps)?;
@@ -174,7 +178,9 @@ fn parts_within<'s>(
     steps: usize,
 ) -> Result<(Parts<'s>, usize), Stop>
     requires { AreTokens (token_views tokens.now) }
-    ensures { Reads (λ parts. Summed (plain_piece parts.0) (addends_of (map plain_addend parts.1.items))) tokens.now result (sum_by (term_from steps) (drop at (seen tokens.now))) }
+    ensures { Reads (λ parts.
+        Summed (plain_piece parts.0) (addends_of (map plain_addend parts.1.items)))
+        tokens.now result (sum_by (term_from steps) (drop at (seen tokens.now))) }
 {
     let (first, next) = piece_within(alloc, tokens, at, steps)?;
     let (rest, next) = addends_within(alloc, tokens, next, steps)?;
@@ -188,7 +194,9 @@ pub(crate) fn parts<'s>(
     at: usize,
 ) -> Result<(Parts<'s>, usize), Stop>
     requires { AreTokens (token_views tokens.now) }
-    ensures { Reads (λ parts. Summed (plain_piece parts.0) (addends_of (map plain_addend parts.1.items))) tokens.now result (sum_at (drop at (seen tokens.now))) }
+    ensures { Reads (λ parts.
+        Summed (plain_piece parts.0) (addends_of (map plain_addend parts.1.items)))
+        tokens.now result (sum_at (drop at (seen tokens.now))) }
 {
     parts_within(alloc, tokens, at, tokens.len().saturating_sub(at))
 }
@@ -196,7 +204,8 @@ pub(crate) fn parts<'s>(
 /// The sum that has the parts.
 #[tactic(auto, using(crate::proofs::Trees::sum_made))]
 pub(crate) fn sum_of<'s>(parts: Parts<'s>) -> SumTree<'s>
-    ensures { plain_sum result ≡ Summed (plain_piece parts.entry.0) (addends_of (map plain_addend parts.entry.1.items)) }
+    ensures { plain_sum result
+        ≡ Summed (plain_piece parts.entry.0) (addends_of (map plain_addend parts.entry.1.items)) }
 {
     let (first, rest) = parts;
     SumTree { first, rest }

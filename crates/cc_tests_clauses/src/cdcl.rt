@@ -231,7 +231,10 @@ fn has_pairs_of(kernel: &Kernel, low: u32, end: u32) -> bool
     requires some { 1 ≤ low }
     requires below { low < end }
     requires most { end ≤ 4000001 }
-    ensures { IsTrue result → (clause : List Literal) → Contains (map (λ v. opposite (positive low) ∷ opposite v ∷ []) (position_variables (low + 1) (end - (low + 1)))) clause → Contains (clauses_of kernel.now) clause }
+    ensures { IsTrue result →
+        (clause : List Literal) → Contains (map (λ v. opposite (positive low) ∷ opposite v ∷ [])
+        (position_variables (low + 1) (end - (low + 1)))) clause →
+        Contains (clauses_of kernel.now) clause }
 {
     for high in low + 1..end {
         if !has(kernel, &[Lit::negative(low), Lit::negative(high)]) {
@@ -244,7 +247,8 @@ fn has_pairs_of(kernel: &Kernel, low: u32, end: u32) -> bool
 fn has_pairs(kernel: &Kernel, first: u32, end: u32) -> bool
     requires some { 1 ≤ first }
     requires most { end ≤ 4000001 }
-    ensures { IsTrue result → (clause : List Literal) → Contains (pairs_denied (position_variables first (end - first))) clause → Contains (clauses_of kernel.now) clause }
+    ensures { IsTrue result → (clause : List Literal) → Contains (pairs_denied
+        (position_variables first (end - first))) clause → Contains (clauses_of kernel.now) clause }
 {
     for low in first..end {
         if !has_pairs_of(kernel, low, end) {
@@ -314,8 +318,10 @@ struct Told {
 fn turn(solver: &mut Solver, budget: u32, rows: &mut Vec<u32>) -> Result<Step, OutOfMemory>
     requires ready { solver.old.standing ≡ Ready }
     requires budget { derived_count solver.old.kernel.entries ≤ budget }
-    ensures ready { IfOk result (λ step. step ≢ Step.Refuted → step ≢ Step.Spent → solver.new.standing ≡ Ready) }
-    ensures budget { IfOk result (λ step. step ≢ Step.Refuted → step ≢ Step.Spent → derived_count solver.new.kernel.entries ≤ budget) }
+    ensures ready { IfOk result (λ step. step ≢ Step.Refuted →
+        step ≢ Step.Spent → solver.new.standing ≡ Ready) }
+    ensures budget { IfOk result (λ step. step ≢ Step.Refuted →
+        step ≢ Step.Spent → derived_count solver.new.kernel.entries ≤ budget) }
 {
     if solver.kernel().count() >= 4_000_000_000 {
         return Err(OutOfMemory);

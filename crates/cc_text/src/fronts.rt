@@ -17,7 +17,8 @@ pub(crate) struct Front {
 
 /// The longest mark at the front, and how many bytes it has.
 fn mark_front(bytes: &[u8]) -> Option<(Mark, usize)>
-    ensures { MatchOption result (NoMark bytes.now) (λ found. IsMarkFront bytes.now found.0 found.1) }
+    ensures { MatchOption result
+        (NoMark bytes.now) (λ found. IsMarkFront bytes.now found.0 found.1) }
 {
     if let [a, b, c, ..] = bytes {
         if let Some(mark) = mark_of_three(*a, *b, *c) {
@@ -52,7 +53,8 @@ fn quoted_front(bytes: &[u8]) -> Option<usize>
 /// The longest token at the front.
 pub(crate) fn front_of(bytes: &[u8]) -> Option<Front>
     requires { length bytes.now < 2 ^ 31 }
-    ensures { MatchOption result (NoFront bytes.now) (λ found. IsFront bytes.now found.kind found.length) }
+    ensures { MatchOption result (NoFront bytes.now) (λ found.
+        IsFront bytes.now found.kind found.length) }
 {
     let [first, more @ ..] = bytes else {
         return None;

@@ -61,7 +61,8 @@ fn tokens_of<'s>(alloc: Global, file: u32, bytes: &'s [u8]) -> Result<Vec<Token<
 /// The place behind the last token of each statement.
 fn ends_of(alloc: Global, tokens: &[Token]) -> Result<Vec<usize>, AllocError>
     requires { length tokens.now ≤ 268435456 }
-    ensures cut { IfOk result (λ ends. cut_at 0 ends.items (token_views tokens.now) ≡ statements (token_views tokens.now)) }
+    ensures cut { IfOk result (λ ends.
+        cut_at 0 ends.items (token_views tokens.now) ≡ statements (token_views tokens.now)) }
     ensures within { IfOk result (λ ends. AreEnds 0 ends.items (length tokens.now)) }
 {
     let mut ends = Vec::new(alloc);
@@ -100,7 +101,8 @@ fn begin_of(ends: &[usize], i: usize) -> usize
 fn part<'a, 's>(tokens: &'a [Token<'s>], ends: &[usize], i: usize) -> &'a [Token<'s>]
     requires ordered { AreEnds 0 ends.now (length tokens.now) }
     requires within { i < length ends.now }
-    ensures tokens { token_views result.now ≡ slice_index_or (cut_at 0 ends.now (token_views tokens.now)) i [] }
+    ensures tokens { token_views result.now
+        ≡ slice_index_or (cut_at 0 ends.now (token_views tokens.now)) i [] }
     ensures some { 0 < length result.now }
 {
     between(tokens, begin_of(ends, i), ends[i])

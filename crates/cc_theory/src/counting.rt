@@ -11,7 +11,8 @@ const MANY: usize = 8_000_001;
 
 /// How many initial rules a fluent has.
 fn initial_count(constant: &Const) -> usize
-    ensures { (number : ℕ) → result ≡ length (initial_of constant.now.kind number (length constant.now.domain)) }
+    ensures { (number : ℕ) →
+        result ≡ length (initial_of constant.now.kind number (length constant.now.domain)) }
 {
     match constant.kind {
         Kind::Simple => constant.domain.items().len(),

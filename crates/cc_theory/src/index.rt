@@ -52,7 +52,8 @@ fn keys(
 ) -> Result<Vec<usize>, OutOfMemory>
     requires firsts { firsts.now ≡ starts_of 0 (sizes_of sig.now) }
     requires few { places (sizes_of sig.now) horizon < 18446744073709551616 }
-    requires heads { AllByRecursion (λ rule. HasPlace (sizes_of sig.now) horizon rule.head) rules.now }
+    requires heads { AllByRecursion (λ rule.
+        HasPlace (sizes_of sig.now) horizon rule.head) rules.now }
     ensures { IfOk result (λ keys. keys.items ≡ place_keys (sizes_of sig.now) horizon rules.now) }
 {
     let mut keys = Vec::new(alloc);
@@ -90,8 +91,10 @@ pub(crate) fn index_of(
     rules: &[TimedRule<'_>],
 ) -> Result<Index, OutOfMemory>
     requires count { length rules.now ≤ most_rules }
-    requires heads { AllByRecursion (λ rule. HasPlace (sizes_of sig.now) horizon rule.head) rules.now }
-    ensures { IfOk result (λ index. AreIndexed sig.now horizon rules.now index.firsts.items index.begins.items index.numbers.items) }
+    requires heads { AllByRecursion (λ rule.
+        HasPlace (sizes_of sig.now) horizon rule.head) rules.now }
+    ensures { IfOk result (λ index. AreIndexed
+        sig.now horizon rules.now index.firsts.items index.begins.items index.numbers.items) }
 {
     let firsts = starts(alloc, &sizes(alloc, sig)?)?;
     let count = place_count(sig, &firsts, horizon)?;

@@ -19,7 +19,8 @@ pub(crate) fn stride(sig: &Sig) -> u64
 
 /// The initial rules of a simple fluent with so many values.
 fn add_values<'a>(number: u32, size: u32, rules: &mut Vec<TimedRule<'a>>) -> Result<(), OutOfMemory>
-    ensures { OnOk result (rules.new.items ≡ rules.old.items ++ map (words.initial_rule number) (upto size)) }
+    ensures { OnOk result
+        (rules.new.items ≡ rules.old.items ++ map (words.initial_rule number) (upto size)) }
 {
     for value in 0..size {
         rules.push(TimedRule {
@@ -51,7 +52,8 @@ fn add_initial<'a>(
 
 /// The initial rules.
 fn add_all_initial<'a>(sig: &Sig, rules: &mut Vec<TimedRule<'a>>) -> Result<(), OutOfMemory>
-    ensures { OnOk result (rules.new.items ≡ rules.old.items ++ words.all_initial 0 sig.now.fluents) }
+    ensures { OnOk result
+        (rules.new.items ≡ rules.old.items ++ words.all_initial 0 sig.now.fluents) }
 {
     for number in 0..sig.fluents() {
         let size = sig.domain_size(u64::from(number));
@@ -123,7 +125,8 @@ fn add_step<'a>(
     requires step { step ≤ horizon }
     requires horizon { horizon ≤ most_steps }
     requires stride { stride ≤ 8589934592 }
-    ensures { OnOk result (rules.new.items ≡ rules.old.items ++ words.rules_at_step stride laws.now horizon step) }
+    ensures { OnOk result
+        (rules.new.items ≡ rules.old.items ++ words.rules_at_step stride laws.now horizon step) }
 {
     for law in laws {
         if let Some(rule) = rule_at(law, stride, horizon, step) {
@@ -173,7 +176,8 @@ pub fn step_rules<'a>(
 ) -> Result<Vec<TimedRule<'a>>, OutOfMemory>
     requires step { step ≤ horizon }
     requires horizon { horizon ≤ most_steps }
-    ensures { IfOk result (λ rules. rules.items ≡ words.rules_at_step (words.stride_of sig.now) laws.now horizon step) }
+    ensures { IfOk result (λ rules.
+        rules.items ≡ words.rules_at_step (words.stride_of sig.now) laws.now horizon step) }
 {
     let mut rules = Vec::new(alloc);
     let stride = stride(sig);

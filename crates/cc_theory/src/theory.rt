@@ -32,7 +32,9 @@ fn rules_within<'a>(
     requires { horizon ≤ most_steps }
     ensures made { IfOk result (λ rules. rules.items ≡ rules_for sig.now laws.now horizon) }
     ensures few { OnOk result (length (rules_for sig.now laws.now horizon) ≤ most_rules) }
-    ensures refused { IfErr result (IsRefusedBy (if nat_lt most_rules (length (rules_for sig.now laws.now horizon)) then Some (refusal_past limits.Rules) else None)) }
+    ensures refused { IfErr result
+        (IsRefusedBy (if nat_lt most_rules (length (rules_for sig.now laws.now horizon)) then Some
+        (refusal_past limits.Rules) else None)) }
 {
     let count = rule_count(sig, laws, horizon);
     if count > LimitAt::Rules.number() as usize {
@@ -52,11 +54,15 @@ fn rules_meant<'a>(
     requires laws { AreLawsFor sig.now laws.now }
     ensures short { IfOk result (λ rules. length rules.items ≤ most_rules) }
     ensures pinned { IfOk result (λ rules. rules.items ≡ rules_for sig.now laws.now horizon) }
-    ensures heads { IfOk result (λ rules. AllByRecursion (λ rule. HasPlace (sizes_of sig.now) horizon rule.head) rules.items) }
+    ensures heads { IfOk result (λ rules.
+        AllByRecursion (λ rule. HasPlace (sizes_of sig.now) horizon rule.head) rules.items) }
     ensures fit { IfOk result (λ rules. AreRulesAt sig.now horizon rules.items) }
-    ensures rules { (d : Description) → AreLawsOf sig.now laws.now d → IfOk result (λ rules. AllZip (IsRuleOf (stride_between d)) rules.items (timed_rules d horizon)) }
-    ensures few { (d : Description) → AreLawsOf sig.now laws.now d → OnOk result (length (timed_rules d horizon) ≤ most_rules) }
-    ensures refused { (d : Description) → AreLawsOf sig.now laws.now d → IfErr result (IsRefusedBy (rules_refusal d horizon)) }
+    ensures rules { (d : Description) → AreLawsOf sig.now laws.now d → IfOk result (λ rules.
+        AllZip (IsRuleOf (stride_between d)) rules.items (timed_rules d horizon)) }
+    ensures few { (d : Description) →
+        AreLawsOf sig.now laws.now d → OnOk result (length (timed_rules d horizon) ≤ most_rules) }
+    ensures refused { (d : Description) →
+        AreLawsOf sig.now laws.now d → IfErr result (IsRefusedBy (rules_refusal d horizon)) }
 {
     rules_within(alloc, sig, laws, horizon)
 }
@@ -79,9 +85,15 @@ impl<'a> Model for Theory<'a> {
 
     ghost Value = { PlainTheory };
 
-    ghost view = { λ theory. record { signature = theory.sig.now; horizon = theory.horizon; rules = theory.rules.items } };
+    ghost view = { λ theory. record {
+      signature = theory.sig.now;
+      horizon = theory.horizon;
+      rules = theory.rules.items;
+    } };
 
-    ghost invariant = { λ theory. AreIndexed theory.sig.now theory.horizon theory.rules.items theory.index.firsts.items theory.index.begins.items theory.index.numbers.items × AreRulesAt theory.sig.now theory.horizon theory.rules.items × (theory.horizon ≤ most_steps) };
+    ghost invariant = { λ theory. AreIndexed theory.sig.now theory.horizon theory.rules.items
+        theory.index.firsts.items theory.index.begins.items theory.index.numbers.items × AreRulesAt
+        theory.sig.now theory.horizon theory.rules.items × (theory.horizon ≤ most_steps) };
 }
 
 impl<'a> Theory<'a> {
@@ -101,12 +113,18 @@ impl<'a> Theory<'a> {
         ensures signature { IfOk result (λ theory. theory.signature ≡ sig.now) }
         ensures horizon { IfOk result (λ theory. theory.horizon ≡ horizon) }
         ensures pinned { IfOk result (λ theory. theory.rules ≡ rules_for sig.now laws.now horizon) }
-        ensures rules { (d : Description) → AreLawsOf sig.now laws.now d → IfOk result (λ theory. AllZip (IsRuleOf (stride_between d)) theory.rules (timed_rules d horizon)) }
-        ensures few { (d : Description) → AreLawsOf sig.now laws.now d → OnOk result (length (timed_rules d horizon) ≤ most_rules) }
-        ensures refused { (d : Description) → AreLawsOf sig.now laws.now d → IfErr result (IsRefusedBy (rules_refusal d horizon)) }
-        ensures of { (d : Description) → AreLawsOf sig.now laws.now d → IfOk result (λ theory. IsTheoryOf theory d) }
-        ensures completed { (d : Description) → AreLawsOf sig.now laws.now d → ModelsMeetCompletionOf d horizon }
-        ensures paths { (d : Description) → AreLawsOf sig.now laws.now d → ModelsArePathsOf d horizon }
+        ensures rules { (d : Description) → AreLawsOf sig.now laws.now d → IfOk result (λ theory.
+            AllZip (IsRuleOf (stride_between d)) theory.rules (timed_rules d horizon)) }
+        ensures few { (d : Description) → AreLawsOf sig.now laws.now d →
+            OnOk result (length (timed_rules d horizon) ≤ most_rules) }
+        ensures refused { (d : Description) →
+            AreLawsOf sig.now laws.now d → IfErr result (IsRefusedBy (rules_refusal d horizon)) }
+        ensures of { (d : Description) →
+            AreLawsOf sig.now laws.now d → IfOk result (λ theory. IsTheoryOf theory d) }
+        ensures completed { (d : Description) →
+            AreLawsOf sig.now laws.now d → ModelsMeetCompletionOf d horizon }
+        ensures paths { (d : Description) →
+            AreLawsOf sig.now laws.now d → ModelsArePathsOf d horizon }
     {
         models_meet_completion();
         models_are_paths();
@@ -124,9 +142,12 @@ impl<'a> Theory<'a> {
         ensures signature { IfOk result (λ theory. theory.signature ≡ sig.now) }
         ensures horizon { IfOk result (λ theory. theory.horizon ≡ horizon) }
         ensures pinned { IfOk result (λ theory. theory.rules ≡ rules_for sig.now laws.now horizon) }
-        ensures rules { (d : Description) → AreLawsOf sig.now laws.now d → IfOk result (λ theory. AllZip (IsRuleOf (stride_between d)) theory.rules (timed_rules d horizon)) }
-        ensures few { (d : Description) → AreLawsOf sig.now laws.now d → OnOk result (length (timed_rules d horizon) ≤ most_rules) }
-        ensures refused { (d : Description) → AreLawsOf sig.now laws.now d → IfErr result (IsRefusedBy (rules_refusal d horizon)) }
+        ensures rules { (d : Description) → AreLawsOf sig.now laws.now d → IfOk result (λ theory.
+            AllZip (IsRuleOf (stride_between d)) theory.rules (timed_rules d horizon)) }
+        ensures few { (d : Description) → AreLawsOf sig.now laws.now d →
+            OnOk result (length (timed_rules d horizon) ≤ most_rules) }
+        ensures refused { (d : Description) →
+            AreLawsOf sig.now laws.now d → IfErr result (IsRefusedBy (rules_refusal d horizon)) }
     {
         let rules = rules_meant(alloc, sig, laws.laws(), horizon)?;
         let index = index_of(alloc, sig, horizon, &rules)?;
@@ -163,8 +184,11 @@ impl<'a> Theory<'a> {
 
     fn with_head(&self, head: TimedHead) -> &[u32]
         requires { HasPlace (sizes_of self.now.signature) self.now.horizon head }
-        ensures numbers { result.now ≡ numbers_where (nat_eq (place_of (sizes_of self.now.signature) self.now.horizon head)) 0 (place_keys (sizes_of self.now.signature) self.now.horizon self.now.rules) }
-        ensures heads { AllByRecursion (λ rule. HasPlace (sizes_of self.now.signature) self.now.horizon rule.head) self.now.rules }
+        ensures numbers { result.now
+            ≡ numbers_where (nat_eq (place_of (sizes_of self.now.signature) self.now.horizon head))
+            0 (place_keys (sizes_of self.now.signature) self.now.horizon self.now.rules) }
+        ensures heads { AllByRecursion (λ rule.
+            HasPlace (sizes_of self.now.signature) self.now.horizon rule.head) self.now.rules }
     {
         let key = place(self.sig, &self.index.firsts, self.horizon, head);
         group(&self.index.begins, &self.index.numbers, key)

@@ -87,7 +87,8 @@ impl Entries {
     /// No entries, with room for one of each variable.
     pub fn new(alloc: Global, variables: u32) -> Result<Entries, OutOfMemory>
         requires { variables ≤ most_variables }
-        ensures { IfOk result (λ entries. entries ≡ record { variables = variables; steps = []; level_count = 0 }) }
+        ensures { IfOk result (λ entries.
+            entries ≡ record { variables = variables; steps = []; level_count = 0 }) }
     {
         let lit = Lit::positive(1);
         let step = Step {
@@ -182,7 +183,8 @@ impl Entries {
     pub fn place(&self, variable: u32) -> usize
         requires { variable ≤ self.now.variables }
         ensures within { result ≤ length self.now.steps }
-        ensures before { (step : Step) → IsIn (take result self.now.steps) step → step.lit.variable ≢ variable }
+        ensures before { (step : Step) →
+            IsIn (take result self.now.steps) step → step.lit.variable ≢ variable }
     {
         match self.places[variable as usize].checked_sub(1) {
             Some(place) => place as usize,
@@ -194,7 +196,10 @@ impl Entries {
     pub fn push(&mut self, lit: Lit, reason: Option<u32>)
         requires over { IsLiteralOver self.old.variables lit }
         requires open { step_of self.old.steps lit.variable ≡ None }
-        ensures { self.new ≡ record self.old { steps = self.old.steps ++ (record { lit = lit; level = self.old.level_count; reason = reason }) ∷ [] } }
+        ensures { self.new ≡ record self.old {
+          steps = self.old.steps
+              ++ (record { lit = lit; level = self.old.level_count; reason = reason }) ∷ [];
+        } }
     {
         let step = Step {
             lit,
@@ -212,7 +217,11 @@ impl Entries {
     pub fn decide(&mut self, lit: Lit)
         requires over { IsLiteralOver self.old.variables lit }
         requires open { step_of self.old.steps lit.variable ≡ None }
-        ensures { self.new ≡ record self.old { steps = self.old.steps ++ (record { lit = lit; level = self.old.level_count + 1; reason = None }) ∷ []; level_count = self.old.level_count + 1 } }
+        ensures { self.new ≡ record self.old {
+          steps = self.old.steps
+              ++ (record { lit = lit; level = self.old.level_count + 1; reason = None }) ∷ [];
+          level_count = self.old.level_count + 1;
+        } }
     {
         let step = Step {
             lit,

@@ -63,7 +63,8 @@ fn relink(heads: &mut Vec<u32>, nodes: &mut Nodes, walked: usize, before: u32, l
     requires walked { walked < length heads.old.items }
     requires before { before ≤ length nodes.old.next }
     ensures heads { heads.new.items ≡ heads_relinked heads.old.items walked before link }
-    ensures nodes { nodes.new ≡ record nodes.old { next = next_relinked nodes.old.next before link } }
+    ensures nodes { nodes.new
+        ≡ record nodes.old { next = next_relinked nodes.old.next before link } }
 {
     match before.checked_sub(1) {
         Some(node) => nodes.link(node as usize, link),
@@ -75,7 +76,8 @@ impl Links {
     /// Links of no clause.
     pub fn new(alloc: Global, variables: u32) -> Result<Links, OutOfMemory>
         requires { variables ≤ most_variables }
-        ensures { IfOk result (λ links. links ≡ record { variables = variables; watched = []; ahead = [] }) }
+        ensures { IfOk result (λ links.
+            links ≡ record { variables = variables; watched = []; ahead = [] }) }
     {
         let heads = vec![in alloc; 0u32; 2 * variables as usize + 2]?;
         Ok(Links {
@@ -137,7 +139,10 @@ impl Links {
         requires first { BeginsWith self.old.ahead node }
         requires over { IsLiteralOver self.old.variables lit }
         requires apart { watched_at self.old.watched node ≢ lit }
-        ensures { self.new ≡ record self.old { watched = set self.old.watched node lit; ahead = drop 1 self.old.ahead } }
+        ensures { self.new ≡ record self.old {
+          watched = set self.old.watched node lit;
+          ahead = drop 1 self.old.ahead;
+        } }
     {
         let code = code(lit);
         let place = node as usize;
@@ -159,7 +164,10 @@ impl Links {
         requires first { BeginsWith self.old.ahead node }
         requires within { node < length self.old.watched }
         requires over { IsLiteralOver self.old.variables lit }
-        ensures { self.new ≡ record self.old { watched = set self.old.watched node lit; ahead = drop 1 self.old.ahead } }
+        ensures { self.new ≡ record self.old {
+          watched = set self.old.watched node lit;
+          ahead = drop 1 self.old.ahead;
+        } }
     {
         if self.watched(node) == lit {
             self.pass(node);
@@ -182,7 +190,8 @@ impl Links {
         requires a_over { IsLiteralOver self.old.variables a }
         requires b_over { IsLiteralOver self.old.variables b }
         requires apart { a ≢ b }
-        ensures added { OnOk result (self.new ≡ record self.old { watched = self.old.watched ++ a ∷ b ∷ [] }) }
+        ensures added { OnOk result
+            (self.new ≡ record self.old { watched = self.old.watched ++ a ∷ b ∷ [] }) }
         ensures kept { OnErr result (self.new ≡ self.old) }
     {
         let count = self.nodes.count();

@@ -74,14 +74,20 @@ impl Nodes {
     /// Changes a node.
     pub fn put(&mut self, node: usize, next: u32, lit: Lit)
         requires { node < length self.old.next }
-        ensures { self.new ≡ record { next = set self.old.next node next; watched = set self.old.watched node lit } }
+        ensures { self.new ≡ record {
+          next = set self.old.next node next;
+          watched = set self.old.watched node lit;
+        } }
     {
         self.nodes[node] = Node { next, lit };
     }
 
     /// Adds two nodes, with the links to what is next of them and the literals that they watch.
     pub fn add_two(&mut self, one: u32, a: Lit, two: u32, b: Lit) -> Result<(), OutOfMemory>
-        ensures added { OnOk result (self.new ≡ record { next = self.old.next ++ one ∷ two ∷ []; watched = self.old.watched ++ a ∷ b ∷ [] }) }
+        ensures added { OnOk result (self.new ≡ record {
+          next = self.old.next ++ one ∷ two ∷ [];
+          watched = self.old.watched ++ a ∷ b ∷ [];
+        }) }
         ensures kept { OnErr result (self.new ≡ self.old) }
     {
         let first = Node { next: one, lit: a };

@@ -18,7 +18,8 @@ fn make_short(kernel: &Kernel, number: u32, entries: &mut Entries) -> Option<u32
     ensures grown { AreGrown entries.old entries.new }
     ensures sound { AreSound kernel.now entries.new }
     ensures met { IfNone result (IsMet (clauses_of kernel.now) entries.new.steps number) }
-    ensures failed { IfSome result (λ failed. IsFailedClause (clauses_of kernel.now) entries.new.steps failed) }
+    ensures failed { IfSome result (λ failed.
+        IsFailedClause (clauses_of kernel.now) entries.new.steps failed) }
 {
     match kernel.clause(number).first() {
         Some(lit) => if make_true(entries, *lit, number) {
@@ -38,13 +39,17 @@ pub fn make_shorts(
     met: usize,
     entries: &mut Entries,
 ) -> Option<u32>
-    requires short { (number : ℕ) → IsIn shorts.now number → IsShort (clauses_of kernel.now) number }
+    requires short { (number : ℕ) →
+        IsIn shorts.now number → IsShort (clauses_of kernel.now) number }
     requires sound { AreSound kernel.now entries.old }
-    requires known { (number : ℕ) → IsIn (take met shorts.now) number → IsMet (clauses_of kernel.now) entries.old.steps number }
+    requires known { (number : ℕ) →
+        IsIn (take met shorts.now) number → IsMet (clauses_of kernel.now) entries.old.steps number }
     ensures grown { AreGrown entries.old entries.new }
     ensures sound { AreSound kernel.now entries.new }
-    ensures met { IfNone result ((number : ℕ) → IsIn shorts.now number → IsMet (clauses_of kernel.now) entries.new.steps number) }
-    ensures failed { IfSome result (λ failed. IsFailedClause (clauses_of kernel.now) entries.new.steps failed) }
+    ensures met { IfNone result ((number : ℕ) →
+        IsIn shorts.now number → IsMet (clauses_of kernel.now) entries.new.steps number) }
+    ensures failed { IfSome result (λ failed.
+        IsFailedClause (clauses_of kernel.now) entries.new.steps failed) }
 {
     for index in met..shorts.len() {
         if let Some(number) = make_short(kernel, shorts[index], entries) {
@@ -82,7 +87,8 @@ pub fn visit_steps(
     ensures watched { AreWatched kernel.now longs.now visited.new entries.new links.new }
     ensures none { links.new.ahead ≡ [] }
     ensures all { IfNone result (visited.new ≡ length entries.new.steps) }
-    ensures failed { IfSome result (λ number. IsFailedClause (clauses_of kernel.now) entries.new.steps number) }
+    ensures failed { IfSome result (λ number.
+        IsFailedClause (clauses_of kernel.now) entries.new.steps number) }
 {
     while *visited < entries.count() {
         if let Some(number) = visit_step(kernel, longs, *visited, entries, links) {

@@ -78,7 +78,8 @@ impl Trail {
     // Attaches a clause of fewer than two literals.
     fn attach_short(&mut self, id: u32) -> Result<(), OutOfMemory>
         requires { id ≡ self.old.attached + 1 }
-        ensures attached { OnOk result (self.new ≡ record self.old { attached = id; shorts = self.old.shorts ++ id ∷ [] }) }
+        ensures attached { OnOk result
+            (self.new ≡ record self.old { attached = id; shorts = self.old.shorts ++ id ∷ [] }) }
         ensures kept { OnErr result (self.new ≡ self.old) }
     {
         self.shorts.push(id)?;
@@ -113,7 +114,8 @@ impl Trail {
         requires there { IsThere kernel.now id }
         ensures attached { OnOk result (IsAttached self.old self.new) }
         ensures fits { OnOk result (Fits self.new kernel.now) }
-        ensures settled { OnOk result ((other : KernelView) → IsSettled self.old other → IsSettled self.new other) }
+        ensures settled { OnOk result ((other : KernelView) →
+            IsSettled self.old other → IsSettled self.new other) }
         ensures kept { OnErr result (self.new ≡ self.old) }
     {
         let clause = kernel.clause(id);
@@ -130,7 +132,8 @@ impl Trail {
         requires open { step_of self.old.steps lit.variable ≡ None }
         ensures decided { self.new ≡ decided self.old lit }
         ensures fits { (kernel : KernelView) → Fits self.old kernel → Fits self.new kernel }
-        ensures settled { (kernel : KernelView) → IsClosed (values_of self.old.steps) (clauses_of kernel) → IsSettled self.old kernel → IsSettled self.new kernel }
+        ensures settled { (kernel : KernelView) → IsClosed (values_of self.old.steps)
+            (clauses_of kernel) → IsSettled self.old kernel → IsSettled self.new kernel }
     {
         self.entries.decide(lit);
     }
@@ -140,7 +143,8 @@ impl Trail {
         requires { level ≤ self.old.level_count }
         ensures back { self.new ≡ back_at self.old level }
         ensures fits { (kernel : KernelView) → Fits self.old kernel → Fits self.new kernel }
-        ensures settled { (kernel : KernelView) → IsSettled self.old kernel → IsSettled self.new kernel }
+        ensures settled { (kernel : KernelView) →
+            IsSettled self.old kernel → IsSettled self.new kernel }
     {
         self.entries.back_to(level);
         self.visited = self.visited.min(self.entries.count());
@@ -156,8 +160,10 @@ impl Trail {
         ensures propagated { IsPropagated self.old self.new }
         ensures fits { Fits self.new kernel.now }
         ensures settled { IsSettled self.new kernel.now }
-        ensures failed { IfSome result (λ id. IsFailedClause (clauses_of kernel.now) self.new.steps id) }
-        ensures closed { IfNone result (IsClosed (values_of self.new.steps) (clauses_of kernel.now)) }
+        ensures failed { IfSome result (λ id.
+            IsFailedClause (clauses_of kernel.now) self.new.steps id) }
+        ensures closed { IfNone result
+            (IsClosed (values_of self.new.steps) (clauses_of kernel.now)) }
     {
         if let Some(number) = make_shorts(kernel, &self.shorts, self.met, &mut self.entries) {
             return Some(number);

@@ -42,7 +42,8 @@ fn is_true_to(entries: &Entries, lit: Lit, level: u32) -> bool
 pub fn make_true(entries: &mut Entries, lit: Lit, number: u32) -> bool
     requires over { IsLiteralOver entries.old.variables lit }
     ensures grown { AreGrown entries.old entries.new }
-    ensures sound { (kernel : KernelView) → HasReason (clauses_of kernel) entries.old.steps lit number → AreSound kernel entries.old → AreSound kernel entries.new }
+    ensures sound { (kernel : KernelView) → HasReason (clauses_of kernel)
+        entries.old.steps lit number → AreSound kernel entries.old → AreSound kernel entries.new }
     ensures value { IsValue entries.new.steps entries.new.level_count lit result }
 {
     match entries.standing(lit) {
@@ -60,10 +61,12 @@ fn better(entries: &Entries, clause: &[Lit], index: usize, found: Watch, except:
     requires within { index < length clause.now }
     requires member { Contains clause.now found.lit }
     requires apart { found.lit ≢ except }
-    requires best { IsBest entries.now.steps (take index clause.now) except found.lit found.level true }
+    requires best { IsBest entries.now.steps
+        (take index clause.now) except found.lit found.level true }
     ensures member { Contains clause.now result.lit }
     ensures apart { result.lit ≢ except }
-    ensures best { IsBest entries.now.steps (take (index + 1) clause.now) except result.lit result.level result.is_false }
+    ensures best { IsBest entries.now.steps
+        (take (index + 1) clause.now) except result.lit result.level result.is_false }
 {
     let lit = clause[index];
     if lit == except {
@@ -109,7 +112,8 @@ fn best_beside(entries: &Entries, clause: &[Lit], start: Lit, level: u32, except
     requires fallen { IsFalseAt entries.now.steps start level }
     ensures member { Contains clause.now result.lit }
     ensures apart { result.lit ≢ except }
-    ensures best { IsBest entries.now.steps clause.now except result.lit result.level result.is_false }
+    ensures best { IsBest
+        entries.now.steps clause.now except result.lit result.level result.is_false }
 {
     let mut found = Watch {
         lit: start,
@@ -155,7 +159,8 @@ fn visit(
     ensures visiting { IsVisiting kernel.now longs.now place step.now entries.new links.new }
     ensures grown { AreGrown entries.old entries.new }
     ensures fewer { IfNone result (links.new.ahead ≡ drop 1 links.old.ahead) }
-    ensures failed { IfSome result (λ number. IsFailedClause (clauses_of kernel.now) entries.new.steps number) }
+    ensures failed { IfSome result (λ number.
+        IsFailedClause (clauses_of kernel.now) entries.new.steps number) }
 {
     let fallen = step.lit.opposite();
     let other = links.watched(partner_of(node));
@@ -195,9 +200,11 @@ pub fn visit_step(
     ensures grown { AreGrown entries.old entries.new }
     ensures sound { AreSound kernel.now entries.new }
     ensures here { AreWatched kernel.now longs.now place entries.new links.new }
-    ensures next { IfNone result (AreWatched kernel.now longs.now (place + 1) entries.new links.new) }
+    ensures next { IfNone result
+        (AreWatched kernel.now longs.now (place + 1) entries.new links.new) }
     ensures none { links.new.ahead ≡ [] }
-    ensures failed { IfSome result (λ number. IsFailedClause (clauses_of kernel.now) entries.new.steps number) }
+    ensures failed { IfSome result (λ number.
+        IsFailedClause (clauses_of kernel.now) entries.new.steps number) }
 {
     let step = entries.step(place);
     let fallen = step.lit.opposite();

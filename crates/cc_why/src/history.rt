@@ -38,7 +38,8 @@ fn from_step(row: &[u32], stride: usize, step: u32) -> &[u32]
 /// Whether a term is true at a step of a row.
 pub(crate) fn is_true_at(row: &[u32], stride: usize, step: u32, nodes: &[Node]) -> bool
     requires { IsTermFrom (length row.now) (step * stride) nodes.now }
-    ensures { (term : Ground) → nodes.now ≡ postfix term → result ≡ holds row.now (moved (step * stride) term) }
+    ensures { (term : Ground) →
+        nodes.now ≡ postfix term → result ≡ holds row.now (moved (step * stride) term) }
 {
     value(nodes, from_step(row, stride, step))
 }
@@ -68,7 +69,8 @@ fn is_met(row: &[u32], head: TimedHead) -> bool
 /// Whether the body of a rule is true: both its parts, or, where both are missing, the atom of its head.
 fn has_body(row: &[u32], stride: usize, rule: &TimedRule<'_>) -> bool
     requires { IsRuleIn (length row.now) stride rule.now }
-    ensures { (meant : timed.TimedRule) → IsRuleOf stride rule.entry.now meant → result ≡ holds row.now meant.body }
+    ensures { (meant : timed.TimedRule) →
+        IsRuleOf stride rule.entry.now meant → result ≡ holds row.now meant.body }
 {
     match rule.now {
         Some(_) => { is_part_true(row, stride, rule.now) && is_part_true(row, stride, rule.before) }
@@ -79,7 +81,8 @@ fn has_body(row: &[u32], stride: usize, rule: &TimedRule<'_>) -> bool
 /// Whether a row meets a rule: it has the rule's head, or the body is not true.
 fn meets_rule(row: &[u32], stride: usize, rule: &TimedRule<'_>) -> bool
     requires { IsRuleIn (length row.now) stride rule.now }
-    ensures { (meant : timed.TimedRule) → IsRuleOf stride rule.entry.now meant → result ≡ meets row.now meant }
+    ensures { (meant : timed.TimedRule) →
+        IsRuleOf stride rule.entry.now meant → result ≡ meets row.now meant }
 {
     !has_body(row, stride, rule) || is_met(row, rule.head)
 }
@@ -87,7 +90,8 @@ fn meets_rule(row: &[u32], stride: usize, rule: &TimedRule<'_>) -> bool
 /// Whether a row meets each rule.
 fn meets_rules(row: &[u32], stride: usize, rules: &[TimedRule<'_>]) -> bool
     requires { AllByRecursion (IsRuleIn (length row.now) stride) rules.now }
-    ensures { (meant : List timed.TimedRule) → AllZip (IsRuleOf stride) rules.now meant → result ≡ list_all (meets row.now) meant }
+    ensures { (meant : List timed.TimedRule) →
+        AllZip (IsRuleOf stride) rules.now meant → result ≡ list_all (meets row.now) meant }
 {
     for rule in rules {
         if !meets_rule(row, stride, rule) {
@@ -101,7 +105,8 @@ fn meets_rules(row: &[u32], stride: usize, rules: &[TimedRule<'_>]) -> bool
 fn has_body_at(row: &[u32], stride: usize, rules: &[TimedRule<'_>], number: u32) -> bool
     requires rules { AllByRecursion (IsRuleIn (length row.now) stride) rules.now }
     requires number { number < length rules.now }
-    ensures { (meant : List timed.TimedRule) → AllZip (IsRuleOf stride) rules.now meant → result ≡ holds_in row.now (slice_get meant number) }
+    ensures { (meant : List timed.TimedRule) → AllZip (IsRuleOf stride) rules.now meant →
+        result ≡ holds_in row.now (slice_get meant number) }
 {
     has_body(row, stride, &rules[number as usize])
 }
@@ -155,8 +160,10 @@ fn has_causes(theory: &Theory<'_>, row: &[u32], stride: usize) -> bool
 /// Whether a row is a path of the transition system, of as many transitions as the horizon of the theory says. It takes no memory but
 /// the stack, and reads each step as a part of the row.
 pub fn is_history(theory: &Theory<'_>, row: &[u32]) -> bool
-    requires row { (d : Description) → IsSignatureOfDescription d theory.now.signature → IsRow (sizes_at d theory.now.horizon) row.now }
-    ensures { (d : Description) → IsTheoryOf theory.now d → IsTrue result ↔ IsPath d theory.now.horizon row.now }
+    requires row { (d : Description) → IsSignatureOfDescription d theory.now.signature →
+        IsRow (sizes_at d theory.now.horizon) row.now }
+    ensures { (d : Description) →
+        IsTheoryOf theory.now d → IsTrue result ↔ IsPath d theory.now.horizon row.now }
 {
     positions_have_sizes();
     models_meet_completion();

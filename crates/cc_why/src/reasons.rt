@@ -77,7 +77,8 @@ fn step_of_head(kind: LawKind, horizon: u32, step: u32) -> Option<u32>
 /// Whether the `after` part of a law, if there is one, is true at a step.
 fn is_after_true(row: &[u32], stride: usize, law: &GroundLaw<'_>, step: u32) -> bool
     requires { IsPartIn (length row.now) stride (after_at law.now step) }
-    ensures { (meant : Ground) → IsPart stride (after_at law.now step) meant → result ≡ holds row.now meant }
+    ensures { (meant : Ground) →
+        IsPart stride (after_at law.now step) meant → result ≡ holds row.now meant }
 {
     match law.after {
         Some(nodes) => is_true_at(row, stride, step, nodes),
@@ -88,7 +89,8 @@ fn is_after_true(row: &[u32], stride: usize, law: &GroundLaw<'_>, step: u32) -> 
 /// Whether both parts of a law are true, where its head stands at one step and its `after` part at another.
 fn has_body(row: &[u32], stride: usize, law: &GroundLaw<'_>, now: u32, before: u32) -> bool
     requires { IsRuleIn (length row.now) stride (rule_of stride law.now now before) }
-    ensures { (meant : timed.TimedRule) → IsRuleOf stride (rule_of stride law.now now before) meant → result ≡ holds row.now meant.body }
+    ensures { (meant : timed.TimedRule) → IsRuleOf stride
+        (rule_of stride law.now now before) meant → result ≡ holds row.now meant.body }
 {
     is_true_at(row, stride, now, law.body) && is_after_true(row, stride, law, before)
 }
@@ -106,7 +108,8 @@ fn note_law(
     requires fits { IsRuleIn (length row.now) stride (rule_of stride law.now now before) }
     requires long { length causes.old ≡ length row.now }
     ensures long { length causes.new ≡ length row.now }
-    ensures noted { (meant : timed.TimedRule) → IsRuleOf stride (rule_of stride law.now now before) meant →
+    ensures noted { (meant : timed.TimedRule) →
+        IsRuleOf stride (rule_of stride law.now now before) meant →
         AreNoted row.now (sourced (kinds.Law law.now.base) meant ∷ []) causes.old causes.new }
 {
     match law.head {
@@ -134,11 +137,12 @@ fn note_law_at(
 )
     requires step { step ≤ horizon }
     requires horizon { horizon ≤ most_steps }
-    requires fits { IfSome (head_step law.now.kind horizon step) (λ now. IsRuleIn (length row.now) stride (rule_of stride law.now now step)) }
+    requires fits { IfSome (head_step law.now.kind horizon step) (λ now.
+        IsRuleIn (length row.now) stride (rule_of stride law.now now step)) }
     requires long { length causes.old ≡ length row.now }
     ensures long { length causes.new ≡ length row.now }
-    ensures noted { (meant : Items Sourced) → MeansAt stride step law.now (head_step law.now.kind horizon step) meant →
-        AreNoted row.now meant causes.old causes.new }
+    ensures noted { (meant : Items Sourced) → MeansAt stride step law.now
+        (head_step law.now.kind horizon step) meant → AreNoted row.now meant causes.old causes.new }
 {
     match step_of_head(law.kind, horizon, step) {
         Some(now) => note_law(row, stride, law, now, step, causes),
@@ -160,7 +164,8 @@ fn note_step(
     requires fit { StandIn (length row.now) stride horizon step laws.now }
     requires long { length causes.old ≡ length row.now }
     ensures long { length causes.new ≡ length row.now }
-    ensures noted { (meant : Items Sourced) → MeanAt stride horizon step laws.now meant → AreNoted row.now meant causes.old causes.new }
+    ensures noted { (meant : Items Sourced) →
+        MeanAt stride horizon step laws.now meant → AreNoted row.now meant causes.old causes.new }
 {
     for law in laws {
         note_law_at(row, stride, law, horizon, step, causes);
@@ -176,10 +181,12 @@ fn note_steps(
     causes: &mut [Option<Cause>],
 )
     requires horizon { horizon ≤ most_steps }
-    requires fit { (step : ℕ) → step ≤ horizon → StandIn (length row.now) stride horizon step laws.now }
+    requires fit { (step : ℕ) →
+        step ≤ horizon → StandIn (length row.now) stride horizon step laws.now }
     requires long { length causes.old ≡ length row.now }
     ensures long { length causes.new ≡ length row.now }
-    ensures noted { (meant : ℕ → Items Sourced) → ((step : ℕ) → MeanAt stride horizon step laws.now (meant step)) →
+    ensures noted { (meant : ℕ → Items Sourced) →
+        ((step : ℕ) → MeanAt stride horizon step laws.now (meant step)) →
         AreNoted row.now (flat_map meant (upto (horizon + 1))) causes.old causes.new }
 {
     for step in 0..horizon + 1 {
@@ -189,7 +196,8 @@ fn note_steps(
 
 /// The causes, each of which is there.
 fn all_there(alloc: Global, causes: &[Option<Cause>]) -> Result<Vec<Cause>, OutOfMemory>
-    ensures { IfOk result (λ there. there.items ≡ map (λ cause. unwrap_or cause kinds.OneValue) causes.now) }
+    ensures { IfOk result (λ there.
+        there.items ≡ map (λ cause. unwrap_or cause kinds.OneValue) causes.now) }
 {
     let mut there = Vec::new(alloc);
     for cause in causes {
@@ -210,7 +218,8 @@ pub fn why(
     requires horizon { horizon ≤ most_steps }
     requires laws { AreLawsFor sig.now laws.now }
     requires path { (d : Description) × AreLawsOf sig.now laws.now d × IsPath d horizon row.now }
-    ensures { (d : Description) → AreLawsOf sig.now laws.now d → IfOk result (λ causes. map (λ cause. Some cause) causes ≡ causes_at d horizon row.now) }
+    ensures { (d : Description) → AreLawsOf sig.now laws.now d →
+        IfOk result (λ causes. map (λ cause. Some cause) causes ≡ causes_at d horizon row.now) }
 {
     positions_have_sizes();
     models_meet_completion();

@@ -63,8 +63,8 @@ fn memory_held(error: &Error) -> Result<(), OutOfMemory>
 
 /// What the command finds in the words; `None` where it does not take them.
 fn matches<'a>(alloc: Global, words: &'a [String]) -> Result<Option<ArgMatches<'a>>, OutOfMemory>
-    ensures { IfOk result (λ matches. option_map (λ found. given_in (rows_of (found_of found))) matches
-        ≡ reading (map string_bytes words.entry.now)) }
+    ensures { IfOk result (λ matches. option_map (λ found. given_in (rows_of (found_of found)))
+        matches ≡ reading (map string_bytes words.entry.now)) }
 {
     match command(alloc)?.try_get_matches_from(words) {
         Ok(matches) => Ok(Some(matches)),
@@ -105,7 +105,8 @@ pub(crate) fn given<'a>(
     alloc: Global,
     words: &'a [String],
 ) -> Result<Option<Given<'a>>, OutOfMemory>
-    ensures { IfOk result (λ given. option_map plain_given given ≡ reading (map string_bytes words.entry.now)) }
+    ensures { IfOk result (λ given.
+        option_map plain_given given ≡ reading (map string_bytes words.entry.now)) }
 {
     match matches(alloc, words)? {
         Some(matches) => Ok(Some(given_by(&matches))),

@@ -13,7 +13,8 @@ use std::alloc::Global;
 
 /// What the words ask for; `None` where they have no reading.
 fn asked_by<'a>(alloc: Global, words: &'a [String]) -> Result<Option<Asked<'a>>, OutOfMemory>
-    ensures { IfOk result (λ asked. plain_asked asked ≡ option_and_then asked_of (reading (map string_bytes words.entry.now))) }
+    ensures { IfOk result (λ asked.
+        plain_asked asked ≡ option_and_then asked_of (reading (map string_bytes words.entry.now))) }
 {
     match given(alloc, words)? {
         Some(given) => Ok(given.asked()),
@@ -24,10 +25,12 @@ fn asked_by<'a>(alloc: Global, words: &'a [String]) -> Result<Option<Asked<'a>>,
 /// What the words ask for, without the program's name; `None` where they have no reading.
 pub fn read<'a>(alloc: Global, words: &'a [String]) -> Result<Option<Asked<'a>>, OutOfMemory>
     // options with their values, and then a file, read as they stand
-    ensures plain { (pairs : List Pair) (file : Option Text) → IsPlain pairs file (map string_bytes words.entry.now)
-        → IfOk result (λ asked. plain_asked asked ≡ asked_of (given_of pairs file)) }
+    ensures plain { (pairs : List Pair) (file : Option Text) →
+        IsPlain pairs file (map string_bytes words.entry.now) →
+        IfOk result (λ asked. plain_asked asked ≡ asked_of (given_of pairs file)) }
     // all words read as the command gives them, where it takes them
-    ensures taken { IfOk result (λ asked. plain_asked asked ≡ option_and_then asked_of (reading (map string_bytes words.entry.now))) }
+    ensures taken { IfOk result (λ asked.
+        plain_asked asked ≡ option_and_then asked_of (reading (map string_bytes words.entry.now))) }
 {
     plain_words_read_as_they_stand();
     asked_by(alloc, words)

@@ -45,7 +45,9 @@ pub(crate) fn tell_verdict<D: Desk>(
     desk: &mut D,
     verdict: &LogVerdict,
 ) -> Result<Status, Stop>
-    ensures told { Step (only_out (verdict_line verdict.now)) (moment D.told D.begun D.read_faults D.write_faults D.calls desk.old) (moment D.told D.begun D.read_faults D.write_faults D.calls desk.new) result }
+    ensures told { Step (only_out (verdict_line verdict.now))
+        (moment D.told D.begun D.read_faults D.write_faults D.calls desk.old)
+        (moment D.told D.begun D.read_faults D.write_faults D.calls desk.new) result }
     ensures status { IfOk result (λ status. status ≡ checks.verdict_status verdict.now) }
 {
     let text = verdict_text(alloc, verdict)?;
@@ -61,12 +63,15 @@ fn check_log<D: Desk>(
     prepared: &Prepared<'_>,
     bytes: &[u8],
 ) -> Result<Status, Stop>
-    requires searchable { AreSearchable described.now.sig prepared.now.laws (plain_ground_query prepared.now.query) prepared.now.key }
+    requires searchable { AreSearchable described.now.sig prepared.now.laws
+        (plain_ground_query prepared.now.query) prepared.now.key }
     requires few { length bytes.now ≤ limit_number limits.LogBytes }
-    ensures { (words : List Text) (checking : Checking) (d : Description) (q : Query) → request_of words ≡ Some (ToCheck checking) →
-        AreOf described.now.sig prepared.now.laws (plain_ground_query prepared.now.query) d q →
-        IfSome (D.told desk.old) (λ before. NamesLog before.files checking (task_to_check d q prepared.now.key) bytes.now) →
-        Prints words false [] (moment D.told D.begun D.read_faults D.write_faults D.calls desk.old) (moment D.told D.begun D.read_faults D.write_faults D.calls desk.new) result }
+    ensures { (words : List Text) (checking : Checking) (d : Description) (q : Query) →
+        request_of words ≡ Some (ToCheck checking) → AreOf described.now.sig prepared.now.laws
+        (plain_ground_query prepared.now.query) d q → IfSome (D.told desk.old) (λ before.
+        NamesLog before.files checking (task_to_check d q prepared.now.key) bytes.now) →
+        Prints words false [] (moment D.told D.begun D.read_faults D.write_faults D.calls desk.old)
+        (moment D.told D.begun D.read_faults D.write_faults D.calls desk.new) result }
 {
     match judge(
         alloc,
@@ -90,12 +95,15 @@ pub(crate) fn check<D: Desk>(
     asked: &CheckAsked<'_>,
     prepared: &Prepared<'_>,
 ) -> Result<Status, Stop>
-    requires searchable { AreSearchable described.now.sig prepared.now.laws (plain_ground_query prepared.now.query) prepared.now.key }
-    ensures { (words : List Text) (checking : Checking) (d : Description) (q : Query) → request_of words ≡ Some (ToCheck checking) →
-        plain_request (requests.Check asked.now) ≡ ToCheck checking →
-        AreOf described.now.sig prepared.now.laws (plain_ground_query prepared.now.query) d q →
-        IfSome (D.told desk.old) (λ before. IsTask before.files (named_in checking) (task_to_check d q prepared.now.key)) →
-        Prints words false (asked.now.log.now ∷ []) (moment D.told D.begun D.read_faults D.write_faults D.calls desk.old) (moment D.told D.begun D.read_faults D.write_faults D.calls desk.new) result }
+    requires searchable { AreSearchable described.now.sig prepared.now.laws
+        (plain_ground_query prepared.now.query) prepared.now.key }
+    ensures { (words : List Text) (checking : Checking) (d : Description) (q : Query) →
+        request_of words ≡ Some (ToCheck checking) → plain_request (requests.Check asked.now)
+        ≡ ToCheck checking → AreOf described.now.sig prepared.now.laws
+        (plain_ground_query prepared.now.query) d q → IfSome (D.told desk.old) (λ before.
+        IsTask before.files (named_in checking) (task_to_check d q prepared.now.key)) → Prints words
+        false (asked.now.log.now ∷ []) (moment D.told D.begun D.read_faults D.write_faults D.calls
+        desk.old) (moment D.told D.begun D.read_faults D.write_faults D.calls desk.new) result }
 {
     match read_all(alloc, desk, asked.log, LimitAt::LogBytes.number() as usize) {
         Ok(bytes) => check_log(alloc, desk, described, prepared, bytes.items()),

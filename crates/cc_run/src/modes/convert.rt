@@ -61,9 +61,13 @@ fn section_axioms(
     conditions: bool,
     horizon: u32,
 ) -> Result<u32, OutOfMemory>
-    requires searchable { AreSearchable described.now.sig prepared.now.laws (plain_ground_query prepared.now.query) prepared.now.key }
-    requires opened { HasOpened described.now.sig prepared.now.laws (plain_ground_query prepared.now.query) prepared.now.key (lines.Section conditions horizon) }
-    ensures counted { (d : Description) (q : Query) → AreOf described.now.sig prepared.now.laws (plain_ground_query prepared.now.query) d q →
+    requires searchable { AreSearchable described.now.sig prepared.now.laws
+        (plain_ground_query prepared.now.query) prepared.now.key }
+    requires opened { HasOpened described.now.sig prepared.now.laws
+        (plain_ground_query prepared.now.query) prepared.now.key
+        (lines.Section conditions horizon) }
+    ensures counted { (d : Description) (q : Query) →
+        AreOf described.now.sig prepared.now.laws (plain_ground_query prepared.now.query) d q →
         IfOk result (λ axioms. axioms ≡ counts_of d q prepared.now.key conditions horizon) }
     ensures few { IfOk result (λ axioms. axioms ≤ most_clauses) }
 {
@@ -89,9 +93,12 @@ fn axioms_behind(
     prepared: &Prepared<'_>,
     line: &LogLine,
 ) -> Result<u32, OutOfMemory>
-    requires searchable { AreSearchable described.now.sig prepared.now.laws (plain_ground_query prepared.now.query) prepared.now.key }
-    requires opened { HasOpened described.now.sig prepared.now.laws (plain_ground_query prepared.now.query) prepared.now.key line.now }
-    ensures counted { (d : Description) (q : Query) → AreOf described.now.sig prepared.now.laws (plain_ground_query prepared.now.query) d q →
+    requires searchable { AreSearchable described.now.sig prepared.now.laws
+        (plain_ground_query prepared.now.query) prepared.now.key }
+    requires opened { HasOpened described.now.sig prepared.now.laws
+        (plain_ground_query prepared.now.query) prepared.now.key line.now }
+    ensures counted { (d : Description) (q : Query) →
+        AreOf described.now.sig prepared.now.laws (plain_ground_query prepared.now.query) d q →
         IfOk result (IsCounted (counts_of d q prepared.now.key) (events.Log line.now)) }
     ensures few { IfOk result (λ axioms. axioms ≤ most_clauses) }
 {
@@ -117,15 +124,22 @@ fn give_line<'b, D: Desk>(
     own: u32,
     bytes: &'b [u8],
 ) -> Result<(u32, &'b [u8]), Stop>
-    requires searchable { AreSearchable described.now.sig prepared.now.laws (plain_ground_query prepared.now.query) prepared.now.key }
+    requires searchable { AreSearchable described.now.sig prepared.now.laws
+        (plain_ground_query prepared.now.query) prepared.now.key }
     requires some { 0 < length bytes.now }
-    requires left { HasLeft described.now.sig prepared.now.laws (plain_ground_query prepared.now.query) prepared.now.key version own bytes.now }
-    ensures told { (d : Description) (q : Query) (line : Line) (others : List Line) → AreOf described.now.sig prepared.now.laws (plain_ground_query prepared.now.query) d q →
+    requires left { HasLeft described.now.sig prepared.now.laws
+        (plain_ground_query prepared.now.query) prepared.now.key version own bytes.now }
+    ensures told { (d : Description) (q : Query) (line : Line) (others : List Line) →
+        AreOf described.now.sig prepared.now.laws (plain_ground_query prepared.now.query) d q →
         AreLeft d q prepared.now.key version own bytes.now (line ∷ others) →
-        Step (given_to outputs.Log (line_bytes (log_versions.other_version version) own line)) (moment D.told D.begun D.read_faults D.write_faults D.calls desk.old) (moment D.told D.begun D.read_faults D.write_faults D.calls desk.new) result }
-    ensures left { IfOk result (λ next. (d : Description) (q : Query) (line : Line) (others : List Line) → AreOf described.now.sig prepared.now.laws (plain_ground_query prepared.now.query) d q →
-        AreLeft d q prepared.now.key version own bytes.now (line ∷ others) →
-        (next.0 ≡ own_behind (counts_of d q prepared.now.key) own line) × AreLeft d q prepared.now.key version next.0 next.1.now others) }
+        Step (given_to outputs.Log (line_bytes (log_versions.other_version version) own line))
+        (moment D.told D.begun D.read_faults D.write_faults D.calls desk.old)
+        (moment D.told D.begun D.read_faults D.write_faults D.calls desk.new) result }
+    ensures left { IfOk result (λ next. (d : Description)
+        (q : Query) (line : Line) (others : List Line) → AreOf described.now.sig prepared.now.laws
+        (plain_ground_query prepared.now.query) d q → AreLeft d q prepared.now.key version own
+        bytes.now (line ∷ others) → (next.0 ≡ own_behind (counts_of d q prepared.now.key) own line)
+        × AreLeft d q prepared.now.key version next.0 next.1.now others) }
     ensures shorter { IfOk result (λ next. length next.1.now < length bytes.now) }
 {
     let (line, rest) = said_line(alloc, version, own, bytes)?;
@@ -143,10 +157,16 @@ fn give_lines<D: Desk>(
     version: Version,
     bytes: &[u8],
 ) -> Result<(), Stop>
-    requires searchable { AreSearchable described.now.sig prepared.now.laws (plain_ground_query prepared.now.query) prepared.now.key }
-    requires left { HasLeft described.now.sig prepared.now.laws (plain_ground_query prepared.now.query) prepared.now.key version 1 bytes.now }
-    ensures { (d : Description) (q : Query) (said : List Line) → AreOf described.now.sig prepared.now.laws (plain_ground_query prepared.now.query) d q → AreLeft d q prepared.now.key version 1 bytes.now said →
-        Step (given_to outputs.Log (lines_bytes (log_versions.other_version version) (counts_of d q prepared.now.key) 1 said)) (moment D.told D.begun D.read_faults D.write_faults D.calls desk.old) (moment D.told D.begun D.read_faults D.write_faults D.calls desk.new) result }
+    requires searchable { AreSearchable described.now.sig prepared.now.laws
+        (plain_ground_query prepared.now.query) prepared.now.key }
+    requires left { HasLeft described.now.sig prepared.now.laws
+        (plain_ground_query prepared.now.query) prepared.now.key version 1 bytes.now }
+    ensures { (d : Description) (q : Query) (said : List Line) →
+        AreOf described.now.sig prepared.now.laws (plain_ground_query prepared.now.query) d q →
+        AreLeft d q prepared.now.key version 1 bytes.now said → Step (given_to outputs.Log
+        (lines_bytes (log_versions.other_version version) (counts_of d q prepared.now.key) 1 said))
+        (moment D.told D.begun D.read_faults D.write_faults D.calls desk.old)
+        (moment D.told D.begun D.read_faults D.write_faults D.calls desk.new) result }
 {
     let mut own = 1;
     let mut rest = bytes;
@@ -166,11 +186,17 @@ fn give_other<D: Desk>(
     prepared: &Prepared<'_>,
     bytes: &[u8],
 ) -> Result<(), Stop>
-    requires searchable { AreSearchable described.now.sig prepared.now.laws (plain_ground_query prepared.now.query) prepared.now.key }
+    requires searchable { AreSearchable described.now.sig prepared.now.laws
+        (plain_ground_query prepared.now.query) prepared.now.key }
     requires few { length bytes.now ≤ most_log_bytes }
-    requires says { (d : Description) × (q : Query) × AreOf described.now.sig prepared.now.laws (plain_ground_query prepared.now.query) d q × SaysLines d q prepared.now.key bytes.now }
-    ensures { (d : Description) (q : Query) → AreOf described.now.sig prepared.now.laws (plain_ground_query prepared.now.query) d q → (says : SaysLines d q prepared.now.key bytes.now) →
-        Step (given_to outputs.Log (other_said d q prepared.now.key bytes.now says)) (moment D.told D.begun D.read_faults D.write_faults D.calls desk.old) (moment D.told D.begun D.read_faults D.write_faults D.calls desk.new) result }
+    requires says { (d : Description) × (q : Query) × AreOf described.now.sig prepared.now.laws
+        (plain_ground_query prepared.now.query) d q × SaysLines d q prepared.now.key bytes.now }
+    ensures { (d : Description) (q : Query) →
+        AreOf described.now.sig prepared.now.laws (plain_ground_query prepared.now.query) d q →
+        (says : SaysLines d q prepared.now.key bytes.now) →
+        Step (given_to outputs.Log (other_said d q prepared.now.key bytes.now says))
+        (moment D.told D.begun D.read_faults D.write_faults D.calls desk.old)
+        (moment D.told D.begun D.read_faults D.write_faults D.calls desk.new) result }
 {
     let version = version_of(bytes);
     let teller = Teller::OneByOne {
@@ -197,11 +223,17 @@ fn give_accepted<D: Desk>(
     bytes: &[u8],
     verdict: &LogVerdict,
 ) -> Result<Status, Stop>
-    requires searchable { AreSearchable described.now.sig prepared.now.laws (plain_ground_query prepared.now.query) prepared.now.key }
+    requires searchable { AreSearchable described.now.sig prepared.now.laws
+        (plain_ground_query prepared.now.query) prepared.now.key }
     requires few { length bytes.now ≤ most_log_bytes }
-    requires says { (d : Description) × (q : Query) × AreOf described.now.sig prepared.now.laws (plain_ground_query prepared.now.query) d q × SaysLines d q prepared.now.key bytes.now }
-    ensures told { (d : Description) (q : Query) → AreOf described.now.sig prepared.now.laws (plain_ground_query prepared.now.query) d q → (says : SaysLines d q prepared.now.key bytes.now) →
-        Step (converted_by verdict.now (other_said d q prepared.now.key bytes.now says)) (moment D.told D.begun D.read_faults D.write_faults D.calls desk.old) (moment D.told D.begun D.read_faults D.write_faults D.calls desk.new) result }
+    requires says { (d : Description) × (q : Query) × AreOf described.now.sig prepared.now.laws
+        (plain_ground_query prepared.now.query) d q × SaysLines d q prepared.now.key bytes.now }
+    ensures told { (d : Description) (q : Query) →
+        AreOf described.now.sig prepared.now.laws (plain_ground_query prepared.now.query) d q →
+        (says : SaysLines d q prepared.now.key bytes.now) →
+        Step (converted_by verdict.now (other_said d q prepared.now.key bytes.now says))
+        (moment D.told D.begun D.read_faults D.write_faults D.calls desk.old)
+        (moment D.told D.begun D.read_faults D.write_faults D.calls desk.new) result }
     ensures status { IfOk result (λ status. status ≡ checks.verdict_status verdict.now) }
 {
     let status = tell_verdict(alloc, desk, verdict)?;
@@ -219,14 +251,20 @@ fn convert_judged<D: Desk>(
     bytes: &[u8],
     verdict: &LogVerdict,
 ) -> Result<Status, Stop>
-    requires searchable { AreSearchable described.now.sig prepared.now.laws (plain_ground_query prepared.now.query) prepared.now.key }
+    requires searchable { AreSearchable described.now.sig prepared.now.laws
+        (plain_ground_query prepared.now.query) prepared.now.key }
     requires few { length bytes.now ≤ most_log_bytes }
-    requires within { (d : Description) × (q : Query) × AreOf described.now.sig prepared.now.laws (plain_ground_query prepared.now.query) d q × IsVerdictWithin d q prepared.now.key bytes.now verdict.now }
-    ensures { (words : List Text) (converting : Converting) (d : Description) (q : Query) → request_of words ≡ Some (ToConvert converting) →
-        to.now ≡ converting.to → AreOf described.now.sig prepared.now.laws (plain_ground_query prepared.now.query) d q →
-        IfSome (D.told desk.old) (λ before. NamesLog before.files (checked_by converting) (task_to_check d q prepared.now.key) bytes.now) →
+    requires within { (d : Description) × (q : Query)
+        × AreOf described.now.sig prepared.now.laws (plain_ground_query prepared.now.query) d q
+        × IsVerdictWithin d q prepared.now.key bytes.now verdict.now }
+    ensures { (words : List Text) (converting : Converting) (d : Description) (q : Query) →
+        request_of words ≡ Some (ToConvert converting) → to.now ≡ converting.to →
+        AreOf described.now.sig prepared.now.laws (plain_ground_query prepared.now.query) d q →
+        IfSome (D.told desk.old) (λ before. NamesLog before.files
+        (checked_by converting) (task_to_check d q prepared.now.key) bytes.now) →
         IsJudged d q prepared.now.key bytes.now verdict.now →
-        Prints words true [] (moment D.told D.begun D.read_faults D.write_faults D.calls desk.old) (moment D.told D.begun D.read_faults D.write_faults D.calls desk.new) result }
+        Prints words true [] (moment D.told D.begun D.read_faults D.write_faults D.calls desk.old)
+        (moment D.told D.begun D.read_faults D.write_faults D.calls desk.new) result }
 {
     match verdict {
         LogVerdict::Refused { .. } => tell_verdict(alloc, desk, verdict),
@@ -248,13 +286,18 @@ fn convert_log<D: Desk>(
     prepared: &Prepared<'_>,
     bytes: &[u8],
 ) -> Result<Status, Stop>
-    requires searchable { AreSearchable described.now.sig prepared.now.laws (plain_ground_query prepared.now.query) prepared.now.key }
+    requires searchable { AreSearchable described.now.sig prepared.now.laws
+        (plain_ground_query prepared.now.query) prepared.now.key }
     requires few { length bytes.now ≤ limit_number limits.LogBytes }
-    requires of { (d : Description) × (q : Query) × IsDescriptionOf described.now d × AreOf described.now.sig prepared.now.laws (plain_ground_query prepared.now.query) d q }
-    ensures { (words : List Text) (converting : Converting) (d : Description) (q : Query) → request_of words ≡ Some (ToConvert converting) →
-        to.now ≡ converting.to → AreOf described.now.sig prepared.now.laws (plain_ground_query prepared.now.query) d q →
-        IfSome (D.told desk.old) (λ before. NamesLog before.files (checked_by converting) (task_to_check d q prepared.now.key) bytes.now) →
-        Prints words true [] (moment D.told D.begun D.read_faults D.write_faults D.calls desk.old) (moment D.told D.begun D.read_faults D.write_faults D.calls desk.new) result }
+    requires of { (d : Description) × (q : Query) × IsDescriptionOf described.now d
+        × AreOf described.now.sig prepared.now.laws (plain_ground_query prepared.now.query) d q }
+    ensures { (words : List Text) (converting : Converting) (d : Description) (q : Query) →
+        request_of words ≡ Some (ToConvert converting) → to.now ≡ converting.to →
+        AreOf described.now.sig prepared.now.laws (plain_ground_query prepared.now.query) d q →
+        IfSome (D.told desk.old) (λ before. NamesLog before.files
+        (checked_by converting) (task_to_check d q prepared.now.key) bytes.now) →
+        Prints words true [] (moment D.told D.begun D.read_faults D.write_faults D.calls desk.old)
+        (moment D.told D.begun D.read_faults D.write_faults D.calls desk.new) result }
 {
     match judge(
         alloc,
@@ -279,13 +322,18 @@ pub(crate) fn convert<D: Desk>(
     asked: &ConvertAsked<'_>,
     prepared: &Prepared<'_>,
 ) -> Result<Status, Stop>
-    requires searchable { AreSearchable described.now.sig prepared.now.laws (plain_ground_query prepared.now.query) prepared.now.key }
-    requires of { (d : Description) × (q : Query) × IsDescriptionOf described.now d × AreOf described.now.sig prepared.now.laws (plain_ground_query prepared.now.query) d q }
-    ensures { (words : List Text) (converting : Converting) (d : Description) (q : Query) → request_of words ≡ Some (ToConvert converting) →
+    requires searchable { AreSearchable described.now.sig prepared.now.laws
+        (plain_ground_query prepared.now.query) prepared.now.key }
+    requires of { (d : Description) × (q : Query) × IsDescriptionOf described.now d
+        × AreOf described.now.sig prepared.now.laws (plain_ground_query prepared.now.query) d q }
+    ensures { (words : List Text) (converting : Converting) (d : Description) (q : Query) →
+        request_of words ≡ Some (ToConvert converting) →
         plain_request (requests.Convert asked.now) ≡ ToConvert converting →
         AreOf described.now.sig prepared.now.laws (plain_ground_query prepared.now.query) d q →
-        IfSome (D.told desk.old) (λ before. IsTask before.files (named_in (checked_by converting)) (task_to_check d q prepared.now.key)) →
-        Prints words true (asked.now.log.now ∷ []) (moment D.told D.begun D.read_faults D.write_faults D.calls desk.old) (moment D.told D.begun D.read_faults D.write_faults D.calls desk.new) result }
+        IfSome (D.told desk.old) (λ before. IsTask before.files (named_in (checked_by converting))
+        (task_to_check d q prepared.now.key)) → Prints words true (asked.now.log.now ∷ [])
+        (moment D.told D.begun D.read_faults D.write_faults D.calls desk.old)
+        (moment D.told D.begun D.read_faults D.write_faults D.calls desk.new) result }
 {
     match read_all(alloc, desk, asked.log, LimitAt::LogBytes.number() as usize) {
         Ok(bytes) => convert_log(alloc, desk, described, asked.to, prepared, bytes.items()),

@@ -58,12 +58,14 @@ fn query_tried<'q>(
     label: Option<&str>,
     horizon: u32,
 ) -> Result<&'q Query, Fault>
-    ensures named { IfOk result (λ query.
-        tasks.query_named (plain_text label.entry) (map plain_query described.now.queries) ≡ Some (plain_query query.now)) }
+    ensures named { IfOk result (λ query. tasks.query_named (plain_text label.entry)
+        (map plain_query described.now.queries) ≡ Some (plain_query query.now)) }
     ensures inside { IfOk result (λ query. is_outside (plain_query query.now) horizon ≡ false) }
-    ensures steps { IfOk result (λ query. steps_refusal (vocabulary_of described.now.table).symbols (plain_query query.now) ≡ None) }
-    ensures refused { IfErr result (IsRefusedBy (tried_refusal (vocabulary_of described.now.table).symbols
-        (tasks.query_named (plain_text label.entry) (map plain_query described.now.queries)) horizon)) }
+    ensures steps { IfOk result (λ query.
+        steps_refusal (vocabulary_of described.now.table).symbols (plain_query query.now) ≡ None) }
+    ensures refused { IfErr result
+        (IsRefusedBy (tried_refusal (vocabulary_of described.now.table).symbols (tasks.query_named
+        (plain_text label.entry) (map plain_query described.now.queries)) horizon)) }
 {
     let Some(query) = query_named(described.queries.items(), label) else {
         return Err(Fault::Refused(Refusal::at(15, 0, 0)));
@@ -89,11 +91,14 @@ fn query_at<'a>(
     requires formulas { AsksFormulas described.now }
     requires of { (d : Description) × IsDescriptionOf described.now d }
     ensures most { OnOk result (horizon ≤ most_steps) }
-    ensures at { IfOk result (λ made. IsQueryAt described.now.sig horizon (plain_ground_query made)) }
-    ensures named { (d : Description) → IsDescriptionOf described.now d → IfOk result (λ made.
-        IsAskedAt d (map plain_query described.now.queries) (plain_text label.entry) horizon (plain_ground_query made)) }
-    ensures refused { (d : Description) → IsDescriptionOf described.now d → IfErr result (IsRefusedBy
-        (horizon_refusal d (tasks.query_named (plain_text label.entry) (map plain_query described.now.queries)) horizon)) }
+    ensures at { IfOk result (λ made.
+        IsQueryAt described.now.sig horizon (plain_ground_query made)) }
+    ensures named { (d : Description) → IsDescriptionOf described.now d →
+        IfOk result (λ made. IsAskedAt d (map plain_query described.now.queries)
+        (plain_text label.entry) horizon (plain_ground_query made)) }
+    ensures refused { (d : Description) → IsDescriptionOf described.now d →
+        IfErr result (IsRefusedBy (horizon_refusal d (tasks.query_named
+        (plain_text label.entry) (map plain_query described.now.queries)) horizon)) }
 {
     let query = query_tried(described, label, horizon)?;
     query_of(alloc, described, query, terms)
@@ -111,10 +116,12 @@ fn exported_form(
     requires forms { HasForms described.now }
     requires formulas { AsksFormulas described.now }
     requires of { (d : Description) × IsDescriptionOf described.now d }
-    ensures exported { (d : Description) → IsDescriptionOf described.now d → IfOk result (λ form.
-        IsExported d (map plain_query described.now.queries) (plain_text asked.now.query) asked.now.horizon form) }
-    ensures refused { (d : Description) → IsDescriptionOf described.now d →
-        IfErr result (IsExportFault d (map plain_query described.now.queries) (plain_text asked.now.query) asked.now.horizon) }
+    ensures exported { (d : Description) → IsDescriptionOf described.now d →
+        IfOk result (λ form. IsExported d (map plain_query described.now.queries)
+        (plain_text asked.now.query) asked.now.horizon form) }
+    ensures refused { (d : Description) →
+        IsDescriptionOf described.now d → IfErr result (IsExportFault d
+        (map plain_query described.now.queries) (plain_text asked.now.query) asked.now.horizon) }
 {
     let laws = laws_of(alloc, described, terms)?;
     let query = query_at(alloc, described, asked.query, asked.horizon, terms)?;
@@ -149,9 +156,11 @@ fn tell_form<D: Desk>(
     horizon: u32,
     form: &Form,
 ) -> Result<Status, Stop>
-    ensures told { Step (only_out (export_of horizon (record { variables = form.now.variables; clauses = form.now.clauses })))
-        (moment D.told D.begun D.read_faults D.write_faults D.calls desk.old)
-        (moment D.told D.begun D.read_faults D.write_faults D.calls desk.new) result }
+    ensures told { Step (only_out (export_of horizon (record {
+      variables = form.now.variables;
+      clauses = form.now.clauses;
+    }))) (moment D.told D.begun D.read_faults D.write_faults D.calls
+        desk.old) (moment D.told D.begun D.read_faults D.write_faults D.calls desk.new) result }
     ensures status { IfOk result (λ status. status ≡ Status.Right) }
 {
     let heading = export_heading(alloc, form, horizon)?;
@@ -170,8 +179,8 @@ pub(crate) fn export<D: Desk>(
     requires says { SaysAll described.now }
     requires forms { HasForms described.now }
     requires formulas { AsksFormulas described.now }
-    ensures { (words : List Text) (exporting : Exporting) → request_of words ≡ Some (ToExport exporting) →
-        plain_request (requests.Export asked.now) ≡ ToExport exporting →
+    ensures { (words : List Text) (exporting : Exporting) → request_of words ≡ Some
+        (ToExport exporting) → plain_request (requests.Export asked.now) ≡ ToExport exporting →
         IfSome (D.told desk.old) (λ before. Describes before.files exporting.file described.now) →
         Prints words false [] (moment D.told D.begun D.read_faults D.write_faults D.calls desk.old)
         (moment D.told D.begun D.read_faults D.write_faults D.calls desk.new) result }

@@ -34,13 +34,26 @@ pub(crate) fn list<D: Desk>(
     requires count { IfSome asked.now.count (λ count. 1 ≤ count) }
     requires budget { asked.now.budget ≤ 2000000 }
     requires signature { IsSignatureFor described.now.table described.now.sig }
-    requires searchable { AreSearchable described.now.sig prepared.laws (plain_ground_query prepared.query) prepared.key }
-    requires of { (d : Description) × (q : Query) × IsDescriptionOf described.now d × AreOf described.now.sig prepared.laws (plain_ground_query prepared.query) d q }
-    ensures { (words : List Text) (listing : Listing) (d : Description) (q : Query) → request_of words ≡ Some (ToList listing) →
+    requires searchable { AreSearchable described.now.sig prepared.laws
+        (plain_ground_query prepared.query) prepared.key }
+    requires of { (d : Description) × (q : Query) × IsDescriptionOf described.now d
+        × AreOf described.now.sig prepared.laws (plain_ground_query prepared.query) d q }
+    ensures { (words : List Text) (listing : Listing) (d : Description) (q : Query) →
+        request_of words ≡ Some (ToList listing) →
         plain_request (requests.List asked.now) ≡ ToList listing → IsDescriptionOf described.now d →
         AreOf described.now.sig prepared.entry.laws (plain_ground_query prepared.entry.query) d q →
-        IfSome (D.told desk.old) (λ before. IsTask before.files (named_by listing) (record { description = d; query = q; ask = record { count = asked.now.count; budget = asked.now.budget; after = prepared.entry.key } })) →
-        Prints words (is_some listing.log) [] (moment D.told D.begun D.read_faults D.write_faults D.calls desk.old) (moment D.told D.begun D.read_faults D.write_faults D.calls desk.new) result }
+        IfSome (D.told desk.old) (λ before. IsTask before.files (named_by listing)
+        (record {
+          description = d;
+          query = q;
+          ask = record {
+            count = asked.now.count;
+            budget = asked.now.budget;
+            after = prepared.entry.key;
+          };
+        })) → Prints words
+        (is_some listing.log) [] (moment D.told D.begun D.read_faults D.write_faults D.calls
+        desk.old) (moment D.told D.begun D.read_faults D.write_faults D.calls desk.new) result }
 {
     begin_log(desk, asked.log)?;
     let Prepared { laws, query, key } = prepared;

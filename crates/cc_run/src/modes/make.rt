@@ -31,12 +31,20 @@ pub(crate) fn make<D: Desk>(
 ) -> Result<Status, Stop>
     requires budget { budget ≤ 2000000 }
     requires signature { IsSignatureFor described.now.table described.now.sig }
-    requires searchable { AreSearchable described.now.sig prepared.laws (plain_ground_query prepared.query) prepared.key }
-    requires of { (d : Description) × (q : Query) × IsDescriptionOf described.now d × AreOf described.now.sig prepared.laws (plain_ground_query prepared.query) d q }
-    ensures { (words : List Text) (d : Description) (q : Query) → request_of words ≡ Some (ToMake size budget) → IsDescriptionOf described.now d →
-        AreOf described.now.sig prepared.entry.laws (plain_ground_query prepared.entry.query) d q →
-        IfSome (D.told desk.old) (λ _. IsTask (made_files size) made_named (record { description = d; query = q; ask = record { count = None; budget = budget; after = prepared.entry.key } })) →
-        Prints words false [] (moment D.told D.begun D.read_faults D.write_faults D.calls desk.old) (moment D.told D.begun D.read_faults D.write_faults D.calls desk.new) result }
+    requires searchable { AreSearchable described.now.sig prepared.laws
+        (plain_ground_query prepared.query) prepared.key }
+    requires of { (d : Description) × (q : Query) × IsDescriptionOf described.now d
+        × AreOf described.now.sig prepared.laws (plain_ground_query prepared.query) d q }
+    ensures { (words : List Text) (d : Description) (q : Query) →
+        request_of words ≡ Some (ToMake size budget) → IsDescriptionOf described.now d → AreOf
+        described.now.sig prepared.entry.laws (plain_ground_query prepared.entry.query) d q → IfSome
+        (D.told desk.old) (λ _. IsTask (made_files size) made_named (record {
+          description = d;
+          query = q;
+          ask = record { count = None; budget = budget; after = prepared.entry.key };
+        })) →
+        Prints words false [] (moment D.told D.begun D.read_faults D.write_faults D.calls desk.old)
+        (moment D.told D.begun D.read_faults D.write_faults D.calls desk.new) result }
 {
     let Prepared { laws, query, key } = prepared;
     let ask = Ask {

@@ -74,7 +74,8 @@ fn status_of(listed: u32, word: EndWord) -> Status
 
 /// What the line of an end begins with, where some number behind it says how many were listed.
 fn end_words(word: EndWord) -> &'static str
-    ensures { (listed : ℕ) → (listed ≡ 0 → word ≡ EndWord.Empty → ⊥) → models_end listed word ≡ result.now ++ decimal listed ++ codes " listed" ++ 10 ∷ [] }
+    ensures { (listed : ℕ) → (listed ≡ 0 → word ≡ EndWord.Empty → ⊥) →
+        models_end listed word ≡ result.now ++ decimal listed ++ codes " listed" ++ 10 ∷ [] }
 {
     match word {
         EndWord::Empty => "complete, ",
@@ -85,7 +86,8 @@ fn end_words(word: EndWord) -> &'static str
 
 /// A text, a number, and that it was listed.
 fn listed_text(alloc: Global, words: &str, listed: u32) -> Result<String, OutOfMemory>
-    ensures { IfOk result (λ text. string_bytes text ≡ words.now ++ decimal listed ++ codes " listed" ++ 10 ∷ []) }
+    ensures { IfOk result (λ text.
+        string_bytes text ≡ words.now ++ decimal listed ++ codes " listed" ++ 10 ∷ []) }
 {
     let mut text = String::from_str(alloc, words)?;
     let mut digits = Buffer::new();
@@ -113,7 +115,9 @@ fn tell_clause<D: Desk>(
 ) -> Result<Option<Status>, Stop>
     requires formed { IsFormed line.now }
     requires writable { IsWritable lister.old.own line.now }
-    ensures told { Step (given_to outputs.Log (line_bytes lister.old.version lister.old.own line.now)) (moment D.told D.begun D.read_faults D.write_faults D.calls desk.old) (moment D.told D.begun D.read_faults D.write_faults D.calls desk.new) result }
+    ensures told { Step (given_to outputs.Log (line_bytes lister.old.version lister.old.own
+        line.now)) (moment D.told D.begun D.read_faults D.write_faults D.calls desk.old)
+        (moment D.told D.begun D.read_faults D.write_faults D.calls desk.new) result }
     ensures behind { OnOk result (lister.new ≡ record lister.old { own = lister.old.own + 1 }) }
     ensures version { lister.new.version ≡ lister.old.version }
     ensures goes_on { IfOk result (λ status. status ≡ None) }
@@ -132,8 +136,11 @@ fn tell_model<D: Desk>(
 ) -> Result<Option<Status>, Stop>
     requires short { length row.now ≤ 1000000 }
     requires few { lister.old.listed ≤ 100000000 }
-    ensures told { Step (given_to outputs.Out (model_line (lister.old.listed + 1) row.now)) (moment D.told D.begun D.read_faults D.write_faults D.calls desk.old) (moment D.told D.begun D.read_faults D.write_faults D.calls desk.new) result }
-    ensures behind { OnOk result (lister.new ≡ record lister.old { listed = lister.old.listed + 1 }) }
+    ensures told { Step (given_to outputs.Out (model_line (lister.old.listed + 1) row.now))
+        (moment D.told D.begun D.read_faults D.write_faults D.calls desk.old)
+        (moment D.told D.begun D.read_faults D.write_faults D.calls desk.new) result }
+    ensures behind { OnOk result
+        (lister.new ≡ record lister.old { listed = lister.old.listed + 1 }) }
     ensures version { lister.new.version ≡ lister.old.version }
     ensures goes_on { IfOk result (λ status. status ≡ None) }
 {
@@ -152,7 +159,12 @@ fn tell_end<D: Desk>(
     word: EndWord,
 ) -> Result<Option<Status>, Stop>
     requires { lister.own ≤ 999999999 }
-    ensures told { Step (record nothing { out = models_end lister.listed word; log = line_bytes lister.version lister.own (lines.End word) }) (moment D.told D.begun D.read_faults D.write_faults D.calls desk.old) (moment D.told D.begun D.read_faults D.write_faults D.calls desk.new) result }
+    ensures told { Step (record nothing {
+      out = models_end lister.listed word;
+      log = line_bytes lister.version lister.own (lines.End word);
+    })
+        (moment D.told D.begun D.read_faults D.write_faults D.calls desk.old)
+        (moment D.told D.begun D.read_faults D.write_faults D.calls desk.new) result }
     ensures status { IfOk result (λ status. status ≡ Some (models_status lister.listed word)) }
 {
     tell_line_in(alloc, desk, lister.version, lister.own, &LogLine::End(word))?;
@@ -171,9 +183,13 @@ fn tell_find<D: Desk>(
 ) -> Result<Option<Status>, Stop>
     requires more { HasMore search.old }
     requires at { IsAt lister.old.own lister.old.listed search.old }
-    ensures tells { (axioms : Axioms) (count : Option ℕ) (budget : ℕ) (section : Section) → AreAt axioms count budget section lister.old.own lister.old.listed search.old →
-        TellsFind axioms lister.old.version count budget section lister.new.own lister.new.listed search.new (moment D.told D.begun D.read_faults D.write_faults D.calls desk.old) (moment D.told D.begun D.read_faults D.write_faults D.calls desk.new) result }
-    ensures next { IfOk result (λ status. IsNone status → HasMore search.new × (left_of search.new < left_of search.old)) }
+    ensures tells { (axioms : Axioms) (count : Option ℕ) (budget : ℕ) (section : Section) →
+        AreAt axioms count budget section lister.old.own lister.old.listed search.old →
+        TellsFind axioms lister.old.version count budget section lister.new.own lister.new.listed
+        search.new (moment D.told D.begun D.read_faults D.write_faults D.calls desk.old)
+        (moment D.told D.begun D.read_faults D.write_faults D.calls desk.new) result }
+    ensures next { IfOk result (λ status. IsNone status →
+        HasMore search.new × (left_of search.new < left_of search.old)) }
     ensures version { lister.new.version ≡ lister.old.version }
 {
     match search.next() {
@@ -194,8 +210,11 @@ fn tell_finds<D: Desk>(
 ) -> Result<Status, Stop>
     requires more { HasMore search }
     requires at { IsAt lister.own lister.listed search }
-    ensures { (axioms : Axioms) (count : Option ℕ) (budget : ℕ) (section : Section) → AreAt axioms count budget section lister.own lister.listed search →
-        TellsListing axioms lister.version count budget (told_of axioms lister.version section) (moment D.told D.begun D.read_faults D.write_faults D.calls desk.old) (moment D.told D.begun D.read_faults D.write_faults D.calls desk.new) result }
+    ensures { (axioms : Axioms) (count : Option ℕ) (budget : ℕ) (section : Section) →
+        AreAt axioms count budget section lister.own lister.listed search →
+        TellsListing axioms lister.version count budget (told_of axioms lister.version section)
+        (moment D.told D.begun D.read_faults D.write_faults D.calls desk.old)
+        (moment D.told D.begun D.read_faults D.write_faults D.calls desk.new) result }
 {
     loop {
         match tell_find(alloc, desk, &mut lister, &mut search)? {
@@ -207,7 +226,9 @@ fn tell_finds<D: Desk>(
 
 /// Gives the header of the log and the heading of its section.
 fn give_heading<D: Desk>(alloc: Global, desk: &mut D, version: Version) -> Result<(), Stop>
-    ensures { Step (given_to outputs.Log (header_in version ++ line_bytes version 1 (lines.Section false 0))) (moment D.told D.begun D.read_faults D.write_faults D.calls desk.old) (moment D.told D.begun D.read_faults D.write_faults D.calls desk.new) result }
+    ensures { Step (given_to outputs.Log (header_in version ++ line_bytes version 1
+        (lines.Section false 0))) (moment D.told D.begun D.read_faults D.write_faults D.calls
+        desk.old) (moment D.told D.begun D.read_faults D.write_faults D.calls desk.new) result }
 {
     let heading = LogLine::Section {
         conditions: false,
@@ -225,9 +246,12 @@ fn tell_section<D: Desk>(
     search: Search,
 ) -> Result<Status, Stop>
     requires more { HasMore search }
-    requires at { (axioms : Axioms) × (count : Option ℕ) × (budget : ℕ) × AreWithin axioms budget × Stands axioms count budget search (open_section []) }
-    ensures { (axioms : Axioms) (count : Option ℕ) (budget : ℕ) → AreWithin axioms budget → Stands axioms count budget search (open_section []) →
-        TellsListing axioms version count budget nothing (moment D.told D.begun D.read_faults D.write_faults D.calls desk.old) (moment D.told D.begun D.read_faults D.write_faults D.calls desk.new) result }
+    requires at { (axioms : Axioms) × (count : Option ℕ) × (budget : ℕ)
+        × AreWithin axioms budget × Stands axioms count budget search (open_section []) }
+    ensures { (axioms : Axioms) (count : Option ℕ) (budget : ℕ) → AreWithin axioms budget →
+        Stands axioms count budget search (open_section []) → TellsListing axioms version
+        count budget nothing (moment D.told D.begun D.read_faults D.write_faults D.calls desk.old)
+        (moment D.told D.begun D.read_faults D.write_faults D.calls desk.new) result }
 {
     give_heading(alloc, desk, version)?;
     let lister = Lister {
@@ -248,10 +272,12 @@ fn list_models<D: Desk>(
     requires count { IfSome asked.now.count (λ count. 1 ≤ count) }
     requires budget { asked.now.budget ≤ 2000000 }
     requires form { (cnf : PlainCnf) × IsFormOf cnf form }
-    ensures { (words : List Text) (modelling : Modelling) (cnf : PlainCnf) → request_of words ≡ Some (ToModel modelling) →
-        plain_request (requests.Models asked.now) ≡ ToModel modelling → IsFormOf cnf form →
-        IfSome (D.told desk.old) (λ c. IsCnfIn c.files modelling.file cnf) →
-        Prints words (is_some modelling.log) [] (moment D.told D.begun D.read_faults D.write_faults D.calls desk.old) (moment D.told D.begun D.read_faults D.write_faults D.calls desk.new) result }
+    ensures { (words : List Text) (modelling : Modelling) (cnf : PlainCnf) → request_of words
+        ≡ Some (ToModel modelling) → plain_request (requests.Models asked.now) ≡ ToModel modelling →
+        IsFormOf cnf form → IfSome (D.told desk.old) (λ c. IsCnfIn c.files modelling.file cnf) →
+        Prints words (is_some modelling.log) []
+        (moment D.told D.begun D.read_faults D.write_faults D.calls desk.old)
+        (moment D.told D.begun D.read_faults D.write_faults D.calls desk.new) result }
 {
     let search = Search::of(alloc, form, asked.count, asked.budget)?;
     begin_log(desk, asked.log)?;
@@ -266,9 +292,11 @@ pub(crate) fn models<D: Desk>(
 ) -> Result<Status, Stop>
     requires count { IfSome asked.now.count (λ count. 1 ≤ count) }
     requires budget { asked.now.budget ≤ 2000000 }
-    ensures { (words : List Text) (modelling : Modelling) → request_of words ≡ Some (ToModel modelling) →
-        plain_request (requests.Models asked.now) ≡ ToModel modelling →
-        PrintsAsked words (is_some modelling.log) (moment D.told D.begun D.read_faults D.write_faults D.calls desk.old) (moment D.told D.begun D.read_faults D.write_faults D.calls desk.new) result }
+    ensures { (words : List Text) (modelling : Modelling) →
+        request_of words ≡ Some (ToModel modelling) → plain_request (requests.Models asked.now)
+        ≡ ToModel modelling → PrintsAsked words (is_some modelling.log)
+        (moment D.told D.begun D.read_faults D.write_faults D.calls desk.old)
+        (moment D.told D.begun D.read_faults D.write_faults D.calls desk.new) result }
 {
     match read_form(alloc, desk, asked.file) {
         Ok(form) => list_models(alloc, desk, asked, form),

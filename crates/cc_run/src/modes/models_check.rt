@@ -38,7 +38,9 @@ fn verdict_status(verdict: &LogVerdict) -> Status
 
 /// Tells a verdict by its line.
 fn tell_verdict<D: Desk>(alloc: Global, desk: &mut D, verdict: &LogVerdict) -> Result<Status, Stop>
-    ensures told { Step (only_out (models_verdict_line verdict.now)) (moment D.told D.begun D.read_faults D.write_faults D.calls desk.old) (moment D.told D.begun D.read_faults D.write_faults D.calls desk.new) result }
+    ensures told { Step (only_out (models_verdict_line verdict.now))
+        (moment D.told D.begun D.read_faults D.write_faults D.calls desk.old)
+        (moment D.told D.begun D.read_faults D.write_faults D.calls desk.new) result }
     ensures status { IfOk result (λ status. status ≡ checks.verdict_status verdict.now) }
 {
     let text = models_verdict_text(alloc, verdict)?;
@@ -54,9 +56,12 @@ fn check_log<D: Desk>(
     bytes: &[u8],
 ) -> Result<Status, Stop>
     requires few { length bytes.now ≤ limit_number limits.LogBytes }
-    ensures { (words : List Text) (checking : ModelChecking) (cnf : PlainCnf) → request_of words ≡ Some (ToCheckModels checking) → IsFormOf cnf form.now →
-        IfSome (D.told desk.old) (λ c. IsCnfIn c.files checking.file cnf) → IfSome (D.told desk.old) (λ c. c.files checking.log ≡ Some bytes.now) →
-        Prints words false [] (moment D.told D.begun D.read_faults D.write_faults D.calls desk.old) (moment D.told D.begun D.read_faults D.write_faults D.calls desk.new) result }
+    ensures { (words : List Text) (checking : ModelChecking) (cnf : PlainCnf) →
+        request_of words ≡ Some (ToCheckModels checking) →
+        IsFormOf cnf form.now → IfSome (D.told desk.old) (λ c. IsCnfIn c.files checking.file cnf) →
+        IfSome (D.told desk.old) (λ c. c.files checking.log ≡ Some bytes.now) →
+        Prints words false [] (moment D.told D.begun D.read_faults D.write_faults D.calls desk.old)
+        (moment D.told D.begun D.read_faults D.write_faults D.calls desk.new) result }
 {
     let verdict = judge_over(alloc, form, bytes)?;
     tell_verdict(alloc, desk, &verdict)
@@ -64,9 +69,11 @@ fn check_log<D: Desk>(
 
 /// Reads the log and judges it.
 fn check_over<D: Desk>(alloc: Global, desk: &mut D, form: &Form, log: &str) -> Result<Status, Stop>
-    ensures { (words : List Text) (checking : ModelChecking) (cnf : PlainCnf) → request_of words ≡ Some (ToCheckModels checking) → log.now ≡ checking.log →
-        IsFormOf cnf form.now → IfSome (D.told desk.old) (λ c. IsCnfIn c.files checking.file cnf) →
-        Prints words false (log.now ∷ []) (moment D.told D.begun D.read_faults D.write_faults D.calls desk.old) (moment D.told D.begun D.read_faults D.write_faults D.calls desk.new) result }
+    ensures { (words : List Text) (checking : ModelChecking) (cnf : PlainCnf) → request_of words
+        ≡ Some (ToCheckModels checking) → log.now ≡ checking.log → IsFormOf cnf form.now →
+        IfSome (D.told desk.old) (λ c. IsCnfIn c.files checking.file cnf) → Prints words false
+        (log.now ∷ []) (moment D.told D.begun D.read_faults D.write_faults D.calls desk.old)
+        (moment D.told D.begun D.read_faults D.write_faults D.calls desk.new) result }
 {
     match read_all(alloc, desk, log, LimitAt::LogBytes.number() as usize) {
         Ok(bytes) => check_log(alloc, desk, form, bytes.items()),
@@ -82,9 +89,11 @@ pub(crate) fn check<D: Desk>(
     desk: &mut D,
     asked: &CheckModelsAsked<'_>,
 ) -> Result<Status, Stop>
-    ensures { (words : List Text) (checking : ModelChecking) → request_of words ≡ Some (ToCheckModels checking) →
+    ensures { (words : List Text) (checking : ModelChecking) →
+        request_of words ≡ Some (ToCheckModels checking) →
         plain_request (requests.CheckModels asked.now) ≡ ToCheckModels checking →
-        PrintsAsked words false (moment D.told D.begun D.read_faults D.write_faults D.calls desk.old) (moment D.told D.begun D.read_faults D.write_faults D.calls desk.new) result }
+        PrintsAsked words false (moment D.told D.begun D.read_faults D.write_faults D.calls
+        desk.old) (moment D.told D.begun D.read_faults D.write_faults D.calls desk.new) result }
 {
     match read_form(alloc, desk, asked.file) {
         Ok(form) => check_over(alloc, desk, &form, asked.log),

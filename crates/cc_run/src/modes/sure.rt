@@ -46,9 +46,12 @@ fn tell_next<D: Desk>(
     requires same { described.now.sig ≡ sure.old.signature }
     requires more { HasMore sure.old }
     requires of { IsSureOfSome described.now sure.old }
-    ensures tells { (d : Description) (q : Query) (run : SureRun) → IsDescriptionOf described.now d → IsSureOf sure.old d q → Stands d q sure.old run →
-        TellsEvent d q sure.old.budget run sure.new (moment D.told D.begun D.read_faults D.write_faults D.calls desk.old) (moment D.told D.begun D.read_faults D.write_faults D.calls desk.new) result }
-    ensures next { IfOk result (λ status. IsNone status → HasMore sure.new × (left_of sure.new < left_of sure.old)) }
+    ensures tells { (d : Description) (q : Query) (run : SureRun) → IsDescriptionOf described.now
+        d → IsSureOf sure.old d q → Stands d q sure.old run → TellsEvent d q sure.old.budget
+        run sure.new (moment D.told D.begun D.read_faults D.write_faults D.calls desk.old)
+        (moment D.told D.begun D.read_faults D.write_faults D.calls desk.new) result }
+    ensures next { IfOk result (λ status. IsNone status →
+        HasMore sure.new × (left_of sure.new < left_of sure.old)) }
     ensures same { IsSame sure.old sure.new }
 {
     positions_have_sizes();
@@ -70,8 +73,10 @@ fn tell_all<D: Desk>(
     requires same { described.now.sig ≡ sure.signature }
     requires more { HasMore sure }
     requires of { IsSureOfSome described.now sure }
-    ensures { (d : Description) (q : Query) (run : SureRun) → IsDescriptionOf described.now d → IsSureOf sure.entry d q → Stands d q sure.entry run →
-        TellsSure d q sure.entry.budget (surely_given d q run) (moment D.told D.begun D.read_faults D.write_faults D.calls desk.old) (moment D.told D.begun D.read_faults D.write_faults D.calls desk.new) result }
+    ensures { (d : Description) (q : Query) (run : SureRun) → IsDescriptionOf described.now d →
+        IsSureOf sure.entry d q → Stands d q sure.entry run → TellsSure d q sure.entry.budget
+        (surely_given d q run) (moment D.told D.begun D.read_faults D.write_faults D.calls desk.old)
+        (moment D.told D.begun D.read_faults D.write_faults D.calls desk.new) result }
 {
     loop {
         match tell_next(alloc, desk, described, &mut sure)? {
@@ -90,12 +95,16 @@ fn tell_run<D: Desk>(
     budget: u32,
 ) -> Result<Status, Stop>
     requires signature { IsSignatureFor described.now.table described.now.sig }
-    requires searchable { AreSearchable described.now.sig prepared.now.laws (plain_ground_query prepared.now.query) None }
+    requires searchable { AreSearchable described.now.sig prepared.now.laws
+        (plain_ground_query prepared.now.query) None }
     requires claim { IsNone prepared.now.query.claim }
     requires budget { budget ≤ 2000000 }
-    requires of { (d : Description) × (q : Query) × IsDescriptionOf described.now d × AreOf described.now.sig prepared.now.laws (plain_ground_query prepared.now.query) d q }
-    ensures { (d : Description) (q : Query) → IsDescriptionOf described.now d → AreOf described.now.sig prepared.now.laws (plain_ground_query prepared.now.query) d q →
-        TellsSure d q budget nothing (moment D.told D.begun D.read_faults D.write_faults D.calls desk.old) (moment D.told D.begun D.read_faults D.write_faults D.calls desk.new) result }
+    requires of { (d : Description) × (q : Query) × IsDescriptionOf described.now d
+        × AreOf described.now.sig prepared.now.laws (plain_ground_query prepared.now.query) d q }
+    ensures { (d : Description) (q : Query) → IsDescriptionOf described.now d →
+        AreOf described.now.sig prepared.now.laws (plain_ground_query prepared.now.query) d q →
+        TellsSure d q budget nothing (moment D.told D.begun D.read_faults D.write_faults D.calls
+        desk.old) (moment D.told D.begun D.read_faults D.write_faults D.calls desk.new) result }
 {
     let sure = Sure::new(
         alloc,
@@ -117,15 +126,19 @@ fn be_sure<D: Desk>(
     prepared: &Prepared<'_>,
 ) -> Result<Status, Stop>
     requires signature { IsSignatureFor described.now.table described.now.sig }
-    requires searchable { AreSearchable described.now.sig prepared.now.laws (plain_ground_query prepared.now.query) None }
+    requires searchable { AreSearchable described.now.sig prepared.now.laws
+        (plain_ground_query prepared.now.query) None }
     requires claim { IsNone prepared.now.query.claim }
     requires budget { asked.now.budget ≤ 2000000 }
-    requires of { (d : Description) × (q : Query) × IsDescriptionOf described.now d × AreOf described.now.sig prepared.now.laws (plain_ground_query prepared.now.query) d q }
-    ensures { (words : List Text) (surely : Surely) (d : Description) (q : Query) → request_of words ≡ Some (ToBeSure surely) →
-        plain_request (requests.Sure asked.now) ≡ ToBeSure surely → IsDescriptionOf described.now d →
-        AreOf described.now.sig prepared.now.laws (plain_ground_query prepared.now.query) d q →
-        IfSome (D.told desk.old) (λ before. NamesUnclaimed before.files (named_surely surely) d q) →
-        Prints words (is_some surely.log) [] (moment D.told D.begun D.read_faults D.write_faults D.calls desk.old) (moment D.told D.begun D.read_faults D.write_faults D.calls desk.new) result }
+    requires of { (d : Description) × (q : Query) × IsDescriptionOf described.now d
+        × AreOf described.now.sig prepared.now.laws (plain_ground_query prepared.now.query) d q }
+    ensures { (words : List Text) (surely : Surely) (d : Description) (q : Query) → request_of words
+        ≡ Some (ToBeSure surely) → plain_request (requests.Sure asked.now) ≡ ToBeSure surely →
+        IsDescriptionOf described.now d → AreOf described.now.sig prepared.now.laws
+        (plain_ground_query prepared.now.query) d q → IfSome (D.told desk.old) (λ before.
+        NamesUnclaimed before.files (named_surely surely) d q) → Prints words (is_some surely.log)
+        [] (moment D.told D.begun D.read_faults D.write_faults D.calls desk.old)
+        (moment D.told D.begun D.read_faults D.write_faults D.calls desk.new) result }
 {
     begin_log(desk, asked.log)?;
     tell_run(alloc, desk, described, prepared, asked.budget)
@@ -143,10 +156,10 @@ pub(crate) fn sure<D: Desk>(
     requires forms { HasForms described.now }
     requires formulas { AsksFormulas described.now }
     ensures { (words : List Text) (surely : Surely) → request_of words ≡ Some (ToBeSure surely) →
-        plain_request (requests.Sure asked.now) ≡ ToBeSure surely →
-        IfSome (D.told desk.old) (λ before. Describes before.files surely.file described.now) →
-        Prints words (is_some surely.log) [] (moment D.told D.begun D.read_faults D.write_faults D.calls desk.old)
-        (moment D.told D.begun D.read_faults D.write_faults D.calls desk.new) result }
+        plain_request (requests.Sure asked.now) ≡ ToBeSure surely → IfSome (D.told desk.old)
+        (λ before. Describes before.files surely.file described.now) → Prints words
+        (is_some surely.log) [] (moment D.told D.begun D.read_faults D.write_faults D.calls
+        desk.old) (moment D.told D.begun D.read_faults D.write_faults D.calls desk.new) result }
 {
     let arena = Bump::new(alloc);
     let terms = Terms::new(&arena);

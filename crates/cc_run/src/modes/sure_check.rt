@@ -68,7 +68,9 @@ fn tell_verdict<D: Desk>(
     desk: &mut D,
     verdict: SilentVerdict,
 ) -> Result<Status, Stop>
-    ensures told { Step (only_out (sure_verdict_line verdict)) (moment D.told D.begun D.read_faults D.write_faults D.calls desk.old) (moment D.told D.begun D.read_faults D.write_faults D.calls desk.new) result }
+    ensures told { Step (only_out (sure_verdict_line verdict))
+        (moment D.told D.begun D.read_faults D.write_faults D.calls desk.old)
+        (moment D.told D.begun D.read_faults D.write_faults D.calls desk.new) result }
     ensures status { IfOk result (λ status. status ≡ sure_verdict_status verdict) }
 {
     let text = verdict_text(alloc, verdict)?;
@@ -84,13 +86,16 @@ fn check_log<D: Desk>(
     prepared: &Prepared<'_>,
     bytes: &[u8],
 ) -> Result<Status, Stop>
-    requires searchable { AreSearchable described.now.sig prepared.now.laws (plain_ground_query prepared.now.query) None }
+    requires searchable { AreSearchable described.now.sig prepared.now.laws
+        (plain_ground_query prepared.now.query) None }
     requires claim { IsNone prepared.now.query.claim }
     requires few { length bytes.now ≤ limit_number limits.LogBytes }
-    ensures { (words : List Text) (checking : SureChecking) (d : Description) (q : Query) → request_of words ≡ Some (ToCheckSure checking) →
+    ensures { (words : List Text) (checking : SureChecking) (d : Description) (q : Query) →
+        request_of words ≡ Some (ToCheckSure checking) →
         AreOf described.now.sig prepared.now.laws (plain_ground_query prepared.now.query) d q →
         IfSome (D.told desk.old) (λ before. NamesSureLog before.files checking d q bytes.now) →
-        Prints words false [] (moment D.told D.begun D.read_faults D.write_faults D.calls desk.old) (moment D.told D.begun D.read_faults D.write_faults D.calls desk.new) result }
+        Prints words false [] (moment D.told D.begun D.read_faults D.write_faults D.calls desk.old)
+        (moment D.told D.begun D.read_faults D.write_faults D.calls desk.new) result }
 {
     match check_sure(
         alloc,
@@ -113,12 +118,16 @@ fn check_over<D: Desk>(
     prepared: &Prepared<'_>,
     log: &str,
 ) -> Result<Status, Stop>
-    requires searchable { AreSearchable described.now.sig prepared.now.laws (plain_ground_query prepared.now.query) None }
+    requires searchable { AreSearchable described.now.sig prepared.now.laws
+        (plain_ground_query prepared.now.query) None }
     requires claim { IsNone prepared.now.query.claim }
-    ensures { (words : List Text) (checking : SureChecking) (d : Description) (q : Query) → request_of words ≡ Some (ToCheckSure checking) → log.now ≡ checking.log →
+    ensures { (words : List Text) (checking : SureChecking) (d : Description) (q : Query) →
+        request_of words ≡ Some (ToCheckSure checking) → log.now ≡ checking.log →
         AreOf described.now.sig prepared.now.laws (plain_ground_query prepared.now.query) d q →
-        IfSome (D.told desk.old) (λ before. NamesUnclaimed before.files (named_to_check checking) d q) →
-        Prints words false (log.now ∷ []) (moment D.told D.begun D.read_faults D.write_faults D.calls desk.old) (moment D.told D.begun D.read_faults D.write_faults D.calls desk.new) result }
+        IfSome (D.told desk.old) (λ before.
+        NamesUnclaimed before.files (named_to_check checking) d q) → Prints words false
+        (log.now ∷ []) (moment D.told D.begun D.read_faults D.write_faults D.calls desk.old)
+        (moment D.told D.begun D.read_faults D.write_faults D.calls desk.new) result }
 {
     match read_all(alloc, desk, log, LimitAt::LogBytes.number() as usize) {
         Ok(bytes) => check_log(alloc, desk, described, prepared, bytes.items()),
@@ -138,10 +147,12 @@ pub(crate) fn check<D: Desk>(
     requires says { SaysAll described.now }
     requires forms { HasForms described.now }
     requires formulas { AsksFormulas described.now }
-    ensures { (words : List Text) (checking : SureChecking) → request_of words ≡ Some (ToCheckSure checking) →
+    ensures { (words : List Text) (checking : SureChecking) →
+        request_of words ≡ Some (ToCheckSure checking) →
         plain_request (requests.CheckSure asked.now) ≡ ToCheckSure checking →
         IfSome (D.told desk.old) (λ before. Describes before.files checking.file described.now) →
-        Prints words false (asked.now.log.now ∷ []) (moment D.told D.begun D.read_faults D.write_faults D.calls desk.old)
+        Prints words false (asked.now.log.now ∷ [])
+        (moment D.told D.begun D.read_faults D.write_faults D.calls desk.old)
         (moment D.told D.begun D.read_faults D.write_faults D.calls desk.new) result }
 {
     let arena = Bump::new(alloc);

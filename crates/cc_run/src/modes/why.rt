@@ -31,7 +31,9 @@ use std::alloc::Global;
 
 /// Tells that a row is no history.
 fn tell_none<D: Desk>(desk: &mut D) -> Result<Status, Stop>
-    ensures told { Step (only_out no_history_line) (moment D.told D.begun D.read_faults D.write_faults D.calls desk.old) (moment D.told D.begun D.read_faults D.write_faults D.calls desk.new) result }
+    ensures told { Step (only_out no_history_line)
+        (moment D.told D.begun D.read_faults D.write_faults D.calls desk.old)
+        (moment D.told D.begun D.read_faults D.write_faults D.calls desk.new) result }
     ensures status { IfOk result (λ status. status ≡ Status.Not) }
 {
     give(desk, To::Out, b"not a history\n")?;
@@ -49,10 +51,13 @@ fn tell_history<D: Desk>(
     requires signature { IsSignatureFor described.now.table described.now.sig }
     requires horizon { key.now.horizon ≤ most_steps }
     requires laws { AreLawsFor described.now.sig laws.now }
-    requires path { (d : Description) × IsDescriptionOf described.now d × AreLawsOf described.now.sig laws.now d
+    requires path { (d : Description)
+        × IsDescriptionOf described.now d × AreLawsOf described.now.sig laws.now d
         × IsRow (sizes_at d key.now.horizon) key.now.row × IsPath d key.now.horizon key.now.row }
-    ensures { (d : Description) → IsDescriptionOf described.now d → AreLawsOf described.now.sig laws.now d → IsPath d key.now.horizon key.now.row →
-        TellsRow d described.now.files key.now (moment D.told D.begun D.read_faults D.write_faults D.calls desk.old) (moment D.told D.begun D.read_faults D.write_faults D.calls desk.new) result }
+    ensures { (d : Description) → IsDescriptionOf described.now d →
+        AreLawsOf described.now.sig laws.now d → IsPath d key.now.horizon key.now.row → TellsRow
+        d described.now.files key.now (moment D.told D.begun D.read_faults D.write_faults D.calls
+        desk.old) (moment D.told D.begun D.read_faults D.write_faults D.calls desk.new) result }
 {
     positions_have_sizes();
     let row = key.row.items();
@@ -74,8 +79,9 @@ fn explain_row<D: Desk>(
     requires of { (d : Description) × (text : Text) × IsDescriptionOf described.now d
         × IsLookedAt d described.now.sig text row.now.laws row.now.key row.now.is_path }
     ensures { (d : Description) (text : Text) → IsDescriptionOf described.now d →
-        IsLookedAt d described.now.sig text row.now.laws row.now.key row.now.is_path →
-        TellsRow d described.now.files row.now.key (moment D.told D.begun D.read_faults D.write_faults D.calls desk.old) (moment D.told D.begun D.read_faults D.write_faults D.calls desk.new) result }
+        IsLookedAt d described.now.sig text row.now.laws row.now.key row.now.is_path → TellsRow d
+        described.now.files row.now.key (moment D.told D.begun D.read_faults D.write_faults D.calls
+        desk.old) (moment D.told D.begun D.read_faults D.write_faults D.calls desk.new) result }
 {
     if row.is_path {
         return tell_history(alloc, desk, described, &row.laws, &row.key);
@@ -92,9 +98,11 @@ pub(crate) fn explain<D: Desk>(
 ) -> Result<Status, Stop>
     requires says { SaysAll described.now }
     requires forms { HasForms described.now }
-    ensures { (words : List Text) (explaining : Explaining) → request_of words ≡ Some (ToExplain explaining) → explaining.key ≡ key.now →
+    ensures { (words : List Text) (explaining : Explaining) →
+        request_of words ≡ Some (ToExplain explaining) → explaining.key ≡ key.now →
         IfSome (D.told desk.old) (λ before. Describes before.files explaining.file described.now) →
-        Prints words false [] (moment D.told D.begun D.read_faults D.write_faults D.calls desk.old) (moment D.told D.begun D.read_faults D.write_faults D.calls desk.new) result }
+        Prints words false [] (moment D.told D.begun D.read_faults D.write_faults D.calls desk.old)
+        (moment D.told D.begun D.read_faults D.write_faults D.calls desk.new) result }
 {
     let arena = Bump::new(alloc);
     let terms = Terms::new(&arena);
