@@ -49,7 +49,7 @@ meant Second own line names = line_twice own line (names_before own line names)
 alone : (text : List ℕ) (line : LogLine) → IsEntry text line → BeginsWith text line []
 alone text line is = record { entry = text; read = is; spelled = sym (append-nil text) }
 
-one_spelled : (version : Version) (text : List ℕ) (a b : LogLine) → IsSpelled version text a → IsSpelled version text b → a ≡ b
+pub one_spelled : (version : Version) (text : List ℕ) (a b : LogLine) → IsSpelled version text a → IsSpelled version text b → a ≡ b
 one_spelled First text a b x y = one_line text a b x y
 one_spelled Second text a b x y = (one_entry text a b [] [] (alone text a x) (alone text b y)).0
 

@@ -147,3 +147,22 @@ pub same_first : (version : Version) (bytes one other rest others : List ℕ) �
 same_first version bytes one other rest others a b more are =
     let (texts, is, behind) = a.behind (other ∷ more) (one_more version bytes other others b more are) in
     cc
+
+-- ---- bytes are those of one list of texts
+
+one_entries : (bytes : List ℕ) (xs ys : List (List ℕ)) → AreEntries bytes xs → AreEntries bytes ys → xs ≡ ys
+one_entries bytes [] ys nil are = sym (nothing_in Second ys (subst (λ (t : List ℕ). AreEntries t ys) nil are))
+one_entries bytes (text ∷ texts) ys (inl (line, read, (rest, spelled, more))) are =
+    let (others, is, behind) = (entry_text_first bytes text rest line read spelled).behind ys are in
+    ap (λ (ts : List (List ℕ)). text ∷ ts) (one_entries rest texts others more behind) ∙ sym is
+one_entries bytes (text ∷ texts) ys (inr (none, some, same, nil)) are =
+    let (others, is, behind) = (last_text_first bytes none (long bytes some)).behind ys are in
+    ap (λ (ts : List (List ℕ)). text ∷ ts) (nil ∙ sym (nothing_in Second others behind)) ∙ ap (λ (t : List ℕ). t ∷ others) same ∙ sym is
+  where
+    long : (bs : List ℕ) → (bs ≡ [] → ⊥) → 0 < length bs
+    long [] some = absurd (some refl)
+    long (b ∷ bs) some = omega arith
+
+pub one_list : (version : Version) (bytes : List ℕ) (xs ys : List (List ℕ)) → AreTexts version bytes xs → AreTexts version bytes ys → xs ≡ ys
+one_list First bytes xs ys x y = x ∙ sym y
+one_list Second bytes xs ys x y = one_entries bytes xs ys x y

@@ -1,6 +1,6 @@
 -- The header of a log, and the line behind it.
-use Rattle.std.proofs.Common.{◌≡◌, ◌≢◌, ℕ, ◌≤◌, Bool, List, [], ◌∷◌, ◌++◌, None, Option, true, false, eqb, length, drop, take, refl, sym, ap, subst, ◌∙◌, arith, length-append, inl, inr}
-use Rattle.std.specs.Prelude.{Result, Ok, Err, IfErr, IsErrAnd}
+use Rattle.std.proofs.Common.{◌≡◌, ◌≢◌, ℕ, ◌≤◌, List, [], ◌∷◌, ◌++◌, None, Some, Option, true, false, eqb, length, drop, take, refl, sym, ap, subst, ◌∙◌, arith, length-append, inl, inr}
+use Rattle.std.specs.Prelude.{Result, Ok, Err, IfErr, IfOk, IsErrAnd}
 use Rattle.std.proofs.lemmas.Bool.{false≢true}
 use Rattle.std.proofs.lemmas.Bool.Decides.{Decides-eqb}
 use Rattle.std.proofs.lemmas.List.{nil_from_length, take_at, take-append-drop}
@@ -17,13 +17,14 @@ use Rattle.cc_defs.specs.Logs.{IsNoHeading, IsNotBinary}
 use Rattle.cc_check.specs.declared.fault.CheckFault.{CheckFault}
 use Rattle.cc_check.specs.declared.fault.CheckFault.TheVariants as faults
 use Rattle.cc_check.specs.declared.line.Heading.{Heading}
-use Rattle.cc_check.specs.Parts.{AreSectionsBehind, AreSectionsFrom, AreSectionsOf, IsCut, IsRefusal, IsRefusalBehind, IsSecondAt, IsSecondIn}
-use Rattle.cc_check.specs.SectionTexts.{SectionBytes}
+use Rattle.cc_check.specs.Parts.{AreSectionsBehind, AreSectionsOf, IsCut, IsRefusal, IsRefusalBehind, IsSecondAt, IsSecondIn}
+use Rattle.cc_check.specs.SectionTexts.{SectionsAhead}
 use Rattle.cc_check.specs.Splits.{Split, Parts, Misread, IsSplit, IsSplitOf, IsSplitBehind}
 use Rattle.cc_check.specs.Texts.{AreTexts}
 use Rattle.cc_check.proofs.FirstLines.{line_length, first_line_cut}
 use Rattle.cc_check.proofs.FirstTexts.{none_of, one_more, same_first}
 use Rattle.cc_check.proofs.EntryThere.{texts_there}
+use Rattle.cc_check.proofs.SectionsThere.{sections_there}
 
 pub as_err : {E A : Type 0} (P : E → Type 0) (r : Result A E) (fault : E) → IsErrAnd r (λ (given : E). given ≡ fault) → P fault → IfErr r P
 as_err P (Ok value) fault is holds = tt
@@ -78,12 +79,20 @@ module _ (bytes body : List ℕ) where
   )
   split_behind Second headed texts split are h = inl (body, headed, (texts, are, h))
 
-  pub sections_behind : (version : Version) → Begin version bytes body → (sections : List SectionBytes) → AreSectionsBehind version body sections → AreSectionsOf bytes sections
+  sections_behind : (version : Version) → Begin version bytes body → (sections : SectionsAhead) → AreSectionsBehind version body sections → AreSectionsOf bytes sections
   sections_behind version begin sections (texts, are, (all, of, split)) = (all, of, split_behind version begin texts (Parts all) are split)
 
-  pub refusal_behind : (version : Version) → Begin version bytes body → (fault : CheckFault) → IsRefusalBehind version body fault → IsRefusal bytes fault
+  pub ok_behind : {E : Type 0} (version : Version) → Begin version bytes body → (r : Result SectionsAhead E) → IfOk r (AreSectionsBehind version body) → IfOk r (AreSectionsOf bytes)
+  ok_behind version begin (Ok sections) are = sections_behind version begin sections are
+  ok_behind version begin (Err fault) are = tt
+
+  refusal_behind : (version : Version) → Begin version bytes body → (fault : CheckFault) → IsRefusalBehind version body fault → IsRefusal bytes fault
   refusal_behind version begin (faults.Refused line reason) (texts, are, split) = split_behind version begin texts (Misread line reason) are split
   refusal_behind version begin faults.OutOfMemory none = tt
+
+  pub err_behind : {A : Type 0} (version : Version) → Begin version bytes body → (r : Result A CheckFault) → IfErr r (IsRefusalBehind version body) → IfErr r (IsRefusal bytes)
+  err_behind version begin (Ok value) is = tt
+  err_behind version begin (Err fault) is = refusal_behind version begin fault is
 
 -- ---- the line behind the header
 
@@ -119,11 +128,13 @@ module _ (version : Version) (body behind : List ℕ) (heading : Option Heading)
         second_split version text more cause (subst (IsNoHeading version) (sym same) no_heading) second,
       )
 
-  pub all_read : (conditions : Bool) (horizon : ℕ) (sections : List SectionBytes) → IsSpelled version cut.text (lines.Section conditions horizon) →
-      ((first : List ℕ) → IsSpelled version first (lines.Section conditions horizon) → AreSectionsFrom version first behind sections) → AreSectionsBehind version body sections
-  all_read conditions horizon sections is from =
-      let (texts, are, (all, of, split)) = from cut.text is in
-      (cut.text ∷ texts, one_more version body cut.text behind cut.first texts are, (all, of, inr (inr (all, split, refl))))
+  pub first_read : (first : Heading) → heading ≡ Some first →
+      AreSectionsBehind version body (record { version = version; line = 2; next = Some (record { conditions = first.conditions; horizon = first.horizon; behind = behind }) })
+  first_read first some =
+      let spelled : IsSpelled version cut.text (lines.Section first.conditions first.horizon) = rw some at cut.read in
+      let (texts, are) = texts_there version behind in
+      let (all, split) = sections_there version cut.text texts first.conditions first.horizon spelled 2 in
+      (cut.text ∷ texts, one_more version body cut.text behind cut.first texts are, (all, (cut.text, texts, spelled, are, split), inr (inr (all, split, refl))))
 
   pub behind_few : length body ≤ 268435448 → length behind ≤ 268435448
   behind_few few = let e = ap length cut.first.parts ∙ length-append cut.text behind in omega arith

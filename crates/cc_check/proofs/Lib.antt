@@ -12,6 +12,8 @@ pub mod FirstTexts
 pub mod EntryThere
 pub mod Judged
 pub mod Parted
+pub mod SectionsThere
+pub mod NextSections
 pub mod Headers
 pub mod SilentLogs
 pub mod Refuted

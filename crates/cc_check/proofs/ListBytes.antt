@@ -1,5 +1,5 @@
 -- Lists at the front of bytes: items of which each is told by its own bytes, one after another.
-use Rattle.std.proofs.Common.{◌≡◌, ℕ, ◌<◌, List, [], ◌∷◌, ◌++◌, length, flat_map, refl, sym, ap, ◌∙◌, arith, append_assoc}
+use Rattle.std.proofs.Common.{◌≡◌, ℕ, ◌<◌, ◌≤◌, List, [], ◌∷◌, ◌++◌, length, flat_map, refl, sym, ap, ◌∙◌, arith, append_assoc, length-append}
 use Rattle.std.specs.List.{AllByRecursion}
 use Rattle.cc_check.specs.Entries.{AreIn}
 
@@ -43,3 +43,21 @@ module _ {X : Type 0} (Is : X → Type 0) (written : X → List ℕ)
       let all_count = there.counted in
       let (item, next, one, is) = next_item made items rest end (omega arith) so_far.formed there.formed (sym so_far.spelled ∙ there.spelled) in
       none item next one is
+
+-- ---- each item has a byte at least
+
+module _ {X : Type 0} (Is : X → Type 0) (written : X → List ℕ) (some : (x : X) → 1 ≤ length (written x)) where
+  as_long : (items : List X) → length items ≤ length (flat_map written items)
+  as_long [] = omega arith
+  as_long (x ∷ items) =
+      let front = some x in
+      let others = as_long items in
+      let both = length-append (written x) (flat_map written items) in
+      omega arith
+
+  pub too_many : (count : ℕ) (bytes : List ℕ) → length bytes < count → (items : List X) (rest : List ℕ) → AreIn Is written count bytes items rest → ⊥
+  too_many count bytes past items rest h =
+      let counted = h.counted in
+      let long = as_long items in
+      let whole = ap length h.spelled ∙ length-append (flat_map written items) rest in
+      omega arith

@@ -16,6 +16,16 @@ small_bytes (suc more) number below = rw (lt-ltb number 128 below) refl
 pub large_bytes : (more number : ℕ) → 128 ≤ number → bytes_within (suc more) number ≡ (128 + number % 128) ∷ bytes_within more (number / 128)
 large_bytes more number above = rw (le-ltb number 128 above) refl
 
+bytes_some : (more number : ℕ) → 1 ≤ length (bytes_within more number)
+bytes_some zero number = omega arith
+bytes_some (suc more) number = elim (cases_lt number 128) [
+  | inl below ↦ let e = ap length (small_bytes (suc more) number below) in omega arith
+  | inr above ↦ let e = ap length (large_bytes more number above) in omega arith
+]
+
+pub number_some : (number : ℕ) → 1 ≤ length (number_bytes number)
+number_some number = bytes_some 4 number
+
 -- the parts of two lists that are equal
 pub cells : (x y : ℕ) (xs ys : List ℕ) → x ∷ xs ≡ y ∷ ys → (x ≡ y) × (xs ≡ ys)
 cells x y xs ys is = (ap (λ (t : List ℕ). get_or t 0 0) is, ap (λ (t : List ℕ). drop 1 t) is)

@@ -1,16 +1,14 @@
--- How a log is split at its headings.
-use Rattle.std.proofs.Common.{◌≡◌, ℕ, ◌+◌, ◌-◌, ◌<◌, ◌≤◌, Bool, List, [], ◌∷◌, ◌++◌, length, take, Option, Some, None, refl, sym, ap, subst, ◌∙◌, arith, append_assoc, append-nil, length-append, inl, inr, ◌⊎◌}
+-- The lines of a section, up to the next heading.
+use Rattle.std.proofs.Common.{◌≡◌, ℕ, ◌+◌, ◌-◌, ◌<◌, ◌≤◌, List, [], ◌∷◌, ◌++◌, length, take, Some, None, refl, sym, ap, subst, ◌∙◌, arith, append_assoc, append-nil, length-append, inl, inr, ◌⊎◌}
 use Rattle.std.specs.Borrow.{Bor}
 use Rattle.std.specs.List.{AllByRecursion}
 use Rattle.std.proofs.lemmas.List.{take_at, nil_from_length}
 use Rattle.cc_defs.specs.declared.log.LogLine.TheVariants as lines
 use Rattle.cc_defs.specs.declared.log.Version.{Version}
 use Rattle.cc_defs.specs.LogBytes.{IsSpelled}
-use Rattle.cc_defs.specs.Logs.{SectionText, IsNoHeading, AreSections}
+use Rattle.cc_defs.specs.Logs.{IsNoHeading}
 use Rattle.cc_check.specs.declared.line.Heading.{Heading}
-use Rattle.cc_check.specs.declared.sections.Part.{Part}
-use Rattle.cc_check.specs.Parts.{AreSectionsFrom, IsInside, IsPart, part_view, parts_view}
-use Rattle.cc_check.specs.SectionTexts.{IsTextOf, AreTextsOf}
+use Rattle.cc_check.specs.Parts.{IsInside}
 use Rattle.cc_check.specs.Texts.{AreTexts, EndsTexts, IsFirstText}
 use Rattle.cc_check.proofs.FirstTexts.{none_of, one_more}
 
@@ -140,104 +138,3 @@ module _ (version : Version) (all rest : List ℕ) (count : ℕ) (h : InsideSoFa
         parted = refl;
         fewer = omega arith;
       }
-
--- ---- all sections
-
--- The sections before this heading, and what more of the log does for them.
-pub record PartsSoFar (version : Version) (behind : List ℕ) (conditions : Bool) (horizon : ℕ) (parts : List Part) (heading : Heading) (line : ℕ) (rest : List ℕ) : Type 0 where
-  pub so_far : (first : List ℕ) → IsSpelled version first (lines.Section conditions horizon) →
-      (before : List SectionText) × AreTextsOf (parts_view parts) before
-      × ((text : List ℕ) × IsSpelled version text (lines.Section heading.conditions heading.horizon)
-      × ((more : List (List ℕ)) (others : List SectionText) → AreTexts version rest more → AreSections version line (text ∷ more) others →
-      (all : List (List ℕ)) × AreTexts version behind all × AreSections version 2 (first ∷ all) (before ++ others)))
-  pub sized : AllByRecursion IsPart parts
-  pub few : line + length rest ≤ 268435450
-
-parts_push : (parts : List Part) (part : Part) → AllByRecursion IsPart parts → IsPart part → AllByRecursion IsPart (parts ++ part ∷ [])
-parts_push [] part all one = (one, tt)
-parts_push (first ∷ parts) part all one = (all.0, parts_push parts part all.1 one)
-
-of_push : (parts : List Part) (part : Part) (before : List SectionText) (section : SectionText) → AreTextsOf (parts_view parts) before → IsTextOf (part_view part) section →
-    AreTextsOf (parts_view (parts ++ part ∷ [])) (before ++ section ∷ [])
-of_push [] part [] section are is = (is, tt)
-of_push [] part (other ∷ before) section are is = absurd are
-of_push (first ∷ parts) part [] section are is = absurd are
-of_push (first ∷ parts) part (other ∷ before) section are is = (are.0, of_push parts part before section are.1 is)
-
-pub parts_begun : (version : Version) (heading : Heading) (behind : List ℕ) → length behind ≤ 268435448 →
-    PartsSoFar version behind heading.conditions heading.horizon [] heading 2 behind
-parts_begun version heading behind few = record {
-  so_far = λ first is. ([], tt, (first, is, λ more others are sections. (more, are, sections)));
-  sized = tt;
-  few = omega arith;
-}
-
-module _ (version : Version) (behind : List ℕ) (conditions : Bool) (horizon : ℕ) (parts : List Part) (heading : Heading) (line : ℕ) (rest : List ℕ)
-    (h : PartsSoFar version behind conditions horizon parts heading line rest) (inside : Bor (List ℕ)) (count : ℕ) where
-  abbrev part : Part
-  part = record { version = version; conditions = heading.conditions; horizon = heading.horizon; line = line; bytes = inside }
-
-  abbrev text_of : List (List ℕ) → SectionText
-  text_of texts = record { version = version; conditions = heading.conditions; horizon = heading.horizon; line = line; texts = texts }
-
-  part_sized : (next : Option (Heading × Bor (List ℕ))) → IsInside version rest inside.now count next → IsPart part
-  part_sized next i = let a = i.few in let b = h.few in (omega arith, omega arith)
-
-  part_is : (texts : List (List ℕ)) → AreTexts version inside.now texts → IsTextOf (part_view part) (text_of texts)
-  part_is texts are = record { version = refl; conditions = refl; horizon = refl; line = refl; texts = are }
-
-  pub parts_more : (next : Heading) (others : Bor (List ℕ)) → IsInside version rest inside.now count (Some (next, others)) →
-      PartsSoFar version behind conditions horizon (parts ++ part ∷ []) next (line + 1 + count) others.now
-  parts_more next others i = record {
-    so_far = λ first is.
-        let (before, of, (text, read, go)) = h.so_far first is in
-        let (after, headed, join) = i.parted in (
-          before ++ text_of i.texts ∷ [],
-          of_push parts part before (text_of i.texts) of (part_is i.texts i.are),
-          (
-            after,
-            headed,
-            λ more sections are split.
-                let (all, all_are, all_split) =
-                go (i.texts ++ after ∷ more) (text_of i.texts ∷ sections) (join more are) (
-                  text,
-                  after ∷ more,
-                  refl,
-                  refl,
-                  read,
-                  i.none,
-                  subst (λ (n : ℕ). AreSections version (line + 1 + n) (after ∷ more) sections) i.counted split,
-                  refl,
-                ) in
-                (all, all_are, subst (AreSections version 2 (first ∷ all)) (sym (append_assoc before (text_of i.texts ∷ []) sections)) all_split),
-          ),
-        );
-    sized = parts_push parts part h.sized (part_sized (Some (next, others)) i);
-    few = let a = i.fewer in let b = h.few in omega arith;
-  }
-
-  pub parts_done : IsInside version rest inside.now count None → (first : List ℕ) → IsSpelled version first (lines.Section conditions horizon) →
-      AreSectionsFrom version first behind (parts_view (parts ++ part ∷ []))
-  parts_done i first is =
-      let (before, of, (text, read, go)) = h.so_far first is in
-      let (all, all_are, all_split) =
-      go i.texts (text_of i.texts ∷ []) (subst (λ (t : List ℕ). AreTexts version t i.texts) i.parted i.are)
-      (text, [], ap (λ (ts : List (List ℕ)). text ∷ ts) (sym (append-nil i.texts)), refl, read, i.none, refl, refl) in
-      (all, all_are, (before ++ text_of i.texts ∷ [], of_push parts part before (text_of i.texts) of (part_is i.texts i.are), all_split))
-
-  pub parts_sized : (next : Option (Heading × Bor (List ℕ))) → IsInside version rest inside.now count next → AllByRecursion IsPart (parts ++ part ∷ [])
-  parts_sized next i = parts_push parts part h.sized (part_sized next i)
-
-  pub parts_done_by : (next : Option (Heading × Bor (List ℕ))) → IsInside version rest inside.now count next → next ≡ None → (items : List Part) →
-      items ≡ parts ++ part ∷ [] → (first : List ℕ) → IsSpelled version first (lines.Section conditions horizon) →
-      AreSectionsFrom version first behind (parts_view items)
-  parts_done_by next i none items same first is =
-      subst (λ (ps : List Part). AreSectionsFrom version first behind (parts_view ps)) (sym same)
-      (parts_done (subst (λ (n : Option (Heading × Bor (List ℕ))). IsInside version rest inside.now count n) none i) first is)
-
-  pub parts_more_by : (next : Option (Heading × Bor (List ℕ))) (after : Heading) (others : Bor (List ℕ)) → IsInside version rest inside.now count next →
-      next ≡ Some (after, others) → (items : List Part) → items ≡ parts ++ part ∷ [] →
-      PartsSoFar version behind conditions horizon items after (line + 1 + count) others.now
-  parts_more_by next after others i some items same =
-      subst (λ (ps : List Part). PartsSoFar version behind conditions horizon ps after (line + 1 + count) others.now) (sym same)
-      (parts_more after others (subst (λ (n : Option (Heading × Bor (List ℕ))). IsInside version rest inside.now count n) some i))

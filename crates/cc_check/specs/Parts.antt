@@ -1,5 +1,5 @@
 -- A section of a log, as its holder sees it.
-use Rattle.std.specs.Prelude.{◌≡◌, ℕ, ◌+◌, ◌<◌, ◌≤◌, List, ◌∷◌, ◌++◌, Option, MatchOption, length, map}
+use Rattle.std.specs.Prelude.{◌≡◌, ℕ, ◌+◌, ◌<◌, ◌≤◌, List, ◌∷◌, ◌++◌, Option, MatchOption, length, option_map}
 use Rattle.std.specs.Borrow.{Bor}
 use Rattle.std.specs.List.{AllByRecursion}
 use Rattle.cc_defs.specs.declared.log.Cause.{Cause}
@@ -10,15 +10,14 @@ use Rattle.cc_defs.specs.declared.log.Version.{Version}
 use Rattle.cc_defs.specs.declared.log.Version.TheVariants.{First}
 use Rattle.cc_defs.specs.Limits.{most_log_bytes}
 use Rattle.cc_defs.specs.LogBytes.{IsSpelled}
-use Rattle.cc_defs.specs.Logs.{SectionText, AreSections, IsNoHeading}
+use Rattle.cc_defs.specs.Logs.{SectionText, IsNoHeading}
 use Rattle.cc_defs.specs.Sections.{HasNoForm}
 use Rattle.cc_check.specs.declared.fault.CheckFault.{CheckFault}
 use Rattle.cc_check.specs.declared.fault.CheckFault.TheVariants as faults
 use Rattle.cc_check.specs.declared.line.Heading.{Heading}
-use Rattle.cc_check.specs.declared.sections.Part.{Part}
 use Rattle.cc_check.specs.declared.sections.Section.TheInside.{Inside}
 use Rattle.cc_check.specs.declared.sections.Sections.TheInside.{Inside as AllInside}
-use Rattle.cc_check.specs.SectionTexts.{SectionBytes, AreTextsOf}
+use Rattle.cc_check.specs.SectionTexts.{SectionBytes, HeadingAhead, SectionsAhead, AreAhead}
 use Rattle.cc_check.specs.Splits.{Misread, Parts, IsSplit, IsSplitBehind}
 use Rattle.cc_check.specs.Texts.{AreTexts, IsFirstText}
 
@@ -29,26 +28,25 @@ section_view section =
 abbrev pub IsSection : Inside → Type 0
 IsSection section = (length section.bytes.now ≤ most_log_bytes) × (section.line ≤ most_log_bytes + 1)
 
-abbrev pub part_view : Part → SectionBytes
-part_view part = record { version = part.version; conditions = part.conditions; horizon = part.horizon; line = part.line; bytes = part.bytes.now }
+abbrev pub next_view : Option (Heading × Bor (List ℕ)) → Option HeadingAhead
+next_view next = option_map (λ next. record { conditions = next.0.conditions; horizon = next.0.horizon; behind = next.1.now }) next
 
-abbrev pub IsPart : Part → Type 0
-IsPart part = (length part.bytes.now ≤ most_log_bytes) × (part.line ≤ most_log_bytes + 1)
+abbrev pub ahead_view : AllInside → SectionsAhead
+ahead_view sections = record { version = sections.version; line = sections.line; next = next_view sections.next }
 
-abbrev pub parts_view : List Part → List SectionBytes
-parts_view parts = map part_view parts
+-- no more bytes are ahead than lines may stand behind this one
+abbrev pub IsFewAhead : ℕ → Option (Heading × Bor (List ℕ)) → Type 0
+IsFewAhead line next =
+    MatchOption next (Unit {0}) (λ next. (length next.1.now ≤ most_log_bytes) × (line + length next.1.now ≤ most_log_bytes + 1))
 
-abbrev pub sections_view : AllInside → List SectionBytes
-sections_view sections = parts_view sections.parts.items
-
-abbrev pub AreParts : AllInside → Type 0
-AreParts sections = AllByRecursion IsPart sections.parts.items
+abbrev pub HasFewAhead : AllInside → Type 0
+HasFewAhead sections = IsFewAhead sections.line sections.next
 
 -- ---- what the bytes of a log are read as
 
--- the sections are those of a log, text by text
-abbrev pub AreSectionsOf : List ℕ → List SectionBytes → Type 0
-AreSectionsOf bytes sections = (texts : List SectionText) × AreTextsOf sections texts × IsSplit bytes (Parts texts)
+-- what is ahead is the sections of a log
+abbrev pub AreSectionsOf : List ℕ → SectionsAhead → Type 0
+AreSectionsOf bytes sections = (all : List SectionText) × AreAhead sections all × IsSplit bytes (Parts all)
 
 -- why bytes are not split: they are misread, or memory was wanting
 abbrev pub IsRefusal : List ℕ → CheckFault → Type 0
@@ -56,16 +54,10 @@ IsRefusal bytes (faults.Refused line cause) = IsSplit bytes (Misread line cause)
 IsRefusal bytes faults.OutOfMemory = Unit {0}
 
 -- the same of the bytes behind a header
-abbrev pub AreSectionsBehind : Version → List ℕ → List SectionBytes → Type 0
+abbrev pub AreSectionsBehind : Version → List ℕ → SectionsAhead → Type 0
 AreSectionsBehind version body sections =
     (texts : List (List ℕ)) × AreTexts version body texts
-    × ((all : List SectionText) × AreTextsOf sections all × IsSplitBehind version texts (Parts all))
-
--- the same behind a header and a first heading
-abbrev pub AreSectionsFrom : Version → (heading body : List ℕ) → List SectionBytes → Type 0
-AreSectionsFrom version heading body sections =
-    (texts : List (List ℕ)) × AreTexts version body texts
-    × ((all : List SectionText) × AreTextsOf sections all × AreSections version 2 (heading ∷ texts) all)
+    × ((all : List SectionText) × AreAhead sections all × IsSplitBehind version texts (Parts all))
 
 -- why the bytes behind a header are not split
 abbrev pub IsRefusalBehind : Version → List ℕ → CheckFault → Type 0

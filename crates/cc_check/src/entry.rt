@@ -62,7 +62,7 @@ fn literal_in(bytes: &[u8]) -> Option<(u32, bool, &[u8])>
     Some((number / 2, number % 2 == 0, rest))
 }
 
-// Reads so many numbers, and gives what stands behind them.
+// Reads so many numbers, and gives what stands behind them. With a count past the bytes none is read.
 fn read_numbers<'b>(
     bytes: &'b [u8],
     count: u32,
@@ -72,6 +72,9 @@ fn read_numbers<'b>(
         AreNumbersIn count bytes.now numbers.new.items rest.now)) }
 {
     numbers.clear();
+    if count as usize > bytes.len() {
+        return Ok(None);
+    }
     let mut rest = bytes;
     for _ in 0..count {
         let Some((number, next)) = number_in(rest) else {
@@ -83,7 +86,7 @@ fn read_numbers<'b>(
     Ok(Some(rest))
 }
 
-// Reads so many literals, and gives what stands behind them.
+// Reads so many literals, and gives what stands behind them. With a count past the bytes none is read.
 fn read_literals<'b>(
     bytes: &'b [u8],
     count: u32,
@@ -93,6 +96,9 @@ fn read_literals<'b>(
         AreLiteralsIn count bytes.now literals.new.items rest.now)) }
 {
     literals.clear();
+    if count as usize > bytes.len() {
+        return Ok(None);
+    }
     let mut rest = bytes;
     for _ in 0..count {
         let Some((variable, positive, next)) = literal_in(rest) else {
@@ -198,7 +204,7 @@ pub fn heading_in(bytes: &[u8]) -> Option<(Heading, &[u8])>
 
 /// Reads the entry at the front of bytes: what it is, its literals and numbers into the room in place of what is there (a chain
 /// has distances in place of the numbers of clauses), and what stands behind it. Nothing: no entry stands there. A count takes no
-/// memory: the lists grow by what is read.
+/// memory: the lists grow by what is read, and nothing is where the count is greater than the number of bytes that are left.
 pub fn read_entry<'b>(
     bytes: &'b [u8],
     room: &mut Room,

@@ -1,13 +1,11 @@
 //! A log split into its sections.
-ghost use Rattle.std.specs.Prelude.{◌≡◌, ◌+◌, ◌-◌, ℕ, ◌≤◌, ◌<◌, List, Some, length, take, slice_get, IfOk, IfErr};
-ghost use Rattle.std.specs.List.{AllByRecursion};
-ghost use Rattle.cc_defs.specs.declared.log.LogLine.TheVariants as lines;
+ghost use Rattle.std.specs.Prelude.{◌≡◌, ◌+◌, ◌-◌, ◌≤◌, ◌<◌, List, length, take, IfOk, IfErr, IfSome, OnErr};
 ghost use Rattle.cc_defs.specs.declared.log.Version.TheVariants as versions;
 ghost use Rattle.cc_defs.specs.Limits.{most_log_bytes};
-ghost use Rattle.cc_defs.specs.LogBytes.{IsSpelled, binary_header};
-ghost use Rattle.cc_defs.specs.LogTexts.{header};
+ghost use Rattle.cc_defs.specs.Logs.{SectionText};
 ghost use Rattle.cc_check.specs.declared.fault.CheckFault.TheVariants as faults;
-ghost use Rattle.cc_check.specs.Parts.{AreSectionsBehind, AreSectionsFrom, AreSectionsOf, IsCut, IsInside, IsPart, IsRefusal, IsRefusalBehind, IsSecond, IsSecondAt, parts_view};
+ghost use Rattle.cc_check.specs.Parts.{AreSectionsBehind, AreSectionsOf, IsCut, IsInside, IsRefusal, IsRefusalBehind, IsSecond, IsSecondAt};
+ghost use Rattle.cc_check.specs.SectionTexts.{AreAhead, IsAheadBehind, length_ahead};
 
 use crate::CheckFault;
 use crate::entry::{heading_in, read_entry};
@@ -23,16 +21,6 @@ const HEADER: &[u8] = b"ccalc log 1\n";
 
 // The first bytes of a log of version 2.
 const BINARY_HEADER: &[u8] = b"ccalclg2";
-
-// A section of a log, in the list of them.
-#[derive(Clone, Copy)]
-struct Part<'b> {
-    version: Version,
-    conditions: bool,
-    horizon: u32,
-    line: u32,
-    bytes: &'b [u8],
-}
 
 // The lines of a section, how many they are, and the heading that follows, with what stands behind it.
 #[derive(Clone, Copy)]
@@ -220,42 +208,6 @@ fn inside_of<'b>(
     })
 }
 
-// The sections of a log whose first heading, on line 2, was read, and what stands behind it.
-fn parts_of<'b>(
-    alloc: Global,
-    version: Version,
-    first: Heading,
-    behind: &'b [u8],
-    room: &mut Room,
-) -> Result<Vec<Part<'b>>, OutOfMemory>
-    requires { length behind.now ≤ 268435448 }
-    ensures sections { IfOk result (λ parts. (text : List ℕ) →
-        IsSpelled version text (lines.Section first.conditions first.horizon) →
-        AreSectionsFrom version text behind.now (parts_view parts.items)) }
-    ensures parts { IfOk result (λ parts. AllByRecursion IsPart parts.items) }
-{
-    let mut parts = Vec::new(alloc);
-    let mut heading = first;
-    let mut line = 2;
-    let mut rest = behind;
-    'sections: loop {
-        let inside = inside_of(version, rest, room)?;
-        parts.push(Part {
-            version,
-            conditions: heading.conditions,
-            horizon: heading.horizon,
-            line,
-            bytes: inside.bytes,
-        })?;
-        let Some((next, others)) = inside.next else {
-            return Ok(parts);
-        };
-        heading = next;
-        line = line + 1 + inside.count;
-        rest = others;
-    }
-}
-
 // What is wrong with a text of version 1 that stands where a heading has to.
 pub(crate) fn second_cause(alloc: Global, text: &[u8]) -> Result<Cause, OutOfMemory>
     ensures { IfOk result (λ cause. IsSecond text.now cause) }
@@ -279,16 +231,36 @@ fn second_cause_at(version: Version, body: &[u8], room: &mut Room) -> Result<Cau
     }
 }
 
+/// The sections of a log, read one after another: the heading that comes next is read, with the number of its line and what
+/// stands behind it. It takes no memory between two sections.
+#[derive(Drop)]
+pub struct Sections<'b> {
+    alloc: Global,
+    version: Version,
+    line: u32,
+    next: Option<(Heading, &'b [u8])>,
+}
+
+impl<'b> Model for Sections<'b> {
+    ghost use Rattle.cc_check.specs.SectionTexts.{SectionsAhead};
+
+    ghost Value = { SectionsAhead };
+
+    ghost use Rattle.cc_check.specs.Parts.{ahead_view, HasFewAhead};
+
+    ghost view = { ahead_view };
+
+    ghost invariant = { HasFewAhead };
+}
+
 // The sections of the bytes behind a header.
 fn read_behind<'b>(
     alloc: Global,
     version: Version,
     body: &'b [u8],
-) -> Result<Vec<Part<'b>>, CheckFault>
+) -> Result<Sections<'b>, CheckFault>
     requires { length body.now ≤ 268435448 }
-    ensures read { IfOk result (λ parts.
-        AreSectionsBehind version body.now (parts_view parts.items)) }
-    ensures parts { IfOk result (λ parts. AllByRecursion IsPart parts.items) }
+    ensures read { IfOk result (λ sections. AreSectionsBehind version body.now sections) }
     ensures refused { IfErr result (IsRefusalBehind version body.now) }
 {
     if body.is_empty() {
@@ -300,71 +272,55 @@ fn read_behind<'b>(
         let cause = second_cause_at(version, body, &mut room)?;
         return Err(refused(2, cause));
     };
-    match parts_of(alloc, version, heading, behind, &mut room) {
-        Ok(parts) => Ok(parts),
-        Err(_) => Err(CheckFault::OutOfMemory),
-    }
-}
-
-/// The sections of a log.
-#[derive(Drop)]
-pub struct Sections<'b> {
-    parts: Vec<Part<'b>>,
-}
-
-impl<'b> Model for Sections<'b> {
-    ghost use Rattle.std.specs.Prelude.{List};
-    ghost use Rattle.cc_check.specs.SectionTexts.{SectionBytes};
-
-    ghost Value = { List SectionBytes };
-
-    ghost use Rattle.cc_check.specs.Parts.{sections_view, AreParts};
-
-    ghost view = { sections_view };
-
-    ghost invariant = { AreParts };
+    Ok(Sections {
+        alloc,
+        version,
+        line: 2,
+        next: Some((heading, behind)),
+    })
 }
 
 impl<'b> Sections<'b> {
-    /// Reads the header of a log, which tells its version, and splits the log at its headings; a section is a part of the bytes.
-    /// Refuses a log without its header, or without a heading on its second line. In version 2 what begins with no entry is one
-    /// line, to the end.
+    /// Reads the header of a log, which tells its version, and its first heading. Refuses a log without its header, or without a
+    /// heading on its second line. In version 2 what begins with no entry is one line, to the end.
     pub fn read(alloc: Global, bytes: &'b [u8]) -> Result<Sections<'b>, CheckFault>
         requires { length bytes.now ≤ most_log_bytes }
         ensures read { IfOk result (λ sections. AreSectionsOf bytes.now sections) }
         ensures refused { IfErr result (IsRefusal bytes.now) }
     {
         if let Some(body) = bytes.strip_prefix(BINARY_HEADER) {
-            let parts = read_behind(alloc, Version::Second, body)?;
-            return Ok(Sections { parts });
+            return read_behind(alloc, Version::Second, body);
         }
         let Some(body) = bytes.strip_prefix(HEADER) else {
             return Err(refused(1, Cause::Header));
         };
-        let parts = read_behind(alloc, Version::First, body)?;
-        Ok(Sections { parts })
+        read_behind(alloc, Version::First, body)
     }
 
-    /// How many sections there are.
-    pub fn count(&self) -> usize
-        ensures { result ≡ length self.now }
+    /// Reads the section that comes next, up to the heading behind it; a section is a part of the bytes. Nothing: none is left.
+    /// Where memory is wanting, it comes next still.
+    pub fn next(&mut self) -> Result<Option<Section<'b>>, OutOfMemory>
+        ensures next { (all : List SectionText) → AreAhead self.old all →
+            IfOk result (λ section. IsAheadBehind all section self.new) }
+        ensures shorter { IfOk result (λ section.
+            IfSome section (λ _. length_ahead self.new < length_ahead self.old)) }
+        ensures kept { OnErr result (self.new ≡ self.old) }
     {
-        self.parts.len()
-    }
-
-    /// A section, from 0.
-    pub fn section(&self, i: usize) -> Section<'b>
-        requires { i < length self.now }
-        ensures { slice_get self.now i ≡ Some result }
-    {
-        let part = self.parts[i];
-        Section {
-            version: part.version,
-            conditions: part.conditions,
-            horizon: part.horizon,
-            line: part.line,
-            bytes: part.bytes,
-        }
+        let Some((heading, behind)) = self.next else {
+            return Ok(None);
+        };
+        let mut room = Room::new(self.alloc);
+        let inside = inside_of(self.version, behind, &mut room)?;
+        let section = Section {
+            version: self.version,
+            conditions: heading.conditions,
+            horizon: heading.horizon,
+            line: self.line,
+            bytes: inside.bytes,
+        };
+        self.line = self.line + 1 + inside.count;
+        self.next = inside.next;
+        Ok(Some(section))
     }
 }
 

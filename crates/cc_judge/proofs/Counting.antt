@@ -1,6 +1,6 @@
 -- How many lines and blocks there are: no more than bytes.
-use Rattle.std.proofs.Common.{◌≡◌, ◌≢◌, ◌∙◌, ℕ, ◌+◌, ◌<◌, ◌≤◌, ◌⊎◌, Bool, true, false, inl, inr, zero, suc, List, [], ◌∷◌, ◌++◌, length, drop, slice_get, Some, refl, sym, subst, ap, arith, length-append}
-use Rattle.std.specs.Prelude.{◌==◌, if◌then◌else◌, Contains}
+use Rattle.std.proofs.Common.{◌≡◌, ◌≢◌, ℕ, ◌+◌, ◌<◌, ◌≤◌, ◌⊎◌, Bool, true, false, inl, inr, suc, List, [], ◌∷◌, ◌++◌, length, refl, sym, subst, ap, arith, length-append}
+use Rattle.std.specs.Prelude.{◌==◌, if◌then◌else◌}
 use Rattle.cc_check.specs.declared.judge.Finding.{Finding as Found}
 use Rattle.cc_check.specs.declared.judge.Finding.TheVariants as findings
 use Rattle.cc_check.specs.Clauses.{plain_finding, reading_as}
@@ -234,18 +234,3 @@ left_behind section sections blocked more left less =
       most = omega arith;
       few = omega arith;
     }
-
--- ---- a list from an index on
-
-pub from_index : {A : Type 0} (xs : List A) (i : ℕ) (x : A) → slice_get xs i ≡ Some x → drop i xs ≡ x ∷ drop (i + 1) xs
-from_index [] i x is = absurd cc
-from_index (y ∷ xs) zero x is = let same : y ≡ x = cc in ap (λ z. z ∷ xs) same
-from_index (y ∷ xs) (suc i) x is = from_index xs i x is ∙ ap (λ (n : ℕ). x ∷ drop n (y ∷ xs)) (add_one i)
-  where
-    add_one : (n : ℕ) → suc (n + 1) ≡ suc n + 1
-    add_one n = omega arith
-
-pub is_there : {A : Type 0} (xs : List A) (i : ℕ) (x : A) → slice_get xs i ≡ Some x → Contains xs x
-is_there [] i x is = absurd cc
-is_there (y ∷ xs) zero x is = let same : y ≡ x = cc in (zero, omega arith, same)
-is_there (y ∷ xs) (suc i) x is = let (k, within, at) = is_there xs i x is in (suc k, omega arith, at)

@@ -1,7 +1,6 @@
 -- The sections of a log one after another.
-use Rattle.std.proofs.Common.{◌≡◌, ◌∙◌, ℕ, ◌+◌, ◌-◌, ◌<◌, ◌≤◌, inl, inr, List, [], ◌∷◌, length, drop, slice_get, Option, Some, Result, Ok, Err, subst, arith}
+use Rattle.std.proofs.Common.{◌≡◌, ◌∙◌, ℕ, ◌-◌, ◌<◌, ◌≤◌, inl, inr, false, suc, List, [], ◌∷◌, Option, Some, None, Result, Ok, Err, refl, sym, subst, arith}
 use Rattle.std.specs.Prelude.{Contains, IfErr, IfOk}
-use Rattle.std.proofs.lemmas.List.{drop_all}
 use Rattle.cc_clauses.specs.RowsOf.{IsRowOf}
 use Rattle.cc_defs.specs.declared.lists.Key.{Key}
 use Rattle.cc_defs.specs.declared.log.Cause.{Cause}
@@ -15,15 +14,14 @@ use Rattle.cc_defs.specs.Logs.{SectionText, Standing, IsVerdict, at_first}
 use Rattle.cc_defs.specs.Resolved.{Query}
 use Rattle.cc_defs.specs.Sections.{Axioms}
 use Rattle.cc_check.specs.Laws.{SectionsGiveVerdicts}
-use Rattle.cc_check.specs.SectionTexts.{SectionBytes, AreTextsOf, IsTextOf}
+use Rattle.cc_check.specs.SectionTexts.{SectionBytes, SectionsAhead, AreAhead, IsAheadBehind, IsTextOf}
 use Rattle.cc_check.specs.Splits.{Parts, IsSplit}
 use Rattle.cc_judge.specs.declared.standing.Next.TheVariants as nexts
 use Rattle.cc_judge.specs.declared.standing.Standing.{Standing as Held}
 use Rattle.cc_judge.specs.Judging.{AreJudgedWithin, BlocksHistories, IsBlockedIn, IsJudgeFault, IsVerdictWithin, ReachesLimit}
 use Rattle.cc_judge.specs.Single.{BlocksAll}
 use Rattle.cc_judge.specs.Standings.{Scope, AreAllDenied, AreFew, AreFewIn, IsClosedAt, IsDeniedIn, IsEarly, IsEarlyIn, IsFaultOn, IsForward, IsJudgedTo, IsPassed, IsSectionFault, IsVerdictOn, scope_of, scope_over, seen}
-use Rattle.cc_judge.proofs.Counting.{AreLeft, early, from_index, has_sections, is_there, left_behind}
-use Rattle.cc_judge.proofs.Spelling.{as_many, text_at}
+use Rattle.cc_judge.proofs.Counting.{AreLeft, early, has_sections, left_behind}
 use Rattle.cc_judge.proofs.Within.{judged_of_within}
 
 -- What is found of the sections that are left is found of all, and each row of a horizon that is done with is blocked.
@@ -76,87 +74,134 @@ module _ (scope : Scope) (sections : List SectionText) where
 
 -- ---- the loop, over all that a call may be for, text by text
 
-pub record SoFarOf (I : Type 0) (scope : I → Scope) (start : ℕ) (sections : List SectionText) (index : ℕ) (held : Held) : Type 0 where
-  pub left : AreLeft (drop index sections) held.blocked
+pub record SoFarOf (I : Type 0) (scope : I → Scope) (start : ℕ) (sections left : List SectionText) (held : Held) : Type 0 where
+  pub few : AreLeft left held.blocked
   pub first : start ≤ held.horizon
-  pub passed : (i : I) → ArePassed (scope i) sections (seen held) (drop index sections)
+  pub there : (section : SectionText) → Contains left section → Contains sections section
+  pub passed : (i : I) → ArePassed (scope i) sections (seen held) left
+
+contains_first : (x : SectionText) (xs : List SectionText) → Contains (x ∷ xs) x
+contains_first x xs = (0, omega arith, refl)
+
+contains_more : (x y : SectionText) (xs : List SectionText) → Contains xs y → Contains (x ∷ xs) y
+contains_more x y xs (k, within, at) = (suc k, omega arith, at)
 
 module _ (I : Type 0) (scope : I → Scope) (start : ℕ) (sections : List SectionText) where
-  module _ (index : ℕ) (held : Held) (so_far : SoFarOf I scope start sections index held) (section : SectionText) (is : slice_get sections index ≡ Some section) where
-    abbrev left : List SectionText
-    left = drop (index + 1) sections
-
+  module _ (held : Held) (section : SectionText) (left : List SectionText) (so_far : SoFarOf I scope start sections (section ∷ left) held) where
     early_of : IsEarly held.blocked section
-    early_of = early section left held.blocked (subst (λ (l : List SectionText). AreLeft l held.blocked) (from_index sections index section is) so_far.left)
-
-    passed_here : (i : I) → ArePassed (scope i) sections (seen held) (section ∷ left)
-    passed_here i = subst (λ (l : List SectionText). ArePassed (scope i) sections (seen held) l) (from_index sections index section is) (so_far.passed i)
+    early_of = early section left held.blocked so_far.few
 
     went_on_of : (next : Held) → IsForward (seen held) section (nexts.Goes next) → ((i : I) → IsJudgedTo (scope i) (seen held) section (nexts.Goes next)) →
-        SoFarOf I scope start sections (index + 1) next
+        SoFarOf I scope start sections left next
     went_on_of next goes judged =
         let higher = goes.0 in let low = so_far.first in
         record {
-          left = left_behind section left held.blocked next.blocked (subst (λ (l : List SectionText). AreLeft l held.blocked) (from_index sections index section is) so_far.left) goes.1;
+          few = left_behind section left held.blocked next.blocked so_far.few goes.1;
           first = omega arith;
-          passed = λ i. passed_more (scope i) sections (seen held) (seen next) section left (is_there sections index section is) (passed_here i) (judged i);
+          there = λ other is. so_far.there other (contains_more section other left is);
+          passed = λ i. passed_more (scope i) sections (seen held) (seen next) section left (so_far.there section (contains_first section left)) (so_far.passed i) (judged i);
         }
 
     went_wrong_of : (line : ℕ) (reason : Cause) (i : I) → IsJudgedTo (scope i) (seen held) section (nexts.Wrong line reason) → IsVerdictOn (scope i) sections (verdicts.Refused line reason)
-    went_wrong_of line reason i wrong = passed_wrong (scope i) sections (seen held) section left line reason (passed_here i) wrong
+    went_wrong_of line reason i wrong = passed_wrong (scope i) sections (seen held) section left line reason (so_far.passed i) wrong
 
     went_past_of : (fault : Fault) (i : I) → IsSectionFault (scope i) (seen held) section fault → IsFaultOn (scope i) sections fault
-    went_past_of fault i is_fault = passed_fault (scope i) sections (seen held) section left fault (passed_here i) is_fault
+    went_past_of fault i is_fault = passed_fault (scope i) sections (seen held) section left fault (so_far.passed i) is_fault
 
-  came_to_end_of : (index : ℕ) (held : Held) → SoFarOf I scope start sections index held → length sections ≤ index → (verdict : LogVerdict) →
-      IsClosedAt start (seen held) verdict → (i : I) → start ≡ (scope i).subject.first → IsVerdictOn (scope i) sections verdict
-  came_to_end_of index held so_far most verdict closed i starts =
-      passed_all (scope i) sections (seen held) start verdict starts so_far.first
-      (subst (λ (l : List SectionText). ArePassed (scope i) sections (seen held) l) (drop_all index sections most) (so_far.passed i)) closed
+-- ---- the same by what is ahead in the bytes
 
--- ---- the same by the bytes of the sections
-
--- It is so, whatever texts they are.
-pub record SoFar (I : Type 0) (scope : I → Scope) (start : ℕ) (sections : List SectionBytes) (index : ℕ) (held : Held) : Type 0 where
+-- It is so of all sections that were ahead at first.
+pub record SoFar (I : Type 0) (scope : I → Scope) (start : ℕ) (begun ahead : SectionsAhead) (held : Held) : Type 0 where
   pub first : start ≤ held.horizon
-  pub passed : (all : List SectionText) → AreTextsOf sections all → AreFew all → SoFarOf I scope start all index held
+  pub passed : (all : List SectionText) → AreAhead begun all → AreFew all → (left : List SectionText) × AreAhead ahead left × SoFarOf I scope start all left held
 
-module _ (I : Type 0) (scope : I → Scope) (start : ℕ) (sections : List SectionBytes) where
-  module _ (index : ℕ) (held : Held) (so_far : SoFar I scope start sections index held) (section : SectionBytes) (is : slice_get sections index ≡ Some section) where
-    pub section_early : AreFewIn sections → IsEarlyIn held.blocked section
-    section_early (all, are, few) =
-        let (text, there, text_is) = text_at sections all are index section is in
-        (text, text_is, early_of I scope start all index held (so_far.passed all are few) text there)
+module _ (I : Type 0) (scope : I → Scope) (start : ℕ) (begun : SectionsAhead) where
+  module _ (ahead : SectionsAhead) (held : Held) (so_far : SoFar I scope start begun ahead held) where
+    module _ (section : SectionBytes) (behind : SectionsAhead)
+        (next_is : (all : List SectionText) → AreAhead ahead all → IsAheadBehind all (Some section) behind) where
+      -- the text of the section, and what is left behind it
+      record Here (all : List SectionText) : Type 0 where
+        pub text : SectionText
+        pub others : List SectionText
+        pub is : IsTextOf section text
+        pub behind_are : AreAhead behind others
+        pub so_far_of : SoFarOf I scope start all (text ∷ others) held
 
-    pub went_on : AreFewIn sections → (next : Held) →
-        ((text : SectionText) → IsTextOf section text → IsEarly held.blocked text → IsForward (seen held) text (nexts.Goes next)) →
-        ((i : I) (text : SectionText) → IsTextOf section text → IsJudgedTo (scope i) (seen held) text (nexts.Goes next)) → SoFar I scope start sections (index + 1) next
-    went_on (some, some_are, some_few) next goes judged =
-        let passed : (all : List SectionText) → AreTextsOf sections all → AreFew all → SoFarOf I scope start all (index + 1) next =
-        λ all are few. (let (text, there, text_is) = text_at sections all are index section is in
-        let here = so_far.passed all are few in
-        went_on_of I scope start all index held here text there next
-        (goes text text_is (early_of I scope start all index held here text there))
-        (λ i. judged i text text_is)) in
-        record { first = (passed some some_are some_few).first; passed = passed }
+      here : (all : List SectionText) → AreAhead begun all → AreFew all → Here all
+      here all are few =
+          let (left, ahead_are, so) = so_far.passed all are few in
+          let (text, others, same, is, behind_are) = next_is left ahead_are in
+          record { text = text; others = others; is = is; behind_are = behind_are; so_far_of = subst (λ (l : List SectionText). SoFarOf I scope start all l held) same so }
 
-    module _ (i : I) (all : List SectionText) (are : AreTextsOf sections all) (few : AreFew all) where
-      pub went_wrong : (line : ℕ) (reason : Cause) → ((text : SectionText) → IsTextOf section text → IsJudgedTo (scope i) (seen held) text (nexts.Wrong line reason)) →
-          IsVerdictOn (scope i) all (verdicts.Refused line reason)
-      went_wrong line reason wrong =
-          let (text, there, text_is) = text_at sections all are index section is in
-          went_wrong_of I scope start all index held (so_far.passed all are few) text there line reason i (wrong text text_is)
+      pub section_early : AreFewIn begun → IsEarlyIn held.blocked section
+      section_early (all, are, few) =
+          let h = here all are few in
+          (h.text, h.is, early_of I scope start all held h.text h.others h.so_far_of)
 
-      pub went_past : (fault : Fault) → ((text : SectionText) → IsTextOf section text → IsSectionFault (scope i) (seen held) text fault) → IsFaultOn (scope i) all fault
-      went_past fault is_fault =
-          let (text, there, text_is) = text_at sections all are index section is in
-          went_past_of I scope start all index held (so_far.passed all are few) text there fault i (is_fault text text_is)
+      pub went_on : AreFewIn begun → (next : Held) →
+          ((text : SectionText) → IsTextOf section text → IsEarly held.blocked text → IsForward (seen held) text (nexts.Goes next)) →
+          ((i : I) (text : SectionText) → IsTextOf section text → IsJudgedTo (scope i) (seen held) text (nexts.Goes next)) → SoFar I scope start begun behind next
+      went_on (some, some_are, some_few) next goes judged =
+          let passed : (all : List SectionText) → AreAhead begun all → AreFew all → (left : List SectionText) × AreAhead behind left × SoFarOf I scope start all left next =
+          λ all are few. (let h = here all are few in (
+            h.others,
+            h.behind_are,
+            went_on_of I scope start all held h.text h.others h.so_far_of next
+                (goes h.text h.is (early_of I scope start all held h.text h.others h.so_far_of)) (λ i. judged i h.text h.is),
+          )) in
+          let (left, left_are, so) = passed some some_are some_few in
+          record { first = so.first; passed = passed }
 
-  pub came_to_end : (index : ℕ) (held : Held) → SoFar I scope start sections index held → length sections ≤ index → (verdict : LogVerdict) →
-      IsClosedAt start (seen held) verdict → (i : I) → start ≡ (scope i).subject.first → (all : List SectionText) → AreTextsOf sections all → AreFew all → IsVerdictOn (scope i) all verdict
-  came_to_end index held so_far most verdict closed i starts all are few =
-      let many = as_many sections all are in
-      came_to_end_of I scope start all index held (so_far.passed all are few) (omega arith) verdict closed i starts
+      module _ (i : I) (all : List SectionText) (are : AreAhead begun all) (few : AreFew all) where
+        pub went_wrong : (line : ℕ) (reason : Cause) → ((text : SectionText) → IsTextOf section text → IsJudgedTo (scope i) (seen held) text (nexts.Wrong line reason)) →
+            IsVerdictOn (scope i) all (verdicts.Refused line reason)
+        went_wrong line reason wrong =
+            let h = here all are few in
+            went_wrong_of I scope start all held h.text h.others h.so_far_of line reason i (wrong h.text h.is)
+
+        pub went_past : (fault : Fault) → ((text : SectionText) → IsTextOf section text → IsSectionFault (scope i) (seen held) text fault) → IsFaultOn (scope i) all fault
+        went_past fault is_fault =
+            let h = here all are few in
+            went_past_of I scope start all held h.text h.others h.so_far_of fault i (is_fault h.text h.is)
+
+    pub came_to_end : (behind : SectionsAhead) → ((all : List SectionText) → AreAhead ahead all → IsAheadBehind all None behind) → (verdict : LogVerdict) →
+        IsClosedAt start (seen held) verdict → (i : I) → start ≡ (scope i).subject.first → (all : List SectionText) → AreAhead begun all → AreFew all →
+        IsVerdictOn (scope i) all verdict
+    came_to_end behind none verdict closed i starts all are few =
+        let (left, ahead_are, so) = so_far.passed all are few in
+        passed_all (scope i) all (seen held) start verdict starts so.first
+        (subst (λ (l : List SectionText). ArePassed (scope i) all (seen held) l) (none left ahead_are) (so.passed i)) closed
+
+-- where a log begins, by its first horizon
+abbrev pub begun_at : ℕ → Standing
+begun_at first = record { middle = false; horizon = first; blocked = 0; line = 2 }
+
+-- nothing is passed there
+pub begun_so : (I : Type 0) (scope : I → Scope) (start : ℕ) (begun : SectionsAhead) (held : Held) → start ≤ held.horizon → held.blocked ≤ 2 →
+    ((i : I) → seen held ≡ at_first (scope i).subject) → SoFar I scope start begun begun held
+begun_so I scope start begun held low few starts = record {
+  first = low;
+  passed = λ all are all_few. (
+    all,
+    are,
+    record {
+      few = few_left all all_few;
+      first = low;
+      there = λ section is. is;
+      passed = λ i. subst (λ (s : Standing). ArePassed (scope i) all s all) (sym (starts i)) (none_passed (scope i) all);
+    },
+  );
+}
+  where
+    few_left : (all : List SectionText) → AreFew all → AreLeft all held.blocked
+    few_left all (version, texts, are, most) = record { version = version; line = 2; texts = texts; are = are; most = omega arith; few = few }
+
+    none_passed : (one : Scope) (all : List SectionText) → ArePassed one all (at_first one.subject) all
+    none_passed one all = record {
+      within = λ verdict h. h;
+      limited = λ refusal h. h;
+      denied = λ horizon row low_one high is. absurd (omega arith);
+    }
 
 -- ---- the whole log
 

@@ -2,7 +2,7 @@
 use Rattle.std.specs.Prelude.{◌≡◌, ◌≢◌, ℕ, ◌+◌, ◌-◌, ◌<◌, ◌≤◌, ◌⊎◌, Bool, true, false, not, ◌&&◌, List, ◌∷◌, length, Option, None, option_map, is_some, Contains}
 use Rattle.cc_check.specs.declared.judge.Finding.{Finding as Found}
 use Rattle.cc_check.specs.declared.judge.Finding.TheVariants as findings
-use Rattle.cc_check.specs.SectionTexts.{SectionBytes, AreTextsOf, IsTextOf}
+use Rattle.cc_check.specs.SectionTexts.{SectionBytes, SectionsAhead, AreAhead, IsTextOf}
 use Rattle.cc_defs.specs.declared.lists.Key.{Key}
 use Rattle.cc_defs.specs.declared.log.Cause.{Cause}
 use Rattle.cc_defs.specs.declared.log.Cause.TheVariants as causes
@@ -154,9 +154,9 @@ IsForward standing section (nexts.Wrong line reason) = Unit {0}
 abbrev pub AreFew : List SectionText → Type 0
 AreFew sections = (version : Version) × (texts : List (List ℕ)) × AreSections version 2 texts sections × (length texts ≤ most_log_bytes)
 
--- they stand for few sections, as these are by their bytes
-abbrev pub AreFewIn : List SectionBytes → Type 0
-AreFewIn sections = (texts : List SectionText) × AreTextsOf sections texts × AreFew texts
+-- few sections are ahead
+abbrev pub AreFewIn : SectionsAhead → Type 0
+AreFewIn ahead = (sections : List SectionText) × AreAhead ahead sections × AreFew sections
 
 -- one of them blocks a row of a horizon
 abbrev pub IsDeniedIn : List SectionText → ℕ → List ℕ → Type 0

@@ -4,7 +4,7 @@ ghost use Rattle.cc_arena.specs.GroundViews.{plain_ground_query};
 ghost use Rattle.cc_defs.specs.Description.{Description};
 ghost use Rattle.cc_defs.specs.GroundLaws.{StandsForQuery};
 ghost use Rattle.cc_defs.specs.Limits.{most_log_bytes, most_steps};
-ghost use Rattle.cc_check.specs.SectionTexts.{AreTextsOf, IsTextOf};
+ghost use Rattle.cc_check.specs.SectionTexts.{AreAhead, IsTextOf};
 ghost use Rattle.cc_defs.specs.Logs.{IsVerdict, SectionText};
 ghost use Rattle.cc_defs.specs.Resolved.{Query};
 ghost use Rattle.cc_form.specs.Queries.{IsQueryAt};
@@ -81,21 +81,21 @@ fn judge_sections(
     laws: &Laws<'_>,
     query: &GroundQuery<'_>,
     after: Option<&Key>,
-    sections: &Sections<'_>,
+    sections: &mut Sections<'_>,
 ) -> Result<LogVerdict, Fault>
     requires laws { AreLawsFor sig.now laws.now }
     requires most { query.now.hi ≤ most_steps }
     requires steps { (horizon : ℕ) → query.now.lo ≤ horizon →
         horizon ≤ query.now.hi → IsQueryAt sig.now horizon (plain_ground_query query.now) }
     requires key { IfSome after (λ key. Fits sig.now (plain_ground_query query.now) key.now) }
-    requires few { AreFewIn sections.now }
+    requires few { AreFewIn sections.old }
     ensures judged { (d : Description) (q : Query) →
         AreLawsOf sig.now laws.now d → StandsForQuery (plain_ground_query query.now) d q →
-        (all : List SectionText) → AreTextsOf sections.now all → AreFew all →
+        (all : List SectionText) → AreAhead sections.old all → AreFew all →
         IfOk result (IsVerdictOn (scope_of d q (option_map (λ key. key.now) after.entry)) all) }
     ensures refused { (d : Description) (q : Query) →
         AreLawsOf sig.now laws.now d → StandsForQuery (plain_ground_query query.now) d q →
-        (all : List SectionText) → AreTextsOf sections.now all → AreFew all →
+        (all : List SectionText) → AreAhead sections.old all → AreFew all →
         IfErr result (IsFaultOn (scope_of d q (option_map (λ key. key.now) after.entry)) all) }
 {
     let first = first_of(query, after);
@@ -105,8 +105,7 @@ fn judge_sections(
         blocked: 0,
         line: 2,
     };
-    for i in 0..sections.count() {
-        let section = sections.section(i);
+    while let Some(section) = sections.next()? {
         match judge_section(alloc, sig, laws, query, after, &standing, &section)? {
             Next::Goes(next) => standing = next,
             Next::Wrong { line, cause } => return Ok(LogVerdict::Refused { line, cause }),
@@ -151,10 +150,10 @@ pub fn judge(
 {
     misreads_are_verdicts();
     sections_give_verdicts();
-    let sections = match Sections::read(alloc, bytes) {
+    let mut sections = match Sections::read(alloc, bytes) {
         Ok(sections) => sections,
         Err(CheckFault::Refused { line, cause }) => return Ok(LogVerdict::Refused { line, cause }),
         Err(CheckFault::OutOfMemory) => return Err(Fault::OutOfMemory),
     };
-    judge_sections(alloc, sig, laws, query, after, &sections)
+    judge_sections(alloc, sig, laws, query, after, &mut sections)
 }

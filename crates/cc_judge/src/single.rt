@@ -1,6 +1,6 @@
 //! What a checker says of a log of one section.
 ghost use Rattle.std.specs.Prelude.{◌↔◌, ◌≤◌, List, IfOk, IsTrue, length};
-ghost use Rattle.cc_check.specs.SectionTexts.{AreTextsOf, IsTextOf};
+ghost use Rattle.cc_check.specs.SectionTexts.{AreAhead, IsTextOf};
 ghost use Rattle.cc_clauses.specs.RowsOf.{IsRowOf};
 ghost use Rattle.cc_defs.specs.Limits.{most_log_bytes};
 ghost use Rattle.cc_defs.specs.Logs.{IsVerdict, SectionText};
@@ -53,10 +53,10 @@ fn judge_only(
 fn judge_each(
     alloc: Global,
     form: &Form,
-    sections: &Sections<'_>,
+    sections: &mut Sections<'_>,
 ) -> Result<LogVerdict, OutOfMemory>
-    requires { AreFewIn sections.now }
-    ensures { (all : List SectionText) → AreTextsOf sections.now all → AreFew all →
+    requires { AreFewIn sections.old }
+    ensures { (all : List SectionText) → AreAhead sections.old all → AreFew all →
         IfOk result (IsVerdictOn (scope_over form.now) all) }
 {
     let mut standing = Standing {
@@ -65,8 +65,7 @@ fn judge_each(
         blocked: 0,
         line: 2,
     };
-    for i in 0..sections.count() {
-        let section = sections.section(i);
+    while let Some(section) = sections.next()? {
         match judge_only(alloc, form, &standing, &section)? {
             Next::Goes(next) => standing = next,
             Next::Wrong { line, cause } => return Ok(LogVerdict::Refused { line, cause }),
@@ -85,10 +84,10 @@ pub fn judge_over(alloc: Global, form: &Form, bytes: &[u8]) -> Result<LogVerdict
 {
     misreads_are_verdicts();
     sections_give_verdicts();
-    let sections = match Sections::read(alloc, bytes) {
+    let mut sections = match Sections::read(alloc, bytes) {
         Ok(sections) => sections,
         Err(CheckFault::Refused { line, cause }) => return Ok(LogVerdict::Refused { line, cause }),
         Err(CheckFault::OutOfMemory) => return Err(OutOfMemory),
     };
-    judge_each(alloc, form, &sections)
+    judge_each(alloc, form, &mut sections)
 }
