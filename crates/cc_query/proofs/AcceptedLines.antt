@@ -1,5 +1,5 @@
 -- The text of a log is read line by line, and no line within a section is a heading.
-use Rattle.std.proofs.Common.{◌≡◌, ◌∙◌, ℕ, ◌+◌, ◌<◌, ◌≤◌, ◌%◌, Bool, true, false, eqb, List, [], ◌∷◌, ◌++◌, map, flat_map, get_or, decimal, codes, refl, sym, ap, arith, append_assoc}
+use Rattle.std.proofs.Common.{◌≡◌, ◌∙◌, ℕ, ◌+◌, ◌<◌, ◌≤◌, ◌%◌, Bool, true, false, eqb, List, [], ◌∷◌, ◌++◌, map, flat_map, get_or, decimal, codes, refl, sym, ap, arith, append_assoc, append-nil}
 use Rattle.std.specs.List.{AllByRecursion, join_with_byte}
 use Rattle.std.proofs.lemmas.Bool.Decides.{nat_tests}
 use Rattle.std.proofs.lemmas.Fmt.{decimal_by_steps}
@@ -25,22 +25,22 @@ pub all_behind : {A : Type 0} (P : A → Type 0) (xs ys : List A) → AllByRecur
 all_behind P [] ys all = all
 all_behind P (x ∷ xs) ys all = all_behind P xs ys all.1
 
-all_map : {A B : Type 0} (P : B → Type 0) (Q : A → Type 0) (f : A → B) → ((x : A) → Q x → P (f x)) → (xs : List A) → AllByRecursion Q xs → AllByRecursion P (map f xs)
+pub all_map : {A B : Type 0} (P : B → Type 0) (Q : A → Type 0) (f : A → B) → ((x : A) → Q x → P (f x)) → (xs : List A) → AllByRecursion Q xs → AllByRecursion P (map f xs)
 all_map P Q f each [] all = tt
 all_map P Q f each (x ∷ xs) all = (each x all.0, all_map P Q f each xs all.1)
 
 -- ---- texts with no line feed
 
-abbrev IsNoFeed : ℕ → Type 0
+abbrev pub IsNoFeed : ℕ → Type 0
 IsNoFeed byte = eqb byte 10 ≡ false
 
-abbrev HasNoFeed : List ℕ → Type 0
+abbrev pub HasNoFeed : List ℕ → Type 0
 HasNoFeed text = AllByRecursion IsNoFeed text
 
 digit_is_no_feed : (n : ℕ) → n < 10 → IsNoFeed (48 + n)
 digit_is_no_feed n below = grind (arith, nat_tests)
 
-digits : (n : ℕ) → IsShort n → HasNoFeed (decimal n)
+pub digits : (n : ℕ) → IsShort n → HasNoFeed (decimal n)
 digits n short =
     decimal_by_steps (λ (m : ℕ) (text : List ℕ). HasNoFeed text) (λ m below. (digit_is_no_feed m below, tt))
     (λ m text large front. all_append IsNoFeed text ((48 + m % 10) ∷ []) front (digit_is_no_feed (m % 10) (omega arith), tt)) n (omega arith)
@@ -73,24 +73,28 @@ parts_have_none (lines.End words.Spent) formed = ((refl, tt), ((refl, (refl, (re
 
 -- ---- the lines of a text
 
-cut : (text rest : List ℕ) → HasNoFeed text → lines_in (text ++ (10 ∷ rest)) ≡ (text ++ 10 ∷ []) ∷ lines_in rest
+pub cut : (text rest : List ℕ) → HasNoFeed text → lines_in (text ++ (10 ∷ rest)) ≡ (text ++ 10 ∷ []) ∷ lines_in rest
 cut [] rest none = refl
 cut (byte ∷ text) rest none = let other : eqb byte 10 ≡ false = none.0 in rw (other, cut text rest none.1) refl
 
-line_cut : (line : LogLine) (rest : List ℕ) → IsFormed line → lines_in (line_text line ++ rest) ≡ line_text line ∷ lines_in rest
+pub line_cut : (line : LogLine) (rest : List ℕ) → IsFormed line → lines_in (line_text line ++ rest) ≡ line_text line ∷ lines_in rest
 line_cut line rest formed =
     ap lines_in (append_assoc (join_with_byte 32 (line_parts line)) (10 ∷ []) rest)
     ∙ cut (join_with_byte 32 (line_parts line)) rest (joined (line_parts line) (parts_have_none line formed))
 
-lines_cut : (all : List LogLine) → AllByRecursion IsFormed all → lines_in (flat_map line_text all) ≡ map line_text all
-lines_cut [] formed = refl
-lines_cut (line ∷ all) formed = line_cut line (flat_map line_text all) formed.0 ∙ ap (λ (texts : List (List ℕ)). line_text line ∷ texts) (lines_cut all formed.1)
+pub lines_cut : (all : List LogLine) (rest : List ℕ) → AllByRecursion IsFormed all → lines_in (flat_map line_text all ++ rest) ≡ map line_text all ++ lines_in rest
+lines_cut [] rest formed = refl
+lines_cut (line ∷ all) rest formed =
+    ap lines_in (append_assoc (line_text line) (flat_map line_text all) rest) ∙ line_cut line (flat_map line_text all ++ rest) formed.0
+    ∙ ap (λ (texts : List (List ℕ)). line_text line ∷ texts) (lines_cut all rest formed.1)
 
 header_cut : (rest : List ℕ) → lines_in (header ++ rest) ≡ header ∷ lines_in rest
 header_cut rest = refl
 
 pub log_cut : (all : List LogLine) → AllByRecursion IsFormed all → lines_in (log_text all) ≡ header ∷ map line_text all
-log_cut all formed = header_cut (flat_map line_text all) ∙ ap (λ (texts : List (List ℕ)). header ∷ texts) (lines_cut all formed)
+log_cut all formed =
+    header_cut (flat_map line_text all)
+    ∙ ap (λ (texts : List (List ℕ)). header ∷ texts) (ap lines_in (sym (append-nil (flat_map line_text all))) ∙ lines_cut all [] formed ∙ append-nil (map line_text all))
 
 differ : (m n : ℕ) → m ≡ n → m < n → ⊥
 differ m n is below = omega arith
@@ -101,7 +105,7 @@ not_binary all behind is = differ 32 108 (ap (λ (t : List ℕ). get_or t 5 0) i
 
 -- ---- first bytes
 
-abbrev letter_of : LogLine → ℕ
+abbrev pub letter_of : LogLine → ℕ
 letter_of (lines.Section true horizon) = 119
 letter_of (lines.Section false horizon) = 104
 letter_of (lines.Derived clause chain) = 100
@@ -112,7 +116,7 @@ begins : (byte : ℕ) (parts : List (List ℕ)) → get_or (join_with_byte 32 ((
 begins byte [] = refl
 begins byte (part ∷ parts) = refl
 
-letter : (line : LogLine) → get_or (line_text line) 0 0 ≡ letter_of line
+pub letter : (line : LogLine) → get_or (line_text line) 0 0 ≡ letter_of line
 letter (lines.Section true horizon) = refl
 letter (lines.Section false horizon) = refl
 letter (lines.Derived clause chain) = begins 100 (map literal_text clause ++ codes "0" ∷ (map decimal chain ++ codes "0" ∷ []))

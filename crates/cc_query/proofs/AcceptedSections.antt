@@ -96,11 +96,11 @@ denial_clause sizes row is =
 abbrev pub IsGoodClause : ℕ → List Literal → Type 0
 IsGoodClause variables clause = IsClause clause × IsOver variables clause
 
-good_resolved : (variables : ℕ) (a b : List Literal) (pivot : ℕ) (r : List Literal) → IsGoodClause variables a → IsGoodClause variables b → IsResolvent a b pivot r →
+pub good_resolved : (variables : ℕ) (a b : List Literal) (pivot : ℕ) (r : List Literal) → IsGoodClause variables a → IsGoodClause variables b → IsResolvent a b pivot r →
     IsGoodClause variables r
 good_resolved variables a b pivot r good_a good_b is = (is.clause, over_resolved variables a b pivot r good_a.1 good_b.1 is)
 
-good_both : (variables : ℕ) (clauses : List (List Literal)) → AllByRecursion IsClause clauses → AllByRecursion (IsOver variables) clauses →
+pub good_both : (variables : ℕ) (clauses : List (List Literal)) → AllByRecursion IsClause clauses → AllByRecursion (IsOver variables) clauses →
     AllByRecursion (IsGoodClause variables) clauses
 good_both variables [] all over = tt
 good_both variables (clause ∷ clauses) all over = ((all.0, over.0), good_both variables clauses all.1 over.1)

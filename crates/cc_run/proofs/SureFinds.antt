@@ -18,7 +18,7 @@ use Rattle.cc_run.specs.declared.status.Stop.TheVariants as stops
 use Rattle.cc_run.specs.Modes.Surely.{EndsSurely, sure_status}
 use Rattle.cc_run.specs.Refusing.{refusal_text}
 use Rattle.cc_run.specs.Stops.{Moment, Moves, Step, given_to}
-use Rattle.cc_run.specs.Sures.{IsSureOfSome, TellsEvent, TellsRun, TellsSure, given_of, status_behind, surely_given}
+use Rattle.cc_run.specs.Sures.{IsSureOfSome, IsWritableRun, TellsEvent, TellsRun, TellsSure, given_of, status_behind, surely_given}
 use Rattle.cc_run.specs.Wholes.{Given, joined, nothing, only_err}
 use Rattle.cc_sure.specs.declared.answer.SureEvent.{SureEvent}
 use Rattle.cc_sure.specs.declared.answer.SureEvent.TheVariants as events
@@ -26,11 +26,11 @@ use Rattle.cc_sure.specs.declared.phase.Phase.{Phase}
 use Rattle.cc_sure.specs.declared.phase.Phase.TheVariants as phases
 use Rattle.cc_sure.specs.Sought.{Sought}
 use Rattle.cc_sure.specs.SureRuns.{IsFairSure, ReachesSureLimit, SureEnding, Complete, NoneAtAll, Spent, SureRun, sought_next, sure_horizon}
-use Rattle.cc_sure.specs.Sures.{Awaits, GoesOn, HasMore, IsOver, IsSame, IsSureEvent, IsSureOf, Stands, SureView, TellsNext, left_of, nothing_told}
+use Rattle.cc_sure.specs.Sures.{Awaits, GoesOn, HasMore, IsFewEvent, IsGoodEvent, IsOver, IsSame, IsShortEvent, IsSureEvent, IsSureOf, Stands, SureView, TellsNext, left_of, nothing_told}
 use Rattle.cc_sure.specs.SureTold.{SureTold, NoneAt, ExampleIs, NeverSo, AnswersAre, Ends, sure_header, sure_log, sure_told}
 use Rattle.cc_theory.specs.Theories.{AreLawsOf}
 use Rattle.cc_run.proofs.GivenSteps.{given_all, joined-nothing, moves_none, step_again, step_as, step_done, step_nothing, step_of, step_then}
-use Rattle.cc_run.proofs.SureTexts.{ends_so, event_given, grown, told_at}
+use Rattle.cc_run.proofs.SureTexts.{ends_so, event_given, event_written, grown, more_written, told_at}
 
 -- ---- one event
 
@@ -53,8 +53,8 @@ always (Err stop) p = tt
 
 module _ (d : Description) (q : Query) (run : SureRun) (old new : SureView) (more : HasMore old) (stands : Stands d q old run) where
   pub event_told : (event : SureEvent) (horizon : ℕ) (x y : Moment) (r : Result (Option Status) Stop) → TellsNext d q new run event → IsSame old new → GoesOn new event →
-      horizon ≡ new.horizon → Step (given_of d horizon event) x y r → IfOk r (λ status. status ≡ status_behind event) → TellsEvent d q old.budget run new x y r
-  event_told event horizon x y r (after, told, is, all, next) same goes at step status = record {
+      IsShortEvent event → IsFewEvent event → IsGoodEvent d q new.horizon event → horizon ≡ new.horizon → Step (given_of d horizon event) x y r → IfOk r (λ status. status ≡ status_behind event) → TellsEvent d q old.budget run new x y r
+  event_told event horizon x y r (after, told, is, all, next) same goes short few good at step status = record {
     next = after;
     ends = status_behind event;
     more = record {
@@ -68,6 +68,8 @@ module _ (d : Description) (q : Query) (run : SureRun) (old new : SureView) (mor
     };
     ended = status_is r (status_behind event) status;
     keeps = always r (λ s none. next);
+    writes = λ written. more_written d q old.budget run after told stands.fair fair (going_on run old.phase more stands.awaits) all written
+        (event_written d q (sure_horizon q after) event told is short few (subst (λ (h : ℕ). IsGoodEvent d q h event) next.at.horizon good));
   }
     where
       fair : IsFairSure d q old.budget after
@@ -92,6 +94,7 @@ module _ (d : Description) (q : Query) (run : SureRun) (old new : SureView) (mor
     };
     ended = status_is r (Some statuses.Refused) status;
     keeps = ended_keeps r status;
+    writes = λ written. written;
   }
     where
       ended_keeps : (r : Result (Option Status) Stop) → IfOk r (λ status. status ≡ Some statuses.Refused) → IfOk r (λ status. IsNone status → Stands d q new run)
@@ -114,6 +117,7 @@ module _ (d : Description) (q : Query) (run : SureRun) (old new : SureView) (mor
     };
     ended = tt;
     keeps = tt;
+    writes = λ written. written;
   }
 
 -- behind an event that is not the last more is to come
@@ -131,11 +135,12 @@ goes_next old new (events.Spent atom lines) (Ok status) goes less is = λ none. 
 -- ---- all of them
 
 -- so far this run was told, and it goes on
-pub record ToldSoFar (d : Description) (q : Query) (before : Given) (sure : SureView) (old new : Moment) : Type 0 where
+pub record ToldSoFar (d : Description) (q : Query) (first : SureRun) (sure : SureView) (old new : Moment) : Type 0 where
   pub run : SureRun
   pub stands : Stands d q sure run
   pub given : Given
-  pub grows : joined before given ≡ surely_given d q run
+  pub grows : joined (surely_given d q first) given ≡ surely_given d q run
+  pub writes : IsWritableRun d q first → IsWritableRun d q run
   pub moves : Moves {X = Unit {0}} given old new (Ok tt)
 
 pub record IsTelling (described : Described) (start now : SureView) (old new : Moment) : Type 0 where
@@ -143,7 +148,7 @@ pub record IsTelling (described : Described) (start now : SureView) (old new : M
   pub more : HasMore now
   pub of : IsSureOfSome described now
   pub each : (d : Description) (q : Query) (run : SureRun) → IsDescriptionOf described d → IsSureOf start d q → Stands d q start run →
-      ToldSoFar d q (surely_given d q run) now old new
+      ToldSoFar d q run now old new
 
 pub telling_begins : (described : Described) (start : SureView) (m : Moment) → HasMore start → IsSureOfSome described start → IsTelling described start start m m
 telling_begins described start m more of = record {
@@ -155,6 +160,7 @@ telling_begins described start m more of = record {
     stands = stands;
     given = nothing;
     grows = joined-nothing (surely_given d q run);
+    writes = λ written. written;
     moves = moves_none m tt;
   };
 }
@@ -184,7 +190,7 @@ Tells described now next old new r = (d : Description) (q : Query) (run : SureRu
 module _ (described : Described) (start now next : SureView) (old mid new : Moment) (r : Result (Option Status) Stop) (telling : IsTelling described start now old mid)
     (tells : Tells described now next mid new r) where
   module _ (d : Description) (q : Query) (run : SureRun) (is : IsDescriptionOf described d) (sure : IsSureOf start d q) (stands : Stands d q start run) where
-    abbrev so_far : ToldSoFar d q (surely_given d q run) now old mid
+    abbrev so_far : ToldSoFar d q run now old mid
     so_far = telling.each d q run is sure stands
 
     abbrev event_at : TellsEvent d q start.budget so_far.run next mid new r
@@ -208,8 +214,8 @@ module _ (described : Described) (start now next : SureView) (old mid new : Mome
         Step more.given mid new b → TellsRun d q start.budget (surely_given d q so_far.run) last ends mid new b
     more_as last ends a b more step = record { fair = more.fair; err = more.err; how = more.how; given = more.given; grows = more.grows; step = step }
 
-    pub telling_ends : (status : Status) → r ≡ Ok (Some status) → TellsSure d q start.budget (surely_given d q run) old new (Ok status)
-    telling_ends status was =
+    pub telling_ends : IsWritableRun d q run → (status : Status) → r ≡ Ok (Some status) → TellsSure d q start.budget (surely_given d q run) old new (Ok status)
+    telling_ends written status was =
         let done : Result (Option Status) Stop = Ok (Some status) in
         let event : TellsEvent d q start.budget so_far.run next mid new done = subst (λ (t : Result (Option Status) Stop). TellsEvent d q start.budget so_far.run next mid new t) was event_at in
         let more = event.more in
@@ -219,11 +225,12 @@ module _ (described : Described) (start now next : SureView) (old mid new : Mome
           ends = event.ends;
           more = more_behind ended event.next event.ends (more_as event.next event.ends done ended more (step_done more.given mid new done (Some status) status more.step refl));
           ended = event.ended;
+          writable = event.writes (so_far.writes written);
         }
 
-    pub telling_stops : (e : Stop) (s : Result Status Stop) → r ≡ Err e → IsErrAnd s (λ d. d ≡ e) → TellsSure d q start.budget (surely_given d q run) old new s
-    telling_stops e (Ok status) was same = absurd same
-    telling_stops e (Err stop) was same =
+    pub telling_stops : IsWritableRun d q run → (e : Stop) (s : Result Status Stop) → r ≡ Err e → IsErrAnd s (λ d. d ≡ e) → TellsSure d q start.budget (surely_given d q run) old new s
+    telling_stops written e (Ok status) was same = absurd same
+    telling_stops written e (Err stop) was same =
         let event = event_at in
         let more = event.more in
         let stopped : Result Status Stop = Err stop in
@@ -232,6 +239,7 @@ module _ (described : Described) (start now next : SureView) (old mid new : Mome
           ends = event.ends;
           more = more_behind stopped event.next event.ends (more_as event.next event.ends r stopped more (step_again more.given mid new r e stopped more.step was same));
           ended = tt;
+          writable = event.writes (so_far.writes written);
         }
 
   abbrev none : Option Status
@@ -259,7 +267,7 @@ module _ (described : Described) (start now next : SureView) (old mid new : Mome
       grown_bare d q run err None is how = ap (λ (e : List ℕ). record (surely_given d q run) { err = e }) how
       grown_bare d q run err (Some status) is how = absurd cc
 
-      each : (d : Description) (q : Query) (run : SureRun) → IsDescriptionOf described d → IsSureOf start d q → Stands d q start run → ToldSoFar d q (surely_given d q run) next old new
+      each : (d : Description) (q : Query) (run : SureRun) → IsDescriptionOf described d → IsSureOf start d q → Stands d q start run → ToldSoFar d q run next old new
       each d q run is sure stands =
           let unit : Result (Unit {0}) Stop = Ok tt in
           let event : TellsEvent d q start.budget (so_far d q run is sure stands).run next mid new done =
@@ -271,6 +279,7 @@ module _ (described : Described) (start now next : SureView) (old mid new : Mome
             run = event.next;
             stands = event.keeps refl;
             given = behind.given;
+            writes = λ written. event.writes ((so_far d q run is sure stands).writes written);
             grows = behind.grows ∙ grown_bare d q event.next more.err event.ends event.ended more.how;
             moves = given_all behind.given old new tt behind.step;
           }
@@ -304,6 +313,7 @@ module _ (d : Description) (q : Query) (sure : SureView) (stands : Stands d q su
         ends = None;
         more = record { fair = stands.fair; err = []; how = refl; given = header_given; grows = begun_is d q; step = step_again header_given x y r e stopped step was same };
         ended = tt;
+        writable = tt;
       }
 
   pub header_told : {X : Type 0} (x y z : Moment) (r : Result X Stop) (v : X) (s : Result Status Stop) → Step header_given x y r → r ≡ Ok v →
@@ -322,4 +332,5 @@ module _ (d : Description) (q : Query) (sure : SureView) (stands : Stands d q su
           step = step_then header_given more.given x y z r v s step was more.step;
         };
         ended = told.ended;
+        writable = told.writable;
       }

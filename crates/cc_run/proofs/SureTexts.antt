@@ -12,7 +12,7 @@ use Rattle.cc_defs.specs.Laws.{PositionsHaveSizes}
 use Rattle.cc_defs.specs.Limits.{most_variables}
 use Rattle.cc_defs.specs.Resolved.{Query}
 use Rattle.cc_defs.specs.Rows.{IsRow}
-use Rattle.cc_defs.specs.LogTexts.{line_text}
+use Rattle.cc_defs.specs.LogTexts.{IsFormed, line_text}
 use Rattle.cc_defs.specs.Runs.{Section, optional, range_of}
 use Rattle.cc_defs.specs.Signatures.{Signature, ground_constants, position_count}
 use Rattle.cc_defs.specs.Texts.{history_text, key_line}
@@ -20,16 +20,18 @@ use Rattle.cc_ports.specs.declared.desk.To.TheVariants as outputs
 use Rattle.cc_print.specs.Atoms.{IsAtomOf}
 use Rattle.cc_run.specs.Modes.Surely.{EndsSurely, ending_line, sure_line, sure_text}
 use Rattle.cc_run.specs.Stops.{given_to}
-use Rattle.cc_run.specs.Sures.{IsPrintable, given_of, heading_of, status_behind, surely_given}
+use Rattle.cc_run.specs.Sures.{IsPrintable, IsWritableRun, given_of, heading_of, status_behind, surely_given}
 use Rattle.cc_run.specs.Wholes.{Given, joined}
 use Rattle.cc_run.proofs.GoodClauses.{in_first}
 use Rattle.cc_run.proofs.RunEvents.{same_sizes}
 use Rattle.cc_run.proofs.Spending.{path_row}
+use Rattle.cc_run.proofs.Worth.{all_both}
 use Rattle.cc_sure.specs.declared.answer.SureEvent.{SureEvent}
 use Rattle.cc_sure.specs.declared.answer.SureEvent.TheVariants as events
 use Rattle.cc_sure.specs.Sought.{IsSought, PassesNoLimit, Sought, Any, With}
 use Rattle.cc_sure.specs.SureRuns.{AreTrueSettled, AreTrueTried, IsFairSure, IsTrueSettled, IsTrueTried, Settled, SureEnding, Complete, NoneAtAll, Spent, SureRun, Tried, Known, Shown, Never, settled_examples, shown_at, shown_by, sought_next, sure_horizon}
-use Rattle.cc_sure.specs.Sures.{GoesOn, IsFewEvent, IsOver, IsShortEvent, IsSureEvent, SureView, sought_atom}
+use Rattle.cc_sure.specs.Accepted.{IsWritableTold}
+use Rattle.cc_sure.specs.Sures.{GoesOn, IsFewEvent, IsGoodEvent, IsOver, IsShortEvent, IsSureEvent, SureView, sought_atom}
 use Rattle.cc_sure.specs.SureTold.{SureTold, NoneAt, ExampleIs, NeverSo, AnswersAre, Ends, atom_heading, none_told, section_lines, settled_told, sought_heading, sure_header, sure_lines, sure_log, sure_told, tried_told}
 
 -- ---- what is true of all that is told: rows are of the horizon, and the answers of a position are those of its values
@@ -212,6 +214,24 @@ event_printable law d q budget signature of before after horizon event told fair
     (subst (λ (h : ℕ). IsTrueTold d h told) (sym at)
     (last_true d (sure_horizon q after) before told (subst (λ (l : List SureTold). AreTrue d (sure_horizon q after) l) all (all_true d q budget after fair)))) short few
 
+-- ---- what is told can be written
+
+written : (d : Description) (q : Query) (horizon : ℕ) (event : SureEvent) (told : SureTold) → Says event told → IsShortEvent event → IsFewEvent event → IsGoodEvent d q horizon event →
+    IsWritableTold d q horizon told
+written d q horizon (events.NoHistory empty) told is short few good = subst (IsWritableTold d q horizon) (sym is) tt
+written d q horizon (events.Example number row) told is short few good = subst (IsWritableTold d q horizon) (sym is) tt
+written d q horizon (events.Impossible position value lines) told (section, lines_are, is) short few good =
+    let most = few.0 in let most_value = few.1 in
+    subst (IsWritableTold d q horizon) (sym is) (omega arith, omega arith, subst (AllByRecursion IsFormed) lines_are short, good)
+written d q horizon (events.Answers position answers) told is short few good = subst (IsWritableTold d q horizon) (sym is) tt
+written d q horizon events.Complete told is short few good = subst (IsWritableTold d q horizon) (sym is.1) tt
+written d q horizon events.NoneAtAll told is short few good = subst (IsWritableTold d q horizon) (sym is.1) tt
+written d q horizon (events.Spent atom lines) told is short few good = subst (IsWritableTold d q horizon) (sym is.4) tt
+
+pub event_written : (d : Description) (q : Query) (horizon : ℕ) (event : SureEvent) (told : SureTold) → IsSureEvent event told → IsShortEvent event → IsFewEvent event →
+    IsGoodEvent d q horizon event → IsWritableTold d q horizon told
+event_written d q horizon event told is = written d q horizon event told (is_of event told is)
+
 -- ---- what is given of an event is what is told of it
 
 abbrev pub told_at : Description → (horizon : ℕ) → SureTold → Given
@@ -295,6 +315,10 @@ none_alike f g same first zero = refl
 none_alike f g same first (suc count) =
     ap (λ l. l ++ flat_map f (none_told (first + 1) count)) (same first) ∙ ap (λ l. g (NoneAt first) ++ l) (none_alike f g same (first + 1) count)
 
+all_none : (P : SureTold → Type 0) → ((empty : ℕ) → P (NoneAt empty)) → (first count : ℕ) → AllByRecursion P (none_told first count)
+all_none P each first zero = tt
+all_none P each first (suc count) = (each first, all_none P each (first + 1) count)
+
 -- nothing is told of a horizon without a history
 abbrev BeginsOtherwise : List SureTold → Type 0
 BeginsOtherwise told = (empty : ℕ) (others : List SureTold) → told ≡ NoneAt empty ∷ others → ⊥
@@ -359,6 +383,26 @@ module _ (d : Description) (q : Query) (budget : ℕ) (run after : SureRun) (tol
       (example_first (sought_next run run.first) (length (settled_examples run)) run.first row run.done run.next run.ending (told ∷ []) first)
       (sym (told_parts q after) ∙ (is ∙ (ap (λ (l : List SureTold). l ++ told ∷ []) (told_parts q run) ∙ append_assoc (none_told (range_of q).0 run.empty) (told_behind run) (told ∷ [])))))
 
+  -- without an example nothing else was told than horizons without a history
+  none_only : run.first ≡ None → sure_told q run ≡ none_told (range_of q).0 run.empty
+  none_only none =
+      told_parts q run ∙ (ap (λ (l : List SureTold). none_told (range_of q).0 run.empty ++ l)
+      (nothing_behind (sought_next run run.first) (length (settled_examples run)) run.first run.done run.next run.ending fair.begun none going)
+      ∙ append-nil (none_told (range_of q).0 run.empty))
+
+  -- what was told before can be written at the horizon behind it
+  still_written : IsWritableRun d q run → AllByRecursion (IsWritableTold d q (sure_horizon q after)) (sure_told q run)
+  still_written all = by_first run.first refl
+    where
+      by_first : (first : Option (List ℕ)) → run.first ≡ first → AllByRecursion (IsWritableTold d q (sure_horizon q after)) (sure_told q run)
+      by_first (Some row) first = subst (λ (h : ℕ). AllByRecursion (IsWritableTold d q h) (sure_told q run)) (sym (stays row first)) all
+      by_first None none = subst (AllByRecursion (IsWritableTold d q (sure_horizon q after))) (sym (none_only none))
+          (all_none (IsWritableTold d q (sure_horizon q after)) (λ empty. tt) (range_of q).0 run.empty)
+
+  pub more_written : IsWritableRun d q run → IsWritableTold d q (sure_horizon q after) told → IsWritableRun d q after
+  more_written all more = subst (AllByRecursion (IsWritableTold d q (sure_horizon q after))) (sym is)
+      (all_both (IsWritableTold d q (sure_horizon q after)) (sure_told q run) (told ∷ []) (still_written all) (more, tt))
+
   module _ {Y : Type 0} (f : ℕ → SureTold → List Y) (alike : (a b empty : ℕ) → f a (NoneAt empty) ≡ f b (NoneAt empty)) where
     -- what was told before is told alike at the horizon behind it
     moved : flat_map (f (sure_horizon q after)) (sure_told q run) ≡ flat_map (f (sure_horizon q run)) (sure_told q run)
@@ -367,10 +411,7 @@ module _ (d : Description) (q : Query) (budget : ℕ) (run after : SureRun) (tol
         by_first : (first : Option (List ℕ)) → run.first ≡ first → flat_map (f (sure_horizon q after)) (sure_told q run) ≡ flat_map (f (sure_horizon q run)) (sure_told q run)
         by_first (Some row) first = ap (λ (h : ℕ). flat_map (f h) (sure_told q run)) (stays row first)
         by_first None none =
-            let only : sure_told q run ≡ none_told (range_of q).0 run.empty =
-            told_parts q run ∙ (ap (λ (l : List SureTold). none_told (range_of q).0 run.empty ++ l)
-            (nothing_behind (sought_next run run.first) (length (settled_examples run)) run.first run.done run.next run.ending fair.begun none going)
-            ∙ append-nil (none_told (range_of q).0 run.empty)) in
+            let only = none_only none in
             ap (flat_map (f (sure_horizon q after))) only
             ∙ (none_alike (f (sure_horizon q after)) (f (sure_horizon q run)) (alike (sure_horizon q after) (sure_horizon q run)) (range_of q).0 run.empty
             ∙ ap (flat_map (f (sure_horizon q run))) (sym only))

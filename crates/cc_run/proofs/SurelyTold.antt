@@ -1,10 +1,13 @@
 -- A run that tells what is certain and possible, from its steps.
-use Rattle.std.proofs.Common.{◌≡◌, ◌∙◌, refl, sym, ap, subst, ℕ, List, [], Option, Some, None, Result, Ok, Err, IfSome, IfOk, inl, inr}
+use Rattle.std.proofs.Common.{◌≡◌, ◌∙◌, refl, sym, ap, subst, ℕ, List, [], Option, Some, None, Result, Ok, Err, IfSome, IfOk, inl, inr, arith, ◌+◌, ◌≤◌}
 use Rattle.std.specs.Prelude.{is_some}
 use Rattle.cc_defs.specs.declared.refusal.Refusal.{Refusal}
 use Rattle.cc_defs.specs.Description.{Description}
+use Rattle.cc_defs.specs.GroundLaws.{PlainGroundQuery, StandsForQuery}
+use Rattle.cc_defs.specs.Limits.{most_steps}
+use Rattle.cc_defs.specs.LogTexts.{IsShort}
 use Rattle.cc_defs.specs.Resolved.{Query}
-use Rattle.cc_defs.specs.Runs.{optional}
+use Rattle.cc_defs.specs.Runs.{optional, range_of}
 use Rattle.cc_describe.specs.Places.{Files}
 use Rattle.cc_ports.specs.Contents.{Contents}
 use Rattle.cc_run.specs.declared.status.Status.{Status}
@@ -17,13 +20,15 @@ use Rattle.cc_run.specs.Stops.{Begins, Moment, Prints, Step, outcome}
 use Rattle.cc_run.specs.Sures.{TellsSure, surely_given}
 use Rattle.cc_run.specs.Tasks.{request_of}
 use Rattle.cc_run.specs.Wholes.{Whole, nothing}
-use Rattle.cc_sure.specs.SureRuns.{SureEnding, Complete, NoneAtAll, Spent, SureRun}
+use Rattle.cc_sure.specs.Accepted.{SureLogsAreAccepted}
+use Rattle.cc_sure.specs.SureRuns.{SureEnding, Complete, NoneAtAll, Spent, SureRun, sure_horizon}
 use Rattle.cc_words.specs.declared.asked.SureAsked.{SureAsked}
 use Rattle.cc_words.specs.Requests.{Request, Surely, ToBeSure}
 use Rattle.cc_words.specs.Views.{plain_text}
 use Rattle.cc_words.specs.Words.{Text}
 use Rattle.cc_run.proofs.GivenSteps.{step_as}
 use Rattle.cc_run.proofs.Outcomes.{RefusesRequest, known, prints_begun}
+use Rattle.cc_run.proofs.Passing.{range_is}
 use Rattle.cc_run.proofs.Readings.{surely_by}
 
 -- ---- what is asked
@@ -71,10 +76,13 @@ surely_may d q budget run err (Some other) status (inr refused) is =
     let same : other ≡ status = cc in subst MayEndSurely (sym refused.3 ∙ same) tt
 
 pub prints_surely : {X : Type 0} (words : List Text) (surely : Surely) (d : Description) (q : Query) (names : List Text) (x y z : Moment) (b : Result X Stop) (v : X) (r : Result Status Stop) →
-    request_of words ≡ Some (ToBeSure surely) → names ≡ optional surely.log → IfSome x.told (λ c. NamesUnclaimed c.files (named_surely surely) d q) →
+    SureLogsAreAccepted → (range_of q).1 ≤ most_steps → request_of words ≡ Some (ToBeSure surely) → names ≡ optional surely.log →
+    IfSome x.told (λ c. NamesUnclaimed c.files (named_surely surely) d q) →
     Begins (is_some surely.log) names x y b → b ≡ Ok v → TellsSure d q surely.budget nothing y z r → Prints words (is_some surely.log) [] x z r
-prints_surely words surely d q names x y z b v r asked named is at was told =
+prints_surely words surely d q names x y z b v r law low asked named is at was told =
     let more = told.more in
+    let within = more.fair.within in
+    let short : IsShort (sure_horizon q told.run) = omega arith in
     let whole : Whole = record { given = record (surely_given d q told.run) { err = more.err }; begun = is_some surely.log; ends = told.ends } in
     let tells : (files : Files) → NamesUnclaimed files (named_surely surely) d q → TellsSurely surely files whole = λ files is. record {
       description = d;
@@ -84,6 +92,7 @@ prints_surely words surely d q names x y z b v r asked named is at was told =
       fair = more.fair;
       out = refl;
       log = refl;
+      accepted = λ unspent. law d q surely.budget told.run more.fair unspent short told.writable;
       begun = refl;
       ends = more.how;
     } in
@@ -96,6 +105,11 @@ prints_surely words surely d q names x y z b v r asked named is at was told =
     may : (r : Result Status Stop) → IfOk r (λ status. told.ends ≡ Some status) → IfOk r (MayEndWith (request_of words))
     may (Ok status) is = subst (λ (o : Option Request). MayEndWith o status) (sym asked) (surely_may d q surely.budget told.run told.more.err told.ends status told.more.how is)
     may (Err stop) is = tt
+
+-- the range of the query that is searched
+pub range_low : (made : PlainGroundQuery) (d : Description) (q : Query) → StandsForQuery made d q → made.hi ≤ most_steps → (range_of q).1 ≤ most_steps
+range_low made d q stands most =
+    subst (λ (n : ℕ). n ≤ most_steps) (ap (λ (query : PlainGroundQuery). query.hi) stands.2 ∙ ap (λ (range : ℕ × ℕ). range.1) (sym (range_is made d q stands))) most
 
 -- the same, asked by what the program has
 pub told_as : (asked : SureAsked) (surely : Surely) → surely_by asked ≡ surely → (d : Description) (q : Query) (x y : Moment) (r : Result Status Stop) →

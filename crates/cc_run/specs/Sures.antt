@@ -27,9 +27,10 @@ use Rattle.cc_run.specs.Tasks.{asked_refusal, query_named}
 use Rattle.cc_run.specs.Wholes.{Given, joined}
 use Rattle.cc_sure.specs.declared.answer.SureEvent.{SureEvent}
 use Rattle.cc_sure.specs.declared.answer.SureEvent.TheVariants as events
-use Rattle.cc_sure.specs.SureRuns.{IsFairSure, Complete, NoneAtAll, SureRun}
+use Rattle.cc_sure.specs.Accepted.{IsWritableTold}
+use Rattle.cc_sure.specs.SureRuns.{IsFairSure, Complete, NoneAtAll, SureRun, sure_horizon}
 use Rattle.cc_sure.specs.Sures.{IsSureOf, Stands, SureView}
-use Rattle.cc_sure.specs.SureTold.{atom_heading, sure_log}
+use Rattle.cc_sure.specs.SureTold.{atom_heading, sure_log, sure_told}
 use Rattle.cc_words.specs.Words.{Text}
 
 -- ---- the query
@@ -101,6 +102,10 @@ status_behind (events.Spent atom lines) = Some statuses.Spent
 abbrev pub surely_given : Description → Query → SureRun → Given
 surely_given d q run = record { out = sure_text d q run; err = []; log = sure_log q run }
 
+-- all that a run told can be written
+abbrev pub IsWritableRun : Description → Query → SureRun → Type 0
+IsWritableRun d q run = AllByRecursion (IsWritableTold d q (sure_horizon q run)) (sure_told q run)
+
 -- Behind what was told before, a step tells more, up to this run.
 pub record TellsRun {X : Type 0} (d : Description) (q : Query) (budget : ℕ) (before : Given) (run : SureRun) (ends : Option Status) (old new : Moment) (result : Result X Stop) : Type 0 where
   pub fair : IsFairSure d q budget run
@@ -117,6 +122,7 @@ pub record TellsEvent (d : Description) (q : Query) (budget : ℕ) (run : SureRu
   pub more : TellsRun d q budget (surely_given d q run) next ends old new result
   pub ended : IfOk result (λ status. ends ≡ status)
   pub keeps : IfOk result (λ status. IsNone status → Stands d q sure next)
+  pub writes : IsWritableRun d q run → IsWritableRun d q next
 
 -- All of a run is told behind that.
 pub record TellsSure (d : Description) (q : Query) (budget : ℕ) (before : Given) (old new : Moment) (result : Result Status Stop) : Type 0 where
@@ -124,6 +130,7 @@ pub record TellsSure (d : Description) (q : Query) (budget : ℕ) (before : Give
   pub ends : Option Status
   pub more : TellsRun d q budget before run ends old new result
   pub ended : IfOk result (λ status. ends ≡ Some status)
+  pub writable : IsWritableRun d q run
 
 -- there are a description and a query that it is about, and a run that it stands for
 abbrev pub IsSureOfSome : Described → SureView → Type 0

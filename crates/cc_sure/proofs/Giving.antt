@@ -19,6 +19,7 @@ use Rattle.cc_defs.specs.Runs.{HasNone, range_of}
 use Rattle.cc_defs.specs.Sections.{Axioms}
 use Rattle.cc_form.specs.Building.{count_refusal}
 use Rattle.cc_form.specs.Forms.{with_atom}
+use Rattle.cc_query.specs.Accepted.{AreGoodAxioms}
 use Rattle.cc_query.proofs.Steps.{in_first}
 use Rattle.cc_sure.specs.declared.answer.Answer.{Answer}
 use Rattle.cc_sure.specs.declared.answer.SureEvent.{SureEvent}
@@ -27,7 +28,7 @@ use Rattle.cc_sure.specs.declared.finding.Outcome.{Outcome}
 use Rattle.cc_sure.specs.declared.finding.Outcome.TheVariants as outcomes
 use Rattle.cc_sure.specs.declared.phase.Phase.TheVariants as phases
 use Rattle.cc_sure.specs.Outcomes.{AreAnswersFor, IsEnded, IsOutcome, SomeHas}
-use Rattle.cc_sure.specs.Sought.{HasValue, IsAtomAt, IsSought, Sought, Any, With, PassesNoLimit}
+use Rattle.cc_sure.specs.Sought.{HasValue, IsAtomAt, IsSought, Sought, Any, With, PassesNoLimit, sought_axioms}
 use Rattle.cc_sure.specs.SureRuns.{Settled, SureEnding, Complete, NoneAtAll, Spent, SureRun, Tried, Known, Shown, Never, IsFairSure, IsNew, IsTrueTried, LooksFor, MayEndSure, examples_of, settled_examples, shown_at, shown_by, shown_in, sought_next, sure_horizon}
 use Rattle.cc_sure.specs.SureTold.{SureTold, NoneAt, ExampleIs, NeverSo, AnswersAre, Ends, sure_told}
 use Rattle.cc_sure.specs.Sures.{AreFewTried, AreKnown, Gives, IsAsking, IsAt, IsFormOf, IsOpened, IsOver, IsSureEvent, IsSureOf, PassesTo, Stands, SureView, TellsNext, Awaits, is_never, left_at, left_of}
@@ -130,6 +131,7 @@ module _ (now : SureView) where
     less = over_less now looking over (omega arith);
     goes = over;
     short = tt;
+    good = λ d q of. tt;
     few = tt;
   }
 
@@ -146,6 +148,7 @@ module _ (now : SureView) where
     less = over_less now looking over (omega arith);
     goes = over;
     short = ended.formed;
+    good = λ d q of. tt;
     few = tt;
   }
 
@@ -170,6 +173,7 @@ module _ (now : SureView) where
         less = omega arith;
         goes = λ is. absurd cc;
         short = tt;
+        good = λ d q of. tt;
         few = omega arith;
       }))
 
@@ -221,6 +225,7 @@ module _ (now : SureView) where
         less = omega arith;
         goes = λ is. absurd cc;
         short = tt;
+        good = λ d q of. tt;
         few = omega arith;
       })
 
@@ -372,6 +377,7 @@ module _ (now : SureView) (form : Axioms) (is : IsAsking now form) where
             less = left_less false (now.examples ++ row ∷ []);
             goes = λ is. absurd cc;
             short = tt;
+            good = λ d q of. tt;
             few = (let most = low.0 in omega arith);
           })
         where
@@ -405,6 +411,14 @@ module _ (now : SureView) (form : Axioms) (is : IsAsking now form) where
           (subst (λ (v : ℕ). LooksFor d q now.budget now.horizon (With now.position v) ended.section) (tried_count q empty first done next at)
           (atom_ended d q now.horizon now.budget form (opened_of d q of) now.position (length now.never) size at_size less within word lines ended)))
 
+      -- what was searched over
+      good_of : (d : Description) (q : Query) → IsSureOf asking d q → (position value : ℕ) → position ≡ now.position → value ≡ length now.never →
+          AreGoodAxioms (sought_axioms d q now.horizon (With position value))
+      good_of d q of position value position_is value_is =
+          subst (λ (x : Axioms). AreGoodAxioms (with_atom x position value)) (opened_of d q of).axioms
+          (subst (λ (p : ℕ). AreGoodAxioms (with_atom form p value)) (sym position_is)
+          (subst (λ (v : ℕ). AreGoodAxioms (with_atom form now.position v)) (sym value_is) ended.good))
+
       known_still : (value : ℕ) → slice_get (now.never ++ true ∷ []) value ≡ Some false → SomeHas now.examples now.position value
       known_still value at = elim (behind_cases now.never true value false at) [
         | inl before ↦ is.known value before
@@ -428,6 +442,7 @@ module _ (now : SureView) (form : Axioms) (is : IsAsking now form) where
             less = left_less true now.examples;
             goes = λ is. absurd cc;
             short = ended.formed;
+            good = λ d q of. good_of d q of position value position_is value_is;
             few = (let most = low.1 in omega arith, let most = low.2 in omega arith);
           })
 
@@ -455,6 +470,7 @@ module _ (now : SureView) (form : Axioms) (is : IsAsking now form) where
             less = over_less now asking over (let from = dropped form.sizes now.position size at_size in let sums = from.0 in omega arith);
             goes = over;
             short = ended.formed;
+            good = λ d q of. tt;
             few = (let most = low.1 in omega arith, let most = low.2 in omega arith);
           }
 
@@ -482,6 +498,7 @@ module _ (now : SureView) (form : Axioms) (is : IsAsking now form) where
         less = over_less now asking over (let few = ap length (subst (λ (o : Option ℕ). AreFewTried o now.never) none is.tried) in omega arith);
         goes = over;
         short = tt;
+        good = λ d q of. tt;
         few = tt;
       }
     where
@@ -549,6 +566,7 @@ module _ (now : SureView) (form : Axioms) (is : IsAsking now form) where
           less = omega arith;
           goes = λ is. absurd cc;
           short = tt;
+          good = λ d q of. tt;
           few = (omega arith, let short = settle_short in omega arith);
         })
 

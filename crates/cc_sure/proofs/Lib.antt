@@ -1,4 +1,6 @@
+mod Accepting
 mod Answering
+mod AtomLines
 mod Atoms
 mod Checking
 mod Giving

@@ -111,6 +111,7 @@ module _ (form : Axioms) (now mid : SureView) (is : IsAsking now form) (passes :
     goes = gives.goes;
     short = gives.short;
     few = gives.few;
+    good = λ d q of. gives.good d q (of_behind d q of);
   }
 
   pub refuses_behind : (r : Result SureEvent Fault) → IfErr r (IsRightFault (record mid { phase = phases.Asking form })) → IfErr r (IsRightFault (record now { phase = phases.Asking form }))

@@ -59,6 +59,7 @@ module _ (axioms : Axioms) (budget : ℕ) where
       silent = ap (λ (l : List (List ℕ)). l ++ []) (flat_map-append row_told told.steps (Derive clause chain ∷ []) ∙ append-nil (flat_map row_told told.steps)) ∙ told.silent;
       lines_are = ap (λ (l : List LogLine). l ++ said.Derived clause chain ∷ []) told.lines_are ∙ sym (map-append step_line told.steps (Derive clause chain ∷ []));
       formed = all_append IsFormed lines (said.Derived clause chain ∷ []) told.formed (formed, tt);
+      good = told.good;
     }
     line_more (said.Block row) ((open_yet, last), stands) formed = absurd cc
     line_more (said.End word) ((open_yet, none), stands) formed = absurd none
@@ -97,6 +98,7 @@ module _ (axioms : Axioms) (budget : ℕ) where
       ends = refl;
       lines_are = ap (λ (l : List LogLine). l ++ said.End word ∷ []) told.lines_are;
       formed = all_append IsFormed lines (said.End word ∷ []) told.formed (tt, tt);
+      good = told.good;
     }
 
     pub outcome_is : (word : EndWord) (all : List LogLine) (outcome : Outcome) → Closes word → all ≡ lines →

@@ -1,3 +1,4 @@
+pub mod Accepted
 pub mod Outcomes
 pub mod Sought
 pub mod SureLogs

@@ -9,6 +9,7 @@ use Rattle.cc_defs.specs.Histories.{AreFirstOf}
 use Rattle.cc_defs.specs.LogTexts.{IsFormed}
 use Rattle.cc_defs.specs.Runs.{EndsWith, Section, Step, TellsRows, rows_of}
 use Rattle.cc_defs.specs.Sections.{Axioms}
+use Rattle.cc_query.specs.Accepted.{AreGoodAxioms}
 use Rattle.cc_query.specs.Parts.{open_section}
 use Rattle.cc_query.specs.Searches.{SearchView, Stands}
 use Rattle.cc_sure.specs.declared.answer.Answer.{Answer}
@@ -19,7 +20,7 @@ use Rattle.cc_sure.specs.Sought.{HasValue}
 use Rattle.cc_sure.specs.SureRuns.{IsFirstWith}
 use Rattle.cc_sure.specs.SureTold.{section_lines, step_line}
 
--- a section over the clauses that has told no row, ended with this word, whose lines are these
+-- A section that has told no row, ended with this word, whose lines are these; what it is over are clauses over their variables.
 pub record IsEnded (axioms : Axioms) (budget : ℕ) (word : EndWord) (lines : List LogLine) : Type 0 where
   pub section : Section
   pub tells : TellsRows (IsRowOf axioms.sizes axioms.clauses) axioms (Some 1) budget section
@@ -27,6 +28,7 @@ pub record IsEnded (axioms : Axioms) (budget : ℕ) (word : EndWord) (lines : Li
   pub ends : EndsWith word section
   pub lines_are : lines ≡ section_lines section
   pub formed : AllByRecursion IsFormed lines
+  pub good : AreGoodAxioms axioms
 
 -- the least row of the clauses was found; there is none; or the budget was spent before
 abbrev pub IsOutcome : Axioms → (budget : ℕ) → Outcome → Type 0
@@ -60,6 +62,7 @@ pub record HasTold (axioms : Axioms) (budget : ℕ) (search : SearchView) (lines
   pub silent : rows_of (open_section steps) ≡ []
   pub lines_are : lines ≡ map step_line steps
   pub formed : AllByRecursion IsFormed lines
+  pub good : AreGoodAxioms axioms
 
 -- it has ended, or has told these lines so far
 abbrev pub TellsOutcome : Axioms → (budget : ℕ) → SearchView → List LogLine → Option Outcome → Type 0

@@ -17,8 +17,9 @@ use Rattle.cc_defs.specs.Sections.{Axioms}
 use Rattle.cc_defs.specs.Signatures.{Signature}
 use Rattle.cc_form.specs.Forms.{section_refusal}
 use Rattle.cc_form.specs.Queries.{IsQueryAt}
+use Rattle.cc_query.specs.Accepted.{AreGoodAxioms}
 use Rattle.cc_sure.specs.Outcomes.{SomeHas}
-use Rattle.cc_sure.specs.Sought.{Sought, Any, With}
+use Rattle.cc_sure.specs.Sought.{Sought, Any, With, sought_axioms}
 use Rattle.cc_sure.specs.SureRuns.{IsFairSure, ReachesSureLimit, SureRun, Tried, Known, Shown, Never, Complete, NoneAtAll, Spent, examples_of, sure_horizon}
 use Rattle.cc_sure.specs.SureTold.{SureTold, NoneAt, ExampleIs, NeverSo, AnswersAre, Ends, section_lines, sure_told}
 use Rattle.cc_sure.specs.declared.answer.SureEvent.{SureEvent}
@@ -147,6 +148,11 @@ IsFewEvent (events.Answers position answers) = (position < most_variables) × (l
 IsFewEvent (events.Spent atom lines) = IfSome atom IsFewAtom
 IsFewEvent event = Unit {0}
 
+-- where it says that no history has an atom, the axioms of its section are clauses over their variables
+abbrev pub IsGoodEvent : Description → Query → (horizon : ℕ) → SureEvent → Type 0
+IsGoodEvent d q horizon (events.Impossible position value lines) = AreGoodAxioms (sought_axioms d q horizon (With position value))
+IsGoodEvent d q horizon event = Unit {0}
+
 -- ---- how much may still come: a number that each call lowers
 
 -- the values that are left, with one more for each position
@@ -212,6 +218,7 @@ pub record Gives (old new : SureView) (event : SureEvent) : Type 0 where
   pub goes : GoesOn new event
   pub short : IsShortEvent event
   pub few : IsFewEvent event
+  pub good : (d : Description) (q : Query) → IsSureOf old d q → IsGoodEvent d q new.horizon event
 
 -- Values that examples have were passed over: nothing was told of them, and all else is as it was.
 pub record PassesTo (form : Axioms) (old new : SureView) : Type 0 where

@@ -6,6 +6,7 @@ mod answer;
 mod check;
 mod examples;
 mod finding;
+pub mod laws;
 mod phase;
 mod sure;
 

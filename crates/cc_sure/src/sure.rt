@@ -12,7 +12,7 @@ ghost use Rattle.cc_form.specs.Forms.{section_refusal, with_atom};
 ghost use Rattle.cc_form.specs.Queries.{IsQueryAt};
 ghost use Rattle.cc_sure.specs.Outcomes.{AreAnswersFor, IsOutcome, SomeHas};
 ghost use Rattle.cc_sure.specs.SureRuns.{SureRun, IsNew};
-ghost use Rattle.cc_sure.specs.Sures.{AreKnown, Gives, GoesOn, HasMore, IsAsking, IsFewEvent, IsFormOf, IsOpened, IsOver, IsReady, IsRightFault, IsSame, IsShortEvent, IsSureOf, PassesTo, Stands, TellsNext, left_of, nothing_told};
+ghost use Rattle.cc_sure.specs.Sures.{AreKnown, Gives, GoesOn, HasMore, IsAsking, IsFewEvent, IsFormOf, IsGoodEvent, IsOpened, IsOver, IsReady, IsRightFault, IsSame, IsShortEvent, IsSureOf, PassesTo, Stands, TellsNext, left_of, nothing_told};
 ghost use Rattle.cc_sure.specs.declared.answer.SureEvent.TheVariants as events;
 ghost use Rattle.cc_sure.specs.declared.finding.Outcome.TheVariants as outcomes;
 ghost use Rattle.cc_sure.specs.declared.phase.Phase.TheVariants as phases;
@@ -545,6 +545,8 @@ impl<'a> Sure<'a> {
         ensures over { OnErr result (IsOver self.new) }
         ensures short { IfOk result IsShortEvent }
         ensures few { IfOk result IsFewEvent }
+        ensures good { (d : Description) (q : Query) → IsSureOf self.old d q →
+            IfOk result (IsGoodEvent d q self.new.horizon) }
     {
         self.step()
     }

@@ -1,5 +1,7 @@
 -- Sure mode: what is certain, possible and impossible at the first horizon of a query that has a history.
-use Rattle.std.specs.Prelude.{◌≡◌, ◌⊎◌, ◌+◌, ℕ, List, [], ◌∷◌, ◌++◌, flat_map, codes, decimal, Option, Some, None, IsNone, IsSome, is_some}
+use Rattle.std.specs.Prelude.{◌≡◌, ◌⊎◌, ◌+◌, ℕ, List, [], ◌∷◌, ◌++◌, flat_map, length, codes, decimal, Option, Some, None, IsNone, IsSome, is_some}
+use Rattle.cc_check.specs.Silent.{IsSilentVerdict}
+use Rattle.cc_check.specs.declared.silent.SilentVerdict.TheVariants as verdicts
 use Rattle.cc_defs.specs.declared.refusal.Refusal.{Refusal}
 use Rattle.cc_defs.specs.Description.{Description}
 use Rattle.cc_defs.specs.Events.{of_horizon}
@@ -18,7 +20,9 @@ use Rattle.cc_run.specs.Tasks.{AreRead, Named, RefusesDescription, RefusesQuery,
 use Rattle.cc_run.specs.Wholes.{Whole}
 use Rattle.cc_sure.specs.declared.answer.Answer.{Answer}
 use Rattle.cc_sure.specs.declared.answer.Answer.TheVariants as answers
+use Rattle.cc_sure.specs.Accepted.{IsUnspent, never_told}
 use Rattle.cc_sure.specs.Sought.{Sought}
+use Rattle.cc_sure.specs.SureLogs.{sure_subject}
 use Rattle.cc_sure.specs.SureRuns.{IsFairSure, ReachesSureLimit, SureEnding, Complete, NoneAtAll, Spent, SureRun, sure_horizon}
 use Rattle.cc_sure.specs.SureTold.{SureTold, NoneAt, ExampleIs, NeverSo, AnswersAre, Ends, sure_log, sure_told}
 use Rattle.cc_words.specs.Requests.{Surely}
@@ -110,6 +114,8 @@ pub record TellsSurely (surely : Surely) (files : Files) (whole : Whole) : Type 
   pub fair : IsFairSure description query surely.budget run
   pub out : whole.given.out ≡ sure_text description query run
   pub log : whole.given.log ≡ sure_log query run
+  -- unless a search was spent, a checker accepts the log, with a section for each impossible value
+  pub accepted : IsUnspent run → IsSilentVerdict (sure_subject description query) whole.given.log (verdicts.Accepted (length (never_told query run)))
   pub begun : whole.begun ≡ is_some surely.log
   pub ends : EndsSurely description query surely.budget run whole.given.err whole.ends
 

@@ -8,7 +8,7 @@ ghost use Rattle.cc_describe.specs.Describing.{AsksFormulas, Describes, HasForms
 ghost use Rattle.cc_run.specs.Asking.{AreOf, AreSearchable};
 ghost use Rattle.cc_run.specs.Modes.Surely.{NamesUnclaimed, named_surely};
 ghost use Rattle.cc_run.specs.Stops.{Prints, moment};
-ghost use Rattle.cc_run.specs.Sures.{IsSureOfSome, TellsEvent, TellsSure, surely_given};
+ghost use Rattle.cc_run.specs.Sures.{IsSureOfSome, IsWritableRun, TellsEvent, TellsSure, surely_given};
 ghost use Rattle.cc_run.specs.Tasks.{request_of};
 ghost use Rattle.cc_run.specs.Wholes.{nothing};
 ghost use Rattle.cc_sorts.specs.Tables.{IsSignatureFor};
@@ -32,6 +32,7 @@ use cc_defs::laws::positions_have_sizes;
 use cc_describe::Described;
 use cc_ports::{Desk, To};
 use cc_sure::Sure;
+use cc_sure::laws::sure_logs_are_accepted;
 use cc_words::SureAsked;
 use std::alloc::Global;
 
@@ -74,8 +75,9 @@ fn tell_all<D: Desk>(
     requires more { HasMore sure }
     requires of { IsSureOfSome described.now sure }
     ensures { (d : Description) (q : Query) (run : SureRun) → IsDescriptionOf described.now d →
-        IsSureOf sure.entry d q → Stands d q sure.entry run → TellsSure d q sure.entry.budget
-        (surely_given d q run) (moment D.told D.begun D.read_faults D.write_faults D.calls desk.old)
+        IsSureOf sure.entry d q → Stands d q sure.entry run → IsWritableRun d q run →
+        TellsSure d q sure.entry.budget (surely_given d q run)
+        (moment D.told D.begun D.read_faults D.write_faults D.calls desk.old)
         (moment D.told D.begun D.read_faults D.write_faults D.calls desk.new) result }
 {
     loop {
@@ -140,6 +142,7 @@ fn be_sure<D: Desk>(
         [] (moment D.told D.begun D.read_faults D.write_faults D.calls desk.old)
         (moment D.told D.begun D.read_faults D.write_faults D.calls desk.new) result }
 {
+    sure_logs_are_accepted();
     begin_log(desk, asked.log)?;
     tell_run(alloc, desk, described, prepared, asked.budget)
 }

@@ -4,7 +4,7 @@ use Rattle.cc_run.specs.declared.status.Status.TheVariants as statuses
 use Rattle.cc_words.specs.Requests.{Surely}
 use Rattle.cc_words.specs.Views.{plain_text}
 use Rattle.cc_run.proofs.Outcomes.{prints_unbegun}
-use Rattle.cc_run.proofs.SurelyTold.{begins_surely, prints_surely, surely_is, surely_log, told_as}
+use Rattle.cc_run.proofs.SurelyTold.{begins_surely, prints_surely, range_low, surely_is, surely_log, told_as}
 use Rattle.cc_run.proofs.modes.sure.be_sure.Goals as goal
 
 pub returns-in_err-begin_log : goal.returns-in_err-begin_log
@@ -19,6 +19,7 @@ pub returns : goal.returns
 returns g c = λ words surely d q asked same is of named.
     let there = surely_is c.args.asked.now surely same in
     let names = optional (plain_text c.args.asked.now.log) in
-    prints_surely words surely d q names _ _ _ c.begin_log.result c.in_ok-begin_log.field-0 c.tell_run.result asked (ap (λ (s : Surely). optional s.log) there) named
+    prints_surely words surely d q names _ _ _ c.begin_log.result c.in_ok-begin_log.field-0 c.tell_run.result c.sure_logs_are_accepted.ensures
+    (range_low _ d q of.query_is c.requires.searchable.most) asked (ap (λ (s : Surely). optional s.log) there) named
     (begins_surely c.args.asked.now surely there names _ _ c.begin_log.result c.begin_log.ensures) c.in_ok-begin_log.was
     (told_as c.args.asked.now surely there d q _ _ c.tell_run.result (c.tell_run.ensures d q is of))

@@ -13,11 +13,11 @@ loop-sure-preserved g c =
     (c.in_ok-status.was ∙ ap Ok c.in-None.is) c.tell_next.ensures.same next.0
 
 pub returns-in_err-status : goal.returns-in_err-status
-returns-in_err-status g c = λ d q run is sure stands.
+returns-in_err-status g c = λ d q run is sure stands written.
     telling_stops c.args.described.now c.args.sure c.loop-sure.sure c.tell_next.new.sure _ _ _ c.tell_next.result c.loop-sure.invariant c.tell_next.ensures.tells
-    d q run is sure stands c.in_err-status.field-0.0 c.from_residual.result c.in_err-status.was c.from_residual.ensures.1
+    d q run is sure stands written c.in_err-status.field-0.0 c.from_residual.result c.in_err-status.was c.from_residual.ensures.1
 
 pub returns-in-Some : goal.returns-in-Some
-returns-in-Some g c = λ d q run is sure stands.
+returns-in-Some g c = λ d q run is sure stands written.
     telling_ends c.args.described.now c.args.sure c.loop-sure.sure c.tell_next.new.sure _ _ _ c.tell_next.result c.loop-sure.invariant c.tell_next.ensures.tells
-    d q run is sure stands c.in-Some.status (c.in_ok-status.was ∙ ap Ok c.in-Some.is)
+    d q run is sure stands written c.in-Some.status (c.in_ok-status.was ∙ ap Ok c.in-Some.is)

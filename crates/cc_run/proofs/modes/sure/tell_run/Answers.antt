@@ -22,4 +22,4 @@ returns g c = λ d q is of.
     let sure = sure_of c.new-sure.result _ _ _ d q new.signature new.laws new.query of in
     within_budget d q c.new-sure.result.budget c.args.budget _ _ c.tell_all.result new.budget
     (header_told d q c.new-sure.result (new.begun d q sure) _ _ _ c.give.result c.in_ok-give.field-0 c.tell_all.result c.give.ensures c.in_ok-give.was
-    (c.tell_all.ensures d q _ is sure (new.begun d q sure)))
+    (c.tell_all.ensures d q _ is sure (new.begun d q sure) tt))
