@@ -25,9 +25,11 @@ pub mod Rows
 pub mod Scopes
 pub mod Shortened
 pub mod SymbolsMeant
+pub mod TermLists
 pub mod TermRows
 pub mod TreeSizes
 pub mod Unbound
 pub mod Valued
 pub mod Verdicts
 pub mod Vocabularies
+pub mod Widened

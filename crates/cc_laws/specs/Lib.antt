@@ -10,3 +10,4 @@ pub mod Resolving
 pub mod Shortened
 pub mod Views
 pub mod Vocabulary
+pub mod Widening

@@ -13,6 +13,8 @@ ghost use Rattle.cc_laws.specs.FreeVariables.{free, optional, unbound};
 ghost use Rattle.cc_laws.specs.LawFaults.{law_refusal};
 ghost use Rattle.cc_laws.specs.Views.{asks, fails};
 ghost use Rattle.cc_laws.specs.Vocabulary.{vocabulary, vocabulary_of};
+ghost use Rattle.cc_laws.specs.Widening as widening;
+ghost use Rattle.cc_laws.specs.Widening.{wide_faults, wide_refusal};
 ghost use Rattle.cc_sorts.specs.Tables.{IsTable};
 
 use crate::forms::{has_determined_head, has_indefinite_head, lacks_form};
@@ -213,14 +215,14 @@ fn has_unbound(
     Ok(some_is_new(&used, &variables))
 }
 
-/// The least number of a fault of a law, if it has one.
-fn law_fault(
+/// The least number of a fault of a law but that its head is not definite, if it has one.
+fn wide_fault(
     alloc: Global,
     table: &Table,
     law: &LawTree<'_>,
     test: &Option<Tree<'_>>,
 ) -> Result<Option<u8>, OutOfMemory>
-    ensures { IfOk result (λ fault. fault ≡ least (faults.law_faults (vocabulary_of table.now)
+    ensures { IfOk result (λ fault. fault ≡ least (wide_faults (vocabulary_of table.now)
         (plain_law law.now) (optional (option_map plain_tree test.now)))) }
 {
     if law_has_unknown(table, law, test) {
@@ -241,6 +243,22 @@ fn law_fault(
     if has_determined_head(table, law) {
         return Ok(Some(10));
     }
+    Ok(None)
+}
+
+/// The least number of a fault of a law, if it has one.
+fn law_fault(
+    alloc: Global,
+    table: &Table,
+    law: &LawTree<'_>,
+    test: &Option<Tree<'_>>,
+) -> Result<Option<u8>, OutOfMemory>
+    ensures { IfOk result (λ fault. fault ≡ least (faults.law_faults (vocabulary_of table.now)
+        (plain_law law.now) (optional (option_map plain_tree test.now)))) }
+{
+    if let Some(number) = wide_fault(alloc, table, law, test)? {
+        return Ok(Some(number));
+    }
     if has_indefinite_head(table, law) {
         return Ok(Some(11));
     }
@@ -254,6 +272,17 @@ fn part_fault(alloc: Global, table: &Table, part: &Part<'_>) -> Result<Option<u8
 {
     match part {
         Part::Law(law, test) => law_fault(alloc, table, law, test),
+        _ => Ok(None),
+    }
+}
+
+/// The same but that a head is not definite.
+fn wide_part_fault(alloc: Global, table: &Table, part: &Part<'_>) -> Result<Option<u8>, OutOfMemory>
+    ensures { IfOk result (λ fault.
+        fault ≡ widening.wide_part_fault (vocabulary_of table.now) (plain_part part.now)) }
+{
+    match part {
+        Part::Law(law, test) => wide_fault(alloc, table, law, test),
         _ => Ok(None),
     }
 }
@@ -282,6 +311,24 @@ pub(crate) fn check(
         (IsRefusedBy (law_refusal file (vocabulary left) (plain_statement statement.now))) }
 {
     match part_fault(alloc, table, &statement.part)? {
+        Some(number) => Err(refused(number, file, statement.line)),
+        None => Ok(()),
+    }
+}
+
+/// The same, where a head may be a formula of any form: refuses the least number from 5 to 10.
+pub(crate) fn check_wide(
+    alloc: Global,
+    file: u32,
+    table: &Table,
+    statement: &Statement<'_>,
+) -> Result<(), Fault>
+    ensures checked { (left : Items Declared) → IsTable table.now left → IfOk result (λ nothing.
+        wide_refusal file (vocabulary left) (plain_statement statement.now) ≡ None) }
+    ensures refused { (left : Items Declared) → IsTable table.now left → IfErr result
+        (IsRefusedBy (wide_refusal file (vocabulary left) (plain_statement statement.now))) }
+{
+    match wide_part_fault(alloc, table, &statement.part)? {
         Some(number) => Err(refused(number, file, statement.line)),
         None => Ok(()),
     }

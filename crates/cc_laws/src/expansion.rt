@@ -64,7 +64,7 @@ fn sort_ranges(alloc: Global, table: &Table, variables: &[u32]) -> Result<Vec<Ra
 }
 
 /// A part of a law, true where it is missing.
-fn written(
+pub(crate) fn written(
     alloc: Global,
     table: &Table,
     names: &mut Names,
@@ -83,7 +83,11 @@ fn written(
 }
 
 /// What the base laws of a law have in common.
-fn law_frame(alloc: Global, table: &Table, source: Source<'_, '_>) -> Result<Frame, OutOfMemory>
+pub(crate) fn law_frame(
+    alloc: Global,
+    table: &Table,
+    source: Source<'_, '_>,
+) -> Result<Frame, OutOfMemory>
     ensures { IfOk result (λ made.
         frame_of made ≡ frame_from (vocabulary_of table.now) source.entry) }
 {
@@ -99,7 +103,7 @@ fn law_frame(alloc: Global, table: &Table, source: Source<'_, '_>) -> Result<Fra
     })
 }
 
-fn is_missing(piece: Piece<'_, '_>) -> bool
+pub(crate) fn is_missing(piece: Piece<'_, '_>) -> bool
     ensures { result ≡ is_none (plain_piece piece.entry) }
 {
     match piece {
@@ -253,7 +257,7 @@ fn subject_laws(
 }
 
 /// The law `caused F if G after H` that a law is short for, if it is short for one.
-fn short_for<'t, 's>(table: &Table, law: &'t LawTree<'s>) -> Option<Caused<'t, 's>>
+pub(crate) fn short_for<'t, 's>(table: &Table, law: &'t LawTree<'s>) -> Option<Caused<'t, 's>>
     ensures { option_map plain_caused result
         ≡ law_short_for (vocabulary_of table.now) (plain_law law.now) }
 {
@@ -581,7 +585,7 @@ fn declared_laws(
 }
 
 /// The base laws of a statement's part.
-fn base_laws(
+pub(crate) fn base_laws(
     alloc: Global,
     file: u32,
     table: &Table,

@@ -20,8 +20,10 @@ mod sums;
 mod values;
 mod variables;
 mod walk;
+mod wide;
 
 pub use classes::{classify, definite};
 pub use expansion::expand;
 pub use questions::question;
 pub use steps::query_steps;
+pub use wide::expand_wide;

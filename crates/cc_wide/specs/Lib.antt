@@ -1,3 +1,4 @@
+pub mod WideForms
 pub mod WideGrounds
 pub mod WideLaws
 pub mod WideLists

@@ -8,7 +8,7 @@ use Rattle.cc_defs.specs.declared.signature.Kind.TheVariants as kinds
 use Rattle.cc_defs.specs.declared.signature.LawKind.{LawKind}
 use Rattle.cc_defs.specs.declared.signature.LawKind.TheVariants as law_kinds
 use Rattle.cc_defs.specs.ClauseForms.{Made, all_written, made_of, positive, true_variable, written}
-use Rattle.cc_defs.specs.ClauseLists.{Asserted, ClauseList, assert_all, condition_term, positions_from}
+use Rattle.cc_defs.specs.ClauseLists.{Asserted, ClauseList, assert_all, condition_term, deny, positions_from}
 use Rattle.cc_defs.specs.Clauses.{Literal, opposite}
 use Rattle.cc_defs.specs.Description.{Description}
 use Rattle.cc_defs.specs.Nodes.{term_of}
@@ -105,16 +105,18 @@ over_positions sizes made = record {
   clauses = (positive (true_variable sizes) ∷ []) ∷ positions_from 1 sizes ++ made.clauses;
 }
 
--- each rule, and then the conditions of the query
-abbrev pub candidates_over : List ℕ → List WideTimed → List Ground → ClauseList
-candidates_over sizes rules conditions =
+-- each rule, and then the conditions of the query, and that its claim does not hold
+abbrev pub candidates_over : List ℕ → List WideTimed → List Ground → Option Ground → ClauseList
+candidates_over sizes rules conditions claim =
     let made = all_implied sizes (true_variable sizes) rules
     in let asked = assert_all sizes made.last conditions
-    in over_positions sizes (record { last = asked.last; clauses = made.clauses ++ asked.clauses })
+    in let denied = deny sizes asked.last claim
+    in over_positions sizes (record { last = denied.last; clauses = made.clauses ++ asked.clauses ++ denied.clauses })
 
 abbrev pub candidates_list : WideDescription → Query → ℕ → ClauseList
 candidates_list w q horizon =
     candidates_over (wide_sizes w horizon) (wide_timed w horizon) (map (condition_term (frame w) horizon) q.conditions)
+    (option_map (condition_term (frame w) horizon) q.claim)
 
 -- ---- rivals of a row: the heads of the rules whose tests the row meets are true, and it is another row
 

@@ -1,0 +1,14 @@
+mod Assembling
+mod Calls
+mod Counts
+mod Denials
+mod Ending
+mod Folding
+mod Generals
+mod Matching
+mod Meant
+mod Meeting
+mod Placing
+mod Sizes
+mod Stances
+mod Turns

@@ -1,0 +1,14 @@
+use Rattle.std.proofs.Common.{◌∙◌, sym}
+use Rattle.cc_defs.specs.Trees.{plain_statement}
+use Rattle.cc_laws.proofs.Verdicts.{refused_by}
+use Rattle.cc_laws.proofs.Widened.{wide_refused}
+use Rattle.cc_laws.proofs.checks.check_wide.Goals as goal
+
+pub returns-in-Some-clause-refused : goal.returns-in-Some-clause-refused
+returns-in-Some-clause-refused c = λ left is.
+    refused_by _ c.args.file c.args.statement.now.line c.in-Some.number c.refused.result c.refused.ensures
+    (wide_refused c.args.file c.args.table.now left (plain_statement c.args.statement.now) _ is (sym c.in-Some.is ∙ c.in_ok-number.ensures))
+
+pub returns-in-None-clause-checked : goal.returns-in-None-clause-checked
+returns-in-None-clause-checked c = λ left is.
+    wide_refused c.args.file c.args.table.now left (plain_statement c.args.statement.now) _ is (sym c.in-None.is ∙ c.in_ok-number.ensures)

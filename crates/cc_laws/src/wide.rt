@@ -1,0 +1,229 @@
+//! The laws that a statement stands for where heads may be formulas of any form.
+ghost use Rattle.std.specs.Prelude.{◌≡◌, ◌∷◌, List as Items, [], map, IfOk, IfErr};
+ghost use Rattle.std.specs.Option.{option_map};
+ghost use Rattle.cc_defs.specs.Declarations.{Declaration as Declared};
+ghost use Rattle.cc_defs.specs.Refusals.{IsRefusedBy};
+ghost use Rattle.cc_defs.specs.Resolved.{plain_base_law, plain_formula, plain_head};
+ghost use Rattle.cc_defs.specs.Trees.{plain_law, plain_part, plain_statement, plain_tree};
+ghost use Rattle.cc_laws.specs.Expansion.{law_frame as law_frame_of};
+ghost use Rattle.cc_laws.specs.LawFaults.{law_variables as law_variables_of};
+ghost use Rattle.cc_laws.specs.Shortened.{law_short_for};
+ghost use Rattle.cc_laws.specs.Views.{frame_from, plain_caused, plain_piece};
+ghost use Rattle.cc_laws.specs.Vocabulary.{vocabulary, vocabulary_of};
+ghost use Rattle.cc_laws.specs.Widening as words;
+ghost use Rattle.cc_laws.specs.Widening.{ExpandsWide, wide_refusal};
+ghost use Rattle.cc_sorts.specs.Tables.{IsTable};
+ghost use Rattle.cc_wide.specs.WideLaws.{plain_wide_base};
+
+use crate::checks::{check_wide, law_variables};
+use crate::expansion::{Source, base_laws, is_missing, law_frame, short_for, written};
+use crate::forms::{has, has_indefinite_head};
+use crate::mention::Property;
+use crate::pieces::{Caused, HeadPiece, Piece, resolve_piece};
+use crate::resolving::resolve;
+use crate::values::equation_of;
+use cc_defs::{
+    BaseLaw, Fault, Formula, Head, LawKind, LawTree, List, OutOfMemory, Part, Statement, Tree,
+};
+use cc_sorts::Table;
+use cc_wide::{WideBase, WideLaw, WideLaws};
+use std::alloc::Global;
+
+/// A definite head as a formula: the equation of its atom, or `false`.
+fn head_formula(head: Head) -> Formula
+    ensures { plain_formula result ≡ words.head_formula (plain_head head) }
+{
+    match head {
+        Head::Atom {
+            symbol,
+            args,
+            value,
+        } => equation_of(symbol, args.into_items(), value),
+        Head::Falsity => Formula::False,
+    }
+}
+
+/// The same law, with its head as a formula.
+fn widened(law: BaseLaw) -> WideBase
+    ensures { plain_wide_base result ≡ words.widened (plain_base_law law) }
+{
+    match law {
+        BaseLaw::One(law) => WideBase::One(WideLaw {
+            ranges: law.ranges,
+            head: head_formula(law.head),
+            body: law.body,
+            after: law.after,
+            test: law.test,
+            kind: law.kind,
+            file: law.file,
+            line: law.line,
+        }),
+        BaseLaw::NoConcurrency { file, line } => WideBase::NoConcurrency { file, line },
+    }
+}
+
+/// The same laws, with their heads as formulas.
+fn all_widened(alloc: Global, laws: Vec<BaseLaw>) -> Result<Vec<WideBase>, OutOfMemory>
+    ensures { IfOk result (λ made.
+        map plain_wide_base made.items ≡ map words.widened (map plain_base_law laws.items)) }
+{
+    let mut made = Vec::with_capacity(alloc, laws.len())?;
+    for law in laws {
+        made.push(widened(law))?;
+    }
+    Ok(made)
+}
+
+/// The class of a law with this `after` part and this head.
+fn class_of(table: &Table, after: Piece<'_, '_>, head: &Tree<'_>) -> LawKind
+    ensures { result ≡ words.wide_class (vocabulary_of table.now)
+        (plain_piece after.entry) (plain_tree head.now) }
+{
+    if !is_missing(after) {
+        return LawKind::FluentDynamic;
+    }
+    if has(table, Property::Action, head) {
+        LawKind::ActionDynamic
+    } else {
+        LawKind::Static
+    }
+}
+
+/// The law whose head is kept whole.
+fn whole_law(
+    alloc: Global,
+    table: &Table,
+    source: Source<'_, '_>,
+    law: Caused<'_, '_>,
+    head: &Tree<'_>,
+) -> Result<WideBase, OutOfMemory>
+    ensures { IfOk result (λ made. plain_wide_base made ≡ words.whole_law (vocabulary_of table.now)
+        (frame_from (vocabulary_of table.now) source.entry) (plain_caused law.entry)
+        (plain_tree head.now)) }
+{
+    let mut frame = law_frame(alloc, table, source)?;
+    let body = written(alloc, table, &mut frame.names, law.body)?;
+    let after = resolve_piece(alloc, table, &mut frame.names, law.after)?;
+    let whole = resolve(alloc, table, &mut frame.names, head)?;
+    Ok(WideBase::One(WideLaw {
+        ranges: List::of(frame.ranges),
+        head: whole,
+        body,
+        after,
+        test: Box::into_inner(frame.test),
+        kind: class_of(table, law.after, head),
+        file: frame.file,
+        line: frame.line,
+    }))
+}
+
+/// The law of a law that is short for another one, where its head is kept whole.
+fn whole_laws(
+    alloc: Global,
+    table: &Table,
+    source: Source<'_, '_>,
+    law: &LawTree<'_>,
+) -> Result<Vec<WideBase>, OutOfMemory>
+    ensures { IfOk result (λ made.
+        map plain_wide_base made.items ≡ words.whole_short (vocabulary_of table.now)
+        (frame_from (vocabulary_of table.now) source.entry)
+        (law_short_for (vocabulary_of table.now) (plain_law law.now))) }
+{
+    let mut made = Vec::new(alloc);
+    if let Some(short) = short_for(table, law) {
+        if let HeadPiece::One(head) = short.head {
+            made.push(whole_law(alloc, table, source, short, head)?)?;
+        }
+    }
+    Ok(made)
+}
+
+/// The laws of a law whose head is not definite.
+fn whole_in(
+    alloc: Global,
+    file: u32,
+    table: &Table,
+    line: u32,
+    law: &LawTree<'_>,
+    test: &Option<Tree<'_>>,
+) -> Result<Vec<WideBase>, OutOfMemory>
+    ensures { IfOk result (λ made. map plain_wide_base made.items
+        ≡ words.whole_short (vocabulary_of table.now) (law_frame_of file (vocabulary_of table.now)
+        line (law_variables_of (vocabulary_of table.now) (plain_law law.now))
+        (option_map plain_tree test.now))
+        (law_short_for (vocabulary_of table.now) (plain_law law.now))) }
+{
+    let variables = law_variables(alloc, table, law)?;
+    let source = Source {
+        file,
+        line,
+        variables: &variables,
+        test,
+    };
+    whole_laws(alloc, table, source, law)
+}
+
+/// Whether the head of a part is not definite.
+fn is_whole(table: &Table, part: &Part<'_>) -> bool
+    ensures { result ≡ words.is_whole (vocabulary_of table.now) (plain_part part.now) }
+{
+    match part {
+        Part::Law(law, _) => has_indefinite_head(table, law),
+        _ => false,
+    }
+}
+
+/// The law of a part, with its head whole.
+fn whole_part(
+    alloc: Global,
+    file: u32,
+    table: &Table,
+    line: u32,
+    part: &Part<'_>,
+) -> Result<Vec<WideBase>, OutOfMemory>
+    ensures { IfOk result (λ made. map plain_wide_base made.items
+        ≡ words.whole_laws file (vocabulary_of table.now) line (plain_part part.now)) }
+{
+    match part {
+        Part::Law(law, test) => whole_in(alloc, file, table, line, law, test),
+        _ => Ok(Vec::new(alloc)),
+    }
+}
+
+/// The laws of a statement's part.
+fn wide_laws(
+    alloc: Global,
+    file: u32,
+    table: &Table,
+    line: u32,
+    part: &Part<'_>,
+) -> Result<Vec<WideBase>, OutOfMemory>
+    ensures { IfOk result (λ made. map plain_wide_base made.items
+        ≡ words.wide_laws file (vocabulary_of table.now) line (plain_part part.now)) }
+{
+    if is_whole(table, part) {
+        return whole_part(alloc, file, table, line, part);
+    }
+    let laws = base_laws(alloc, file, table, line, part)?;
+    all_widened(alloc, laws)
+}
+
+/// The laws that a law, or a statement of constants that was declared, stands for, in order, where heads may be formulas of
+/// any form: of a law with a definite head its base laws, with their atoms as equations; of another law one, whose head is
+/// kept whole. Refuses, at the statement's line, the least number from 5 to 10 of a fault of the law, as `expand` does; a head
+/// that is not definite is none. `file` is the number of the file in refusals.
+pub fn expand_wide(
+    alloc: Global,
+    file: u32,
+    table: &Table,
+    statement: &Statement<'_>,
+) -> Result<WideLaws, Fault>
+    ensures expanded { (left : Items Declared) → IsTable table.now left → IfOk result (λ laws.
+        ExpandsWide file left (plain_statement statement.now) (map plain_wide_base laws)) }
+    ensures refused { (left : Items Declared) → IsTable table.now left → IfErr result
+        (IsRefusedBy (wide_refusal file (vocabulary left) (plain_statement statement.now))) }
+{
+    check_wide(alloc, file, table, statement)?;
+    let laws = wide_laws(alloc, file, table, statement.line, &statement.part)?;
+    Ok(List::of(laws))
+}

@@ -1,0 +1,4 @@
+pub mod Copied
+pub mod Joined
+pub mod WideFits
+pub mod Zipped

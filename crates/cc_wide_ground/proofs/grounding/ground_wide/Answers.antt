@@ -1,0 +1,28 @@
+use Rattle.std.proofs.Common.{◌∙◌, ap, map, subst, sym}
+use Rattle.cc_arena.specs.GroundViews.{plain_ground_laws}
+use Rattle.cc_defs.specs.Universe.{universe}
+use Rattle.cc_wide.specs.WideForms.{AreWideGroundLaws}
+use Rattle.cc_wide.specs.WideGrounds.{plain_wide_ground}
+use Rattle.cc_wide.specs.WideLaws.{frame_base, plain_wide_base}
+use Rattle.cc_wide_ground.specs.WideGrounding.{head_base}
+use Rattle.cc_wide_ground.proofs.WideFits.{all_fit}
+use Rattle.cc_wide_ground.proofs.Zipped.{all_made}
+use Rattle.cc_wide_ground.proofs.grounding.ground_wide.Goals as goal
+
+pub returns-clause-made : goal.returns-clause-made
+returns-clause-made c = λ declarations is of.
+    ap (map plain_wide_ground) c.of.ensures
+    ∙ c.in_ok-made.ensures
+    ∙ all_made (universe declarations) c.heads_there_are_ground.ensures (map plain_wide_base c.args.laws.now) _ _ _ _ _
+    (c.in_ok-frames.ensures ∙ ap (λ laws. map frame_base (map plain_wide_base laws)) c.items.ensures)
+    (c.in_ok-told.ensures ∙ ap (λ laws. map head_base (map plain_wide_base laws)) c.items-2.ensures)
+    (ap plain_ground_laws c.laws.ensures ∙ c.in_ok-parts.ensures.made declarations is of)
+    (ap plain_ground_laws c.laws-2.ensures ∙ c.in_ok-heads.ensures.made declarations is of)
+    c.in_ok-falsehood.ensures
+
+pub returns-clause-fits : goal.returns-clause-fits
+returns-clause-fits c = λ declarations is of forms.
+    let u = universe declarations in
+    subst (AreWideGroundLaws u) (sym (returns-clause-made c declarations is of))
+    (all_fit u c.fluent_terms_fit.ensures c.ground_laws_fit.ensures (c.declared_have_their_kinds.ensures declarations)
+    (c.declared_have_their_values.ensures declarations is.known) 0 (map plain_wide_base c.args.laws.now) forms)
