@@ -12,7 +12,7 @@ A case has, beside the files of a description (the first is the main one), a fil
     claim               the clause list denies the claim
     after I,I,..        the clause list has the key of this row
     cut N               the log has so many bytes less at its end
-    show WORD WORD      what is printed: rules, causes, rows, clauses, log
+    show WORD WORD      what is printed: rules, causes, rows, clauses, size, log
 
 and, where the log is shown, a file `log`. Logs are read and written in both versions.
 
@@ -697,6 +697,9 @@ def case_lines(files, main):
             made = clause_list(description, query, asked["horizon"], asked["claim"], asked["after"])
             lines.append(f"variables {made.last}")
             lines += [f"clause {number}:" + "".join(f" {literal}" for literal in clause) for number, clause in enumerate(made.clauses, 1)]
+        elif what == "size":
+            made = clause_list(description, query, asked["horizon"], asked["claim"], asked["after"])
+            lines.append(f"variables {made.last}, clauses {len(made.clauses)}")
         elif what == "log":
             lines += log_lines(description, query, asked, files["log"][: len(files["log"]) - asked["cut"]])
     return lines

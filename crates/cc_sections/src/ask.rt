@@ -9,6 +9,7 @@ pub(crate) enum Show {
     Causes,
     Rows,
     Clauses,
+    Size,
     Log,
 }
 
@@ -42,6 +43,7 @@ fn show_of(word: &str) -> Option<Show> {
         "causes" => Some(Show::Causes),
         "rows" => Some(Show::Rows),
         "clauses" => Some(Show::Clauses),
+        "size" => Some(Show::Size),
         "log" => Some(Show::Log),
         _ => None,
     }

@@ -8,7 +8,7 @@ ghost use Rattle.cc_sections.specs.Asked.{AreAskable};
 ghost use Rattle.cc_sorts.specs.Tables.{IsSignatureFor};
 
 use crate::ask::{Ask, Show};
-use crate::clauses::{form_at, show_form, theory_at};
+use crate::clauses::{form_at, show_form, show_size, theory_at};
 use crate::halt::{Halt, show_halt};
 use crate::logs::show_log;
 use crate::rows::show_rows;
@@ -74,6 +74,10 @@ fn show_one(
         Show::Clauses => {
             let form = form_asked(alloc, sig, laws, query, ask)?;
             Ok(show_form(out, &form)?)
+        }
+        Show::Size => {
+            let form = form_asked(alloc, sig, laws, query, ask)?;
+            Ok(show_size(out, &form)?)
         }
         Show::Log => show_log(alloc, out, sig, laws, query, ask, log),
     }

@@ -16,6 +16,8 @@ pub(crate) enum Halt {
     Key,
     /// The search went on for too long.
     Search,
+    /// A template puts together another clause list than the one that is made rule by rule.
+    Ways,
     /// The log has more bytes than a log may have.
     Log,
     OutOfMemory,
@@ -76,6 +78,7 @@ pub(crate) fn show_halt(out: &mut String, halt: Halt) -> Result<(), OutOfMemory>
         Halt::Horizon => show_words(out, "horizon outside the range"),
         Halt::Key => show_words(out, "no key of the query"),
         Halt::Search => show_words(out, "search unfinished"),
+        Halt::Ways => show_words(out, "two clause lists"),
         Halt::Log => show_words(out, "log too long"),
         Halt::OutOfMemory => Err(OutOfMemory),
     }

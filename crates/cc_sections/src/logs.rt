@@ -90,12 +90,11 @@ fn show_sections(
     laws: &Laws<'_>,
     query: &GroundQuery<'_>,
     after: Option<&Vec<u32>>,
-    sections: &Sections<'_>,
+    sections: &mut Sections<'_>,
 ) -> Result<(), Halt>
     requires { AreAskable sig.now laws.now (plain_ground_query query.now) }
 {
-    for number in 0..sections.count() {
-        let section = sections.section(number);
+    while let Some(section) = sections.next()? {
         show_section(alloc, out, sig, laws, query, after, &section)?;
     }
     Ok(())
@@ -124,9 +123,9 @@ pub(crate) fn show_log(
         return Err(Halt::Log);
     }
     match Sections::read(alloc, log) {
-        Ok(sections) => {
+        Ok(mut sections) => {
             let after = ask.after.as_ref();
-            show_sections(alloc, out, sig, laws, query, after, &sections)
+            show_sections(alloc, out, sig, laws, query, after, &mut sections)
         }
         Err(CheckFault::Refused { line, cause }) => Ok(show_wrong(out, line, cause)?),
         Err(CheckFault::OutOfMemory) => Err(Halt::OutOfMemory),

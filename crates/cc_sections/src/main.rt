@@ -10,7 +10,7 @@
 //! claim               the clause list denies the claim
 //! after I,I,..        the clause list has the key of this row
 //! cut N               the log has so many bytes less at its end
-//! show WORD WORD      what is printed: rules, causes, rows, clauses, log
+//! show WORD WORD      what is printed: rules, causes, rows, clauses, size, log
 //! ```
 //!
 //! # What is printed
@@ -24,6 +24,7 @@
 //! row I,I,..                                         each row that the search finds for the clause list, one after another
 //! variables N                                        of the clause list
 //! clause NUMBER: LITERAL LITERAL                     each of its clauses, from 1
+//! variables N, clauses N                             its size alone
 //! section WORD HORIZON line LINE: right END blocks N line LINE     of a log, each section over a clause list of its own
 //! section WORD HORIZON line LINE: wrong LINE CAUSE
 //! wrong LINE CAUSE                                   where the log has no sections
@@ -37,6 +38,7 @@
 //! no such query
 //! horizon outside the range
 //! no key of the query                                the query has a claim, the row is not one of the horizon, or as above
+//! two clause lists                                   that of a template is another than that made rule by rule
 //! search unfinished                                  after more steps than this program makes
 //! log too long
 //! ```

@@ -1,7 +1,7 @@
 //! Logs of version 2: how they are split, and what is found of their sections.
 ghost use Rattle.std.specs.Prelude.{◌≤◌, length};
 
-use crate::check::{is_at, no_clauses};
+use crate::check::{is_at, is_last, no_clauses};
 use crate::silent::clauses_behind;
 use cc_check::{CheckFault, Finding, Section, Sections, find};
 use cc_defs::{Cause, EndWord, Fault, Version};
@@ -13,18 +13,26 @@ use std::test::Fail;
 const LOG: &[u8] =
     b"ccalclg2\x02\x00\x03\x00\x01\x02\x02\x00\x05\x01\x00\x04\x02\x00\x01\x05\x03\x01";
 
+// Whether a section comes next, is at this line, and has these bytes.
+fn is_next(sections: &mut Sections<'_>, conditions: bool, line: u32, bytes: &[u8]) -> bool {
+    match sections.next() {
+        Ok(Some(section)) => {
+            is_at(&section, conditions, line)
+                && section.version() == Version::Second
+                && section.bytes() == bytes
+        }
+        Ok(None) | Err(_) => false,
+    }
+}
+
 #[test]
 fn logs_are_split(rt: HostRuntime) -> Result<(), Fail> {
     if LOG.len() <= 1000 {
         match Sections::read(rt.alloc(), LOG) {
-            Ok(sections) => {
-                assert_eq!(rt; sections.count(), 2);
-                if sections.count() == 2 {
-                    assert!(rt; is_at(&sections.section(0), true, 2));
-                    assert!(rt; is_at(&sections.section(1), false, 5));
-                    assert!(rt; sections.section(1).version() == Version::Second);
-                    assert!(rt; sections.section(1).bytes() == &LOG[19..]);
-                }
+            Ok(mut sections) => {
+                assert!(rt; is_next(&mut sections, true, 2, &LOG[10..17]));
+                assert!(rt; is_next(&mut sections, false, 5, &LOG[19..]));
+                assert!(rt; is_last(&mut sections));
             }
             Err(_) => assert!(rt; false),
         }

@@ -63,17 +63,31 @@ pub(crate) fn is_at(section: &Section<'_>, conditions: bool, line: u32) -> bool 
     section.conditions() == conditions && section.line() == line && section.horizon() == 0
 }
 
+// Whether a section comes next, and is at this line.
+fn is_next_at(sections: &mut Sections<'_>, conditions: bool, line: u32) -> bool {
+    match sections.next() {
+        Ok(Some(section)) => is_at(&section, conditions, line),
+        Ok(None) | Err(_) => false,
+    }
+}
+
+// Whether no section comes next.
+pub(crate) fn is_last(sections: &mut Sections<'_>) -> bool {
+    match sections.next() {
+        Ok(next) => next.is_none(),
+        Err(_) => false,
+    }
+}
+
 #[test]
 fn logs_are_split(rt: HostRuntime) -> Result<(), Fail> {
     let bytes = LOG.as_bytes();
     if bytes.len() <= 1000 {
         match Sections::read(rt.alloc(), bytes) {
-            Ok(sections) => {
-                assert_eq!(rt; sections.count(), 2);
-                if sections.count() == 2 {
-                    assert!(rt; is_at(&sections.section(0), true, 2));
-                    assert!(rt; is_at(&sections.section(1), false, 5));
-                }
+            Ok(mut sections) => {
+                assert!(rt; is_next_at(&mut sections, true, 2));
+                assert!(rt; is_next_at(&mut sections, false, 5));
+                assert!(rt; is_last(&mut sections));
             }
             Err(_) => assert!(rt; false),
         }

@@ -7,3 +7,6 @@ clauses-requires-clause-query c =
     asked_of c.args.sig.now c.in_ok-theory.theory.signature c.args.horizon c.in_ok-theory.theory.horizon (plain_ground_query c.args.query.now)
     c.in_ok-theory.ensures.signature c.in_ok-theory.ensures.horizon
     (c.requires.steps c.args.horizon c.if-horizon-query.false c.if-horizon-query-2.false)
+
+pub from_template-requires-clause-query : goal.from_template-requires-clause-query
+from_template-requires-clause-query c = c.requires.steps c.args.horizon c.if-horizon-query.false c.if-horizon-query-2.false
