@@ -186,15 +186,6 @@ module _ (count line : ℕ) (rest : List ℕ) (h : AreFewSoFar count line rest) 
       record { least = omega arith; few = omega arith; fewer = omega arith }
 
 module _ {H : Type 0} (subject : SilentSubject H) (texts : List (List ℕ)) (count line : ℕ) (rest : List ℕ) (h : SilentSoFar subject texts count line rest) where
-  pub silent_done : length rest ≡ 0 → (verdict : SilentVerdict) → verdict ≡ verdicts.Accepted count → IsSilentVerdictBehind subject (PassesNoLimit subject) texts verdict
-  silent_done nil verdict is = (
-    h.sections,
-    line,
-    [],
-    subst (λ (t : List ℕ). LeadsTo subject (PassesNoLimit subject) 2 texts h.sections line (lines_in t)) (nil_from_length rest nil) h.leads,
-    is ∙ ap verdicts.Accepted h.counted,
-  )
-
   module _ (text behind : List ℕ) (cut : IsFirstLine rest text behind) where
     pub silent_more : (passed : Passed) (more : ℕ) (others : Bor (List ℕ)) → passed ≡ passeds.Goes more others → IsPassedFrom subject line (text ∷ lines_in behind) passed →
         SilentSoFar subject texts (count + 1) (line + 1 + more) others.now

@@ -12,7 +12,7 @@ ghost use Rattle.cc_defs.specs.Refusals.{IsRefusedBy};
 use crate::judge::{Finding, find_lines};
 use crate::sections::{ahead, second_cause};
 use crate::text::first_line;
-use cc_defs::{Cause, EndWord, Fault, Version};
+use cc_defs::{Cause, EndWord, Fault, OutOfMemory, Version};
 use cc_form::Form;
 use std::alloc::Global;
 
@@ -36,9 +36,9 @@ pub trait Silent {
         ensures { (of : Of) → Is self.now of → result.now ≡ (subject of).header };
 
     /// What the text of a line, with its line feed, says as a heading.
-    fn read(&self, text: &[u8]) -> Option<Self::Heading>
-        ensures { (of : Of) → Is self.now of →
-            MatchOption result (IsUnread (subject of) text.now) ((subject of).Reads text.now) };
+    fn read(&self, alloc: Global, text: &[u8]) -> Result<Option<Self::Heading>, OutOfMemory>
+        ensures { (of : Of) → Is self.now of → IfOk result (λ heading.
+            MatchOption heading (IsUnread (subject of) text.now) ((subject of).Reads text.now)) };
 
     /// Whether a log may have a section under this heading.
     fn is_right(&self, heading: &Self::Heading) -> bool
@@ -95,40 +95,46 @@ fn is_header<S: Silent>(kind: &S, text: &[u8]) -> bool
 }
 
 // Whether a text is that of a heading.
-fn is_read<S: Silent>(kind: &S, text: &[u8]) -> bool
-    ensures { (of : S.Of) → S.Is kind.now of → MatchBool result ((heading : S.Heading)
-        × (S.subject of).Reads text.now heading) (IsUnread (S.subject of) text.now) }
+fn is_read<S: Silent>(alloc: Global, kind: &S, text: &[u8]) -> Result<bool, OutOfMemory>
+    ensures { (of : S.Of) → S.Is kind.now of → IfOk result (λ read. MatchBool read
+        ((heading : S.Heading) × (S.subject of).Reads text.now heading)
+        (IsUnread (S.subject of) text.now)) }
 {
-    match kind.read(text) {
-        Some(_) => true,
-        None => false,
+    match kind.read(alloc, text)? {
+        Some(_) => Ok(true),
+        None => Ok(false),
     }
 }
 
 // The lines up to the next heading.
-fn inside_of<'b, S: Silent>(kind: &S, all: &'b [u8]) -> SilentInside<'b>
+fn inside_of<'b, S: Silent>(
+    alloc: Global,
+    kind: &S,
+    all: &'b [u8],
+) -> Result<SilentInside<'b>, OutOfMemory>
     requires { length all.now ≤ most_log_bytes }
-    ensures inside { (of : S.Of) → S.Is kind.now of →
-        IsSilentInside (S.subject of) all.now result.bytes.now result.count result.rest.now }
-    ensures few { length result.bytes.now ≤ length all.now }
-    ensures fewer { result.count + length result.rest.now ≤ length all.now }
+    ensures inside { (of : S.Of) → S.Is kind.now of → IfOk result (λ inside.
+        IsSilentInside (S.subject of) all.now inside.bytes.now inside.count inside.rest.now) }
+    ensures few { IfOk result (λ inside. length inside.bytes.now ≤ length all.now) }
+    ensures fewer { IfOk result (λ inside.
+        inside.count + length inside.rest.now ≤ length all.now) }
 {
     let mut rest = all;
     let mut count = 0;
     while !rest.is_empty() {
         let (text, behind) = first_line(rest);
-        if is_read(kind, text) {
+        if is_read(alloc, kind, text)? {
             let bytes = ahead(all, rest.len());
-            return SilentInside { bytes, count, rest };
+            return Ok(SilentInside { bytes, count, rest });
         }
         count += 1;
         rest = behind;
     }
-    SilentInside {
+    Ok(SilentInside {
         bytes: all,
         count,
         rest,
-    }
+    })
 }
 
 // What refuses a section, by what its lines are found to be.
@@ -169,11 +175,11 @@ fn pass_section<'b, S: Silent>(
     ensures refused { (of : S.Of) → S.Is kind.now of →
         IfErr result (IsPassFault (S.subject of) line (text.now ∷ lines_in behind.now)) }
 {
-    let Some(heading) = kind.read(text) else {
+    let Some(heading) = kind.read(alloc, text)? else {
         let cause = second_cause(alloc, text)?;
         return Ok(Passed::Stops(refused(line, cause)));
     };
-    let inside = inside_of(kind, behind);
+    let inside = inside_of(alloc, kind, behind)?;
     if !kind.is_right(&heading) {
         return Ok(Passed::Stops(refused(line, Cause::Section)));
     }

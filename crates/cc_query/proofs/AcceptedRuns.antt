@@ -25,8 +25,9 @@ use Rattle.cc_defs.specs.Rows.{IsRow}
 use Rattle.cc_defs.specs.Runs.{Ask, Run, Step, Derive, Tell, Section, Horizon, Histories, Conditions, Claim, Failure, AreDone, IsTrueOf, IsExhausted, IsFairRun, IsFairSection, TellsHistories, EndsWith, axioms_of, denied_rows, rows_of, optional, key_row, told, logged, told_row, step_events, section_events, horizon_events, said_of, done_events, events_of, first_horizon, last_horizon, horizon_at}
 use Rattle.cc_defs.specs.Sections.{Right, EndsRightly}
 use Rattle.cc_query.specs.Accepted.{AreGoodAxioms, HaveGoodAxioms, IsReported, WrittenLogsAreAccepted, lines_of, subject_of}
+use Rattle.cc_query.specs.Parts.{step_line}
 use Rattle.cc_query.proofs.AcceptedLines.{all_front, all_behind, log_cut, no_headings, not_binary, read_back}
-use Rattle.cc_query.proofs.AcceptedSections.{IsWritten, inner_lines, step_lines, written}
+use Rattle.cc_query.proofs.AcceptedSections.{IsWritten, inner_lines, written}
 use Rattle.cc_query.proofs.Steps.{in_first, in_rest}
 
 -- ---- headings
@@ -100,7 +101,7 @@ found_goes subject horizon claim most short inside more is next blocked at line 
 lines_append : (a b : List Told) → lines_of (a ++ b) ≡ lines_of a ++ lines_of b
 lines_append a b = flat_map-append (λ one. line_told one.event) a b
 
-steps_logged : (horizon number : ℕ) (steps : List Step) → lines_of (step_events horizon number steps) ≡ step_lines steps
+steps_logged : (horizon number : ℕ) (steps : List Step) → lines_of (step_events horizon number steps) ≡ map step_line steps
 steps_logged horizon number [] = refl
 steps_logged horizon number (Derive clause chain ∷ steps) = ap (λ (all : List LogLine). lines.Derived clause chain ∷ all) (steps_logged horizon number steps)
 steps_logged horizon number (Tell row ∷ steps) = ap (λ (all : List LogLine). lines.Block row ∷ all) (steps_logged horizon (number + 1) steps)
@@ -118,10 +119,10 @@ section_logged conditions horizon section word ends =
     let steps = step_events horizon 1 section.steps in
     let rows = map (told_row (events.History horizon (length (denied_rows section) + 1))) (optional section.last) in
     let last = map (λ w. logged (lines.End w)) (optional section.word) in
-    let front : lines_of (steps ++ rows) ≡ step_lines section.steps ++ [] =
+    let front : lines_of (steps ++ rows) ≡ map step_line section.steps ++ [] =
     lines_append steps rows ∙ ap₂ (λ (a b : List LogLine). a ++ b) (steps_logged horizon 1 section.steps) (last_logged horizon (length (denied_rows section) + 1) section.last) in
     ap (λ (all : List LogLine). lines.Section conditions horizon ∷ all)
-    (lines_append (steps ++ rows) last ∙ ap₂ (λ (a b : List LogLine). a ++ b) (front ∙ append-nil (step_lines section.steps)) (word_logged word section.word ends))
+    (lines_append (steps ++ rows) last ∙ ap₂ (λ (a b : List LogLine). a ++ b) (front ∙ append-nil (map step_line section.steps)) (word_logged word section.word ends))
 
 said_logged : (horizon : ℕ) (first : Horizon) → lines_of (said_of horizon first) ≡ []
 said_logged horizon (Histories section) = refl

@@ -14,7 +14,7 @@ use Rattle.cc_defs.specs.Rows.{IsRow}
 use Rattle.cc_defs.specs.Runs.{Step, Derive, Tell, AreFairSteps}
 use Rattle.cc_defs.specs.Sections.{Axioms, Reading, Right, EndsRightly, IsFound, denial_from, row_denial}
 use Rattle.cc_query.specs.Accepted.{AreGoodAxioms}
-use Rattle.cc_query.specs.Parts.{rows_in}
+use Rattle.cc_query.specs.Parts.{rows_in, step_line}
 use Rattle.cc_query.proofs.AcceptedLines.{IsWithin, all_append, read_back}
 use Rattle.cc_query.proofs.Steps.{in_none, in_first, in_rest, in_cases}
 
@@ -105,15 +105,9 @@ pub good_both : (variables : ℕ) (clauses : List (List Literal)) → AllByRecur
 good_both variables [] all over = tt
 good_both variables (clause ∷ clauses) all over = ((all.0, over.0), good_both variables clauses all.1 over.1)
 
--- the lines of steps
-abbrev pub step_lines : List Step → List LogLine
-step_lines [] = []
-step_lines (Derive clause chain ∷ steps) = lines.Derived clause chain ∷ step_lines steps
-step_lines (Tell row ∷ steps) = lines.Block row ∷ step_lines steps
-
 -- what stands behind a section's heading
 abbrev pub inner_lines : List Step → EndWord → List LogLine
-inner_lines steps word = step_lines steps ++ lines.End word ∷ []
+inner_lines steps word = map step_line steps ++ lines.End word ∷ []
 
 -- lines of the first version, with blocks
 abbrev plainly : Reading

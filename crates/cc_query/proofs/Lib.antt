@@ -11,6 +11,7 @@ pub mod Reaching
 pub mod Refusing
 pub mod Rows
 pub mod Running
+pub mod Searching
 pub mod Shortness
 pub mod Steps
 pub mod Told

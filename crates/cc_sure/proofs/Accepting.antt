@@ -16,6 +16,7 @@ use Rattle.cc_defs.specs.LogTexts.{IsFormed, IsShort, line_text, lines_in}
 use Rattle.cc_defs.specs.Resolved.{Query}
 use Rattle.cc_defs.specs.Runs.{Section, Step, Derive, Tell, AreFairSteps, EndsWith, optional, range_of, row_told}
 use Rattle.cc_defs.specs.Sections.{Axioms, IsFound, Right, EndsRightly}
+use Rattle.cc_query.specs.Parts.{section_lines, step_line}
 use Rattle.cc_query.proofs.AcceptedLines.{IsWithin, all_append, lines_cut, read_back}
 use Rattle.cc_query.proofs.AcceptedSections.{IsGoodClause, good_both, good_resolved, reached}
 use Rattle.cc_sure.specs.declared.check.AtomHeading.{AtomHeading}
@@ -23,7 +24,7 @@ use Rattle.cc_sure.specs.Accepted.{IsUnspent, IsUnspentEnding, IsWritableTold, S
 use Rattle.cc_sure.specs.Sought.{PassesNoLimit, Sought, Any, With, sought_axioms}
 use Rattle.cc_sure.specs.SureLogs.{IsAtomHeading, IsInRange, sure_subject}
 use Rattle.cc_sure.specs.SureRuns.{Settled, SureEnding, Complete, NoneAtAll, Spent, SureRun, Tried, Known, Shown, Never, AreTrueSettled, AreTrueTried, IsFairSure, LooksFor, settled_examples, shown_at, sought_next, sure_horizon}
-use Rattle.cc_sure.specs.SureTold.{SureTold, NoneAt, ExampleIs, NeverSo, AnswersAre, Ends, atom_heading, none_told, section_lines, settled_told, step_line, sure_lines, sure_told, tried_told}
+use Rattle.cc_sure.specs.SureTold.{SureTold, NoneAt, ExampleIs, NeverSo, AnswersAre, Ends, atom_heading, none_told, settled_told, sure_lines, sure_told, tried_told}
 use Rattle.cc_sure.proofs.AtomLines.{all_unread, heading_cut}
 
 all_both : {A : Type 0} (P Q : A → Type 0) (xs : List A) → AllByRecursion P xs → AllByRecursion Q xs → AllByRecursion (λ x. P x × Q x) xs

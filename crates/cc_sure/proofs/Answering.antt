@@ -1,27 +1,24 @@
 -- The answers of a position all of whose values were tried.
-use Rattle.std.proofs.Common.{◌≡◌, ◌≢◌, ◌∙◌, ℕ, zero, suc, ◌+◌, ◌<◌, ◌≤◌, ◌⊎◌, Bool, true, false, List, [], ◌∷◌, ◌++◌, drop, take, length, map, slice_get, Option, Some, None, refl, sym, subst, ap, arith, append-nil, append_assoc, length-append, inl, inr}
-use Rattle.std.specs.Prelude.{Contains, flat_map}
-use Rattle.std.specs.List.{AllByRecursion}
+use Rattle.std.proofs.Common.{◌≡◌, ◌∙◌, ℕ, zero, suc, ◌+◌, ◌<◌, ◌⊎◌, Bool, true, false, List, [], ◌∷◌, ◌++◌, drop, take, length, map, slice_get, Some, None, refl, sym, subst, ap, arith, append-nil, inl, inr}
+use Rattle.std.specs.Prelude.{flat_map}
 use Rattle.std.proofs.lemmas.Bool.{cases_eq}
 use Rattle.std.proofs.lemmas.List.{length-map}
 use Rattle.std.proofs.lemmas.Grind.{flat_map-append}
-use Rattle.std.proofs.lemmas.Option.{slice_get_within}
 use Rattle.cc_defs.specs.Description.{Description, sizes_at}
 use Rattle.cc_defs.specs.Histories.{IsHistory}
 use Rattle.cc_defs.specs.Resolved.{Query}
-use Rattle.cc_defs.specs.Rows.{IsRow}
 use Rattle.cc_defs.specs.Runs.{range_of}
 use Rattle.cc_defs.specs.Sections.{Axioms}
-use Rattle.cc_query.proofs.Steps.{in_cases, in_first, in_none}
+use Rattle.cc_query.proofs.AcceptedLines.{all_append}
+use Rattle.cc_query.proofs.Steps.{in_cases, in_none}
 use Rattle.cc_sure.specs.declared.answer.Answer.{Answer}
 use Rattle.cc_sure.specs.declared.answer.Answer.TheVariants as answers
 use Rattle.cc_sure.specs.Outcomes.{AreAnswersFor, IsAnswerFor, SomeHas}
 use Rattle.cc_sure.specs.Sought.{HasValue}
-use Rattle.cc_sure.specs.SureRuns.{Settled, Tried, AreRightAnswers, IsFairSure, IsFirstWith, IsLackedBy, IsNew, IsRightAnswer, IsTrueSettled, examples_of, settled_examples, shown_at, shown_in}
+use Rattle.cc_sure.specs.SureRuns.{Settled, Tried, AreRightAnswers, IsFairSure, IsFirstWith, IsNew, IsRightAnswer, IsTrueSettled, examples_of, settled_examples, shown_at, shown_in}
 use Rattle.cc_sure.specs.Sures.{IsFormOf, is_never}
 use Rattle.cc_sure.proofs.Atoms.{index_at}
 use Rattle.cc_sure.proofs.Runs.{going}
-use Rattle.cc_sure.proofs.Searching.{all_append}
 use Rattle.cc_sure.proofs.Told.{said_of}
 
 -- ---- lists

@@ -1,5 +1,5 @@
 -- What is right of a heading, and the axioms under it.
-use Rattle.std.proofs.Common.{◌≡◌, ◌∙◌, ℕ, ◌<◌, ◌≤◌, List, Option, Some, None, Result, Ok, Err, IfOk, IfErr, OnOk, refl, sym, subst, ap, arith, slice_get}
+use Rattle.std.proofs.Common.{◌≡◌, ◌∙◌, ℕ, ◌≤◌, List, Option, None, Result, Ok, Err, IfOk, IfErr, OnOk, sym, subst, ap, arith, slice_get}
 use Rattle.std.specs.Prelude.{◌↔◌, Bool, IsTrue, true, false, unwrap_or}
 use Rattle.std.specs.Option.{option_or}
 use Rattle.cc_check.specs.declared.silent.SilentVerdict.{SilentVerdict}
@@ -9,7 +9,7 @@ use Rattle.cc_defs.specs.declared.refusal.Fault.{Fault}
 use Rattle.cc_defs.specs.declared.refusal.Fault.TheVariants as faults
 use Rattle.cc_defs.specs.declared.refusal.Refusal.{Refusal}
 use Rattle.cc_defs.specs.Conditions.{IsSignatureOfDescription}
-use Rattle.cc_defs.specs.Description.{Description, sizes_at}
+use Rattle.cc_defs.specs.Description.{Description}
 use Rattle.cc_defs.specs.GroundLaws.{PlainGroundQuery, StandsForQuery}
 use Rattle.cc_defs.specs.Refusals.{IsRefusedBy}
 use Rattle.cc_defs.specs.Resolved.{Query}

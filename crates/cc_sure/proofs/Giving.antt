@@ -1,7 +1,5 @@
 -- What each step of a run gives: the event that is told, and where the state stands then.
-use Rattle.std.proofs.Common.{◌≡◌, ◌≢◌, ◌∙◌, ℕ, zero, suc, ◌+◌, ◌-◌, ◌<◌, ◌≤◌, Bool, true, false, List, [], ◌∷◌, ◌++◌, drop, length, map, sum, slice_get, Option, Some, None, refl, sym, subst, ap, arith, append-nil, append_assoc, length-append, inl, inr}
-use Rattle.std.specs.Prelude.{Contains, IsNone, IsSome, IfSome}
-use Rattle.std.specs.List.{AllByRecursion}
+use Rattle.std.proofs.Common.{◌≡◌, ◌∙◌, ℕ, zero, suc, ◌+◌, ◌<◌, ◌≤◌, Bool, true, false, List, [], ◌∷◌, ◌++◌, drop, length, map, sum, slice_get, Option, Some, None, refl, sym, subst, ap, arith, append-nil, append_assoc, length-append, inl, inr}
 use Rattle.std.proofs.lemmas.List.{length-map, map-append}
 use Rattle.std.proofs.lemmas.List.Elements.{Contains-append_left, Contains-append_right}
 use Rattle.std.proofs.lemmas.List.Sums.{sum_by-cons}
@@ -11,32 +9,32 @@ use Rattle.cc_defs.specs.declared.log.EndWord.TheVariants as words
 use Rattle.cc_defs.specs.declared.log.LogLine.{LogLine}
 use Rattle.cc_defs.specs.Description.{Description, sizes_at}
 use Rattle.cc_defs.specs.GroundLaws.{StandsForQuery}
-use Rattle.cc_defs.specs.Histories.{AreFirst, AreFirstOf, IsHistory}
-use Rattle.cc_defs.specs.LogTexts.{IsFormed}
+use Rattle.cc_defs.specs.Histories.{AreFirst, AreFirstOf}
 use Rattle.cc_defs.specs.Resolved.{Query}
 use Rattle.cc_defs.specs.Rows.{IsRow}
-use Rattle.cc_defs.specs.Runs.{HasNone, range_of}
+use Rattle.cc_defs.specs.Runs.{range_of}
 use Rattle.cc_defs.specs.Sections.{Axioms}
 use Rattle.cc_form.specs.Building.{count_refusal}
 use Rattle.cc_form.specs.Forms.{with_atom}
+use Rattle.cc_query.specs.declared.least.Outcome.{Outcome}
+use Rattle.cc_query.specs.declared.least.Outcome.TheVariants as outcomes
 use Rattle.cc_query.specs.Accepted.{AreGoodAxioms}
+use Rattle.cc_query.specs.Outcomes.{IsEnded, IsOutcome}
+use Rattle.cc_query.proofs.AcceptedLines.{all_append}
 use Rattle.cc_query.proofs.Steps.{in_first}
 use Rattle.cc_sure.specs.declared.answer.Answer.{Answer}
 use Rattle.cc_sure.specs.declared.answer.SureEvent.{SureEvent}
 use Rattle.cc_sure.specs.declared.answer.SureEvent.TheVariants as events
-use Rattle.cc_sure.specs.declared.finding.Outcome.{Outcome}
-use Rattle.cc_sure.specs.declared.finding.Outcome.TheVariants as outcomes
 use Rattle.cc_sure.specs.declared.phase.Phase.TheVariants as phases
-use Rattle.cc_sure.specs.Outcomes.{AreAnswersFor, IsEnded, IsOutcome, SomeHas}
-use Rattle.cc_sure.specs.Sought.{HasValue, IsAtomAt, IsSought, Sought, Any, With, PassesNoLimit, sought_axioms}
-use Rattle.cc_sure.specs.SureRuns.{Settled, SureEnding, Complete, NoneAtAll, Spent, SureRun, Tried, Known, Shown, Never, IsFairSure, IsNew, IsTrueTried, LooksFor, MayEndSure, examples_of, settled_examples, shown_at, shown_by, shown_in, sought_next, sure_horizon}
+use Rattle.cc_sure.specs.Outcomes.{AreAnswersFor, SomeHas}
+use Rattle.cc_sure.specs.Sought.{HasValue, IsAtomAt, IsSought, Any, With, PassesNoLimit, sought_axioms}
+use Rattle.cc_sure.specs.SureRuns.{Settled, SureEnding, Complete, NoneAtAll, Spent, SureRun, Tried, Known, Shown, Never, IsFairSure, IsNew, IsTrueTried, LooksFor, MayEndSure, examples_of, settled_examples, shown_by, shown_in}
 use Rattle.cc_sure.specs.SureTold.{SureTold, NoneAt, ExampleIs, NeverSo, AnswersAre, Ends, sure_told}
-use Rattle.cc_sure.specs.Sures.{AreFewTried, AreKnown, Gives, IsAsking, IsAt, IsFormOf, IsOpened, IsOver, IsSureEvent, IsSureOf, PassesTo, Stands, SureView, TellsNext, Awaits, is_never, left_at, left_of}
+use Rattle.cc_sure.specs.Sures.{AreFewTried, Gives, IsAsking, IsAt, IsFormOf, IsOpened, IsOver, IsSureEvent, IsSureOf, PassesTo, Stands, SureView, TellsNext, Awaits, is_never, left_at, left_of}
 use Rattle.cc_sure.proofs.Answering.{behind_cases, examples_still, settled_so}
 use Rattle.cc_sure.proofs.Atoms.{has_of}
 use Rattle.cc_sure.proofs.Opening.{any_ended, atom_ended, atom_found, atom_within, first_found, none_found}
-use Rattle.cc_sure.proofs.Runs.{IsEmptyAt, adds, asking_stands, at_first, begins_fair, begins_told, ending_told, ends_fair, going, looking_stands, none_is, passes_fair, passes_told, range_is, settles_fair, settles_told, some_is, tries_fair, tries_told}
-use Rattle.cc_sure.proofs.Searching.{all_append}
+use Rattle.cc_sure.proofs.Runs.{IsEmptyAt, adds, asking_stands, at_first, begins_fair, begins_told, ending_told, ends_fair, going, looking_stands, passes_fair, passes_told, range_is, settles_fair, settles_told, tries_fair, tries_told}
 use Rattle.cc_sure.proofs.Told.{shown_more}
 use Rattle.cc_theory.specs.Theories.{AreLawsOf}
 

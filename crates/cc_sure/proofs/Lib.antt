@@ -9,5 +9,4 @@ mod Opening
 mod Refusing
 mod Refuting
 mod Runs
-mod Searching
 mod Told

@@ -1,5 +1,5 @@
 -- The axioms of a horizon, and what a search over them shows.
-use Rattle.std.proofs.Common.{◌≡◌, ◌∙◌, ℕ, ◌≤◌, ◌<◌, ◌++◌, List, [], ◌∷◌, length, Option, Some, None, Result, Ok, Err, IfOk, IfErr, OnOk, refl, sym, subst, ap, slice_get}
+use Rattle.std.proofs.Common.{◌≡◌, ◌∙◌, ℕ, ◌≤◌, ◌<◌, List, [], ◌∷◌, Option, Some, None, Result, Ok, Err, IfOk, IfErr, OnOk, sym, subst, ap, slice_get}
 use Rattle.std.specs.Prelude.{true, false}
 use Rattle.std.specs.Option.{option_or}
 use Rattle.cc_defs.specs.declared.log.EndWord.{EndWord}
@@ -16,10 +16,10 @@ use Rattle.cc_defs.specs.Runs.{HasNone, TellsRows, axioms_of}
 use Rattle.cc_defs.specs.Sections.{Axioms}
 use Rattle.cc_form.specs.Building.{count_refusal}
 use Rattle.cc_form.specs.Forms.{TellsHistories, asked, form_of, section_refusal, with_atom}
-use Rattle.cc_query.proofs.Moving.{all_moved, first_moved, told_moved}
-use Rattle.cc_sure.specs.declared.finding.Outcome.TheVariants as outcomes
-use Rattle.cc_sure.specs.Outcomes.{IsEnded, IsOutcome}
-use Rattle.cc_sure.specs.Sought.{HasValue, IsSought, PassesNoLimit, Sought, Any, With, sought_axioms}
+use Rattle.cc_query.proofs.Moving.{first_moved, told_moved}
+use Rattle.cc_query.specs.declared.least.Outcome.TheVariants as outcomes
+use Rattle.cc_query.specs.Outcomes.{IsEnded, IsOutcome}
+use Rattle.cc_sure.specs.Sought.{HasValue, IsSought, PassesNoLimit, Any, With}
 use Rattle.cc_sure.specs.SureRuns.{LooksFor}
 use Rattle.cc_sure.specs.Sures.{IsFormOf, IsSureOf, SureView}
 use Rattle.cc_sure.proofs.Atoms.{atom_tells}

@@ -1,7 +1,6 @@
 -- When a run refuses, and what holds behind the values that examples have.
 use Rattle.std.proofs.Common.{◌≡◌, ◌∙◌, ℕ, ◌+◌, ◌<◌, ◌≤◌, List, [], ◌∷◌, ◌++◌, length, slice_get, Option, Some, None, Result, Ok, Err, IfOk, IfErr, IsErrAnd, refl, sym, subst, ap, arith, append-nil, append_assoc}
 use Rattle.std.specs.Prelude.{true, false}
-use Rattle.std.specs.List.{AllByRecursion}
 use Rattle.std.specs.Option.{option_or}
 use Rattle.cc_defs.specs.declared.refusal.Fault.{Fault}
 use Rattle.cc_defs.specs.declared.refusal.Fault.TheVariants as faults
@@ -14,15 +13,14 @@ use Rattle.cc_defs.specs.Runs.{axioms_of, range_of}
 use Rattle.cc_defs.specs.Sections.{Axioms}
 use Rattle.cc_form.specs.Building.{count_refusal}
 use Rattle.cc_form.specs.Forms.{section_refusal, with_atom}
+use Rattle.cc_query.proofs.AcceptedLines.{all_append}
 use Rattle.cc_sure.specs.declared.answer.SureEvent.{SureEvent}
 use Rattle.cc_sure.specs.declared.phase.Phase.TheVariants as phases
-use Rattle.cc_sure.specs.Sought.{Sought, Any, With, sought_refusal}
+use Rattle.cc_sure.specs.Sought.{With, sought_refusal}
 use Rattle.cc_sure.specs.SureRuns.{Settled, SureRun, Tried, Known, AreTrueTried, IsNew, IsToSearch, ReachesSureLimit, settled_examples, sought_next, sure_horizon}
-use Rattle.cc_sure.specs.SureTold.{sure_told}
 use Rattle.cc_sure.specs.Sures.{Gives, IsAsking, IsRightFault, IsSureOf, PassesTo, Stands, SureView, left_of}
-use Rattle.cc_sure.proofs.Giving.{atom_at, looking, low_at, low_of, new_of_run, opened_of, tried_count}
-use Rattle.cc_sure.proofs.Runs.{asking_stands, at_first, going, looking_stands}
-use Rattle.cc_sure.proofs.Searching.{all_append}
+use Rattle.cc_sure.proofs.Giving.{atom_at, low_at, low_of, new_of_run, opened_of, tried_count}
+use Rattle.cc_sure.proofs.Runs.{asking_stands, going, looking_stands}
 use Rattle.cc_theory.specs.Theories.{AreLawsOf}
 
 pub errs_with : {T : Type 0} (P : Fault → Type 0) (r : Result T Fault) (fault : Fault) → IsErrAnd r (λ given. given ≡ fault) → P fault → IfErr r P

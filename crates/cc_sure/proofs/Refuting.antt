@@ -1,18 +1,16 @@
 -- Where a log of impossible atoms is accepted, no history has an atom that it names.
-use Rattle.std.proofs.Common.{◌≡◌, ◌∙◌, ℕ, ◌+◌, ◌<◌, ◌≤◌, ◌⊎◌, List, [], ◌∷◌, ◌++◌, length, Option, Some, None, refl, sym, subst, ap, arith, inl, inr}
+use Rattle.std.proofs.Common.{◌≡◌, ◌∙◌, ℕ, ◌+◌, ◌≤◌, List, [], ◌∷◌, ◌++◌, length, Some, None, refl, sym, subst, inl, inr}
 use Rattle.std.specs.Prelude.{Contains, false, true}
 use Rattle.std.specs.List.{AllByRecursion}
 use Rattle.std.proofs.lemmas.List.Elements.{Contains-append_cases}
 use Rattle.cc_check.specs.declared.silent.SilentVerdict.{SilentVerdict}
 use Rattle.cc_check.specs.declared.silent.SilentVerdict.TheVariants as verdicts
 use Rattle.cc_check.specs.Laws.{SilentSectionsHaveNoRows}
-use Rattle.cc_check.specs.Silent.{IsEmptySection, IsNextSection, IsSilentVerdict, IsSilentVerdictOf, IsStopped, IsUnread, LeadsTo, SilentSection, refused_for}
+use Rattle.cc_check.specs.Silent.{IsEmptySection, IsSilentVerdict, IsSilentVerdictOf, IsStopped, IsUnread, LeadsTo, SilentSection, refused_for}
 use Rattle.cc_clauses.specs.RowsOf.{IsRowOf}
-use Rattle.cc_clauses.specs.Tells.{Tells}
 use Rattle.cc_defs.specs.declared.log.EndWord.TheVariants as words
 use Rattle.cc_defs.specs.declared.log.Version.TheVariants.{First}
 use Rattle.cc_defs.specs.Description.{Description}
-use Rattle.cc_defs.specs.GroundLaws.{StandsForQuery}
 use Rattle.cc_defs.specs.Histories.{IsHistory}
 use Rattle.cc_defs.specs.LogTexts.{lines_in}
 use Rattle.cc_defs.specs.Resolved.{Query}
@@ -21,7 +19,7 @@ use Rattle.cc_defs.specs.Sections.{Finding, Right, Trailed, Wrong, IsFound}
 use Rattle.cc_form.specs.Forms.{TellsHistories, form_of}
 use Rattle.cc_query.proofs.Steps.{in_cases, in_none}
 use Rattle.cc_sure.specs.declared.check.AtomHeading.{AtomHeading}
-use Rattle.cc_sure.specs.Sought.{HasValue, IsSought, With, sought_axioms}
+use Rattle.cc_sure.specs.Sought.{With, sought_axioms}
 use Rattle.cc_sure.specs.SureLogs.{IsAtomHeading, IsInRange, RefutesAtoms, sure_subject}
 use Rattle.cc_sure.specs.SureTold.{atom_heading}
 use Rattle.cc_sure.proofs.Atoms.{atom_tells}
@@ -30,19 +28,19 @@ use Rattle.cc_sure.proofs.Headings.{no_header, one_heading}
 -- ---- findings
 
 not_accepted : (finding : Finding) (count : ℕ) → refused_for finding ≡ Some (verdicts.Accepted count) → ⊥
-not_accepted (Wrong line cause) count is = absurd cc
-not_accepted (Trailed words.Empty line cause) count is = absurd cc
-not_accepted (Trailed words.Found line cause) count is = absurd cc
-not_accepted (Trailed words.Spent line cause) count is = absurd cc
+not_accepted (Wrong line reason) count is = absurd cc
+not_accepted (Trailed words.Empty line reason) count is = absurd cc
+not_accepted (Trailed words.Found line reason) count is = absurd cc
+not_accepted (Trailed words.Spent line reason) count is = absurd cc
 not_accepted (Right words.Empty blocks line) count is = absurd cc
 not_accepted (Right words.Found blocks line) count is = absurd cc
 not_accepted (Right words.Spent blocks line) count is = absurd cc
 
 right_empty : (finding : Finding) → refused_for finding ≡ None → (blocks : ℕ) × (line : ℕ) × (finding ≡ Right words.Empty blocks line)
-right_empty (Wrong line cause) is = absurd cc
-right_empty (Trailed words.Empty line cause) is = absurd cc
-right_empty (Trailed words.Found line cause) is = absurd cc
-right_empty (Trailed words.Spent line cause) is = absurd cc
+right_empty (Wrong line reason) is = absurd cc
+right_empty (Trailed words.Empty line reason) is = absurd cc
+right_empty (Trailed words.Found line reason) is = absurd cc
+right_empty (Trailed words.Spent line reason) is = absurd cc
 right_empty (Right words.Empty blocks line) is = (blocks, line, refl)
 right_empty (Right words.Found blocks line) is = absurd cc
 right_empty (Right words.Spent blocks line) is = absurd cc

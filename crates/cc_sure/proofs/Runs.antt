@@ -1,22 +1,19 @@
 -- The shapes of a run, and what one event more makes of it.
-use Rattle.std.proofs.Common.{◌≡◌, ◌∙◌, ℕ, zero, suc, ◌+◌, ◌<◌, ◌≤◌, Bool, true, false, List, [], ◌∷◌, ◌++◌, length, map, slice_get, Option, Some, None, refl, sym, subst, ap, arith, append-nil, append_assoc, length-append, inl, inr}
-use Rattle.std.specs.Prelude.{IsNone, IsSome, IfSome, flat_map, unwrap_or}
+use Rattle.std.proofs.Common.{◌≡◌, ◌∙◌, ℕ, ◌+◌, ◌≤◌, List, [], ◌∷◌, ◌++◌, length, Option, Some, None, refl, sym, subst, ap, arith, append-nil, append_assoc, length-append, inl, inr}
+use Rattle.std.specs.Prelude.{IsNone, IsSome, flat_map, unwrap_or}
 use Rattle.std.proofs.lemmas.Bool.{cases_lt}
-use Rattle.std.proofs.lemmas.Grind.{flat_map-append}
-use Rattle.std.proofs.lemmas.List.{map-append}
-use Rattle.cc_defs.specs.declared.log.EndWord.TheVariants as words
-use Rattle.cc_defs.specs.Description.{Description, sizes_at}
+use Rattle.cc_defs.specs.Description.{Description}
 use Rattle.cc_defs.specs.GroundLaws.{PlainGroundQuery}
 use Rattle.cc_defs.specs.Histories.{AreFirst}
 use Rattle.cc_defs.specs.Resolved.{Query}
-use Rattle.cc_defs.specs.Runs.{HasNone, Section, range_of}
+use Rattle.cc_defs.specs.Runs.{HasNone, range_of}
 use Rattle.cc_sure.specs.declared.answer.Answer.{Answer}
 use Rattle.cc_sure.specs.declared.phase.Phase.TheVariants as phases
-use Rattle.cc_sure.specs.Sought.{IsAtomAt, PassesNoLimit, Sought, Any, With}
-use Rattle.cc_sure.specs.SureRuns.{Settled, SureEnding, SureRun, Tried, Known, Shown, Never, AreTrueTried, IsFairSure, IsTrueSettled, IsTrueTried, MayEndSure, examples_of, settled_examples, shown_at, shown_by, shown_in, sought_next, sure_horizon}
-use Rattle.cc_sure.specs.SureTold.{SureTold, NoneAt, ExampleIs, AnswersAre, Ends, none_told, settled_told, sure_told, tried_told}
-use Rattle.cc_sure.specs.Sures.{IsAt, IsSureOf, Stands, SureView, is_never}
-use Rattle.cc_sure.proofs.Told.{none_more, settled_behind, settled_more, shown_more, tried_behind, true_more}
+use Rattle.cc_sure.specs.Sought.{IsAtomAt, PassesNoLimit, Any}
+use Rattle.cc_sure.specs.SureRuns.{Settled, SureEnding, SureRun, Tried, IsFairSure, IsTrueSettled, IsTrueTried, MayEndSure, examples_of, settled_examples, shown_at, shown_in}
+use Rattle.cc_sure.specs.SureTold.{SureTold, NoneAt, ExampleIs, AnswersAre, none_told, settled_told, sure_told, tried_told}
+use Rattle.cc_sure.specs.Sures.{IsAt, IsSureOf, Stands, SureView}
+use Rattle.cc_sure.proofs.Told.{none_more, settled_behind, settled_more, tried_behind, true_more}
 
 pub none_is : {X : Type 0} (o : Option X) → IsNone o → o ≡ None
 none_is None is = refl

@@ -1,15 +1,13 @@
 -- What is told of one value or one position more, and that it is true.
-use Rattle.std.proofs.Common.{◌≡◌, ◌∙◌, ℕ, ◌+◌, ◌<◌, ◌≤◌, zero, suc, Bool, true, false, List, [], ◌∷◌, ◌++◌, length, map, slice_get, Option, Some, None, refl, sym, subst, ap, arith, append-nil, append_assoc, length-append, inl, inr}
-use Rattle.std.specs.Prelude.{Contains, flat_map}
+use Rattle.std.proofs.Common.{◌≡◌, ◌∙◌, ℕ, ◌+◌, zero, suc, true, false, List, [], ◌∷◌, ◌++◌, length, map, slice_get, Some, None, sym, subst, ap, arith, append-nil, append_assoc, length-append}
+use Rattle.std.specs.Prelude.{flat_map}
 use Rattle.std.proofs.lemmas.Grind.{flat_map-append}
-use Rattle.std.proofs.lemmas.List.{map-append}
-use Rattle.std.proofs.lemmas.List.Elements.{Contains-append_left, Contains-append_right, Contains-append_cases}
-use Rattle.cc_defs.specs.declared.log.EndWord.TheVariants as words
+use Rattle.std.proofs.lemmas.List.Elements.{Contains-append_left, Contains-append_right}
 use Rattle.cc_defs.specs.Description.{Description}
 use Rattle.cc_defs.specs.Histories.{AreAllOf, IsHistory}
 use Rattle.cc_defs.specs.Resolved.{Query}
-use Rattle.cc_defs.specs.Runs.{Section, rows_of}
-use Rattle.cc_query.proofs.Steps.{in_cases, in_first, in_none}
+use Rattle.cc_defs.specs.Runs.{Section}
+use Rattle.cc_query.proofs.Steps.{in_first, in_none}
 use Rattle.cc_sure.specs.Outcomes.{SomeHas}
 use Rattle.cc_sure.specs.Sought.{HasValue, IsAtomAt, IsSought, With}
 use Rattle.cc_sure.specs.SureRuns.{Settled, Tried, Known, Shown, Never, AreTrueSettled, AreTrueTried, IsTrueSettled, IsTrueTried, shown_at, shown_by, shown_in}

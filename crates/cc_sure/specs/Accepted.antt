@@ -1,5 +1,5 @@
 -- The log of a run is accepted, unless a search was spent.
-use Rattle.std.specs.Prelude.{◌≡◌, ℕ, List, [], ◌∷◌, length, flat_map, IfSome}
+use Rattle.std.specs.Prelude.{ℕ, List, [], ◌∷◌, length, flat_map, IfSome}
 use Rattle.std.specs.List.{AllByRecursion}
 use Rattle.cc_check.specs.Silent.{IsSilentVerdict}
 use Rattle.cc_check.specs.declared.silent.SilentVerdict.TheVariants as verdicts
@@ -7,10 +7,11 @@ use Rattle.cc_defs.specs.Description.{Description}
 use Rattle.cc_defs.specs.LogTexts.{IsFormed, IsShort}
 use Rattle.cc_defs.specs.Resolved.{Query}
 use Rattle.cc_query.specs.Accepted.{AreGoodAxioms}
+use Rattle.cc_query.specs.Parts.{section_lines}
 use Rattle.cc_sure.specs.Sought.{With, sought_axioms}
 use Rattle.cc_sure.specs.SureLogs.{sure_subject}
 use Rattle.cc_sure.specs.SureRuns.{IsFairSure, SureEnding, Complete, NoneAtAll, Spent, SureRun, sure_horizon}
-use Rattle.cc_sure.specs.SureTold.{SureTold, NoneAt, ExampleIs, NeverSo, AnswersAre, Ends, section_lines, sure_log, sure_told}
+use Rattle.cc_sure.specs.SureTold.{SureTold, NoneAt, ExampleIs, NeverSo, AnswersAre, Ends, sure_log, sure_told}
 
 -- the atoms that are told to be impossible, each by its position and the index of its value
 abbrev pub never_of : SureTold → List (ℕ × ℕ)

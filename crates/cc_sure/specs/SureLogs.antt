@@ -1,5 +1,5 @@
 -- Logs of impossible atoms: which are accepted, and what that shows.
-use Rattle.std.specs.Prelude.{◌≡◌, ℕ, ◌≤◌, List, Option, Contains}
+use Rattle.std.specs.Prelude.{◌≡◌, ℕ, ◌≤◌, List, Contains}
 use Rattle.cc_check.specs.Silent.{SilentSubject}
 use Rattle.cc_check.specs.declared.silent.SilentVerdict.{SilentVerdict}
 use Rattle.cc_check.specs.declared.silent.SilentVerdict.TheVariants as verdicts

@@ -1,10 +1,10 @@
 -- What a run on certain and possible atoms tells, in order: its events, and the lines of its log.
-use Rattle.std.specs.Prelude.{◌≡◌, ℕ, zero, suc, ◌+◌, false, List, [], ◌∷◌, ◌++◌, length, flat_map, map, Option, Some, None, codes, decimal}
-use Rattle.cc_defs.specs.declared.log.LogLine.{LogLine}
+use Rattle.std.specs.Prelude.{ℕ, zero, suc, ◌+◌, false, List, [], ◌∷◌, ◌++◌, length, flat_map, map, codes, decimal}
 use Rattle.cc_defs.specs.declared.log.LogLine.TheVariants as lines
 use Rattle.cc_defs.specs.LogTexts.{line_text}
 use Rattle.cc_defs.specs.Resolved.{Query}
-use Rattle.cc_defs.specs.Runs.{Section, Step, Derive, Tell, optional, range_of}
+use Rattle.cc_defs.specs.Runs.{Section, optional, range_of}
+use Rattle.cc_query.specs.Parts.{section_lines}
 use Rattle.cc_sure.specs.Sought.{Sought, Any, With}
 use Rattle.cc_sure.specs.SureRuns.{Settled, SureEnding, Complete, NoneAtAll, Spent, SureRun, Tried, Known, Shown, Never, settled_examples, shown_at, sought_next, sure_horizon}
 use Rattle.cc_sure.specs.declared.answer.Answer.{Answer}
@@ -45,14 +45,6 @@ sure_told q run =
     ++ map (Ends (sought_next run run.first)) (optional run.ending)
 
 -- ---- the log: a header, and then for each impossible atom, and for a search that was spent, a heading and the lines of its section
-
-abbrev pub step_line : Step → LogLine
-step_line (Derive clause chain) = lines.Derived clause chain
-step_line (Tell row) = lines.Block row
-
--- the lines of a section, its heading aside
-abbrev pub section_lines : Section → List LogLine
-section_lines section = map step_line section.steps ++ map lines.End (optional section.word)
 
 -- the heading of an atom: its horizon, its position and the index of its value
 abbrev pub atom_heading : (horizon position value : ℕ) → List ℕ

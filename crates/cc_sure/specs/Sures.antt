@@ -1,9 +1,8 @@
 -- What a run on certain and possible atoms holds, and what a call of it tells.
-use Rattle.std.specs.Prelude.{◌≡◌, ◌≢◌, ℕ, ◌+◌, ◌-◌, ◌*◌, ◌<◌, ◌≤◌, Bool, true, false, List, [], ◌∷◌, ◌++◌, drop, length, map, sum, slice_get, Option, Some, None, IsSome, IsNone, IfSome, Contains}
+use Rattle.std.specs.Prelude.{◌≡◌, ◌≢◌, ℕ, ◌+◌, ◌-◌, ◌*◌, ◌<◌, ◌≤◌, Bool, true, false, List, [], ◌∷◌, ◌++◌, drop, length, map, sum, slice_get, Option, Some, None, IsSome, IsNone, IfSome}
 use Rattle.std.specs.List.{AllByRecursion}
 use Rattle.cc_arena.specs.declared.ground_laws.GroundLaw.{GroundLaw}
 use Rattle.cc_clauses.specs.Tells.{Tells}
-use Rattle.cc_defs.specs.declared.log.LogLine.{LogLine}
 use Rattle.cc_defs.specs.declared.refusal.Fault.{Fault}
 use Rattle.cc_defs.specs.declared.refusal.Fault.TheVariants as faults
 use Rattle.cc_defs.specs.Description.{Description}
@@ -18,10 +17,11 @@ use Rattle.cc_defs.specs.Signatures.{Signature}
 use Rattle.cc_form.specs.Forms.{section_refusal}
 use Rattle.cc_form.specs.Queries.{IsQueryAt}
 use Rattle.cc_query.specs.Accepted.{AreGoodAxioms}
+use Rattle.cc_query.specs.Parts.{section_lines}
 use Rattle.cc_sure.specs.Outcomes.{SomeHas}
 use Rattle.cc_sure.specs.Sought.{Sought, Any, With, sought_axioms}
 use Rattle.cc_sure.specs.SureRuns.{IsFairSure, ReachesSureLimit, SureRun, Tried, Known, Shown, Never, Complete, NoneAtAll, Spent, examples_of, sure_horizon}
-use Rattle.cc_sure.specs.SureTold.{SureTold, NoneAt, ExampleIs, NeverSo, AnswersAre, Ends, section_lines, sure_told}
+use Rattle.cc_sure.specs.SureTold.{SureTold, NoneAt, ExampleIs, NeverSo, AnswersAre, Ends, sure_told}
 use Rattle.cc_sure.specs.declared.answer.SureEvent.{SureEvent}
 use Rattle.cc_sure.specs.declared.answer.SureEvent.TheVariants as events
 use Rattle.cc_sure.specs.declared.phase.Phase.{Phase}

@@ -20,7 +20,7 @@ use cc_arena::{GroundQuery, Laws};
 use cc_check::laws::silent_sections_have_no_rows;
 use cc_check::{Silent, SilentVerdict, judge_silent, number_at};
 use cc_defs::laws::positions_have_sizes;
-use cc_defs::{Fault, Sig};
+use cc_defs::{Fault, OutOfMemory, Sig};
 use cc_form::Form;
 use cc_form::laws::lists_tell_histories;
 use cc_query::form_at;
@@ -200,8 +200,8 @@ impl<'a> Silent for Atoms<'a> {
         b"ccalc sure 1\n".as_slice()
     }
 
-    fn read(&self, text: &[u8]) -> Option<AtomHeading> {
-        heading_of(text)
+    fn read(&self, _alloc: Global, text: &[u8]) -> Result<Option<AtomHeading>, OutOfMemory> {
+        Ok(heading_of(text))
     }
 
     fn is_right(&self, heading: &AtomHeading) -> bool {

@@ -5,7 +5,6 @@
 mod answer;
 mod check;
 mod examples;
-mod finding;
 pub mod laws;
 mod phase;
 mod sure;

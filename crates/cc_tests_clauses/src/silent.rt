@@ -11,7 +11,7 @@ ghost use Rattle.cc_tests_clauses.specs.Digits.{axioms_behind, digits, no_descri
 use crate::check::{no_laws, no_query, no_signature};
 use cc_arena::{GroundQuery, Laws};
 use cc_check::{Silent, SilentVerdict, judge_silent, laws};
-use cc_defs::{Cause, Fault, Key, Row, Sig, is_digit_byte};
+use cc_defs::{Cause, Fault, Key, OutOfMemory, Row, Sig, is_digit_byte};
 use cc_form::{Form, clauses};
 use cc_theory::Theory;
 use std::alloc::Global;
@@ -89,8 +89,8 @@ impl Silent for Digits {
         b"digits\n".as_slice()
     }
 
-    fn read(&self, text: &[u8]) -> Option<u32> {
-        digit_of(text)
+    fn read(&self, _alloc: Global, text: &[u8]) -> Result<Option<u32>, OutOfMemory> {
+        Ok(digit_of(text))
     }
 
     fn is_right(&self, heading: &u32) -> bool {

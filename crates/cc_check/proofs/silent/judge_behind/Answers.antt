@@ -1,7 +1,7 @@
 use Rattle.cc_defs.specs.LogTexts.{lines_in}
 use Rattle.cc_check.specs.SilentParts.{IsBehindFault}
 use Rattle.cc_check.proofs.Headers.{as_err}
-use Rattle.cc_check.proofs.SilentLogs.{few_begun, few_more, silent_begun, silent_done, silent_more, silent_past, silent_stops}
+use Rattle.cc_check.proofs.SilentLogs.{few_begun, few_more, silent_begun, silent_more, silent_past, silent_stops}
 use Rattle.cc_check.proofs.silent.judge_behind.Goals as goal
 
 pub loop-rest-init : goal.loop-rest-init

@@ -1,4 +1,3 @@
-use Rattle.std.proofs.Common.{refl}
 use Rattle.cc_check.proofs.SilentLogs.{ok_verdict}
 use Rattle.cc_check.proofs.silent.judge_silent.Goals as goal
 

@@ -1,4 +1,4 @@
-use Rattle.std.proofs.Common.{◌≡◌, ◌+◌, ◌≤◌, Option, Some, None, arith, refl, subst, sym}
+use Rattle.std.proofs.Common.{◌+◌, ◌≤◌, Option, Some, None, arith, refl, subst, sym}
 use Rattle.cc_arena.specs.GroundViews.{plain_ground_query}
 use Rattle.cc_defs.specs.declared.lists.Key.{Key}
 use Rattle.cc_defs.specs.GroundLaws.{PlainGroundQuery}

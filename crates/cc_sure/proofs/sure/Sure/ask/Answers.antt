@@ -1,4 +1,3 @@
-use Rattle.std.proofs.Common.{◌∙◌, sym}
 use Rattle.cc_sure.proofs.Giving.{complete_gives, none_size}
 use Rattle.cc_sure.proofs.sure.Sure.ask.Goals as goal
 

@@ -1,4 +1,4 @@
-use Rattle.std.proofs.Common.{◌<◌, subst, sym}
+use Rattle.std.proofs.Common.{◌<◌, subst}
 use Rattle.cc_sure.specs.Sures.{SureView}
 use Rattle.cc_sure.proofs.Giving.{none_gives}
 use Rattle.cc_sure.proofs.sure.Sure.look.Goals as goal

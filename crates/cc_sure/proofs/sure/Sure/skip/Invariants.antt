@@ -1,5 +1,5 @@
-use Rattle.std.proofs.Common.{◌≡◌, ◌-◌, ◌≤◌, length}
-use Rattle.cc_sure.specs.Sures.{IsOver, IsSame, PassesTo}
+use Rattle.std.proofs.Common.{◌-◌, length}
+use Rattle.cc_sure.specs.Sures.{IsOver, PassesTo}
 use Rattle.cc_sure.proofs.sure.Sure.skip.Given as goal
 
 abbrev pub invariant-loop-self : goal.invariant-loop-self

@@ -1,6 +1,5 @@
 -- One search: what its lines show when it ends.
-use Rattle.std.proofs.Common.{◌≡◌, ◌≢◌, ◌∙◌, ℕ, zero, suc, ◌+◌, ◌<◌, ◌≤◌, List, [], ◌∷◌, ◌++◌, length, map, Option, Some, None, refl, sym, subst, ap, arith, append-nil, Result, Ok, Err, IfErr, IsErrAnd}
-use Rattle.std.specs.List.{AllByRecursion}
+use Rattle.std.proofs.Common.{◌≡◌, ◌≢◌, ◌∙◌, ℕ, zero, suc, List, [], ◌∷◌, ◌++◌, length, Some, None, refl, sym, subst, ap, arith, append-nil, Result, Ok, Err, IfErr, IsErrAnd}
 use Rattle.std.specs.Prelude.{flat_map}
 use Rattle.std.proofs.lemmas.Grind.{flat_map-append}
 use Rattle.std.proofs.lemmas.List.{map-append}
@@ -13,20 +12,16 @@ use Rattle.cc_defs.specs.declared.refusal.Fault.{Fault}
 use Rattle.cc_defs.specs.declared.refusal.Fault.TheVariants as faults
 use Rattle.cc_defs.specs.Histories.{AreFirstOf}
 use Rattle.cc_defs.specs.LogTexts.{IsFormed}
-use Rattle.cc_defs.specs.Runs.{Section, Step, Derive, Tell, row_told, rows_of}
+use Rattle.cc_defs.specs.Runs.{Derive, row_told, rows_of}
 use Rattle.cc_defs.specs.Sections.{Axioms}
 use Rattle.cc_query.specs.declared.stage.Find.{Find}
 use Rattle.cc_query.specs.declared.stage.Find.TheVariants as finds
-use Rattle.cc_query.specs.Parts.{open_section, section_of}
+use Rattle.cc_query.specs.declared.least.Outcome.{Outcome}
+use Rattle.cc_query.specs.declared.least.Outcome.TheVariants as outcomes
+use Rattle.cc_query.specs.Outcomes.{HasTold, IsEnded, IsOutcome}
+use Rattle.cc_query.specs.Parts.{open_section, section_of, step_line}
 use Rattle.cc_query.specs.Searches.{HasMore, IsBehind, IsRightFault, IsShortFind, SearchView, Stands, found_behind}
-use Rattle.cc_sure.specs.declared.finding.Outcome.{Outcome}
-use Rattle.cc_sure.specs.declared.finding.Outcome.TheVariants as outcomes
-use Rattle.cc_sure.specs.Outcomes.{HasTold, IsEnded, IsOutcome}
-use Rattle.cc_sure.specs.SureTold.{step_line}
-
-pub all_append : {X : Type 0} (P : X → Type 0) (xs ys : List X) → AllByRecursion P xs → AllByRecursion P ys → AllByRecursion P (xs ++ ys)
-all_append P [] ys all more = more
-all_append P (x ∷ xs) ys all more = (all.0, all_append P xs ys all.1 more)
+use Rattle.cc_query.proofs.AcceptedLines.{all_append}
 
 -- it is searched on: there is more, and these lines were told
 pub record IsSearching (axioms : Axioms) (budget : ℕ) (search : SearchView) (lines : List LogLine) : Type 0 where

@@ -4,19 +4,20 @@ ghost use Rattle.cc_defs.specs.declared.log.EndWord.TheVariants as words;
 ghost use Rattle.cc_defs.specs.declared.log.LogLine.TheVariants as ends;
 ghost use Rattle.cc_defs.specs.declared.refusal.Fault.TheVariants as faults;
 ghost use Rattle.cc_defs.specs.Sections.{Axioms};
+ghost use Rattle.cc_query.specs.declared.least.Outcome.TheVariants as outcomes;
+ghost use Rattle.cc_query.specs.Outcomes.{HasTold, IsOutcome, TellsOutcome};
 ghost use Rattle.cc_query.specs.Searches.{HasMore, left_of};
-ghost use Rattle.cc_sure.specs.Outcomes.{HasTold, IsOutcome, TellsOutcome};
-ghost use Rattle.cc_sure.specs.declared.finding.Outcome.TheVariants as outcomes;
 
+use crate::search::Search;
+use crate::stage::Find;
 use cc_defs::{EndWord, Fault, List, LogLine, OutOfMemory, Row};
 use cc_form::Form;
-use cc_query::{Find, Search};
 use std::alloc::Global;
 use std::mem;
 
-/// What comes of a search.
+/// What comes of a search for one row.
 #[derive(Drop)]
-pub(crate) enum Outcome {
+pub enum Outcome {
     /// The least row.
     Found(Row),
     /// There is none, as these lines show.
@@ -90,9 +91,10 @@ fn follow(
     }
 }
 
-/// The least row of the clauses, or the lines which show that there is none, within a budget of derived lines. The lines are kept
-/// until then, and let go where a row is found.
-pub(crate) fn search_one(alloc: Global, form: Form, budget: u32) -> Result<Outcome, Fault>
+/// The least row that meets the clauses of a form, whose place it takes; or the lines of a section which shows that there is none;
+/// or those of one that spent its budget of derived lines, at most 2,000,000, before either was known. The lines have no heading, and
+/// end with the end line. Nothing is kept of them where a row is found. An error means want of memory, and nothing else.
+pub fn search_one(alloc: Global, form: Form, budget: u32) -> Result<Outcome, Fault>
     requires { budget ≤ 2000000 }
     ensures outcome { IfOk result (IsOutcome form budget) }
     ensures fault { IfErr result (λ fault. fault ≡ faults.OutOfMemory) }

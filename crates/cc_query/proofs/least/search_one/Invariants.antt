@@ -1,6 +1,6 @@
 use Rattle.cc_query.specs.Searches.{left_of}
-use Rattle.cc_sure.proofs.Searching.{IsSearching}
-use Rattle.cc_sure.proofs.finding.search_one.Given as goal
+use Rattle.cc_query.proofs.Searching.{IsSearching}
+use Rattle.cc_query.proofs.least.search_one.Given as goal
 
 abbrev pub invariant-loop-lines : goal.invariant-loop-lines
 invariant-loop-lines l = IsSearching l.fn.form l.budget l.search l.lines.items

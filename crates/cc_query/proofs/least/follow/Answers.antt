@@ -1,7 +1,7 @@
 use Rattle.std.proofs.Common.{Some}
 use Rattle.cc_query.specs.Parts.{open_section}
-use Rattle.cc_sure.proofs.Searching.{closes, errs_as, line_told, not_found, only_memory, outcome_is, row_told_first}
-use Rattle.cc_sure.proofs.finding.follow.Goals as goal
+use Rattle.cc_query.proofs.Searching.{closes, errs_as, line_told, not_found, only_memory, outcome_is, row_told_first}
+use Rattle.cc_query.proofs.least.follow.Goals as goal
 
 pub returns-in_err-line-clause-fault : goal.returns-in_err-line-clause-fault
 returns-in_err-line-clause-fault c =

@@ -1,7 +1,7 @@
 use Rattle.std.proofs.Common.{Option, subst}
-use Rattle.cc_sure.specs.declared.finding.Outcome.{Outcome}
-use Rattle.cc_sure.specs.Outcomes.{TellsOutcome}
-use Rattle.cc_sure.proofs.finding.search_one.Goals as goal
+use Rattle.cc_query.specs.declared.least.Outcome.{Outcome}
+use Rattle.cc_query.specs.Outcomes.{TellsOutcome}
+use Rattle.cc_query.proofs.least.search_one.Goals as goal
 
 pub returns-in-Some-clause-outcome : goal.returns-in-Some-clause-outcome
 returns-in-Some-clause-outcome c =
