@@ -10,6 +10,7 @@ use Rattle.cc_defs.specs.declared.refusal.Fault.TheVariants as faults
 use Rattle.cc_defs.specs.declared.refusal.Refusal.{Refusal}
 use Rattle.cc_defs.specs.Tokens.{TokenView}
 use Rattle.cc_defs.specs.Trees.{PlainStatement}
+use Rattle.cc_describe.specs.declared.heads.Heads.{Heads}
 use Rattle.cc_describe.specs.declared.files.Halt.{Halt}
 use Rattle.cc_describe.specs.declared.files.Halt.TheVariants as halts
 use Rattle.cc_describe.specs.declared.progress.Progress.{Progress}
@@ -21,38 +22,38 @@ use Rattle.cc_describe.proofs.PlacesAppended.{all_first, first_behind_all, first
 -- ---- one after another
 
 -- places were gone through, and none is refused
-abbrev pub Gone : List Place → Progress → Type 0
-Gone before new = GoesSomewhere before {T = Unit {0}} (Ok (tt {0})) new
+abbrev pub Gone : Heads → List Place → Progress → Type 0
+Gone which before new = GoesSomewhere which before {T = Unit {0}} (Ok (tt {0})) new
 
-pub then_goes : (before : List Place) (now new : Progress) (result : Result (Unit {0}) Halt) → Gone before now →
-    ((more : List Place) → IsProgress now more → GoesSomewhere more result new) → GoesSomewhere before result new
-then_goes before now new result (places, any, none, kept) goes = step result (goes (before ++ places) kept)
+pub then_goes : {which : Heads} (before : List Place) (now new : Progress) (result : Result (Unit {0}) Halt) → Gone which before now →
+    ((more : List Place) → IsProgress which now more → GoesSomewhere which more result new) → GoesSomewhere which before result new
+then_goes {which} before now new result (places, any, none, kept) goes = step result (goes (before ++ places) kept)
   where
-    step : (result : Result (Unit {0}) Halt) → GoesSomewhere (before ++ places) result new → GoesSomewhere before result new
+    step : (result : Result (Unit {0}) Halt) → GoesSomewhere which (before ++ places) result new → GoesSomewhere which before result new
     step (Ok done) (behind, any, none_behind, kept_behind) = (
       places ++ behind,
       tt,
-      first_behind_all before places behind ∙ ap (λ one. option_or one (first_behind (before ++ places) behind)) none ∙ none_behind,
-      subst (IsProgress new) (append_assoc before places behind) kept_behind,
+      first_behind_all which before places behind ∙ ap (λ one. option_or one (first_behind which (before ++ places) behind)) none ∙ none_behind,
+      subst (IsProgress which new) (append_assoc before places behind) kept_behind,
     )
     step (Err (halts.Refused refusal)) (behind, any, some, names) = (
       places ++ behind,
       tt,
-      first_behind_all before places behind ∙ ap (λ one. option_or one (first_behind (before ++ places) behind)) none ∙ some,
-      names ∙ names_behind before places behind none,
+      first_behind_all which before places behind ∙ ap (λ one. option_or one (first_behind which (before ++ places) behind)) none ∙ some,
+      names ∙ names_behind which before places behind none,
     )
-    step (Err halts.ReadFault) (behind, any, first) = (places ++ behind, tt, first_of new.names.items (names_behind before places behind none) first)
-    step (Err halts.OutOfMemory) (behind, any, first) = (places ++ behind, tt, first_of new.names.items (names_behind before places behind none) first)
+    step (Err halts.ReadFault) (behind, any, first) = (places ++ behind, tt, first_of new.names.items (names_behind which before places behind none) first)
+    step (Err halts.OutOfMemory) (behind, any, first) = (places ++ behind, tt, first_of new.names.items (names_behind which before places behind none) first)
 
 -- ---- the steps
 
-pub opened_goes : (before : List Place) (name bytes : List ℕ) (new : Progress) → IsOpened before name bytes new → Gone before new
+pub opened_goes : {which : Heads} (before : List Place) (name bytes : List ℕ) (new : Progress) → IsOpened which before name bytes new → Gone which before new
 opened_goes before name bytes new opened = (Opened name bytes ∷ [], tt, ap (λ one. option_or one None) opened.unrefused, opened.opened)
 
-pub opening_goes : (before : List Place) (name bytes : List ℕ) (halt : Halt) (new : Progress) → IsRefusedOpening before name bytes halt new → GoesSomewhere before {T = Unit {0}} (Err halt) new
-opening_goes before name bytes halts.ReadFault new first = (Opened name bytes ∷ [], tt, first_opened new.names.items before name bytes [] first)
-opening_goes before name bytes halts.OutOfMemory new first = (Opened name bytes ∷ [], tt, first_opened new.names.items before name bytes [] first)
-opening_goes before name bytes (halts.Refused refusal) new (refused, names) = (
+pub opening_goes : (which : Heads) (before : List Place) (name bytes : List ℕ) (halt : Halt) (new : Progress) → IsRefusedOpening before name bytes halt new → GoesSomewhere which before {T = Unit {0}} (Err halt) new
+opening_goes which before name bytes halts.ReadFault new first = (Opened name bytes ∷ [], tt, first_opened which new.names.items before name bytes [] first)
+opening_goes which before name bytes halts.OutOfMemory new first = (Opened name bytes ∷ [], tt, first_opened which new.names.items before name bytes [] first)
+opening_goes which before name bytes (halts.Refused refusal) new (refused, names) = (
   Opened name bytes ∷ [],
   tt,
   ap (λ one. option_or one None) refused,
@@ -60,18 +61,18 @@ opening_goes before name bytes (halts.Refused refusal) new (refused, names) = (
 )
 
 -- what is refused whatever stands before it
-pub barred_goes : (before : List Place) (fault : Fault) (halt : Halt) (new : Progress) → halt ≡ halt_of fault → IsProgress new before → GoesSomewhere before {T = Unit {0}} (Err halt) new
-barred_goes before fault halt new is kept = subst (λ h. GoesSomewhere before {T = Unit {0}} (Err h) new) (sym is) (step fault)
+pub barred_goes : {which : Heads} (before : List Place) (fault : Fault) (halt : Halt) (new : Progress) → halt ≡ halt_of fault → IsProgress which new before → GoesSomewhere which before {T = Unit {0}} (Err halt) new
+barred_goes {which} before fault halt new is kept = subst (λ h. GoesSomewhere which before {T = Unit {0}} (Err h) new) (sym is) (step fault)
   where
-    step : (fault : Fault) → GoesSomewhere before {T = Unit {0}} (Err (halt_of fault)) new
+    step : (fault : Fault) → GoesSomewhere which before {T = Unit {0}} (Err (halt_of fault)) new
     step faults.OutOfMemory = ([], tt, all_first [] kept.names)
     step (faults.Refused refusal) = (Barred refusal ∷ [], tt, refl, kept.names ∙ sym (append-nil (opened_in before)))
 
-pub said_goes : (before : List Place) (file : ℕ) (around : List (List ℕ)) (statement : PlainStatement) (new : Progress) → Says before file around statement new → Gone before new
+pub said_goes : {which : Heads} (before : List Place) (file : ℕ) (around : List (List ℕ)) (statement : PlainStatement) (new : Progress) → Says which before file around statement new → Gone which before new
 said_goes before file around statement new says = (Said file around statement ∷ [], tt, ap (λ one. option_or one None) says.unrefused, says.taken)
 
-pub refused_goes : (before : List Place) (file : ℕ) (around : List (List ℕ)) (tokens : List TokenView) (fault : Fault) (old new : Progress) → IsProgress old before → new.names ≡ old.names →
-    IsRefusedStatement before file around tokens fault → GoesSomewhere before {T = Unit {0}} (Err (halt_of fault)) new
+pub refused_goes : {which : Heads} (before : List Place) (file : ℕ) (around : List (List ℕ)) (tokens : List TokenView) (fault : Fault) (old new : Progress) → IsProgress which old before → new.names ≡ old.names →
+    IsRefusedStatement which before file around tokens fault → GoesSomewhere which before {T = Unit {0}} (Err (halt_of fault)) new
 refused_goes before file around tokens faults.OutOfMemory old new was names refused = ([], tt, all_first [] (ap (λ l. l.items) names ∙ was.names))
 refused_goes before file around tokens (faults.Refused refusal) old new was names (inl refused) =
     (Barred refusal ∷ [], tt, refl, ap (λ l. l.items) names ∙ was.names ∙ sym (append-nil (opened_in before)))
@@ -94,7 +95,7 @@ long_refused : (before : List Place) (bytes : List ℕ) (file : ℕ) → limit_n
 long_refused before bytes file long is = rw (lt-ltb (limit_number limits.FileBytes) (length bytes) long) (ap (λ n. Some (past_at limits.FileBytes n 1)) (sym is))
 
 -- some bytes are too long
-pub too_long : (before : List Place) (name : List ℕ) (file : ℕ) (refusal : Refusal) (old new : Progress) → IsProgress old before → file ≡ length old.names.items →
+pub too_long : {which : Heads} (before : List Place) (name : List ℕ) (file : ℕ) (refusal : Refusal) (old new : Progress) → IsProgress which old before → file ≡ length old.names.items →
     new.names.items ≡ old.names.items ++ name ∷ [] → refusal ≡ past_at limits.FileBytes file 1 →
     (bytes : List ℕ) × IsRefusedOpening before name bytes (halts.Refused refusal) new
 too_long before name file refusal old new was number names is =

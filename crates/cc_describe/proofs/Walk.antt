@@ -15,6 +15,8 @@ use Rattle.cc_ports.specs.Contents.{Contents, with_rest}
 use Rattle.cc_text.specs.Laws.{CutOrStop, StatementsAreTokens}
 use Rattle.cc_text.specs.Reading.{HasRead, HasStopped}
 use Rattle.cc_syntax.specs.Parsing.{TreeOrRefusal}
+use Rattle.cc_describe.specs.declared.heads.Heads.{Heads}
+use Rattle.cc_wide.specs.WideLaws.{plain_wide_base}
 use Rattle.cc_describe.specs.declared.files.Halt.{Halt}
 use Rattle.cc_describe.specs.declared.files.Halt.TheVariants as halts
 use Rattle.cc_describe.specs.declared.progress.Progress.{Progress}
@@ -52,14 +54,16 @@ content_is told contents name bytes is there =
 
 -- ---- a file is opened
 
-opened_progress : (before : List Place) (name bytes : List ℕ) (old entered new : Progress) → IsProgress old before
+opened_progress : {which : Heads} (before : List Place) (name bytes : List ℕ) (old entered new : Progress) → IsProgress which old before
     → entered.names.items ≡ old.names.items ++ name ∷ [] → entered ≡ record old { names = entered.names; around = entered.around }
     → new.bytes ≡ entered.bytes + length bytes → new ≡ record entered { bytes = new.bytes }
-    → IsProgress new (before ++ Opened name bytes ∷ [])
+    → IsProgress which new (before ++ Opened name bytes ∷ [])
 opened_progress before name bytes old entered new was names entering counted counting =
     step before (Opened name bytes) old new was
+    (ap (λ p. p.heads) counting ∙ ap (λ p. p.heads) entering)
     (subst (λ table. IsTable table (declared_in before ++ [])) (sym (ap (λ p. p.table) counting ∙ ap (λ p. p.table) entering)) (rw append-nil was.table))
     (nothing_more _ _ _ (ap (λ p. map plain_base_law p.laws.items) counting ∙ ap (λ p. map plain_base_law p.laws.items) entering) refl)
+    (nothing_more _ _ _ (ap (λ p. map plain_wide_base p.wide.items) counting ∙ ap (λ p. map plain_wide_base p.wide.items) entering) refl)
     (nothing_more _ _ _ (ap (λ p. map plain_query p.queries.items) counting ∙ ap (λ p. map plain_query p.queries.items) entering) refl)
     (nothing_more _ _ _ (ap (λ p. p.labels) counting ∙ ap (λ p. p.labels) entering) refl)
     (ap (λ p. p.names.items) counting ∙ names)
@@ -69,11 +73,11 @@ unrefused_opening : (before : List Place) (bytes : List ℕ) → length bytes �
     → bytes_in before + length bytes ≤ limit_number limits.TotalBytes → opening_refusal before bytes ≡ None
 unrefused_opening before bytes short few = grind (arith, nat_tests)
 
-pub is_opened : (before : List Place) (name bytes : List ℕ) (old entered new : Progress) (count : ℕ) → IsProgress old before
+pub is_opened : {which : Heads} (before : List Place) (name bytes : List ℕ) (old entered new : Progress) (count : ℕ) → IsProgress which old before
     → entered.names.items ≡ old.names.items ++ name ∷ [] → entered ≡ record old { names = entered.names; around = entered.around }
     → count ≡ length bytes → length bytes ≤ limit_number limits.FileBytes
     → (new.bytes ≡ entered.bytes + count) × (entered.bytes + count ≤ limit_number limits.TotalBytes) → new ≡ record entered { bytes = new.bytes }
-    → IsOpened before name bytes new
+    → IsOpened which before name bytes new
 is_opened before name bytes old entered new count was names entering is short counted counting =
     let bytes_were : entered.bytes ≡ old.bytes = ap (λ (p : Progress). p.bytes) entering in
     record {
@@ -101,28 +105,28 @@ of_file (suc deep) files around file name behind are = (behind, are, refl)
 -- ---- one statement
 
 -- where a statement is refused
-pub statement_refused : CutOrStop → StatementsAreTokens → TreeOrRefusal → (deep : ℕ) (files : Files) (around : List (List ℕ)) (file : ℕ)
-    (before : List Place) (tokens : List TokenView) (fault : Fault) (old new : Progress) → AreTokens tokens → IsProgress old before → new.names ≡ old.names
-    → IsRefusedStatement before file around tokens fault
-    → GoesThrough (AreOfStatement (AreInside deep files around) file around (length (opened_in before)) tokens) before {T = Unit {0}} (Err (halt_of fault)) new
+pub statement_refused : {which : Heads} → CutOrStop → StatementsAreTokens → TreeOrRefusal → (deep : ℕ) (files : Files) (around : List (List ℕ)) (file : ℕ)
+    (before : List Place) (tokens : List TokenView) (fault : Fault) (old new : Progress) → AreTokens tokens → IsProgress which old before → new.names ≡ old.names
+    → IsRefusedStatement which before file around tokens fault
+    → GoesThrough which (AreOfStatement (AreInside deep files around) file around (length (opened_in before)) tokens) before {T = Unit {0}} (Err (halt_of fault)) new
 statement_refused cut are read deep files around file before tokens faults.OutOfMemory old new of_kinds was names refused =
     let places = statement_places_exist read (AreInside deep files around) (inside_exist cut are read deep files around) file around (length (opened_in before)) tokens of_kinds in
     (places.0, places.1, all_first _ (ap (λ l. l.items) names ∙ was.names))
 statement_refused cut are read deep files around file before tokens (faults.Refused refusal) old new of_kinds was names (inl refused) =
     (Barred refusal ∷ [], inl (refusal, refused, refl), refl, ap (λ l. l.items) names ∙ was.names ∙ sym (append-nil (opened_in before)))
-statement_refused cut are read deep files around file before tokens (faults.Refused refusal) old new of_kinds was names (inr (statement, parsed, refused)) =
+statement_refused {which} cut are read deep files around file before tokens (faults.Refused refusal) old new of_kinds was names (inr (statement, parsed, refused)) =
     let behind = behind_exists (AreInside deep files around) (inside_exist cut are read deep files around) (length (opened_in before)) (included statement.part) in (
       Said file around statement ∷ behind.0,
       inr (statement, behind.0, parsed, behind.1, refl),
-      ap (λ one. option_or one (first_behind (before ++ Said file around statement ∷ []) behind.0)) refused,
+      ap (λ one. option_or one (first_behind which (before ++ Said file around statement ∷ []) behind.0)) refused,
       ap (λ l. l.items) names ∙ was.names ∙ sym (append-nil (opened_in before))
-          ∙ ap (λ one. opened_in before ++ opened_behind one (opened_until (before ++ Said file around statement ∷ []) behind.0)) (sym refused),
+          ∙ ap (λ one. opened_in before ++ opened_behind one (opened_until which (before ++ Said file around statement ∷ []) behind.0)) (sym refused),
     )
 
 -- where it includes nothing
-pub statement_alone : (Inside : ℕ → List ℕ → List Place → Type 0) (around : List (List ℕ)) (file : ℕ)
-    (before : List Place) (tokens : List TokenView) (done : Unit {0}) (new : Progress) → IsTaken before file around tokens None new
-    → GoesThrough (AreOfStatement Inside file around (length (opened_in before)) tokens) before (Ok done) new
+pub statement_alone : {which : Heads} (Inside : ℕ → List ℕ → List Place → Type 0) (around : List (List ℕ)) (file : ℕ)
+    (before : List Place) (tokens : List TokenView) (done : Unit {0}) (new : Progress) → IsTaken which before file around tokens None new
+    → GoesThrough which (AreOfStatement Inside file around (length (opened_in before)) tokens) before (Ok done) new
 statement_alone Inside around file before tokens done new (statement, parsed, is, says) = (
   Said file around statement ∷ [],
   inr (statement, [], parsed, subst (λ name. AreBehind Inside (length (opened_in before)) name []) is refl, refl),
@@ -131,11 +135,11 @@ statement_alone Inside around file before tokens done new (statement, parsed, is
 )
 
 -- where it includes a file, which was gone through
-pub statement_includes : (Inside : ℕ → List ℕ → List Place → Type 0) (around : List (List ℕ)) (file : ℕ)
-    (before : List Place) (tokens : List TokenView) (name : List ℕ) (result : Result (Unit {0}) Halt) (now new : Progress) → IsTaken before file around tokens (Some name) now
-    → ((more : List Place) → IsProgress now more → GoesThrough (Inside (length (opened_in more)) name) more result new)
-    → GoesThrough (AreOfStatement Inside file around (length (opened_in before)) tokens) before result new
-statement_includes Inside around file before tokens name result now new (statement, parsed, is, says) goes =
+pub statement_includes : {which : Heads} (Inside : ℕ → List ℕ → List Place → Type 0) (around : List (List ℕ)) (file : ℕ)
+    (before : List Place) (tokens : List TokenView) (name : List ℕ) (result : Result (Unit {0}) Halt) (now new : Progress) → IsTaken which before file around tokens (Some name) now
+    → ((more : List Place) → IsProgress which now more → GoesThrough which (Inside (length (opened_in more)) name) more result new)
+    → GoesThrough which (AreOfStatement Inside file around (length (opened_in before)) tokens) before result new
+statement_includes {which} Inside around file before tokens name result now new (statement, parsed, is, says) goes =
     let place = Said file around statement in
     let more = before ++ place ∷ [] in
     let number : length (opened_in more) ≡ length (opened_in before) = ap length (opened_in_behind before place ∙ append-nil (opened_in before)) in
@@ -154,25 +158,25 @@ statement_includes Inside around file before tokens name result now new (stateme
 
     step : (result : Result (Unit {0}) Halt)
         → ((behind : List Place) → Inside (length (opened_in (before ++ place ∷ []))) name behind → AreOfStatement Inside file around (length (opened_in before)) tokens (place ∷ behind))
-        → GoesThrough (Inside (length (opened_in (before ++ place ∷ []))) name) (before ++ place ∷ []) result new
-        → GoesThrough (AreOfStatement Inside file around (length (opened_in before)) tokens) before result new
+        → GoesThrough which (Inside (length (opened_in (before ++ place ∷ []))) name) (before ++ place ∷ []) result new
+        → GoesThrough which (AreOfStatement Inside file around (length (opened_in before)) tokens) before result new
     step (Ok done) are (behind, inside, none, kept) = (
       place ∷ behind,
       are behind inside,
-      ap (λ one. option_or one (first_behind (before ++ place ∷ []) behind)) says.unrefused ∙ none,
-      subst (IsProgress new) (append_assoc before (place ∷ []) behind) kept,
+      ap (λ one. option_or one (first_behind which (before ++ place ∷ []) behind)) says.unrefused ∙ none,
+      subst (IsProgress which new) (append_assoc before (place ∷ []) behind) kept,
     )
     step (Err (halts.Refused refusal)) are (behind, inside, some, names) = (
       place ∷ behind,
       are behind inside,
-      ap (λ one. option_or one (first_behind (before ++ place ∷ []) behind)) says.unrefused ∙ some,
-      names ∙ ap (λ l. l ++ opened_until (before ++ place ∷ []) behind) (opened_in_behind before place ∙ append-nil (opened_in before))
-          ∙ ap (λ one. opened_in before ++ opened_behind one (opened_until (before ++ place ∷ []) behind)) (sym says.unrefused),
+      ap (λ one. option_or one (first_behind which (before ++ place ∷ []) behind)) says.unrefused ∙ some,
+      names ∙ ap (λ l. l ++ opened_until which (before ++ place ∷ []) behind) (opened_in_behind before place ∙ append-nil (opened_in before))
+          ∙ ap (λ one. opened_in before ++ opened_behind one (opened_until which (before ++ place ∷ []) behind)) (sym says.unrefused),
     )
     step (Err halts.ReadFault) are (behind, inside, first) =
-        (place ∷ behind, are behind inside, first_of new.names.items (names_behind before (place ∷ []) behind (ap (λ one. option_or one None) says.unrefused)) first)
+        (place ∷ behind, are behind inside, first_of new.names.items (names_behind which before (place ∷ []) behind (ap (λ one. option_or one None) says.unrefused)) first)
     step (Err halts.OutOfMemory) are (behind, inside, first) =
-        (place ∷ behind, are behind inside, first_of new.names.items (names_behind before (place ∷ []) behind (ap (λ one. option_or one None) says.unrefused)) first)
+        (place ∷ behind, are behind inside, first_of new.names.items (names_behind which before (place ∷ []) behind (ap (λ one. option_or one None) says.unrefused)) first)
 
 -- ---- the statements of a file
 
@@ -205,17 +209,17 @@ parted statements i within =
     sym (take-append-drop i statements) ∙ ap (λ l. take i statements ++ l) (drop-cons statements i [] within)
 
 -- Before a statement: the file was opened, and the places of the statements before it were gone through.
-pub record Midway (deep : ℕ) (files : Files) (before : List Place) (name : List ℕ) (file : ℕ) (around : List (List ℕ)) (statements : List (List TokenView)) (i : ℕ) (progress : Progress) : Type 0 where
+pub record Midway (which : Heads) (deep : ℕ) (files : Files) (before : List Place) (name : List ℕ) (file : ℕ) (around : List (List ℕ)) (statements : List (List TokenView)) (i : ℕ) (progress : Progress) : Type 0 where
   pub unrefused : opening_refusal before (content files name) ≡ None
   pub number : file ≡ length (opened_in before)
   pub done : List Place
   pub are : AreOfStatements (AreInside deep files around) file around (file + 1) (take i statements) done
-  pub none : first_behind (before ++ Opened name (content files name) ∷ []) done ≡ None
-  pub kept : IsProgress progress ((before ++ Opened name (content files name) ∷ []) ++ done)
+  pub none : first_behind which (before ++ Opened name (content files name) ∷ []) done ≡ None
+  pub kept : IsProgress which progress ((before ++ Opened name (content files name) ∷ []) ++ done)
 
 -- the places up to there
-abbrev pub up_to : {deep : ℕ} {files : Files} {before : List Place} {name : List ℕ} {file : ℕ} {around : List (List ℕ)} {statements : List (List TokenView)} {i : ℕ} {progress : Progress}
-    → Midway deep files before name file around statements i progress → List Place
+abbrev pub up_to : {which : Heads} {deep : ℕ} {files : Files} {before : List Place} {name : List ℕ} {file : ℕ} {around : List (List ℕ)} {statements : List (List TokenView)} {i : ℕ} {progress : Progress}
+    → Midway which deep files before name file around statements i progress → List Place
 up_to {files = files} {before = before} {name = name} m = (before ++ Opened name (content files name) ∷ []) ++ m.done
 
 -- the number of the next file
@@ -226,27 +230,27 @@ next_number before done name bytes file number =
     omega (arith, all, length-append (opened_in before ++ name ∷ []) (opened_in done), length-append (opened_in before) (name ∷ []))
 
 -- before the first statement
-pub midway_begins : {deep : ℕ} {files : Files} {before : List Place} {name bytes : List ℕ} {file : ℕ} {around : List (List ℕ)} {statements : List (List TokenView)} {progress : Progress}
-    → bytes ≡ content files name → IsOpened before name bytes progress → file ≡ length (opened_in before)
-    → Midway deep files before name file around statements 0 progress
-midway_begins {deep} {files} {before} {name} {bytes} {file} {around} {statements} {progress} is opened number =
-    let opened_is = subst (λ b. IsOpened before name b progress) is opened in
+pub midway_begins : {which : Heads} {deep : ℕ} {files : Files} {before : List Place} {name bytes : List ℕ} {file : ℕ} {around : List (List ℕ)} {statements : List (List TokenView)} {progress : Progress}
+    → bytes ≡ content files name → IsOpened which before name bytes progress → file ≡ length (opened_in before)
+    → Midway which deep files before name file around statements 0 progress
+midway_begins {which} {deep} {files} {before} {name} {bytes} {file} {around} {statements} {progress} is opened number =
+    let opened_is = subst (λ b. IsOpened which before name b progress) is opened in
     record {
       unrefused = opened_is.unrefused;
       number = number;
       done = [];
       are = refl;
       none = refl;
-      kept = subst (IsProgress progress) (sym (append-nil (before ++ Opened name (content files name) ∷ []))) opened_is.opened;
+      kept = subst (IsProgress which progress) (sym (append-nil (before ++ Opened name (content files name) ∷ []))) opened_is.opened;
     }
 
 -- behind a statement that was gone through
-pub midway_goes : {deep : ℕ} {files : Files} {before : List Place} {name : List ℕ} {file : ℕ} {around : List (List ℕ)} {statements : List (List TokenView)} {i : ℕ} {old : Progress} (new : Progress)
-    (done : Unit {0}) → i < length statements → (m : Midway deep files before name file around statements i old)
-    → GoesThrough (AreOfStatement (AreInside deep files around) file around (length (opened_in (up_to m))) (slice_index_or statements i []))
+pub midway_goes : {which : Heads} {deep : ℕ} {files : Files} {before : List Place} {name : List ℕ} {file : ℕ} {around : List (List ℕ)} {statements : List (List TokenView)} {i : ℕ} {old : Progress} (new : Progress)
+    (done : Unit {0}) → i < length statements → (m : Midway which deep files before name file around statements i old)
+    → GoesThrough which (AreOfStatement (AreInside deep files around) file around (length (opened_in (up_to m))) (slice_index_or statements i []))
     (up_to m) (Ok done) new
-    → Midway deep files before name file around statements (i + 1) new
-midway_goes {deep} {files} {before} {name} {file} {around} {statements} {i} {old} new done within m (places, are, none, kept) =
+    → Midway which deep files before name file around statements (i + 1) new
+midway_goes {which} {deep} {files} {before} {name} {file} {around} {statements} {i} {old} new done within m (places, are, none, kept) =
     let start = before ++ Opened name (content files name) ∷ [] in
     let tokens = slice_index_or statements i [] in
     let one : AreOfStatements (AreInside deep files around) file around ((file + 1) + length (opened_in m.done)) (tokens ∷ []) places =
@@ -257,37 +261,37 @@ midway_goes {deep} {files} {before} {name} {file} {around} {statements} {i} {old
       done = m.done ++ places;
       are = subst (λ all. AreOfStatements (AreInside deep files around) file around (file + 1) all (m.done ++ places)) (sym (take_more statements i [] within))
           (statements_all (AreInside deep files around) file around (file + 1) (take i statements) (tokens ∷ []) m.done places m.are one);
-      none = first_behind_all start m.done places ∙ ap (λ first. option_or first (first_behind (start ++ m.done) places)) m.none ∙ none;
-      kept = subst (IsProgress new) (append_assoc start m.done places) kept;
+      none = first_behind_all which start m.done places ∙ ap (λ first. option_or first (first_behind which (start ++ m.done) places)) m.none ∙ none;
+      kept = subst (IsProgress which new) (append_assoc start m.done places) kept;
     }
 
 -- behind the last statement
-pub progress_left : (places : List Place) (old new : Progress) → IsProgress old places → new ≡ record old { around = new.around } → IsProgress new places
-progress_left places old new kept left =
-    subst (λ p. IsProgress p places) (sym left)
-    (record { table = kept.table; laws = kept.laws; queries = kept.queries; labels = kept.labels; names = kept.names; bytes = kept.bytes })
+pub progress_left : {which : Heads} (places : List Place) (old new : Progress) → IsProgress which old places → new ≡ record old { around = new.around } → IsProgress which new places
+progress_left {which} places old new kept left =
+    subst (λ p. IsProgress which p places) (sym left)
+    (record { heads = kept.heads; table = kept.table; laws = kept.laws; wide = kept.wide; queries = kept.queries; labels = kept.labels; names = kept.names; bytes = kept.bytes })
 
-pub midway_ends : {deep : ℕ} {files : Files} {before : List Place} {name : List ℕ} {file : ℕ} {statements : List (List TokenView)} {i : ℕ} {old : Progress} (around : List (List ℕ)) (new : Progress)
+pub midway_ends : {which : Heads} {deep : ℕ} {files : Files} {before : List Place} {name : List ℕ} {file : ℕ} {statements : List (List TokenView)} {i : ℕ} {old : Progress} (around : List (List ℕ)) (new : Progress)
     (done : Unit {0}) → length statements ≤ i → HasRead (content files name) statements
-    → Midway deep files before name file (around ++ name ∷ []) statements i old → new ≡ record old { around = new.around }
-    → GoesThrough (ArePlaces deep files around (length (opened_in before)) name) before (Ok done) new
-midway_ends {deep} {files} {before} {name} {file} {statements} {i} {old} around new done past (tokens, cut, short, read) m left =
+    → Midway which deep files before name file (around ++ name ∷ []) statements i old → new ≡ record old { around = new.around }
+    → GoesThrough which (ArePlaces deep files around (length (opened_in before)) name) before (Ok done) new
+midway_ends {which} {deep} {files} {before} {name} {file} {statements} {i} {old} around new done past (tokens, cut, short, read) m left =
     let are = subst (λ all. AreOfStatements (AreInside deep files (around ++ name ∷ [])) file (around ++ name ∷ []) (file + 1) all m.done) (take_all i statements past ∙ read) m.are in
     let bytes = content files name in (
       Opened name bytes ∷ m.done,
       subst (λ n. ArePlaces deep files around n name (Opened name bytes ∷ m.done)) m.number
           (of_file deep files around file name m.done (inr (tokens, cut, short, are))),
-      ap (λ one. option_or one (first_behind (before ++ Opened name bytes ∷ []) m.done)) m.unrefused ∙ m.none,
-      progress_left (before ++ Opened name bytes ∷ m.done) old new (subst (IsProgress old) (append_assoc before (Opened name bytes ∷ []) m.done) m.kept) left,
+      ap (λ one. option_or one (first_behind which (before ++ Opened name bytes ∷ []) m.done)) m.unrefused ∙ m.none,
+      progress_left (before ++ Opened name bytes ∷ m.done) old new (subst (IsProgress which old) (append_assoc before (Opened name bytes ∷ []) m.done) m.kept) left,
     )
 
 -- the names opened, where a statement follows
-names_midway : {deep : ℕ} {files : Files} {before : List Place} {name : List ℕ} {file : ℕ} {around : List (List ℕ)} {statements : List (List TokenView)} {i : ℕ} {old : Progress}
-    (m : Midway deep files before name file around statements i old) (behind : List Place)
-    → opened_in (up_to m) ++ opened_until (up_to m) behind ≡ opened_in before ++ opened_until before (Opened name (content files name) ∷ (m.done ++ behind))
-names_midway {files = files} {before = before} {name = name} m behind =
+names_midway : {which : Heads} {deep : ℕ} {files : Files} {before : List Place} {name : List ℕ} {file : ℕ} {around : List (List ℕ)} {statements : List (List TokenView)} {i : ℕ} {old : Progress}
+    (m : Midway which deep files before name file around statements i old) (behind : List Place)
+    → opened_in (up_to m) ++ opened_until which (up_to m) behind ≡ opened_in before ++ opened_until which before (Opened name (content files name) ∷ (m.done ++ behind))
+names_midway {which = which} {files = files} {before = before} {name = name} m behind =
     let place = Opened name (content files name) in
-    names_behind (before ++ place ∷ []) m.done behind m.none ∙ names_behind before (place ∷ []) (m.done ++ behind) (ap (λ one. option_or one None) m.unrefused)
+    names_behind which (before ++ place ∷ []) m.done behind m.none ∙ names_behind which before (place ∷ []) (m.done ++ behind) (ap (λ one. option_or one None) m.unrefused)
 
 -- a statement of a text that was read, and those behind it
 pub later_are_tokens : StatementsAreTokens → (text : List ℕ) (statements : List (List TokenView)) (i : ℕ) → i < length statements → HasRead text statements
@@ -297,10 +301,10 @@ later_are_tokens are text statements i within (tokens, cut, short, is) =
     (subst (AllByRecursion AreTokens) (parted statements i within) (subst (AllByRecursion AreTokens) (sym is) (are 1 text tokens cut short)))
 
 -- whatever places a statement has, the file has some with these
-midway_whole : CutOrStop → StatementsAreTokens → TreeOrRefusal
+midway_whole : {which : Heads} → CutOrStop → StatementsAreTokens → TreeOrRefusal
     → {deep : ℕ} {files : Files} {before : List Place} {name : List ℕ} {file : ℕ} {statements : List (List TokenView)} {i : ℕ} {old : Progress} (around : List (List ℕ))
     → i < length statements → HasRead (content files name) statements
-    → (m : Midway deep files before name file (around ++ name ∷ []) statements i old) (places : List Place)
+    → (m : Midway which deep files before name file (around ++ name ∷ []) statements i old) (places : List Place)
     → AreOfStatement (AreInside deep files (around ++ name ∷ [])) file (around ++ name ∷ []) (length (opened_in (up_to m))) (slice_index_or statements i []) places
     → (rest : List Place) × ArePlaces deep files around (length (opened_in before)) name (Opened name (content files name) ∷ (m.done ++ (places ++ rest)))
 midway_whole cut are read {deep} {files} {before} {name} {file} {statements} {i} {old} around within has m places first =
@@ -324,14 +328,14 @@ midway_whole cut are read {deep} {files} {before} {name} {file} {statements} {i}
     )
 
 -- at a statement that is refused
-pub midway_stops : CutOrStop → StatementsAreTokens → TreeOrRefusal
+pub midway_stops : {which : Heads} → CutOrStop → StatementsAreTokens → TreeOrRefusal
     → {deep : ℕ} {files : Files} {before : List Place} {name : List ℕ} {file : ℕ} {statements : List (List TokenView)} {i : ℕ} {old : Progress} (around : List (List ℕ)) (new : Progress)
     (halt : Halt) → i < length statements → HasRead (content files name) statements
-    → (m : Midway deep files before name file (around ++ name ∷ []) statements i old)
-    → GoesThrough (AreOfStatement (AreInside deep files (around ++ name ∷ [])) file (around ++ name ∷ []) (length (opened_in (up_to m))) (slice_index_or statements i []))
+    → (m : Midway which deep files before name file (around ++ name ∷ []) statements i old)
+    → GoesThrough which (AreOfStatement (AreInside deep files (around ++ name ∷ [])) file (around ++ name ∷ []) (length (opened_in (up_to m))) (slice_index_or statements i []))
     (up_to m) {T = Unit {0}} (Err halt) new
-    → GoesThrough (ArePlaces deep files around (length (opened_in before)) name) before {T = Unit {0}} (Err halt) new
-midway_stops cut are read {deep} {files} {before} {name} {file} {statements} {i} {old} around new halt within has m goes = stopped halt goes
+    → GoesThrough which (ArePlaces deep files around (length (opened_in before)) name) before {T = Unit {0}} (Err halt) new
+midway_stops {which} cut are read {deep} {files} {before} {name} {file} {statements} {i} {old} around new halt within has m goes = stopped halt goes
   where
     start : List Place
     start = before ++ Opened name (content files name) ∷ []
@@ -342,65 +346,65 @@ midway_stops cut are read {deep} {files} {before} {name} {file} {statements} {i}
     Are : List Place → Type 0
     Are = AreOfStatement (AreInside deep files (around ++ name ∷ [])) file (around ++ name ∷ []) (length (opened_in mid)) (slice_index_or statements i [])
 
-    first_ones : OpensFirst Are mid new → OpensFirst (ArePlaces deep files around (length (opened_in before)) name) before new
+    first_ones : OpensFirst which Are mid new → OpensFirst which (ArePlaces deep files around (length (opened_in before)) name) before new
     first_ones (places, first, names) =
         let whole = midway_whole cut are read around within has m places first in (
           Opened name (content files name) ∷ (m.done ++ (places ++ whole.0)),
           whole.1,
-          first_of new.names.items (names_midway m (places ++ whole.0)) (first_until new.names.items mid places whole.0 names),
+          first_of new.names.items (names_midway m (places ++ whole.0)) (first_until which new.names.items mid places whole.0 names),
         )
 
-    stopped : (halt : Halt) → GoesThrough Are mid {T = Unit {0}} (Err halt) new → GoesThrough (ArePlaces deep files around (length (opened_in before)) name) before {T = Unit {0}} (Err halt) new
+    stopped : (halt : Halt) → GoesThrough which Are mid {T = Unit {0}} (Err halt) new → GoesThrough which (ArePlaces deep files around (length (opened_in before)) name) before {T = Unit {0}} (Err halt) new
     stopped halts.ReadFault goes = first_ones goes
     stopped halts.OutOfMemory goes = first_ones goes
     stopped (halts.Refused refusal) (places, first, some, names) =
         let whole = midway_whole cut are read around within has m places first in (
           Opened name (content files name) ∷ (m.done ++ (places ++ whole.0)),
           whole.1,
-          ap (λ refused. option_or refused (first_behind start (m.done ++ (places ++ whole.0)))) m.unrefused ∙ first_behind_all start m.done (places ++ whole.0)
-              ∙ ap (λ refused. option_or refused (first_behind mid (places ++ whole.0))) m.none ∙ first_behind_all mid places whole.0
-              ∙ ap (λ refused. option_or refused (first_behind (mid ++ places) whole.0)) some,
-          names ∙ ap (λ l. opened_in mid ++ l) (sym (opened_until_some mid places whole.0 refusal some)) ∙ names_midway m (places ++ whole.0),
+          ap (λ refused. option_or refused (first_behind which start (m.done ++ (places ++ whole.0)))) m.unrefused ∙ first_behind_all which start m.done (places ++ whole.0)
+              ∙ ap (λ refused. option_or refused (first_behind which mid (places ++ whole.0))) m.none ∙ first_behind_all which mid places whole.0
+              ∙ ap (λ refused. option_or refused (first_behind which (mid ++ places) whole.0)) some,
+          names ∙ ap (λ l. opened_in mid ++ l) (sym (opened_until_some which mid places whole.0 refusal some)) ∙ names_midway m (places ++ whole.0),
         )
 
 -- ---- a file that is not gone through
 
 -- it has places, and was opened, or would be next
-file_opens : CutOrStop → StatementsAreTokens → TreeOrRefusal
+file_opens : (which : Heads) → CutOrStop → StatementsAreTokens → TreeOrRefusal
     → (deep : ℕ) (files : Files) (before : List Place) (name : List ℕ) (around : List (List ℕ)) (new : Progress)
     → AreFirstNames new.names.items (opened_in before ++ name ∷ [])
-    → OpensFirst (ArePlaces deep files around (length (opened_in before)) name) before new
-file_opens cut are read deep files before name around new first =
+    → OpensFirst which (ArePlaces deep files around (length (opened_in before)) name) before new
+file_opens which cut are read deep files before name around new first =
     let bytes = content files name in
     let within_file = around ++ name ∷ [] in
     let file = length (opened_in before) in
     let behind = text_places_exist cut are read (AreInside deep files within_file) (inside_exist cut are read deep files within_file) file within_file bytes in
-    (Opened name bytes ∷ behind.0, of_file deep files around file name behind.0 behind.1, first_opened new.names.items before name bytes behind.0 first)
+    (Opened name bytes ∷ behind.0, of_file deep files around file name behind.0 behind.1, first_opened which new.names.items before name bytes behind.0 first)
 
 -- its opening is refused
-pub opening_stops : CutOrStop → StatementsAreTokens → TreeOrRefusal
+pub opening_stops : (which : Heads) → CutOrStop → StatementsAreTokens → TreeOrRefusal
     → (deep : ℕ) (files : Files) (before : List Place) (name : List ℕ) (around : List (List ℕ)) (halt : Halt) (new : Progress)
     → IsRefusedOpening before name (content files name) halt new
-    → GoesThrough (ArePlaces deep files around (length (opened_in before)) name) before {T = Unit {0}} (Err halt) new
-opening_stops cut are read deep files before name around halts.ReadFault new first = file_opens cut are read deep files before name around new first
-opening_stops cut are read deep files before name around halts.OutOfMemory new first = file_opens cut are read deep files before name around new first
-opening_stops cut are read deep files before name around (halts.Refused refusal) new (refused, names) =
+    → GoesThrough which (ArePlaces deep files around (length (opened_in before)) name) before {T = Unit {0}} (Err halt) new
+opening_stops which cut are read deep files before name around halts.ReadFault new first = file_opens which cut are read deep files before name around new first
+opening_stops which cut are read deep files before name around halts.OutOfMemory new first = file_opens which cut are read deep files before name around new first
+opening_stops which cut are read deep files before name around (halts.Refused refusal) new (refused, names) =
     let bytes = content files name in
     let within_file = around ++ name ∷ [] in
     let file = length (opened_in before) in
     let behind = text_places_exist cut are read (AreInside deep files within_file) (inside_exist cut are read deep files within_file) file within_file bytes in (
       Opened name bytes ∷ behind.0,
       of_file deep files around file name behind.0 behind.1,
-      ap (λ one. option_or one (first_behind (before ++ Opened name bytes ∷ []) behind.0)) refused,
-      names ∙ ap (λ one. opened_in before ++ name ∷ opened_behind one (opened_until (before ++ Opened name bytes ∷ []) behind.0)) (sym refused),
+      ap (λ one. option_or one (first_behind which (before ++ Opened name bytes ∷ []) behind.0)) refused,
+      names ∙ ap (λ one. opened_in before ++ name ∷ opened_behind one (opened_until which (before ++ Opened name bytes ∷ []) behind.0)) (sym refused),
     )
 
 -- its text is no tokens
-text_refused : CutOrStop → StatementsAreTokens → TreeOrRefusal → (deep : ℕ) (files : Files) (before : List Place) (name : List ℕ) (file : ℕ) (around : List (List ℕ)) (fault : Fault) (new : Progress)
-    → IsOpened before name (content files name) new → file ≡ length (opened_in before) → HasStopped file (content files name) fault
-    → GoesThrough (ArePlaces deep files around (length (opened_in before)) name) before {T = Unit {0}} (Err (halt_of fault)) new
-text_refused cut are read deep files before name file around faults.OutOfMemory new opened number stopped =
-    file_opens cut are read deep files before name around new ([], sym (append-nil new.names.items ∙ opened.opened.names ∙ opened_in_behind before (Opened name (content files name))))
+text_refused : {which : Heads} → CutOrStop → StatementsAreTokens → TreeOrRefusal → (deep : ℕ) (files : Files) (before : List Place) (name : List ℕ) (file : ℕ) (around : List (List ℕ)) (fault : Fault) (new : Progress)
+    → IsOpened which before name (content files name) new → file ≡ length (opened_in before) → HasStopped file (content files name) fault
+    → GoesThrough which (ArePlaces deep files around (length (opened_in before)) name) before {T = Unit {0}} (Err (halt_of fault)) new
+text_refused {which} cut are read deep files before name file around faults.OutOfMemory new opened number stopped =
+    file_opens which cut are read deep files before name around new ([], sym (append-nil new.names.items ∙ opened.opened.names ∙ opened_in_behind before (Opened name (content files name))))
 text_refused cut are read deep files before name file around (faults.Refused refusal) new opened number stopped =
     let there = content files name in (
       Opened name there ∷ Barred refusal ∷ [],
@@ -410,58 +414,58 @@ text_refused cut are read deep files before name file around (faults.Refused ref
       opened.opened.names ∙ opened_in_behind before (Opened name there) ∙ ap (λ one. opened_in before ++ name ∷ opened_behind one []) (sym opened.unrefused),
     )
 
-pub text_stops : CutOrStop → StatementsAreTokens → TreeOrRefusal → (deep : ℕ) (files : Files) (before : List Place) (name bytes text : List ℕ) (file : ℕ) (around : List (List ℕ)) (fault : Fault) (halt : Halt) (new : Progress)
-    → bytes ≡ content files name → text ≡ bytes → halt ≡ halt_of fault → IsOpened before name bytes new → file ≡ length (opened_in before) → HasStopped file text fault
-    → GoesThrough (ArePlaces deep files around (length (opened_in before)) name) before {T = Unit {0}} (Err halt) new
-text_stops cut are read deep files before name bytes text file around fault halt new is text_is halt_is opened number stopped =
-    subst (λ h. GoesThrough (ArePlaces deep files around (length (opened_in before)) name) before {T = Unit {0}} (Err h) new) (sym halt_is)
-    (text_refused cut are read deep files before name file around fault new (subst (λ b. IsOpened before name b new) is opened) number
+pub text_stops : {which : Heads} → CutOrStop → StatementsAreTokens → TreeOrRefusal → (deep : ℕ) (files : Files) (before : List Place) (name bytes text : List ℕ) (file : ℕ) (around : List (List ℕ)) (fault : Fault) (halt : Halt) (new : Progress)
+    → bytes ≡ content files name → text ≡ bytes → halt ≡ halt_of fault → IsOpened which before name bytes new → file ≡ length (opened_in before) → HasStopped file text fault
+    → GoesThrough which (ArePlaces deep files around (length (opened_in before)) name) before {T = Unit {0}} (Err halt) new
+text_stops {which} cut are read deep files before name bytes text file around fault halt new is text_is halt_is opened number stopped =
+    subst (λ h. GoesThrough which (ArePlaces deep files around (length (opened_in before)) name) before {T = Unit {0}} (Err h) new) (sym halt_is)
+    (text_refused cut are read deep files before name file around fault new (subst (λ b. IsOpened which before name b new) is opened) number
     (subst (λ b. HasStopped file b fault) (text_is ∙ is) stopped))
 
 pub has_read : (text bytes there : List ℕ) (read statements : List (List TokenView)) → text ≡ bytes → bytes ≡ there → statements ≡ read → HasRead text read → HasRead there statements
 has_read text bytes there read statements text_is is are has = subst (HasRead there) (sym are) (subst (λ b. HasRead b read) (text_is ∙ is) has)
 
 -- what an error is told as
-pub told_as : (Are : List Place → Type 0) (before : List Place) (result : Result (Unit {0}) Halt) (halt : Halt) (new : Progress)
-    → IsErrAnd result (λ told. told ≡ halt) → GoesThrough Are before {T = Unit {0}} (Err halt) new → GoesThrough Are before result new
-told_as Are before (Ok done) halt new is goes = elim is [ ]
-told_as Are before (Err told) halt new is goes = subst (λ h. GoesThrough Are before {T = Unit {0}} (Err h) new) (sym is) goes
+pub told_as : (which : Heads) (Are : List Place → Type 0) (before : List Place) (result : Result (Unit {0}) Halt) (halt : Halt) (new : Progress)
+    → IsErrAnd result (λ told. told ≡ halt) → GoesThrough which Are before {T = Unit {0}} (Err halt) new → GoesThrough which Are before result new
+told_as which Are before (Ok done) halt new is goes = elim is [ ]
+told_as which Are before (Err told) halt new is goes = subst (λ h. GoesThrough which Are before {T = Unit {0}} (Err h) new) (sym is) goes
 
 -- ---- as the calls say it
 
-pub taken_as : (before : List Place) (file : ℕ) (other around : List (List ℕ)) (taken tokens : List TokenView) (name named : Option (List ℕ)) (new : Progress)
-    → other ≡ around → taken ≡ tokens → name ≡ named → IsTaken before file other taken name new → IsTaken before file around tokens named new
-taken_as before file other around taken tokens name named new other_is tokens_are name_is is_taken =
-    subst (λ a. IsTaken before file a tokens named new) other_is (subst (λ l. IsTaken before file other l named new) tokens_are
-    (subst (λ o. IsTaken before file other taken o new) name_is is_taken))
+pub taken_as : {which : Heads} (before : List Place) (file : ℕ) (other around : List (List ℕ)) (taken tokens : List TokenView) (name named : Option (List ℕ)) (new : Progress)
+    → other ≡ around → taken ≡ tokens → name ≡ named → IsTaken which before file other taken name new → IsTaken which before file around tokens named new
+taken_as {which} before file other around taken tokens name named new other_is tokens_are name_is is_taken =
+    subst (λ a. IsTaken which before file a tokens named new) other_is (subst (λ l. IsTaken which before file other l named new) tokens_are
+    (subst (λ o. IsTaken which before file other taken o new) name_is is_taken))
 
-pub refused_as : (before : List Place) (file : ℕ) (other around : List (List ℕ)) (taken tokens : List TokenView) (fault : Fault)
-    → other ≡ around → taken ≡ tokens → IsRefusedStatement before file other taken fault → IsRefusedStatement before file around tokens fault
-refused_as before file other around taken tokens fault other_is tokens_are refused =
-    subst (λ a. IsRefusedStatement before file a tokens fault) other_is (subst (λ l. IsRefusedStatement before file other l fault) tokens_are refused)
+pub refused_as : (which : Heads) (before : List Place) (file : ℕ) (other around : List (List ℕ)) (taken tokens : List TokenView) (fault : Fault)
+    → other ≡ around → taken ≡ tokens → IsRefusedStatement which before file other taken fault → IsRefusedStatement which before file around tokens fault
+refused_as which before file other around taken tokens fault other_is tokens_are refused =
+    subst (λ a. IsRefusedStatement which before file a tokens fault) other_is (subst (λ l. IsRefusedStatement which before file other l fault) tokens_are refused)
 
 inside_is : (deep : ℕ) (files : Files) (around : List (List ℕ)) → 0 < deep → ArePlaces (deep - 1) files around ≡ AreInside deep files around
 inside_is zero files around some = absurd (omega arith)
 inside_is (suc deep) files around some = ap (λ d. ArePlaces d files around) (omega arith)
 
 -- what is included was read
-pub statement_reads : (deep : ℕ) (files : Files) (around behind : List (List ℕ)) (file : ℕ) (before : List Place) (tokens : List TokenView) (name : List ℕ)
-    (result : Result (Unit {0}) Halt) (now new : Progress) → 0 < deep → behind ≡ around → IsTaken before file around tokens (Some name) now
-    → ((more : List Place) → IsProgress now more → GoesThrough (ArePlaces (deep - 1) files behind (length (opened_in more)) name) more result new)
-    → GoesThrough (AreOfStatement (AreInside deep files around) file around (length (opened_in before)) tokens) before result new
-statement_reads deep files around behind file before tokens name result now new some behind_is taken goes =
+pub statement_reads : {which : Heads} (deep : ℕ) (files : Files) (around behind : List (List ℕ)) (file : ℕ) (before : List Place) (tokens : List TokenView) (name : List ℕ)
+    (result : Result (Unit {0}) Halt) (now new : Progress) → 0 < deep → behind ≡ around → IsTaken which before file around tokens (Some name) now
+    → ((more : List Place) → IsProgress which now more → GoesThrough which (ArePlaces (deep - 1) files behind (length (opened_in more)) name) more result new)
+    → GoesThrough which (AreOfStatement (AreInside deep files around) file around (length (opened_in before)) tokens) before result new
+statement_reads {which} deep files around behind file before tokens name result now new some behind_is taken goes =
     statement_includes (AreInside deep files around) around file before tokens name result now new taken
-    (λ more kept. subst (λ Inside. GoesThrough (Inside (length (opened_in more)) name) more result new) (inside_is deep files around some)
-    (subst (λ a. GoesThrough (ArePlaces (deep - 1) files a (length (opened_in more)) name) more result new) behind_is (goes more kept)))
+    (λ more kept. subst (λ Inside. GoesThrough which (Inside (length (opened_in more)) name) more result new) (inside_is deep files around some)
+    (subst (λ a. GoesThrough which (ArePlaces (deep - 1) files a (length (opened_in more)) name) more result new) behind_is (goes more kept)))
 
 -- a deeper include has no places
-pub statement_ends : (deep : ℕ) (files : Files) (around : List (List ℕ)) (file : ℕ) (before : List Place) (tokens : List TokenView) (name : List ℕ)
-    (done : Unit {0}) (now : Progress) → deep ≡ 0 → IsTaken before file around tokens (Some name) now
-    → GoesThrough (AreOfStatement (AreInside deep files around) file around (length (opened_in before)) tokens) before (Ok done) now
-statement_ends deep files around file before tokens name done now none taken =
-    subst (λ d. GoesThrough (AreOfStatement (AreInside d files around) file around (length (opened_in before)) tokens) before (Ok done) now) (sym none)
+pub statement_ends : {which : Heads} (deep : ℕ) (files : Files) (around : List (List ℕ)) (file : ℕ) (before : List Place) (tokens : List TokenView) (name : List ℕ)
+    (done : Unit {0}) (now : Progress) → deep ≡ 0 → IsTaken which before file around tokens (Some name) now
+    → GoesThrough which (AreOfStatement (AreInside deep files around) file around (length (opened_in before)) tokens) before (Ok done) now
+statement_ends {which} deep files around file before tokens name done now none taken =
+    subst (λ d. GoesThrough which (AreOfStatement (AreInside d files around) file around (length (opened_in before)) tokens) before (Ok done) now) (sym none)
     (statement_includes NoPlaces around file before tokens name (Ok done) now now taken
-    (λ more kept. ([], refl, refl, subst (IsProgress now) (sym (append-nil more)) kept)))
+    (λ more kept. ([], refl, refl, subst (IsProgress which now) (sym (append-nil more)) kept)))
 
 -- a statement that is refused is no fault of the desk
 pub no_fault : (result : Result (Unit {0}) Halt) (fault : Fault) → IsErrAnd result (λ told. told ≡ halt_of fault) → result ≡ Err halts.ReadFault → ⊥

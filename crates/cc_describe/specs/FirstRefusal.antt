@@ -14,7 +14,10 @@ use Rattle.cc_defs.specs.Trees.{PlainQueryItem, PlainPart, PlainStatement}
 use Rattle.cc_defs.specs.Trees as trees
 use Rattle.cc_laws.specs.LawFaults.{law_refusal}
 use Rattle.cc_laws.specs.Questions.{items_of, labels_in, query_refusal}
-use Rattle.cc_laws.specs.Vocabulary.{vocabulary}
+use Rattle.cc_laws.specs.Vocabulary.{Vocabulary, vocabulary}
+use Rattle.cc_laws.specs.Widening.{wide_refusal}
+use Rattle.cc_describe.specs.declared.heads.Heads.{Heads}
+use Rattle.cc_describe.specs.declared.heads.Heads.TheVariants as heads
 use Rattle.cc_describe.specs.Places.{Place, Opened, Barred, Said, opened_at, opened_in}
 
 -- ---- what stands before a place
@@ -68,36 +71,41 @@ include_refusal file around line name =
     else (if nat_lt (limit_number limits.IncludeDepth) (length around) then Some (past_at limits.IncludeDepth file line)
     else None)
 
-abbrev pub statement_refusal : List Place → ℕ → List (List ℕ) → PlainStatement → PlainPart → Option Refusal
-statement_refusal before file around statement (trees.Query items) = asking_refusal before file statement
-statement_refusal before file around statement (trees.Include name) = include_refusal file around statement.line name
-statement_refusal before file around statement (trees.Law law test) = law_refusal file (vocabulary (declared_in before)) statement
-statement_refusal before file around statement part = declaration_refusal file (declared_in before) statement
+-- the least fault of a law; that its head is not definite is one only where heads have to be
+abbrev pub law_refusal_of : Heads → ℕ → Vocabulary → PlainStatement → Option Refusal
+law_refusal_of heads.Definite file v statement = law_refusal file v statement
+law_refusal_of heads.Any file v statement = wide_refusal file v statement
 
-abbrev pub refusal_at : List Place → Place → Option Refusal
-refusal_at before (Opened name bytes) = opening_refusal before bytes
-refusal_at before (Barred refusal) = Some refusal
-refusal_at before (Said file around statement) = statement_refusal before file around statement statement.part
+abbrev pub statement_refusal : Heads → List Place → ℕ → List (List ℕ) → PlainStatement → PlainPart → Option Refusal
+statement_refusal which before file around statement (trees.Query items) = asking_refusal before file statement
+statement_refusal which before file around statement (trees.Include name) = include_refusal file around statement.line name
+statement_refusal which before file around statement (trees.Law law test) = law_refusal_of which file (vocabulary (declared_in before)) statement
+statement_refusal which before file around statement part = declaration_refusal file (declared_in before) statement
+
+abbrev pub refusal_at : Heads → List Place → Place → Option Refusal
+refusal_at which before (Opened name bytes) = opening_refusal before bytes
+refusal_at which before (Barred refusal) = Some refusal
+refusal_at which before (Said file around statement) = statement_refusal which before file around statement statement.part
 
 -- ---- the first refusal
 
 -- of the places behind others
-abbrev pub first_behind : List Place → List Place → Option Refusal
-first_behind before [] = None
-first_behind before (place ∷ places) = option_or (refusal_at before place) (first_behind (before ++ place ∷ []) places)
+abbrev pub first_behind : Heads → List Place → List Place → Option Refusal
+first_behind which before [] = None
+first_behind which before (place ∷ places) = option_or (refusal_at which before place) (first_behind which (before ++ place ∷ []) places)
 
-abbrev pub first_refusal : List Place → Option Refusal
-first_refusal places = option_or (first_behind [] places) (signature_refusal (declared_in places))
+abbrev pub first_refusal : Heads → List Place → Option Refusal
+first_refusal which places = option_or (first_behind which [] places) (signature_refusal (declared_in places))
 
 -- the names of the files that are opened up to the first refusal
 abbrev pub opened_behind : Option Refusal → List (List ℕ) → List (List ℕ)
 opened_behind (Some refusal) names = []
 opened_behind None names = names
 
-abbrev pub opened_until : List Place → List Place → List (List ℕ)
-opened_until before [] = []
-opened_until before (place ∷ places) =
-    opened_at place ++ opened_behind (refusal_at before place) (opened_until (before ++ place ∷ []) places)
+abbrev pub opened_until : Heads → List Place → List Place → List (List ℕ)
+opened_until which before [] = []
+opened_until which before (place ∷ places) =
+    opened_at place ++ opened_behind (refusal_at which before place) (opened_until which (before ++ place ∷ []) places)
 
 -- the name of the file that a refusal speaks of, among these; none where the refusal has no place
 abbrev pub file_named : List (List ℕ) → Refusal → List ℕ

@@ -2,26 +2,35 @@
 use Rattle.std.specs.Prelude.{◌≡◌, ◌⊎◌, ℕ, List, [], ◌∷◌, ◌++◌, map, Bool, true, false, Option, Some, None, Result, Ok, Err}
 use Rattle.cc_defs.specs.declared.refusal.Fault.{Fault}
 use Rattle.cc_defs.specs.declared.refusal.Fault.TheVariants as faults
+use Rattle.cc_defs.specs.Declarations.{Declaration}
 use Rattle.cc_defs.specs.Resolved.{plain_base_law, plain_query}
 use Rattle.cc_defs.specs.Statements.{IsRefused, IsParsed}
 use Rattle.cc_defs.specs.Tokens.{TokenView}
 use Rattle.cc_defs.specs.Trees.{PlainPart, PlainStatement}
 use Rattle.cc_defs.specs.Trees as trees
+use Rattle.cc_laws.specs.Expansion.{base_laws}
+use Rattle.cc_laws.specs.Vocabulary.{vocabulary}
+use Rattle.cc_laws.specs.Widening.{wide_laws}
 use Rattle.cc_ports.specs.Calls.{Call, names_begun, names_opened, with_calls}
 use Rattle.cc_sorts.specs.Tables.{IsTable}
+use Rattle.cc_wide.specs.WideLaws.{plain_wide_base}
 use Rattle.cc_describe.specs.declared.description.DescribeStop.{DescribeStop}
 use Rattle.cc_describe.specs.declared.description.DescribeStop.TheVariants as stops
 use Rattle.cc_describe.specs.declared.files.Halt.{Halt}
 use Rattle.cc_describe.specs.declared.files.Halt.TheVariants as halts
+use Rattle.cc_describe.specs.declared.heads.Heads.{Heads}
+use Rattle.cc_describe.specs.declared.heads.Heads.TheVariants as heads
 use Rattle.cc_describe.specs.declared.progress.Progress.{Progress}
-use Rattle.cc_describe.specs.Describing.{laws_behind, queries_behind, AreFirstNames}
+use Rattle.cc_describe.specs.Describing.{laws_behind, queries_behind, wide_behind, AreFirstNames}
 use Rattle.cc_describe.specs.FirstRefusal.{declared_in, file_named, labelled_in, bytes_in, first_behind, opened_until, opening_refusal, statement_refusal}
 use Rattle.cc_describe.specs.Places.{Files, Place, Opened, Said, included, opened_in, AreThere}
 
--- what is kept is that of these places
-pub record IsProgress (progress : Progress) (places : List Place) : Type 0 where
+-- what is kept is that of these places, for laws with such heads
+pub record IsProgress (which : Heads) (progress : Progress) (places : List Place) : Type 0 where
+  pub heads : progress.heads ≡ which
   pub table : IsTable progress.table (declared_in places)
-  pub laws : map plain_base_law progress.laws.items ≡ laws_behind [] places
+  pub laws : map plain_base_law progress.laws.items ≡ laws_behind which [] places
+  pub wide : map plain_wide_base progress.wide.items ≡ wide_behind which [] places
   pub queries : map plain_query progress.queries.items ≡ queries_behind [] places
   pub labels : progress.labels ≡ labelled_in places
   pub names : progress.names.items ≡ opened_in places
@@ -31,22 +40,32 @@ abbrev pub halt_of : Fault → Halt
 halt_of (faults.Refused refusal) = halts.Refused refusal
 halt_of faults.OutOfMemory = halts.OutOfMemory
 
+-- What is kept has the laws of a statement behind those that it had, in the form that they are to have, where these declarations
+-- are in the table.
+abbrev pub Adds : Heads → (file : ℕ) → List Declaration → PlainStatement → (old new : Progress) → Type 0
+Adds heads.Definite file left statement old new =
+    (map plain_base_law new.laws.items ≡ map plain_base_law old.laws.items ++ base_laws file (vocabulary left) statement.line statement.part)
+    × (new.wide ≡ old.wide)
+Adds heads.Any file left statement old new =
+    (map plain_wide_base new.wide.items ≡ map plain_wide_base old.wide.items ++ wide_laws file (vocabulary left) statement.line statement.part)
+    × (new.laws ≡ old.laws)
+
 -- A statement is not refused, and was taken up.
-pub record Says (before : List Place) (file : ℕ) (around : List (List ℕ)) (statement : PlainStatement) (new : Progress) : Type 0 where
-  pub unrefused : statement_refusal before file around statement statement.part ≡ None
-  pub taken : IsProgress new (before ++ Said file around statement ∷ [])
+pub record Says (which : Heads) (before : List Place) (file : ℕ) (around : List (List ℕ)) (statement : PlainStatement) (new : Progress) : Type 0 where
+  pub unrefused : statement_refusal which before file around statement statement.part ≡ None
+  pub taken : IsProgress which new (before ++ Said file around statement ∷ [])
 
 -- The tokens are a statement that was taken up, which includes this file or none.
-abbrev pub IsTaken : List Place → ℕ → List (List ℕ) → List TokenView → Option (List ℕ) → Progress → Type 0
-IsTaken before file around tokens name new =
-    (statement : PlainStatement) × IsParsed tokens statement × (name ≡ included statement.part) × Says before file around statement new
+abbrev pub IsTaken : Heads → List Place → ℕ → List (List ℕ) → List TokenView → Option (List ℕ) → Progress → Type 0
+IsTaken which before file around tokens name new =
+    (statement : PlainStatement) × IsParsed tokens statement × (name ≡ included statement.part) × Says which before file around statement new
 
 -- The statement is refused so, or memory was wanting.
-abbrev pub IsRefusedStatement : List Place → ℕ → List (List ℕ) → List TokenView → Fault → Type 0
-IsRefusedStatement before file around tokens (faults.Refused refusal) =
+abbrev pub IsRefusedStatement : Heads → List Place → ℕ → List (List ℕ) → List TokenView → Fault → Type 0
+IsRefusedStatement which before file around tokens (faults.Refused refusal) =
     IsRefused file tokens refusal
-    ⊎ ((statement : PlainStatement) × IsParsed tokens statement × (statement_refusal before file around statement statement.part ≡ Some refusal))
-IsRefusedStatement before file around tokens faults.OutOfMemory = Unit {0}
+    ⊎ ((statement : PlainStatement) × IsParsed tokens statement × (statement_refusal which before file around statement statement.part ≡ Some refusal))
+IsRefusedStatement which before file around tokens faults.OutOfMemory = Unit {0}
 
 -- a statement of sorts, objects, variables or constants
 abbrev pub declares : PlainPart → Bool
@@ -56,9 +75,9 @@ declares (trees.Law law test) = false
 declares part = true
 
 -- A file with these bytes was opened, and is being read.
-pub record IsOpened (before : List Place) (name bytes : List ℕ) (new : Progress) : Type 0 where
+pub record IsOpened (which : Heads) (before : List Place) (name bytes : List ℕ) (new : Progress) : Type 0 where
   pub unrefused : opening_refusal before bytes ≡ None
-  pub opened : IsProgress new (before ++ Opened name bytes ∷ [])
+  pub opened : IsProgress which new (before ++ Opened name bytes ∷ [])
 
 -- It is refused, and its name is the last of those kept; or there is another reason, and it may be.
 abbrev pub IsRefusedOpening : List Place → List ℕ → List ℕ → Halt → Progress → Type 0
@@ -68,25 +87,25 @@ IsRefusedOpening before name bytes halts.ReadFault new = AreFirstNames new.names
 IsRefusedOpening before name bytes halts.OutOfMemory new = AreFirstNames new.names.items (opened_in before ++ name ∷ [])
 
 -- The names kept are those of the files to be opened up to the first refusal, or the first of them.
-abbrev pub OpensFirst : (List Place → Type 0) → List Place → Progress → Type 0
-OpensFirst Are before new =
-    (places : List Place) × Are places × AreFirstNames new.names.items (opened_in before ++ opened_until before places)
+abbrev pub OpensFirst : Heads → (List Place → Type 0) → List Place → Progress → Type 0
+OpensFirst which Are before new =
+    (places : List Place) × Are places × AreFirstNames new.names.items (opened_in before ++ opened_until which before places)
 
 -- Places behind others were gone through: none is refused, and what is kept is that of all of them; or the first refusal is
 -- told, and the names kept are those of the files opened up to it; or there is another reason, and these are the first of them.
 -- `Are` says which places.
-abbrev pub GoesThrough : (List Place → Type 0) → List Place → {T : Type 0} → Result T Halt → Progress → Type 0
-GoesThrough Are before (Ok done) new =
-    (places : List Place) × Are places × (first_behind before places ≡ None) × IsProgress new (before ++ places)
-GoesThrough Are before (Err (halts.Refused refusal)) new =
-    (places : List Place) × Are places × (first_behind before places ≡ Some refusal)
-    × (new.names.items ≡ opened_in before ++ opened_until before places)
-GoesThrough Are before (Err halts.ReadFault) new = OpensFirst Are before new
-GoesThrough Are before (Err halts.OutOfMemory) new = OpensFirst Are before new
+abbrev pub GoesThrough : Heads → (List Place → Type 0) → List Place → {T : Type 0} → Result T Halt → Progress → Type 0
+GoesThrough which Are before (Ok done) new =
+    (places : List Place) × Are places × (first_behind which before places ≡ None) × IsProgress which new (before ++ places)
+GoesThrough which Are before (Err (halts.Refused refusal)) new =
+    (places : List Place) × Are places × (first_behind which before places ≡ Some refusal)
+    × (new.names.items ≡ opened_in before ++ opened_until which before places)
+GoesThrough which Are before (Err halts.ReadFault) new = OpensFirst which Are before new
+GoesThrough which Are before (Err halts.OutOfMemory) new = OpensFirst which Are before new
 
 -- whichever places they are
-abbrev pub GoesSomewhere : List Place → {T : Type 0} → Result T Halt → Progress → Type 0
-GoesSomewhere before result new = GoesThrough (λ places. Unit {0}) before result new
+abbrev pub GoesSomewhere : Heads → List Place → {T : Type 0} → Result T Halt → Progress → Type 0
+GoesSomewhere which before result new = GoesThrough which (λ places. Unit {0}) before result new
 
 -- The files with these names are there; nothing is said of a fault of the desk or want of memory.
 abbrev pub FindsFiles : Files → {T : Type 0} → Result T Halt → List (List ℕ) → Type 0

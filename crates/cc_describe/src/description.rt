@@ -3,28 +3,36 @@ ghost use Rattle.std.specs.Prelude.{◌≡◌, ◌≢◌, ◌≤◌, ℕ, List a
 ghost use Rattle.cc_defs.specs.DeclarationFaults.{signature_refusal};
 ghost use Rattle.cc_ports.specs.Calls.{Call, names_begun, names_opened, with_calls};
 ghost use Rattle.cc_ports.specs.Contents.{with_rest, Rose};
-ghost use Rattle.cc_describe.specs.Describing.{AsksFormulas, Describes, HasForms, HasStopped, IsDescribed, IsOfSome, IsRefusedWhole, OpensFor, SaysAll};
+ghost use Rattle.cc_describe.specs.Describing.{AsksFormulas, Describes, HasForms, HasStopped, HasWideForms, IsDescribed, IsOfSome, IsRefusedWhole, OpensFor, SaysAll};
+ghost use Rattle.cc_describe.specs.declared.heads.Heads.{Heads as Which};
 ghost use Rattle.cc_describe.specs.FirstRefusal.{declared_in, file_named};
 ghost use Rattle.cc_describe.specs.Places.{Place};
 ghost use Rattle.cc_describe.specs.ProgressViews.{IsProgress, StopsAs};
 
 use crate::files::{Halt, read_file};
+use crate::heads::Heads;
 use crate::laws::has_places;
 use crate::progress::Progress;
 use cc_defs::{BaseLaws, LimitAt, List, Name, Names, OutOfMemory, Queries, Refusal, Sig};
-use cc_laws::laws::{constants_have_forms, laws_have_forms, queries_have_formulas};
+use cc_laws::laws::{
+    constants_have_forms, laws_have_forms, queries_have_formulas, wide_constants_have_forms,
+    wide_laws_have_forms,
+};
 use cc_ports::Desk;
 use cc_sorts::Table;
+use cc_wide::WideLaws;
 use std::alloc::Global;
 
 /// What a description says. Laws and queries stand in the order of its text, those of an included file in place of its
-/// include; their names are numbers of the table. A file's number is its place in `files`, which has each file as often as
-/// it was opened, the main file first.
+/// include; their names are numbers of the table. Where heads have to be definite, `laws` has all laws; where they may be of
+/// any form, `wide` has them; the other list is empty. A file's number is its place in `files`, which has each file as often
+/// as it was opened, the main file first.
 #[derive(Drop)]
 pub struct Described {
     pub table: Table,
     pub sig: Sig,
     pub laws: BaseLaws,
+    pub wide: WideLaws,
     pub queries: Queries,
     pub files: Names,
 }
@@ -42,19 +50,25 @@ pub enum DescribeStop {
 /// Reads a description: the file with this name and the files that it includes, each in place of its include. Each file is
 /// read once for each time it is opened, to its end, before its statements are looked at. Refuses the first place that has a
 /// fault: a file that is too long (14, file bytes or total bytes), a token (2, 14), then each statement (14, 13, 3, then the
-/// least of 4 to 11; an include 17, then 14, include depth); then all declarations together (12, then 14, domain values or
-/// ground constants).
-pub fn describe<D: Desk>(alloc: Global, desk: &mut D, name: &str) -> Result<Described, DescribeStop>
+/// least of 4 to 11, without 11 where heads may be of any form; an include 17, then 14, include depth); then all
+/// declarations together (12, then 14, domain values or ground constants).
+pub fn describe<D: Desk>(
+    alloc: Global,
+    desk: &mut D,
+    name: &str,
+    heads: Heads,
+) -> Result<Described, DescribeStop>
     // Where the desk tells its files, Ok is what they describe, and a refusal is exactly the first that they have; the files
     // that were opened are there.
     ensures described { IfSome (D.told desk.old) (λ contents.
-        IfOk result (Describes contents.files name.now)) }
+        IfOk result (Describes heads contents.files name.now)) }
     ensures refused { IfSome (D.told desk.old) (λ contents.
-        IfErr result (HasStopped contents.files name.now)) }
+        IfErr result (HasStopped heads contents.files name.now)) }
     // Whatever it told, Ok is what some places say, and a refusal is the first of some places.
-    ensures whole { IfOk result SaysAll }
-    ensures stopped { IfErr result IsOfSome }
+    ensures whole { IfOk result (SaysAll heads) }
+    ensures stopped { IfErr result (IsOfSome heads) }
     ensures forms { IfOk result HasForms }
+    ensures wide_forms { IfOk result HasWideForms }
     ensures formulas { IfOk result AsksFormulas }
     // A fault is answered only where the desk counted one.
     ensures failed { IsErrOf result DescribeStop.ReadFault →
@@ -65,7 +79,7 @@ pub fn describe<D: Desk>(alloc: Global, desk: &mut D, name: &str) -> Result<Desc
     // The names that are opened are those of its files, in their order, and no others; no log is begun.
     ensures calls { (more : Items Call) × (D.calls desk.new ≡ with_calls more (D.calls desk.old))
         × (names_begun more ≡ []) × IfSome (D.told desk.old) (λ contents.
-        OpensFor contents.files name.now result (names_opened more)) }
+        OpensFor heads contents.files name.now result (names_opened more)) }
     // Where no fault is answered, the desk counted none.
     ensures calm { (IsErrOf result DescribeStop.ReadFault → ⊥) →
         (D.read_faults desk.new ≡ D.read_faults desk.old)
@@ -76,8 +90,10 @@ pub fn describe<D: Desk>(alloc: Global, desk: &mut D, name: &str) -> Result<Desc
     has_places();
     laws_have_forms();
     constants_have_forms();
+    wide_laws_have_forms();
+    wide_constants_have_forms();
     queries_have_formulas();
-    let mut progress = match Progress::new(alloc) {
+    let mut progress = match Progress::new(alloc, heads) {
         Ok(progress) => progress,
         Err(_) => return Err(DescribeStop::OutOfMemory),
     };
@@ -122,10 +138,11 @@ fn stop_of(alloc: Global, names: &[Name], halt: Halt) -> DescribeStop
 
 /// What all statements say together.
 fn finish(alloc: Global, progress: Progress) -> Result<Described, DescribeStop>
-    ensures described { (places : Items Place) → IsProgress progress places → IfOk result (λ
-        described. (signature_refusal (declared_in places) ≡ None) × IsDescribed places described) }
-    ensures refused { (places : Items Place) →
-        IsProgress progress places → IfErr result (IsRefusedWhole places) }
+    ensures described { (which : Which) (places : Items Place) →
+        IsProgress which progress places → IfOk result (λ described.
+        (signature_refusal (declared_in places) ≡ None) × IsDescribed which places described) }
+    ensures refused { (which : Which) (places : Items Place) →
+        IsProgress which progress places → IfErr result (IsRefusedWhole places) }
     ensures no_read_fault { IfErr result (λ stop. stop ≢ DescribeStop.ReadFault) }
 {
     let sig = match progress.table.signature(alloc) {
@@ -136,6 +153,7 @@ fn finish(alloc: Global, progress: Progress) -> Result<Described, DescribeStop>
         table: progress.table,
         sig,
         laws: List::of(progress.laws),
+        wide: List::of(progress.wide),
         queries: List::of(progress.queries),
         files: List::of(progress.names),
     })

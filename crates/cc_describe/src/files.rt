@@ -5,6 +5,7 @@ ghost use Rattle.cc_defs.specs.declared.refusal.LimitAt.TheVariants as limits;
 ghost use Rattle.cc_ports.specs.Contents.{Contents, with_rest, Rose};
 ghost use Rattle.cc_describe.specs.FirstRefusal.{opening_refusal};
 ghost use Rattle.cc_describe.specs.Places.{Place, ArePlaces, AreThere, content, opened_in};
+ghost use Rattle.cc_describe.specs.declared.heads.Heads.{Heads as Which};
 ghost use Rattle.cc_describe.specs.ProgressViews.{FindsFiles, GoesSomewhere, GoesThrough, IsOpened, IsProgress, IsRefusedOpening, OpensAsKept};
 
 use crate::progress::Progress;
@@ -55,18 +56,21 @@ fn open<D: Desk>(
     progress: &mut Progress,
     name: &str,
 ) -> Result<(Bytes, u32), Halt>
-    ensures opened { (contents : Contents) (before : Items Place) →
-        D.told desk.old ≡ Some contents → IsProgress progress.old before →
+    ensures opened { (contents : Contents) (which : Which) (before : Items Place) →
+        D.told desk.old ≡ Some contents → IsProgress which progress.old before →
         IfOk result (λ read. (read.0 ≡ content contents.files name.now)
-        × IsOpened before name.now read.0 progress.new × (read.1 ≡ length (opened_in before))) }
-    ensures refused { (contents : Contents) (before : Items Place) →
-        D.told desk.old ≡ Some contents → IsProgress progress.old before → IfErr result (λ halt.
-        IsRefusedOpening before name.now (content contents.files name.now) halt progress.new) }
+        × IsOpened which before name.now read.0 progress.new
+        × (read.1 ≡ length (opened_in before))) }
+    ensures refused { (contents : Contents) (which : Which) (before : Items Place) →
+        D.told desk.old ≡ Some contents → IsProgress which progress.old before →
+        IfErr result (λ halt. IsRefusedOpening before name.now
+        (content contents.files name.now) halt progress.new) }
     // Whatever the desk told, some bytes were read.
-    ensures kept { (before : Items Place) → IsProgress progress.old before →
-        IfOk result (λ read. IsOpened before name.now read.0 progress.new) }
-    ensures stopped { (before : Items Place) → IsProgress progress.old before → IfErr result
-        (λ halt. (bytes : Items ℕ) × IsRefusedOpening before name.now bytes halt progress.new) }
+    ensures kept { (which : Which) (before : Items Place) → IsProgress which progress.old before →
+        IfOk result (λ read. IsOpened which before name.now read.0 progress.new) }
+    ensures stopped { (which : Which) (before : Items Place) →
+        IsProgress which progress.old before → IfErr result (λ halt.
+        (bytes : Items ℕ) × IsRefusedOpening before name.now bytes halt progress.new) }
     ensures there { (contents : Contents) →
         D.told desk.old ≡ Some contents → AreThere contents.files progress.old.names.items →
         FindsFiles contents.files result progress.new.names.items }
@@ -112,11 +116,12 @@ pub(crate) fn read_file<D: Desk>(
     deep: u32,
 ) -> Result<(), Halt>
     requires { length progress.now.around.items + deep ≡ limit_number limits.IncludeDepth }
-    ensures gone { (contents : Contents) (before : Items Place) → D.told desk.old ≡ Some contents →
-        IsProgress progress.old before → GoesThrough (ArePlaces deep contents.files
-        progress.old.around.items (length (opened_in before)) name.now) before result progress.new }
-    ensures kept { (before : Items Place) →
-        IsProgress progress.old before → GoesSomewhere before result progress.new }
+    ensures gone { (contents : Contents) (which : Which) (before : Items Place) →
+        D.told desk.old ≡ Some contents → IsProgress which progress.old before →
+        GoesThrough which (ArePlaces deep contents.files progress.old.around.items
+        (length (opened_in before)) name.now) before result progress.new }
+    ensures kept { (which : Which) (before : Items Place) →
+        IsProgress which progress.old before → GoesSomewhere which before result progress.new }
     ensures there { (contents : Contents) →
         D.told desk.old ≡ Some contents → AreThere contents.files progress.old.names.items →
         FindsFiles contents.files result progress.new.names.items }

@@ -3,8 +3,10 @@
 
 mod description;
 mod files;
+mod heads;
 mod labels;
 pub mod laws;
 mod progress;
 
 pub use description::{DescribeStop, Described, describe};
+pub use heads::Heads;

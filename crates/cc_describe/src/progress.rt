@@ -15,26 +15,33 @@ ghost use Rattle.cc_laws.specs.FreeVariables.{optional};
 ghost use Rattle.cc_laws.specs.LawFaults.{law_refusal};
 ghost use Rattle.cc_laws.specs.Questions.{labels_in};
 ghost use Rattle.cc_laws.specs.Vocabulary.{vocabulary};
+ghost use Rattle.cc_laws.specs.Widening.{wide_laws, wide_refusal};
 ghost use Rattle.cc_sorts.specs.Tables.{IsTable};
 ghost use Rattle.cc_text.specs.Views.{token_views};
-ghost use Rattle.cc_describe.specs.FirstRefusal.{declared_in, is_among, asking_refusal, include_refusal, statement_refusal};
+ghost use Rattle.cc_wide.specs.WideLaws.{plain_wide_base};
+ghost use Rattle.cc_describe.specs.FirstRefusal.{declared_in, is_among, asking_refusal, include_refusal, law_refusal_of, statement_refusal};
 ghost use Rattle.cc_describe.specs.Places.{Place, included};
-ghost use Rattle.cc_describe.specs.ProgressViews.{IsProgress, IsRefusedStatement, IsTaken, Says, declares};
+ghost use Rattle.cc_describe.specs.declared.heads.Heads.{Heads as Which};
+ghost use Rattle.cc_describe.specs.ProgressViews.{Adds, IsProgress, IsRefusedStatement, IsTaken, Says, declares};
 
+use crate::heads::Heads;
 use crate::labels::Labels;
 use cc_defs::{
     BaseLaw, Fault, LimitAt, Name, OutOfMemory, Part, Query, QueryItem, Refusal, Statement, Token,
 };
-use cc_laws::{expand, question};
+use cc_laws::{expand, expand_wide, question};
 use cc_sorts::Table;
 use cc_syntax::parse;
+use cc_wide::WideBase;
 use std::alloc::Global;
 
 /// What the statements that were read so far say.
 #[derive(Drop)]
 pub(crate) struct Progress {
+    heads: Heads,
     pub(crate) table: Table,
     pub(crate) laws: Vec<BaseLaw>,
+    pub(crate) wide: Vec<WideBase>,
     pub(crate) queries: Vec<Query>,
     labels: Labels,
     /// The names of the files that were opened; a file's number is its place here.
@@ -72,13 +79,15 @@ fn gives_taken_label(labels: &Labels, items: &[QueryItem<'_>]) -> bool
 
 impl Progress {
     /// Nothing was read.
-    pub(crate) fn new(alloc: Global) -> Result<Progress, OutOfMemory>
-        ensures begun { IfOk result (λ progress. IsProgress progress []) }
+    pub(crate) fn new(alloc: Global, heads: Heads) -> Result<Progress, OutOfMemory>
+        ensures begun { IfOk result (λ progress. IsProgress heads progress []) }
         ensures outside { IfOk result (λ progress. progress.around.items ≡ []) }
     {
         Ok(Progress {
+            heads,
             table: Table::new(alloc)?,
             laws: Vec::new(alloc),
+            wide: Vec::new(alloc),
             queries: Vec::new(alloc),
             labels: Labels::new(alloc),
             names: Vec::new(alloc),
@@ -88,7 +97,7 @@ impl Progress {
     }
 
     /// Adds the base laws of a statement whose declarations are in the table.
-    fn expand(&mut self, alloc: Global, file: u32, statement: &Statement<'_>) -> Result<(), Fault>
+    fn add_laws(&mut self, alloc: Global, file: u32, statement: &Statement<'_>) -> Result<(), Fault>
         ensures expanded { (left : Items Declaration) → IsTable self.old.table left →
             OnOk result ((law_refusal file (vocabulary left) (plain_statement statement.now) ≡ None)
             × (map plain_base_law self.new.laws.items
@@ -103,13 +112,48 @@ impl Progress {
         Ok(())
     }
 
+    /// Adds the laws of such a statement, with heads of any form.
+    fn add_wide(&mut self, alloc: Global, file: u32, statement: &Statement<'_>) -> Result<(), Fault>
+        ensures expanded { (left : Items Declaration) → IsTable self.old.table left → OnOk result
+            ((wide_refusal file (vocabulary left) (plain_statement statement.now) ≡ None)
+            × (map plain_wide_base self.new.wide.items
+            ≡ map plain_wide_base self.old.wide.items ++ wide_laws file (vocabulary left)
+            (plain_statement statement.now).line (plain_statement statement.now).part)) }
+        ensures refused { (left : Items Declaration) → IsTable self.old.table left → IfErr result
+            (IsRefusedBy (wide_refusal file (vocabulary left) (plain_statement statement.now))) }
+        ensures rest { self.new ≡ record self.old { wide = self.new.wide } }
+    {
+        let laws = expand_wide(alloc, file, &self.table, statement)?;
+        self.wide.append(&mut laws.into_items())?;
+        Ok(())
+    }
+
+    /// Adds the laws of a statement whose declarations are in the table, in the form that they are to have.
+    fn expand(&mut self, alloc: Global, file: u32, statement: &Statement<'_>) -> Result<(), Fault>
+        ensures expanded { (left : Items Declaration) → IsTable self.old.table left → OnOk result
+            ((law_refusal_of self.old.heads file (vocabulary left) (plain_statement statement.now)
+            ≡ None) × Adds self.old.heads file left (plain_statement statement.now)
+            self.old self.new) }
+        ensures refused { (left : Items Declaration) → IsTable self.old.table left → IfErr result
+            (IsRefusedBy (law_refusal_of self.old.heads file (vocabulary left)
+            (plain_statement statement.now))) }
+        ensures rest { self.new
+            ≡ record self.old { laws = self.new.laws; wide = self.new.wide } }
+    {
+        match self.heads {
+            Heads::Definite => self.add_laws(alloc, file, statement),
+            Heads::Any => self.add_wide(alloc, file, statement),
+        }
+    }
+
     /// Takes up a statement of declarations.
     fn declare(&mut self, alloc: Global, file: u32, statement: &Statement<'_>) -> Result<(), Fault>
         requires { IsTrue (declares (plain_statement statement.now).part) }
-        ensures said { (before : Items Place) → IsProgress self.old before → OnOk result
-            (Says before file self.old.around.items (plain_statement statement.now) self.new) }
-        ensures refused { (before : Items Place) →
-            IsProgress self.old before → IfErr result (IsRefusedBy
+        ensures said { (which : Which) (before : Items Place) →
+            IsProgress which self.old before → OnOk result (Says which before file
+            self.old.around.items (plain_statement statement.now) self.new) }
+        ensures refused { (which : Which) (before : Items Place) →
+            IsProgress which self.old before → IfErr result (IsRefusedBy
             (declaration_refusal file (declared_in before) (plain_statement statement.now))) }
         ensures around { self.new.around ≡ self.old.around }
         ensures names { self.new.names ≡ self.old.names }
@@ -143,9 +187,11 @@ impl Progress {
         items: &[QueryItem<'_>],
     ) -> Result<(), Fault>
         requires { (plain_statement statement.now).part ≡ asks (map plain_query_item items.now) }
-        ensures said { (before : Items Place) → IsProgress self.old before → OnOk result
-            (Says before file self.old.around.items (plain_statement statement.now) self.new) }
-        ensures refused { (before : Items Place) → IsProgress self.old before → IfErr result
+        ensures said { (which : Which) (before : Items Place) →
+            IsProgress which self.old before → OnOk result (Says which before file
+            self.old.around.items (plain_statement statement.now) self.new) }
+        ensures refused { (which : Which) (before : Items Place) →
+            IsProgress which self.old before → IfErr result
             (IsRefusedBy (asking_refusal before file (plain_statement statement.now))) }
         ensures around { self.new.around ≡ self.old.around }
         ensures names { self.new.names ≡ self.old.names }
@@ -177,10 +223,12 @@ impl Progress {
 
     /// Takes up a statement, whose tree this is.
     fn say(&mut self, alloc: Global, file: u32, statement: &Statement<'_>) -> Result<(), Fault>
-        ensures said { (before : Items Place) → IsProgress self.old before → OnOk result
-            (Says before file self.old.around.items (plain_statement statement.now) self.new) }
-        ensures refused { (before : Items Place) → IsProgress self.old before →
-            IfErr result (IsRefusedBy (statement_refusal before file self.old.around.items
+        ensures said { (which : Which) (before : Items Place) →
+            IsProgress which self.old before → OnOk result (Says which before file
+            self.old.around.items (plain_statement statement.now) self.new) }
+        ensures refused { (which : Which) (before : Items Place) →
+            IsProgress which self.old before → IfErr result
+            (IsRefusedBy (statement_refusal which before file self.old.around.items
             (plain_statement statement.now) (plain_statement statement.now).part)) }
         ensures around { self.new.around ≡ self.old.around }
         ensures names { self.new.names ≡ self.old.names }
@@ -202,12 +250,14 @@ impl Progress {
         file: u32,
         statement: &Statement<'s>,
     ) -> Result<Option<&'s str>, Fault>
-        ensures said { (before : Items Place) → IsProgress self.old before → OnOk result
-            (Says before file self.old.around.items (plain_statement statement.now) self.new) }
+        ensures said { (which : Which) (before : Items Place) →
+            IsProgress which self.old before → OnOk result (Says which before file
+            self.old.around.items (plain_statement statement.now) self.new) }
         ensures name { IfOk result (λ name.
             option_copied name ≡ included (plain_statement statement.now).part) }
-        ensures refused { (before : Items Place) → IsProgress self.old before →
-            IfErr result (IsRefusedBy (statement_refusal before file self.old.around.items
+        ensures refused { (which : Which) (before : Items Place) →
+            IsProgress which self.old before → IfErr result
+            (IsRefusedBy (statement_refusal which before file self.old.around.items
             (plain_statement statement.now) (plain_statement statement.now).part)) }
         ensures around { self.new.around ≡ self.old.around }
         ensures names { self.new.names ≡ self.old.names }
@@ -225,11 +275,12 @@ impl Progress {
     ) -> Result<Option<&'s str>, Fault>
         requires some { 0 < length tokens.now }
         requires are { AreTokens (token_views tokens.now) }
-        ensures taken { (before : Items Place) → IsProgress self.old before →
-            IfOk result (λ name. IsTaken before file self.old.around.items
+        ensures taken { (which : Which) (before : Items Place) → IsProgress which self.old before →
+            IfOk result (λ name. IsTaken which before file self.old.around.items
             (token_views tokens.now) (option_copied name) self.new) }
-        ensures refused { (before : Items Place) → IsProgress self.old before → IfErr result
-            (IsRefusedStatement before file self.old.around.items (token_views tokens.now)) }
+        ensures refused { (which : Which) (before : Items Place) →
+            IsProgress which self.old before → IfErr result
+            (IsRefusedStatement which before file self.old.around.items (token_views tokens.now)) }
         ensures around { self.new.around ≡ self.old.around }
         ensures names { self.new.names ≡ self.old.names }
     {

@@ -7,6 +7,10 @@ module _ {X : Type 0} where
   each_of_both P [] ys first second = second
   each_of_both P (x ∷ xs) ys first second = (first.0, each_of_both P xs ys first.1 second)
 
+  pub each_front : (P : X → Type 0) (xs ys : List X) → AllByRecursion P (xs ++ ys) → AllByRecursion P xs
+  each_front P [] ys all = tt
+  each_front P (x ∷ xs) ys all = (all.0, each_front P xs ys all.1)
+
   pub each_so : (P Q : X → Type 0) → ((x : X) → P x → Q x) → (xs : List X) → AllByRecursion P xs → AllByRecursion Q xs
   each_so P Q at [] all = tt
   each_so P Q at (x ∷ xs) all = (at x all.0, each_so P Q at xs all.1)

@@ -11,20 +11,20 @@ use Rattle.std.proofs.lemmas.Option.{slice_get_within}
 use Rattle.cc_defs.specs.declared.signature.Symbol.{Symbol}
 use Rattle.cc_defs.specs.declared.tree.KindWord.{KindWord}
 use Rattle.cc_defs.specs.declared.tree.KindWord.TheVariants as kind_words
-use Rattle.cc_defs.specs.DeclarationFaults.{any_has, constant_named, declaration_fault, is_twice, refusal_for}
+use Rattle.cc_defs.specs.DeclarationFaults.{any_has, constant_named, declaration_fault, declaration_refusal, is_twice, refusal_for}
 use Rattle.cc_defs.specs.Declarations.{Declaration, Sort, Link, Subsort, Object, Span, Number, Variable, Constant, Kinds, Declared, action_of, constant_declarations, constant_declared, constant_names, constants, kind_of_constant, kind_of_word, number_in, puts, symbol_of, symbols, variables}
-use Rattle.cc_defs.specs.Forms.{IsDeclared, HasForm, HaveForms, is_simple, terms_symbols}
+use Rattle.cc_defs.specs.Forms.{IsDeclared, is_simple, terms_symbols}
 use Rattle.cc_defs.specs.Grammar.{same_text}
 use Rattle.cc_defs.specs.Resolved.{Terms}
 use Rattle.cc_defs.specs.Trees.{PlainConstItem, PlainKind, PlainShape, PlainStatement}
 use Rattle.cc_defs.specs.Trees as trees
-use Rattle.cc_laws.specs.Expansion.{Frame, Persistence, Exogenous, Inertial, Rigid, attribute_law, attribute_laws, value_law, constant_laws, item_laws, kind_laws, lasting_laws, persistence_for, places, shape_frame}
-use Rattle.cc_laws.specs.Laws.{ConstantsHaveForms, with_constants}
+use Rattle.cc_laws.specs.Expansion.{Frame, Persistence, Exogenous, Inertial, Rigid, attribute_law, attribute_laws, base_laws, value_law, constant_laws, item_laws, kind_laws, lasting_laws, persistence_for, places, shape_frame}
+use Rattle.cc_laws.specs.Laws.{ConstantsHaveForms, WideConstantsHaveForms, with_constants}
 use Rattle.cc_laws.specs.Vocabulary.{Vocabulary, vocabulary, Meaning, as_constant, as_object, as_variable, constant_at, meaning}
 use Rattle.cc_laws.specs.Vocabulary as words
 use Rattle.cc_sorts.specs.Dictionaries.{number_of, names_of}
 use Rattle.cc_laws.proofs.EachOf.{each_of_both, slice_mapped}
-use Rattle.cc_laws.proofs.FormsOfSplits.{GoesOn, declared_at}
+use Rattle.cc_laws.proofs.FormsOfSplits.{AreFormed, GoesOn, IsFormed, base_forms, declared_at, wide_forms}
 use Rattle.cc_laws.proofs.FormsOfValues.{MayLast, value_form}
 use Rattle.cc_laws.proofs.MoreSymbols.{goes_on}
 use Rattle.cc_laws.proofs.SymbolsMeant.{IsIn, meaning_in}
@@ -188,23 +188,25 @@ module _ (left : List Declaration) (others : List Symbol) (goes : GoesOn (symbol
     abbrev args : Terms
     args = places 0 symbol.sorts
 
-    own_form : (persistence : Persistence) → MayLast persistence symbol → HasForm others (value_law (vocabulary left) frame persistence number args)
+    own_form : (persistence : Persistence) → MayLast persistence symbol → IsFormed others (value_law (vocabulary left) frame persistence number args)
     own_form persistence may = value_form (vocabulary left) others goes number symbol is args (no_place_symbols 0 symbol.sorts) frame persistence may
 
-    lasting_forms : (persistence : Option Persistence) → ((p : Persistence) → persistence ≡ Some p → MayLast p symbol) → HaveForms others (lasting_laws (vocabulary left) frame persistence number args)
+    lasting_forms : (persistence : Option Persistence) → ((p : Persistence) → persistence ≡ Some p → MayLast p symbol) → AreFormed others (lasting_laws (vocabulary left) frame persistence number args)
     lasting_forms None may = tt
     lasting_forms (Some persistence) may = (own_form persistence (may persistence refl), tt)
 
-    attribute_form : (action : ℕ) → symbol.attribute ≡ Some action → HasForm others (attribute_law (vocabulary left) frame number action args)
+    attribute_form : (action : ℕ) → symbol.attribute ≡ Some action → IsFormed others (attribute_law (vocabulary left) frame number action args)
     attribute_form action e =
         let within = attribute_within left number symbol action is e in
         let found = there (symbols left) action within in
         let all : AllByRecursion (IsDeclared others) (number ∷ action ∷ []) =
         (declared_at (vocabulary left) others goes number symbol is, (declared_at (vocabulary left) others goes action found.0 found.1, tt)) in
-        let bare = no_place_symbols 0 symbol.sorts in
-        record { head = tt; body = (tt, refl); after = _; written = refl; declared = rw bare all }
+        let bare = no_place_symbols 0 symbol.sorts in (
+          record { head = tt; body = (tt, refl); after = _; written = refl; declared = rw bare all },
+          record { head = (tt, refl); body = (tt, refl); after = _; written = refl; declared = rw bare all },
+        )
 
-    attribute_forms : (action : Option ℕ) → symbol.attribute ≡ action → HaveForms others (attribute_laws (vocabulary left) frame number action args)
+    attribute_forms : (action : Option ℕ) → symbol.attribute ≡ action → AreFormed others (attribute_laws (vocabulary left) frame number action args)
     attribute_forms None e = tt
     attribute_forms (Some action) e = (own_form Exogenous tt, (attribute_form action e, tt))
 
@@ -222,12 +224,12 @@ module _ (left : List Declaration) (others : List Symbol) (goes : GoesOn (symbol
     may_last kind_words.ExogenousAction e Inertial is = absurd cc
     may_last kind_words.ExogenousAction e Rigid is = absurd cc
 
-    kind_forms : (kind : PlainKind) → symbol.kind ≡ kind_of_constant kind → HaveForms others (kind_laws (vocabulary left) frame kind number symbol args)
+    kind_forms : (kind : PlainKind) → symbol.kind ≡ kind_of_constant kind → AreFormed others (kind_laws (vocabulary left) frame kind number symbol args)
     kind_forms (trees.Plain word sort) e = lasting_forms (persistence_for word) (may_last word e)
     kind_forms (trees.Attribute sort action) e = attribute_forms symbol.attribute refl
 
   constant_forms : (kind : PlainKind) (name : List ℕ) (own : Declared) (means : Meaning) → IsIn (vocabulary left) means → IsNamed (vocabulary left) name means →
-      constant_named left name ≡ Some own → own.kind ≡ kind → HaveForms others (constant_laws file (vocabulary left) line kind means)
+      constant_named left name ≡ Some own → own.kind ≡ kind → AreFormed others (constant_laws file (vocabulary left) line kind means)
   constant_forms kind name own (words.Constant number symbol) is named found e =
       kind_forms number symbol is kind (kind_is left name number symbol own named is found ∙ ap kind_of_constant e)
   constant_forms kind name own words.Unknown is named found e = tt
@@ -242,26 +244,26 @@ module _ (left : List Declaration) (others : List Symbol) (goes : GoesOn (symbol
 
   shapes_forms : (kind : PlainKind) (shapes : List PlainShape) (rest : List Declaration) →
       AllByRecursion (IsFirst left) (constants (map (λ shape. Constant shape kind file line) shapes ++ rest)) →
-      HaveForms others (flat_map (λ shape. constant_laws file (vocabulary left) line kind (meaning (vocabulary left) shape.name)) shapes) × AllByRecursion (IsFirst left) (constants rest)
+      AreFormed others (flat_map (λ shape. constant_laws file (vocabulary left) line kind (meaning (vocabulary left) shape.name)) shapes) × AllByRecursion (IsFirst left) (constants rest)
   shapes_forms kind [] rest all = (tt, all)
   shapes_forms kind (shape ∷ shapes) rest all =
       let more = shapes_forms kind shapes rest all.1 in
       let name = shape.name in (
-        each_of_both (HasForm others) (constant_laws file (vocabulary left) line kind (meaning (vocabulary left) name))
+        each_of_both (IsFormed others) (constant_laws file (vocabulary left) line kind (meaning (vocabulary left) name))
             (flat_map (λ shape. constant_laws file (vocabulary left) line kind (meaning (vocabulary left) shape.name)) shapes)
             (constant_forms kind name (declared_as kind shape) (meaning (vocabulary left) name) (meaning_in (vocabulary left) name) (meaning_named (vocabulary left) name) all.0 refl) more.0,
         more.1,
       )
 
   items_forms : (items : List PlainConstItem) → AllByRecursion (IsFirst left) (constants (flat_map (constant_declarations file line) items)) →
-      HaveForms others (flat_map (item_laws file (vocabulary left) line) items)
+      AreFormed others (flat_map (item_laws file (vocabulary left) line) items)
   items_forms [] all = tt
   items_forms (item ∷ items) all =
       let rest = flat_map (constant_declarations file line) items in
       let P : List Declaration → Type 0 = λ w. AllByRecursion (IsFirst left) (constants w) in
       let parts = shapes_forms item.kind item.shapes (Kinds item.shapes item.kind ∷ rest)
       (subst P (append_assoc (map (λ shape. Constant shape item.kind file line) item.shapes) (Kinds item.shapes item.kind ∷ []) rest) all) in
-      each_of_both (HasForm others) (item_laws file (vocabulary left) line item) (flat_map (item_laws file (vocabulary left) line) items) parts.0 (items_forms items parts.1)
+      each_of_both (IsFormed others) (item_laws file (vocabulary left) line item) (flat_map (item_laws file (vocabulary left) line) items) parts.0 (items_forms items parts.1)
 
 -- ---- a statement that is not refused
 
@@ -276,9 +278,21 @@ none_twice left new e = choose (any_has is_twice left new) _ e
     choose true rest e = absurd cc
     choose false rest e = refl
 
-pub constants_forms : ConstantsHaveForms
-constants_forms file line before more items none =
+pub constants_formed : (file line : ℕ) (before more : List Declaration) (items : List PlainConstItem) →
+    declaration_refusal file before (record { part = trees.Constants items; line = line }) ≡ None →
+    AreFormed (symbols (with_constants file line before items ++ more)) (base_laws file (vocabulary (with_constants file line before items)) line (trees.Constants items))
+constants_formed file line before more items none =
     let left = with_constants file line before items in
     let new = flat_map (constant_declarations file line) items in
     let once = none_twice before new (none_for file line _ (declaration_fault before new) none) in
     items_forms left (symbols (left ++ more)) (goes_on left more) file line items (all_first before new once)
+
+pub constants_forms : ConstantsHaveForms
+constants_forms file line before more items none =
+    base_forms (symbols (with_constants file line before items ++ more)) (base_laws file (vocabulary (with_constants file line before items)) line (trees.Constants items))
+    (constants_formed file line before more items none)
+
+pub wide_constants_forms : WideConstantsHaveForms
+wide_constants_forms file line before more items none =
+    wide_forms (symbols (with_constants file line before items ++ more)) (base_laws file (vocabulary (with_constants file line before items)) line (trees.Constants items))
+    (constants_formed file line before more items none)

@@ -1,5 +1,5 @@
--- The base laws of `caused F if G after H` have the forms of their kinds.
-use Rattle.std.proofs.Common.{◌≡◌, ◌∙◌, ℕ, ◌+◌, Bool, true, false, not, ◌&&◌, ◌||◌, List, [], ◌∷◌, slice_get, Option, Some, None, refl, sym, ap}
+-- The laws of `caused F if G after H` have the forms of their kinds: its base laws, and the one that keeps its head whole.
+use Rattle.std.proofs.Common.{◌≡◌, ◌∙◌, ◌⊎◌, inl, inr, ℕ, ◌+◌, Bool, true, false, not, ◌&&◌, ◌||◌, List, [], ◌∷◌, map, slice_get, Option, Some, None, refl, sym, ap}
 use Rattle.std.specs.List.{AllByRecursion, list_any, list_all}
 use Rattle.std.proofs.lemmas.Bool.{and_parts, not-false, not-true}
 use Rattle.std.proofs.lemmas.List.Folds.{list_any-append}
@@ -8,20 +8,38 @@ use Rattle.cc_defs.specs.declared.signature.Kind.{Kind}
 use Rattle.cc_defs.specs.declared.signature.Kind.TheVariants as kinds
 use Rattle.cc_defs.specs.declared.signature.Symbol.{Symbol}
 use Rattle.cc_defs.specs.Declarations.{is_action}
-use Rattle.cc_defs.specs.Forms.{IsDeclared, IsFormula, IsFluentFormula, HasForm, HaveForms, formula_symbols, is_action_at, is_action_symbol, is_simple, is_simple_at, is_simple_symbol}
-use Rattle.cc_defs.specs.Resolved.{Head, Formula}
+use Rattle.cc_defs.specs.Forms.{IsDeclared, IsFormula, IsFluentFormula, IsSimpleHead, HasForm, HaveForms, formula_symbols, is_action_at, is_action_symbol, is_simple, is_simple_at, is_simple_symbol}
+use Rattle.cc_defs.specs.Resolved.{BaseLaw, Head, Formula}
 use Rattle.cc_defs.specs.Resolved as resolved
 use Rattle.cc_defs.specs.Trees.{PlainTree}
-use Rattle.cc_laws.specs.Expansion.{Frame, caused, both, part, part_acts, part_brackets, head_parts, law_for, split}
+use Rattle.cc_laws.specs.Expansion.{Frame, Caused, caused, both, part, part_acts, part_brackets, head_parts, law_for, split}
 use Rattle.cc_laws.specs.FormulaFaults.{mention_has, leaf_has, has_action, has_fluent, has_determined, is_fluent_formula, is_action_formula}
 use Rattle.cc_laws.specs.FreeVariables.{optional}
 use Rattle.cc_laws.specs.LawFaults.{has_plain_form, has_fluent_form}
 use Rattle.cc_laws.specs.Leaves.{Leaf, Bare, Compared, Bracket, leaves, Mention, mentions, sum_mentions}
-use Rattle.cc_laws.specs.Resolving.{Binding, resolve}
+use Rattle.cc_laws.specs.Resolving.{Binding, brackets, resolve}
 use Rattle.cc_laws.specs.Vocabulary.{Vocabulary, Meaning, is_action_constant, is_fluent_constant, is_determined_constant, is_determined_kind}
+use Rattle.cc_laws.specs.Widening.{head_formula, whole_of, widened}
+use Rattle.cc_wide.specs.WideForms.{HasWideForm, HaveWideForms}
 use Rattle.cc_laws.proofs.EachOf.{each_so, each_twice, each_mapped, none_passes}
 use Rattle.cc_laws.proofs.HeadSymbols.{HeadIsSo, symbols_of_heads}
 use Rattle.cc_laws.proofs.SymbolsMeant.{named, symbols_of_formula}
+
+-- ---- base laws, whose heads are formulas too where these may be of any form
+
+-- a base law has the form of its kind, with either head
+abbrev pub IsFormed : List Symbol → BaseLaw → Type 0
+IsFormed symbols law = HasForm symbols law × HasWideForm symbols (widened law)
+
+abbrev pub AreFormed : List Symbol → List BaseLaw → Type 0
+AreFormed symbols laws = AllByRecursion (IsFormed symbols) laws
+
+pub base_forms : (symbols : List Symbol) (laws : List BaseLaw) → AreFormed symbols laws → HaveForms symbols laws
+base_forms symbols laws formed = each_so (IsFormed symbols) (HasForm symbols) (λ law is. is.0) laws formed
+
+pub wide_forms : (symbols : List Symbol) (laws : List BaseLaw) → AreFormed symbols laws → HaveWideForms symbols (map widened laws)
+wide_forms symbols laws formed =
+    each_mapped (HasWideForm symbols) widened laws (each_so (IsFormed symbols) (λ law. HasWideForm symbols (widened law)) (λ law is. is.1) laws formed)
 
 -- each symbol has one of its number and its kind among the others
 abbrev pub GoesOn : List Symbol → List Symbol → Type 0
@@ -73,12 +91,24 @@ module _ (v : Vocabulary) (symbols : List Symbol) (goes : GoesOn v.symbols symbo
   pub is_formula : (scope : List Binding) (next : ℕ) (f : PlainTree) → IsFormula symbols (resolve v scope next f)
   is_formula scope next f = symbols_of_formula v no_meaning (IsDeclared symbols) (λ number symbol is e. declared_at number symbol is) scope next f (nothing_at v (leaves f))
 
-  pub is_fluent : (scope : List Binding) (next : ℕ) (f : PlainTree) → has_action v f ≡ false → IsFluentFormula symbols (resolve v scope next f)
-  is_fluent scope next f e = (
-    is_formula scope next f,
-    none_passes (is_action_symbol symbols) (formula_symbols (resolve v scope next f))
-        (symbols_of_formula v is_action_constant IsNoAction (λ number symbol is no. action_at number symbol is ∙ no) scope next f e),
+  -- what a number of a fluent is
+  record IsFluentAt (number : ℕ) : Type 0 where
+    declared : IsDeclared symbols number
+    later : is_action_symbol symbols number ≡ false
+    now : is_action_symbol v.symbols number ≡ false
+
+  fluent_at : (number : ℕ) (symbol : Symbol) → slice_get v.symbols number ≡ Some symbol → is_action symbol.kind ≡ false → IsFluentAt number
+  fluent_at number symbol is e =
+      record { declared = declared_at number symbol is; later = action_at number symbol is ∙ e; now = action_is v.symbols number symbol is ∙ e }
+
+  fluent_formula : (formula : Formula) → AllByRecursion IsFluentAt (formula_symbols formula) → IsFluentFormula symbols formula
+  fluent_formula formula all = (
+    each_so IsFluentAt (IsDeclared symbols) (λ number at. at.declared) (formula_symbols formula) all,
+    none_passes (is_action_symbol symbols) (formula_symbols formula) (each_so IsFluentAt IsNoAction (λ number at. at.later) (formula_symbols formula) all),
   )
+
+  pub is_fluent : (scope : List Binding) (next : ℕ) (f : PlainTree) → has_action v f ≡ false → IsFluentFormula symbols (resolve v scope next f)
+  is_fluent scope next f e = fluent_formula (resolve v scope next f) (symbols_of_formula v is_action_constant IsFluentAt fluent_at scope next f e)
 
   part_formula : (scope : List Binding) (next : ℕ) (f : Option PlainTree) → IsFormula symbols (part v scope next f)
   part_formula scope next None = tt
@@ -90,91 +120,163 @@ module _ (v : Vocabulary) (symbols : List Symbol) (goes : GoesOn v.symbols symbo
 
   -- ---- the symbols of heads
 
-  pub record IsFluentAt (number : ℕ) : Type 0 where
-    pub declared : IsDeclared symbols number
-    pub later : is_action_symbol symbols number ≡ false
-    pub now : is_action_symbol v.symbols number ≡ false
+  record IsActionAt (number : ℕ) : Type 0 where
+    declared : IsDeclared symbols number
+    later : is_action_symbol symbols number ≡ true
+    now : is_action_symbol v.symbols number ≡ true
 
-  pub record IsActionAt (number : ℕ) : Type 0 where
-    pub later : is_action_symbol symbols number ≡ true
-    pub now : is_action_symbol v.symbols number ≡ true
+  record IsSimpleAt (number : ℕ) : Type 0 where
+    fluent : IsFluentAt number
+    simple : is_simple_symbol symbols number ≡ true
 
-  abbrev IsSimpleAt : ℕ → Type 0
-  IsSimpleAt number = is_simple_symbol symbols number ≡ true
+  action_constant_at : (number : ℕ) (symbol : Symbol) → slice_get v.symbols number ≡ Some symbol → not (is_action symbol.kind) ≡ false → IsActionAt number
+  action_constant_at number symbol is e =
+      let acts = not-false (is_action symbol.kind) e in
+      record { declared = declared_at number symbol is; later = action_at number symbol is ∙ acts; now = action_is v.symbols number symbol is ∙ acts }
 
-  fluent_heads : (scope : List Binding) (f : PlainTree) → has_action v f ≡ false → AllByRecursion (HeadIsSo IsFluentAt) (head_parts v scope (Some f))
-  fluent_heads scope f e =
-      symbols_of_heads v is_action_constant IsFluentAt
-      (λ number symbol is no. record { declared = declared_at number symbol is; later = action_at number symbol is ∙ no; now = action_is v.symbols number symbol is ∙ no }) scope f e
+  fluent_heads : (scope : List Binding) (f : Option PlainTree) → part_acts v f ≡ false → AllByRecursion (HeadIsSo IsFluentAt) (head_parts v scope f)
+  fluent_heads scope None e = (tt, tt)
+  fluent_heads scope (Some f) e = symbols_of_heads v is_action_constant IsFluentAt fluent_at scope f e
 
   action_heads : (scope : List Binding) (f : PlainTree) → has_fluent v f ≡ false → AllByRecursion (HeadIsSo IsActionAt) (head_parts v scope (Some f))
-  action_heads scope f e =
-      symbols_of_heads v is_fluent_constant IsActionAt
-      (λ number symbol is no. let acts = not-false (is_action symbol.kind) no in record { later = action_at number symbol is ∙ acts; now = action_is v.symbols number symbol is ∙ acts }) scope f e
+  action_heads scope f e = symbols_of_heads v is_fluent_constant IsActionAt action_constant_at scope f e
 
-  -- what is no action and not determined is simple
+  -- a fluent that is not determined is simple
   abbrev IsSimpleFluent : ℕ → Type 0
-  IsSimpleFluent number = IsNoAction number → IsSimpleAt number
+  IsSimpleFluent number = IsFluentAt number → IsSimpleAt number
 
-  both_heads_so : (head : Head) → HeadIsSo IsNoAction head × HeadIsSo IsSimpleFluent head → HeadIsSo IsSimpleAt head
-  both_heads_so (resolved.Atom number args value) so = so.1 so.0
-  both_heads_so resolved.Falsity so = tt
+  simple_fluent : (number : ℕ) (symbol : Symbol) → slice_get v.symbols number ≡ Some symbol → is_determined_kind symbol.kind ≡ false → IsSimpleFluent number
+  simple_fluent number symbol is e at =
+      record { fluent = at; simple = simple_at number symbol is ∙ simple_kind symbol.kind (sym (action_at number symbol is) ∙ at.later) e }
 
-  pub simple_heads : (scope : List Binding) (f : PlainTree) → has_action v f ≡ false → has_determined v f ≡ false → AllByRecursion (HeadIsSo IsSimpleAt) (head_parts v scope (Some f))
-  simple_heads scope f e determined =
-      each_so (λ head. HeadIsSo IsNoAction head × HeadIsSo IsSimpleFluent head) (HeadIsSo IsSimpleAt) both_heads_so (head_parts v scope (Some f))
-      (each_twice (HeadIsSo IsNoAction) (HeadIsSo IsSimpleFluent) (head_parts v scope (Some f))
-      (symbols_of_heads v is_action_constant IsNoAction (λ number symbol is no. action_at number symbol is ∙ no) scope f e)
-      (symbols_of_heads v is_determined_constant IsSimpleFluent
-      (λ number symbol is no free. simple_at number symbol is ∙ simple_kind symbol.kind (sym (action_at number symbol is) ∙ free) no) scope f determined))
+  both_heads_so : (head : Head) → HeadIsSo IsFluentAt head × HeadIsSo IsSimpleFluent head → HeadIsSo IsSimpleAt head
+  both_heads_so head so =
+      let numbers = formula_symbols (head_formula head) in
+      each_so (λ number. IsFluentAt number × IsSimpleFluent number) IsSimpleAt (λ number both. both.1 both.0) numbers
+      (each_twice IsFluentAt IsSimpleFluent numbers so.0 so.1)
+
+  abbrev pub part_is_determined : Option PlainTree → Bool
+  part_is_determined None = false
+  part_is_determined (Some f) = has_determined v f
+
+  simple_heads : (scope : List Binding) (f : Option PlainTree) → part_acts v f ≡ false → part_is_determined f ≡ false → AllByRecursion (HeadIsSo IsSimpleAt) (head_parts v scope f)
+  simple_heads scope None e determined = (tt, tt)
+  simple_heads scope (Some f) e determined =
+      each_so (λ head. HeadIsSo IsFluentAt head × HeadIsSo IsSimpleFluent head) (HeadIsSo IsSimpleAt) both_heads_so (head_parts v scope (Some f))
+      (each_twice (HeadIsSo IsFluentAt) (HeadIsSo IsSimpleFluent) (head_parts v scope (Some f)) (fluent_heads scope (Some f) e)
+      (symbols_of_heads v is_determined_constant IsSimpleFluent simple_fluent scope f determined))
 
   -- ---- the laws of the parts of a head
 
-  fluent_dynamic : (frame : Frame) (f g : Option PlainTree) (h : PlainTree) (head : Head) → part_acts v g ≡ false → HeadIsSo IsSimpleAt head → HasForm symbols (law_for v frame (caused f g (Some h)) head)
-  fluent_dynamic frame f g h (resolved.Atom number args value) e so = record {
-    head = so;
-    body = part_fluent frame.scope frame.next g e;
-    after = resolve v frame.scope (frame.next + part_brackets g) h;
-    written = refl;
-    declared = is_formula frame.scope (frame.next + part_brackets g) h;
-  }
-  fluent_dynamic frame f g h resolved.Falsity e so = record {
-    head = tt;
-    body = part_fluent frame.scope frame.next g e;
-    after = resolve v frame.scope (frame.next + part_brackets g) h;
-    written = refl;
-    declared = is_formula frame.scope (frame.next + part_brackets g) h;
-  }
+  simple_head : (head : Head) → HeadIsSo IsSimpleAt head → IsSimpleHead symbols head
+  simple_head (resolved.Atom number args value) so = so.0.simple
+  simple_head resolved.Falsity so = tt
 
-  pub fluent_dynamic_laws : (frame : Frame) (f g : Option PlainTree) (h : PlainTree) → part_acts v g ≡ false → AllByRecursion (HeadIsSo IsSimpleAt) (head_parts v frame.scope f) →
-      HaveForms symbols (split v frame (caused f g (Some h)))
-  fluent_dynamic_laws frame f g h e so =
-      each_mapped (HasForm symbols) (law_for v frame (caused f g (Some h))) (head_parts v frame.scope f)
-      (each_so (HeadIsSo IsSimpleAt) (λ head. HasForm symbols (law_for v frame (caused f g (Some h)) head)) (λ head one. fluent_dynamic frame f g h head e one) (head_parts v frame.scope f) so)
+  fluent_dynamic : (frame : Frame) (f g : Option PlainTree) (h : PlainTree) (head : Head) → part_acts v g ≡ false → HeadIsSo IsSimpleAt head →
+      IsFormed symbols (law_for v frame (caused f g (Some h)) head)
+  fluent_dynamic frame f g h head e so =
+      let body = part_fluent frame.scope frame.next g e in
+      let declared = is_formula frame.scope (frame.next + part_brackets g) h in
+      let all = each_so IsSimpleAt IsFluentAt (λ number at. at.fluent) (formula_symbols (head_formula head)) so in (
+        record { head = simple_head head so; body = body; after = _; written = refl; declared = declared },
+        record { head = fluent_formula (head_formula head) all; body = body; after = _; written = refl; declared = declared },
+      )
 
-  static : (frame : Frame) (f g : Option PlainTree) (head : Head) → part_acts v f ≡ false → part_acts v g ≡ false → HeadIsSo IsFluentAt head → HasForm symbols (law_for v frame (caused f g None) head)
+  fluent_dynamic_laws : (frame : Frame) (f g : Option PlainTree) (h : PlainTree) → part_acts v f ≡ false → part_acts v g ≡ false → part_is_determined f ≡ false →
+      AreFormed symbols (split v frame (caused f g (Some h)))
+  fluent_dynamic_laws frame f g h e other determined =
+      each_mapped (IsFormed symbols) (law_for v frame (caused f g (Some h))) (head_parts v frame.scope f)
+      (each_so (HeadIsSo IsSimpleAt) (λ head. IsFormed symbols (law_for v frame (caused f g (Some h)) head)) (λ head one. fluent_dynamic frame f g h head other one)
+      (head_parts v frame.scope f) (simple_heads frame.scope f e determined))
+
+  static : (frame : Frame) (f g : Option PlainTree) (head : Head) → part_acts v f ≡ false → part_acts v g ≡ false → HeadIsSo IsFluentAt head → IsFormed symbols (law_for v frame (caused f g None) head)
   static frame f g (resolved.Atom number args value) e other so =
-      rw (e, so.now) (record { head = (so.declared, so.later); body = part_fluent frame.scope frame.next g other; after = refl })
+      let body = part_fluent frame.scope frame.next g other in
+      let whole = fluent_formula (head_formula (resolved.Atom number args value)) so in
+      rw (e, so.0.now) (record { head = (so.0.declared, so.0.later); body = body; after = refl }, record { head = whole; body = body; after = refl })
   static frame f g resolved.Falsity e other so =
-      rw e (record { head = tt; body = part_fluent frame.scope frame.next g other; after = refl })
+      let body = part_fluent frame.scope frame.next g other in
+      rw e (record { head = tt; body = body; after = refl }, record { head = (tt, refl); body = body; after = refl })
 
-  pub static_laws : (frame : Frame) (f g : Option PlainTree) → part_acts v f ≡ false → part_acts v g ≡ false → AllByRecursion (HeadIsSo IsFluentAt) (head_parts v frame.scope f) →
-      HaveForms symbols (split v frame (caused f g None))
-  static_laws frame f g e other so =
-      each_mapped (HasForm symbols) (law_for v frame (caused f g None)) (head_parts v frame.scope f)
-      (each_so (HeadIsSo IsFluentAt) (λ head. HasForm symbols (law_for v frame (caused f g None) head)) (λ head one. static frame f g head e other one) (head_parts v frame.scope f) so)
+  static_laws : (frame : Frame) (f g : Option PlainTree) → part_acts v f ≡ false → part_acts v g ≡ false → AreFormed symbols (split v frame (caused f g None))
+  static_laws frame f g e other =
+      each_mapped (IsFormed symbols) (law_for v frame (caused f g None)) (head_parts v frame.scope f)
+      (each_so (HeadIsSo IsFluentAt) (λ head. IsFormed symbols (law_for v frame (caused f g None) head)) (λ head one. static frame f g head e other one)
+      (head_parts v frame.scope f) (fluent_heads frame.scope f e))
 
-  action_dynamic : (frame : Frame) (f : PlainTree) (g : Option PlainTree) (head : Head) → has_action v f ≡ true → HeadIsSo IsActionAt head → HasForm symbols (law_for v frame (caused (Some f) g None) head)
+  action_dynamic : (frame : Frame) (f : PlainTree) (g : Option PlainTree) (head : Head) → has_action v f ≡ true → HeadIsSo IsActionAt head →
+      IsFormed symbols (law_for v frame (caused (Some f) g None) head)
   action_dynamic frame f g (resolved.Atom number args value) e so =
-      rw (e, so.now) (record { head = so.later; body = part_formula frame.scope frame.next g; after = refl })
+      let body = part_formula frame.scope frame.next g in
+      let whole = each_so IsActionAt (IsDeclared symbols) (λ number at. at.declared) (formula_symbols (head_formula (resolved.Atom number args value))) so in
+      rw (e, so.0.now) (record { head = so.0.later; body = body; after = refl }, record { head = whole; body = body; after = refl })
   action_dynamic frame f g resolved.Falsity e so =
-      rw e (record { head = tt; body = (tt, refl); after = part v frame.scope frame.next g; written = refl; declared = part_formula frame.scope frame.next g })
+      let after = part v frame.scope frame.next g in
+      let declared = part_formula frame.scope frame.next g in
+      rw e (
+        record { head = tt; body = (tt, refl); after = after; written = refl; declared = declared },
+        record { head = (tt, refl); body = (tt, refl); after = after; written = refl; declared = declared },
+      )
 
-  action_laws : (frame : Frame) (f : PlainTree) (g : Option PlainTree) → has_action v f ≡ true → has_fluent v f ≡ false → HaveForms symbols (split v frame (caused (Some f) g None))
+  action_laws : (frame : Frame) (f : PlainTree) (g : Option PlainTree) → has_action v f ≡ true → has_fluent v f ≡ false → AreFormed symbols (split v frame (caused (Some f) g None))
   action_laws frame f g e other =
-      each_mapped (HasForm symbols) (law_for v frame (caused (Some f) g None)) (head_parts v frame.scope (Some f))
-      (each_so (HeadIsSo IsActionAt) (λ head. HasForm symbols (law_for v frame (caused (Some f) g None) head)) (λ head one. action_dynamic frame f g head e one)
+      each_mapped (IsFormed symbols) (law_for v frame (caused (Some f) g None)) (head_parts v frame.scope (Some f))
+      (each_so (HeadIsSo IsActionAt) (λ head. IsFormed symbols (law_for v frame (caused (Some f) g None) head)) (λ head one. action_dynamic frame f g head e one)
       (head_parts v frame.scope (Some f)) (action_heads frame.scope f other))
+
+  -- ---- the laws of a law whose parts are as its form says
+
+  abbrev IsOfActions : Option PlainTree → Type 0
+  IsOfActions None = ⊥
+  IsOfActions (Some f) = (has_action v f ≡ true) × (has_fluent v f ≡ false)
+
+  abbrev FitsBefore : Option PlainTree → Option PlainTree → Option PlainTree → Type 0
+  FitsBefore f g None = ((part_acts v f ≡ false) × (part_acts v g ≡ false)) ⊎ IsOfActions f
+  FitsBefore f g (Some h) = (part_acts v f ≡ false) × (part_acts v g ≡ false) × (part_is_determined f ≡ false)
+
+  abbrev pub Fits : Caused → Type 0
+  Fits law = FitsBefore law.head law.body law.after
+
+  split_by : (frame : Frame) (f g h : Option PlainTree) → Fits (caused f g h) → AreFormed symbols (split v frame (caused f g h))
+  split_by frame f g (Some h) fits = fluent_dynamic_laws frame f g h fits.0 fits.1 fits.2
+  split_by frame f g None (inl fits) = static_laws frame f g fits.0 fits.1
+  split_by frame (Some f) g None (inr fits) = action_laws frame f g fits.0 fits.1
+  split_by frame None g None (inr fits) = absurd fits
+
+  pub split_formed : (frame : Frame) (law : Caused) → Fits law → AreFormed symbols (split v frame law)
+  split_formed frame law fits = split_by frame law.head law.body law.after fits
+
+  whole_by : (frame : Frame) (f g h : Option PlainTree) → Fits (caused f g h) → HaveWideForms symbols (whole_of v frame (caused f g h) f)
+  whole_by frame None g h fits = tt
+  whole_by frame (Some f) g (Some h) fits = (
+    record {
+      head = is_fluent frame.scope (frame.next + part_brackets g + brackets h) f fits.0;
+      body = part_fluent frame.scope frame.next g fits.1;
+      after = _;
+      written = refl;
+      declared = is_formula frame.scope (frame.next + part_brackets g) h;
+    },
+    tt,
+  )
+  whole_by frame (Some f) g None (inl fits) = (
+    rw (fits.0) (record {
+      head = is_fluent frame.scope (frame.next + part_brackets g + 0) f fits.0;
+      body = part_fluent frame.scope frame.next g fits.1;
+      after = refl;
+    }),
+    tt,
+  )
+  whole_by frame (Some f) g None (inr fits) = (
+    rw (fits.0) (record {
+      head = is_formula frame.scope (frame.next + part_brackets g + 0) f;
+      body = part_formula frame.scope frame.next g;
+      after = refl;
+    }),
+    tt,
+  )
+
+  pub whole_formed : (frame : Frame) (law : Caused) → Fits law → HaveWideForms symbols (whole_of v frame law law.head)
+  whole_formed frame law fits = whole_by frame law.head law.body law.after fits
 
   -- ---- by the test of the form
 
@@ -189,21 +291,19 @@ module _ (v : Vocabulary) (symbols : List Symbol) (goes : GoesOn v.symbols symbo
   both_act_not f None e other = e
   both_act_not f (Some g) e other = list_any-append (leaf_has v (named is_action_constant)) (leaves f) (leaves g) ∙ rw e other
 
-  pub of_actions : (frame : Frame) (f : PlainTree) (g : Option PlainTree) → is_action_formula v f ≡ true → HaveForms symbols (split v frame (caused (Some f) g None))
-  of_actions frame f g e = let parts = and_parts (has_action v f) (not (has_fluent v f)) e in action_laws frame f g parts.0 (not-true (has_fluent v f) parts.1)
+  pub of_actions : (f : PlainTree) (g : Option PlainTree) → is_action_formula v f ≡ true → Fits (caused (Some f) g None)
+  of_actions f g e = let parts = and_parts (has_action v f) (not (has_fluent v f)) e in inr (parts.0, not-true (has_fluent v f) parts.1)
 
-  pub plain_form : (frame : Frame) (f : PlainTree) (gs : List PlainTree) (g : Option PlainTree) → (list_all (is_fluent_formula v) gs ≡ true → part_acts v g ≡ false) →
-      has_plain_form v f gs ≡ true → HaveForms symbols (split v frame (caused (Some f) g None))
-  plain_form frame f gs g rest e = choose (is_fluent_formula v f && list_all (is_fluent_formula v) gs) refl e
+  pub plain_fits : (f : PlainTree) (gs : List PlainTree) (g : Option PlainTree) → (list_all (is_fluent_formula v) gs ≡ true → part_acts v g ≡ false) →
+      has_plain_form v f gs ≡ true → Fits (caused (Some f) g None)
+  plain_fits f gs g rest e = choose (is_fluent_formula v f && list_all (is_fluent_formula v) gs) refl e
     where
-      choose : (fluent : Bool) → (is_fluent_formula v f && list_all (is_fluent_formula v) gs) ≡ fluent → (fluent || is_action_formula v f) ≡ true → HaveForms symbols (split v frame (caused (Some f) g None))
-      choose true is one =
-          let parts = and_parts (is_fluent_formula v f) (list_all (is_fluent_formula v) gs) is in
-          static_laws frame (Some f) g (acts_not f parts.0) (rest parts.1) (fluent_heads frame.scope f (acts_not f parts.0))
-      choose false is one = of_actions frame f g one
+      choose : (fluent : Bool) → (is_fluent_formula v f && list_all (is_fluent_formula v) gs) ≡ fluent → (fluent || is_action_formula v f) ≡ true → Fits (caused (Some f) g None)
+      choose true is one = let parts = and_parts (is_fluent_formula v f) (list_all (is_fluent_formula v) gs) is in inl (acts_not f parts.0, rest parts.1)
+      choose false is one = of_actions f g one
 
-  pub fluent_form : (frame : Frame) (f : PlainTree) (gs : List PlainTree) (g : Option PlainTree) (h : PlainTree) → (list_all (is_fluent_formula v) gs ≡ true → part_acts v g ≡ false) →
-      has_fluent_form v f gs ≡ true → has_determined v f ≡ false → HaveForms symbols (split v frame (caused (Some f) g (Some h)))
-  fluent_form frame f gs g h rest e determined =
+  pub fluent_fits : (f : PlainTree) (gs : List PlainTree) (g : Option PlainTree) (h : PlainTree) → (list_all (is_fluent_formula v) gs ≡ true → part_acts v g ≡ false) →
+      has_fluent_form v f gs ≡ true → has_determined v f ≡ false → Fits (caused (Some f) g (Some h))
+  fluent_fits f gs g h rest e determined =
       let parts = and_parts (is_fluent_formula v f) (list_all (is_fluent_formula v) gs) e in
-      fluent_dynamic_laws frame (Some f) g h (rest parts.1) (simple_heads frame.scope f (acts_not f parts.0) determined)
+      (acts_not f parts.0, rest parts.1, determined)

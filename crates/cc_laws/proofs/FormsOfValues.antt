@@ -6,17 +6,19 @@ use Rattle.cc_defs.specs.declared.signature.Kind.{Kind}
 use Rattle.cc_defs.specs.declared.signature.Kind.TheVariants as kinds
 use Rattle.cc_defs.specs.declared.signature.Symbol.{Symbol}
 use Rattle.cc_defs.specs.Declarations.{is_action}
-use Rattle.cc_defs.specs.Forms.{IsDeclared, IsFormula, IsFluentFormula, HasForm, HaveForms, formula_symbols, term_symbols, terms_symbols, is_action_at, is_action_symbol, is_simple}
+use Rattle.cc_defs.specs.Forms.{IsDeclared, IsFormula, IsFluentFormula, formula_symbols, term_symbols, terms_symbols, is_action_at, is_action_symbol, is_simple}
 use Rattle.cc_defs.specs.Resolved.{Terms, Formula}
 use Rattle.cc_defs.specs.Resolved as resolved
 use Rattle.cc_defs.specs.Trees.{PlainTerm, Applied, PlainSums, NoSums, MoreSums, PlainSum}
-use Rattle.cc_laws.specs.Expansion.{Frame, Persistence, Exogenous, Inertial, Rigid, value_law, subject_meant, subject_laws}
+use Rattle.cc_laws.specs.Expansion.{Frame, Persistence, Exogenous, Inertial, Rigid, base_law, value_law, with_value, subject_meant, subject_laws}
 use Rattle.cc_laws.specs.FormulaFaults.{sum_has, sum_misfits, name_misfits, lone_meaning, argument_misfits, some_argument_misfits, arguments_misfit, is_miscounted, term_has, term_meaning, term_misfits}
+use Rattle.cc_laws.specs.Heads.{listed}
 use Rattle.cc_laws.specs.Leaves.{sum_count}
 use Rattle.cc_laws.specs.Resolving.{Binding, resolve_sum, resolve_sums}
 use Rattle.cc_laws.specs.Vocabulary.{Vocabulary, Meaning, Unknown, Nothing, Object, Variable, Constant, meaning, is_constant}
-use Rattle.cc_laws.proofs.FormsOfSplits.{GoesOn, action_at, simple_at, declared_at}
+use Rattle.cc_laws.proofs.FormsOfSplits.{AreFormed, GoesOn, IsFormed, action_at, simple_at, declared_at}
 use Rattle.cc_laws.proofs.SymbolsMeant.{IsIn, meaning_in, symbols_of_sum}
+use Rattle.cc_laws.proofs.TermLists.{terms_listed}
 
 -- ---- arguments that fit have no symbols
 
@@ -77,37 +79,48 @@ module _ (v : Vocabulary) (symbols : List Symbol) (goes : GoesOn v.symbols symbo
     now : is_action_symbol v.symbols number ≡ is_action symbol.kind
     now = ap is_action_at is
 
-    exogenous : (acts : Bool) → is_action symbol.kind ≡ acts → HasForm symbols (value_law v frame Exogenous number args)
-    exogenous true e = rw (now ∙ e) (record { head = action_at v symbols goes number symbol is ∙ e; body = equal_formula number symbol is args bare (length frame.ranges); after = refl })
-    exogenous false e = rw (now ∙ e) (record {
-      head = (declared_at v symbols goes number symbol is, action_at v symbols goes number symbol is ∙ e);
-      body = equal_fluent number symbol is args bare (length frame.ranges) e;
-      after = refl;
-    })
+    abbrev own : Formula
+    own = equal number symbol is args bare (length frame.ranges)
 
-    pub value_form : (persistence : Persistence) → MayLast persistence symbol → HasForm symbols (value_law v frame persistence number args)
+    formula : IsFormula symbols own
+    formula = equal_formula number symbol is args bare (length frame.ranges)
+
+    fluent : is_action symbol.kind ≡ false → IsFluentFormula symbols own
+    fluent = equal_fluent number symbol is args bare (length frame.ranges)
+
+    exogenous : (acts : Bool) → is_action symbol.kind ≡ acts → IsFormed symbols (value_law v frame Exogenous number args)
+    exogenous true e =
+        rw (now ∙ e, terms_listed args) (
+          record { head = action_at v symbols goes number symbol is ∙ e; body = formula; after = refl },
+          record { head = formula; body = formula; after = refl },
+        )
+    exogenous false e =
+        rw (now ∙ e, terms_listed args) (
+          record { head = (declared_at v symbols goes number symbol is, action_at v symbols goes number symbol is ∙ e); body = fluent e; after = refl },
+          record { head = fluent e; body = fluent e; after = refl },
+        )
+
+    lasting : (body : Formula) → IsFluentFormula symbols body → is_simple symbol.kind ≡ true →
+        IsFormed symbols (base_law v (with_value frame number) (resolved.Atom number (listed args) (resolved.Variable (length frame.ranges))) body (Some own))
+    lasting body is_fluent simple =
+        let head = simple_at v symbols goes number symbol is ∙ simple in
+        let whole = fluent (simple_is_fluent symbol.kind simple) in
+        rw (terms_listed args) (
+          record { head = head; body = is_fluent; after = own; written = refl; declared = formula },
+          record { head = whole; body = is_fluent; after = own; written = refl; declared = formula },
+        )
+
+    pub value_form : (persistence : Persistence) → MayLast persistence symbol → IsFormed symbols (value_law v frame persistence number args)
     value_form Exogenous may = exogenous (is_action symbol.kind) refl
-    value_form Inertial may = record {
-      head = simple_at v symbols goes number symbol is ∙ may;
-      body = equal_fluent number symbol is args bare (length frame.ranges) (simple_is_fluent symbol.kind may);
-      after = equal number symbol is args bare (length frame.ranges);
-      written = refl;
-      declared = equal_formula number symbol is args bare (length frame.ranges);
-    }
-    value_form Rigid may = record {
-      head = simple_at v symbols goes number symbol is ∙ may;
-      body = (tt, refl);
-      after = equal number symbol is args bare (length frame.ranges);
-      written = refl;
-      declared = equal_formula number symbol is args bare (length frame.ranges);
-    }
+    value_form Inertial may = lasting own (fluent (simple_is_fluent symbol.kind may)) may
+    value_form Rigid may = lasting resolved.Truth (tt, refl) may
 
   -- ---- what is exogenous or inertial
 
   subject_meant_forms : (frame : Frame) (persistence : Persistence) (means : Meaning) (args : PlainSums) → IsIn v means →
       is_miscounted means (sum_count args) ≡ false → arguments_misfit v means args ≡ false →
       ((number : ℕ) (symbol : Symbol) → means ≡ Constant number symbol → MayLast persistence symbol) →
-      HaveForms symbols (subject_meant v frame persistence means (resolve_sums v frame.scope args))
+      AreFormed symbols (subject_meant v frame persistence means (resolve_sums v frame.scope args))
   subject_meant_forms frame persistence Unknown args is count fit may = tt
   subject_meant_forms frame persistence Nothing args is count fit may = tt
   subject_meant_forms frame persistence (Object number sort) args is count fit may = tt
@@ -119,7 +132,7 @@ module _ (v : Vocabulary) (symbols : List Symbol) (goes : GoesOn v.symbols symbo
 
   pub subject_forms : (frame : Frame) (persistence : Persistence) (c : PlainTerm) → term_has v is_miscounted c ≡ false → term_misfits v c ≡ false →
       ((number : ℕ) (symbol : Symbol) → term_meaning v c ≡ Constant number symbol → MayLast persistence symbol) →
-      HaveForms symbols (subject_laws v frame persistence c)
+      AreFormed symbols (subject_laws v frame persistence c)
   subject_forms frame persistence (Applied name args) count fit may =
       subject_meant_forms frame persistence (meaning v name) args (meaning_in v name)
       (or_parts (is_miscounted (meaning v name) (sum_count args)) _ count).0 fit may

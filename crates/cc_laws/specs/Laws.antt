@@ -15,6 +15,8 @@ use Rattle.cc_laws.specs.Expansion.{base_laws}
 use Rattle.cc_laws.specs.LawFaults.{law_refusal}
 use Rattle.cc_laws.specs.Questions.{query_asked, steps_refusal}
 use Rattle.cc_laws.specs.Vocabulary.{vocabulary}
+use Rattle.cc_laws.specs.Widening.{wide_laws, wide_refusal}
+use Rattle.cc_wide.specs.WideForms.{HaveWideForms}
 
 -- ---- the forms of base laws, at the declarations up to their statement and where more stand behind
 
@@ -33,6 +35,18 @@ abbrev pub ConstantsHaveForms : Type 0
 ConstantsHaveForms = (file line : ℕ) (before more : List Declaration) (items : List PlainConstItem) →
     declaration_refusal file before (record { part = trees.Constants items; line = line }) ≡ None →
     HaveForms (symbols (with_constants file line before items ++ more)) (base_laws file (vocabulary (with_constants file line before items)) line (trees.Constants items))
+
+-- ---- the same of laws with heads of any form
+
+abbrev pub WideLawsHaveForms : Type 0
+WideLawsHaveForms = (file line : ℕ) (left more : List Declaration) (law : PlainLaw) (test : Option PlainTree) →
+    wide_refusal file (vocabulary left) (record { part = trees.Law law test; line = line }) ≡ None →
+    HaveWideForms (symbols (left ++ more)) (wide_laws file (vocabulary left) line (trees.Law law test))
+
+abbrev pub WideConstantsHaveForms : Type 0
+WideConstantsHaveForms = (file line : ℕ) (before more : List Declaration) (items : List PlainConstItem) →
+    declaration_refusal file before (record { part = trees.Constants items; line = line }) ≡ None →
+    HaveWideForms (symbols (with_constants file line before items ++ more)) (wide_laws file (vocabulary (with_constants file line before items)) line (trees.Constants items))
 
 -- ---- queries
 

@@ -1,8 +1,10 @@
 use Rattle.std.proofs.Common.{ap, [], Err, refl}
 use Rattle.cc_describe.specs.declared.description.DescribeStop.TheVariants as stops
+use Rattle.cc_describe.specs.Describing.{AsksFormulas, HasForms, HasWideForms}
 use Rattle.cc_describe.proofs.CallsKept.{keeps_names}
 use Rattle.cc_describe.proofs.Walk.{untouched}
-use Rattle.cc_describe.proofs.AsDescribed.{as_called, fault_comes, fault_told, is_described, is_refused, is_refused_whole, of_some, of_some_whole, opens_none, opens_stopped, opens_whole, says_all, says_formulas, says_forms}
+use Rattle.cc_describe.proofs.AsDescribed.{as_called, fault_comes, fault_told, is_described, is_refused, is_refused_whole, of_some, of_some_whole, opens_none, opens_stopped, opens_whole, says_all, says_so}
+use Rattle.cc_describe.proofs.PlacesForms.{asks_formulas, has_forms, has_wide_forms}
 use Rattle.cc_describe.proofs.description.describe.Goals as goal
 
 pub returns-in-Err-clause-after : goal.returns-in-Err-clause-after
@@ -29,39 +31,44 @@ returns-in-Err-read_file-clause-failed g c is =
 
 pub returns-in-Ok-read_file-clause-whole : goal.returns-in-Ok-read_file-clause-whole
 returns-in-Ok-read_file-clause-whole g c =
-    says_all c.read_file.new.progress c.in-Ok-read_file.field-0 c.finish.result (c.in-Ok-read_file.ensures.kept [] c.in-Ok.ensures.begun) c.finish.ensures.described
+    says_all c.read_file.new.progress c.in-Ok-read_file.field-0 c.finish.result (c.in-Ok-read_file.ensures.kept _ [] c.in-Ok.ensures.begun) c.finish.ensures.described
 
 pub returns-in-Ok-read_file-clause-stopped : goal.returns-in-Ok-read_file-clause-stopped
 returns-in-Ok-read_file-clause-stopped g c =
-    of_some_whole c.read_file.new.progress c.in-Ok-read_file.field-0 c.finish.result (c.in-Ok-read_file.ensures.kept [] c.in-Ok.ensures.begun) c.finish.ensures.refused
+    of_some_whole c.read_file.new.progress c.in-Ok-read_file.field-0 c.finish.result (c.in-Ok-read_file.ensures.kept _ [] c.in-Ok.ensures.begun) c.finish.ensures.refused
 
 pub returns-in-Ok-read_file-clause-forms : goal.returns-in-Ok-read_file-clause-forms
 returns-in-Ok-read_file-clause-forms g c =
-    says_forms c.laws_have_forms.ensures c.constants_have_forms.ensures c.read_file.new.progress c.in-Ok-read_file.field-0 c.finish.result
-    (c.in-Ok-read_file.ensures.kept [] c.in-Ok.ensures.begun) c.finish.ensures.described
+    says_so HasForms (has_forms c.laws_have_forms.ensures c.constants_have_forms.ensures c.args.heads) c.read_file.new.progress c.in-Ok-read_file.field-0 c.finish.result
+    (c.in-Ok-read_file.ensures.kept _ [] c.in-Ok.ensures.begun) c.finish.ensures.described
+
+pub returns-in-Ok-read_file-clause-wide_forms : goal.returns-in-Ok-read_file-clause-wide_forms
+returns-in-Ok-read_file-clause-wide_forms g c =
+    says_so HasWideForms (has_wide_forms c.wide_laws_have_forms.ensures c.wide_constants_have_forms.ensures c.args.heads) c.read_file.new.progress c.in-Ok-read_file.field-0 c.finish.result
+    (c.in-Ok-read_file.ensures.kept _ [] c.in-Ok.ensures.begun) c.finish.ensures.described
 
 pub returns-in-Ok-read_file-clause-formulas : goal.returns-in-Ok-read_file-clause-formulas
 returns-in-Ok-read_file-clause-formulas g c =
-    says_formulas c.queries_have_formulas.ensures c.read_file.new.progress c.in-Ok-read_file.field-0 c.finish.result
-    (c.in-Ok-read_file.ensures.kept [] c.in-Ok.ensures.begun) c.finish.ensures.described
+    says_so AsksFormulas (asks_formulas c.queries_have_formulas.ensures c.args.heads) c.read_file.new.progress c.in-Ok-read_file.field-0 c.finish.result
+    (c.in-Ok-read_file.ensures.kept _ [] c.in-Ok.ensures.begun) c.finish.ensures.described
 
 pub returns-in-Err-read_file-clause-stopped : goal.returns-in-Err-read_file-clause-stopped
 returns-in-Err-read_file-clause-stopped g c =
-    of_some c.deref.result.now c.read_file.new.progress c.in-Err-read_file.halt c.stop_of.result (c.in-Err-read_file.ensures.kept [] c.in-Ok.ensures.begun) c.deref.ensures.value c.stop_of.ensures
+    of_some c.args.heads c.deref.result.now c.read_file.new.progress c.in-Err-read_file.halt c.stop_of.result (c.in-Err-read_file.ensures.kept _ [] c.in-Ok.ensures.begun) c.deref.ensures.value c.stop_of.ensures
 
 pub returns-in-Err-clause-calls : goal.returns-in-Err-clause-calls
 returns-in-Err-clause-calls g c =
-    as_called (g.D.Desk.told c.args.desk.now) c.args.name.now (Err stops.OutOfMemory) refl (keeps_names _ refl) (opens_none c.has_places.ensures (g.D.Desk.told c.args.desk.now) c.args.name.now)
+    as_called c.args.heads (g.D.Desk.told c.args.desk.now) c.args.name.now (Err stops.OutOfMemory) refl (keeps_names _ refl) (opens_none c.args.heads c.has_places.ensures (g.D.Desk.told c.args.desk.now) c.args.name.now)
 
 pub returns-in-Ok-read_file-clause-calls : goal.returns-in-Ok-read_file-clause-calls
 returns-in-Ok-read_file-clause-calls g c =
-    as_called (g.D.Desk.told c.args.desk.now) c.args.name.now c.finish.result c.in-Ok.ensures.begun.names c.in-Ok-read_file.ensures.calls
+    as_called c.args.heads (g.D.Desk.told c.args.desk.now) c.args.name.now c.finish.result c.in-Ok.ensures.begun.names c.in-Ok-read_file.ensures.calls
     (opens_whole c.number.result (g.D.Desk.told c.args.desk.now) c.args.name.now c.in-Ok.progress c.read_file.new.progress c.in-Ok-read_file.field-0 c.finish.result
     c.number.ensures c.in-Ok.ensures.begun c.in-Ok.ensures.outside c.in-Ok-read_file.ensures.gone)
 
 pub returns-in-Err-read_file-clause-calls : goal.returns-in-Err-read_file-clause-calls
 returns-in-Err-read_file-clause-calls g c =
-    as_called (g.D.Desk.told c.args.desk.now) c.args.name.now (Err c.stop_of.result) c.in-Ok.ensures.begun.names c.in-Err-read_file.ensures.calls
+    as_called c.args.heads (g.D.Desk.told c.args.desk.now) c.args.name.now (Err c.stop_of.result) c.in-Ok.ensures.begun.names c.in-Err-read_file.ensures.calls
     (opens_stopped c.number.result (g.D.Desk.told c.args.desk.now) c.args.name.now c.deref.result.now c.in-Ok.progress c.read_file.new.progress c.in-Err-read_file.halt c.stop_of.result
     c.number.ensures c.in-Ok.ensures.begun c.in-Ok.ensures.outside c.in-Err-read_file.ensures.gone c.stop_of.ensures)
 

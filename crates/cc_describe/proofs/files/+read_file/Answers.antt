@@ -2,6 +2,7 @@ use Rattle.std.proofs.Common.{ℕ, List, ◌+◌, ◌<◌, ◌≤◌, ◌≡◌,
 use Rattle.std.specs.Option.{option_copied}
 use Rattle.cc_ports.specs.Contents.{with_rest}
 use Rattle.cc_text.specs.Views.{token_views, cut_at}
+use Rattle.cc_describe.specs.declared.heads.Heads.{Heads}
 use Rattle.cc_describe.specs.Places.{AreThere, Place}
 use Rattle.cc_describe.specs.ProgressViews.{IsProgress, halt_of}
 use Rattle.cc_describe.proofs.CallsKept.{keeps_as, keeps_more}
@@ -11,24 +12,24 @@ use Rattle.cc_describe.proofs.files.+read_file.Goals.{in-Some+then-deep-gt0+in_o
 use Rattle.cc_describe.proofs.files.+read_file.Goals as goal
 
 pub returns-in_err-bytes-clause-gone : goal.returns-in_err-bytes-clause-gone
-returns-in_err-bytes-clause-gone g t c contents before told was =
-    told_as _ before c.from_residual.result _ _ c.from_residual.ensures.1
-    (opening_stops c.cut_or_stop.ensures c.statements_are_tokens.ensures c.tree_or_refusal.ensures c.args.deep contents.files before c.args.name.now
-    c.args.progress.now.around.items _ _ (c.in_err-bytes.ensures.refused contents before told was))
+returns-in_err-bytes-clause-gone g t c contents which before told was =
+    told_as which _ before c.from_residual.result _ _ c.from_residual.ensures.1
+    (opening_stops which c.cut_or_stop.ensures c.statements_are_tokens.ensures c.tree_or_refusal.ensures c.args.deep contents.files before c.args.name.now
+    c.args.progress.now.around.items _ _ (c.in_err-bytes.ensures.refused contents which before told was))
 
 pub returns-in-Err-clause-gone : goal.returns-in-Err-clause-gone
-returns-in-Err-clause-gone g t c contents before told was =
-    let opened = c.in_ok-bytes.ensures.opened contents before told was in
+returns-in-Err-clause-gone g t c contents which before told was =
+    let opened = c.in_ok-bytes.ensures.opened contents which before told was in
     text_stops c.cut_or_stop.ensures c.statements_are_tokens.ensures c.tree_or_refusal.ensures c.args.deep contents.files before c.args.name.now c.in_ok-bytes.bytes c.items.result.now c.in_ok-bytes.file c.args.progress.now.around.items c.in-Err.fault c.from.result c.open.new.progress
     opened.0 c.items.ensures c.from.ensures opened.1 opened.2 c.in-Err.ensures.refused
 
 pub loop-i-init : goal.loop-i-init
 loop-i-init g t c = record {
   around = c.in_ok-bytes.ensures.around;
-  gone = λ contents before told was.
-      let opened = c.in_ok-bytes.ensures.opened contents before told was in
+  gone = λ contents which before told was.
+      let opened = c.in_ok-bytes.ensures.opened contents which before told was in
       midway_begins {around = c.args.progress.now.around.items ++ c.args.name.now ∷ []} {statements = cut_at 0 c.tokens.inside.ends.items (token_views c.tokens.inside.tokens.items)} opened.0 opened.1 opened.2;
-  kept = λ before was. opened_goes before c.args.name.now c.in_ok-bytes.bytes _ (c.in_ok-bytes.ensures.kept before was);
+  kept = λ which before was. opened_goes before c.args.name.now c.in_ok-bytes.bytes _ (c.in_ok-bytes.ensures.kept which before was);
   there = λ contents told are. c.in_ok-bytes.ensures.there contents told are;
   told = c.open.ensures.after;
   calls = c.open.ensures.calls;
@@ -39,41 +40,41 @@ loop-i-init g t c = record {
 }
 
 pub returns-in_err-included-clause-gone : goal.returns-in_err-included-clause-gone
-returns-in_err-included-clause-gone g t c contents before told was =
-    let opened = c.in_ok-bytes.ensures.opened contents before told was in
-    let m = c.loop-i.invariant.gone contents before told was in
+returns-in_err-included-clause-gone g t c contents which before told was =
+    let opened = c.in_ok-bytes.ensures.opened contents which before told was in
+    let m = c.loop-i.invariant.gone contents which before told was in
     let name = c.args.name.now in
     let around = c.args.progress.now.around.items ++ name ∷ [] in
     let statements = cut_at 0 c.tokens.inside.ends.items (token_views c.tokens.inside.tokens.items) in
     let tokens = slice_index_or statements c.loop-i.i [] in
     let mid = up_to m in
     let within : c.loop-i.i < length statements = omega (arith, c.count-i-end.ensures, ap length c.tokens.view_is) in
-    told_as _ before c.from_residual-in_err-included.result _ _ c.from_residual-in_err-included.ensures.1
+    told_as which _ before c.from_residual-in_err-included.result _ _ c.from_residual-in_err-included.ensures.1
     (midway_stops c.cut_or_stop.ensures c.statements_are_tokens.ensures c.tree_or_refusal.ensures c.args.progress.now.around.items c.take.new.self _ within (has_read _ _ _ _ _ c.items.ensures opened.0 c.tokens.view_is c.in-Ok.ensures.read) m
     (statement_refused c.cut_or_stop.ensures c.statements_are_tokens.ensures c.tree_or_refusal.ensures c.args.deep contents.files around c.in_ok-bytes.file mid tokens _
     c.loop-i.progress c.take.new.self
     (later_are_tokens c.statements_are_tokens.ensures _ statements c.loop-i.i within (has_read _ _ _ _ _ c.items.ensures opened.0 c.tokens.view_is c.in-Ok.ensures.read)).0
     m.kept c.in_err-included.ensures.names
-    (refused_as mid c.in_ok-bytes.file _ around _ tokens _ c.loop-i.invariant.around
-    (c.statement.ensures.tokens ∙ ap (λ s. slice_index_or s c.loop-i.i []) (sym c.tokens.view_is)) (c.in_err-included.ensures.refused mid m.kept))))
+    (refused_as which mid c.in_ok-bytes.file _ around _ tokens _ c.loop-i.invariant.around
+    (c.statement.ensures.tokens ∙ ap (λ s. slice_index_or s c.loop-i.i []) (sym c.tokens.view_is)) (c.in_err-included.ensures.refused which mid m.kept))))
 
 pub returns-in_err-included-clause-failed : goal.returns-in_err-included-clause-failed
 returns-in_err-included-clause-failed g t c is =
     absurd (no_fault c.from_residual-in_err-included.result _ c.from_residual-in_err-included.ensures.1 is)
 
 pub returns-clause-gone : goal.returns-clause-gone
-returns-clause-gone g t c contents before told was =
-    let opened = c.in_ok-bytes.ensures.opened contents before told was in
-    let m = c.loop-i.invariant.gone contents before told was in
+returns-clause-gone g t c contents which before told was =
+    let opened = c.in_ok-bytes.ensures.opened contents which before told was in
+    let m = c.loop-i.invariant.gone contents which before told was in
     let statements = cut_at 0 c.tokens.inside.ends.items (token_views c.tokens.inside.tokens.items) in
     let past : length statements ≤ c.loop-i.i = omega (arith, c.count-i-end.ensures, ap length c.tokens.view_is) in
     midway_ends c.args.progress.now.around.items c.leave.new.self tt past
     (has_read _ _ _ _ _ c.items.ensures opened.0 c.tokens.view_is c.in-Ok.ensures.read) m c.leave.ensures.rest
 
 pub returns-in_err-read_file-in-Some-clause-gone : goal.returns-in_err-read_file-in-Some-clause-gone
-returns-in_err-read_file-in-Some-clause-gone g t c contents before told was =
-    let opened = c.in_ok-bytes.ensures.opened contents before told was in
-    let m = c.loop-i.invariant.gone contents before told was in
+returns-in_err-read_file-in-Some-clause-gone g t c contents which before told was =
+    let opened = c.in_ok-bytes.ensures.opened contents which before told was in
+    let m = c.loop-i.invariant.gone contents which before told was in
     let name = c.args.name.now in
     let around = c.args.progress.now.around.items ++ name ∷ [] in
     let statements = cut_at 0 c.tokens.inside.ends.items (token_views c.tokens.inside.tokens.items) in
@@ -81,13 +82,13 @@ returns-in_err-read_file-in-Some-clause-gone g t c contents before told was =
     let mid = up_to m in
     let within : c.loop-i.i < length statements = omega (arith, c.count-i-end.ensures, ap length c.tokens.view_is) in
     let after = c.loop-i.invariant.told in
-    told_as _ before c.from_residual-in_err-read_file-in-Some.result _ _ c.from_residual-in_err-read_file-in-Some.ensures.1
+    told_as which _ before c.from_residual-in_err-read_file-in-Some.result _ _ c.from_residual-in_err-read_file-in-Some.ensures.1
     (midway_stops c.cut_or_stop.ensures c.statements_are_tokens.ensures c.tree_or_refusal.ensures c.args.progress.now.around.items c.read_file.new.progress _ within (has_read _ _ _ _ _ c.items.ensures opened.0 c.tokens.view_is c.in-Ok.ensures.read) m
     (statement_reads c.args.deep contents.files around _ c.in_ok-bytes.file mid tokens c.in-Some.included.now (Err c.in_err-read_file-in-Some.field-0.0) c.take.new.self c.read_file.new.progress
     (omega arith) (ap (λ a. a.items) c.in_ok-included.ensures.around ∙ c.loop-i.invariant.around)
     (taken_as mid c.in_ok-bytes.file _ around _ tokens _ (Some c.in-Some.included.now) c.take.new.self c.loop-i.invariant.around
-    (c.statement.ensures.tokens ∙ ap (λ s. slice_index_or s c.loop-i.i []) (sym c.tokens.view_is)) (ap option_copied c.in-Some.is) (c.in_ok-included.ensures.taken mid m.kept))
-    (λ more kept. c.in_err-read_file-in-Some.ensures.gone (with_rest after.0 contents) more (tells_still after.0 _ _ contents after.1 told) kept)))
+    (c.statement.ensures.tokens ∙ ap (λ s. slice_index_or s c.loop-i.i []) (sym c.tokens.view_is)) (ap option_copied c.in-Some.is) (c.in_ok-included.ensures.taken which mid m.kept))
+    (λ more kept. c.in_err-read_file-in-Some.ensures.gone (with_rest after.0 contents) which more (tells_still after.0 _ _ contents after.1 told) kept)))
 
 pub loop-i-preserved : goal.loop-i-preserved
 loop-i-preserved g t c =
@@ -101,26 +102,26 @@ loop-i-preserved g t c =
     let after = c.loop-i.invariant.told in
     let taken_around : c.take.new.self.around.items ≡ around = ap (λ a. a.items) c.in_ok-included.ensures.around ∙ c.loop-i.invariant.around in
     let taken_calls = keeps_as c.loop-i.invariant.calls (ap (λ l. l.items) c.in_ok-included.ensures.names) in
-    let went : (before : List Place) → IsProgress c.args.progress.now before → Gone before c.take.new.self =
-    λ before was. then_goes before c.loop-i.progress c.take.new.self (Ok (tt {0})) (c.loop-i.invariant.kept before was)
-    (λ more kept. let taken = c.in_ok-included.ensures.taken more kept in said_goes more file c.loop-i.progress.around.items taken.0 c.take.new.self taken.3) in
+    let went : (which : Heads) (before : List Place) → IsProgress which c.args.progress.now before → Gone which before c.take.new.self =
+    λ which before was. then_goes before c.loop-i.progress c.take.new.self (Ok (tt {0})) (c.loop-i.invariant.kept which before was)
+    (λ more kept. let taken = c.in_ok-included.ensures.taken which more kept in said_goes more file c.loop-i.progress.around.items taken.0 c.take.new.self taken.3) in
     elim c.match-branch-3.branch [
       | in-Some+then-deep-gt0+in_ok-read_file-in-Some w ↦
           let read = w.in_ok-read_file-in-Some.ensures in
           record {
             around = ap (λ p. p.around.items) w.progress-is ∙ read.around ∙ taken_around;
-            gone = λ contents before told was.
-                let m = c.loop-i.invariant.gone contents before told was in
+            gone = λ contents which before told was.
+                let m = c.loop-i.invariant.gone contents which before told was in
                 let mid = up_to m in
-                subst (Midway c.args.deep contents.files before name file around statements (c.loop-i.i + 1)) (sym w.progress-is)
+                subst (Midway which c.args.deep contents.files before name file around statements (c.loop-i.i + 1)) (sym w.progress-is)
                 (midway_goes w.read_file.new.progress tt within m
                 (statement_reads c.args.deep contents.files around _ file mid tokens w.in-Some.included.now (Ok tt) c.take.new.self w.read_file.new.progress
                 (omega arith) taken_around
                 (taken_as mid file _ around _ tokens _ (Some w.in-Some.included.now) c.take.new.self c.loop-i.invariant.around
-                tokens_are (ap option_copied w.in-Some.is) (c.in_ok-included.ensures.taken mid m.kept))
-                (λ more kept. read.gone (with_rest after.0 contents) more (tells_still after.0 _ _ contents after.1 told) kept)));
-            kept = λ before was.
-                subst (Gone before) (sym w.progress-is) (then_goes before c.take.new.self w.read_file.new.progress (Ok (tt {0})) (went before was) read.kept);
+                tokens_are (ap option_copied w.in-Some.is) (c.in_ok-included.ensures.taken which mid m.kept))
+                (λ more kept. read.gone (with_rest after.0 contents) which more (tells_still after.0 _ _ contents after.1 told) kept)));
+            kept = λ which before was.
+                subst (Gone which before) (sym w.progress-is) (then_goes before c.take.new.self w.read_file.new.progress (Ok (tt {0})) (went which before was) (read.kept which));
             there = λ contents told are.
                 subst (λ p. AreThere contents.files p.names.items) (sym w.progress-is)
                 (read.there (with_rest after.0 contents) (tells_still after.0 _ _ contents after.1 told)
@@ -137,16 +138,16 @@ loop-i-preserved g t c =
       | in-Some+else-deep-gt0 w ↦
           record {
             around = ap (λ p. p.around.items) w.progress-is ∙ taken_around;
-            gone = λ contents before told was.
-                let m = c.loop-i.invariant.gone contents before told was in
+            gone = λ contents which before told was.
+                let m = c.loop-i.invariant.gone contents which before told was in
                 let mid = up_to m in
-                subst (Midway c.args.deep contents.files before name file around statements (c.loop-i.i + 1)) (sym w.progress-is)
+                subst (Midway which c.args.deep contents.files before name file around statements (c.loop-i.i + 1)) (sym w.progress-is)
                 (midway_goes c.take.new.self tt within m
                 (statement_ends c.args.deep contents.files around file mid tokens w.in-Some.included.now tt c.take.new.self (omega arith)
                 (taken_as mid file _ around _ tokens _ (Some w.in-Some.included.now) c.take.new.self c.loop-i.invariant.around
-                tokens_are (ap option_copied w.in-Some.is) (c.in_ok-included.ensures.taken mid m.kept))));
-            kept = λ before was.
-                subst (Gone before) (sym w.progress-is) (went before was);
+                tokens_are (ap option_copied w.in-Some.is) (c.in_ok-included.ensures.taken which mid m.kept))));
+            kept = λ which before was.
+                subst (Gone which before) (sym w.progress-is) (went which before was);
             there = λ contents told are.
                 subst (λ p. AreThere contents.files p.names.items) (sym w.progress-is)
                 (subst (λ l. AreThere contents.files l.items) (sym c.in_ok-included.ensures.names) (c.loop-i.invariant.there contents told are));
@@ -160,16 +161,16 @@ loop-i-preserved g t c =
       | in-None w ↦
           record {
             around = ap (λ p. p.around.items) w.progress-is ∙ taken_around;
-            gone = λ contents before told was.
-                let m = c.loop-i.invariant.gone contents before told was in
+            gone = λ contents which before told was.
+                let m = c.loop-i.invariant.gone contents which before told was in
                 let mid = up_to m in
-                subst (Midway c.args.deep contents.files before name file around statements (c.loop-i.i + 1)) (sym w.progress-is)
+                subst (Midway which c.args.deep contents.files before name file around statements (c.loop-i.i + 1)) (sym w.progress-is)
                 (midway_goes c.take.new.self tt within m
                 (statement_alone (AreInside c.args.deep contents.files around) around file mid tokens tt c.take.new.self
                 (taken_as mid file _ around _ tokens _ None c.take.new.self c.loop-i.invariant.around
-                tokens_are (ap option_copied w.in-None.is) (c.in_ok-included.ensures.taken mid m.kept))));
-            kept = λ before was.
-                subst (Gone before) (sym w.progress-is) (went before was);
+                tokens_are (ap option_copied w.in-None.is) (c.in_ok-included.ensures.taken which mid m.kept))));
+            kept = λ which before was.
+                subst (Gone which before) (sym w.progress-is) (went which before was);
             there = λ contents told are.
                 subst (λ p. AreThere contents.files p.names.items) (sym w.progress-is)
                 (subst (λ l. AreThere contents.files l.items) (sym c.in_ok-included.ensures.names) (c.loop-i.invariant.there contents told are));
@@ -183,32 +184,32 @@ loop-i-preserved g t c =
     ]
 
 pub returns-clause-kept : goal.returns-clause-kept
-returns-clause-kept g t c before was =
-    let went = c.loop-i.invariant.kept before was in
+returns-clause-kept g t c which before was =
+    let went = c.loop-i.invariant.kept which before was in
     (went.0, tt, went.2, progress_left (before ++ went.0) _ c.leave.new.self went.3 c.leave.ensures.rest)
 
 pub returns-in_err-bytes-clause-kept : goal.returns-in_err-bytes-clause-kept
-returns-in_err-bytes-clause-kept g t c before was =
-    let stopped = c.in_err-bytes.ensures.stopped before was in
-    told_as (λ places. Unit {0}) before c.from_residual.result _ _ c.from_residual.ensures.1 (opening_goes before c.args.name.now stopped.0 _ c.open.new.progress stopped.1)
+returns-in_err-bytes-clause-kept g t c which before was =
+    let stopped = c.in_err-bytes.ensures.stopped which before was in
+    told_as which (λ places. Unit {0}) before c.from_residual.result _ _ c.from_residual.ensures.1 (opening_goes which before c.args.name.now stopped.0 _ c.open.new.progress stopped.1)
 
 pub returns-in-Err-clause-kept : goal.returns-in-Err-clause-kept
-returns-in-Err-clause-kept g t c before was =
-    then_goes before c.open.new.progress c.open.new.progress (Err c.from.result) (opened_goes before c.args.name.now c.in_ok-bytes.bytes _ (c.in_ok-bytes.ensures.kept before was))
+returns-in-Err-clause-kept g t c which before was =
+    then_goes before c.open.new.progress c.open.new.progress (Err c.from.result) (opened_goes before c.args.name.now c.in_ok-bytes.bytes _ (c.in_ok-bytes.ensures.kept which before was))
     (λ more kept. barred_goes more c.in-Err.fault c.from.result c.open.new.progress c.from.ensures kept)
 
 pub returns-in_err-included-clause-kept : goal.returns-in_err-included-clause-kept
-returns-in_err-included-clause-kept g t c before was =
-    told_as (λ places. Unit {0}) before c.from_residual-in_err-included.result _ _ c.from_residual-in_err-included.ensures.1
-    (then_goes before c.loop-i.progress c.take.new.self (Err (halt_of c.in_err-included.field-0.0)) (c.loop-i.invariant.kept before was)
-    (λ more kept. refused_goes more c.in_ok-bytes.file c.loop-i.progress.around.items (token_views c.statement.result.now) c.in_err-included.field-0.0 c.loop-i.progress c.take.new.self kept c.in_err-included.ensures.names (c.in_err-included.ensures.refused more kept)))
+returns-in_err-included-clause-kept g t c which before was =
+    told_as which (λ places. Unit {0}) before c.from_residual-in_err-included.result _ _ c.from_residual-in_err-included.ensures.1
+    (then_goes before c.loop-i.progress c.take.new.self (Err (halt_of c.in_err-included.field-0.0)) (c.loop-i.invariant.kept which before was)
+    (λ more kept. refused_goes more c.in_ok-bytes.file c.loop-i.progress.around.items (token_views c.statement.result.now) c.in_err-included.field-0.0 c.loop-i.progress c.take.new.self kept c.in_err-included.ensures.names (c.in_err-included.ensures.refused which more kept)))
 
 pub returns-in_err-read_file-in-Some-clause-kept : goal.returns-in_err-read_file-in-Some-clause-kept
-returns-in_err-read_file-in-Some-clause-kept g t c before was =
-    let went : Gone before c.take.new.self = then_goes before c.loop-i.progress c.take.new.self (Ok (tt {0})) (c.loop-i.invariant.kept before was)
-    (λ more kept. let taken = c.in_ok-included.ensures.taken more kept in said_goes more c.in_ok-bytes.file c.loop-i.progress.around.items taken.0 c.take.new.self taken.3) in
-    told_as (λ places. Unit {0}) before c.from_residual-in_err-read_file-in-Some.result _ _ c.from_residual-in_err-read_file-in-Some.ensures.1
-    (then_goes before c.take.new.self c.read_file.new.progress (Err c.in_err-read_file-in-Some.field-0.0) went c.in_err-read_file-in-Some.ensures.kept)
+returns-in_err-read_file-in-Some-clause-kept g t c which before was =
+    let went : Gone which before c.take.new.self = then_goes before c.loop-i.progress c.take.new.self (Ok (tt {0})) (c.loop-i.invariant.kept which before was)
+    (λ more kept. let taken = c.in_ok-included.ensures.taken which more kept in said_goes more c.in_ok-bytes.file c.loop-i.progress.around.items taken.0 c.take.new.self taken.3) in
+    told_as which (λ places. Unit {0}) before c.from_residual-in_err-read_file-in-Some.result _ _ c.from_residual-in_err-read_file-in-Some.ensures.1
+    (then_goes before c.take.new.self c.read_file.new.progress (Err c.in_err-read_file-in-Some.field-0.0) went (c.in_err-read_file-in-Some.ensures.kept which))
 
 pub returns-in_err-bytes-clause-there : goal.returns-in_err-bytes-clause-there
 returns-in_err-bytes-clause-there g t c contents told are =

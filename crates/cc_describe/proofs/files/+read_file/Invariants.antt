@@ -1,6 +1,7 @@
 use Rattle.std.proofs.Common.{◌≡◌, ◌++◌, ◌∷◌, [], ◌≤◌, ℕ, List, Some, option_map}
 use Rattle.cc_ports.specs.Contents.{Contents, with_rest}
 use Rattle.cc_text.specs.Views.{token_views, cut_at}
+use Rattle.cc_describe.specs.declared.heads.Heads.{Heads}
 use Rattle.cc_describe.specs.Places.{Place, AreThere}
 use Rattle.cc_describe.specs.ProgressViews.{IsProgress, OpensAsKept}
 use Rattle.cc_describe.proofs.SomePlaces.{Gone}
@@ -13,9 +14,9 @@ decreases-read_file g l = l.deep
 abbrev pub invariant-loop-i : goal.invariant-loop-i
 invariant-loop-i g l = record {
   around : l.progress.around.items ≡ l.fn.progress.around.items ++ l.name ∷ [];
-  gone : (contents : Contents) (before : List Place) → g.D.Desk.told l.fn.desk ≡ Some contents → IsProgress l.fn.progress before →
-      Midway l.deep contents.files before l.name l.file (l.fn.progress.around.items ++ l.name ∷ []) (cut_at 0 l.tokens-inside.ends.items (token_views l.tokens-inside.tokens.items)) l.i l.progress;
-  kept : (before : List Place) → IsProgress l.fn.progress before → Gone before l.progress;
+  gone : (contents : Contents) (which : Heads) (before : List Place) → g.D.Desk.told l.fn.desk ≡ Some contents → IsProgress which l.fn.progress before →
+      Midway which l.deep contents.files before l.name l.file (l.fn.progress.around.items ++ l.name ∷ []) (cut_at 0 l.tokens-inside.ends.items (token_views l.tokens-inside.tokens.items)) l.i l.progress;
+  kept : (which : Heads) (before : List Place) → IsProgress which l.fn.progress before → Gone which before l.progress;
   there : (contents : Contents) → g.D.Desk.told l.fn.desk ≡ Some contents → AreThere contents.files l.fn.progress.names.items →
       AreThere contents.files l.progress.names.items;
   told : (rest : List ℕ) × (g.D.Desk.told l.desk ≡ option_map (with_rest rest) (g.D.Desk.told l.fn.desk));

@@ -9,7 +9,7 @@ pub returns-in_err-file-clause-after : goal.returns-in_err-file-clause-after
 returns-in_err-file-clause-after g c = untouched (g.D.Desk.told c.args.desk.now)
 
 pub returns-clause-opened : goal.returns-clause-opened
-returns-clause-opened g c contents before told was =
+returns-clause-opened g c contents which before told was =
     let read = c.in-Ok.ensures in (
       content_is _ contents c.args.name.now c.in-Ok.bytes told read.bytes,
       is_opened before c.args.name.now c.in-Ok.bytes c.args.progress.now c.enter.new.self c.count.new.self (length c.items.result.now) was
@@ -18,7 +18,7 @@ returns-clause-opened g c contents before told was =
     )
 
 pub returns-clause-kept : goal.returns-clause-kept
-returns-clause-kept g c before was =
+returns-clause-kept g c which before was =
     let read = c.in-Ok.ensures in
     is_opened before c.args.name.now c.in-Ok.bytes c.args.progress.now c.enter.new.self c.count.new.self (length c.items.result.now) was
     c.in_ok-file.ensures.names c.in_ok-file.ensures.rest (ap length c.items.ensures) (omega (arith, read.within)) c.in_ok-count.ensures.counted c.in_ok-count.ensures.rest
@@ -31,7 +31,7 @@ returns-clause-there g c contents told are =
     (there_too contents.files c.args.progress.now.names.items c.args.name.now are (read_there _ contents c.args.name.now c.in-Ok.bytes told c.in-Ok.ensures.bytes))))
 
 pub returns-in-Err-Limit-clause-stopped : goal.returns-in-Err-Limit-clause-stopped
-returns-in-Err-Limit-clause-stopped g c before was =
+returns-in-Err-Limit-clause-stopped g c which before was =
     too_long before c.args.name.now c.in_ok-file.file c.past_at.result c.args.progress.now c.enter.new.self was
     c.in_ok-file.ensures.number c.in_ok-file.ensures.names c.past_at.ensures
 

@@ -6,7 +6,7 @@ use Rattle.cc_describe.proofs.ProgressLemmas.{says_query, new_label}
 use Rattle.cc_describe.proofs.progress.Progress.ask.Goals as goal
 
 pub returns-clause-said : goal.returns-clause-said
-returns-clause-said c = λ before is.
+returns-clause-said c = λ which before is.
     let asked = c.in_ok-query.ensures.asked (declared_in before) is.table in
     let free = sym c.if-gives_taken_label.ensures in
     says_query before c.args.file c.args.self.now.around.items (plain_statement c.args.statement.now) (map plain_query_item c.args.items.now) c.args.self.now c.keep.new.self (plain_query c.in_ok-query.query)

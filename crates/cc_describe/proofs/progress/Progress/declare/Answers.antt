@@ -7,9 +7,9 @@ use Rattle.cc_describe.proofs.ProgressLemmas.{says_declared}
 use Rattle.cc_describe.proofs.progress.Progress.declare.Goals as goal
 
 pub returns-clause-said : goal.returns-clause-said
-returns-clause-said c = λ before is.
+returns-clause-said c = λ which before is.
     let statement = plain_statement c.args.statement.now in
     let declared = c.in_ok-declare.ensures.declared (declared_in before) is.table in
     on_ok_weaker c.expand.result
-    (λ made. says_declared before c.args.file c.args.self.now.around.items statement c.args.self.now c.expand.new.self c.declare.new.self c.requires is declared c.expand.ensures.rest made.1)
+    (λ made. says_declared which before c.args.file c.args.self.now.around.items statement c.args.self.now c.expand.new.self c.declare.new.self c.requires is declared c.expand.ensures.rest made.1)
     (c.expand.ensures.expanded (declared_in before ++ declarations_of c.args.file statement) declared.1)

@@ -5,6 +5,6 @@ use Rattle.cc_describe.proofs.ProgressLemmas.{taken_by_tree}
 use Rattle.cc_describe.proofs.progress.Progress.take.Goals as goal
 
 pub returns-in-Ok-clause-taken : goal.returns-in-Ok-clause-taken
-returns-in-Ok-clause-taken c = λ before is.
-    taken_by_tree option_copied c.take_tree-taken.result before c.args.file c.args.self.now.around.items (token_views c.args.tokens.now) (plain_statement c.in-Ok.statement) c.take_tree-taken.new.self
-    c.in-Ok.ensures.parsed (c.take_tree-taken.ensures.said before is) c.take_tree-taken.ensures.name
+returns-in-Ok-clause-taken c = λ which before is.
+    taken_by_tree which option_copied c.take_tree-taken.result before c.args.file c.args.self.now.around.items (token_views c.args.tokens.now) (plain_statement c.in-Ok.statement) c.take_tree-taken.new.self
+    c.in-Ok.ensures.parsed (c.take_tree-taken.ensures.said which before is) c.take_tree-taken.ensures.name
