@@ -1,8 +1,0 @@
-use Rattle.std.proofs.Common.{arith, length-append}
-use Rattle.cc_defs.specs.Signatures.{ground_constants}
-use Rattle.cc_general.proofs.Sizes.{sizes_step}
-use Rattle.cc_general.proofs.positions.constant_sizes.Goals as goal
-
-pub loop-number-preserved : goal.loop-number-preserved
-loop-number-preserved c = sizes_step (ground_constants c.args.sig.now) c.loop-number.number c.domain_size.result c.loop-number.sizes.items c.push.new.self.items
-    (let long = length-append c.args.sig.now.fluents c.args.sig.now.actions in let less = c.loop-number-test.true in let f = c.from.ensures in let g = c.from-2.ensures in let a = c.fluents.ensures in let b = c.actions.ensures in omega arith) c.domain_size.ensures c.in_ok-push.ensures.items c.loop-number.invariant

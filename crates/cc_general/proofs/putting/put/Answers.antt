@@ -1,9 +1,0 @@
-use Rattle.std.proofs.Common.{refl}
-use Rattle.cc_general.specs.Making.{term_at}
-use Rattle.cc_general.proofs.Calls.{puts_true}
-use Rattle.cc_general.proofs.putting.put.Goals as goal
-
-pub returns : goal.returns
-returns c =
-    puts_true c.args.draft.now c.literal.new.draft c.clause.new.self (term_at c.args.term) c.in_ok-literal.literal _ c.in_ok-literal.ensures.literal c.in_ok-literal.ensures.draft c.in_ok-literal.ensures.places
-    c.in_ok-clause.ensures.draft c.in_ok-clause.ensures.places refl

@@ -1,0 +1,16 @@
+mod Assembling
+mod Calls
+mod Counts
+mod Denials
+mod Ending
+mod Folding
+mod Generals
+mod Indexes
+mod Matching
+mod Meant
+mod Meeting
+mod Placing
+mod Sizes
+mod Stances
+mod Testing
+mod Turns

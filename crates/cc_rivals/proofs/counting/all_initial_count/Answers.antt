@@ -1,0 +1,13 @@
+use Rattle.std.proofs.Common.{arith, rules}
+use Rattle.cc_rivals.proofs.Counts.{initial_counted}
+use Rattle.cc_rivals.proofs.counting.all_initial_count.Goals as goal
+
+pub loop-number-preserved : goal.loop-number-preserved
+loop-number-preserved c = (
+  omega arith,
+  search (
+    rules,
+    initial_counted c.args.sig.now.fluents c.args.sig.now.actions c.loop-number.number c.initial_count.result c.loop-number.count c.saturating_add.result c.constant.result.now
+        (omega arith) c.constant.ensures (c.initial_count.ensures c.loop-number.number) c.saturating_add.ensures c.loop-number.invariant.1,
+  ),
+)

@@ -1,0 +1,4 @@
+pub mod Making
+pub mod Meets
+pub mod Putting
+pub mod Wides
