@@ -1,3 +1,6 @@
-pub mod Making
-pub mod Putting
-pub mod Wides
+pub mod GeneralLogs
+pub mod GeneralRuns
+pub mod GeneralTold
+pub mod Generals
+pub mod RivalParts
+pub mod Walks

@@ -1,15 +1,13 @@
-//! Histories where the heads of laws are formulas of any form: candidates, and the rivals of a row.
+//! Listing by the definition of a model, for laws with heads of any form (`General`), and the check of a log of what it found
+//! (`check_general`).
 #![tactic(auto)]
 
-mod candidate_clauses;
-mod counting;
-mod draft;
-pub mod laws;
-mod positions;
-mod putting;
-mod rival_clauses;
-mod timed;
-mod walk;
+mod check;
+mod event;
+mod general;
+mod halt;
+mod phase;
 
-pub use candidate_clauses::candidates;
-pub use rival_clauses::rivals;
+pub use check::check_general;
+pub use event::GeneralEvent;
+pub use general::General;
