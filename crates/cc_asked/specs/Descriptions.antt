@@ -8,6 +8,7 @@ use Rattle.cc_defs.specs.Universe.{universe}
 use Rattle.cc_describe.specs.declared.description.Described.{Described}
 use Rattle.cc_ground.specs.Counting.{query_refusal}
 use Rattle.cc_sorts.specs.Tables.{IsTable, IsSignatureOf}
+use Rattle.cc_wide.specs.WideLaws.{WideBase, WideDescription, plain_wide_base}
 
 abbrev pub description_of : List Declaration → List BaseLaw → Description
 description_of declarations laws = record { objects = map (λ named. named.0) (objects declarations); universe = universe declarations; laws = laws }
@@ -18,6 +19,18 @@ pub record IsDescriptionOf (described : Described) (d : Description) : Type 0 wh
   pub table : IsTable described.table declarations
   pub signature : IsSignatureOf declarations described.sig
   pub is : d ≡ description_of declarations (map plain_base_law described.laws)
+
+-- the same where heads may be of any form
+
+abbrev pub wide_description_of : List Declaration → List WideBase → WideDescription
+wide_description_of declarations laws =
+    record { objects = map (λ named. named.0) (objects declarations); universe = universe declarations; laws = laws }
+
+pub record IsWideDescriptionOf (described : Described) (w : WideDescription) : Type 0 where
+  pub declarations : List Declaration
+  pub table : IsTable described.table declarations
+  pub signature : IsSignatureOf declarations described.sig
+  pub is : w ≡ wide_description_of declarations (map plain_wide_base described.wide)
 
 -- the lists of values that a query's terms are judged by are too many, or its nodes
 abbrev pub ground_refusal_of : Description → Query → Option (ℕ × ℕ) → Option Refusal

@@ -20,7 +20,7 @@ use Rattle.cc_run.specs.declared.status.Stop.TheVariants as stops
 use Rattle.cc_run.specs.Names.{AreAsked, IsAnswer, MayEndWith}
 use Rattle.cc_run.specs.Promises.{IsEndStatus}
 use Rattle.cc_run.specs.Stops.{Asks, Called, Moment, TellsStop, cut_status, outcome, stop_status}
-use Rattle.cc_words.specs.Requests.{Request, ToBeSure, ToCheck, ToCheckModels, ToCheckSure, ToConvert, ToExplain, ToExport, ToList, ToMake, ToModel}
+use Rattle.cc_words.specs.Requests.{Request, ToBeSure, ToCheck, ToCheckGeneral, ToCheckModels, ToCheckSure, ToConvert, ToExplain, ToExport, ToList, ToListGenerally, ToMake, ToModel}
 use Rattle.cc_words.specs.Words.{Text}
 
 -- ---- names, one after another
@@ -179,6 +179,8 @@ may_be_refused (Some (ToModel modelling)) = tt
 may_be_refused (Some (ToCheckModels checking)) = tt
 may_be_refused (Some (ToBeSure surely)) = tt
 may_be_refused (Some (ToCheckSure checking)) = tt
+may_be_refused (Some (ToListGenerally generally)) = tt
+may_be_refused (Some (ToCheckGeneral checking)) = tt
 
 -- some names are asked for, whatever is asked
 pub some_asked : HasPlaces → (files : Files) (request : Option Request) → (all : List Text) × AreAsked files request all
@@ -205,6 +207,12 @@ some_asked has files (Some (ToBeSure surely)) =
     let there = has files surely.file in
     (_, (there.0, there.1, refl))
 some_asked has files (Some (ToCheckSure checking)) =
+    let there = has files checking.file in
+    (_, (_, (there.0, there.1, refl), refl))
+some_asked has files (Some (ToListGenerally generally)) =
+    let there = has files generally.file in
+    (_, (there.0, there.1, refl))
+some_asked has files (Some (ToCheckGeneral checking)) =
     let there = has files checking.file in
     (_, (_, (there.0, there.1, refl), refl))
 

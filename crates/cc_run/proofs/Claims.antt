@@ -11,7 +11,7 @@ use Rattle.cc_defs.specs.Description.{Description}
 use Rattle.cc_defs.specs.GroundLaws.{PlainGroundQuery, StandsForQuery}
 use Rattle.cc_defs.specs.Resolved.{Query, plain_query}
 use Rattle.cc_describe.specs.declared.description.Described.{Described}
-use Rattle.cc_describe.specs.Describing.{IsDescribed}
+use Rattle.cc_describe.specs.declared.heads.Heads.TheVariants as heads
 use Rattle.cc_describe.specs.FirstRefusal.{file_named}
 use Rattle.cc_describe.specs.Places.{Files, Place}
 use Rattle.cc_ports.specs.Contents.{Contents}
@@ -25,7 +25,7 @@ use Rattle.cc_run.proofs.Readings.{IsRead}
 
 -- ---- the claim
 
-mapped_none : {A B C : Type 0} (f : A → C) (g : B → C) (a : Option A) (b : Option B) → option_map f a ≡ option_map g b → IsNone b → IsNone a
+pub mapped_none : {A B C : Type 0} (f : A → C) (g : B → C) (a : Option A) (b : Option B) → option_map f a ≡ option_map g b → IsNone b → IsNone a
 mapped_none f g None b same none = refl
 mapped_none f g (Some x) None same none = absurd cc
 mapped_none f g (Some x) (Some y) same none = absurd cc
@@ -67,7 +67,7 @@ module _ (d : Description) (queries : List Query) (label : Option Text) where
 
 -- ---- by the places of a description
 
-module _ (o : Option Contents) (by : Named) (described : Described) (of : IsRead o (λ files. files) by.file described) where
+module _ (o : Option Contents) (by : Named) (described : Described) (of : IsRead heads.Definite o (λ files. files) by.file described) where
   names_of : (files : Files) (q : Query) → AreRead files by.file of.places → IsUnclaimed (description_in of.places) (map plain_query described.queries) by.query q →
       NamesUnclaimed files by (description_in of.places) q
   names_of files q read is = record {

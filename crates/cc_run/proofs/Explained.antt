@@ -16,6 +16,7 @@ use Rattle.cc_defs.specs.Rows.{IsRow}
 use Rattle.cc_defs.specs.Signatures.{Signature}
 use Rattle.cc_defs.specs.TimedRules.{timed_rules}
 use Rattle.cc_describe.specs.declared.description.Described.{Described}
+use Rattle.cc_describe.specs.declared.heads.Heads.TheVariants as heads
 use Rattle.cc_describe.specs.Describing.{IsDescribed}
 use Rattle.cc_describe.specs.FirstRefusal.{file_named}
 use Rattle.cc_describe.specs.Places.{Files, Place, opened_in}
@@ -99,7 +100,7 @@ unplaced : (names : List Text) (d : Description) (text : Text) (refusal : Refusa
 unplaced names d text refusal (inl no_row) = ap (file_named names) no_row.1
 unplaced names d text refusal (inr (key, named, is)) = unplaced_rules names (nat_lt most_rules (length (timed_rules d key.horizon))) refusal is
 
-row_refused : (files : Files) (explaining : Explaining) (places : List Place) (described : Described) (refusal : Refusal) (file : Text) → IsDescribed places described →
+row_refused : (files : Files) (explaining : Explaining) (places : List Place) (described : Described) (refusal : Refusal) (file : Text) → IsDescribed heads.Definite places described →
     AreRead files explaining.file places → file ≡ file_named described.files refusal → IsExplainingFault (description_in places) explaining.key (faults.Refused refusal) →
     RefusesRow files explaining refusal file
 row_refused files explaining places described refusal file said read name (inl is) = record {
@@ -113,7 +114,7 @@ row_refused files explaining places described refusal file said read name (inr (
   refused = inr (none, is, name ∙ unplaced described.files (description_in places) explaining.key refusal is);
 }
 
-pub refuses_row : (o : Option Contents) (words : List Text) (explaining : Explaining) (described : Described) (of : IsRead o (λ files. files) explaining.file described) (refusal : Refusal)
+pub refuses_row : (o : Option Contents) (words : List Text) (explaining : Explaining) (described : Described) (of : IsRead heads.Definite o (λ files. files) explaining.file described) (refusal : Refusal)
     (file : Text) → request_of words ≡ Some (ToExplain explaining) → file ≡ file_named described.files refusal →
     IsExplainingFault (description_in of.places) explaining.key (faults.Refused refusal) → IfSome o (λ before. RefusesRequest before.files (request_of words) refusal file)
 refuses_row o words explaining described of refusal file asked name fault =
@@ -178,7 +179,7 @@ explained_as : (d : Description) (names all : List Text) (key : Key) (whole : Wh
 explained_as d names all key whole same is = subst (λ (w : List Text). IsExplained d w key whole) same is
 
 explained_given : (files : Files) (words : List Text) (explaining : Explaining) (places : List Place) (described : Described) (signature : Signature) (laws : List GroundLaw) (key : Key)
-    (is_path : Bool) (whole : Whole) → request_of words ≡ Some (ToExplain explaining) → IsDescribed places described → AreRead files explaining.file places →
+    (is_path : Bool) (whole : Whole) → request_of words ≡ Some (ToExplain explaining) → IsDescribed heads.Definite places described → AreRead files explaining.file places →
     IsLookedAt (description_in places) signature explaining.key laws key is_path → IsExplained (description_in places) described.files key whole → whole.begun ≡ false →
     Gives files (request_of words) whole
 explained_given files words explaining places described signature laws key is_path whole asked said read looked explained begun =
@@ -197,7 +198,7 @@ explained_given files words explaining places described signature laws key is_pa
     }
 
 pub prints_explained : (words : List Text) (explaining : Explaining) (described : Described) (signature : Signature) (laws : List GroundLaw) (key : Key) (is_path : Bool) (x z : Moment)
-    (r : Result Status Stop) → (of : IsRead x.told (λ files. files) explaining.file described) → request_of words ≡ Some (ToExplain explaining) →
+    (r : Result Status Stop) → (of : IsRead heads.Definite x.told (λ files. files) explaining.file described) → request_of words ≡ Some (ToExplain explaining) →
     IsLookedAt (description_in of.places) signature explaining.key laws key is_path → TellsRow (description_in of.places) described.files key x z r → Prints words false [] x z r
 prints_explained words explaining described signature laws key is_path x z r of asked looked tells =
     prints_whole words false [] tells.whole x z r

@@ -22,6 +22,7 @@ use Rattle.cc_defs.specs.Sections.{Axioms}
 use Rattle.cc_defs.specs.Signatures.{Signature}
 use Rattle.cc_defs.specs.TimedRules.{timed_rules}
 use Rattle.cc_describe.specs.declared.description.Described.{Described}
+use Rattle.cc_describe.specs.declared.heads.Heads.TheVariants as heads
 use Rattle.cc_describe.specs.Describing.{IsDescribed}
 use Rattle.cc_describe.specs.FirstRefusal.{file_named}
 use Rattle.cc_describe.specs.Places.{Files, Place}
@@ -208,11 +209,11 @@ unplaced names d q horizon refusal is = limit_unplaced names (nat_lt most_rules 
 -- ---- what is refused of the request
 
 -- the query that is named, by the places
-named_in : (exporting : Exporting) (places : List Place) (described : Described) (o : Option Query) → IsDescribed places described →
+named_in : (exporting : Exporting) (places : List Place) (described : Described) (o : Option Query) → IsDescribed heads.Definite places described →
     query_named exporting.query (map plain_query described.queries) ≡ o → query_named exporting.query (queries_in places) ≡ o
 named_in exporting places described o said is = subst (λ queries. query_named exporting.query queries ≡ o) said.queries is
 
-names_horizon : (files : Files) (exporting : Exporting) (places : List Place) (described : Described) (q : Query) → IsDescribed places described → AreRead files exporting.file places →
+names_horizon : (files : Files) (exporting : Exporting) (places : List Place) (described : Described) (q : Query) → IsDescribed heads.Definite places described → AreRead files exporting.file places →
     query_named exporting.query (map plain_query described.queries) ≡ Some q → export_refusal (description_in places) (Some q) exporting.horizon ≡ None →
     NamesHorizon files exporting (description_in places) q
 names_horizon files exporting places described q said read is unrefused = record {
@@ -223,7 +224,7 @@ names_horizon files exporting places described q said read is unrefused = record
   unrefused = unrefused;
 }
 
-export_refused : (files : Files) (exporting : Exporting) (places : List Place) (described : Described) (refusal : Refusal) (file : Text) → IsDescribed places described →
+export_refused : (files : Files) (exporting : Exporting) (places : List Place) (described : Described) (refusal : Refusal) (file : Text) → IsDescribed heads.Definite places described →
     AreRead files exporting.file places → file ≡ file_named described.files refusal →
     IsExportFault (description_in places) (map plain_query described.queries) exporting.query exporting.horizon (faults.Refused refusal) → RefusesExporting files exporting refusal file
 export_refused files exporting places described refusal file said read name (inl is) = inr (inl (record {
@@ -240,7 +241,7 @@ export_refused files exporting places described refusal file said read name (inr
   name = name ∙ unplaced described.files (description_in places) q exporting.horizon refusal passed;
 }))
 
-pub refuses_export : (o : Option Contents) (words : List Text) (exporting : Exporting) (described : Described) (of : IsRead o (λ files. files) exporting.file described) (refusal : Refusal)
+pub refuses_export : (o : Option Contents) (words : List Text) (exporting : Exporting) (described : Described) (of : IsRead heads.Definite o (λ files. files) exporting.file described) (refusal : Refusal)
     (file : Text) → request_of words ≡ Some (ToExport exporting) → file ≡ file_named described.files refusal →
     IsExportFault (description_in of.places) (map plain_query described.queries) exporting.query exporting.horizon (faults.Refused refusal) →
     IfSome o (λ before. RefusesRequest before.files (request_of words) refusal file)
@@ -265,7 +266,7 @@ may_end words exporting (Ok status) asked is =
 may_end words exporting (Err stop) asked is = tt
 
 export_given : (files : Files) (words : List Text) (exporting : Exporting) (places : List Place) (described : Described) (form : Axioms) → request_of words ≡ Some (ToExport exporting) →
-    IsDescribed places described → AreRead files exporting.file places →
+    IsDescribed heads.Definite places described → AreRead files exporting.file places →
     IsExported (description_in places) (map plain_query described.queries) exporting.query exporting.horizon form → Gives files (request_of words) (export_whole exporting form)
 export_given files words exporting places described form asked said read is = subst (λ (o : Option Request). Gives files o (export_whole exporting form)) (sym asked) (inr exports)
   where
@@ -282,7 +283,7 @@ export_given files words exporting places described form asked said read is = su
     }
 
 pub prints_exported : (words : List Text) (exporting : Exporting) (described : Described) (form : Axioms) (x z : Moment) (r : Result Status Stop) →
-    (of : IsRead x.told (λ files. files) exporting.file described) → request_of words ≡ Some (ToExport exporting) →
+    (of : IsRead heads.Definite x.told (λ files. files) exporting.file described) → request_of words ≡ Some (ToExport exporting) →
     IsExported (description_in of.places) (map plain_query described.queries) exporting.query exporting.horizon form →
     Step (only_out (export_of exporting.horizon (record { variables = form.variables; clauses = form.clauses }))) x z r → IfOk r (λ status. status ≡ statuses.Right) →
     Prints words false [] x z r

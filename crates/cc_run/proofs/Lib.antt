@@ -7,6 +7,10 @@ pub mod EventNumbers
 pub mod EventTexts
 pub mod Explained
 pub mod Exported
+pub mod GeneralFinds
+pub mod GeneralTexts
+pub mod GenerallyChecked
+pub mod GenerallyTold
 pub mod GivenSteps
 pub mod GoodClauses
 pub mod Judged
@@ -32,4 +36,5 @@ pub mod SureLines
 pub mod SureTexts
 pub mod SurelyChecked
 pub mod SurelyTold
+pub mod WideClaims
 pub mod Worth

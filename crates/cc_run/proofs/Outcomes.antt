@@ -40,7 +40,7 @@ use Rattle.cc_run.specs.Tasks.{IsTask, Task, made_files, made_named, named_by, r
 use Rattle.cc_run.specs.Telling.{counts_of}
 use Rattle.cc_run.specs.Wholes.{AreFronts, Given, Left, Whole, nothing, only_err, only_out}
 use Rattle.cc_defs.specs.Runs.{Claim, Conditions, Failure, Histories, Horizon, IsFairRun, IsTrueOf, MayEnd, MayEndWithin, Run, first_horizon, horizon_at, last_horizon, optional, rows_of}
-use Rattle.cc_words.specs.Requests.{Checking, Listing, Request, ToBeSure, ToCheck, ToCheckModels, ToCheckSure, ToConvert, ToExplain, ToExport, ToList, ToMake, ToModel}
+use Rattle.cc_words.specs.Requests.{Checking, Listing, Request, ToBeSure, ToCheck, ToCheckGeneral, ToCheckModels, ToCheckSure, ToConvert, ToExplain, ToExport, ToList, ToListGenerally, ToMake, ToModel}
 use Rattle.cc_words.specs.Views.{plain_text}
 use Rattle.cc_words.specs.Words.{Text}
 use Rattle.cc_run.proofs.Callings.{asks_behind, asks_nothing, called_begins, called_none, called_on, first_none, may_be_refused, some_asked_of, stop_answers_nothing, told_answers_nothing}
@@ -719,6 +719,8 @@ ends_as_it_may (Some (ToModel modelling)) status is = is
 ends_as_it_may (Some (ToCheckModels checking)) status is = may_end_checking status is
 ends_as_it_may (Some (ToBeSure surely)) status is = may_end_surely status is
 ends_as_it_may (Some (ToCheckSure checking)) status is = may_end_checking_sure status is
+ends_as_it_may (Some (ToListGenerally generally)) status is = is
+ends_as_it_may (Some (ToCheckGeneral checking)) status is = may_end_checking_sure status is
 
 answers_ended : (files : Files) (words : List Text) (status : Status) (c : Counts) (l : Left) → IsEndStatus status → Ended files words status l → Answers files words status c l
 answers_ended files words statuses.Right c l ends ended = ended

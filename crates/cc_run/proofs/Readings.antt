@@ -1,7 +1,7 @@
 -- A description that was read, by its places, and what is listed or refused of it.
 use Rattle.std.proofs.Common.{◌≡◌, ◌∙◌, refl, sym, ap, subst, ℕ, List, [], ◌∷◌, ◌++◌, append-nil, map, Option, Some, None, IfSome, Result, Ok, Err, inl, inr, is_some, ◌≤◌, IfOk, arith, option_map}
 use Rattle.std.specs.Prelude.{IfErr, IsErrOf}
-use Rattle.cc_asked.specs.Descriptions.{IsDescriptionOf, description_of}
+use Rattle.cc_asked.specs.Descriptions.{IsDescriptionOf, IsWideDescriptionOf, description_of, wide_description_of}
 use Rattle.cc_defs.specs.declared.lists.Key.{Key}
 use Rattle.cc_defs.specs.declared.refusal.Refusal.{Refusal}
 use Rattle.cc_defs.specs.Description.{Description}
@@ -9,30 +9,35 @@ use Rattle.cc_defs.specs.Resolved.{Query, plain_query}
 use Rattle.cc_describe.specs.declared.description.Described.{Described}
 use Rattle.cc_describe.specs.declared.description.DescribeStop.TheVariants as describe_stops
 use Rattle.cc_describe.specs.declared.description.DescribeStop.{DescribeStop}
+use Rattle.cc_describe.specs.declared.heads.Heads.{Heads}
+use Rattle.cc_describe.specs.declared.heads.Heads.TheVariants as heads
 use Rattle.cc_describe.specs.Describing.{AreFirstNames, AreToOpen, Describes, HasStopped, IsDescribed, OpensFor, SaysAll}
 use Rattle.cc_describe.specs.FirstRefusal.{declared_in, file_named}
 use Rattle.cc_describe.specs.Places.{Files, Place}
 use Rattle.cc_ports.specs.Calls.{Call, names_begun, names_opened, with_calls}
 use Rattle.cc_ports.specs.Contents.{Contents, Rose, with_rest}
 use Rattle.cc_run.specs.Asking.{AreNamed, IsRefusedNamed}
-use Rattle.cc_run.specs.Requested.{AsksDescription, AsksQuery, IsFileOf, named_of, opens_behind, source_of, OpensDescription, Reads}
+use Rattle.cc_run.specs.Modes.Generally.{wide_in}
+use Rattle.cc_run.specs.Requested.{AsksDescription, AsksQuery, IsFileOf, heads_of, named_of, opens_behind, source_of, OpensDescription, Reads}
 use Rattle.cc_run.specs.Answers.{promise_of}
 use Rattle.cc_run.specs.Names.{names_log}
 use Rattle.cc_run.specs.Stops.{Begins, IsCalm, Moment, Prints}
 use Rattle.cc_run.specs.declared.status.Status.{Status}
 use Rattle.cc_run.specs.declared.status.Stop.{Stop}
-use Rattle.cc_run.specs.Tasks.{AreRead, IsTask, Named, RefusesDescription, RefusesNamed, Task, asked_refusal, description_in, made_files, made_named, query_named, request_of}
+use Rattle.cc_run.specs.Tasks.{AreRead, AreReadFor, IsTask, Named, RefusesDescriptionFor, RefusesNamed, Task, asked_refusal, description_in, made_files, made_named, query_named, request_of}
 use Rattle.cc_words.specs.declared.asked.Asked.{Asked}
 use Rattle.cc_words.specs.declared.asked.CheckAsked.{CheckAsked}
+use Rattle.cc_words.specs.declared.asked.CheckGeneralAsked.{CheckGeneralAsked}
 use Rattle.cc_words.specs.declared.asked.CheckModelsAsked.{CheckModelsAsked}
 use Rattle.cc_words.specs.declared.asked.CheckSureAsked.{CheckSureAsked}
 use Rattle.cc_words.specs.declared.asked.ConvertAsked.{ConvertAsked}
 use Rattle.cc_words.specs.declared.asked.ExplainAsked.{ExplainAsked}
 use Rattle.cc_words.specs.declared.asked.ExportAsked.{ExportAsked}
+use Rattle.cc_words.specs.declared.asked.GeneralAsked.{GeneralAsked}
 use Rattle.cc_words.specs.declared.asked.ListAsked.{ListAsked}
 use Rattle.cc_words.specs.declared.asked.ModelsAsked.{ModelsAsked}
 use Rattle.cc_words.specs.declared.asked.SureAsked.{SureAsked}
-use Rattle.cc_words.specs.Requests.{Checking, Converting, Explaining, Exporting, Listing, ModelChecking, Modelling, Request, SureChecking, Surely, ToBeSure, ToCheck, ToCheckModels, ToCheckSure, ToConvert, ToExplain, ToExport, ToList, ToMake, ToModel}
+use Rattle.cc_words.specs.Requests.{Checking, Converting, Explaining, Exporting, GeneralChecking, Generally, Listing, ModelChecking, Modelling, Request, SureChecking, Surely, ToBeSure, ToCheck, ToCheckGeneral, ToCheckModels, ToCheckSure, ToConvert, ToExplain, ToExport, ToList, ToListGenerally, ToMake, ToModel}
 use Rattle.cc_words.specs.Views.{plain_request, plain_text}
 use Rattle.cc_words.specs.Words.{Text}
 use Rattle.cc_run.proofs.Callings.{called_none, called_reading, first_all, first_longer}
@@ -85,9 +90,21 @@ surely_by sure = record { file = sure.file.now; query = plain_text sure.query; b
 abbrev pub sure_checking_by : CheckSureAsked → SureChecking
 sure_checking_by check = record { file = check.file.now; query = plain_text check.query; log = check.log.now }
 
+abbrev pub generally_by : GeneralAsked → Generally
+generally_by general = record {
+  file = general.file.now;
+  query = plain_text general.query;
+  count = general.count;
+  budget = general.budget;
+  log = plain_text general.log;
+}
+
+abbrev pub general_checking_by : CheckGeneralAsked → GeneralChecking
+general_checking_by check = record { file = check.file.now; query = plain_text check.query; log = check.log.now }
+
 -- ---- the description of places
 
-pub description_is : (places : List Place) (described : Described) → IsDescribed places described → IsDescriptionOf described (description_in places)
+pub description_is : (places : List Place) (described : Described) → IsDescribed heads.Definite places described → IsDescriptionOf described (description_in places)
 description_is places described is = record {
   declarations = declared_in places;
   table = is.table;
@@ -95,16 +112,24 @@ description_is places described is = record {
   is = ap (description_of (declared_in places)) (sym is.laws);
 }
 
--- some places say all of it, and they are those of the files that it is read from, where the desk tells these
-pub record IsRead (o : Option Contents) (source : Files → Files) (name : Text) (described : Described) : Type 0 where
-  pub places : List Place
-  pub said : IsDescribed places described
-  pub read : IfSome o (λ before. AreRead (source before.files) name places)
+pub wide_description_is : (places : List Place) (described : Described) → IsDescribed heads.Any places described → IsWideDescriptionOf described (wide_in places)
+wide_description_is places described is = record {
+  declarations = declared_in places;
+  table = is.table;
+  signature = is.signature;
+  is = ap (wide_description_of (declared_in places)) (sym is.wide);
+}
 
-pub is_read : (o : Option Contents) (source : Files → Files) (name : Text) (described : Described) → SaysAll described →
-    IfSome o (λ before. Describes (source before.files) name described) → IsRead o source name described
-is_read None source name described says describes = record { places = says.0; said = says.2; read = tt }
-is_read (Some c) source name described says describes = record {
+-- some places say all of it, and they are those of the files that it is read from, where the desk tells these
+pub record IsRead (which : Heads) (o : Option Contents) (source : Files → Files) (name : Text) (described : Described) : Type 0 where
+  pub places : List Place
+  pub said : IsDescribed which places described
+  pub read : IfSome o (λ before. AreReadFor which (source before.files) name places)
+
+pub is_read : (which : Heads) (o : Option Contents) (source : Files → Files) (name : Text) (described : Described) → SaysAll which described →
+    IfSome o (λ before. Describes which (source before.files) name described) → IsRead which o source name described
+is_read which None source name described says describes = record { places = says.0; said = says.2; read = tt }
+is_read which (Some c) source name described says describes = record {
   places = describes.0;
   said = describes.3;
   read = record { all = describes.1; unrefused = describes.2; there = describes.4 };
@@ -118,7 +143,7 @@ known (Some c) P Q f h = f c h
 -- ---- what is listed
 
 is_task : (files : Files) (by : Named) (places : List Place) (described : Described) (q : Query) (count : Option ℕ) (budget : ℕ) (key : Option Key) →
-    IsDescribed places described → AreNamed (description_in places) (map plain_query described.queries) by.query by.after q key →
+    IsDescribed heads.Definite places described → AreNamed (description_in places) (map plain_query described.queries) by.query by.after q key →
     AreRead files by.file places →
     IsTask files by (record { description = description_in places; query = q; ask = record { count = count; budget = budget; after = key } })
 is_task files by places described q count budget key said named read = record {
@@ -130,7 +155,7 @@ is_task files by places described q count budget key said named read = record {
   key = named.key_is;
 }
 
-pub task_read : (o : Option Contents) (source : Files → Files) (by : Named) (described : Described) (of : IsRead o source by.file described) (q : Query) (key : Option Key) →
+pub task_read : (o : Option Contents) (source : Files → Files) (by : Named) (described : Described) (of : IsRead heads.Definite o source by.file described) (q : Query) (key : Option Key) →
     AreNamed (description_in of.places) (map plain_query described.queries) by.query by.after q key → (count : Option ℕ) (budget : ℕ) →
     IfSome o (λ before. IsTask (source before.files) by (record { description = description_in of.places; query = q; ask = record { count = count; budget = budget; after = key } }))
 task_read o source by described of q key named count budget =
@@ -162,8 +187,18 @@ pub task_as : (o : Option Contents) (a b : Request) (task : Task) → a ≡ b �
 task_as o a b task same is = subst (λ (r : Request). IfSome o (λ before. IsTask (source_of r before.files) (named_of r) task)) (sym same) is
 
 pub describes_as : (o : Option Contents) (a b : Request) (described : Described) → a ≡ b →
-    IfSome o (λ before. Describes (source_of b before.files) (named_of b).file described) → IfSome o (λ before. Describes (source_of a before.files) (named_of a).file described)
-describes_as o a b described same is = subst (λ (r : Request). IfSome o (λ before. Describes (source_of r before.files) (named_of r).file described)) (sym same) is
+    IfSome o (λ before. Describes (heads_of b) (source_of b before.files) (named_of b).file described) →
+    IfSome o (λ before. Describes (heads_of a) (source_of a before.files) (named_of a).file described)
+describes_as o a b described same is = subst (λ (r : Request). IfSome o (λ before. Describes (heads_of r) (source_of r before.files) (named_of r).file described)) (sym same) is
+
+-- the same for the heads that are meant
+pub describes_for : (which : Heads) (o : Option Contents) (request : Request) (described : Described) → heads_of request ≡ which →
+    IfSome o (λ before. Describes (heads_of request) (source_of request before.files) (named_of request).file described) →
+    IfSome o (λ before. Describes which (source_of request before.files) (named_of request).file described)
+describes_for which o request described same is = subst (λ (h : Heads). IfSome o (λ before. Describes h (source_of request before.files) (named_of request).file described)) same is
+
+pub says_as : (a b : Asked) (described : Described) → a ≡ b → SaysAll (heads_of (plain_request a)) described → SaysAll (heads_of (plain_request b)) described
+says_as a b described same says = subst (λ (asked : Asked). SaysAll (heads_of (plain_request asked)) described) same says
 
 pub prints_request : (words : List Text) (a b : Request) (x z : Moment) (r : Result Status Stop) → a ≡ b → Prints words (names_log (Some a)) (opens_behind a) x z r →
     Prints words (names_log (Some b)) (opens_behind b) x z r
@@ -197,10 +232,12 @@ refused_so files (ToModel modelling) refusal file asks refused = absurd asks
 refused_so files (ToCheckModels checking) refusal file asks refused = absurd asks
 refused_so files (ToBeSure surely) refusal file asks refused = absurd asks
 refused_so files (ToCheckSure checking) refusal file asks refused = absurd asks
+refused_so files (ToListGenerally generally) refusal file asks refused = absurd asks
+refused_so files (ToCheckGeneral checking) refusal file asks refused = absurd asks
 
 -- and so it is where the description is refused
 unread_so : (files : Files) (request : Request) (refusal : Refusal) (file : Text) → AsksDescription request →
-    RefusesDescription (source_of request files) (named_of request) refusal file →
+    RefusesDescriptionFor (heads_of request) (source_of request files) (named_of request) refusal file →
     RefusesRequest files (Some request) refusal file
 unread_so files (ToList listing) refusal file asks refused = inl refused
 unread_so files (ToCheck checking) refusal file asks refused = inl (inl refused)
@@ -212,10 +249,12 @@ unread_so files (ToModel modelling) refusal file asks refused = absurd asks
 unread_so files (ToCheckModels checking) refusal file asks refused = absurd asks
 unread_so files (ToBeSure surely) refusal file asks refused = inl refused
 unread_so files (ToCheckSure checking) refusal file asks refused = inl (inl refused)
+unread_so files (ToListGenerally generally) refusal file asks refused = inl refused
+unread_so files (ToCheckGeneral checking) refusal file asks refused = inl (inl refused)
 
-stopped_refuses : (files : Files) (by : Named) (refusal : Refusal) (file : Text) → HasStopped files by.file (describe_stops.Refused refusal file) →
-    RefusesDescription files by refusal file
-stopped_refuses files by refusal file stopped =
+stopped_refuses : (which : Heads) (files : Files) (by : Named) (refusal : Refusal) (file : Text) → HasStopped which files by.file (describe_stops.Refused refusal file) →
+    RefusesDescriptionFor which files by refusal file
+stopped_refuses which files by refusal file stopped =
     record { places = stopped.0; all = stopped.1; refused = stopped.2; there = stopped.4; name = stopped.3 }
 
 -- what is refused of a request, by the words that ask for it
@@ -224,14 +263,14 @@ pub asked_refuses : (words : List Text) (request : Request) (files : Files) (ref
 asked_refuses words request files refusal file asked refused = subst (λ (o : Option Request). RefusesRequest files o refusal file) (sym asked) refused
 
 pub refuses_description : (o : Option Contents) (words : List Text) (request : Request) (refusal : Refusal) (file : Text) → request_of words ≡ Some request → AsksDescription request →
-    IfSome o (λ before. HasStopped (source_of request before.files) (named_of request).file (describe_stops.Refused refusal file)) →
+    IfSome o (λ before. HasStopped (heads_of request) (source_of request before.files) (named_of request).file (describe_stops.Refused refusal file)) →
     IfSome o (λ before. RefusesRequest before.files (request_of words) refusal file)
 refuses_description o words request refusal file asked asks =
-    known o (λ before. HasStopped (source_of request before.files) (named_of request).file (describe_stops.Refused refusal file)) (λ before. RefusesRequest before.files (request_of words) refusal file)
+    known o (λ before. HasStopped (heads_of request) (source_of request before.files) (named_of request).file (describe_stops.Refused refusal file)) (λ before. RefusesRequest before.files (request_of words) refusal file)
     (λ before stopped. asked_refuses words request before.files refusal file asked
-    (unread_so before.files request refusal file asks (stopped_refuses (source_of request before.files) (named_of request) refusal file stopped)))
+    (unread_so before.files request refusal file asks (stopped_refuses (heads_of request) (source_of request before.files) (named_of request) refusal file stopped)))
 
-pub named_refused : (files : Files) (by : Named) (places : List Place) (described : Described) (refusal : Refusal) (file : Text) → IsDescribed places described →
+pub named_refused : (files : Files) (by : Named) (places : List Place) (described : Described) (refusal : Refusal) (file : Text) → IsDescribed heads.Definite places described →
     AreRead files by.file places → file ≡ file_named described.files refusal →
     IsRefusedNamed (description_in places) (map plain_query described.queries) by.query by.after refusal → RefusesNamed files by refusal file
 named_refused files by places described refusal file said read name (inl refused) = inr (inl (record {
@@ -251,7 +290,7 @@ named_refused files by places described refusal file said read name (inr (q, nam
   name = name ∙ ap (file_named described.files) same;
 }))
 
-pub refuses_named : (o : Option Contents) (words : List Text) (request : Request) (described : Described) (of : IsRead o (source_of request) (named_of request).file described) (refusal : Refusal)
+pub refuses_named : (o : Option Contents) (words : List Text) (request : Request) (described : Described) (of : IsRead heads.Definite o (source_of request) (named_of request).file described) (refusal : Refusal)
     (file : Text) → request_of words ≡ Some request → AsksQuery request → file ≡ file_named described.files refusal →
     IsRefusedNamed (description_in of.places) (map plain_query described.queries) (named_of request).query (named_of request).after refusal →
     IfSome o (λ before. RefusesRequest before.files (request_of words) refusal file)
@@ -266,46 +305,38 @@ refuses_named o words request described of refusal file asked asks name refused 
 abbrev pub OpenedAll : Request → Option Contents → List Text → Type 0
 OpenedAll request o opened = IfSome o (λ before. (promise_of request).Opens before.files (opened ++ opens_behind request))
 
-opens_all : (files : Files) (request : Request) (described : Described) (opened : List Text) → AsksDescription request → OpensDescription request files (Ok described) opened →
+-- where these are all files of a description, they are all that its request opens
+opens_all : (files : Files) (request : Request) (r : Result Described DescribeStop) (opened : List Text) → AsksDescription request →
+    ((which : Heads) (name : Text) → OpensFor which files name r opened → AreToOpen which files name opened) → OpensDescription request files r opened →
     (promise_of request).Opens files (opened ++ opens_behind request)
-opens_all files (ToList listing) described opened asks are = subst (λ (names : List Text). AreToOpen files listing.file names) (sym (append-nil opened)) are
-opens_all files (ToCheck checking) described opened asks are = (opened, are, refl)
-opens_all files (ToMake size budget) described opened asks are = append-nil opened ∙ are
-opens_all files (ToExplain explaining) described opened asks are = subst (λ (names : List Text). AreToOpen files explaining.file names) (sym (append-nil opened)) are
-opens_all files (ToConvert converting) described opened asks are = (opened, are, refl)
-opens_all files (ToExport exporting) described opened asks are = subst (λ (names : List Text). AreToOpen files exporting.file names) (sym (append-nil opened)) are
-opens_all files (ToModel modelling) described opened asks are = absurd asks
-opens_all files (ToCheckModels checking) described opened asks are = absurd asks
-opens_all files (ToBeSure surely) described opened asks are = subst (λ (names : List Text). AreToOpen files surely.file names) (sym (append-nil opened)) are
-opens_all files (ToCheckSure checking) described opened asks are = (opened, are, refl)
+opens_all files (ToList listing) r opened asks all are = subst (AreToOpen heads.Definite files listing.file) (sym (append-nil opened)) (all heads.Definite listing.file are)
+opens_all files (ToCheck checking) r opened asks all are = (opened, all heads.Definite checking.file are, refl)
+opens_all files (ToMake size budget) r opened asks all are = append-nil opened ∙ are
+opens_all files (ToExplain explaining) r opened asks all are = subst (AreToOpen heads.Definite files explaining.file) (sym (append-nil opened)) (all heads.Definite explaining.file are)
+opens_all files (ToConvert converting) r opened asks all are = (opened, all heads.Definite converting.file are, refl)
+opens_all files (ToExport exporting) r opened asks all are = subst (AreToOpen heads.Definite files exporting.file) (sym (append-nil opened)) (all heads.Definite exporting.file are)
+opens_all files (ToModel modelling) r opened asks all are = absurd asks
+opens_all files (ToCheckModels checking) r opened asks all are = absurd asks
+opens_all files (ToBeSure surely) r opened asks all are = subst (AreToOpen heads.Definite files surely.file) (sym (append-nil opened)) (all heads.Definite surely.file are)
+opens_all files (ToCheckSure checking) r opened asks all are = (opened, all heads.Definite checking.file are, refl)
+opens_all files (ToListGenerally generally) r opened asks all are = subst (AreToOpen heads.Any files generally.file) (sym (append-nil opened)) (all heads.Any generally.file are)
+opens_all files (ToCheckGeneral checking) r opened asks all are = (opened, all heads.Any checking.file are, refl)
 
 pub opened_all : (o : Option Contents) (request : Request) (described : Described) (opened : List Text) → AsksDescription request →
     IfSome o (λ before. OpensDescription request before.files (Ok described) opened) → OpenedAll request o opened
 opened_all o request described opened asks =
     known o (λ before. OpensDescription request before.files (Ok described) opened) (λ before. (promise_of request).Opens before.files (opened ++ opens_behind request))
-    (λ before are. opens_all before.files request described opened asks are)
+    (λ before are. opens_all before.files request (Ok described) opened asks (λ which name is. is) are)
 
 abbrev pub stopped : DescribeStop → Result Described DescribeStop
 stopped stop = Err stop
-
-opens_refused : (files : Files) (request : Request) (refusal : Refusal) (file : Text) (opened : List Text) → AsksDescription request →
-    OpensDescription request files (stopped (describe_stops.Refused refusal file)) opened → (promise_of request).Opens files (opened ++ opens_behind request)
-opens_refused files (ToList listing) refusal file opened asks are = subst (λ (names : List Text). AreToOpen files listing.file names) (sym (append-nil opened)) are
-opens_refused files (ToCheck checking) refusal file opened asks are = (opened, are, refl)
-opens_refused files (ToMake size budget) refusal file opened asks are = append-nil opened ∙ are
-opens_refused files (ToExplain explaining) refusal file opened asks are = subst (λ (names : List Text). AreToOpen files explaining.file names) (sym (append-nil opened)) are
-opens_refused files (ToConvert converting) refusal file opened asks are = (opened, are, refl)
-opens_refused files (ToExport exporting) refusal file opened asks are = subst (λ (names : List Text). AreToOpen files exporting.file names) (sym (append-nil opened)) are
-opens_refused files (ToModel modelling) refusal file opened asks are = absurd asks
-opens_refused files (ToCheckModels checking) refusal file opened asks are = absurd asks
-opens_refused files (ToBeSure surely) refusal file opened asks are = subst (λ (names : List Text). AreToOpen files surely.file names) (sym (append-nil opened)) are
-opens_refused files (ToCheckSure checking) refusal file opened asks are = (opened, are, refl)
 
 pub opened_refused : (o : Option Contents) (request : Request) (refusal : Refusal) (file : Text) (opened : List Text) → AsksDescription request →
     IfSome o (λ before. OpensDescription request before.files (stopped (describe_stops.Refused refusal file)) opened) → OpenedAll request o opened
 opened_refused o request refusal file opened asks =
     known o (λ before. OpensDescription request before.files (stopped (describe_stops.Refused refusal file)) opened)
-    (λ before. (promise_of request).Opens before.files (opened ++ opens_behind request)) (λ before are. opens_refused before.files request refusal file opened asks are)
+    (λ before. (promise_of request).Opens before.files (opened ++ opens_behind request))
+    (λ before are. opens_all before.files request (stopped (describe_stops.Refused refusal file)) opened asks (λ which name is. is) are)
 
 -- names of which these are the first, which are those that the request opens
 pub record AreFirstOf (o : Option Contents) (request : Request) (names : List Text) : Type 0 where
@@ -313,30 +344,33 @@ pub record AreFirstOf (o : Option Contents) (request : Request) (names : List Te
   pub first : AreFirstNames names all
   pub are : IfSome o (λ c. (promise_of request).Opens c.files all)
 
-first_files : (files : Files) (name : Text) (stop : DescribeStop) (names : List Text) → OpensFor files name (stopped stop) names →
-    (all : List Text) × AreToOpen files name all × AreFirstNames names all
-first_files files name (describe_stops.Refused refusal file) names are = (names, are, first_all names)
-first_files files name describe_stops.ReadFault names are = are
-first_files files name describe_stops.OutOfMemory names are = are
+first_files : (which : Heads) (files : Files) (name : Text) (stop : DescribeStop) (names : List Text) → OpensFor which files name (stopped stop) names →
+    (all : List Text) × AreToOpen which files name all × AreFirstNames names all
+first_files which files name (describe_stops.Refused refusal file) names are = (names, are, first_all names)
+first_files which files name describe_stops.ReadFault names are = are
+first_files which files name describe_stops.OutOfMemory names are = are
+
+-- those of a description, with a log behind them
+first_behind : (which : Heads) (files : Files) (name log : Text) (stop : DescribeStop) (names : List Text) → OpensFor which files name (stopped stop) names →
+    (all : List Text) × ((named : List Text) × AreToOpen which files name named × (all ≡ named ++ log ∷ [])) × AreFirstNames names all
+first_behind which files name log stop names are =
+    let there = first_files which files name stop names are in
+    (there.0 ++ log ∷ [], (there.0, there.1, refl), first_longer names there.0 (log ∷ []) there.2)
 
 first_in : (files : Files) (request : Request) (stop : DescribeStop) (names : List Text) → AsksDescription request → OpensDescription request files (stopped stop) names →
     (all : List Text) × (promise_of request).Opens files all × AreFirstNames names all
-first_in files (ToList listing) stop names asks are = first_files files listing.file stop names are
-first_in files (ToCheck checking) stop names asks are =
-    let there = first_files files checking.file stop names are in
-    (there.0 ++ checking.log ∷ [], (there.0, there.1, refl), first_longer names there.0 (checking.log ∷ []) there.2)
+first_in files (ToList listing) stop names asks are = first_files heads.Definite files listing.file stop names are
+first_in files (ToCheck checking) stop names asks are = first_behind heads.Definite files checking.file checking.log stop names are
 first_in files (ToMake size budget) stop names asks are = (names, are, first_all names)
-first_in files (ToExplain explaining) stop names asks are = first_files files explaining.file stop names are
-first_in files (ToConvert converting) stop names asks are =
-    let there = first_files files converting.file stop names are in
-    (there.0 ++ converting.log ∷ [], (there.0, there.1, refl), first_longer names there.0 (converting.log ∷ []) there.2)
-first_in files (ToExport exporting) stop names asks are = first_files files exporting.file stop names are
+first_in files (ToExplain explaining) stop names asks are = first_files heads.Definite files explaining.file stop names are
+first_in files (ToConvert converting) stop names asks are = first_behind heads.Definite files converting.file converting.log stop names are
+first_in files (ToExport exporting) stop names asks are = first_files heads.Definite files exporting.file stop names are
 first_in files (ToModel modelling) stop names asks are = absurd asks
 first_in files (ToCheckModels checking) stop names asks are = absurd asks
-first_in files (ToBeSure surely) stop names asks are = first_files files surely.file stop names are
-first_in files (ToCheckSure checking) stop names asks are =
-    let there = first_files files checking.file stop names are in
-    (there.0 ++ checking.log ∷ [], (there.0, there.1, refl), first_longer names there.0 (checking.log ∷ []) there.2)
+first_in files (ToBeSure surely) stop names asks are = first_files heads.Definite files surely.file stop names are
+first_in files (ToCheckSure checking) stop names asks are = first_behind heads.Definite files checking.file checking.log stop names are
+first_in files (ToListGenerally generally) stop names asks are = first_files heads.Any files generally.file stop names are
+first_in files (ToCheckGeneral checking) stop names asks are = first_behind heads.Any files checking.file checking.log stop names are
 
 pub first_of : (o : Option Contents) (request : Request) (stop : DescribeStop) (names : List Text) → AsksDescription request → IfSome o (λ c. OpensDescription request c.files (stopped stop) names) →
     AreFirstOf o request names
@@ -350,47 +384,42 @@ first_of (Some c) request stop names asks opens =
 abbrev Outcome : Type 0
 Outcome = Result Described DescribeStop
 
-opens_file : (o : Option Contents) (request : Request) (file : Text) (r : Outcome) (names : List Text) → IsFileOf request file → IfSome o (λ c. OpensFor c.files file r names) →
+opens_file : (o : Option Contents) (request : Request) (file : Text) (r : Outcome) (names : List Text) → IsFileOf request file → IfSome o (λ c. OpensFor (heads_of request) c.files file r names) →
     IfSome o (λ c. OpensDescription request c.files r names)
 opens_file None request file r names is opens = tt
-opens_file (Some c) (ToList listing) file r names is opens = subst (λ (f : Text). OpensFor c.files f r names) is opens
-opens_file (Some c) (ToCheck checking) file r names is opens = subst (λ (f : Text). OpensFor c.files f r names) is opens
+opens_file (Some c) (ToList listing) file r names is opens = subst (λ (f : Text). OpensFor heads.Definite c.files f r names) is opens
+opens_file (Some c) (ToCheck checking) file r names is opens = subst (λ (f : Text). OpensFor heads.Definite c.files f r names) is opens
 opens_file (Some c) (ToMake size budget) file r names is opens = absurd is
-opens_file (Some c) (ToExplain explaining) file r names is opens = subst (λ (f : Text). OpensFor c.files f r names) is opens
-opens_file (Some c) (ToConvert converting) file r names is opens = subst (λ (f : Text). OpensFor c.files f r names) is opens
-opens_file (Some c) (ToExport exporting) file r names is opens = subst (λ (f : Text). OpensFor c.files f r names) is opens
+opens_file (Some c) (ToExplain explaining) file r names is opens = subst (λ (f : Text). OpensFor heads.Definite c.files f r names) is opens
+opens_file (Some c) (ToConvert converting) file r names is opens = subst (λ (f : Text). OpensFor heads.Definite c.files f r names) is opens
+opens_file (Some c) (ToExport exporting) file r names is opens = subst (λ (f : Text). OpensFor heads.Definite c.files f r names) is opens
 opens_file (Some c) (ToModel modelling) file r names is opens = absurd is
 opens_file (Some c) (ToCheckModels checking) file r names is opens = absurd is
-opens_file (Some c) (ToBeSure surely) file r names is opens = subst (λ (f : Text). OpensFor c.files f r names) is opens
-opens_file (Some c) (ToCheckSure checking) file r names is opens = subst (λ (f : Text). OpensFor c.files f r names) is opens
+opens_file (Some c) (ToBeSure surely) file r names is opens = subst (λ (f : Text). OpensFor heads.Definite c.files f r names) is opens
+opens_file (Some c) (ToCheckSure checking) file r names is opens = subst (λ (f : Text). OpensFor heads.Definite c.files f r names) is opens
+opens_file (Some c) (ToListGenerally generally) file r names is opens = subst (λ (f : Text). OpensFor heads.Any c.files f r names) is opens
+opens_file (Some c) (ToCheckGeneral checking) file r names is opens = subst (λ (f : Text). OpensFor heads.Any c.files f r names) is opens
 
-describes_file : (o : Option Contents) (request : Request) (file : Text) (r : Outcome) → IsFileOf request file → IfSome o (λ c. IfOk r (Describes c.files file)) →
-    IfSome o (λ c. IfOk r (Describes (source_of request c.files) (named_of request).file))
-describes_file None request file r is describes = tt
-describes_file (Some c) (ToList listing) file r is describes = subst (λ (f : Text). IfOk r (Describes c.files f)) is describes
-describes_file (Some c) (ToCheck checking) file r is describes = subst (λ (f : Text). IfOk r (Describes c.files f)) is describes
-describes_file (Some c) (ToMake size budget) file r is describes = absurd is
-describes_file (Some c) (ToExplain explaining) file r is describes = subst (λ (f : Text). IfOk r (Describes c.files f)) is describes
-describes_file (Some c) (ToConvert converting) file r is describes = subst (λ (f : Text). IfOk r (Describes c.files f)) is describes
-describes_file (Some c) (ToExport exporting) file r is describes = subst (λ (f : Text). IfOk r (Describes c.files f)) is describes
-describes_file (Some c) (ToModel modelling) file r is describes = absurd is
-describes_file (Some c) (ToCheckModels checking) file r is describes = absurd is
-describes_file (Some c) (ToBeSure surely) file r is describes = subst (λ (f : Text). IfOk r (Describes c.files f)) is describes
-describes_file (Some c) (ToCheckSure checking) file r is describes = subst (λ (f : Text). IfOk r (Describes c.files f)) is describes
+-- what is true of the file that is named is true of the one that the description is read from
+in_file : (P : Files → Text → Type 0) (files : Files) (request : Request) (file : Text) → IsFileOf request file → P files file → P (source_of request files) (named_of request).file
+in_file P files (ToList listing) file is so = subst (P files) is so
+in_file P files (ToCheck checking) file is so = subst (P files) is so
+in_file P files (ToMake size budget) file is so = absurd is
+in_file P files (ToExplain explaining) file is so = subst (P files) is so
+in_file P files (ToConvert converting) file is so = subst (P files) is so
+in_file P files (ToExport exporting) file is so = subst (P files) is so
+in_file P files (ToModel modelling) file is so = absurd is
+in_file P files (ToCheckModels checking) file is so = absurd is
+in_file P files (ToBeSure surely) file is so = subst (P files) is so
+in_file P files (ToCheckSure checking) file is so = subst (P files) is so
+in_file P files (ToListGenerally generally) file is so = subst (P files) is so
+in_file P files (ToCheckGeneral checking) file is so = subst (P files) is so
 
-stopped_file : (o : Option Contents) (request : Request) (file : Text) (r : Outcome) → IsFileOf request file → IfSome o (λ c. IfErr r (HasStopped c.files file)) →
-    IfSome o (λ c. IfErr r (HasStopped (source_of request c.files) (named_of request).file))
-stopped_file None request file r is describes = tt
-stopped_file (Some c) (ToList listing) file r is describes = subst (λ (f : Text). IfErr r (HasStopped c.files f)) is describes
-stopped_file (Some c) (ToCheck checking) file r is describes = subst (λ (f : Text). IfErr r (HasStopped c.files f)) is describes
-stopped_file (Some c) (ToMake size budget) file r is describes = absurd is
-stopped_file (Some c) (ToExplain explaining) file r is describes = subst (λ (f : Text). IfErr r (HasStopped c.files f)) is describes
-stopped_file (Some c) (ToConvert converting) file r is describes = subst (λ (f : Text). IfErr r (HasStopped c.files f)) is describes
-stopped_file (Some c) (ToExport exporting) file r is describes = subst (λ (f : Text). IfErr r (HasStopped c.files f)) is describes
-stopped_file (Some c) (ToModel modelling) file r is describes = absurd is
-stopped_file (Some c) (ToCheckModels checking) file r is describes = absurd is
-stopped_file (Some c) (ToBeSure surely) file r is describes = subst (λ (f : Text). IfErr r (HasStopped c.files f)) is describes
-stopped_file (Some c) (ToCheckSure checking) file r is describes = subst (λ (f : Text). IfErr r (HasStopped c.files f)) is describes
+at_file : (P : Heads → Files → Text → Type 0) (o : Option Contents) (which : Heads) (request : Request) (file : Text) → which ≡ heads_of request → IsFileOf request file →
+    IfSome o (λ c. P which c.files file) → IfSome o (λ c. P (heads_of request) (source_of request c.files) (named_of request).file)
+at_file P o which request file same is =
+    known o (λ c. P which c.files file) (λ c. P (heads_of request) (source_of request c.files) (named_of request).file)
+    (λ c so. subst (λ (h : Heads). P h (source_of request c.files) (named_of request).file) same (in_file (P which) c.files request file is so))
 
 pub reads_as : (request : Request) (a b : Outcome) (x y : Moment) → a ≡ b → Reads request a x y → Reads request b x y
 reads_as request a b x y same reads = subst (λ (r : Outcome). Reads request r x y) same reads
@@ -400,11 +429,12 @@ pub file_as : (a b : Asked) (file : Text) → a ≡ b → IsFileOf (plain_reques
 file_as a b file same is = subst (λ (asked : Asked). IsFileOf (plain_request asked) file) (sym same) is
 
 -- a description was read from the file that is named
-pub reads_file : (request : Request) (file : Text) (r : Outcome) (x y : Moment) → IsFileOf request file → IfSome x.told (λ c. IfOk r (Describes c.files file)) →
-    IfSome x.told (λ c. IfErr r (HasStopped c.files file)) → (IsErrOf r describe_stops.ReadFault → Rose x.reads y.reads) → ((rest : List ℕ) × (y.told ≡ option_map (with_rest rest) x.told)) →
-    y.begun ≡ x.begun → ((more : List Call) × (y.calls ≡ with_calls more x.calls) × (names_begun more ≡ []) × IfSome x.told (λ c. OpensFor c.files file r (names_opened more))) →
+pub reads_file : (which : Heads) (request : Request) (file : Text) (r : Outcome) (x y : Moment) → which ≡ heads_of request → IsFileOf request file →
+    IfSome x.told (λ c. IfOk r (Describes which c.files file)) → IfSome x.told (λ c. IfErr r (HasStopped which c.files file)) →
+    (IsErrOf r describe_stops.ReadFault → Rose x.reads y.reads) → ((rest : List ℕ) × (y.told ≡ option_map (with_rest rest) x.told)) → y.begun ≡ x.begun →
+    ((more : List Call) × (y.calls ≡ with_calls more x.calls) × (names_begun more ≡ []) × IfSome x.told (λ c. OpensFor which c.files file r (names_opened more))) →
     ((IsErrOf r describe_stops.ReadFault → ⊥) → IsCalm x y) → x.reads ≤ y.reads → x.writes ≤ y.writes → Reads request r x y
-reads_file request file r x y is described refused failed after begun calls calm reads writes = record {
+reads_file which request file r x y same is described refused failed after begun calls calm reads writes = record {
   rest = after.0;
   told = after.1;
   begun = begun;
@@ -412,9 +442,10 @@ reads_file request file r x y is described refused failed after begun calls calm
   writes = writes;
   opened = names_opened calls.0;
   called = called_reading x y calls.0 calls.1 calls.2;
-  opens = opens_file x.told request file r (names_opened calls.0) is calls.3;
-  describes = describes_file x.told request file r is described;
-  stopped = stopped_file x.told request file r is refused;
+  opens = opens_file x.told request file r (names_opened calls.0) is
+      (subst (λ (h : Heads). IfSome x.told (λ c. OpensFor h c.files file r (names_opened calls.0))) same calls.3);
+  describes = at_file (λ (h : Heads) (files : Files) (name : Text). IfOk r (Describes h files name)) x.told which request file same is described;
+  stopped = at_file (λ (h : Heads) (files : Files) (name : Text). IfErr r (HasStopped h files name)) x.told which request file same is refused;
   failed = failed;
   calm = calm;
 }
@@ -424,9 +455,10 @@ whatever None p = tt
 whatever (Some c) p = p
 
 -- a made description was read
-pub reads_made : (size budget : ℕ) (r : Outcome) (m : Moment) → IfOk r (Describes (made_files size) made_named.file) → IfErr r (HasStopped (made_files size) made_named.file) →
-    (IsErrOf r describe_stops.ReadFault → ⊥) → Reads (ToMake size budget) r m m
-reads_made size budget r m described refused failed =
+pub reads_made : (which : Heads) (files : Files) (size budget : ℕ) (r : Outcome) (m : Moment) → which ≡ heads.Definite → files ≡ made_files size →
+    IfOk r (Describes which files made_named.file) → IfErr r (HasStopped which files made_named.file) → (IsErrOf r describe_stops.ReadFault → ⊥) →
+    Reads (ToMake size budget) r m m
+reads_made which files size budget r m definite made described refused failed =
     let same = same_told m.told in
     record {
       rest = same.0;
@@ -437,8 +469,8 @@ reads_made size budget r m described refused failed =
       opened = [];
       called = called_none m;
       opens = whatever m.told refl;
-      describes = whatever m.told described;
-      stopped = whatever m.told refused;
+      describes = whatever m.told (as_made (λ h files. IfOk r (Describes h files made_named.file)) described);
+      stopped = whatever m.told (as_made (λ h files. IfErr r (HasStopped h files made_named.file)) refused);
       failed = λ is. absurd (failed is);
       calm = λ _. (refl, refl);
     }
@@ -446,6 +478,9 @@ reads_made size budget r m described refused failed =
     same_told : (o : Option Contents) → (rest : List ℕ) × (o ≡ option_map (with_rest rest) o)
     same_told None = ([], refl)
     same_told (Some c) = (c.rest, refl)
+
+    as_made : (P : Heads → Files → Type 0) → P which files → P heads.Definite (made_files size)
+    as_made P so = subst (P heads.Definite) made (subst (λ (h : Heads). P h files) definite so)
 
 pub no_rose : Rose 0 0 → ⊥
 no_rose (inl rose) = omega arith

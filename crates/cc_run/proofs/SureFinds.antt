@@ -43,11 +43,11 @@ going_on run phases.Ended more awaits = absurd (more refl)
 has_ended : (run : SureRun) (phase : Phase) → phase ≡ phases.Ended → Awaits run phase → IsSome run.ending
 has_ended run phase over awaits = subst (Awaits run) over awaits
 
-status_is : (r : Result (Option Status) Stop) (status : Option Status) → IfOk r (λ s. s ≡ status) → IfOk r (λ s. status ≡ s)
+pub status_is : (r : Result (Option Status) Stop) (status : Option Status) → IfOk r (λ s. s ≡ status) → IfOk r (λ s. status ≡ s)
 status_is (Ok s) status is = sym is
 status_is (Err stop) status is = tt
 
-always : {X : Type 0} {P : X → Type 0} (r : Result X Stop) → ((x : X) → P x) → IfOk r P
+pub always : {X : Type 0} {P : X → Type 0} (r : Result X Stop) → ((x : X) → P x) → IfOk r P
 always (Ok x) p = p x
 always (Err stop) p = tt
 
@@ -179,7 +179,7 @@ same_both a b c first second = record {
   budget = second.budget ∙ first.budget;
 }
 
-joined_both : (a b c : Given) → joined (joined a b) c ≡ joined a (joined b c)
+pub joined_both : (a b c : Given) → joined (joined a b) c ≡ joined a (joined b c)
 joined_both a b c = λ i. record { out = append_assoc a.out b.out c.out i; err = append_assoc a.err b.err c.err i; log = append_assoc a.log b.log c.log i }
 
 -- what is told of the next event, of whatever it is about

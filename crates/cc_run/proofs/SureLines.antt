@@ -1,5 +1,5 @@
 -- The lines of answers, and the lines of a section, one after another.
-use Rattle.std.proofs.Common.{◌≡◌, ◌∙◌, refl, sym, ap, subst, zero, suc, ℕ, ◌+◌, ◌<◌, ◌≤◌, List, [], ◌∷◌, ◌++◌, append_assoc, drop, flat_map, get_or, length, Result, Ok, Err, arith, add-one}
+use Rattle.std.proofs.Common.{◌≡◌, ◌∙◌, refl, sym, ap, subst, zero, suc, ℕ, ◌+◌, ◌<◌, ◌≤◌, List, [], ◌∷◌, ◌++◌, append-nil, append_assoc, drop, flat_map, get_or, length, Result, Ok, Err, arith, add-one}
 use Rattle.std.specs.List.{AllByRecursion}
 use Rattle.std.specs.Prelude.{IsErrAnd}
 use Rattle.std.proofs.lemmas.List.{drop_all}
@@ -11,6 +11,8 @@ use Rattle.cc_print.specs.Atoms.{atom_text}
 use Rattle.cc_run.specs.declared.status.Stop.{Stop}
 use Rattle.cc_run.specs.Modes.Surely.{answer_lines, answer_words}
 use Rattle.cc_run.specs.Stops.{Moment, Step, given_to}
+use Rattle.cc_run.specs.Wholes.{joined, nothing}
+use Rattle.cc_run.proofs.GivenSteps.{step_as, step_cut, step_then}
 use Rattle.cc_run.proofs.LineSteps.{LinesSoFar, lines_begin, lines_end, lines_more, lines_stop}
 use Rattle.cc_sure.specs.declared.answer.Answer.{Answer}
 
@@ -105,3 +107,18 @@ module _ (lines : List LogLine) where
   pub all_logged : {X : Type 0} (k : ℕ) (x y : Moment) (v : X) → length lines ≤ k → AreLogged k x y → Step (given_to outputs.Log (flat_map line_text lines)) x y (Ok v)
   all_logged k x y v end told =
       lines_end outputs.Log (flat_map line_text lines) (lines_left k) x y told v (ap (λ (l : List LogLine). length (flat_map line_text l)) (drop_all k lines end))
+
+-- ---- lines of the log, and behind them a text
+
+pub both : (out log : List ℕ) → joined (given_to outputs.Log log) (given_to outputs.Out out) ≡ record nothing { out = out; log = log }
+both out log = λ i. record { out = out; err = []; log = append-nil log i }
+
+pub log_cut : {X Y : Type 0} (out log : List ℕ) (x y : Moment) (r : Result X Stop) (e : Stop) (s : Result Y Stop) → Step (given_to outputs.Log log) x y r → r ≡ Err e →
+    IsErrAnd s (λ d. d ≡ e) → Step (record nothing { out = out; log = log }) x y s
+log_cut out log x y r e s step was err =
+    step_as _ _ x y s (both out log) (step_cut (given_to outputs.Log log) (given_to outputs.Out out) x y r e s step was err)
+
+pub log_then : {X Y : Type 0} (out log : List ℕ) (x y z : Moment) (r : Result X Stop) (v : X) (s : Result Y Stop) → Step (given_to outputs.Log log) x y r → r ≡ Ok v →
+    Step (given_to outputs.Out out) y z s → Step (record nothing { out = out; log = log }) x z s
+log_then out log x y z r v s step was next =
+    step_as _ _ x z s (both out log) (step_then (given_to outputs.Log log) (given_to outputs.Out out) x y z r v s step was next)

@@ -1,5 +1,6 @@
 -- A log of impossible atoms that is to be judged: what is said of it, and what is refused.
 use Rattle.std.proofs.Common.{◌≡◌, ◌∙◌, refl, sym, ap, subst, ℕ, ◌<◌, ◌≤◌, false, List, [], length, Option, Some, None, Result, Ok, Err, IfSome, IfOk, inl, inr}
+use Rattle.std.specs.Prelude.{codes}
 use Rattle.cc_check.specs.declared.silent.SilentVerdict.{SilentVerdict}
 use Rattle.cc_check.specs.declared.silent.SilentVerdict.TheVariants as verdicts
 use Rattle.cc_check.specs.Silent.{IsSilentFault, IsSilentVerdict, IsSilentVerdictWithin}
@@ -15,7 +16,7 @@ use Rattle.cc_ports.specs.Contents.{Contents}
 use Rattle.cc_run.specs.declared.status.Status.{Status}
 use Rattle.cc_run.specs.declared.status.Stop.{Stop}
 use Rattle.cc_run.specs.Answers.{Gives}
-use Rattle.cc_run.specs.Modes.CheckingSure.{ChecksSure, MayEndCheckingSure, NamesSureLog, RefusesCheckingSure, RefusesSureLog, named_to_check, sure_verdict_line, sure_verdict_status}
+use Rattle.cc_run.specs.Modes.CheckingSure.{ChecksSure, MayEndCheckingSure, NamesSureLog, RefusesCheckingSure, RefusesSureLog, named_to_check, silent_verdict_line, silent_verdict_status}
 use Rattle.cc_run.specs.Modes.Surely.{NamesUnclaimed, RefusesClaimed}
 use Rattle.cc_run.specs.Names.{MayEndWith}
 use Rattle.cc_run.specs.Stops.{Moment, Prints, Step}
@@ -89,14 +90,14 @@ refuses_section o words checking d q bytes refusal asked named few fault =
 
 -- ---- what is said
 
-verdict_may : (verdict : SilentVerdict) → MayEndCheckingSure (sure_verdict_status verdict)
+pub verdict_may : (verdict : SilentVerdict) → MayEndCheckingSure (silent_verdict_status verdict)
 verdict_may (verdicts.Accepted sections) = tt
 verdict_may (verdicts.Refused line reason) = tt
 
 pub prints_sure_verdict : (words : List Text) (checking : SureChecking) (d : Description) (q : Query) (bytes : List ℕ) (verdict : SilentVerdict) (x z : Moment) (r : Result Status Stop) →
     request_of words ≡ Some (ToCheckSure checking) → IfSome x.told (λ c. NamesSureLog c.files checking d q bytes) → length bytes ≤ limit_number limits.LogBytes →
     IsSilentVerdict (sure_subject d q) bytes verdict → IsSilentVerdictWithin (sure_subject d q) bytes verdict → RefutesAtoms d q bytes verdict →
-    Step (only_out (sure_verdict_line verdict)) x z r → IfOk r (λ status. status ≡ sure_verdict_status verdict) → Prints words false [] x z r
+    Step (only_out (silent_verdict_line (codes "impossible") verdict)) x z r → IfOk r (λ status. status ≡ silent_verdict_status verdict) → Prints words false [] x z r
 prints_sure_verdict words checking d q bytes verdict x z r asked named few judged within refutes step status =
     prints_whole words false [] whole x z r
     (known x.told (λ c. NamesSureLog c.files checking d q bytes) (λ c. Gives c.files (request_of words) whole)
@@ -104,7 +105,7 @@ prints_sure_verdict words checking d q bytes verdict x z r asked named few judge
     refl step (ended r status) (may r status) (asks_no_more words (ToCheckSure checking) x z r asked (λ _. refl) step.moves.called)
   where
     whole : Whole
-    whole = record { given = only_out (sure_verdict_line verdict); begun = false; ends = Some (sure_verdict_status verdict) }
+    whole = record { given = only_out (silent_verdict_line (codes "impossible") verdict); begun = false; ends = Some (silent_verdict_status verdict) }
 
     checks : (files : Files) → NamesSureLog files checking d q bytes → ChecksSure checking files whole
     checks files log = record {
@@ -122,10 +123,10 @@ prints_sure_verdict words checking d q bytes verdict x z r asked named few judge
       ends = refl;
     }
 
-    ended : (r : Result Status Stop) → IfOk r (λ status. status ≡ sure_verdict_status verdict) → IfOk r (λ status. Some (sure_verdict_status verdict) ≡ Some status)
+    ended : (r : Result Status Stop) → IfOk r (λ status. status ≡ silent_verdict_status verdict) → IfOk r (λ status. Some (silent_verdict_status verdict) ≡ Some status)
     ended (Ok status) is = ap Some (sym is)
     ended (Err stop) is = tt
 
-    may : (r : Result Status Stop) → IfOk r (λ status. status ≡ sure_verdict_status verdict) → IfOk r (MayEndWith (request_of words))
+    may : (r : Result Status Stop) → IfOk r (λ status. status ≡ silent_verdict_status verdict) → IfOk r (MayEndWith (request_of words))
     may (Ok status) is = subst (λ (o : Option Request). MayEndWith o status) (sym asked) (subst MayEndCheckingSure (sym is) (verdict_may verdict))
     may (Err stop) is = tt

@@ -1,5 +1,6 @@
 -- A run that tells what is certain and possible, from its steps.
 use Rattle.std.proofs.Common.{◌≡◌, ◌∙◌, refl, sym, ap, subst, ℕ, List, [], Option, Some, None, Result, Ok, Err, IfSome, IfOk, inl, inr, arith, ◌+◌, ◌≤◌}
+use Rattle.std.specs.Borrow.{Bor}
 use Rattle.std.specs.Prelude.{is_some}
 use Rattle.cc_defs.specs.declared.refusal.Refusal.{Refusal}
 use Rattle.cc_defs.specs.Description.{Description}
@@ -40,13 +41,13 @@ pub surely_is : (asked : SureAsked) (surely : Surely) → ToBeSure (surely_by as
 surely_is asked surely e = same_surely (surely_by asked) surely e
 
 -- a log that is begun as it is named
+pub log_begins : (o : Option (Bor Text)) → is_some o ≡ is_some (plain_text o)
+log_begins None = refl
+log_begins (Some text) = refl
+
 pub begins_surely : {X : Type 0} (asked : SureAsked) (surely : Surely) → surely_by asked ≡ surely → (names : List Text) (x y : Moment) (r : Result X Stop) →
     Begins (is_some asked.log) names x y r → Begins (is_some surely.log) names x y r
-begins_surely asked surely is names x y r begins = subst (λ b. Begins b names x y r) (named asked.log ∙ ap (λ (s : Surely). is_some s.log) is) begins
-  where
-    named : (o : Option _) → is_some o ≡ is_some (plain_text o)
-    named None = refl
-    named (Some text) = refl
+begins_surely asked surely is names x y r begins = subst (λ b. Begins b names x y r) (log_begins asked.log ∙ ap (λ (s : Surely). is_some s.log) is) begins
 
 -- what is refused of it
 pub refuses_surely : (o : Option Contents) (words : List Text) (surely : Surely) (refusal : Refusal) (file : Text) → request_of words ≡ Some (ToBeSure surely) →

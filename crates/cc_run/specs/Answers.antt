@@ -6,11 +6,13 @@ use Rattle.cc_ports.specs.Contents.{Contents, IsPrefix, Rose}
 use Rattle.cc_run.specs.declared.status.Status.{Status}
 use Rattle.cc_run.specs.declared.status.Status.TheVariants as statuses
 use Rattle.cc_run.specs.Modes.Checking.{checking_promise}
+use Rattle.cc_run.specs.Modes.CheckingGeneral.{general_checking_promise}
 use Rattle.cc_run.specs.Modes.CheckingModels.{models_checking_promise}
 use Rattle.cc_run.specs.Modes.CheckingSure.{sure_checking_promise}
 use Rattle.cc_run.specs.Modes.Converting.{converting_promise}
 use Rattle.cc_run.specs.Modes.Explaining.{explaining_promise}
 use Rattle.cc_run.specs.Modes.Exporting.{exporting_promise}
+use Rattle.cc_run.specs.Modes.Generally.{general_promise}
 use Rattle.cc_run.specs.Modes.Listing.{listing_promise}
 use Rattle.cc_run.specs.Modes.Making.{making_promise}
 use Rattle.cc_run.specs.Modes.Modelling.{modelling_promise}
@@ -19,7 +21,7 @@ use Rattle.cc_run.specs.Promises.{Promise}
 use Rattle.cc_run.specs.Refusing.{IsRefusedWith, memory_line, read_fault_line, write_fault_line}
 use Rattle.cc_run.specs.Tasks.{refusal_without_place, request_of}
 use Rattle.cc_run.specs.Wholes.{IsFrontOf, Left, Whole, left_by, nothing}
-use Rattle.cc_words.specs.Requests.{Request, ToList, ToCheck, ToMake, ToExplain, ToConvert, ToExport, ToModel, ToCheckModels, ToBeSure, ToCheckSure}
+use Rattle.cc_words.specs.Requests.{Request, ToList, ToCheck, ToMake, ToExplain, ToConvert, ToExport, ToModel, ToCheckModels, ToBeSure, ToCheckSure, ToListGenerally, ToCheckGeneral}
 use Rattle.cc_words.specs.Words.{Text}
 
 -- ---- what is promised, by what the words ask for
@@ -35,6 +37,8 @@ promise_of (ToModel modelling) = modelling_promise modelling
 promise_of (ToCheckModels checking) = models_checking_promise checking
 promise_of (ToBeSure surely) = sure_promise surely
 promise_of (ToCheckSure checking) = sure_checking_promise checking
+promise_of (ToListGenerally generally) = general_promise generally
+promise_of (ToCheckGeneral checking) = general_checking_promise checking
 
 -- words that ask for nothing are refused
 abbrev pub RefusesWords : Refusal → Text → Type 0

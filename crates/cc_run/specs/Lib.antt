@@ -5,6 +5,7 @@ pub mod Codes
 pub mod Converted
 pub mod Explained
 pub mod Exported
+pub mod Generals
 pub mod Laws
 pub mod ModelsTold
 pub mod Modes

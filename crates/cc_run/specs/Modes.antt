@@ -1,9 +1,11 @@
 pub mod Checking
+pub mod CheckingGeneral
 pub mod CheckingModels
 pub mod CheckingSure
 pub mod Converting
 pub mod Explaining
 pub mod Exporting
+pub mod Generally
 pub mod Listing
 pub mod Making
 pub mod Modelling

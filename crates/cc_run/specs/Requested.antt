@@ -3,14 +3,18 @@ use Rattle.std.specs.Prelude.{◌≡◌, ℕ, ◌≤◌, List, [], ◌∷◌, Re
 use Rattle.cc_describe.specs.declared.description.Described.{Described}
 use Rattle.cc_describe.specs.declared.description.DescribeStop.{DescribeStop}
 use Rattle.cc_describe.specs.declared.description.DescribeStop.TheVariants as stops
+use Rattle.cc_describe.specs.declared.heads.Heads.{Heads}
+use Rattle.cc_describe.specs.declared.heads.Heads.TheVariants as heads
 use Rattle.cc_describe.specs.Describing.{Describes, HasStopped, OpensFor}
 use Rattle.cc_describe.specs.Places.{Files}
 use Rattle.cc_ports.specs.Contents.{Rose, with_rest}
+use Rattle.cc_run.specs.Modes.CheckingGeneral.{named_for_general}
 use Rattle.cc_run.specs.Modes.CheckingSure.{named_to_check}
+use Rattle.cc_run.specs.Modes.Generally.{named_generally}
 use Rattle.cc_run.specs.Modes.Surely.{named_surely}
 use Rattle.cc_run.specs.Stops.{Called, IsCalm, Moment}
 use Rattle.cc_run.specs.Tasks.{Named, checked_by, made_files, made_named, named_alone, named_by, named_from, named_in, named_to}
-use Rattle.cc_words.specs.Requests.{Request, ToList, ToCheck, ToMake, ToExplain, ToConvert, ToExport, ToModel, ToCheckModels, ToBeSure, ToCheckSure}
+use Rattle.cc_words.specs.Requests.{Request, ToList, ToCheck, ToMake, ToExplain, ToConvert, ToExport, ToModel, ToCheckModels, ToBeSure, ToCheckSure, ToListGenerally, ToCheckGeneral}
 use Rattle.cc_words.specs.Words.{Text}
 
 -- the description, the query and the key that it names
@@ -25,6 +29,14 @@ named_of (ToModel modelling) = named_alone modelling.file
 named_of (ToCheckModels checking) = named_alone checking.file
 named_of (ToBeSure surely) = named_surely surely
 named_of (ToCheckSure checking) = named_to_check checking
+named_of (ToListGenerally generally) = named_generally generally
+named_of (ToCheckGeneral checking) = named_for_general checking
+
+-- which heads its laws may have
+abbrev pub heads_of : Request → Heads
+heads_of (ToListGenerally generally) = heads.Any
+heads_of (ToCheckGeneral checking) = heads.Any
+heads_of request = heads.Definite
 
 -- the files that the description is read from
 abbrev pub source_of : Request → Files → Files
@@ -38,6 +50,8 @@ source_of (ToModel modelling) files = files
 source_of (ToCheckModels checking) files = files
 source_of (ToBeSure surely) files = files
 source_of (ToCheckSure checking) files = files
+source_of (ToListGenerally generally) files = files
+source_of (ToCheckGeneral checking) files = files
 
 -- the file of the description, where one is named
 abbrev pub IsFileOf : Request → Text → Type 0
@@ -51,6 +65,8 @@ IsFileOf (ToModel modelling) file = ⊥
 IsFileOf (ToCheckModels checking) file = ⊥
 IsFileOf (ToBeSure surely) file = file ≡ surely.file
 IsFileOf (ToCheckSure checking) file = file ≡ checking.file
+IsFileOf (ToListGenerally generally) file = file ≡ generally.file
+IsFileOf (ToCheckGeneral checking) file = file ≡ checking.file
 
 -- a description is read for it
 abbrev pub AsksDescription : Request → Type 0
@@ -64,9 +80,11 @@ AsksDescription (ToModel modelling) = ⊥
 AsksDescription (ToCheckModels checking) = ⊥
 AsksDescription (ToBeSure surely) = Unit {0}
 AsksDescription (ToCheckSure checking) = Unit {0}
+AsksDescription (ToListGenerally generally) = Unit {0}
+AsksDescription (ToCheckGeneral checking) = Unit {0}
 
 -- It asks a query of the description, and is refused just as its steps and its key are. An export is refused for its horizon besides,
--- and what asks for certain atoms, or judges a log of impossible ones, for a claim.
+-- and what asks for certain atoms or by the definition of a model, or judges a log of these, for a claim.
 abbrev pub AsksQuery : Request → Type 0
 AsksQuery (ToList listing) = Unit {0}
 AsksQuery (ToCheck checking) = Unit {0}
@@ -78,6 +96,8 @@ AsksQuery (ToModel modelling) = ⊥
 AsksQuery (ToCheckModels checking) = ⊥
 AsksQuery (ToBeSure surely) = ⊥
 AsksQuery (ToCheckSure checking) = ⊥
+AsksQuery (ToListGenerally generally) = ⊥
+AsksQuery (ToCheckGeneral checking) = ⊥
 
 -- its numbers are within their bounds
 abbrev pub IsWithin : Request → Type 0
@@ -91,6 +111,8 @@ IsWithin (ToModel modelling) = IfSome modelling.count (λ count. 1 ≤ count) ×
 IsWithin (ToCheckModels checking) = Unit {0}
 IsWithin (ToBeSure surely) = surely.budget ≤ 2000000
 IsWithin (ToCheckSure checking) = Unit {0}
+IsWithin (ToListGenerally generally) = IfSome generally.count (λ count. 1 ≤ count) × (generally.budget ≤ 2000000)
+IsWithin (ToCheckGeneral checking) = Unit {0}
 
 -- the files that it opens behind those of the description
 abbrev pub opens_behind : Request → List Text
@@ -104,19 +126,23 @@ opens_behind (ToModel modelling) = []
 opens_behind (ToCheckModels checking) = checking.log ∷ []
 opens_behind (ToBeSure surely) = []
 opens_behind (ToCheckSure checking) = checking.log ∷ []
+opens_behind (ToListGenerally generally) = []
+opens_behind (ToCheckGeneral checking) = checking.log ∷ []
 
 -- these files are opened to read the description
 abbrev pub OpensDescription : Request → Files → Result Described DescribeStop → List Text → Type 0
-OpensDescription (ToList listing) files described names = OpensFor files listing.file described names
-OpensDescription (ToCheck checking) files described names = OpensFor files checking.file described names
+OpensDescription (ToList listing) files described names = OpensFor heads.Definite files listing.file described names
+OpensDescription (ToCheck checking) files described names = OpensFor heads.Definite files checking.file described names
 OpensDescription (ToMake size budget) files described names = names ≡ []
-OpensDescription (ToExplain explaining) files described names = OpensFor files explaining.file described names
-OpensDescription (ToConvert converting) files described names = OpensFor files converting.file described names
-OpensDescription (ToExport exporting) files described names = OpensFor files exporting.file described names
+OpensDescription (ToExplain explaining) files described names = OpensFor heads.Definite files explaining.file described names
+OpensDescription (ToConvert converting) files described names = OpensFor heads.Definite files converting.file described names
+OpensDescription (ToExport exporting) files described names = OpensFor heads.Definite files exporting.file described names
 OpensDescription (ToModel modelling) files described names = names ≡ []
 OpensDescription (ToCheckModels checking) files described names = names ≡ []
-OpensDescription (ToBeSure surely) files described names = OpensFor files surely.file described names
-OpensDescription (ToCheckSure checking) files described names = OpensFor files checking.file described names
+OpensDescription (ToBeSure surely) files described names = OpensFor heads.Definite files surely.file described names
+OpensDescription (ToCheckSure checking) files described names = OpensFor heads.Definite files checking.file described names
+OpensDescription (ToListGenerally generally) files described names = OpensFor heads.Any files generally.file described names
+OpensDescription (ToCheckGeneral checking) files described names = OpensFor heads.Any files checking.file described names
 
 -- the description of a request was read, or it was not
 pub record Reads (request : Request) (described : Result Described DescribeStop) (old new : Moment) : Type 0 where
@@ -128,7 +154,7 @@ pub record Reads (request : Request) (described : Result Described DescribeStop)
   pub opened : List Text
   pub called : Called opened [] old new
   pub opens : IfSome old.told (λ before. OpensDescription request before.files described opened)
-  pub describes : IfSome old.told (λ before. IfOk described (Describes (source_of request before.files) (named_of request).file))
-  pub stopped : IfSome old.told (λ before. IfErr described (HasStopped (source_of request before.files) (named_of request).file))
+  pub describes : IfSome old.told (λ before. IfOk described (Describes (heads_of request) (source_of request before.files) (named_of request).file))
+  pub stopped : IfSome old.told (λ before. IfErr described (HasStopped (heads_of request) (source_of request before.files) (named_of request).file))
   pub failed : IsErrOf described stops.ReadFault → Rose old.reads new.reads
   pub calm : (IsErrOf described stops.ReadFault → ⊥) → IsCalm old new

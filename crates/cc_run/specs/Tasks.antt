@@ -10,6 +10,8 @@ use Rattle.cc_defs.specs.Grammar.{same_text}
 use Rattle.cc_defs.specs.Resolved.{Query}
 use Rattle.cc_defs.specs.Rows.{IsRow}
 use Rattle.cc_defs.specs.Runs.{Ask, range_of}
+use Rattle.cc_describe.specs.declared.heads.Heads.{Heads}
+use Rattle.cc_describe.specs.declared.heads.Heads.TheVariants as heads
 use Rattle.cc_describe.specs.Describing.{laws_behind, queries_behind}
 use Rattle.cc_describe.specs.FirstRefusal.{declared_in, file_named, first_refusal, opened_until}
 use Rattle.cc_describe.specs.Places.{Files, Place, opened_in, AreAllPlaces, AreThere}
@@ -64,7 +66,7 @@ made_named = record { file = codes "made"; query = None; after = None }
 
 -- the description that these places make, and its queries
 abbrev pub description_in : List Place → Description
-description_in places = description_of (declared_in places) (laws_behind [] places)
+description_in places = description_of (declared_in places) (laws_behind heads.Definite [] places)
 
 abbrev pub queries_in : List Place → List Query
 queries_in places = queries_behind [] places
@@ -109,19 +111,25 @@ query_refusal d (Some q) = option_or (steps_refusal d.universe.symbols q) (groun
 abbrev pub asked_refusal : Description → Option Query → Option Refusal
 asked_refusal d q = option_or (laws_refusal d.universe d.laws) (query_refusal d q)
 
--- the places of the description, which have no refusal, and whose files are there
-pub record AreRead (files : Files) (file : Text) (places : List Place) : Type 0 where
+-- the places of the description, which have no refusal where laws may have such heads, and whose files are there
+pub record AreReadFor (which : Heads) (files : Files) (file : Text) (places : List Place) : Type 0 where
   pub all : AreAllPlaces files file places
-  pub unrefused : first_refusal places ≡ None
+  pub unrefused : first_refusal which places ≡ None
   pub there : AreThere files (opened_in places)
 
+abbrev pub AreRead : Files → (file : Text) → List Place → Type 0
+AreRead files file places = AreReadFor heads.Definite files file places
+
 -- The refusal of what is named, and the name of the file that it speaks of: the first of the description,
-pub record RefusesDescription (files : Files) (named : Named) (refusal : Refusal) (file : Text) : Type 0 where
+pub record RefusesDescriptionFor (which : Heads) (files : Files) (named : Named) (refusal : Refusal) (file : Text) : Type 0 where
   pub places : List Place
   pub all : AreAllPlaces files named.file places
-  pub refused : first_refusal places ≡ Some refusal
-  pub there : AreThere files (opened_until [] places)
-  pub name : file ≡ file_named (opened_until [] places) refusal
+  pub refused : first_refusal which places ≡ Some refusal
+  pub there : AreThere files (opened_until which [] places)
+  pub name : file ≡ file_named (opened_until which [] places) refusal
+
+abbrev pub RefusesDescription : Files → Named → Refusal → Text → Type 0
+RefusesDescription files named refusal file = RefusesDescriptionFor heads.Definite files named refusal file
 
 -- then that of its laws and the query,
 pub record RefusesQuery (files : Files) (named : Named) (refusal : Refusal) (file : Text) : Type 0 where

@@ -92,7 +92,7 @@ fn query_found<'q>(described: &'q Described, label: Option<&str>) -> Result<&'q 
 }
 
 /// The query that is named, ground. Refuses what `query_found` does, and then too many nodes (14).
-fn query_asked<'a>(
+pub(crate) fn query_asked<'a>(
     alloc: Global,
     described: &Described,
     label: Option<&str>,

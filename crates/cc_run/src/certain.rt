@@ -169,7 +169,7 @@ fn atom_line(alloc: Global, horizon: u32, position: u64, value: u32) -> Result<S
 }
 
 /// The heading of the search for a history of a horizon.
-fn horizon_line(alloc: Global, horizon: u32) -> Result<String, OutOfMemory>
+pub(crate) fn horizon_line(alloc: Global, horizon: u32) -> Result<String, OutOfMemory>
     ensures { IfOk result (λ line. string_bytes line ≡ line_text (lines.Section false horizon)) }
 {
     let line = format!(in alloc; "h {horizon}\n")?;
@@ -206,7 +206,11 @@ fn tell_heading<D: Desk>(
 }
 
 /// Gives lines to Log.
-fn tell_lines<D: Desk>(alloc: Global, desk: &mut D, lines: &[LogLine]) -> Result<(), Stop>
+pub(crate) fn tell_lines<D: Desk>(
+    alloc: Global,
+    desk: &mut D,
+    lines: &[LogLine],
+) -> Result<(), Stop>
     requires formed { AllByRecursion IsFormed lines.now }
     ensures { Step (given_to outputs.Log (flat_map line_text lines.now))
         (moment D.told D.begun D.read_faults D.write_faults D.calls desk.old)

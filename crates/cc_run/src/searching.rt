@@ -47,7 +47,7 @@ pub(crate) fn begin_log<D: Desk>(desk: &mut D, name: Option<&str>) -> Result<(),
 }
 
 /// The status of a run that ends so.
-fn status_of(ending: Ending) -> Status
+pub(crate) fn status_of(ending: Ending) -> Status
     ensures { result ≡ searches.status_of ending }
 {
     match ending {

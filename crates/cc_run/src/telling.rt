@@ -168,7 +168,7 @@ pub(crate) fn tell_line_in<D: Desk>(
 }
 
 /// Gives the line of a history or a counterexample to Out, and behind it the history and its key.
-fn tell_history<D: Desk>(
+pub(crate) fn tell_history<D: Desk>(
     alloc: Global,
     desk: &mut D,
     described: &Described,

@@ -4,7 +4,8 @@ ghost use Rattle.cc_arena.specs.GroundViews.{plain_ground_query};
 ghost use Rattle.cc_asked.specs.Descriptions.{IsDescriptionOf};
 ghost use Rattle.cc_defs.specs.Description.{Description};
 ghost use Rattle.cc_defs.specs.Resolved.{Query};
-ghost use Rattle.cc_describe.specs.Describing.{Describes, SaysAll, AsksFormulas, HasForms};
+ghost use Rattle.cc_describe.specs.declared.heads.Heads.TheVariants as heads;
+ghost use Rattle.cc_describe.specs.Describing.{Describes, SaysAll, AsksFormulas, HasForms, HasWideForms};
 ghost use Rattle.cc_ports.specs.Calls.{Call, names_begun, names_opened, with_calls};
 ghost use Rattle.cc_ports.specs.Contents.{Rose};
 ghost use Rattle.cc_run.specs.Answers.{IsFresh, Answered, counts};
@@ -12,6 +13,7 @@ ghost use Rattle.cc_run.specs.Asking.{AreOf, AreSearchable};
 ghost use Rattle.cc_run.specs.Names.{BeginsAsked, MayEndWith, OpensAsked, names_log};
 ghost use Rattle.cc_run.specs.Promises.{IsEndStatus};
 ghost use Rattle.cc_run.specs.Requested.{AsksDescription, AsksQuery, IsFileOf, IsWithin, Reads, named_of, opens_behind, source_of};
+ghost use Rattle.cc_run.specs.Requested as requested;
 ghost use Rattle.cc_run.specs.Stops.{Moment, Prints, PrintsAsked, moment};
 ghost use Rattle.cc_run.specs.Tasks.{IsTask, request_of};
 ghost use Rattle.cc_sorts.specs.Tables.{IsSignatureFor};
@@ -21,7 +23,8 @@ ghost use Rattle.cc_words.specs.Words.{Text};
 
 use crate::asking::{Prepared, prepare};
 use crate::modes::{
-    check, convert, export, list, make, models, models_check, sure, sure_check, why,
+    check, convert, export, general, general_check, list, make, models, models_check, sure,
+    sure_check, why,
 };
 use crate::refusing::{file_named, refuse, tell_stop};
 use crate::status::{Status, Stop};
@@ -29,7 +32,7 @@ use bumpalo::Bump;
 use cc_arena::Terms;
 use cc_defs::{Fault, Refusal};
 use cc_describe::laws::has_places;
-use cc_describe::{DescribeStop, Described, describe};
+use cc_describe::{DescribeStop, Described, Heads, describe};
 use cc_make::{TextDesk, make_text};
 use cc_ports::{Desk, Files, StillDesk};
 use cc_words::{Asked, read};
@@ -43,7 +46,8 @@ const MADE: &str = "made";
 /// the words name too, or writes that in its other version, or prints the clause list of one of its horizons; or it makes a description
 /// of a size, searches for all its histories, and sums up the search; or it tells why each value of a history holds, whose key the
 /// words name; or it lists the models of a CNF, or judges a log of them; or it tells of each atom of the first horizon that has a history
-/// whether all of them have it, some or none, or judges a log of what is impossible.
+/// whether all of them have it, some or none, or judges a log of what is impossible; or it lists histories by the definition
+/// of a model itself, where heads may be of any form, or judges a log of that.
 ///
 /// `words` are the program's words without its name. Each line of an output is given by one `give_all`. The lines of the log
 /// are given to Log whether or not the words name a file for it. After a fault of the desk or want of memory one fixed line is
@@ -117,6 +121,27 @@ fn answer_asked<D: Desk>(alloc: Global, desk: &mut D, asked: &Asked<'_>) -> Resu
         Asked::CheckModels(asked) => models_check::check(alloc, desk, asked),
         Asked::Sure(sure) => answer_file(alloc, desk, asked, sure.file),
         Asked::CheckSure(check) => answer_file(alloc, desk, asked, check.file),
+        Asked::General(general) => answer_file(alloc, desk, asked, general.file),
+        Asked::CheckGeneral(check) => answer_file(alloc, desk, asked, check.file),
+    }
+}
+
+/// Which heads the laws of a description may have for what is asked.
+fn heads_of(asked: &Asked<'_>) -> Heads
+    ensures { result ≡ requested.heads_of (plain_request asked.now) }
+{
+    match asked {
+        Asked::General(_) | Asked::CheckGeneral(_) => Heads::Any,
+        Asked::List(_)
+        | Asked::Check(_)
+        | Asked::Make { .. }
+        | Asked::Explain(_)
+        | Asked::Convert(_)
+        | Asked::Export(_)
+        | Asked::Models(_)
+        | Asked::CheckModels(_)
+        | Asked::Sure(_)
+        | Asked::CheckSure(_) => Heads::Definite,
     }
 }
 
@@ -135,7 +160,7 @@ fn answer_file<D: Desk>(
         (moment D.told D.begun D.read_faults D.write_faults D.calls desk.old)
         (moment D.told D.begun D.read_faults D.write_faults D.calls desk.new) result }
 {
-    let described = describe(alloc, desk, file);
+    let described = describe(alloc, desk, file, heads_of(asked));
     answer_described(alloc, desk, asked, described)
 }
 
@@ -157,7 +182,7 @@ fn answer_made<D: Desk>(
 {
     let text = make_text(alloc, size)?;
     let mut source = TextDesk::of(text.text().as_bytes());
-    let described = describe(alloc, &mut source, MADE);
+    let described = describe(alloc, &mut source, MADE, heads_of(asked));
     answer_described(alloc, desk, asked, described)
 }
 
@@ -170,8 +195,9 @@ fn answer_described<D: Desk>(
 ) -> Result<Status, Stop>
     requires within { IsWithin (plain_request asked.now) }
     requires description { AsksDescription (plain_request asked.now) }
-    requires says { IfOk described SaysAll }
+    requires says { IfOk described (SaysAll (requested.heads_of (plain_request asked.now))) }
     requires forms { IfOk described HasForms }
+    requires wide_forms { IfOk described HasWideForms }
     requires formulas { IfOk described AsksFormulas }
     ensures { (words : List Text) (request : Request) (earlier : Moment) →
         request_of words ≡ Some request → plain_request asked.now ≡ request → Reads request
@@ -200,12 +226,14 @@ fn answer_read<D: Desk>(
 ) -> Result<Status, Stop>
     requires within { IsWithin (plain_request asked.now) }
     requires description { AsksDescription (plain_request asked.now) }
-    requires says { SaysAll described.now }
+    requires says { SaysAll (requested.heads_of (plain_request asked.now)) described.now }
     requires forms { HasForms described.now }
+    requires wide_forms { HasWideForms described.now }
     requires formulas { AsksFormulas described.now }
     ensures { (words : List Text) (request : Request) → request_of words ≡ Some request →
         plain_request asked.now ≡ request → IfSome (D.told desk.old) (λ before.
-        Describes (source_of request before.files) (named_of request).file described.now) →
+        Describes (requested.heads_of request) (source_of request before.files)
+        (named_of request).file described.now) →
         Prints words (names_log (Some request))
         (opens_behind request) (moment D.told D.begun D.read_faults D.write_faults D.calls desk.old)
         (moment D.told D.begun D.read_faults D.write_faults D.calls desk.new) result }
@@ -219,6 +247,8 @@ fn answer_read<D: Desk>(
         Asked::Export(export) => export::export(alloc, desk, described, export),
         Asked::Sure(sure) => sure::sure(alloc, desk, described, sure),
         Asked::CheckSure(check) => sure_check::check(alloc, desk, described, check),
+        Asked::General(asked) => general::general(alloc, desk, described, asked),
+        Asked::CheckGeneral(check) => general_check::check(alloc, desk, described, check),
         Asked::Models(_) => unreachable!(),
         Asked::CheckModels(_) => unreachable!(),
     }
@@ -233,12 +263,13 @@ fn answer_query<D: Desk>(
 ) -> Result<Status, Stop>
     requires within { IsWithin (plain_request asked.now) }
     requires query { AsksQuery (plain_request asked.now) }
-    requires says { SaysAll described.now }
+    requires says { SaysAll heads.Definite described.now }
     requires forms { HasForms described.now }
     requires formulas { AsksFormulas described.now }
     ensures { (words : List Text) (request : Request) → request_of words ≡ Some request →
         plain_request asked.now ≡ request → IfSome (D.told desk.old) (λ before.
-        Describes (source_of request before.files) (named_of request).file described.now) →
+        Describes heads.Definite (source_of request before.files) (named_of request).file
+        described.now) →
         Prints words (names_log (Some request))
         (opens_behind request) (moment D.told D.begun D.read_faults D.write_faults D.calls desk.old)
         (moment D.told D.begun D.read_faults D.write_faults D.calls desk.new) result }
@@ -270,6 +301,8 @@ fn query_of<'a>(asked: &Asked<'a>) -> Option<&'a str>
         Asked::CheckModels(_) => None,
         Asked::Sure(sure) => sure.query,
         Asked::CheckSure(check) => check.query,
+        Asked::General(general) => general.query,
+        Asked::CheckGeneral(check) => check.query,
     }
 }
 
@@ -288,6 +321,8 @@ fn key_of<'a>(asked: &Asked<'a>) -> Option<&'a str>
         Asked::CheckModels(_) => None,
         Asked::Sure(_) => None,
         Asked::CheckSure(_) => None,
+        Asked::General(_) => None,
+        Asked::CheckGeneral(_) => None,
     }
 }
 
@@ -332,6 +367,8 @@ fn answer_prepared<D: Desk>(
         Asked::CheckModels(_) => unreachable!(),
         Asked::Sure(_) => unreachable!(),
         Asked::CheckSure(_) => unreachable!(),
+        Asked::General(_) => unreachable!(),
+        Asked::CheckGeneral(_) => unreachable!(),
     }
 }
 

@@ -28,7 +28,7 @@ fn claim_of(query: &Query) -> Option<Refusal>
 }
 
 /// The refusal of the query that is named, where it has a claim.
-fn claim_named(queries: &[Query], label: Option<&str>) -> Option<Refusal>
+pub(crate) fn claim_named(queries: &[Query], label: Option<&str>) -> Option<Refusal>
     ensures { result
         ≡ claimed_named (tasks.query_named (plain_text label.entry) (map plain_query queries.now)) }
 {

@@ -74,6 +74,20 @@ pub record SureChecking : Type 0 where
   pub query : Option Text
   pub log : Text
 
+-- histories by the definition of a model itself, where heads may be of any form
+pub record Generally : Type 0 where
+  pub file : Text
+  pub query : Option Text
+  pub count : Option ℕ
+  pub budget : ℕ
+  pub log : Option Text
+
+-- whether a log of rivals is right
+pub record GeneralChecking : Type 0 where
+  pub file : Text
+  pub query : Option Text
+  pub log : Text
+
 pub data Request : Type 0 where
   ToList : Listing → Request
   ToCheck : Checking → Request
@@ -86,6 +100,8 @@ pub data Request : Type 0 where
   ToCheckModels : ModelChecking → Request
   ToBeSure : Surely → Request
   ToCheckSure : SureChecking → Request
+  ToListGenerally : Generally → Request
+  ToCheckGeneral : GeneralChecking → Request
 
 -- ---- values
 
@@ -100,7 +116,9 @@ mode_named text =
     else (if same_text text (codes "models") then Some modes.Models
     else (if same_text text (codes "modelscheck") then Some modes.CheckModels
     else (if same_text text (codes "sure") then Some modes.Sure
-    else (if same_text text (codes "surecheck") then Some modes.CheckSure else None)))))))))
+    else (if same_text text (codes "surecheck") then Some modes.CheckSure
+    else (if same_text text (codes "general") then Some modes.General
+    else (if same_text text (codes "generalcheck") then Some modes.CheckGeneral else None)))))))))))
 
 -- the number from 1 to `most` that one to seven decimal digits spell
 abbrev pub number_up_to : ℕ → Text → Option ℕ
@@ -137,6 +155,8 @@ needs modes.Models = items.File ∷ []
 needs modes.CheckModels = items.File ∷ items.Log ∷ []
 needs modes.Sure = items.File ∷ []
 needs modes.CheckSure = items.File ∷ items.Log ∷ []
+needs modes.General = items.File ∷ []
+needs modes.CheckGeneral = items.File ∷ items.Log ∷ []
 
 -- and what it bars
 abbrev pub bars : Mode → List Item
@@ -155,6 +175,9 @@ bars modes.CheckModels =
     items.Query ∷ items.Count ∷ items.Budget ∷ items.After ∷ items.Form ∷ items.To ∷ items.Key ∷ items.Horizon ∷ items.Size ∷ []
 bars modes.Sure = items.Count ∷ items.After ∷ items.Form ∷ items.To ∷ items.Key ∷ items.Horizon ∷ items.Size ∷ []
 bars modes.CheckSure =
+    items.Count ∷ items.Budget ∷ items.After ∷ items.Form ∷ items.To ∷ items.Key ∷ items.Horizon ∷ items.Size ∷ []
+bars modes.General = items.After ∷ items.Form ∷ items.To ∷ items.Key ∷ items.Horizon ∷ items.Size ∷ []
+bars modes.CheckGeneral =
     items.Count ∷ items.Budget ∷ items.After ∷ items.Form ∷ items.To ∷ items.Key ∷ items.Horizon ∷ items.Size ∷ []
 
 abbrev pub has : Given → Item → Bool
@@ -249,6 +272,14 @@ abbrev pub to_check_sure : Given → Option Request
 to_check_sure given =
     provided given.file (λ file. provided given.log (λ log. Some (ToCheckSure (record { file = file; query = given.query; log = log }))))
 
+abbrev pub to_list_generally : Given → Option Request
+to_list_generally given = provided given.file (λ file. provided (count_of given) (λ count. provided (budget_of given) (λ budget.
+    Some (ToListGenerally (record { file = file; query = given.query; count = count; budget = budget; log = given.log })))))
+
+abbrev pub to_check_general : Given → Option Request
+to_check_general given =
+    provided given.file (λ file. provided given.log (λ log. Some (ToCheckGeneral (record { file = file; query = given.query; log = log }))))
+
 abbrev pub valued : Mode → Given → Option Request
 valued modes.List given = to_list given
 valued modes.Check given = to_check given
@@ -260,6 +291,8 @@ valued modes.Models given = to_model given
 valued modes.CheckModels given = to_check_models given
 valued modes.Sure given = to_be_sure given
 valued modes.CheckSure given = to_check_sure given
+valued modes.General given = to_list_generally given
+valued modes.CheckGeneral given = to_check_general given
 
 -- what is asked for in a mode, where the words suit it
 abbrev pub asked_in : Mode → Given → Option Request

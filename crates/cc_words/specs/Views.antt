@@ -4,7 +4,7 @@ use Rattle.std.specs.Borrow.{Bor}
 use Rattle.cc_words.specs.declared.asked.Asked.{Asked}
 use Rattle.cc_words.specs.declared.asked.Asked.TheVariants as asked
 use Rattle.cc_words.specs.declared.given.Given.{Given as GivenWords}
-use Rattle.cc_words.specs.Requests.{Request, ToList, ToCheck, ToMake, ToExplain, ToConvert, ToExport, ToModel, ToCheckModels, ToBeSure, ToCheckSure}
+use Rattle.cc_words.specs.Requests.{Request, ToList, ToCheck, ToMake, ToExplain, ToConvert, ToExport, ToModel, ToCheckModels, ToBeSure, ToCheckSure, ToListGenerally, ToCheckGeneral}
 use Rattle.cc_words.specs.Words.{Given, Text}
 
 abbrev pub plain_text : Option (Bor Text) → Option Text
@@ -67,6 +67,15 @@ plain_request (asked.Sure sure) = ToBeSure (record {
   log = plain_text sure.log;
 })
 plain_request (asked.CheckSure check) = ToCheckSure (record { file = check.file.now; query = plain_text check.query; log = check.log.now })
+plain_request (asked.General general) = ToListGenerally (record {
+  file = general.file.now;
+  query = plain_text general.query;
+  count = general.count;
+  budget = general.budget;
+  log = plain_text general.log;
+})
+plain_request (asked.CheckGeneral check) =
+    ToCheckGeneral (record { file = check.file.now; query = plain_text check.query; log = check.log.now })
 
 abbrev pub plain_asked : Option Asked → Option Request
 plain_asked = option_map plain_request

@@ -24,6 +24,10 @@ pub enum Asked<'a> {
     Sure(SureAsked<'a>),
     /// Whether a log of what is impossible is right.
     CheckSure(CheckSureAsked<'a>),
+    /// Histories by the definition of a model, where heads may be of any form.
+    General(GeneralAsked<'a>),
+    /// Whether a log of rivals is right.
+    CheckGeneral(CheckGeneralAsked<'a>),
 }
 
 /// Histories of a query.
@@ -127,6 +131,30 @@ pub struct SureAsked<'a> {
 /// Whether a log of what is impossible is right.
 #[derive(Clone, Copy, Debug, PartialEq, Eq)]
 pub struct CheckSureAsked<'a> {
+    pub file: &'a str,
+    /// Its label; the first query without it.
+    pub query: Option<&'a str>,
+    /// The file that the log is read from.
+    pub log: &'a str,
+}
+
+/// Histories by the definition of a model, where heads may be of any form.
+#[derive(Clone, Copy, Debug, PartialEq, Eq)]
+pub struct GeneralAsked<'a> {
+    pub file: &'a str,
+    /// Its label; the first query without it.
+    pub query: Option<&'a str>,
+    /// From 1 to 1000000; all without it.
+    pub count: Option<u32>,
+    /// From 1 to 2000000, for each search.
+    pub budget: u32,
+    /// The file that the log is written to.
+    pub log: Option<&'a str>,
+}
+
+/// Whether a log of rivals is right.
+#[derive(Clone, Copy, Debug, PartialEq, Eq)]
+pub struct CheckGeneralAsked<'a> {
     pub file: &'a str,
     /// Its label; the first query without it.
     pub query: Option<&'a str>,

@@ -2,12 +2,12 @@
 ghost use Rattle.std.specs.Prelude.{◌≡◌};
 ghost use Rattle.std.specs.List.{list_all, list_any};
 ghost use Rattle.cc_words.specs.Requests as requests;
-ghost use Rattle.cc_words.specs.Requests.{asked_in, asked_of, budget_of, count_of, form_of, mode_of, to_be_sure, to_check, to_check_models, to_check_sure, to_convert, to_explain, to_export, to_list, to_make, to_model, valued};
+ghost use Rattle.cc_words.specs.Requests.{asked_in, asked_of, budget_of, count_of, form_of, mode_of, to_be_sure, to_check, to_check_models, to_check_general, to_check_sure, to_convert, to_explain, to_export, to_list, to_list_generally, to_make, to_model, valued};
 ghost use Rattle.cc_words.specs.Views.{plain_asked, plain_given};
 
 use crate::asked::{
-    Asked, CheckAsked, CheckModelsAsked, CheckSureAsked, ConvertAsked, ExplainAsked, ExportAsked,
-    ListAsked, ModelsAsked, SureAsked,
+    Asked, CheckAsked, CheckGeneralAsked, CheckModelsAsked, CheckSureAsked, ConvertAsked,
+    ExplainAsked, ExportAsked, GeneralAsked, ListAsked, ModelsAsked, SureAsked,
 };
 use crate::modes::{Item, Mode};
 use crate::names::is_plain_name;
@@ -231,6 +231,33 @@ impl<'a> Given<'a> {
         }))
     }
 
+    fn to_list_generally(&self) -> Option<Asked<'a>>
+        ensures { plain_asked result ≡ to_list_generally (plain_given self.now) }
+    {
+        let file = self.file?;
+        let count = self.count()?;
+        let budget = self.budget()?;
+        Some(Asked::General(GeneralAsked {
+            file,
+            query: self.query,
+            count,
+            budget,
+            log: self.log,
+        }))
+    }
+
+    fn to_check_general(&self) -> Option<Asked<'a>>
+        ensures { plain_asked result ≡ to_check_general (plain_given self.now) }
+    {
+        let file = self.file?;
+        let log = self.log?;
+        Some(Asked::CheckGeneral(CheckGeneralAsked {
+            file,
+            query: self.query,
+            log,
+        }))
+    }
+
     /// What is asked in a mode, by its values.
     fn valued(&self, mode: Mode) -> Option<Asked<'a>>
         ensures { plain_asked result ≡ valued mode (plain_given self.now) }
@@ -246,6 +273,8 @@ impl<'a> Given<'a> {
             Mode::CheckModels => self.to_check_models(),
             Mode::Sure => self.to_be_sure(),
             Mode::CheckSure => self.to_check_sure(),
+            Mode::General => self.to_list_generally(),
+            Mode::CheckGeneral => self.to_check_general(),
         }
     }
 

@@ -2,12 +2,12 @@
 //!
 //! | Option | Value | Default | Goes with mode |
 //! |---|---|---|---|
-//! | `--mode` | `list`, `check`, `make`, `convert`, `why`, `export`, `models`, `modelscheck`, `sure` or `surecheck` | `list` | |
-//! | `--query` | a label | the first query | list, check, convert, export, sure, surecheck |
-//! | `--count` | 1 to 1000000 | all | list, models |
-//! | `--budget` | 1 to 2000000 | 200000 | list, make, models, sure |
+//! | `--mode` | `list`, `check`, `make`, `convert`, `why`, `export`, `models`, `modelscheck`, `sure`, `surecheck`, `general` or `generalcheck` | `list` | |
+//! | `--query` | a label | the first query | list, check, convert, export, sure, surecheck, general, generalcheck |
+//! | `--count` | 1 to 1000000 | all | list, models, general |
+//! | `--budget` | 1 to 2000000 | 200000 | list, make, models, sure, general |
 //! | `--after` | a key | none | list, check, convert |
-//! | `--log` | a file name | none | list, models, sure (written); check, convert, modelscheck, surecheck (read, required) |
+//! | `--log` | a file name | none | list, models, sure, general (written); check, convert, modelscheck, surecheck, generalcheck (read, required) |
 //! | `--form` | `1` or `2` | `1` | list, models |
 //! | `--to` | a file name | none | convert (required) |
 //! | `--key` | a key | none | why (required) |
@@ -30,8 +30,8 @@ mod parse;
 mod words;
 
 pub use asked::{
-    Asked, CheckAsked, CheckModelsAsked, CheckSureAsked, ConvertAsked, ExplainAsked, ExportAsked,
-    ListAsked, ModelsAsked, SureAsked,
+    Asked, CheckAsked, CheckGeneralAsked, CheckModelsAsked, CheckSureAsked, ConvertAsked,
+    ExplainAsked, ExportAsked, GeneralAsked, ListAsked, ModelsAsked, SureAsked,
 };
 pub use modes::{Item, Mode};
 pub use words::read;

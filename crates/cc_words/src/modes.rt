@@ -25,6 +25,10 @@ pub enum Mode {
     Sure,
     /// A log of what is impossible is judged.
     CheckSure,
+    /// Histories are listed by the definition of a model.
+    General,
+    /// A log of rivals is judged.
+    CheckGeneral,
 }
 
 /// What may stand among the words: an option with its value, or the FILE.
@@ -79,6 +83,10 @@ impl Mode {
             Some(Mode::Sure)
         } else if name == "surecheck" {
             Some(Mode::CheckSure)
+        } else if name == "general" {
+            Some(Mode::General)
+        } else if name == "generalcheck" {
+            Some(Mode::CheckGeneral)
         } else {
             None
         }
@@ -99,6 +107,8 @@ impl Mode {
             Mode::CheckModels => &[Item::File, Item::Log],
             Mode::Sure => &[Item::File],
             Mode::CheckSure => &[Item::File, Item::Log],
+            Mode::General => &[Item::File],
+            Mode::CheckGeneral => &[Item::File, Item::Log],
         }
     }
 
@@ -186,6 +196,24 @@ impl Mode {
                 Item::Size,
             ],
             Mode::CheckSure => &[
+                Item::Count,
+                Item::Budget,
+                Item::After,
+                Item::Form,
+                Item::To,
+                Item::Key,
+                Item::Horizon,
+                Item::Size,
+            ],
+            Mode::General => &[
+                Item::After,
+                Item::Form,
+                Item::To,
+                Item::Key,
+                Item::Horizon,
+                Item::Size,
+            ],
+            Mode::CheckGeneral => &[
                 Item::Count,
                 Item::Budget,
                 Item::After,

@@ -8,6 +8,7 @@ use Rattle.cc_defs.specs.declared.refusal.Refusal.{Refusal}
 use Rattle.cc_defs.specs.Limits.{limit_number}
 use Rattle.cc_defs.specs.Logs.{IsVerdict}
 use Rattle.cc_defs.specs.Refusals.{past}
+use Rattle.cc_describe.specs.declared.heads.Heads.TheVariants as heads
 use Rattle.cc_describe.specs.Describing.{AreToOpen}
 use Rattle.cc_describe.specs.Places.{Files}
 use Rattle.cc_judge.specs.Judging.{BlocksHistories, IsJudgeFault, IsVerdictWithin}
@@ -64,7 +65,7 @@ abbrev pub checking_promise : Checking → Promise
 checking_promise checking = record {
   Refuses = λ files. RefusesChecking files checking;
   Gives = Checks checking;
-  Opens = λ files opened. (named : List Text) × AreToOpen files checking.file named × (opened ≡ named ++ checking.log ∷ []);
+  Opens = λ files opened. (named : List Text) × AreToOpen heads.Definite files checking.file named × (opened ≡ named ++ checking.log ∷ []);
   begins = λ _. None;
   MayEnd = MayEndChecking;
 }

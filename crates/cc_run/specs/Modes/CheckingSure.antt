@@ -11,6 +11,7 @@ use Rattle.cc_defs.specs.Limits.{limit_number}
 use Rattle.cc_defs.specs.LogTexts.{cause_words}
 use Rattle.cc_defs.specs.Refusals.{past}
 use Rattle.cc_defs.specs.Resolved.{Query}
+use Rattle.cc_describe.specs.declared.heads.Heads.TheVariants as heads
 use Rattle.cc_describe.specs.Describing.{AreToOpen}
 use Rattle.cc_describe.specs.Places.{Files}
 use Rattle.cc_run.specs.declared.status.Status.{Status}
@@ -41,14 +42,14 @@ RefusesCheckingSure files checking refusal file =
     RefusesClaimed files (named_to_check checking) refusal file
     ⊎ ((d : Description) × (q : Query) × (bytes : List ℕ) × NamesSureLog files checking d q bytes × RefusesSureLog d q bytes refusal × (file ≡ []))
 
--- the line of a verdict
-abbrev pub sure_verdict_line : SilentVerdict → List ℕ
-sure_verdict_line (verdicts.Accepted sections) = codes "log accepted: impossible " ++ decimal sections ++ 10 ∷ []
-sure_verdict_line (verdicts.Refused line reason) = codes "log refused: line " ++ decimal line ++ codes ", " ++ cause_words reason ++ 10 ∷ []
+-- the line of a verdict, which says so of what an accepted log's sections are
+abbrev pub silent_verdict_line : (counted : List ℕ) → SilentVerdict → List ℕ
+silent_verdict_line counted (verdicts.Accepted sections) = codes "log accepted: " ++ counted ++ codes " " ++ decimal sections ++ 10 ∷ []
+silent_verdict_line counted (verdicts.Refused line reason) = codes "log refused: line " ++ decimal line ++ codes ", " ++ cause_words reason ++ 10 ∷ []
 
-abbrev pub sure_verdict_status : SilentVerdict → Status
-sure_verdict_status (verdicts.Accepted sections) = statuses.Right
-sure_verdict_status (verdicts.Refused line reason) = statuses.Not
+abbrev pub silent_verdict_status : SilentVerdict → Status
+silent_verdict_status (verdicts.Accepted sections) = statuses.Right
+silent_verdict_status (verdicts.Refused line reason) = statuses.Not
 
 -- What a checker says of the log is given to Out. Where it is accepted, no history has an atom that it names.
 pub record ChecksSure (checking : SureChecking) (files : Files) (whole : Whole) : Type 0 where
@@ -61,9 +62,9 @@ pub record ChecksSure (checking : SureChecking) (files : Files) (whole : Whole) 
   pub judged : IsSilentVerdict (sure_subject description query) bytes verdict
   pub within : IsSilentVerdictWithin (sure_subject description query) bytes verdict
   pub refutes : RefutesAtoms description query bytes verdict
-  pub given : whole.given ≡ only_out (sure_verdict_line verdict)
+  pub given : whole.given ≡ only_out (silent_verdict_line (codes "impossible") verdict)
   pub begun : whole.begun ≡ false
-  pub ends : whole.ends ≡ Some (sure_verdict_status verdict)
+  pub ends : whole.ends ≡ Some (silent_verdict_status verdict)
 
 abbrev pub MayEndCheckingSure : Status → Type 0
 MayEndCheckingSure statuses.Spent = ⊥
@@ -74,7 +75,7 @@ abbrev pub sure_checking_promise : SureChecking → Promise
 sure_checking_promise checking = record {
   Refuses = λ files. RefusesCheckingSure files checking;
   Gives = ChecksSure checking;
-  Opens = λ files opened. (named : List Text) × AreToOpen files checking.file named × (opened ≡ named ++ checking.log ∷ []);
+  Opens = λ files opened. (named : List Text) × AreToOpen heads.Definite files checking.file named × (opened ≡ named ++ checking.log ∷ []);
   begins = λ _. None;
   MayEnd = MayEndCheckingSure;
 }

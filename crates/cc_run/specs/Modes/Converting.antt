@@ -7,6 +7,7 @@ use Rattle.cc_defs.specs.declared.refusal.LimitAt.TheVariants as limits
 use Rattle.cc_defs.specs.Limits.{limit_number}
 use Rattle.cc_defs.specs.LogVersions.{AreVersions, counts_in}
 use Rattle.cc_defs.specs.Logs.{Subject, IsVerdict}
+use Rattle.cc_describe.specs.declared.heads.Heads.TheVariants as heads
 use Rattle.cc_describe.specs.Describing.{AreToOpen}
 use Rattle.cc_describe.specs.Places.{Files}
 use Rattle.cc_judge.specs.Judging.{IsVerdictWithin}
@@ -59,7 +60,7 @@ abbrev pub converting_promise : Converting → Promise
 converting_promise converting = record {
   Refuses = λ files. RefusesChecking files (checked_by converting);
   Gives = Converts converting;
-  Opens = λ files opened. (named : List Text) × AreToOpen files converting.file named × (opened ≡ named ++ converting.log ∷ []);
+  Opens = λ files opened. (named : List Text) × AreToOpen heads.Definite files converting.file named × (opened ≡ named ++ converting.log ∷ []);
   begins = begun_as converting;
   MayEnd = MayEndChecking;
 }

@@ -8,6 +8,7 @@ use Rattle.cc_defs.specs.Paths.{IsPath}
 use Rattle.cc_defs.specs.Resolved.{BaseLaw, One, NoConcurrency}
 use Rattle.cc_defs.specs.Rows.{IsRow}
 use Rattle.cc_defs.specs.Rules.{upto}
+use Rattle.cc_describe.specs.declared.heads.Heads.TheVariants as heads
 use Rattle.cc_describe.specs.Describing.{AreToOpen}
 use Rattle.cc_describe.specs.FirstRefusal.{file_named}
 use Rattle.cc_describe.specs.Places.{Files, Place, opened_in}
@@ -112,7 +113,7 @@ abbrev pub explaining_promise : Explaining → Promise
 explaining_promise explaining = record {
   Refuses = λ files. RefusesExplaining files explaining;
   Gives = Explains explaining;
-  Opens = λ files. AreToOpen files explaining.file;
+  Opens = λ files. AreToOpen heads.Definite files explaining.file;
   begins = λ _. None;
   MayEnd = MayEndExplaining;
 }

@@ -8,6 +8,7 @@ use Rattle.cc_defs.specs.Histories.{IsHistory}
 use Rattle.cc_defs.specs.Resolved.{Query}
 use Rattle.cc_defs.specs.Runs.{axioms_of, range_of}
 use Rattle.cc_defs.specs.Sections.{Axioms}
+use Rattle.cc_describe.specs.declared.heads.Heads.TheVariants as heads
 use Rattle.cc_describe.specs.Describing.{AreToOpen}
 use Rattle.cc_describe.specs.FirstRefusal.{file_named}
 use Rattle.cc_describe.specs.Places.{Files, Place, opened_in}
@@ -97,7 +98,7 @@ abbrev pub exporting_promise : Exporting → Promise
 exporting_promise exporting = record {
   Refuses = λ files. RefusesExporting files exporting;
   Gives = Exports exporting;
-  Opens = λ files. AreToOpen files exporting.file;
+  Opens = λ files. AreToOpen heads.Definite files exporting.file;
   begins = λ _. None;
   MayEnd = MayEndExporting;
 }

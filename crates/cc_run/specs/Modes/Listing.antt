@@ -2,6 +2,7 @@
 use Rattle.std.specs.Prelude.{◌≡◌, is_some}
 use Rattle.cc_defs.specs.LogVersions.{counts_in}
 use Rattle.cc_defs.specs.Runs.{Run}
+use Rattle.cc_describe.specs.declared.heads.Heads.TheVariants as heads
 use Rattle.cc_describe.specs.Describing.{AreToOpen}
 use Rattle.cc_describe.specs.Places.{Files}
 use Rattle.cc_query.specs.Accepted.{subject_of}
@@ -29,7 +30,7 @@ abbrev pub listing_promise : Listing → Promise
 listing_promise listing = record {
   Refuses = λ files. RefusesNamed files (named_by listing);
   Gives = Lists listing;
-  Opens = λ files. AreToOpen files listing.file;
+  Opens = λ files. AreToOpen heads.Definite files listing.file;
   begins = λ _. listing.log;
   MayEnd = IsEndStatus;
 }

@@ -8,6 +8,7 @@ use Rattle.cc_defs.specs.Events.{of_horizon}
 use Rattle.cc_defs.specs.Refusals.{refused}
 use Rattle.cc_defs.specs.Resolved.{Query}
 use Rattle.cc_defs.specs.Texts.{history_text, key_line}
+use Rattle.cc_describe.specs.declared.heads.Heads.TheVariants as heads
 use Rattle.cc_describe.specs.Describing.{AreToOpen}
 use Rattle.cc_describe.specs.FirstRefusal.{file_named}
 use Rattle.cc_describe.specs.Places.{Files, Place, opened_in}
@@ -127,7 +128,7 @@ abbrev pub sure_promise : Surely → Promise
 sure_promise surely = record {
   Refuses = λ files. RefusesClaimed files (named_surely surely);
   Gives = TellsSurely surely;
-  Opens = λ files. AreToOpen files surely.file;
+  Opens = λ files. AreToOpen heads.Definite files surely.file;
   begins = λ _. surely.log;
   MayEnd = MayEndSurely;
 }

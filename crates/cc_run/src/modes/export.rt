@@ -6,6 +6,7 @@ ghost use Rattle.cc_defs.specs.Description.{Description};
 ghost use Rattle.cc_defs.specs.Limits.{most_steps};
 ghost use Rattle.cc_defs.specs.Refusals.{IsRefusedBy};
 ghost use Rattle.cc_defs.specs.Resolved.{plain_query};
+ghost use Rattle.cc_describe.specs.declared.heads.Heads.TheVariants as heads;
 ghost use Rattle.cc_describe.specs.Describing.{AsksFormulas, Describes, HasForms, SaysAll};
 ghost use Rattle.cc_dimacs.specs.CnfTexts.{clause_line, export_of};
 ghost use Rattle.cc_form.specs.Queries.{IsQueryAt};
@@ -176,12 +177,13 @@ pub(crate) fn export<D: Desk>(
     described: &Described,
     asked: &ExportAsked<'_>,
 ) -> Result<Status, Stop>
-    requires says { SaysAll described.now }
+    requires says { SaysAll heads.Definite described.now }
     requires forms { HasForms described.now }
     requires formulas { AsksFormulas described.now }
     ensures { (words : List Text) (exporting : Exporting) → request_of words ≡ Some
         (ToExport exporting) → plain_request (requests.Export asked.now) ≡ ToExport exporting →
-        IfSome (D.told desk.old) (λ before. Describes before.files exporting.file described.now) →
+        IfSome (D.told desk.old) (λ before.
+        Describes heads.Definite before.files exporting.file described.now) →
         Prints words false [] (moment D.told D.begun D.read_faults D.write_faults D.calls desk.old)
         (moment D.told D.begun D.read_faults D.write_faults D.calls desk.new) result }
 {

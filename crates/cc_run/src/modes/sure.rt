@@ -4,6 +4,7 @@ ghost use Rattle.cc_arena.specs.GroundViews.{plain_ground_query};
 ghost use Rattle.cc_asked.specs.Descriptions.{IsDescriptionOf};
 ghost use Rattle.cc_defs.specs.Description.{Description};
 ghost use Rattle.cc_defs.specs.Resolved.{Query};
+ghost use Rattle.cc_describe.specs.declared.heads.Heads.TheVariants as heads;
 ghost use Rattle.cc_describe.specs.Describing.{AsksFormulas, Describes, HasForms, SaysAll};
 ghost use Rattle.cc_run.specs.Asking.{AreOf, AreSearchable};
 ghost use Rattle.cc_run.specs.Modes.Surely.{NamesUnclaimed, named_surely};
@@ -155,12 +156,12 @@ pub(crate) fn sure<D: Desk>(
     asked: &SureAsked<'_>,
 ) -> Result<Status, Stop>
     requires budget { asked.now.budget ≤ 2000000 }
-    requires says { SaysAll described.now }
+    requires says { SaysAll heads.Definite described.now }
     requires forms { HasForms described.now }
     requires formulas { AsksFormulas described.now }
     ensures { (words : List Text) (surely : Surely) → request_of words ≡ Some (ToBeSure surely) →
         plain_request (requests.Sure asked.now) ≡ ToBeSure surely → IfSome (D.told desk.old)
-        (λ before. Describes before.files surely.file described.now) → Prints words
+        (λ before. Describes heads.Definite before.files surely.file described.now) → Prints words
         (is_some surely.log) [] (moment D.told D.begun D.read_faults D.write_faults D.calls
         desk.old) (moment D.told D.begun D.read_faults D.write_faults D.calls desk.new) result }
 {

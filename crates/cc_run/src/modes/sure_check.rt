@@ -1,82 +1,35 @@
 //! Surecheck mode: a log of impossible atoms is judged.
-ghost use Rattle.std.specs.Prelude.{◌≡◌, ◌≤◌, List, [], ◌∷◌, false, IfOk, IfSome, IsNone, None, Some, length, string_bytes};
+ghost use Rattle.std.specs.Prelude.{◌≡◌, ◌≤◌, List, [], ◌∷◌, false, IfOk, IfSome, IsNone, None, Some, length};
 ghost use Rattle.cc_arena.specs.GroundViews.{plain_ground_query};
 ghost use Rattle.cc_defs.specs.Description.{Description};
 ghost use Rattle.cc_defs.specs.Limits.{limit_number};
 ghost use Rattle.cc_defs.specs.declared.refusal.LimitAt.TheVariants as limits;
 ghost use Rattle.cc_defs.specs.Resolved.{Query};
+ghost use Rattle.cc_describe.specs.declared.heads.Heads.TheVariants as heads;
 ghost use Rattle.cc_describe.specs.Describing.{AsksFormulas, Describes, HasForms, SaysAll};
 ghost use Rattle.cc_run.specs.Asking.{AreOf, AreSearchable};
-ghost use Rattle.cc_run.specs.Modes.CheckingSure.{NamesSureLog, named_to_check, sure_verdict_line, sure_verdict_status};
+ghost use Rattle.cc_run.specs.Modes.CheckingSure.{NamesSureLog, named_to_check};
 ghost use Rattle.cc_run.specs.Modes.Surely.{NamesUnclaimed};
-ghost use Rattle.cc_run.specs.Stops.{Prints, Step, moment};
+ghost use Rattle.cc_run.specs.Stops.{Prints, moment};
 ghost use Rattle.cc_run.specs.Tasks.{request_of};
-ghost use Rattle.cc_run.specs.Wholes.{only_out};
 ghost use Rattle.cc_words.specs.Requests.{SureChecking, ToCheckSure};
 ghost use Rattle.cc_words.specs.Views.{plain_request};
 ghost use Rattle.cc_words.specs.Words.{Text};
 ghost use Rattle.cc_words.specs.declared.asked.Asked.TheVariants as requests;
 
 use crate::asking::Prepared;
-use crate::causes::push_number;
-use crate::refusing::{file_named, give, refuse};
+use crate::refusing::{file_named, refuse};
+use crate::silent::tell_silent_verdict;
 use crate::status::{Status, Stop};
 use crate::unclaimed::prepare_unclaimed;
 use bumpalo::Bump;
 use cc_arena::Terms;
-use cc_check::SilentVerdict;
-use cc_defs::{Fault, LimitAt, OutOfMemory, Refusal};
+use cc_defs::{Fault, LimitAt, Refusal};
 use cc_describe::Described;
-use cc_ports::{Desk, ReadStop, To, read_all};
+use cc_ports::{Desk, ReadStop, read_all};
 use cc_sure::check_sure;
 use cc_words::CheckSureAsked;
 use std::alloc::Global;
-
-/// The line of a verdict.
-fn verdict_text(alloc: Global, verdict: SilentVerdict) -> Result<String, OutOfMemory>
-    ensures { IfOk result (λ text. string_bytes text ≡ sure_verdict_line verdict) }
-{
-    match verdict {
-        SilentVerdict::Accepted { sections } => {
-            let text = format!(in alloc; "log accepted: impossible {sections}\n")?;
-            Ok(text)
-        }
-        SilentVerdict::Refused { line, cause } => {
-            let mut text = String::from_str(alloc, "log refused: line ")?;
-            push_number(&mut text, line)?;
-            text.push_str(", ")?;
-            text.push_str(cause.words())?;
-            text.push_str("\n")?;
-            Ok(text)
-        }
-    }
-}
-
-/// The status of a run with this verdict.
-fn verdict_status(verdict: SilentVerdict) -> Status
-    ensures { result ≡ sure_verdict_status verdict }
-{
-    match verdict {
-        SilentVerdict::Accepted { .. } => Status::Right,
-        SilentVerdict::Refused { .. } => Status::Not,
-    }
-}
-
-/// Tells a verdict by its line.
-fn tell_verdict<D: Desk>(
-    alloc: Global,
-    desk: &mut D,
-    verdict: SilentVerdict,
-) -> Result<Status, Stop>
-    ensures told { Step (only_out (sure_verdict_line verdict))
-        (moment D.told D.begun D.read_faults D.write_faults D.calls desk.old)
-        (moment D.told D.begun D.read_faults D.write_faults D.calls desk.new) result }
-    ensures status { IfOk result (λ status. status ≡ sure_verdict_status verdict) }
-{
-    let text = verdict_text(alloc, verdict)?;
-    give(desk, To::Out, text.as_bytes())?;
-    Ok(verdict_status(verdict))
-}
 
 /// Judges the bytes of a log.
 fn check_log<D: Desk>(
@@ -104,7 +57,7 @@ fn check_log<D: Desk>(
         &prepared.query,
         bytes,
     ) {
-        Ok(verdict) => tell_verdict(alloc, desk, verdict),
+        Ok(verdict) => tell_silent_verdict(alloc, desk, "impossible", verdict),
         Err(Fault::Refused(refusal)) => refuse(alloc, desk, &refusal, ""),
         Err(Fault::OutOfMemory) => Err(Stop::OutOfMemory),
     }
@@ -144,13 +97,14 @@ pub(crate) fn check<D: Desk>(
     described: &Described,
     asked: &CheckSureAsked<'_>,
 ) -> Result<Status, Stop>
-    requires says { SaysAll described.now }
+    requires says { SaysAll heads.Definite described.now }
     requires forms { HasForms described.now }
     requires formulas { AsksFormulas described.now }
     ensures { (words : List Text) (checking : SureChecking) →
         request_of words ≡ Some (ToCheckSure checking) →
         plain_request (requests.CheckSure asked.now) ≡ ToCheckSure checking →
-        IfSome (D.told desk.old) (λ before. Describes before.files checking.file described.now) →
+        IfSome (D.told desk.old) (λ before.
+        Describes heads.Definite before.files checking.file described.now) →
         Prints words false (asked.now.log.now ∷ [])
         (moment D.told D.begun D.read_faults D.write_faults D.calls desk.old)
         (moment D.told D.begun D.read_faults D.write_faults D.calls desk.new) result }

@@ -5,6 +5,7 @@ ghost use Rattle.cc_defs.specs.Description.{Description, sizes_at};
 ghost use Rattle.cc_defs.specs.Limits.{most_steps};
 ghost use Rattle.cc_defs.specs.Paths.{IsPath};
 ghost use Rattle.cc_defs.specs.Rows.{IsRow};
+ghost use Rattle.cc_describe.specs.declared.heads.Heads.TheVariants as heads;
 ghost use Rattle.cc_describe.specs.Describing.{Describes, HasForms, SaysAll};
 ghost use Rattle.cc_run.specs.Explained.{IsLookedAt, TellsRow};
 ghost use Rattle.cc_run.specs.Modes.Explaining.{no_history_line};
@@ -96,11 +97,12 @@ pub(crate) fn explain<D: Desk>(
     described: &Described,
     key: &str,
 ) -> Result<Status, Stop>
-    requires says { SaysAll described.now }
+    requires says { SaysAll heads.Definite described.now }
     requires forms { HasForms described.now }
     ensures { (words : List Text) (explaining : Explaining) →
         request_of words ≡ Some (ToExplain explaining) → explaining.key ≡ key.now →
-        IfSome (D.told desk.old) (λ before. Describes before.files explaining.file described.now) →
+        IfSome (D.told desk.old) (λ before.
+        Describes heads.Definite before.files explaining.file described.now) →
         Prints words false [] (moment D.told D.begun D.read_faults D.write_faults D.calls desk.old)
         (moment D.told D.begun D.read_faults D.write_faults D.calls desk.new) result }
 {

@@ -1,4 +1,4 @@
-use Rattle.std.proofs.Common.{◌≡◌, ◌∙◌, subst, sym, ap, map, None, Some, OnOk, IfErr}
+use Rattle.std.proofs.Common.{◌≡◌, subst, sym, map, None, OnOk, IfErr}
 use Rattle.std.proofs.lemmas.Result.{IfOk-weaker}
 use Rattle.cc_arena.specs.GroundViews.{plain_ground_query}
 use Rattle.cc_defs.specs.Description.{Description}

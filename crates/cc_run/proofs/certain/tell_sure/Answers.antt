@@ -1,4 +1,3 @@
-use Rattle.std.proofs.Common.{refl}
 use Rattle.cc_run.proofs.GivenSteps.{step_again, step_done}
 use Rattle.cc_run.proofs.certain.tell_sure.Goals as goal
 

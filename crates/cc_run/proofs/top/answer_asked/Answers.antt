@@ -48,3 +48,12 @@ returns-in-Sure g c = λ words asked.
 pub returns-in-CheckSure : goal.returns-in-CheckSure
 returns-in-CheckSure g c = λ words asked.
     c.answer_file-in-CheckSure.ensures words asked (file_as c.args.asked.now (requests.CheckSure c.in-CheckSure.check) c.in-CheckSure.check.file.now c.in-CheckSure.is refl)
+
+pub returns-in-General : goal.returns-in-General
+returns-in-General g c = λ words asked.
+    c.answer_file-in-General.ensures words asked (file_as c.args.asked.now (requests.General c.in-General.general) c.in-General.general.file.now c.in-General.is refl)
+
+pub returns-in-CheckGeneral : goal.returns-in-CheckGeneral
+returns-in-CheckGeneral g c = λ words asked.
+    c.answer_file-in-CheckGeneral.ensures words asked
+    (file_as c.args.asked.now (requests.CheckGeneral c.in-CheckGeneral.check) c.in-CheckGeneral.check.file.now c.in-CheckGeneral.is refl)

@@ -1,7 +1,7 @@
 use Rattle.std.proofs.Common.{◌∙◌, Err, ap, refl, subst}
 use Rattle.cc_describe.specs.declared.description.DescribeStop.TheVariants as stops
 use Rattle.cc_describe.specs.Describing.{Describes, HasStopped}
-use Rattle.cc_run.specs.Requested.{AsksDescription, named_of, opens_behind, source_of}
+use Rattle.cc_run.specs.Requested.{AsksDescription, heads_of, named_of, opens_behind, source_of}
 use Rattle.cc_run.specs.declared.status.Stop.TheVariants as run_stops
 use Rattle.cc_run.proofs.Callings.{refused_is_no_fault}
 use Rattle.cc_run.proofs.Outcomes.{files_stay, prints_after_read, prints_opened, prints_refusal, prints_stopped}
@@ -11,7 +11,7 @@ use Rattle.cc_run.proofs.top.answer_described.Goals as goal
 pub returns-in-Ok : goal.returns-in-Ok
 returns-in-Ok g c = λ words request earlier asked same reads.
     let read = reads_as request _ _ _ _ c.in-Ok.is reads in
-    let there = files_stay read.rest (λ files. Describes (source_of request files) (named_of request).file c.in-Ok.described) _ _ read.told read.describes in
+    let there = files_stay read.rest (λ files. Describes (heads_of request) (source_of request files) (named_of request).file c.in-Ok.described) _ _ read.told read.describes in
     prints_opened words _ request _ _ _ c.answer_read-answer.result asked (opened_all _ request c.in-Ok.described read.opened (subst AsksDescription same c.requires.description) read.opens)
     (prints_after_read words _ read.opened (opens_behind request) read.rest _ _ _ c.answer_read-answer.result read.told read.begun read.reads read.writes
     read.called (read.calm (λ is. cc)) (c.answer_read-answer.ensures words request asked same there))
@@ -22,7 +22,7 @@ returns-in-Err-Refused g c = λ words request earlier asked same reads.
     let file = c.in-Err-Refused.file in
     let asks = subst AsksDescription same c.requires.description in
     let read = reads_as request _ _ _ _ (c.in-Err-Refused.is ∙ ap Err c.in-Err-Refused.field-0-is) reads in
-    let stopped = files_stay read.rest (λ files. HasStopped (source_of request files) (named_of request).file (stops.Refused refusal file)) _ _ read.told read.stopped in
+    let stopped = files_stay read.rest (λ files. HasStopped (heads_of request) (source_of request files) (named_of request).file (stops.Refused refusal file)) _ _ read.told read.stopped in
     prints_opened words _ request _ _ _ c.refuse.result asked (opened_refused _ request refusal file read.opened asks read.opens)
     (prints_after_read words _ read.opened (opens_behind request) read.rest _ _ _ c.refuse.result read.told read.begun read.reads read.writes
     read.called (read.calm (refused_is_no_fault _ refusal file refl))

@@ -1,4 +1,5 @@
 use Rattle.std.proofs.Common.{◌∙◌, ap, refl, subst}
+use Rattle.cc_describe.specs.declared.heads.Heads.TheVariants as heads
 use Rattle.cc_describe.specs.FirstRefusal.{file_named}
 use Rattle.cc_run.specs.Requested.{AsksQuery, named_of, opens_behind, source_of}
 use Rattle.cc_run.specs.Tasks.{description_in}
@@ -15,7 +16,7 @@ answer_prepared-requires-clause-of g c =
 
 pub returns-in-Ok : goal.returns-in-Ok
 returns-in-Ok g c = λ words request asked same describes.
-    let of = is_read _ (source_of request) (named_of request).file c.args.described.now c.requires.says describes in
+    let of = is_read heads.Definite _ (source_of request) (named_of request).file c.args.described.now c.requires.says describes in
     let description = description_is of.places c.args.described.now of.said in
     let named = c.in-Ok.ensures.named (description_in of.places) description in
     c.answer_prepared.ensures words request (description_in of.places) named.0 asked same description named.1
@@ -24,7 +25,7 @@ returns-in-Ok g c = λ words request asked same describes.
 
 pub returns-in-Err-Refused : goal.returns-in-Err-Refused
 returns-in-Err-Refused g c = λ words request asked same describes.
-    let of = is_read _ (source_of request) (named_of request).file c.args.described.now c.requires.says describes in
+    let of = is_read heads.Definite _ (source_of request) (named_of request).file c.args.described.now c.requires.says describes in
     let refused = rw c.in-Err-Refused.field-0-is at (c.in-Err-Refused.ensures.refused (description_in of.places) (description_is of.places c.args.described.now of.said)) in
     let name = c.file_named-file.ensures ∙ ap (λ names. file_named names c.in-Err-Refused.refusal) c.items.ensures in
     prints_refusal words _ (opens_behind request) c.in-Err-Refused.refusal c.file_named-file.result.now _ _ c.refuse.result

@@ -1,9 +1,9 @@
 use Rattle.std.proofs.Common.{◌∙◌, Some, ap, refl, subst, sym}
-use Rattle.cc_run.specs.Requested.{AsksQuery, IsWithin}
+use Rattle.cc_run.specs.Requested.{AsksQuery, IsWithin, heads_of}
 use Rattle.cc_words.specs.declared.asked.Asked.{Asked}
-use Rattle.cc_words.specs.Requests.{ToBeSure, ToCheckSure, ToExplain, ToExport}
+use Rattle.cc_words.specs.Requests.{ToBeSure, ToCheckGeneral, ToCheckSure, ToExplain, ToExport, ToListGenerally}
 use Rattle.cc_words.specs.Views.{plain_request}
-use Rattle.cc_run.proofs.Readings.{describes_as, explaining_by, exporting_by, prints_request, sure_checking_by, surely_by}
+use Rattle.cc_run.proofs.Readings.{describes_as, describes_for, explaining_by, exporting_by, general_checking_by, generally_by, prints_request, says_as, sure_checking_by, surely_by}
 use Rattle.cc_run.proofs.top.answer_read.Goals as goal
 
 pub returns-in-Explain : goal.returns-in-Explain
@@ -48,3 +48,73 @@ returns-in-CheckSure g c = λ words request asked same describes.
     let e = sym (ap plain_request c.in-CheckSure.is) ∙ same in
     prints_request words (ToCheckSure checking) request _ _ c.check.result e
     (c.check.ensures words checking (asked ∙ ap Some (sym e)) refl (describes_as _ (ToCheckSure checking) request _ e describes))
+
+pub explain-requires-clause-says : goal.explain-requires-clause-says
+explain-requires-clause-says g c = says_as _ _ c.args.described.now c.in-Explain.is c.requires.says
+
+pub export-requires-clause-says : goal.export-requires-clause-says
+export-requires-clause-says g c = says_as _ _ c.args.described.now c.in-Export.is c.requires.says
+
+pub sure-requires-clause-says : goal.sure-requires-clause-says
+sure-requires-clause-says g c = says_as _ _ c.args.described.now c.in-Sure.is c.requires.says
+
+pub check-requires-clause-says : goal.check-requires-clause-says
+check-requires-clause-says g c = says_as _ _ c.args.described.now c.in-CheckSure.is c.requires.says
+
+pub answer_query-requires-clause-says : goal.answer_query-requires-clause-says
+answer_query-requires-clause-says g c = says_as _ _ c.args.described.now c.in-List.is c.requires.says
+
+pub returns-in-List : goal.returns-in-List
+returns-in-List g c = λ words request asked same describes.
+    c.answer_query.ensures words request asked same
+    (describes_for _ _ request c.args.described.now (ap heads_of (sym same ∙ ap plain_request c.in-List.is)) describes)
+
+pub answer_query-requires-in-Check-clause-says : goal.answer_query-requires-in-Check-clause-says
+answer_query-requires-in-Check-clause-says g c = says_as _ _ c.args.described.now c.in-Check.is c.requires.says
+
+pub returns-in-Check : goal.returns-in-Check
+returns-in-Check g c = λ words request asked same describes.
+    c.answer_query-in-Check.ensures words request asked same
+    (describes_for _ _ request c.args.described.now (ap heads_of (sym same ∙ ap plain_request c.in-Check.is)) describes)
+
+pub answer_query-requires-in-Make-clause-says : goal.answer_query-requires-in-Make-clause-says
+answer_query-requires-in-Make-clause-says g c = says_as _ _ c.args.described.now c.in-Make.is c.requires.says
+
+pub returns-in-Make : goal.returns-in-Make
+returns-in-Make g c = λ words request asked same describes.
+    c.answer_query-in-Make.ensures words request asked same
+    (describes_for _ _ request c.args.described.now (ap heads_of (sym same ∙ ap plain_request c.in-Make.is)) describes)
+
+pub answer_query-requires-in-Convert-clause-says : goal.answer_query-requires-in-Convert-clause-says
+answer_query-requires-in-Convert-clause-says g c = says_as _ _ c.args.described.now c.in-Convert.is c.requires.says
+
+pub returns-in-Convert : goal.returns-in-Convert
+returns-in-Convert g c = λ words request asked same describes.
+    c.answer_query-in-Convert.ensures words request asked same
+    (describes_for _ _ request c.args.described.now (ap heads_of (sym same ∙ ap plain_request c.in-Convert.is)) describes)
+
+pub general-requires-clause-count : goal.general-requires-clause-count
+general-requires-clause-count g c = (subst (λ (asked : Asked). IsWithin (plain_request asked)) c.in-General.is c.requires.within).0
+
+pub general-requires-clause-budget : goal.general-requires-clause-budget
+general-requires-clause-budget g c = (subst (λ (asked : Asked). IsWithin (plain_request asked)) c.in-General.is c.requires.within).1
+
+pub general-requires-clause-says : goal.general-requires-clause-says
+general-requires-clause-says g c = says_as _ _ c.args.described.now c.in-General.is c.requires.says
+
+pub returns-in-General : goal.returns-in-General
+returns-in-General g c = λ words request asked same describes.
+    let generally = generally_by c.in-General.asked in
+    let e = sym (ap plain_request c.in-General.is) ∙ same in
+    prints_request words (ToListGenerally generally) request _ _ c.general.result e
+    (c.general.ensures words generally (asked ∙ ap Some (sym e)) refl (describes_as _ (ToListGenerally generally) request _ e describes))
+
+pub check-requires-in-CheckGeneral-clause-says : goal.check-requires-in-CheckGeneral-clause-says
+check-requires-in-CheckGeneral-clause-says g c = says_as _ _ c.args.described.now c.in-CheckGeneral.is c.requires.says
+
+pub returns-in-CheckGeneral : goal.returns-in-CheckGeneral
+returns-in-CheckGeneral g c = λ words request asked same describes.
+    let checking = general_checking_by c.in-CheckGeneral.check in
+    let e = sym (ap plain_request c.in-CheckGeneral.is) ∙ same in
+    prints_request words (ToCheckGeneral checking) request _ _ c.check-in-CheckGeneral.result e
+    (c.check-in-CheckGeneral.ensures words checking (asked ∙ ap Some (sym e)) refl (describes_as _ (ToCheckGeneral checking) request _ e describes))

@@ -1,4 +1,5 @@
 use Rattle.std.proofs.Common.{◌∙◌, [], Some, ap, refl, sym}
+use Rattle.cc_describe.specs.declared.heads.Heads.TheVariants as heads
 use Rattle.cc_describe.specs.FirstRefusal.{file_named}
 use Rattle.cc_run.specs.Tasks.{description_in}
 use Rattle.cc_words.specs.Requests.{ToExport}
@@ -15,14 +16,14 @@ exported_form-requires-clause-of g c =
 pub returns-in-Ok : goal.returns-in-Ok
 returns-in-Ok g c = λ words exporting asked same describes.
     let by = exporting_by c.args.asked.now in
-    let of = is_read _ (λ files. files) by.file c.args.described.now c.requires.says (describes_as _ (ToExport by) (ToExport exporting) c.args.described.now same describes) in
+    let of = is_read heads.Definite _ (λ files. files) by.file c.args.described.now c.requires.says (describes_as _ (ToExport by) (ToExport exporting) c.args.described.now same describes) in
     prints_exported words by c.args.described.now c.in-Ok.form _ _ c.tell_form.result of (asked ∙ ap Some (sym same))
     (c.in-Ok.ensures.exported (description_in of.places) (description_is of.places c.args.described.now of.said)) c.tell_form.ensures.told c.tell_form.ensures.status
 
 pub returns-in-Err-Refused : goal.returns-in-Err-Refused
 returns-in-Err-Refused g c = λ words exporting asked same describes.
     let by = exporting_by c.args.asked.now in
-    let of = is_read _ (λ files. files) by.file c.args.described.now c.requires.says (describes_as _ (ToExport by) (ToExport exporting) c.args.described.now same describes) in
+    let of = is_read heads.Definite _ (λ files. files) by.file c.args.described.now c.requires.says (describes_as _ (ToExport by) (ToExport exporting) c.args.described.now same describes) in
     let refused = rw c.in-Err-Refused.field-0-is at (c.in-Err-Refused.ensures.refused (description_in of.places) (description_is of.places c.args.described.now of.said)) in
     let name = c.file_named-file.ensures ∙ ap (λ names. file_named names c.in-Err-Refused.refusal) c.items.ensures in
     prints_refusal words _ [] c.in-Err-Refused.refusal c.file_named-file.result.now _ _ c.refuse.result

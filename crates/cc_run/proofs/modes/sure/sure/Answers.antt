@@ -1,4 +1,5 @@
 use Rattle.std.proofs.Common.{◌∙◌, [], Some, ap, refl, sym}
+use Rattle.cc_describe.specs.declared.heads.Heads.TheVariants as heads
 use Rattle.cc_describe.specs.FirstRefusal.{file_named}
 use Rattle.cc_run.specs.Modes.Surely.{named_surely}
 use Rattle.cc_run.specs.Tasks.{description_in}
@@ -24,7 +25,7 @@ be_sure-requires-clause-of g c =
 pub returns-in-Ok : goal.returns-in-Ok
 returns-in-Ok g c = λ words surely asked same describes.
     let by = surely_by c.args.asked.now in
-    let of = is_read _ (λ files. files) by.file c.args.described.now c.requires.says (describes_as _ (ToBeSure by) (ToBeSure surely) c.args.described.now same describes) in
+    let of = is_read heads.Definite _ (λ files. files) by.file c.args.described.now c.requires.says (describes_as _ (ToBeSure by) (ToBeSure surely) c.args.described.now same describes) in
     let is = description_is of.places c.args.described.now of.said in
     let named = c.in-Ok.ensures.named (description_in of.places) is in
     c.be_sure.ensures words surely (description_in of.places) named.0 asked same is named.1
@@ -34,7 +35,7 @@ returns-in-Ok g c = λ words surely asked same describes.
 pub returns-in-Err-Refused : goal.returns-in-Err-Refused
 returns-in-Err-Refused g c = λ words surely asked same describes.
     let by = surely_by c.args.asked.now in
-    let of = is_read _ (λ files. files) by.file c.args.described.now c.requires.says (describes_as _ (ToBeSure by) (ToBeSure surely) c.args.described.now same describes) in
+    let of = is_read heads.Definite _ (λ files. files) by.file c.args.described.now c.requires.says (describes_as _ (ToBeSure by) (ToBeSure surely) c.args.described.now same describes) in
     let refused = rw c.in-Err-Refused.field-0-is at (c.in-Err-Refused.ensures.refused (description_in of.places) (description_is of.places c.args.described.now of.said)) in
     let name = c.file_named-file.ensures ∙ ap (λ names. file_named names c.in-Err-Refused.refusal) c.items.ensures in
     prints_refusal words _ [] c.in-Err-Refused.refusal c.file_named-file.result.now _ _ c.refuse.result

@@ -1,4 +1,5 @@
 use Rattle.std.proofs.Common.{◌∙◌, [], ◌∷◌, Some, ap, refl, sym}
+use Rattle.cc_describe.specs.declared.heads.Heads.TheVariants as heads
 use Rattle.cc_describe.specs.FirstRefusal.{file_named}
 use Rattle.cc_run.specs.Modes.CheckingSure.{named_to_check}
 use Rattle.cc_run.specs.Tasks.{description_in}
@@ -18,7 +19,7 @@ pub returns-in-Ok : goal.returns-in-Ok
 returns-in-Ok g c = λ words checking asked same describes.
     let by = sure_checking_by c.args.asked.now in
     let is = checking_is c.args.asked.now checking same in
-    let of = is_read _ (λ files. files) by.file c.args.described.now c.requires.says (describes_as _ (ToCheckSure by) (ToCheckSure checking) c.args.described.now same describes) in
+    let of = is_read heads.Definite _ (λ files. files) by.file c.args.described.now c.requires.says (describes_as _ (ToCheckSure by) (ToCheckSure checking) c.args.described.now same describes) in
     let named = c.in-Ok.ensures.named (description_in of.places) (description_is of.places c.args.described.now of.said) in
     c.check_over.ensures words checking (description_in of.places) named.0 asked (ap (λ (k : SureChecking). k.log) is) named.1
     (named_as _ c.args.asked.now checking is (description_in of.places) named.0 (names_unclaimed _ (named_to_check by) c.args.described.now of named.0 named.2))
@@ -26,7 +27,7 @@ returns-in-Ok g c = λ words checking asked same describes.
 pub returns-in-Err-Refused : goal.returns-in-Err-Refused
 returns-in-Err-Refused g c = λ words checking asked same describes.
     let by = sure_checking_by c.args.asked.now in
-    let of = is_read _ (λ files. files) by.file c.args.described.now c.requires.says (describes_as _ (ToCheckSure by) (ToCheckSure checking) c.args.described.now same describes) in
+    let of = is_read heads.Definite _ (λ files. files) by.file c.args.described.now c.requires.says (describes_as _ (ToCheckSure by) (ToCheckSure checking) c.args.described.now same describes) in
     let refused = rw c.in-Err-Refused.field-0-is at (c.in-Err-Refused.ensures.refused (description_in of.places) (description_is of.places c.args.described.now of.said)) in
     let name = c.file_named-file.ensures ∙ ap (λ names. file_named names c.in-Err-Refused.refusal) c.items.ensures in
     prints_refusal words _ (c.args.asked.now.log.now ∷ []) c.in-Err-Refused.refusal c.file_named-file.result.now _ _ c.refuse.result

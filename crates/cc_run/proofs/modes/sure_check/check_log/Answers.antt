@@ -6,9 +6,9 @@ use Rattle.cc_run.proofs.modes.sure_check.check_log.Goals as goal
 pub returns-in-Ok : goal.returns-in-Ok
 returns-in-Ok g c = λ words checking d q asked of named.
     let said = c.in-Ok.ensures in
-    prints_sure_verdict words checking d q c.args.bytes.now c.in-Ok.verdict _ _ c.tell_verdict.result asked named c.requires.few
+    prints_sure_verdict words checking d q c.args.bytes.now c.in-Ok.verdict _ _ c.tell_silent_verdict.result asked named c.requires.few
     (said.verdict d q of.laws_are of.query_is) (said.within d q of.laws_are of.query_is) (said.refutes d q of.laws_are of.query_is)
-    c.tell_verdict.ensures.told c.tell_verdict.ensures.status
+    c.tell_silent_verdict.ensures.told c.tell_silent_verdict.ensures.status
 
 pub returns-in-Err-Refused : goal.returns-in-Err-Refused
 returns-in-Err-Refused g c = λ words checking d q asked of named.

@@ -1,5 +1,6 @@
 use Rattle.std.proofs.Common.{◌∙◌, [], ap, refl}
 use Rattle.cc_defs.specs.declared.refusal.Fault.TheVariants as faults
+use Rattle.cc_describe.specs.declared.heads.Heads.TheVariants as heads
 use Rattle.cc_describe.specs.FirstRefusal.{file_named}
 use Rattle.cc_run.specs.Tasks.{description_in}
 use Rattle.cc_run.proofs.Explained.{fault_as, looked_as, prints_explained, refuses_row}
@@ -15,7 +16,7 @@ explain_row-requires-clause-of g c =
 
 pub returns-in-Ok : goal.returns-in-Ok
 returns-in-Ok g c = λ words explaining asked same describes.
-    let of = is_read _ (λ files. files) explaining.file c.args.described.now c.requires.says describes in
+    let of = is_read heads.Definite _ (λ files. files) explaining.file c.args.described.now c.requires.says describes in
     let description = description_is of.places c.args.described.now of.said in
     let looked = c.in-Ok.ensures.named (description_in of.places) description in
     prints_explained words explaining c.args.described.now c.args.described.now.sig c.in-Ok.row.laws c.in-Ok.row.key c.in-Ok.row.is_path _ _ c.explain_row.result of asked
@@ -24,7 +25,7 @@ returns-in-Ok g c = λ words explaining asked same describes.
 
 pub returns-in-Err-Refused : goal.returns-in-Err-Refused
 returns-in-Err-Refused g c = λ words explaining asked same describes.
-    let of = is_read _ (λ files. files) explaining.file c.args.described.now c.requires.says describes in
+    let of = is_read heads.Definite _ (λ files. files) explaining.file c.args.described.now c.requires.says describes in
     let refused = rw c.in-Err-Refused.field-0-is at (c.in-Err-Refused.ensures.refused (description_in of.places) (description_is of.places c.args.described.now of.said)) in
     let name = c.file_named-file.ensures ∙ ap (λ names. file_named names c.in-Err-Refused.refusal) c.items.ensures in
     prints_refusal words _ [] c.in-Err-Refused.refusal c.file_named-file.result.now _ _ c.refuse.result

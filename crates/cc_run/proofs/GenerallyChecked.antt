@@ -1,0 +1,128 @@
+-- A log of rivals that is to be judged: what is said of it, and what is refused.
+use Rattle.std.proofs.Common.{◌≡◌, ◌∙◌, refl, sym, ap, subst, ℕ, ◌<◌, ◌≤◌, false, List, [], codes, length, Option, Some, None, Result, Ok, Err, IfSome, IfOk, inl, inr}
+use Rattle.cc_check.specs.declared.silent.SilentVerdict.{SilentVerdict}
+use Rattle.cc_check.specs.Silent.{IsSilentFault, IsSilentVerdict, IsSilentVerdictWithin}
+use Rattle.cc_defs.specs.declared.refusal.Fault.TheVariants as faults
+use Rattle.cc_defs.specs.declared.refusal.LimitAt.TheVariants as limits
+use Rattle.cc_defs.specs.declared.refusal.Refusal.{Refusal}
+use Rattle.cc_defs.specs.Limits.{limit_number}
+use Rattle.cc_defs.specs.Refusals.{past}
+use Rattle.cc_defs.specs.Resolved.{Query}
+use Rattle.cc_describe.specs.Places.{Files}
+use Rattle.cc_ports.specs.Contents.{Contents}
+use Rattle.cc_run.specs.declared.status.Status.{Status}
+use Rattle.cc_run.specs.declared.status.Stop.{Stop}
+use Rattle.cc_run.specs.Answers.{Gives}
+use Rattle.cc_run.specs.Modes.CheckingGeneral.{ChecksGeneral, NamesGeneralLog, RefusesCheckingGeneral, named_for_general}
+use Rattle.cc_run.specs.Modes.CheckingSure.{MayEndCheckingSure, silent_verdict_line, silent_verdict_status}
+use Rattle.cc_run.specs.Modes.Generally.{NamesWide, RefusesGenerally}
+use Rattle.cc_run.specs.Names.{MayEndWith}
+use Rattle.cc_run.specs.Stops.{Moment, Prints, Step}
+use Rattle.cc_run.specs.Tasks.{request_of}
+use Rattle.cc_run.specs.Wholes.{Whole, only_out}
+use Rattle.cc_general.specs.GeneralLogs.{ProvesHistories, general_subject}
+use Rattle.cc_wide.specs.WideLaws.{WideDescription}
+use Rattle.cc_words.specs.declared.asked.CheckGeneralAsked.{CheckGeneralAsked}
+use Rattle.cc_words.specs.Requests.{Request, GeneralChecking, ToCheckGeneral}
+use Rattle.cc_words.specs.Words.{Text}
+use Rattle.cc_run.proofs.Outcomes.{RefusesRequest, asks_no_more, known, prints_whole}
+use Rattle.cc_run.proofs.Readings.{general_checking_by}
+use Rattle.cc_run.proofs.SurelyChecked.{verdict_may}
+
+same_checking : (a b : GeneralChecking) → ToCheckGeneral a ≡ ToCheckGeneral b → a ≡ b
+same_checking a b e = cc
+
+pub checking_is : (asked : CheckGeneralAsked) (checking : GeneralChecking) → ToCheckGeneral (general_checking_by asked) ≡ ToCheckGeneral checking → general_checking_by asked ≡ checking
+checking_is asked checking e = same_checking (general_checking_by asked) checking e
+
+pub named_as : (o : Option Contents) (asked : CheckGeneralAsked) (checking : GeneralChecking) → general_checking_by asked ≡ checking → (w : WideDescription) (q : Query) →
+    IfSome o (λ c. NamesWide c.files (named_for_general (general_checking_by asked)) w q) → IfSome o (λ c. NamesWide c.files (named_for_general checking) w q)
+named_as o asked checking is w q named = subst (λ (s : GeneralChecking). IfSome o (λ c. NamesWide c.files (named_for_general s) w q)) is named
+
+-- what was read is the log
+pub is_log : (o : Option Contents) (checking : GeneralChecking) (w : WideDescription) (q : Query) (name read bytes : List ℕ) → name ≡ checking.log → bytes ≡ read →
+    IfSome o (λ c. NamesWide c.files (named_for_general checking) w q) → IfSome o (λ c. c.files name ≡ Some read) → IfSome o (λ c. NamesGeneralLog c.files checking w q bytes)
+is_log None checking w q name read bytes same same_bytes is there = tt
+is_log (Some c) checking w q name read bytes same same_bytes is there = record {
+  is = is;
+  there = subst (λ (b : List ℕ). c.files checking.log ≡ Some b) (sym same_bytes) (subst (λ (n : Text). c.files n ≡ Some read) same there);
+}
+
+-- ---- what is refused
+
+abbrev Refuses : Option Contents → List Text → Refusal → Text → Type 0
+Refuses o words refusal file = IfSome o (λ c. RefusesRequest c.files (request_of words) refusal file)
+
+refuses_checking : (o : Option Contents) (words : List Text) (checking : GeneralChecking) (refusal : Refusal) (file : Text) → request_of words ≡ Some (ToCheckGeneral checking) →
+    IfSome o (λ c. RefusesCheckingGeneral c.files checking refusal file) → Refuses o words refusal file
+refuses_checking o words checking refusal file asked =
+    known o (λ c. RefusesCheckingGeneral c.files checking refusal file) (λ c. RefusesRequest c.files (request_of words) refusal file)
+    (λ c refused. subst (λ (r : Option Request). RefusesRequest c.files r refusal file) (sym asked) refused)
+
+pub refuses_named : (o : Option Contents) (words : List Text) (checking : GeneralChecking) (refusal : Refusal) (file : Text) → request_of words ≡ Some (ToCheckGeneral checking) →
+    IfSome o (λ c. RefusesGenerally c.files (named_for_general checking) refusal file) → Refuses o words refusal file
+refuses_named o words checking refusal file asked refused =
+    refuses_checking o words checking refusal file asked
+    (known o (λ c. RefusesGenerally c.files (named_for_general checking) refusal file) (λ c. RefusesCheckingGeneral c.files checking refusal file) (λ c is. inl is) refused)
+
+-- a log that passes its limit
+pub refuses_long : (o : Option Contents) (words : List Text) (checking : GeneralChecking) (w : WideDescription) (q : Query) (name : Text) (most : ℕ) (refusal : Refusal) →
+    request_of words ≡ Some (ToCheckGeneral checking) → name ≡ checking.log → IfSome o (λ c. NamesWide c.files (named_for_general checking) w q) →
+    IfSome o (λ c. (bytes : List ℕ) × (c.files name ≡ Some bytes) × (most < length bytes)) → most ≡ limit_number limits.LogBytes → refusal ≡ past limits.LogBytes →
+    Refuses o words refusal []
+refuses_long o words checking w q name most refusal asked same is long most_is past_is = refuses_checking o words checking refusal [] asked (by o is long)
+  where
+    by : (o : Option Contents) → IfSome o (λ c. NamesWide c.files (named_for_general checking) w q) →
+        IfSome o (λ c. (bytes : List ℕ) × (c.files name ≡ Some bytes) × (most < length bytes)) → IfSome o (λ c. RefusesCheckingGeneral c.files checking refusal [])
+    by None is long = tt
+    by (Some c) is long =
+        let there = subst (λ (n : Text). c.files n ≡ Some long.0) same long.1 in
+        inr (w, q, long.0, record { is = is; there = there }, inl (subst (λ (n : ℕ). n < length long.0) most_is long.2, past_is), refl)
+
+-- a section that passes a limit
+pub refuses_section : (o : Option Contents) (words : List Text) (checking : GeneralChecking) (w : WideDescription) (q : Query) (bytes : List ℕ) (refusal : Refusal) →
+    request_of words ≡ Some (ToCheckGeneral checking) → IfSome o (λ c. NamesGeneralLog c.files checking w q bytes) → length bytes ≤ limit_number limits.LogBytes →
+    IsSilentFault (general_subject w q) bytes (faults.Refused refusal) → Refuses o words refusal []
+refuses_section o words checking w q bytes refusal asked named few fault =
+    refuses_checking o words checking refusal [] asked
+    (known o (λ c. NamesGeneralLog c.files checking w q bytes) (λ c. RefusesCheckingGeneral c.files checking refusal [])
+    (λ c log. inr (w, q, bytes, log, inr (few, fault), refl)) named)
+
+-- ---- what is said
+
+pub prints_general_verdict : (words : List Text) (checking : GeneralChecking) (w : WideDescription) (q : Query) (bytes : List ℕ) (verdict : SilentVerdict) (x z : Moment) (r : Result Status Stop) →
+    request_of words ≡ Some (ToCheckGeneral checking) → IfSome x.told (λ c. NamesGeneralLog c.files checking w q bytes) → length bytes ≤ limit_number limits.LogBytes →
+    IsSilentVerdict (general_subject w q) bytes verdict → IsSilentVerdictWithin (general_subject w q) bytes verdict → ProvesHistories w q bytes verdict →
+    Step (only_out (silent_verdict_line (codes "histories") verdict)) x z r → IfOk r (λ status. status ≡ silent_verdict_status verdict) → Prints words false [] x z r
+prints_general_verdict words checking w q bytes verdict x z r asked named few judged within proves step status =
+    prints_whole words false [] whole x z r
+    (known x.told (λ c. NamesGeneralLog c.files checking w q bytes) (λ c. Gives c.files (request_of words) whole)
+    (λ c log. subst (λ (o : Option Request). Gives c.files o whole) (sym asked) (inr (checks c.files log))) named)
+    refl step (ended r status) (may r status) (asks_no_more words (ToCheckGeneral checking) x z r asked (λ _. refl) step.moves.called)
+  where
+    whole : Whole
+    whole = record { given = only_out (silent_verdict_line (codes "histories") verdict); begun = false; ends = Some (silent_verdict_status verdict) }
+
+    checks : (files : Files) → NamesGeneralLog files checking w q bytes → ChecksGeneral checking files whole
+    checks files log = record {
+      description = w;
+      query = q;
+      bytes = bytes;
+      named = log;
+      few = few;
+      verdict = verdict;
+      judged = judged;
+      within = within;
+      proves = proves;
+      given = refl;
+      begun = refl;
+      ends = refl;
+    }
+
+    ended : (r : Result Status Stop) → IfOk r (λ status. status ≡ silent_verdict_status verdict) → IfOk r (λ status. Some (silent_verdict_status verdict) ≡ Some status)
+    ended (Ok status) is = ap Some (sym is)
+    ended (Err stop) is = tt
+
+    may : (r : Result Status Stop) → IfOk r (λ status. status ≡ silent_verdict_status verdict) → IfOk r (MayEndWith (request_of words))
+    may (Ok status) is = subst (λ (o : Option Request). MayEndWith o status) (sym asked) (subst MayEndCheckingSure (sym is) (verdict_may verdict))
+    may (Err stop) is = tt

@@ -1,0 +1,107 @@
+-- A run over candidates that is told, from its steps.
+use Rattle.std.proofs.Common.{◌≡◌, ◌∙◌, refl, sym, ap, subst, ℕ, List, [], length, Option, Some, None, Result, Ok, Err, IfSome, IfOk, inl, inr}
+use Rattle.std.specs.Prelude.{is_some}
+use Rattle.cc_defs.specs.declared.refusal.Refusal.{Refusal}
+use Rattle.cc_defs.specs.Resolved.{Query}
+use Rattle.cc_defs.specs.Runs.{optional}
+use Rattle.cc_describe.specs.Places.{Files}
+use Rattle.cc_general.specs.GeneralRuns.{GeneralEnding, Complete, Asked, NoneAtAll, SpentAmong, SpentOver, GeneralRun}
+use Rattle.cc_ports.specs.Contents.{Contents}
+use Rattle.cc_run.specs.declared.status.Status.{Status}
+use Rattle.cc_run.specs.declared.status.Status.TheVariants as statuses
+use Rattle.cc_run.specs.declared.status.Stop.{Stop}
+use Rattle.cc_run.specs.Answers.{Gives}
+use Rattle.cc_run.specs.Generals.{TellsGenerally, generally_given}
+use Rattle.cc_run.specs.Modes.Generally.{EndsGenerally, ListsGenerally, NamesWide, RefusesGenerally, general_status, named_generally}
+use Rattle.cc_run.specs.Names.{MayEndWith, log_asked}
+use Rattle.cc_run.specs.Promises.{IsEndStatus}
+use Rattle.cc_run.specs.Stops.{Begins, Moment, Prints, outcome}
+use Rattle.cc_run.specs.Tasks.{request_of}
+use Rattle.cc_run.specs.Wholes.{Whole, nothing}
+use Rattle.cc_wide.specs.WideLaws.{WideDescription}
+use Rattle.cc_words.specs.declared.asked.GeneralAsked.{GeneralAsked}
+use Rattle.cc_words.specs.Requests.{Generally, Request, ToListGenerally}
+use Rattle.cc_words.specs.Words.{Text}
+use Rattle.cc_run.proofs.GivenSteps.{step_as}
+use Rattle.cc_run.proofs.Outcomes.{RefusesRequest, known, prints_begun}
+use Rattle.cc_run.proofs.Readings.{generally_by}
+use Rattle.cc_run.proofs.SurelyTold.{log_begins}
+
+-- ---- what is asked
+
+same_generally : (a b : Generally) → ToListGenerally a ≡ ToListGenerally b → a ≡ b
+same_generally a b e = cc
+
+pub generally_is : (asked : GeneralAsked) (generally : Generally) → ToListGenerally (generally_by asked) ≡ ToListGenerally generally → generally_by asked ≡ generally
+generally_is asked generally e = same_generally (generally_by asked) generally e
+
+-- a log that is begun as it is named
+pub begins_generally : {X : Type 0} (asked : GeneralAsked) (generally : Generally) → generally_by asked ≡ generally → (names : List Text) (x y : Moment) (r : Result X Stop) →
+    Begins (is_some asked.log) names x y r → Begins (is_some generally.log) names x y r
+begins_generally asked generally is names x y r begins = subst (λ b. Begins b names x y r) (log_begins asked.log ∙ ap (λ (g : Generally). is_some g.log) is) begins
+
+-- what is refused of it
+pub refuses_asked : (o : Option Contents) (words : List Text) (generally : Generally) (refusal : Refusal) (file : Text) → request_of words ≡ Some (ToListGenerally generally) →
+    IfSome o (λ before. RefusesGenerally before.files (named_generally generally) refusal file) → IfSome o (λ before. RefusesRequest before.files (request_of words) refusal file)
+refuses_asked o words generally refusal file asked =
+    known o (λ before. RefusesGenerally before.files (named_generally generally) refusal file) (λ before. RefusesRequest before.files (request_of words) refusal file)
+    (λ before refused. subst (λ (r : Option Request). RefusesRequest before.files r refusal file) (sym asked) refused)
+
+-- the log that is named is the one that is asked for, however the run ends
+pub general_log_named : (words : List Text) (generally : Generally) (names : List Text) → request_of words ≡ Some (ToListGenerally generally) → names ≡ optional generally.log →
+    (status : Status) → names ≡ log_asked (request_of words) status
+general_log_named words generally names asked named status = named ∙ sym (ap (λ (o : Option Request). log_asked o status) asked)
+
+-- ---- a run
+
+status_may : (q : Query) (run : GeneralRun) (ending : GeneralEnding) → IsEndStatus (general_status q run ending)
+status_may q run Complete = tt
+status_may q run Asked = tt
+status_may q run NoneAtAll = tt
+status_may q run (SpentAmong section) = tt
+status_may q run (SpentOver row section) = tt
+
+generally_may : (w : WideDescription) (q : Query) (count : Option ℕ) (run : GeneralRun) (err : List ℕ) (ends : Option Status) (status : Status) → EndsGenerally w q count run err ends →
+    ends ≡ Some status → IsEndStatus status
+generally_may w q count run err None status how is = absurd cc
+generally_may w q count run err (Some other) status (inl ended) is =
+    let same : other ≡ status = cc in subst IsEndStatus (sym ended.3 ∙ same) (status_may q run ended.0)
+generally_may w q count run err (Some other) status (inr refused) is =
+    let same : other ≡ status = cc in subst IsEndStatus (sym refused.3 ∙ same) tt
+
+pub prints_generally : {X : Type 0} (words : List Text) (generally : Generally) (w : WideDescription) (q : Query) (names : List Text) (x y z : Moment) (b : Result X Stop) (v : X) (r : Result Status Stop) →
+    request_of words ≡ Some (ToListGenerally generally) → names ≡ optional generally.log → IfSome x.told (λ c. NamesWide c.files (named_generally generally) w q) →
+    Begins (is_some generally.log) names x y b → b ≡ Ok v → TellsGenerally w q generally.count generally.budget nothing y z r → Prints words (is_some generally.log) [] x z r
+prints_generally words generally w q names x y z b v r asked named is at was told =
+    let more = told.more in
+    let whole : Whole = record { given = record (generally_given w q told.run) { err = more.err }; begun = is_some generally.log; ends = told.ends } in
+    let lists : (files : Files) → NamesWide files (named_generally generally) w q → ListsGenerally generally files whole = λ files is. record {
+      description = w;
+      query = q;
+      named = is;
+      run = told.run;
+      fair = more.fair;
+      out = refl;
+      log = refl;
+      begun = refl;
+      ends = more.how;
+    } in
+    let names_are = general_log_named words generally names asked named in
+    prints_begun words (is_some generally.log) names whole x y z b v r (names_are statuses.Right) (λ _. names_are (outcome r))
+    (known x.told (λ c. NamesWide c.files (named_generally generally) w q) (λ c. Gives c.files (request_of words) whole)
+    (λ c is. subst (λ (o : Option Request). Gives c.files o whole) (sym asked) (inr (lists c.files is))) is)
+    refl at was (step_as more.given whole.given y z r more.grows more.step) told.ended (may r told.ended)
+  where
+    may : (r : Result Status Stop) → IfOk r (λ status. told.ends ≡ Some status) → IfOk r (MayEndWith (request_of words))
+    may (Ok status) is = subst (λ (o : Option Request). MayEndWith o status) (sym asked)
+        (generally_may w q generally.count told.run told.more.err told.ends status told.more.how is)
+    may (Err stop) is = tt
+
+-- the same, asked by what the program has
+pub told_as : (asked : GeneralAsked) (generally : Generally) → generally_by asked ≡ generally → (w : WideDescription) (q : Query) (x y : Moment) (r : Result Status Stop) →
+    TellsGenerally w q asked.count asked.budget nothing x y r → TellsGenerally w q generally.count generally.budget nothing x y r
+told_as asked generally is w q x y r tells = subst (λ (g : Generally). TellsGenerally w q g.count g.budget nothing x y r) is tells
+
+pub named_as : (o : Option Contents) (asked : GeneralAsked) (generally : Generally) → generally_by asked ≡ generally → (w : WideDescription) (q : Query) →
+    IfSome o (λ c. NamesWide c.files (named_generally (generally_by asked)) w q) → IfSome o (λ c. NamesWide c.files (named_generally generally) w q)
+named_as o asked generally is w q named = subst (λ (g : Generally). IfSome o (λ c. NamesWide c.files (named_generally g) w q)) is named

@@ -1,0 +1,28 @@
+use Rattle.std.proofs.Common.{refl, subst, sym}
+use Rattle.cc_general.specs.Generals.{IsRightFault, IsWritable}
+use Rattle.cc_run.proofs.GeneralFinds.{event_told, goes_next, limit_told, memory_told}
+use Rattle.cc_run.proofs.GivenSteps.{step_as}
+use Rattle.cc_run.proofs.WideClaims.{bare, bare_is, given_framed}
+use Rattle.cc_run.proofs.modes.general.tell_next.Goals as goal
+
+pub tell_general-requires-clause-writable : goal.tell_general-requires-clause-writable
+tell_general-requires-clause-writable g c = subst (λ s. IsWritable s c.in-Ok.event) (sym c.requires.same) c.in-Ok.ensures.writable
+
+pub returns-in-Ok-clause-tells : goal.returns-in-Ok-clause-tells
+returns-in-Ok-clause-tells g c = λ w q run is general stands.
+    event_told w q run c.args.general.now c.next.new.self stands c.in-Ok.event _ _ c.tell_general.result (c.in-Ok.ensures.tells w q run general stands) c.next.ensures.same
+    (step_as _ _ _ _ c.tell_general.result (given_framed c.args.described.now w is c.in-Ok.event)
+    (c.tell_general.ensures.told (bare c.args.described.now w is) (bare_is c.args.described.now w is))) c.tell_general.ensures.status
+
+pub returns-in-Ok-clause-next : goal.returns-in-Ok-clause-next
+returns-in-Ok-clause-next g c =
+    goes_next c.args.general.now c.next.new.self c.in-Ok.event c.tell_general.result c.in-Ok.ensures.goes c.in-Ok.ensures.less c.tell_general.ensures.status
+
+pub returns-in-Err-Refused-clause-tells : goal.returns-in-Err-Refused-clause-tells
+returns-in-Err-Refused-clause-tells g c = λ w q run is general stands.
+    let refused = subst (λ fault. IsRightFault c.args.general.now fault) c.in-Err-Refused.field-0-is c.in-Err-Refused.ensures.refused in
+    limit_told w q run c.args.general.now c.next.new.self stands c.in-Err-Refused.refusal _ _ c.tell_limit.result (refused w q run general stands)
+    c.tell_limit.ensures.told c.tell_limit.ensures.status
+
+pub returns-in-Err-OutOfMemory-clause-tells : goal.returns-in-Err-OutOfMemory-clause-tells
+returns-in-Err-OutOfMemory-clause-tells g c = λ w q run is general stands. memory_told w q run c.args.general.now c.next.new.self stands _ _ refl

@@ -1,0 +1,183 @@
+//! General mode: the first histories of a query by the definition of a model itself, where heads may be of any form.
+ghost use Rattle.std.specs.Prelude.{◌≡◌, ◌<◌, ◌≤◌, ℕ, List, [], IfOk, IfSome, IsNone, Some, is_some};
+ghost use Rattle.cc_arena.specs.GroundViews.{plain_ground_query};
+ghost use Rattle.cc_asked.specs.Descriptions.{IsWideDescriptionOf};
+ghost use Rattle.cc_defs.specs.Resolved.{Query};
+ghost use Rattle.cc_describe.specs.declared.heads.Heads.TheVariants as heads;
+ghost use Rattle.cc_describe.specs.Describing.{AsksFormulas, Describes, HasWideForms, SaysAll};
+ghost use Rattle.cc_general.specs.GeneralRuns.{GeneralRun};
+ghost use Rattle.cc_general.specs.Generals.{HasMore, IsGeneralOf, IsSame, Stands, left_of};
+ghost use Rattle.cc_run.specs.Generals.{AreWideOf, AreWideSearchable, IsGeneralOfSome, TellsGeneralEvent, TellsGenerally, generally_given};
+ghost use Rattle.cc_run.specs.Modes.Generally.{NamesWide, named_generally};
+ghost use Rattle.cc_run.specs.Stops.{Prints, moment};
+ghost use Rattle.cc_run.specs.Tasks.{request_of};
+ghost use Rattle.cc_run.specs.Wholes.{nothing};
+ghost use Rattle.cc_sorts.specs.Tables.{IsSignatureFor};
+ghost use Rattle.cc_wide.specs.WideLaws.{WideDescription};
+ghost use Rattle.cc_words.specs.Requests.{Generally, ToListGenerally};
+ghost use Rattle.cc_words.specs.Views.{plain_request};
+ghost use Rattle.cc_words.specs.Words.{Text};
+ghost use Rattle.cc_words.specs.declared.asked.Asked.TheVariants as requests;
+
+use crate::generally::tell_general;
+use crate::refusing::{file_named, give, refuse};
+use crate::searching::{begin_log, tell_limit};
+use crate::status::{Status, Stop};
+use crate::wide::{PreparedWide, prepare_wide};
+use bumpalo::Bump;
+use cc_arena::Terms;
+use cc_defs::Fault;
+use cc_describe::Described;
+use cc_general::General;
+use cc_ports::{Desk, To};
+use cc_words::GeneralAsked;
+use std::alloc::Global;
+
+/// Tells the next event of a run, or the limit that it comes to, and answers the run's status where that was the last.
+fn tell_next<D: Desk>(
+    alloc: Global,
+    desk: &mut D,
+    described: &Described,
+    general: &mut General<'_>,
+) -> Result<Option<Status>, Stop>
+    requires signature { IsSignatureFor described.now.table described.now.sig }
+    requires same { described.now.sig ≡ general.old.signature }
+    requires more { HasMore general.old }
+    requires of { IsGeneralOfSome described.now general.old }
+    ensures tells { (w : WideDescription) (q : Query) (run : GeneralRun) →
+        IsWideDescriptionOf described.now w → IsGeneralOf general.old w q →
+        Stands w q general.old run → TellsGeneralEvent w q general.old.count general.old.budget
+        run general.new (moment D.told D.begun D.read_faults D.write_faults D.calls desk.old)
+        (moment D.told D.begun D.read_faults D.write_faults D.calls desk.new) result }
+    ensures next { IfOk result (λ status. IsNone status →
+        HasMore general.new × (left_of general.new < left_of general.old)) }
+    ensures same { IsSame general.old general.new }
+{
+    match general.next() {
+        Ok(event) => tell_general(alloc, desk, described, &event),
+        Err(Fault::Refused(refusal)) => tell_limit(alloc, desk, &refusal),
+        Err(Fault::OutOfMemory) => Err(Stop::OutOfMemory),
+    }
+}
+
+/// Tells all events of a run, one after another, up to its ending or to a limit that it comes to.
+fn tell_all<D: Desk>(
+    alloc: Global,
+    desk: &mut D,
+    described: &Described,
+    mut general: General<'_>,
+) -> Result<Status, Stop>
+    requires signature { IsSignatureFor described.now.table described.now.sig }
+    requires same { described.now.sig ≡ general.signature }
+    requires more { HasMore general }
+    requires of { IsGeneralOfSome described.now general }
+    ensures { (w : WideDescription) (q : Query) (run : GeneralRun) →
+        IsWideDescriptionOf described.now w → IsGeneralOf general.entry w q →
+        Stands w q general.entry run → TellsGenerally w q general.entry.count general.entry.budget
+        (generally_given w q run)
+        (moment D.told D.begun D.read_faults D.write_faults D.calls desk.old)
+        (moment D.told D.begun D.read_faults D.write_faults D.calls desk.new) result }
+{
+    loop {
+        match tell_next(alloc, desk, described, &mut general)? {
+            Some(status) => return Ok(status),
+            None => {}
+        }
+    }
+}
+
+/// Gives the log its header, and tells all events of a run.
+fn tell_run<D: Desk>(
+    alloc: Global,
+    desk: &mut D,
+    described: &Described,
+    prepared: &PreparedWide<'_>,
+    count: Option<u32>,
+    budget: u32,
+) -> Result<Status, Stop>
+    requires signature { IsSignatureFor described.now.table described.now.sig }
+    requires searchable { AreWideSearchable described.now.sig prepared.now.laws
+        (plain_ground_query prepared.now.query) }
+    requires count { IfSome count (λ most. 1 ≤ most) }
+    requires budget { budget ≤ 2000000 }
+    requires of { (w : WideDescription) × (q : Query) × IsWideDescriptionOf described.now w
+        × AreWideOf described.now.sig prepared.now.laws
+        (plain_ground_query prepared.now.query) w q }
+    ensures { (w : WideDescription) (q : Query) → IsWideDescriptionOf described.now w → AreWideOf
+        described.now.sig prepared.now.laws (plain_ground_query prepared.now.query) w q →
+        TellsGenerally w q count budget nothing
+        (moment D.told D.begun D.read_faults D.write_faults D.calls desk.old)
+        (moment D.told D.begun D.read_faults D.write_faults D.calls desk.new) result }
+{
+    let general = General::new(
+        alloc,
+        &described.sig,
+        &prepared.laws,
+        &prepared.query,
+        count,
+        budget,
+    );
+    give(desk, To::Log, b"ccalc general 1\n")?;
+    tell_all(alloc, desk, described, general)
+}
+
+/// Begins the log where one is named, and tells all events of a run.
+fn list_generally<D: Desk>(
+    alloc: Global,
+    desk: &mut D,
+    described: &Described,
+    asked: &GeneralAsked<'_>,
+    prepared: &PreparedWide<'_>,
+) -> Result<Status, Stop>
+    requires signature { IsSignatureFor described.now.table described.now.sig }
+    requires searchable { AreWideSearchable described.now.sig prepared.now.laws
+        (plain_ground_query prepared.now.query) }
+    requires count { IfSome asked.now.count (λ count. 1 ≤ count) }
+    requires budget { asked.now.budget ≤ 2000000 }
+    requires of { (w : WideDescription) × (q : Query) × IsWideDescriptionOf described.now w
+        × AreWideOf described.now.sig prepared.now.laws
+        (plain_ground_query prepared.now.query) w q }
+    ensures { (words : List Text) (generally : Generally) (w : WideDescription) (q : Query) →
+        request_of words ≡ Some (ToListGenerally generally) →
+        plain_request (requests.General asked.now) ≡ ToListGenerally generally →
+        IsWideDescriptionOf described.now w → AreWideOf described.now.sig prepared.now.laws
+        (plain_ground_query prepared.now.query) w q → IfSome (D.told desk.old) (λ before.
+        NamesWide before.files (named_generally generally) w q) → Prints words
+        (is_some generally.log) [] (moment D.told D.begun D.read_faults D.write_faults D.calls
+        desk.old) (moment D.told D.begun D.read_faults D.write_faults D.calls desk.new) result }
+{
+    begin_log(desk, asked.log)?;
+    tell_run(alloc, desk, described, prepared, asked.count, asked.budget)
+}
+
+/// Lists the first histories of a query by the definition of a model itself.
+pub(crate) fn general<D: Desk>(
+    alloc: Global,
+    desk: &mut D,
+    described: &Described,
+    asked: &GeneralAsked<'_>,
+) -> Result<Status, Stop>
+    requires count { IfSome asked.now.count (λ count. 1 ≤ count) }
+    requires budget { asked.now.budget ≤ 2000000 }
+    requires says { SaysAll heads.Any described.now }
+    requires forms { HasWideForms described.now }
+    requires formulas { AsksFormulas described.now }
+    ensures { (words : List Text) (generally : Generally) →
+        request_of words ≡ Some (ToListGenerally generally) →
+        plain_request (requests.General asked.now) ≡ ToListGenerally generally →
+        IfSome (D.told desk.old) (λ before.
+        Describes heads.Any before.files generally.file described.now) → Prints words
+        (is_some generally.log) [] (moment D.told D.begun D.read_faults D.write_faults D.calls
+        desk.old) (moment D.told D.begun D.read_faults D.write_faults D.calls desk.new) result }
+{
+    let arena = Bump::new(alloc);
+    let terms = Terms::new(&arena);
+    match prepare_wide(alloc, described, asked.query, &terms) {
+        Ok(prepared) => list_generally(alloc, desk, described, asked, &prepared),
+        Err(Fault::Refused(refusal)) => {
+            let file = file_named(described.files.items(), &refusal);
+            refuse(alloc, desk, &refusal, file)
+        }
+        Err(Fault::OutOfMemory) => Err(Stop::OutOfMemory),
+    }
+}

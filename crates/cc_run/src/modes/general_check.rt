@@ -1,0 +1,119 @@
+//! Generalcheck mode: a log of rivals is judged.
+ghost use Rattle.std.specs.Prelude.{◌≡◌, ◌≤◌, List, [], ◌∷◌, false, IfOk, IfSome, IsNone, None, Some, length};
+ghost use Rattle.cc_arena.specs.GroundViews.{plain_ground_query};
+ghost use Rattle.cc_defs.specs.Limits.{limit_number};
+ghost use Rattle.cc_defs.specs.declared.refusal.LimitAt.TheVariants as limits;
+ghost use Rattle.cc_defs.specs.Resolved.{Query};
+ghost use Rattle.cc_describe.specs.declared.heads.Heads.TheVariants as heads;
+ghost use Rattle.cc_describe.specs.Describing.{AsksFormulas, Describes, HasWideForms, SaysAll};
+ghost use Rattle.cc_run.specs.Generals.{AreWideOf, AreWideSearchable};
+ghost use Rattle.cc_run.specs.Modes.CheckingGeneral.{NamesGeneralLog, named_for_general};
+ghost use Rattle.cc_run.specs.Modes.Generally.{NamesWide};
+ghost use Rattle.cc_run.specs.Stops.{Prints, moment};
+ghost use Rattle.cc_run.specs.Tasks.{request_of};
+ghost use Rattle.cc_wide.specs.WideLaws.{WideDescription};
+ghost use Rattle.cc_words.specs.Requests.{GeneralChecking, ToCheckGeneral};
+ghost use Rattle.cc_words.specs.Views.{plain_request};
+ghost use Rattle.cc_words.specs.Words.{Text};
+ghost use Rattle.cc_words.specs.declared.asked.Asked.TheVariants as requests;
+
+use crate::refusing::{file_named, refuse};
+use crate::silent::tell_silent_verdict;
+use crate::status::{Status, Stop};
+use crate::wide::{PreparedWide, prepare_wide};
+use bumpalo::Bump;
+use cc_arena::Terms;
+use cc_defs::{Fault, LimitAt, Refusal};
+use cc_describe::Described;
+use cc_general::check_general;
+use cc_ports::{Desk, ReadStop, read_all};
+use cc_words::CheckGeneralAsked;
+use std::alloc::Global;
+
+/// Judges the bytes of a log.
+fn check_log<D: Desk>(
+    alloc: Global,
+    desk: &mut D,
+    described: &Described,
+    prepared: &PreparedWide<'_>,
+    bytes: &[u8],
+) -> Result<Status, Stop>
+    requires searchable { AreWideSearchable described.now.sig prepared.now.laws
+        (plain_ground_query prepared.now.query) }
+    requires few { length bytes.now ≤ limit_number limits.LogBytes }
+    ensures { (words : List Text) (checking : GeneralChecking) (w : WideDescription) (q : Query) →
+        request_of words ≡ Some (ToCheckGeneral checking) →
+        AreWideOf described.now.sig prepared.now.laws (plain_ground_query prepared.now.query) w q →
+        IfSome (D.told desk.old) (λ before. NamesGeneralLog before.files checking w q bytes.now) →
+        Prints words false [] (moment D.told D.begun D.read_faults D.write_faults D.calls desk.old)
+        (moment D.told D.begun D.read_faults D.write_faults D.calls desk.new) result }
+{
+    match check_general(
+        alloc,
+        &described.sig,
+        &prepared.laws,
+        &prepared.query,
+        bytes,
+    ) {
+        Ok(verdict) => tell_silent_verdict(alloc, desk, "histories", verdict),
+        Err(Fault::Refused(refusal)) => refuse(alloc, desk, &refusal, ""),
+        Err(Fault::OutOfMemory) => Err(Stop::OutOfMemory),
+    }
+}
+
+/// Reads the log and judges it.
+fn check_over<D: Desk>(
+    alloc: Global,
+    desk: &mut D,
+    described: &Described,
+    prepared: &PreparedWide<'_>,
+    log: &str,
+) -> Result<Status, Stop>
+    requires searchable { AreWideSearchable described.now.sig prepared.now.laws
+        (plain_ground_query prepared.now.query) }
+    ensures { (words : List Text) (checking : GeneralChecking) (w : WideDescription) (q : Query) →
+        request_of words ≡ Some (ToCheckGeneral checking) → log.now ≡ checking.log →
+        AreWideOf described.now.sig prepared.now.laws (plain_ground_query prepared.now.query) w q →
+        IfSome (D.told desk.old) (λ before.
+        NamesWide before.files (named_for_general checking) w q) → Prints words false
+        (log.now ∷ []) (moment D.told D.begun D.read_faults D.write_faults D.calls desk.old)
+        (moment D.told D.begun D.read_faults D.write_faults D.calls desk.new) result }
+{
+    match read_all(alloc, desk, log, LimitAt::LogBytes.number() as usize) {
+        Ok(bytes) => check_log(alloc, desk, described, prepared, bytes.items()),
+        Err(ReadStop::Limit) => refuse(alloc, desk, &Refusal::past(LimitAt::LogBytes), ""),
+        Err(ReadStop::Failed) => Err(Stop::ReadFault),
+        Err(ReadStop::OutOfMemory) => Err(Stop::OutOfMemory),
+    }
+}
+
+/// Judges a log of rivals.
+pub(crate) fn check<D: Desk>(
+    alloc: Global,
+    desk: &mut D,
+    described: &Described,
+    asked: &CheckGeneralAsked<'_>,
+) -> Result<Status, Stop>
+    requires says { SaysAll heads.Any described.now }
+    requires forms { HasWideForms described.now }
+    requires formulas { AsksFormulas described.now }
+    ensures { (words : List Text) (checking : GeneralChecking) →
+        request_of words ≡ Some (ToCheckGeneral checking) →
+        plain_request (requests.CheckGeneral asked.now) ≡ ToCheckGeneral checking →
+        IfSome (D.told desk.old)
+        (λ before. Describes heads.Any before.files checking.file described.now) →
+        Prints words false (asked.now.log.now ∷ [])
+        (moment D.told D.begun D.read_faults D.write_faults D.calls desk.old)
+        (moment D.told D.begun D.read_faults D.write_faults D.calls desk.new) result }
+{
+    let arena = Bump::new(alloc);
+    let terms = Terms::new(&arena);
+    match prepare_wide(alloc, described, asked.query, &terms) {
+        Ok(prepared) => check_over(alloc, desk, described, &prepared, asked.log),
+        Err(Fault::Refused(refusal)) => {
+            let file = file_named(described.files.items(), &refusal);
+            refuse(alloc, desk, &refusal, file)
+        }
+        Err(Fault::OutOfMemory) => Err(Stop::OutOfMemory),
+    }
+}
