@@ -20,7 +20,7 @@ from cnf import CnfList, Fault, dimacs, model_text, models, read_cnf
 from sections import Theory, clause_list, converted, is_history, is_path, judge, paths, split_log, split_sure_log, version_of
 
 USAGE = (
-    "usage: ccalc [--mode list|check|make|convert|why|export|models|modelscheck|sure|surecheck] [--query LABEL] [--count N] [--budget B] [--after KEY] "
+    "usage: ccalc [--mode list|check|make|convert|why|export|models|modelscheck|sure|surecheck|general|generalcheck] [--query LABEL] [--count N] [--budget B] [--after KEY] "
     "[--log NAME] [--form 1|2] [--to NAME] [--key KEY] [--horizon M] [--size N] [FILE]"
 )
 OPTIONS = (
