@@ -1,9 +1,8 @@
 -- A query without a claim, and what is refused where it has one.
-use Rattle.std.proofs.Common.{◌≡◌, ◌∙◌, refl, sym, ap, subst, Bool, true, false, cond, List, [], map, Option, Some, None, IfSome, inl, inr, option_map}
+use Rattle.std.proofs.Common.{◌≡◌, ◌∙◌, refl, sym, ap, subst, Bool, true, false, cond, List, map, Option, Some, None, IfSome, inl, inr, option_map}
 use Rattle.std.specs.Prelude.{IsNone, IsSome, is_some}
 use Rattle.cc_arena.specs.GroundViews.{plain_ground_query}
 use Rattle.cc_arena.specs.declared.ground_laws.GroundQuery.{GroundQuery}
-use Rattle.cc_defs.specs.declared.lists.Key.{Key}
 use Rattle.cc_defs.specs.declared.refusal.Fault.{Fault}
 use Rattle.cc_defs.specs.declared.refusal.Fault.TheVariants as faults
 use Rattle.cc_defs.specs.declared.refusal.Refusal.{Refusal}
@@ -13,12 +12,12 @@ use Rattle.cc_defs.specs.Resolved.{Query, plain_query}
 use Rattle.cc_describe.specs.declared.description.Described.{Described}
 use Rattle.cc_describe.specs.declared.heads.Heads.TheVariants as heads
 use Rattle.cc_describe.specs.FirstRefusal.{file_named}
-use Rattle.cc_describe.specs.Places.{Files, Place}
+use Rattle.cc_describe.specs.Places.{Files}
 use Rattle.cc_ports.specs.Contents.{Contents}
 use Rattle.cc_run.specs.Asking.{IsFaultNamed}
 use Rattle.cc_run.specs.Modes.Surely.{NamesUnclaimed, RefusesClaimed, claim_refusal}
-use Rattle.cc_run.specs.Sures.{IsClaimFault, IsUnclaimed, claimed, claimed_named}
-use Rattle.cc_run.specs.Tasks.{AreRead, Named, asked_refusal, description_in, queries_in, query_named}
+use Rattle.cc_run.specs.Sures.{IsClaimFault, IsUnclaimed, claimed_named}
+use Rattle.cc_run.specs.Tasks.{AreRead, Named, asked_refusal, description_in, query_named}
 use Rattle.cc_words.specs.Words.{Text}
 use Rattle.cc_run.proofs.Outcomes.{known}
 use Rattle.cc_run.proofs.Readings.{IsRead}

@@ -1,5 +1,5 @@
 -- How a run over candidates is told, event by event, up to its end.
-use Rattle.std.proofs.Common.{◌≡◌, ◌∙◌, refl, sym, ap, subst, ℕ, ◌+◌, ◌<◌, List, [], ◌∷◌, ◌++◌, append-nil, Option, Some, None, Result, Ok, Err, IfOk, inl, inr}
+use Rattle.std.proofs.Common.{◌≡◌, ◌∙◌, refl, sym, ap, subst, ℕ, ◌<◌, List, [], append-nil, Option, Some, None, Result, Ok, Err, IfOk, inr}
 use Rattle.std.specs.Prelude.{IsErrAnd, IsNone}
 use Rattle.cc_asked.specs.Descriptions.{IsWideDescriptionOf}
 use Rattle.cc_defs.specs.declared.refusal.Refusal.{Refusal}

@@ -8,16 +8,14 @@ use Rattle.cc_defs.specs.declared.event.Ending.TheVariants as endings
 use Rattle.cc_defs.specs.declared.event.Told.{Told}
 use Rattle.cc_defs.specs.Description.{Description}
 use Rattle.cc_defs.specs.Events.{out_text, told_text}
-use Rattle.cc_defs.specs.LogTexts.{line_text}
 use Rattle.cc_defs.specs.Resolved.{Query}
-use Rattle.cc_defs.specs.Runs.{Section, optional, range_of, told, told_row}
+use Rattle.cc_defs.specs.Runs.{Section, range_of, told, told_row}
 use Rattle.cc_general.specs.declared.event.GeneralEvent.{GeneralEvent}
 use Rattle.cc_general.specs.declared.event.GeneralEvent.TheVariants as events
 use Rattle.cc_general.specs.GeneralRuns.{GeneralEnding, Complete, Asked, NoneAtAll, SpentAmong, SpentOver, GeneralRun, Shown, general_horizon}
 use Rattle.cc_general.specs.Generals.{GoesOnBy, IsSpentWith, IsUnspent}
 use Rattle.cc_general.specs.GeneralTold.{ending_of, general_header, general_log, general_told, none_told, shown_text, shown_told, spent_text}
 use Rattle.cc_query.specs.Parts.{section_lines}
-use Rattle.cc_run.specs.declared.status.Status.{Status}
 use Rattle.cc_run.specs.Generals.{general_status_behind, generally_given, given_generally, heading_for, lines_text}
 use Rattle.cc_run.specs.Modes.Generally.{EndsGenerally}
 use Rattle.cc_run.specs.Searching.{status_of}

@@ -1,5 +1,5 @@
 -- A log of rivals that is to be judged: what is said of it, and what is refused.
-use Rattle.std.proofs.Common.{◌≡◌, ◌∙◌, refl, sym, ap, subst, ℕ, ◌<◌, ◌≤◌, false, List, [], codes, length, Option, Some, None, Result, Ok, Err, IfSome, IfOk, inl, inr}
+use Rattle.std.proofs.Common.{◌≡◌, refl, sym, ap, subst, ℕ, ◌<◌, ◌≤◌, false, List, [], codes, length, Option, Some, None, Result, Ok, Err, IfSome, IfOk, inl, inr}
 use Rattle.cc_check.specs.declared.silent.SilentVerdict.{SilentVerdict}
 use Rattle.cc_check.specs.Silent.{IsSilentFault, IsSilentVerdict, IsSilentVerdictWithin}
 use Rattle.cc_defs.specs.declared.refusal.Fault.TheVariants as faults

@@ -1,5 +1,5 @@
 -- A run over candidates that is told, from its steps.
-use Rattle.std.proofs.Common.{◌≡◌, ◌∙◌, refl, sym, ap, subst, ℕ, List, [], length, Option, Some, None, Result, Ok, Err, IfSome, IfOk, inl, inr}
+use Rattle.std.proofs.Common.{◌≡◌, ◌∙◌, refl, sym, ap, subst, ℕ, List, [], Option, Some, None, Result, Ok, Err, IfSome, IfOk, inl, inr}
 use Rattle.std.specs.Prelude.{is_some}
 use Rattle.cc_defs.specs.declared.refusal.Refusal.{Refusal}
 use Rattle.cc_defs.specs.Resolved.{Query}

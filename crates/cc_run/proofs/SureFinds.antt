@@ -1,5 +1,5 @@
 -- How a run on certain and possible atoms is told, event by event, up to its end.
-use Rattle.std.proofs.Common.{◌≡◌, ◌∙◌, refl, sym, ap, subst, ℕ, ◌+◌, ◌<◌, List, [], ◌∷◌, ◌++◌, append-nil, append_assoc, codes, Option, Some, None, Result, Ok, Err, IfOk, inl, inr}
+use Rattle.std.proofs.Common.{◌≡◌, ◌∙◌, refl, sym, ap, subst, ℕ, ◌<◌, List, [], append-nil, append_assoc, Option, Some, None, Result, Ok, Err, IfOk, inr}
 use Rattle.std.specs.Prelude.{IsErrAnd, IsNone, IsSome, ◌≢◌}
 use Rattle.cc_arena.specs.declared.ground_laws.GroundLaw.{GroundLaw}
 use Rattle.cc_asked.specs.Descriptions.{IsDescriptionOf}
@@ -15,7 +15,7 @@ use Rattle.cc_run.specs.declared.status.Status.{Status}
 use Rattle.cc_run.specs.declared.status.Status.TheVariants as statuses
 use Rattle.cc_run.specs.declared.status.Stop.{Stop}
 use Rattle.cc_run.specs.declared.status.Stop.TheVariants as stops
-use Rattle.cc_run.specs.Modes.Surely.{EndsSurely, sure_status}
+use Rattle.cc_run.specs.Modes.Surely.{EndsSurely}
 use Rattle.cc_run.specs.Refusing.{refusal_text}
 use Rattle.cc_run.specs.Stops.{Moment, Moves, Step, given_to}
 use Rattle.cc_run.specs.Sures.{IsSureOfSome, IsWritableRun, TellsEvent, TellsRun, TellsSure, given_of, status_behind, surely_given}
@@ -24,12 +24,11 @@ use Rattle.cc_sure.specs.declared.answer.SureEvent.{SureEvent}
 use Rattle.cc_sure.specs.declared.answer.SureEvent.TheVariants as events
 use Rattle.cc_sure.specs.declared.phase.Phase.{Phase}
 use Rattle.cc_sure.specs.declared.phase.Phase.TheVariants as phases
-use Rattle.cc_sure.specs.Sought.{Sought}
-use Rattle.cc_sure.specs.SureRuns.{IsFairSure, ReachesSureLimit, SureEnding, Complete, NoneAtAll, Spent, SureRun, sought_next, sure_horizon}
-use Rattle.cc_sure.specs.Sures.{Awaits, GoesOn, HasMore, IsFewEvent, IsGoodEvent, IsOver, IsSame, IsShortEvent, IsSureEvent, IsSureOf, Stands, SureView, TellsNext, left_of, nothing_told}
-use Rattle.cc_sure.specs.SureTold.{SureTold, NoneAt, ExampleIs, NeverSo, AnswersAre, Ends, sure_header, sure_log, sure_told}
+use Rattle.cc_sure.specs.SureRuns.{IsFairSure, ReachesSureLimit, SureRun, sure_horizon}
+use Rattle.cc_sure.specs.Sures.{Awaits, GoesOn, HasMore, IsFewEvent, IsGoodEvent, IsSame, IsShortEvent, IsSureOf, Stands, SureView, TellsNext, left_of, nothing_told}
+use Rattle.cc_sure.specs.SureTold.{sure_header, sure_log, sure_told}
 use Rattle.cc_theory.specs.Theories.{AreLawsOf}
-use Rattle.cc_run.proofs.GivenSteps.{given_all, joined-nothing, moves_none, step_again, step_as, step_done, step_nothing, step_of, step_then}
+use Rattle.cc_run.proofs.GivenSteps.{given_all, joined-nothing, moves_none, step_again, step_done, step_nothing, step_of, step_then}
 use Rattle.cc_run.proofs.SureTexts.{ends_so, event_given, event_written, grown, more_written, told_at}
 
 -- ---- one event

@@ -9,7 +9,6 @@ use Rattle.cc_defs.specs.Description.{Description, sizes_at}
 use Rattle.cc_defs.specs.Events.{of_horizon}
 use Rattle.cc_defs.specs.Histories.{AreFirst, AreFirstOf, IsHistory}
 use Rattle.cc_defs.specs.Laws.{PositionsHaveSizes}
-use Rattle.cc_defs.specs.Limits.{most_variables}
 use Rattle.cc_defs.specs.Resolved.{Query}
 use Rattle.cc_defs.specs.Rows.{IsRow}
 use Rattle.cc_defs.specs.LogTexts.{IsFormed, line_text}
@@ -19,7 +18,7 @@ use Rattle.cc_defs.specs.Texts.{history_text, key_line}
 use Rattle.cc_ports.specs.declared.desk.To.TheVariants as outputs
 use Rattle.cc_print.specs.Atoms.{IsAtomOf}
 use Rattle.cc_query.specs.Parts.{section_lines}
-use Rattle.cc_run.specs.Modes.Surely.{EndsSurely, ending_line, sure_line, sure_text}
+use Rattle.cc_run.specs.Modes.Surely.{EndsSurely, ending_line, sure_line}
 use Rattle.cc_run.specs.Stops.{given_to}
 use Rattle.cc_run.specs.Sures.{IsPrintable, IsWritableRun, given_of, heading_of, status_behind, surely_given}
 use Rattle.cc_run.specs.Wholes.{Given, joined}
@@ -30,10 +29,10 @@ use Rattle.cc_run.proofs.Worth.{all_both}
 use Rattle.cc_sure.specs.declared.answer.SureEvent.{SureEvent}
 use Rattle.cc_sure.specs.declared.answer.SureEvent.TheVariants as events
 use Rattle.cc_sure.specs.Sought.{IsSought, PassesNoLimit, Sought, Any, With}
-use Rattle.cc_sure.specs.SureRuns.{AreTrueSettled, AreTrueTried, IsFairSure, IsTrueSettled, IsTrueTried, Settled, SureEnding, Complete, NoneAtAll, Spent, SureRun, Tried, Known, Shown, Never, settled_examples, shown_at, shown_by, sought_next, sure_horizon}
+use Rattle.cc_sure.specs.SureRuns.{AreTrueSettled, AreTrueTried, IsFairSure, Settled, SureEnding, Complete, NoneAtAll, Spent, SureRun, Tried, Known, Shown, Never, settled_examples, shown_at, sought_next, sure_horizon}
 use Rattle.cc_sure.specs.Accepted.{IsWritableTold}
 use Rattle.cc_sure.specs.Sures.{GoesOn, IsFewEvent, IsGoodEvent, IsOver, IsShortEvent, IsSureEvent, SureView, sought_atom}
-use Rattle.cc_sure.specs.SureTold.{SureTold, NoneAt, ExampleIs, NeverSo, AnswersAre, Ends, atom_heading, none_told, settled_told, sought_heading, sure_header, sure_lines, sure_log, sure_told, tried_told}
+use Rattle.cc_sure.specs.SureTold.{SureTold, NoneAt, ExampleIs, NeverSo, AnswersAre, Ends, atom_heading, none_told, settled_told, sought_heading, sure_header, sure_lines, sure_told, tried_told}
 
 -- ---- what is true of all that is told: rows are of the horizon, and the answers of a position are those of its values
 

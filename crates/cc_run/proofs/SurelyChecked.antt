@@ -1,5 +1,5 @@
 -- A log of impossible atoms that is to be judged: what is said of it, and what is refused.
-use Rattle.std.proofs.Common.{◌≡◌, ◌∙◌, refl, sym, ap, subst, ℕ, ◌<◌, ◌≤◌, false, List, [], length, Option, Some, None, Result, Ok, Err, IfSome, IfOk, inl, inr}
+use Rattle.std.proofs.Common.{◌≡◌, refl, sym, ap, subst, ℕ, ◌<◌, ◌≤◌, false, List, [], length, Option, Some, None, Result, Ok, Err, IfSome, IfOk, inl, inr}
 use Rattle.std.specs.Prelude.{codes}
 use Rattle.cc_check.specs.declared.silent.SilentVerdict.{SilentVerdict}
 use Rattle.cc_check.specs.declared.silent.SilentVerdict.TheVariants as verdicts
@@ -16,7 +16,7 @@ use Rattle.cc_ports.specs.Contents.{Contents}
 use Rattle.cc_run.specs.declared.status.Status.{Status}
 use Rattle.cc_run.specs.declared.status.Stop.{Stop}
 use Rattle.cc_run.specs.Answers.{Gives}
-use Rattle.cc_run.specs.Modes.CheckingSure.{ChecksSure, MayEndCheckingSure, NamesSureLog, RefusesCheckingSure, RefusesSureLog, named_to_check, silent_verdict_line, silent_verdict_status}
+use Rattle.cc_run.specs.Modes.CheckingSure.{ChecksSure, MayEndCheckingSure, NamesSureLog, RefusesCheckingSure, named_to_check, silent_verdict_line, silent_verdict_status}
 use Rattle.cc_run.specs.Modes.Surely.{NamesUnclaimed, RefusesClaimed}
 use Rattle.cc_run.specs.Names.{MayEndWith}
 use Rattle.cc_run.specs.Stops.{Moment, Prints, Step}

@@ -1,5 +1,5 @@
 -- A run that tells what is certain and possible, from its steps.
-use Rattle.std.proofs.Common.{◌≡◌, ◌∙◌, refl, sym, ap, subst, ℕ, List, [], Option, Some, None, Result, Ok, Err, IfSome, IfOk, inl, inr, arith, ◌+◌, ◌≤◌}
+use Rattle.std.proofs.Common.{◌≡◌, ◌∙◌, refl, sym, ap, subst, ℕ, List, [], Option, Some, None, Result, Ok, Err, IfSome, IfOk, inl, inr, arith, ◌≤◌}
 use Rattle.std.specs.Borrow.{Bor}
 use Rattle.std.specs.Prelude.{is_some}
 use Rattle.cc_defs.specs.declared.refusal.Refusal.{Refusal}
@@ -17,7 +17,7 @@ use Rattle.cc_run.specs.declared.status.Stop.{Stop}
 use Rattle.cc_run.specs.Answers.{Gives}
 use Rattle.cc_run.specs.Modes.Surely.{EndsSurely, MayEndSurely, NamesUnclaimed, RefusesClaimed, TellsSurely, named_surely, sure_status}
 use Rattle.cc_run.specs.Names.{MayEndWith, log_asked}
-use Rattle.cc_run.specs.Stops.{Begins, Moment, Prints, Step, outcome}
+use Rattle.cc_run.specs.Stops.{Begins, Moment, Prints, outcome}
 use Rattle.cc_run.specs.Sures.{TellsSure, surely_given}
 use Rattle.cc_run.specs.Tasks.{request_of}
 use Rattle.cc_run.specs.Wholes.{Whole, nothing}

@@ -1,5 +1,5 @@
 -- A query without a claim of a description whose laws may have heads of any form, and what is refused where it has one.
-use Rattle.std.proofs.Common.{◌≡◌, ◌∙◌, refl, sym, ap, subst, ℕ, List, [], ◌∷◌, ◌++◌, map, Option, Some, None, IfSome, Result, Ok, Err, inl, inr, option_map}
+use Rattle.std.proofs.Common.{◌≡◌, ◌∙◌, refl, sym, ap, subst, ℕ, List, [], ◌++◌, map, Option, Some, None, IfSome, Result, inl, inr, option_map}
 use Rattle.std.specs.Prelude.{IfErr, IsErrAnd, IsNone}
 use Rattle.std.specs.Option.{option_or}
 use Rattle.cc_arena.specs.GroundViews.{plain_ground_query}
@@ -28,7 +28,7 @@ use Rattle.cc_print.proofs.Described.{same_text_of}
 use Rattle.cc_run.specs.Generals.{IsWideFault, IsWideUnclaimed, given_generally, heading_for, lines_text}
 use Rattle.cc_run.specs.Modes.Generally.{NamesWide, RefusesGenerally, wide_asked_refusal, wide_in}
 use Rattle.cc_run.specs.Sures.{claimed_named}
-use Rattle.cc_run.specs.Tasks.{AreReadFor, Named, queries_in, query_named, query_refusal}
+use Rattle.cc_run.specs.Tasks.{AreReadFor, Named, query_named, query_refusal}
 use Rattle.cc_wide.specs.WideLaws.{WideDescription, frame, plain_wide_base}
 use Rattle.cc_wide_ground.specs.WideGrounding.{wide_laws_refusal}
 use Rattle.cc_words.specs.Words.{Text}

@@ -1,8 +1,6 @@
 -- What general mode works on, and how a run over candidates is told, step by step.
 use Rattle.std.specs.Prelude.{◌≡◌, ◌⊎◌, ℕ, ◌≤◌, List, [], ◌∷◌, ◌++◌, false, flat_map, Option, Some, None, IfOk, IsNone, IsSome, Result}
-use Rattle.cc_arena.specs.GroundViews.{plain_ground_query}
 use Rattle.cc_asked.specs.Descriptions.{IsWideDescriptionOf}
-use Rattle.cc_defs.specs.declared.event.Event.{Event}
 use Rattle.cc_defs.specs.declared.event.Event.TheVariants as said
 use Rattle.cc_defs.specs.declared.event.Ending.TheVariants as endings
 use Rattle.cc_defs.specs.declared.log.LogLine.{LogLine}

@@ -1,4 +1,4 @@
-use Rattle.std.proofs.Common.{ap, subst}
+use Rattle.std.proofs.Common.{subst}
 use Rattle.cc_query.specs.Sessions.{IsRightFault}
 use Rattle.cc_run.specs.Telling.{IsCounted, counts_of}
 use Rattle.cc_run.proofs.EventNumbers.{event_writable, few_axioms}

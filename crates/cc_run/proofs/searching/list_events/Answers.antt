@@ -1,4 +1,4 @@
-use Rattle.std.proofs.Common.{Ok, ap, refl, ◌∙◌}
+use Rattle.std.proofs.Common.{Ok, ap, ◌∙◌}
 use Rattle.std.specs.Prelude.{is_some}
 use Rattle.cc_run.proofs.Listed.{listing_begins, listing_next, listing_ends, listing_stops}
 use Rattle.cc_run.proofs.searching.list_events.Goals as goal

@@ -1,4 +1,4 @@
-use Rattle.std.proofs.Common.{Ok, ap, ◌∙◌, sym}
+use Rattle.std.proofs.Common.{Ok, ap, ◌∙◌}
 use Rattle.std.specs.Prelude.{is_some}
 use Rattle.cc_run.proofs.SureFinds.{telling_begins, telling_ends, telling_next, telling_stops}
 use Rattle.cc_run.proofs.modes.sure.tell_all.Goals as goal
