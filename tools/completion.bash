@@ -10,7 +10,7 @@ _ccalc_labels() { # the labels of the queries in the files among the words
 _ccalc() {
     local word=${COMP_WORDS[COMP_CWORD]} before=${COMP_WORDS[COMP_CWORD - 1]}
     case $before in
-        --mode) COMPREPLY=($(compgen -W "list check make convert why export models modelscheck sure surecheck" -- "$word")) ;;
+        --mode) COMPREPLY=($(compgen -W "list check make convert why export models modelscheck sure surecheck general generalcheck" -- "$word")) ;;
         --query) COMPREPLY=($(compgen -W "$(_ccalc_labels)" -- "$word")) ;;
         --form) COMPREPLY=($(compgen -W "1 2" -- "$word")) ;;
         --count | --budget | --after | --key | --horizon | --size) COMPREPLY=() ;;

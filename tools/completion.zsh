@@ -8,7 +8,7 @@ _ccalc_labels() { # the labels of the queries in the files among the words
 
 _ccalc() {
     _arguments \
-        '--mode[the mode]:mode:(list check make convert why export models modelscheck sure surecheck)' \
+        '--mode[the mode]:mode:(list check make convert why export models modelscheck sure surecheck general generalcheck)' \
         '--query[the query with this label]:label:_ccalc_labels' \
         '--count[at most so many histories or models]:number:' \
         '--budget[at most so many derived clauses in a section]:number:' \
