@@ -60,9 +60,9 @@ pub fn describe<D: Desk>(
 ) -> Result<Described, DescribeStop>
     // Where the desk tells its files, Ok is what they describe, and a refusal is exactly the first that they have; the files
     // that were opened are there.
-    ensures described { IfSome (D.told desk.old) (λ contents.
+    ensures described { IfSome (D.seen desk.old).told (λ contents.
         IfOk result (Describes heads contents.files name.now)) }
-    ensures refused { IfSome (D.told desk.old) (λ contents.
+    ensures refused { IfSome (D.seen desk.old).told (λ contents.
         IfErr result (HasStopped heads contents.files name.now)) }
     // Whatever it told, Ok is what some places say, and a refusal is the first of some places.
     ensures whole { IfOk result (SaysAll heads) }
@@ -72,20 +72,20 @@ pub fn describe<D: Desk>(
     ensures formulas { IfOk result AsksFormulas }
     // A fault is answered only where the desk counted one.
     ensures failed { IsErrOf result DescribeStop.ReadFault →
-        Rose (D.read_faults desk.old) (D.read_faults desk.new) }
+        Rose (D.seen desk.old).reads (D.seen desk.new).reads }
     ensures after { (rest : Items ℕ)
-        × (D.told desk.new ≡ option_map (with_rest rest) (D.told desk.old)) }
-    ensures begun { D.begun desk.new ≡ D.begun desk.old }
+        × ((D.seen desk.new).told ≡ option_map (with_rest rest) (D.seen desk.old).told) }
+    ensures begun { (D.seen desk.new).begun ≡ (D.seen desk.old).begun }
     // The names that are opened are those of its files, in their order, and no others; no log is begun.
-    ensures calls { (more : Items Call) × (D.calls desk.new ≡ with_calls more (D.calls desk.old))
-        × (names_begun more ≡ []) × IfSome (D.told desk.old) (λ contents.
+    ensures calls { (more : Items Call) × ((D.seen desk.new).calls ≡ with_calls more (D.seen desk.old).calls)
+        × (names_begun more ≡ []) × IfSome (D.seen desk.old).told (λ contents.
         OpensFor heads contents.files name.now result (names_opened more)) }
     // Where no fault is answered, the desk counted none.
     ensures calm { (IsErrOf result DescribeStop.ReadFault → ⊥) →
-        (D.read_faults desk.new ≡ D.read_faults desk.old)
-        × (D.write_faults desk.new ≡ D.write_faults desk.old) }
-    ensures reads_count { D.read_faults desk.old ≤ D.read_faults desk.new }
-    ensures writes_count { D.write_faults desk.old ≤ D.write_faults desk.new }
+        ((D.seen desk.new).reads ≡ (D.seen desk.old).reads)
+        × ((D.seen desk.new).writes ≡ (D.seen desk.old).writes) }
+    ensures reads_count { (D.seen desk.old).reads ≤ (D.seen desk.new).reads }
+    ensures writes_count { (D.seen desk.old).writes ≤ (D.seen desk.new).writes }
 {
     has_places();
     laws_have_forms();

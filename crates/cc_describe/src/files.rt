@@ -57,12 +57,12 @@ fn open<D: Desk>(
     name: &str,
 ) -> Result<(Bytes, u32), Halt>
     ensures opened { (contents : Contents) (which : Which) (before : Items Place) →
-        D.told desk.old ≡ Some contents → IsProgress which progress.old before →
+        (D.seen desk.old).told ≡ Some contents → IsProgress which progress.old before →
         IfOk result (λ read. (read.0 ≡ content contents.files name.now)
         × IsOpened which before name.now read.0 progress.new
         × (read.1 ≡ length (opened_in before))) }
     ensures refused { (contents : Contents) (which : Which) (before : Items Place) →
-        D.told desk.old ≡ Some contents → IsProgress which progress.old before →
+        (D.seen desk.old).told ≡ Some contents → IsProgress which progress.old before →
         IfErr result (λ halt. IsRefusedOpening before name.now
         (content contents.files name.now) halt progress.new) }
     // Whatever the desk told, some bytes were read.
@@ -72,24 +72,24 @@ fn open<D: Desk>(
         IsProgress which progress.old before → IfErr result (λ halt.
         (bytes : Items ℕ) × IsRefusedOpening before name.now bytes halt progress.new) }
     ensures there { (contents : Contents) →
-        D.told desk.old ≡ Some contents → AreThere contents.files progress.old.names.items →
+        (D.seen desk.old).told ≡ Some contents → AreThere contents.files progress.old.names.items →
         FindsFiles contents.files result progress.new.names.items }
     ensures within { IfOk result (λ read. length read.0 ≤ limit_number limits.FileBytes) }
     ensures around { OnOk result
         (progress.new.around.items ≡ progress.old.around.items ++ name.now ∷ []) }
     ensures failed { IsErrOf result Halt.ReadFault →
-        Rose (D.read_faults desk.old) (D.read_faults desk.new) }
+        Rose (D.seen desk.old).reads (D.seen desk.new).reads }
     ensures after { (rest : Items ℕ)
-        × (D.told desk.new ≡ option_map (with_rest rest) (D.told desk.old)) }
-    ensures begun { D.begun desk.new ≡ D.begun desk.old }
+        × ((D.seen desk.new).told ≡ option_map (with_rest rest) (D.seen desk.old).told) }
+    ensures begun { (D.seen desk.new).begun ≡ (D.seen desk.old).begun }
     // Each file whose name is kept was opened, and no other; no log was begun.
     ensures calls { OpensAsKept progress.old.names.items progress.new.names.items
-        (D.calls desk.old) (D.calls desk.new) }
+        (D.seen desk.old).calls (D.seen desk.new).calls }
     ensures calm { (IsErrOf result Halt.ReadFault → ⊥) →
-        (D.read_faults desk.new ≡ D.read_faults desk.old)
-        × (D.write_faults desk.new ≡ D.write_faults desk.old) }
-    ensures reads_count { D.read_faults desk.old ≤ D.read_faults desk.new }
-    ensures writes_count { D.write_faults desk.old ≤ D.write_faults desk.new }
+        ((D.seen desk.new).reads ≡ (D.seen desk.old).reads)
+        × ((D.seen desk.new).writes ≡ (D.seen desk.old).writes) }
+    ensures reads_count { (D.seen desk.old).reads ≤ (D.seen desk.new).reads }
+    ensures writes_count { (D.seen desk.old).writes ≤ (D.seen desk.new).writes }
 {
     let file = progress.enter(alloc, name)?;
     let bytes = match read_all(alloc, desk, name, LimitAt::FileBytes.number() as usize) {
@@ -117,28 +117,28 @@ pub(crate) fn read_file<D: Desk>(
 ) -> Result<(), Halt>
     requires { length progress.now.around.items + deep ≡ limit_number limits.IncludeDepth }
     ensures gone { (contents : Contents) (which : Which) (before : Items Place) →
-        D.told desk.old ≡ Some contents → IsProgress which progress.old before →
+        (D.seen desk.old).told ≡ Some contents → IsProgress which progress.old before →
         GoesThrough which (ArePlaces deep contents.files progress.old.around.items
         (length (opened_in before)) name.now) before result progress.new }
     ensures kept { (which : Which) (before : Items Place) →
         IsProgress which progress.old before → GoesSomewhere which before result progress.new }
     ensures there { (contents : Contents) →
-        D.told desk.old ≡ Some contents → AreThere contents.files progress.old.names.items →
+        (D.seen desk.old).told ≡ Some contents → AreThere contents.files progress.old.names.items →
         FindsFiles contents.files result progress.new.names.items }
     ensures around { OnOk result (progress.new.around.items ≡ progress.old.around.items) }
     ensures failed { IsErrOf result Halt.ReadFault →
-        Rose (D.read_faults desk.old) (D.read_faults desk.new) }
+        Rose (D.seen desk.old).reads (D.seen desk.new).reads }
     ensures after { (rest : Items ℕ)
-        × (D.told desk.new ≡ option_map (with_rest rest) (D.told desk.old)) }
-    ensures begun { D.begun desk.new ≡ D.begun desk.old }
+        × ((D.seen desk.new).told ≡ option_map (with_rest rest) (D.seen desk.old).told) }
+    ensures begun { (D.seen desk.new).begun ≡ (D.seen desk.old).begun }
     // Each file whose name is kept was opened, and no other; no log was begun.
     ensures calls { OpensAsKept progress.old.names.items progress.new.names.items
-        (D.calls desk.old) (D.calls desk.new) }
+        (D.seen desk.old).calls (D.seen desk.new).calls }
     ensures calm { (IsErrOf result Halt.ReadFault → ⊥) →
-        (D.read_faults desk.new ≡ D.read_faults desk.old)
-        × (D.write_faults desk.new ≡ D.write_faults desk.old) }
-    ensures reads_count { D.read_faults desk.old ≤ D.read_faults desk.new }
-    ensures writes_count { D.write_faults desk.old ≤ D.write_faults desk.new }
+        ((D.seen desk.new).reads ≡ (D.seen desk.old).reads)
+        × ((D.seen desk.new).writes ≡ (D.seen desk.old).writes) }
+    ensures reads_count { (D.seen desk.old).reads ≤ (D.seen desk.new).reads }
+    ensures writes_count { (D.seen desk.old).writes ≤ (D.seen desk.new).writes }
 {
     cut_or_stop();
     statements_are_tokens();

@@ -54,15 +54,13 @@ impl<'a> TextDesk<'a> {
 }
 
 impl<'a> Desk for TextDesk<'a> {
-    ghost told = { λ desk. Some (contents_of desk) };
-
-    ghost begun = { λ _. false };
-
-    ghost read_faults = { λ _. 0 };
-
-    ghost write_faults = { λ desk. desk.write_faults };
-
-    ghost calls = { λ _. None };
+    ghost seen = { λ desk. record {
+      told = Some (contents_of desk);
+      begun = false;
+      reads = 0;
+      writes = desk.write_faults;
+      calls = None;
+    } };
 
     fn open_file(&mut self, _name: &str) -> Result<(), Failed> {
         self.at = 0;

@@ -123,15 +123,13 @@ impl MemoryDesk {
 }
 
 impl Desk for MemoryDesk {
-    ghost told = { λ m. Some (contents_of m) };
-
-    ghost begun = { λ m. m.begun };
-
-    ghost read_faults = { λ m. m.read_faults };
-
-    ghost write_faults = { λ m. m.write_faults };
-
-    ghost calls = { λ _. None };
+    ghost seen = { λ m. record {
+      told = Some (contents_of m);
+      begun = m.begun;
+      reads = m.read_faults;
+      writes = m.write_faults;
+      calls = None;
+    } };
 
     fn open_file(&mut self, name: &str) -> Result<(), Failed>
         ensures opened { OnOk result (Some (contents_of self.new)

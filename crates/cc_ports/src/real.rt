@@ -46,15 +46,13 @@ fn fault(count: &mut u64) -> Failed
 impl Desk for RealDesk {
     ghost use Rattle.std.specs.Prelude.{None, is_some};
 
-    ghost told = { λ _. None };
-
-    ghost begun = { λ desk. is_some desk.log };
-
-    ghost read_faults = { λ desk. desk.read_faults };
-
-    ghost write_faults = { λ desk. desk.write_faults };
-
-    ghost calls = { λ _. None };
+    ghost seen = { λ desk. record {
+      told = None;
+      begun = is_some desk.log;
+      reads = desk.read_faults;
+      writes = desk.write_faults;
+      calls = None;
+    } };
 
     fn open_file(&mut self, name: &str) -> Result<(), Failed> {
         self.reading = None;

@@ -48,15 +48,13 @@ impl StillDesk {
 impl Desk for StillDesk {
     ghost use Rattle.std.specs.Prelude.{None};
 
-    ghost told = { λ _. None };
-
-    ghost begun = { λ desk. desk.begun };
-
-    ghost read_faults = { λ _. 0 };
-
-    ghost write_faults = { λ _. 0 };
-
-    ghost calls = { λ _. None };
+    ghost seen = { λ desk. record {
+      told = None;
+      begun = desk.begun;
+      reads = 0;
+      writes = 0;
+      calls = None;
+    } };
 
     fn open_file(&mut self, name: &str) -> Result<(), Failed>
         ensures ok { IsOk result }

@@ -55,22 +55,22 @@ pub fn read_all<D: Desk>(
     most: usize,
 ) -> Result<Bytes, ReadStop>
     ensures bytes { IfOk result (λ bytes.
-        IfSome (D.told desk.old) (λ c. c.files name.now ≡ Some bytes)) }
+        IfSome (D.seen desk.old).told (λ c. c.files name.now ≡ Some bytes)) }
     ensures within { IfOk result (λ bytes. length bytes ≤ most) }
-    ensures limit { IsErrOf result ReadStop.Limit → IfSome (D.told desk.old) (λ c.
+    ensures limit { IsErrOf result ReadStop.Limit → IfSome (D.seen desk.old).told (λ c.
         (bytes : List ℕ) × (c.files name.now ≡ Some bytes) × (most < length bytes)) }
     ensures failed { IsErrOf result ReadStop.Failed →
-        Rose (D.read_faults desk.old) (D.read_faults desk.new) }
+        Rose (D.seen desk.old).reads (D.seen desk.new).reads }
     ensures after { (rest : List ℕ)
-        × (D.told desk.new ≡ option_map (with_rest rest) (D.told desk.old)) }
-    ensures begun { D.begun desk.new ≡ D.begun desk.old }
+        × ((D.seen desk.new).told ≡ option_map (with_rest rest) (D.seen desk.old).told) }
+    ensures begun { (D.seen desk.new).begun ≡ (D.seen desk.old).begun }
     ensures calls { (more : List Call)
-        × AreReadings name.now most more × (D.calls desk.new ≡ with_calls more (D.calls desk.old)) }
+        × AreReadings name.now most more × ((D.seen desk.new).calls ≡ with_calls more (D.seen desk.old).calls) }
     ensures calm { (IsErrOf result ReadStop.Failed → ⊥) →
-        (D.read_faults desk.new ≡ D.read_faults desk.old)
-        × (D.write_faults desk.new ≡ D.write_faults desk.old) }
-    ensures reads_count { D.read_faults desk.old ≤ D.read_faults desk.new }
-    ensures writes_count { D.write_faults desk.old ≤ D.write_faults desk.new }
+        ((D.seen desk.new).reads ≡ (D.seen desk.old).reads)
+        × ((D.seen desk.new).writes ≡ (D.seen desk.old).writes) }
+    ensures reads_count { (D.seen desk.old).reads ≤ (D.seen desk.new).reads }
+    ensures writes_count { (D.seen desk.old).writes ≤ (D.seen desk.new).writes }
 {
     desk.open_file(name)?;
     let mut bytes = Vec::new(alloc);
@@ -90,17 +90,17 @@ pub fn read_all<D: Desk>(
 /// Gives all the bytes to an output. It takes no memory.
 pub fn give_all<D: Desk>(desk: &mut D, to: To, bytes: &[u8]) -> Result<(), Failed>
     ensures all { OnOk result
-        (D.told desk.new ≡ option_map (appended to bytes.now) (D.told desk.old)) }
+        ((D.seen desk.new).told ≡ option_map (appended to bytes.now) (D.seen desk.old).told) }
     ensures some { OnErr result ((front : List ℕ) × IsPrefix front bytes.now
-        × (D.told desk.new ≡ option_map (appended to front) (D.told desk.old))) }
-    ensures failed { OnErr result (Rose (D.write_faults desk.old) (D.write_faults desk.new)) }
-    ensures begun { D.begun desk.new ≡ D.begun desk.old }
+        × ((D.seen desk.new).told ≡ option_map (appended to front) (D.seen desk.old).told)) }
+    ensures failed { OnErr result (Rose (D.seen desk.old).writes (D.seen desk.new).writes) }
+    ensures begun { (D.seen desk.new).begun ≡ (D.seen desk.old).begun }
     ensures calls { (more : List Call)
-        × AreGivings to more × (D.calls desk.new ≡ with_calls more (D.calls desk.old)) }
-    ensures calm { OnOk result ((D.read_faults desk.new ≡ D.read_faults desk.old)
-        × (D.write_faults desk.new ≡ D.write_faults desk.old)) }
-    ensures reads_count { D.read_faults desk.old ≤ D.read_faults desk.new }
-    ensures writes_count { D.write_faults desk.old ≤ D.write_faults desk.new }
+        × AreGivings to more × ((D.seen desk.new).calls ≡ with_calls more (D.seen desk.old).calls) }
+    ensures calm { OnOk result (((D.seen desk.new).reads ≡ (D.seen desk.old).reads)
+        × ((D.seen desk.new).writes ≡ (D.seen desk.old).writes)) }
+    ensures reads_count { (D.seen desk.old).reads ≤ (D.seen desk.new).reads }
+    ensures writes_count { (D.seen desk.old).writes ≤ (D.seen desk.new).writes }
 {
     let mut given = 0;
     while given < bytes.len() {

@@ -19,7 +19,8 @@ use Rattle.cc_run.specs.declared.status.Stop.{Stop}
 use Rattle.cc_run.specs.declared.status.Stop.TheVariants as stops
 use Rattle.cc_run.specs.Names.{AreAsked, IsAnswer, MayEndWith}
 use Rattle.cc_run.specs.Promises.{IsEndStatus}
-use Rattle.cc_run.specs.Stops.{Asks, Called, Moment, TellsStop, cut_status, outcome, stop_status}
+use Rattle.cc_ports.specs.Moments.{Moment}
+use Rattle.cc_run.specs.Stops.{Asks, Called, TellsStop, cut_status, outcome, stop_status}
 use Rattle.cc_words.specs.Requests.{Request, ToBeSure, ToCheck, ToCheckGeneral, ToCheckModels, ToCheckSure, ToConvert, ToExplain, ToExport, ToList, ToListGenerally, ToMake, ToModel}
 use Rattle.cc_words.specs.Words.{Text}
 

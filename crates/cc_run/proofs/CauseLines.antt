@@ -14,7 +14,8 @@ use Rattle.cc_print.specs.Atoms.{IsAtomOf}
 use Rattle.cc_run.specs.declared.status.Stop.{Stop}
 use Rattle.cc_run.specs.Explained.{cause_line}
 use Rattle.cc_run.specs.Modes.Explaining.{why_line, why_text}
-use Rattle.cc_run.specs.Stops.{Moment, Step, given_to}
+use Rattle.cc_ports.specs.Moments.{Moment}
+use Rattle.cc_run.specs.Stops.{Step, given_to}
 use Rattle.cc_run.proofs.LineSteps.{LinesSoFar, lines_begin, lines_end, lines_more, lines_stop}
 use Rattle.cc_why.specs.declared.cause.Cause.{Cause}
 use Rattle.cc_why.specs.Causes.{cause_at, causes_at}

@@ -38,7 +38,8 @@ use Rattle.cc_query.specs.Sessions.{Fits, refusal_at}
 use Rattle.cc_theory.specs.Theories.{AreLawsOf}
 use Rattle.cc_run.specs.Asking.{AreOf, AreSearchable}
 use Rattle.cc_run.specs.Converted.{AreLeft, HasLeft, HasOpened, IsJudged, converted_by, other_said}
-use Rattle.cc_run.specs.Stops.{Asks, Begins, Moment, Prints, Step, given_to, outcome}
+use Rattle.cc_ports.specs.Moments.{Moment}
+use Rattle.cc_run.specs.Stops.{Asks, Begins, Prints, Step, given_to, outcome}
 use Rattle.cc_run.specs.Telling.{IsCounted, IsWritable, counts_of, task_to_check}
 use Rattle.cc_run.specs.declared.status.Status.{Status}
 use Rattle.cc_run.specs.declared.status.Status.TheVariants as statuses

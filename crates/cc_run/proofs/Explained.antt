@@ -32,7 +32,8 @@ use Rattle.cc_run.specs.Answers.{Gives}
 use Rattle.cc_run.specs.Explained.{IsExplainingFault, IsLookedAt, IsRowFault, TellsRow}
 use Rattle.cc_run.specs.Modes.Explaining.{Explains, HasNoRow, IsExplained, IsRowNamed, MayEndExplaining, RefusesRow, RefusesRowOf, no_history_line, why_text}
 use Rattle.cc_run.specs.Names.{MayEndWith}
-use Rattle.cc_run.specs.Stops.{Moment, Prints, Step, given_to}
+use Rattle.cc_ports.specs.Moments.{Moment}
+use Rattle.cc_run.specs.Stops.{Prints, Step, given_to}
 use Rattle.cc_run.specs.Tasks.{AreRead, description_in, request_of}
 use Rattle.cc_run.specs.Wholes.{Whole, only_out}
 use Rattle.cc_theory.specs.Theories.{rules_refusal}

@@ -43,7 +43,8 @@ use Rattle.cc_run.specs.Answers.{Gives}
 use Rattle.cc_run.specs.Exported.{IsAskedAt, IsExportFault, IsExported, tried_refusal}
 use Rattle.cc_run.specs.Modes.Exporting.{Exports, MayEndExporting, NamesHorizon, RefusesExporting, export_refusal, horizon_refusal, is_outside}
 use Rattle.cc_run.specs.Names.{MayEndWith}
-use Rattle.cc_run.specs.Stops.{Moment, Prints, Step, given_to}
+use Rattle.cc_ports.specs.Moments.{Moment}
+use Rattle.cc_run.specs.Stops.{Prints, Step, given_to}
 use Rattle.cc_run.specs.Tasks.{AreRead, description_in, queries_in, query_named, query_refusal, request_of}
 use Rattle.cc_run.specs.Wholes.{Whole, only_out}
 use Rattle.cc_words.specs.Requests.{Exporting, Request, ToExport}

@@ -21,7 +21,8 @@ use Rattle.cc_run.specs.declared.status.Stop.TheVariants as stops
 use Rattle.cc_run.specs.Generals.{AreWideOf, IsGeneralOfSome, TellsGeneralEvent, TellsGeneralRun, TellsGenerally, general_status_behind, generally_given, given_generally}
 use Rattle.cc_run.specs.Modes.Generally.{EndsGenerally}
 use Rattle.cc_run.specs.Refusing.{refusal_text}
-use Rattle.cc_run.specs.Stops.{Moment, Moves, Step, given_to}
+use Rattle.cc_ports.specs.Moments.{Moment}
+use Rattle.cc_run.specs.Stops.{Moves, Step, given_to}
 use Rattle.cc_run.specs.Wholes.{Given, joined, nothing, only_err}
 use Rattle.cc_wide.specs.declared.ground.WideGroundLaw.{WideGroundLaw}
 use Rattle.cc_wide.specs.WideLaws.{WideDescription, frame}

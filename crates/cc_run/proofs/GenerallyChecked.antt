@@ -17,7 +17,8 @@ use Rattle.cc_run.specs.Modes.CheckingGeneral.{ChecksGeneral, NamesGeneralLog, R
 use Rattle.cc_run.specs.Modes.CheckingSure.{MayEndCheckingSure, silent_verdict_line, silent_verdict_status}
 use Rattle.cc_run.specs.Modes.Generally.{NamesWide, RefusesGenerally}
 use Rattle.cc_run.specs.Names.{MayEndWith}
-use Rattle.cc_run.specs.Stops.{Moment, Prints, Step}
+use Rattle.cc_ports.specs.Moments.{Moment}
+use Rattle.cc_run.specs.Stops.{Prints, Step}
 use Rattle.cc_run.specs.Tasks.{request_of}
 use Rattle.cc_run.specs.Wholes.{Whole, only_out}
 use Rattle.cc_general.specs.GeneralLogs.{ProvesHistories, general_subject}

@@ -15,7 +15,8 @@ use Rattle.cc_run.specs.Generals.{TellsGenerally, generally_given}
 use Rattle.cc_run.specs.Modes.Generally.{EndsGenerally, ListsGenerally, NamesWide, RefusesGenerally, general_status, named_generally}
 use Rattle.cc_run.specs.Names.{MayEndWith, log_asked}
 use Rattle.cc_run.specs.Promises.{IsEndStatus}
-use Rattle.cc_run.specs.Stops.{Begins, Moment, Prints, outcome}
+use Rattle.cc_ports.specs.Moments.{Moment}
+use Rattle.cc_run.specs.Stops.{Begins, Prints, outcome}
 use Rattle.cc_run.specs.Tasks.{request_of}
 use Rattle.cc_run.specs.Wholes.{Whole, nothing}
 use Rattle.cc_wide.specs.WideLaws.{WideDescription}

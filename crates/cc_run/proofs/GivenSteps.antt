@@ -8,7 +8,8 @@ use Rattle.cc_run.specs.declared.status.Stop.{Stop}
 use Rattle.cc_run.specs.declared.status.Stop.TheVariants as stops
 use Rattle.cc_run.specs.Wholes.{Given, AreFronts, joined, nothing}
 use Rattle.cc_run.specs.declared.status.Status.{Status}
-use Rattle.cc_run.specs.Stops.{Called, IsCalm, Moment, Moves, Step, TellsStop, adding, cut_status, given_to, stop_line, stop_status}
+use Rattle.cc_ports.specs.Moments.{Moment}
+use Rattle.cc_run.specs.Stops.{Called, IsCalm, Moves, Step, TellsStop, adding, cut_status, given_to, stop_line, stop_status}
 use Rattle.cc_run.proofs.Callings.{called_both, called_none}
 
 pub joined-nothing : (a : Given) → joined a nothing ≡ a

@@ -4,7 +4,8 @@ use Rattle.std.specs.Prelude.{IsErrAnd}
 use Rattle.cc_ports.specs.declared.desk.To.{To}
 use Rattle.cc_ports.specs.declared.desk.To.TheVariants as outputs
 use Rattle.cc_run.specs.declared.status.Stop.{Stop}
-use Rattle.cc_run.specs.Stops.{Moment, Moves, Step, given_to}
+use Rattle.cc_ports.specs.Moments.{Moment}
+use Rattle.cc_run.specs.Stops.{Moves, Step, given_to}
 use Rattle.cc_run.specs.Wholes.{nothing}
 use Rattle.cc_run.proofs.GivenSteps.{cut_one, then_one, given_all, moves_as, moves_none, step_again, step_done, step_of}
 

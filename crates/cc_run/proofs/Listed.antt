@@ -28,7 +28,8 @@ use Rattle.cc_run.specs.Asking.{AreOf}
 use Rattle.cc_run.specs.Laws.{LogLaws}
 use Rattle.cc_run.specs.Refusing.{refusal_text}
 use Rattle.cc_run.specs.Searching.{EndsSo, IsTold, Manner, OneByOne, Summed, header_told, log_told, out_told, status_of}
-use Rattle.cc_run.specs.Stops.{IsRowOfEvent, Moment, Moves, Searches, Step, given_to, lines_told, texts_behind, texts_of}
+use Rattle.cc_ports.specs.Moments.{Moment}
+use Rattle.cc_run.specs.Stops.{IsRowOfEvent, Moves, Searches, Step, given_to, lines_told, texts_behind, texts_of}
 use Rattle.cc_run.specs.Tasks.{Task}
 use Rattle.cc_run.specs.Telling.{GoesOn, HasGoodLines, IsCounted, IsListing, KeepsUp, ListedSoFar, counts_of, manner_of, so_far, status_told, task_of}
 use Rattle.cc_run.specs.Wholes.{Given, joined, nothing, only_err, only_log}

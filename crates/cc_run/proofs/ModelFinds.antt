@@ -26,7 +26,8 @@ use Rattle.cc_run.specs.declared.status.Stop.TheVariants as stops
 use Rattle.cc_run.specs.Modes.Modelling.{models_end, models_status, models_text}
 use Rattle.cc_run.specs.ModelsTold.{AreAt, AreWithin, EndsListing, IsAt, TellsFind, TellsListing, TellsMore, told_of}
 use Rattle.cc_run.specs.Refusing.{refusal_text}
-use Rattle.cc_run.specs.Stops.{Moment, Moves, Step, given_to}
+use Rattle.cc_ports.specs.Moments.{Moment}
+use Rattle.cc_run.specs.Stops.{Moves, Step, given_to}
 use Rattle.cc_run.specs.Telling.{IsWritable}
 use Rattle.cc_run.specs.Wholes.{Given, joined, nothing, only_err}
 use Rattle.cc_run.proofs.GivenSteps.{given_all, moves_none, step_again, step_done, step_nothing, step_of, step_then}

@@ -32,7 +32,8 @@ use Rattle.cc_run.specs.Modes.Modelling.{EndsModels, IsCnfIn, Models, RefusesCnf
 use Rattle.cc_run.specs.ModelsTold.{AreWithin, EndsListing, TellsListing, told_of}
 use Rattle.cc_run.specs.Names.{MayEndWith, log_asked}
 use Rattle.cc_run.specs.Promises.{IsEndStatus}
-use Rattle.cc_run.specs.Stops.{Begins, Moment, Prints, Step, outcome}
+use Rattle.cc_ports.specs.Moments.{Moment}
+use Rattle.cc_run.specs.Stops.{Begins, Prints, Step, outcome}
 use Rattle.cc_run.specs.Tasks.{request_of}
 use Rattle.cc_run.specs.Wholes.{Whole, nothing, only_out}
 use Rattle.cc_words.specs.declared.asked.Asked.TheVariants as requests

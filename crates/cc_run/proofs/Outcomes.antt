@@ -35,7 +35,8 @@ use Rattle.cc_run.specs.Names.{AreAsked, BeginsAsked, IsAnswer, MayEndWith, Open
 use Rattle.cc_run.specs.Promises.{IsEndStatus}
 use Rattle.cc_run.specs.Refusing.{refusal_text}
 use Rattle.cc_run.specs.Searching.{EndsSo, IsTold, Manner, OneByOne, Summed, status_of}
-use Rattle.cc_run.specs.Stops.{Asks, Begins, Called, IsCalm, Leaves, Moment, Prints, PrintsAsked, Searches, Step, TellsStop, adding, cut_status, given_to, outcome, stop_line, stop_status}
+use Rattle.cc_ports.specs.Moments.{Moment}
+use Rattle.cc_run.specs.Stops.{Asks, Begins, Called, IsCalm, Leaves, Prints, PrintsAsked, Searches, Step, TellsStop, adding, cut_status, given_to, outcome, stop_line, stop_status}
 use Rattle.cc_run.specs.Tasks.{IsTask, Task, made_files, made_named, named_by, request_of}
 use Rattle.cc_run.specs.Telling.{counts_of}
 use Rattle.cc_run.specs.Wholes.{AreFronts, Given, Left, Whole, nothing, only_err, only_out}

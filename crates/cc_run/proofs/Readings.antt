@@ -21,7 +21,8 @@ use Rattle.cc_run.specs.Modes.Generally.{wide_in}
 use Rattle.cc_run.specs.Requested.{AsksDescription, AsksQuery, IsFileOf, heads_of, named_of, opens_behind, source_of, OpensDescription, Reads}
 use Rattle.cc_run.specs.Answers.{promise_of}
 use Rattle.cc_run.specs.Names.{names_log}
-use Rattle.cc_run.specs.Stops.{Begins, IsCalm, Moment, Prints}
+use Rattle.cc_ports.specs.Moments.{Moment}
+use Rattle.cc_run.specs.Stops.{Begins, IsCalm, Prints}
 use Rattle.cc_run.specs.declared.status.Status.{Status}
 use Rattle.cc_run.specs.declared.status.Stop.{Stop}
 use Rattle.cc_run.specs.Tasks.{AreRead, AreReadFor, IsTask, Named, RefusesDescriptionFor, RefusesNamed, Task, asked_refusal, description_in, made_files, made_named, query_named, request_of}

@@ -17,7 +17,8 @@ use Rattle.cc_run.specs.declared.status.Stop.{Stop}
 use Rattle.cc_run.specs.declared.status.Stop.TheVariants as stops
 use Rattle.cc_run.specs.Modes.Surely.{EndsSurely}
 use Rattle.cc_run.specs.Refusing.{refusal_text}
-use Rattle.cc_run.specs.Stops.{Moment, Moves, Step, given_to}
+use Rattle.cc_ports.specs.Moments.{Moment}
+use Rattle.cc_run.specs.Stops.{Moves, Step, given_to}
 use Rattle.cc_run.specs.Sures.{IsSureOfSome, IsWritableRun, TellsEvent, TellsRun, TellsSure, given_of, status_behind, surely_given}
 use Rattle.cc_run.specs.Wholes.{Given, joined, nothing, only_err}
 use Rattle.cc_sure.specs.declared.answer.SureEvent.{SureEvent}

@@ -10,7 +10,8 @@ use Rattle.cc_ports.specs.declared.desk.To.TheVariants as outputs
 use Rattle.cc_print.specs.Atoms.{atom_text}
 use Rattle.cc_run.specs.declared.status.Stop.{Stop}
 use Rattle.cc_run.specs.Modes.Surely.{answer_lines, answer_words}
-use Rattle.cc_run.specs.Stops.{Moment, Step, given_to}
+use Rattle.cc_ports.specs.Moments.{Moment}
+use Rattle.cc_run.specs.Stops.{Step, given_to}
 use Rattle.cc_run.specs.Wholes.{joined, nothing}
 use Rattle.cc_run.proofs.GivenSteps.{step_as, step_cut, step_then}
 use Rattle.cc_run.proofs.LineSteps.{LinesSoFar, lines_begin, lines_end, lines_more, lines_stop}

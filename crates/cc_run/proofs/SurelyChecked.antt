@@ -19,7 +19,8 @@ use Rattle.cc_run.specs.Answers.{Gives}
 use Rattle.cc_run.specs.Modes.CheckingSure.{ChecksSure, MayEndCheckingSure, NamesSureLog, RefusesCheckingSure, named_to_check, silent_verdict_line, silent_verdict_status}
 use Rattle.cc_run.specs.Modes.Surely.{NamesUnclaimed, RefusesClaimed}
 use Rattle.cc_run.specs.Names.{MayEndWith}
-use Rattle.cc_run.specs.Stops.{Moment, Prints, Step}
+use Rattle.cc_ports.specs.Moments.{Moment}
+use Rattle.cc_run.specs.Stops.{Prints, Step}
 use Rattle.cc_run.specs.Tasks.{request_of}
 use Rattle.cc_run.specs.Wholes.{Whole, only_out}
 use Rattle.cc_sure.specs.SureLogs.{RefutesAtoms, sure_subject}

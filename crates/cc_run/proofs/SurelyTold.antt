@@ -17,7 +17,8 @@ use Rattle.cc_run.specs.declared.status.Stop.{Stop}
 use Rattle.cc_run.specs.Answers.{Gives}
 use Rattle.cc_run.specs.Modes.Surely.{EndsSurely, MayEndSurely, NamesUnclaimed, RefusesClaimed, TellsSurely, named_surely, sure_status}
 use Rattle.cc_run.specs.Names.{MayEndWith, log_asked}
-use Rattle.cc_run.specs.Stops.{Begins, Moment, Prints, outcome}
+use Rattle.cc_ports.specs.Moments.{Moment}
+use Rattle.cc_run.specs.Stops.{Begins, Prints, outcome}
 use Rattle.cc_run.specs.Sures.{TellsSure, surely_given}
 use Rattle.cc_run.specs.Tasks.{request_of}
 use Rattle.cc_run.specs.Wholes.{Whole, nothing}

@@ -12,7 +12,8 @@ use Rattle.cc_print.specs.Atoms.{atom_text}
 use Rattle.cc_run.specs.declared.status.Status.{Status}
 use Rattle.cc_run.specs.declared.status.Stop.{Stop}
 use Rattle.cc_run.specs.Modes.Explaining.{HasNoRow, IsExplained, IsRowNamed, RefusesRowOf, cause_text}
-use Rattle.cc_run.specs.Stops.{Moment, Step}
+use Rattle.cc_ports.specs.Moments.{Moment}
+use Rattle.cc_run.specs.Stops.{Step}
 use Rattle.cc_run.specs.Tasks.{refusal_without_place}
 use Rattle.cc_run.specs.Wholes.{Whole}
 use Rattle.cc_theory.specs.Theories.{AreLawsOf, rules_refusal}

@@ -29,7 +29,8 @@ use Rattle.cc_run.specs.declared.status.Stop.{Stop}
 use Rattle.cc_run.specs.Modes.Generally.{EndsGenerally, general_text, wide_asked_refusal}
 use Rattle.cc_run.specs.Modes.Surely.{claim_refusal}
 use Rattle.cc_run.specs.Searching.{status_of}
-use Rattle.cc_run.specs.Stops.{Moment, Step}
+use Rattle.cc_ports.specs.Moments.{Moment}
+use Rattle.cc_run.specs.Stops.{Step}
 use Rattle.cc_run.specs.Tasks.{query_named}
 use Rattle.cc_run.specs.Wholes.{Given, joined}
 use Rattle.cc_wide.specs.declared.ground.WideGroundLaw.{WideGroundLaw}

@@ -17,7 +17,8 @@ use Rattle.cc_run.specs.declared.status.Status.TheVariants as statuses
 use Rattle.cc_run.specs.declared.status.Stop.{Stop}
 use Rattle.cc_run.specs.Modes.Modelling.{models_status, models_text}
 use Rattle.cc_run.specs.Refusing.{refusal_text}
-use Rattle.cc_run.specs.Stops.{Moment, Step}
+use Rattle.cc_ports.specs.Moments.{Moment}
+use Rattle.cc_run.specs.Stops.{Step}
 use Rattle.cc_run.specs.Wholes.{Given, joined}
 
 -- what is given of a section: its models, and its log

@@ -16,6 +16,7 @@ use Rattle.cc_defs.specs.Signatures.{Signature}
 use Rattle.cc_describe.specs.Describing.{AreFirstNames}
 use Rattle.cc_ports.specs.Calls.{Call, names_begun, names_opened, with_calls}
 use Rattle.cc_ports.specs.Contents.{Contents, IsPrefix, Rose}
+use Rattle.cc_ports.specs.Moments.{Moment}
 use Rattle.cc_ports.specs.declared.desk.To.{To}
 use Rattle.cc_ports.specs.declared.desk.To.TheVariants as outputs
 use Rattle.cc_query.specs.Accepted.{lines_of}
@@ -30,18 +31,6 @@ use Rattle.cc_run.specs.Searching.{IsTold, Manner, OneByOne, Summed, out_told}
 use Rattle.cc_run.specs.Tasks.{Task, request_of}
 use Rattle.cc_run.specs.Wholes.{AreFronts, Given, joined, nothing}
 use Rattle.cc_words.specs.Words.{Text}
-
--- what is known of a desk at a moment
-pub record Moment : Type 0 where
-  pub told : Option Contents
-  pub begun : Bool
-  pub reads : ℕ
-  pub writes : ℕ
-  pub calls : Option (List Call)
-
-abbrev pub moment : {D : Type 0} → (D → Option Contents) → (D → Bool) → (D → ℕ) → (D → ℕ) → (D → Option (List Call)) → D → Moment
-moment told begun reads writes calls desk =
-    record { told = told desk; begun = begun desk; reads = reads desk; writes = writes desk; calls = calls desk }
 
 -- between two moments these files were to be opened and these logs to be begun, in their order, and no others
 pub record Called (opened begun : List Text) (old new : Moment) : Type 0 where

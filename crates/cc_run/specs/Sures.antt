@@ -22,7 +22,8 @@ use Rattle.cc_run.specs.declared.status.Status.{Status}
 use Rattle.cc_run.specs.declared.status.Status.TheVariants as statuses
 use Rattle.cc_run.specs.declared.status.Stop.{Stop}
 use Rattle.cc_run.specs.Modes.Surely.{EndsSurely, answer_lines, claim_refusal, ending_line, sure_text}
-use Rattle.cc_run.specs.Stops.{Moment, Step, given_to}
+use Rattle.cc_ports.specs.Moments.{Moment}
+use Rattle.cc_run.specs.Stops.{Step, given_to}
 use Rattle.cc_run.specs.Tasks.{asked_refusal, query_named}
 use Rattle.cc_run.specs.Wholes.{Given, joined}
 use Rattle.cc_sure.specs.declared.answer.SureEvent.{SureEvent}

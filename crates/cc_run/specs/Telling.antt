@@ -24,7 +24,8 @@ use Rattle.cc_run.specs.declared.status.Stop.{Stop}
 use Rattle.cc_run.specs.declared.telling.Teller.{Teller}
 use Rattle.cc_run.specs.declared.telling.Teller.TheVariants as tellers
 use Rattle.cc_run.specs.Searching.{Manner, OneByOne, Summed, header_told, status_of}
-use Rattle.cc_run.specs.Stops.{Moment, Moves, Searches, own_after, texts_behind, texts_of}
+use Rattle.cc_ports.specs.Moments.{Moment}
+use Rattle.cc_run.specs.Stops.{Moves, Searches, own_after, texts_behind, texts_of}
 use Rattle.cc_run.specs.Tasks.{Task}
 use Rattle.cc_run.specs.Wholes.{Given, joined, only_log}
 

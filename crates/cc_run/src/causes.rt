@@ -8,7 +8,7 @@ ghost use Rattle.cc_print.specs.Atoms.{IsAtomOf};
 ghost use Rattle.cc_run.specs.Explained as lines;
 ghost use Rattle.cc_run.specs.Modes.Explaining as texts;
 ghost use Rattle.cc_run.specs.Modes.Explaining.{why_text};
-ghost use Rattle.cc_run.specs.Stops.{Step, given_to, moment};
+ghost use Rattle.cc_run.specs.Stops.{Step, given_to};
 ghost use Rattle.cc_sorts.specs.Tables.{IsSignatureFor};
 ghost use Rattle.cc_why.specs.Causes.{causes_at};
 
@@ -112,8 +112,8 @@ fn tell_cause<D: Desk>(
     requires atom { IsAtomOf described.now.sig position value }
     ensures { (d : Description) → IsDescriptionOf described.now d → Step
         (given_to outputs.Out (lines.cause_line d described.now.files position value (Some cause)))
-        (moment D.told D.begun D.read_faults D.write_faults D.calls desk.old)
-        (moment D.told D.begun D.read_faults D.write_faults D.calls desk.new) result }
+        (D.seen desk.old)
+        (D.seen desk.new) result }
 {
     let line = cause_line(alloc, described, position, value, cause)?;
     give(desk, To::Out, line.as_bytes())
@@ -134,8 +134,8 @@ pub(crate) fn tell_causes<D: Desk>(
     ensures { (d : Description) (horizon : ℕ) → IsDescriptionOf described.now d →
         map (λ cause. Some cause) causes.now ≡ causes_at d horizon row.now →
         Step (given_to outputs.Out (why_text d described.now.files horizon row.now))
-        (moment D.told D.begun D.read_faults D.write_faults D.calls desk.old)
-        (moment D.told D.begun D.read_faults D.write_faults D.calls desk.new) result }
+        (D.seen desk.old)
+        (D.seen desk.new) result }
 {
     for position in 0..row.len() {
         let value = row[position];

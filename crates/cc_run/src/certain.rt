@@ -14,7 +14,7 @@ ghost use Rattle.cc_ports.specs.declared.desk.To.TheVariants as outputs;
 ghost use Rattle.cc_print.specs.Atoms.{IsAtomOf};
 ghost use Rattle.cc_print.specs.Atoms as atoms;
 ghost use Rattle.cc_run.specs.Modes.Surely.{answer_lines, answer_words};
-ghost use Rattle.cc_run.specs.Stops.{Step, given_to, moment};
+ghost use Rattle.cc_run.specs.Stops.{Step, given_to};
 ghost use Rattle.cc_run.specs.Sures as sures;
 ghost use Rattle.cc_run.specs.Sures.{IsPrintable, given_of, heading_of};
 ghost use Rattle.cc_sorts.specs.Tables.{IsSignatureFor};
@@ -54,8 +54,7 @@ fn tell_example<D: Desk>(
         IsSignatureOfDescription d described.now.sig → IsRow (sizes_at d horizon) row.now }
     ensures { (d : Description) → IsDescriptionOf described.now d → Step (given_to outputs.Out
         (of_horizon horizon (codes "example " ++ decimal number) ++ (history_text d horizon row.now
-        ++ key_line horizon row.now))) (moment D.told D.begun D.read_faults D.write_faults D.calls
-        desk.old) (moment D.told D.begun D.read_faults D.write_faults D.calls desk.new) result }
+        ++ key_line horizon row.now))) (D.seen desk.old) (D.seen desk.new) result }
 {
     let line = example_line(alloc, horizon, number)?;
     give(desk, To::Out, line.as_bytes())?;
@@ -123,8 +122,8 @@ fn tell_answer<D: Desk>(
     requires atom { IsAtomOf described.now.sig position value }
     ensures { (d : Description) → IsDescriptionOf described.now d → Step
         (given_to outputs.Out (atoms.atom_text d position value ++ answer_words answer ++ 10 ∷ []))
-        (moment D.told D.begun D.read_faults D.write_faults D.calls desk.old)
-        (moment D.told D.begun D.read_faults D.write_faults D.calls desk.new) result }
+        (D.seen desk.old)
+        (D.seen desk.new) result }
 {
     let line = answer_line(alloc, described, position, value, answer)?;
     give(desk, To::Out, line.as_bytes())
@@ -144,8 +143,8 @@ fn tell_answers<D: Desk>(
         value < length answers.now → IsAtomOf described.now.sig position value }
     ensures { (d : Description) → IsDescriptionOf described.now d →
         Step (given_to outputs.Out (answer_lines d position 0 answers.now))
-        (moment D.told D.begun D.read_faults D.write_faults D.calls desk.old)
-        (moment D.told D.begun D.read_faults D.write_faults D.calls desk.new) result }
+        (D.seen desk.old)
+        (D.seen desk.new) result }
 {
     for value in 0..answers.len() {
         tell_answer(
@@ -198,8 +197,8 @@ fn tell_heading<D: Desk>(
     atom: Option<(u64, u32)>,
 ) -> Result<(), Stop>
     ensures { Step (given_to outputs.Log (heading_of horizon atom))
-        (moment D.told D.begun D.read_faults D.write_faults D.calls desk.old)
-        (moment D.told D.begun D.read_faults D.write_faults D.calls desk.new) result }
+        (D.seen desk.old)
+        (D.seen desk.new) result }
 {
     let text = heading_text(alloc, horizon, atom)?;
     give(desk, To::Log, text.as_bytes())
@@ -213,8 +212,8 @@ pub(crate) fn tell_lines<D: Desk>(
 ) -> Result<(), Stop>
     requires formed { AllByRecursion IsFormed lines.now }
     ensures { Step (given_to outputs.Log (flat_map line_text lines.now))
-        (moment D.told D.begun D.read_faults D.write_faults D.calls desk.old)
-        (moment D.told D.begun D.read_faults D.write_faults D.calls desk.new) result }
+        (D.seen desk.old)
+        (D.seen desk.new) result }
 {
     for i in 0..lines.len() {
         tell_line(alloc, desk, &lines[i])?;
@@ -232,8 +231,8 @@ fn tell_section<D: Desk>(
 ) -> Result<(), Stop>
     requires formed { AllByRecursion IsFormed lines.now }
     ensures { Step (given_to outputs.Log (heading_of horizon atom ++ flat_map line_text lines.now))
-        (moment D.told D.begun D.read_faults D.write_faults D.calls desk.old)
-        (moment D.told D.begun D.read_faults D.write_faults D.calls desk.new) result }
+        (D.seen desk.old)
+        (D.seen desk.new) result }
 {
     tell_heading(alloc, desk, horizon, atom)?;
     tell_lines(alloc, desk, lines)
@@ -253,8 +252,8 @@ fn tell_spent<D: Desk>(
       err = [];
       log = heading_of horizon atom ++ flat_map line_text lines.now;
     })
-        (moment D.told D.begun D.read_faults D.write_faults D.calls desk.old)
-        (moment D.told D.begun D.read_faults D.write_faults D.calls desk.new) result }
+        (D.seen desk.old)
+        (D.seen desk.new) result }
 {
     tell_section(alloc, desk, horizon, atom, lines)?;
     give(desk, To::Out, b"budget spent\n")
@@ -263,8 +262,8 @@ fn tell_spent<D: Desk>(
 /// Gives the line of a horizon without a history to Out.
 fn tell_none<D: Desk>(alloc: Global, desk: &mut D, horizon: u32) -> Result<(), Stop>
     ensures { Step (given_to outputs.Out (of_horizon horizon (codes "no history")))
-        (moment D.told D.begun D.read_faults D.write_faults D.calls desk.old)
-        (moment D.told D.begun D.read_faults D.write_faults D.calls desk.new) result }
+        (D.seen desk.old)
+        (D.seen desk.new) result }
 {
     tell_event(alloc, desk, &Event::NoHistory { horizon })
 }
@@ -280,8 +279,7 @@ fn tell<D: Desk>(
     requires signature { IsSignatureFor described.now.table described.now.sig }
     requires printable { IsPrintable described.now.sig horizon event.now }
     ensures { (d : Description) → IsDescriptionOf described.now d → Step
-        (given_of d horizon event.now) (moment D.told D.begun D.read_faults D.write_faults D.calls
-        desk.old) (moment D.told D.begun D.read_faults D.write_faults D.calls desk.new) result }
+        (given_of d horizon event.now) (D.seen desk.old) (D.seen desk.new) result }
 {
     match event {
         SureEvent::NoHistory { horizon: empty } => tell_none(alloc, desk, *empty),
@@ -336,8 +334,7 @@ pub(crate) fn tell_sure<D: Desk>(
     requires signature { IsSignatureFor described.now.table described.now.sig }
     requires printable { IsPrintable described.now.sig horizon event.now }
     ensures told { (d : Description) → IsDescriptionOf described.now d → Step
-        (given_of d horizon event.now) (moment D.told D.begun D.read_faults D.write_faults D.calls
-        desk.old) (moment D.told D.begun D.read_faults D.write_faults D.calls desk.new) result }
+        (given_of d horizon event.now) (D.seen desk.old) (D.seen desk.new) result }
     ensures status { IfOk result (λ status. status ≡ sures.status_behind event.now) }
 {
     tell(alloc, desk, described, horizon, event)?;

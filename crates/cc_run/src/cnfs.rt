@@ -7,7 +7,7 @@ ghost use Rattle.cc_dimacs.specs.Cnfs.{PlainCnf};
 ghost use Rattle.cc_ports.specs.Contents.{Rose, with_rest};
 ghost use Rattle.cc_run.specs.CnfForms.{HasForm, IsFormFault, IsFormOf};
 ghost use Rattle.cc_run.specs.Modes.Modelling.{IsCnfIn, RefusesCnf};
-ghost use Rattle.cc_run.specs.Stops.{Called, IsCalm, moment};
+ghost use Rattle.cc_run.specs.Stops.{Called, IsCalm};
 
 use cc_defs::{Fault, LimitAt, Refusal};
 use cc_dimacs::{cnf_form, read_cnf};
@@ -47,22 +47,21 @@ fn form_of(alloc: Global, bytes: &[u8]) -> Result<Form, Fault>
 /// passes a limit (14, without a place).
 pub(crate) fn read_form<D: Desk>(alloc: Global, desk: &mut D, file: &str) -> Result<Form, CnfStop>
     ensures form { IfOk result (λ form. (cnf : PlainCnf)
-        × IsFormOf cnf form × IfSome (D.told desk.old) (λ c. IsCnfIn c.files file.now cnf)) }
+        × IsFormOf cnf form × IfSome (D.seen desk.old).told (λ c. IsCnfIn c.files file.now cnf)) }
     ensures refused { IfErr result (λ stop. (refusal : RefusalSeen) →
-        stop ≡ CnfStop.Refused refusal → IfSome (D.told desk.old) (λ c.
+        stop ≡ CnfStop.Refused refusal → IfSome (D.seen desk.old).told (λ c.
         RefusesCnf c.files file.now refusal (refusals.file_named (file.now ∷ []) refusal))) }
     ensures failed { IsErrOf result CnfStop.ReadFault →
-        Rose (D.read_faults desk.old) (D.read_faults desk.new) }
+        Rose (D.seen desk.old).reads (D.seen desk.new).reads }
     ensures after { (rest : List ℕ)
-        × (D.told desk.new ≡ option_map (with_rest rest) (D.told desk.old)) }
-    ensures begun { D.begun desk.new ≡ D.begun desk.old }
-    ensures called { Called (file.now ∷ []) [] (moment D.told D.begun D.read_faults D.write_faults
-        D.calls desk.old) (moment D.told D.begun D.read_faults D.write_faults D.calls desk.new) }
+        × ((D.seen desk.new).told ≡ option_map (with_rest rest) (D.seen desk.old).told) }
+    ensures begun { (D.seen desk.new).begun ≡ (D.seen desk.old).begun }
+    ensures called { Called (file.now ∷ []) [] (D.seen desk.old) (D.seen desk.new) }
     ensures calm { (IsErrOf result CnfStop.ReadFault → ⊥) →
-        IsCalm (moment D.told D.begun D.read_faults D.write_faults D.calls desk.old)
-        (moment D.told D.begun D.read_faults D.write_faults D.calls desk.new) }
-    ensures reads_count { D.read_faults desk.old ≤ D.read_faults desk.new }
-    ensures writes_count { D.write_faults desk.old ≤ D.write_faults desk.new }
+        IsCalm (D.seen desk.old)
+        (D.seen desk.new) }
+    ensures reads_count { (D.seen desk.old).reads ≤ (D.seen desk.new).reads }
+    ensures writes_count { (D.seen desk.old).writes ≤ (D.seen desk.new).writes }
 {
     let bytes = match read_all(alloc, desk, file, LimitAt::FileBytes.number() as usize) {
         Ok(bytes) => bytes,

@@ -13,7 +13,7 @@ ghost use Rattle.cc_general.specs.GeneralTold.{rivals_heading};
 ghost use Rattle.cc_general.specs.Generals.{IsWritable};
 ghost use Rattle.cc_ports.specs.declared.desk.To.TheVariants as outputs;
 ghost use Rattle.cc_run.specs.Generals.{given_generally, general_status_behind, heading_for, lines_text};
-ghost use Rattle.cc_run.specs.Stops.{Step, given_to, moment};
+ghost use Rattle.cc_run.specs.Stops.{Step, given_to};
 ghost use Rattle.cc_sorts.specs.Tables.{IsSignatureFor};
 
 use crate::certain::{horizon_line, tell_lines};
@@ -58,8 +58,8 @@ fn tell_section<D: Desk>(
 ) -> Result<(), Stop>
     requires formed { AllByRecursion IsFormed lines.now }
     ensures { Step (given_to outputs.Log (heading.now ++ lines_text lines.now))
-        (moment D.told D.begun D.read_faults D.write_faults D.calls desk.old)
-        (moment D.told D.begun D.read_faults D.write_faults D.calls desk.new) result }
+        (D.seen desk.old)
+        (D.seen desk.new) result }
 {
     give(desk, To::Log, heading.as_bytes())?;
     tell_lines(alloc, desk, lines)
@@ -69,8 +69,8 @@ fn tell_section<D: Desk>(
 fn tell_alone<D: Desk>(alloc: Global, desk: &mut D, event: &Event) -> Result<(), Stop>
     ensures { (d : Description) →
         Step (given_to outputs.Out (out_text d (told event.now ∷ [])))
-        (moment D.told D.begun D.read_faults D.write_faults D.calls desk.old)
-        (moment D.told D.begun D.read_faults D.write_faults D.calls desk.new) result }
+        (D.seen desk.old)
+        (D.seen desk.new) result }
 {
     tell_event(alloc, desk, event)
 }
@@ -90,8 +90,8 @@ fn tell_shown<D: Desk>(
     requires formed { AllByRecursion IsFormed lines.now }
     ensures { (d : Description) → IsDescriptionOf described.now d →
         Step (given_generally d (events.History horizon number row.now lines.now))
-        (moment D.told D.begun D.read_faults D.write_faults D.calls desk.old)
-        (moment D.told D.begun D.read_faults D.write_faults D.calls desk.new) result }
+        (D.seen desk.old)
+        (D.seen desk.new) result }
 {
     let heading = rivals_line(alloc, horizon, row)?;
     tell_section(alloc, desk, &heading, lines)?;
@@ -111,8 +111,8 @@ fn tell_spent<D: Desk>(
     requires formed { AllByRecursion IsFormed lines.now }
     ensures { (d : Description) →
         Step (given_generally d (events.Spent horizon listed rivals_of.now lines.now))
-        (moment D.told D.begun D.read_faults D.write_faults D.calls desk.old)
-        (moment D.told D.begun D.read_faults D.write_faults D.calls desk.new) result }
+        (D.seen desk.old)
+        (D.seen desk.new) result }
 {
     let heading = heading_text(alloc, horizon, rivals_of)?;
     tell_section(alloc, desk, &heading, lines)?;
@@ -132,8 +132,8 @@ fn tell<D: Desk>(
     requires writable { IsWritable described.now.sig event.now }
     ensures { (d : Description) → IsDescriptionOf described.now d →
         Step (given_generally d event.now)
-        (moment D.told D.begun D.read_faults D.write_faults D.calls desk.old)
-        (moment D.told D.begun D.read_faults D.write_faults D.calls desk.new) result }
+        (D.seen desk.old)
+        (D.seen desk.new) result }
 {
     match event {
         GeneralEvent::NoHistory { horizon } => {
@@ -185,8 +185,8 @@ pub(crate) fn tell_general<D: Desk>(
     requires writable { IsWritable described.now.sig event.now }
     ensures told { (d : Description) → IsDescriptionOf described.now d →
         Step (given_generally d event.now)
-        (moment D.told D.begun D.read_faults D.write_faults D.calls desk.old)
-        (moment D.told D.begun D.read_faults D.write_faults D.calls desk.new) result }
+        (D.seen desk.old)
+        (D.seen desk.new) result }
     ensures status { IfOk result (λ status. status ≡ general_status_behind event.now) }
 {
     tell(alloc, desk, described, event)?;

@@ -5,7 +5,7 @@ ghost use Rattle.cc_ports.specs.declared.desk.To.TheVariants as outputs;
 ghost use Rattle.cc_print.specs.Refusals.{refusal_line};
 ghost use Rattle.cc_run.specs.Refusing.{refusal_text as whole_refusal_text, usage_line};
 ghost use Rattle.cc_run.specs.Wholes.{only_err};
-ghost use Rattle.cc_run.specs.Stops.{Step, TellsStop, given_to, moment, stop_line, stop_status, cut_status as status_when_cut};
+ghost use Rattle.cc_run.specs.Stops.{Step, TellsStop, given_to, stop_line, stop_status, cut_status as status_when_cut};
 
 use crate::status::{Status, Stop};
 use cc_defs::{Name, Refusal};
@@ -20,8 +20,8 @@ const USAGE: &str =
 /// Gives bytes to an output.
 pub(crate) fn give<D: Desk>(desk: &mut D, to: To, bytes: &[u8]) -> Result<(), Stop>
     ensures { Step (given_to to bytes.now)
-        (moment D.told D.begun D.read_faults D.write_faults D.calls desk.old)
-        (moment D.told D.begun D.read_faults D.write_faults D.calls desk.new) result }
+        (D.seen desk.old)
+        (D.seen desk.new) result }
 {
     match give_all(desk, to, bytes) {
         Ok(()) => Ok(()),
@@ -50,8 +50,8 @@ pub(crate) fn refuse<D: Desk>(
     file: &str,
 ) -> Result<Status, Stop>
     ensures told { Step (only_err (whole_refusal_text refusal.now file.now))
-        (moment D.told D.begun D.read_faults D.write_faults D.calls desk.old)
-        (moment D.told D.begun D.read_faults D.write_faults D.calls desk.new) result }
+        (D.seen desk.old)
+        (D.seen desk.new) result }
     ensures status { IfOk result (λ status. status ≡ Status.Refused) }
 {
     tell_refusal(alloc, desk, refusal, file)?;
@@ -66,8 +66,8 @@ fn tell_refusal<D: Desk>(
     file: &str,
 ) -> Result<(), Stop>
     ensures { Step (given_to outputs.Err (refusal_line refusal.now file.now))
-        (moment D.told D.begun D.read_faults D.write_faults D.calls desk.old)
-        (moment D.told D.begun D.read_faults D.write_faults D.calls desk.new) result }
+        (D.seen desk.old)
+        (D.seen desk.new) result }
 {
     let text = refusal_text(alloc, refusal, file)?;
     give(desk, To::Err, text.text().as_bytes())
@@ -76,8 +76,8 @@ fn tell_refusal<D: Desk>(
 /// Tells how the words are to be, where they were refused.
 fn tell_usage<D: Desk>(desk: &mut D, number: u8) -> Result<(), Stop>
     ensures { Step (given_to outputs.Err (if number == 1 then usage_line else []))
-        (moment D.told D.begun D.read_faults D.write_faults D.calls desk.old)
-        (moment D.told D.begun D.read_faults D.write_faults D.calls desk.new) result }
+        (D.seen desk.old)
+        (D.seen desk.new) result }
 {
     if number != 1 {
         return Ok(());
@@ -87,8 +87,8 @@ fn tell_usage<D: Desk>(desk: &mut D, number: u8) -> Result<(), Stop>
 
 /// Tells why a run stops, by a fixed line, which takes no memory; and answers the run's status.
 pub(crate) fn tell_stop<D: Desk>(desk: &mut D, stop: Stop) -> Status
-    ensures { TellsStop stop (moment D.told D.begun D.read_faults D.write_faults D.calls desk.old)
-        (moment D.told D.begun D.read_faults D.write_faults D.calls desk.new) result }
+    ensures { TellsStop stop (D.seen desk.old)
+        (D.seen desk.new) result }
 {
     match give_all(desk, To::Err, line_of(stop).as_bytes()) {
         Ok(()) => whole_status(stop),

@@ -13,7 +13,7 @@ ghost use Rattle.cc_run.specs.Asking.{AreOf, AreSearchable};
 ghost use Rattle.cc_run.specs.Refusing as refusals;
 ghost use Rattle.cc_run.specs.Searching as searches;
 ghost use Rattle.cc_run.specs.Searching.{header_told};
-ghost use Rattle.cc_run.specs.Stops.{Begins, IsRowOfEvent, Searches, Step, moment, texts_behind};
+ghost use Rattle.cc_run.specs.Stops.{Begins, IsRowOfEvent, Searches, Step, texts_behind};
 ghost use Rattle.cc_run.specs.Telling.{GoesOn, HasFewAxioms, HasGoodLines, IsCounted, IsOfSome, IsWritableBy, KeepsUp, counts_of, manner_of, status_told};
 ghost use Rattle.cc_run.specs.Wholes.{nothing, only_err, only_log};
 ghost use Rattle.cc_sorts.specs.Tables.{IsSignatureFor};
@@ -34,8 +34,8 @@ use std::alloc::Global;
 /// Begins a log where one is named.
 pub(crate) fn begin_log<D: Desk>(desk: &mut D, name: Option<&str>) -> Result<(), Stop>
     ensures { Begins (is_some name.entry) (optional (plain_text name.entry))
-        (moment D.told D.begun D.read_faults D.write_faults D.calls desk.old)
-        (moment D.told D.begun D.read_faults D.write_faults D.calls desk.new) result }
+        (D.seen desk.old)
+        (D.seen desk.new) result }
 {
     match name {
         Some(name) => match desk.create_file(name) {
@@ -113,8 +113,8 @@ fn tell_next<D: Desk>(
     ensures told { (d : Description) (counts : Bool → ℕ → ℕ) (before : List Told) →
         IsDescriptionOf described.now d → KeepsUp counts teller.old before →
         Step (texts_behind (manner_of counts teller.old) d before (with_row event.now row.now))
-        (moment D.told D.begun D.read_faults D.write_faults D.calls desk.old)
-        (moment D.told D.begun D.read_faults D.write_faults D.calls desk.new) result }
+        (D.seen desk.old)
+        (D.seen desk.new) result }
     ensures keeps { IfOk result (λ _. (counts : Bool → ℕ → ℕ) (before : List Told) →
         IsCounted counts event.now axioms →
         KeepsUp counts teller.old before → IsNone (status_told event.now) →
@@ -134,8 +134,8 @@ pub(crate) fn tell_limit<D: Desk>(
     refusal: &Refusal,
 ) -> Result<Option<Status>, Stop>
     ensures told { Step (only_err (refusals.refusal_text refusal.now []))
-        (moment D.told D.begun D.read_faults D.write_faults D.calls desk.old)
-        (moment D.told D.begun D.read_faults D.write_faults D.calls desk.new) result }
+        (D.seen desk.old)
+        (D.seen desk.new) result }
     ensures status { IfOk result (λ status. status ≡ Some Status.Refused) }
 {
     let status = refuse(alloc, desk, refusal, "")?;
@@ -160,8 +160,7 @@ fn list_event<D: Desk>(
         After d q session.old given → HasGoodLines d q session.old.ask.after given →
         KeepsUp (counts_of d q session.old.ask.after) teller.old given →
         GoesOn (manner_of (counts_of d q session.old.ask.after) teller.old) d q given teller.new
-        session.old session.new (moment D.told D.begun D.read_faults D.write_faults D.calls
-        desk.old) (moment D.told D.begun D.read_faults D.write_faults D.calls desk.new) result }
+        session.old session.new (D.seen desk.old) (D.seen desk.new) result }
     ensures next { IfOk result (λ status. IsNone status → IsSame session.old session.new
         × HasMore session.new × (left_of session.new < left_of session.old)) }
     ensures manner { (counts : Bool → ℕ → ℕ) →
@@ -207,8 +206,8 @@ fn list_events<D: Desk>(
         Searches (manner_of (counts_of d q session.entry.ask.after) teller)
         (record { description = d; query = q; ask = session.entry.ask })
         (only_log (header_told (manner_of (counts_of d q session.entry.ask.after) teller)))
-        (moment D.told D.begun D.read_faults D.write_faults D.calls desk.old)
-        (moment D.told D.begun D.read_faults D.write_faults D.calls desk.new) result }
+        (D.seen desk.old)
+        (D.seen desk.new) result }
 {
     loop {
         match list_event(alloc, desk, described, &mut teller, &mut session)? {
@@ -241,8 +240,8 @@ pub(crate) fn search<D: Desk>(
         AreOf described.now.sig laws.now (plain_ground_query query.entry) d q →
         Searches (manner_of (counts_of d q ask.after) teller)
         (record { description = d; query = q; ask = ask }) nothing
-        (moment D.told D.begun D.read_faults D.write_faults D.calls desk.old)
-        (moment D.told D.begun D.read_faults D.write_faults D.calls desk.new) result }
+        (D.seen desk.old)
+        (D.seen desk.new) result }
 {
     give_header(desk, &teller)?;
     let session = Session::new(alloc, &described.sig, laws, query, ask)?;

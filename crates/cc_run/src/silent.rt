@@ -1,7 +1,7 @@
 //! The verdict of a log of silent sections, as it is told.
 ghost use Rattle.std.specs.Prelude.{◌≡◌, IfOk, string_bytes};
 ghost use Rattle.cc_run.specs.Modes.CheckingSure.{silent_verdict_line, silent_verdict_status};
-ghost use Rattle.cc_run.specs.Stops.{Step, moment};
+ghost use Rattle.cc_run.specs.Stops.{Step};
 ghost use Rattle.cc_run.specs.Wholes.{only_out};
 
 use crate::causes::push_number;
@@ -54,8 +54,8 @@ pub(crate) fn tell_silent_verdict<D: Desk>(
     verdict: SilentVerdict,
 ) -> Result<Status, Stop>
     ensures told { Step (only_out (silent_verdict_line counted.now verdict))
-        (moment D.told D.begun D.read_faults D.write_faults D.calls desk.old)
-        (moment D.told D.begun D.read_faults D.write_faults D.calls desk.new) result }
+        (D.seen desk.old)
+        (D.seen desk.new) result }
     ensures status { IfOk result (λ status. status ≡ silent_verdict_status verdict) }
 {
     let text = verdict_text(alloc, counted, verdict)?;

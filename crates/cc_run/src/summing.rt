@@ -6,7 +6,7 @@ ghost use Rattle.cc_ports.specs.declared.desk.To.TheVariants as outputs;
 ghost use Rattle.cc_print.specs.Summaries.{endings_told, summary};
 ghost use Rattle.cc_query.specs.Sessions.{IsShortEvent, with_row};
 ghost use Rattle.cc_run.specs.Searching.{Summed};
-ghost use Rattle.cc_run.specs.Stops.{Step, moment, given_to, texts_behind};
+ghost use Rattle.cc_run.specs.Stops.{Step, given_to, texts_behind};
 ghost use Rattle.cc_run.specs.Telling.{SumUp, status_told};
 
 use crate::status::Stop;
@@ -29,8 +29,8 @@ pub(crate) fn sum<D: Desk>(
     ensures told { (d : Description) (before : List ToldEvent) (row : List ℕ) →
         SumUp outcome.old.items before → endings_told before ≡ [] →
         Step (texts_behind (Summed size) d before (with_row event.now row))
-        (moment D.told D.begun D.read_faults D.write_faults D.calls desk.old)
-        (moment D.told D.begun D.read_faults D.write_faults D.calls desk.new) result }
+        (D.seen desk.old)
+        (D.seen desk.new) result }
     ensures keeps { IfOk result (λ _. (before : List ToldEvent) (row : List ℕ) →
         SumUp outcome.old.items before → IsNone (status_told event.now) →
         SumUp outcome.new.items (before ++ with_row event.now row ∷ [])) }
@@ -69,8 +69,8 @@ fn tell_summary<D: Desk>(
     outcome: &mut Vec<Told>,
 ) -> Result<(), Stop>
     ensures { Step (given_to outputs.Out (summary size outcome.old.items))
-        (moment D.told D.begun D.read_faults D.write_faults D.calls desk.old)
-        (moment D.told D.begun D.read_faults D.write_faults D.calls desk.new) result }
+        (D.seen desk.old)
+        (D.seen desk.new) result }
 {
     let told = Items::of(replace(outcome, Vec::new(alloc)));
     let text = summary_text(alloc, size, &told)?;

@@ -14,7 +14,7 @@ ghost use Rattle.cc_defs.specs.Texts as texts;
 ghost use Rattle.cc_ports.specs.declared.desk.To.TheVariants as outputs;
 ghost use Rattle.cc_query.specs.Sessions.{IsShortEvent, with_row};
 ghost use Rattle.cc_run.specs.Searching.{header_told};
-ghost use Rattle.cc_run.specs.Stops.{IsRowOfEvent, Step, moment, given_to, own_after, texts_at, texts_behind};
+ghost use Rattle.cc_run.specs.Stops.{IsRowOfEvent, Step, given_to, own_after, texts_at, texts_behind};
 ghost use Rattle.cc_run.specs.Telling.{IsCounted, IsWritable, IsWritableBy, IsWritableEvent, KeepsUp, manner_of, status_told};
 ghost use Rattle.cc_sorts.specs.Tables.{IsSignatureFor};
 
@@ -44,8 +44,8 @@ pub(crate) enum Teller {
 pub(crate) fn give_header<D: Desk>(desk: &mut D, teller: &Teller) -> Result<(), Stop>
     ensures { (counts : Bool → ℕ → ℕ) →
         Step (given_to outputs.Log (header_told (manner_of counts teller.now)))
-        (moment D.told D.begun D.read_faults D.write_faults D.calls desk.old)
-        (moment D.told D.begun D.read_faults D.write_faults D.calls desk.new) result }
+        (D.seen desk.old)
+        (D.seen desk.new) result }
 {
     match teller {
         Teller::OneByOne {
@@ -63,8 +63,8 @@ pub(crate) fn give_header<D: Desk>(desk: &mut D, teller: &Teller) -> Result<(), 
 /// Gives the lines of a text to Out, one after another.
 pub(crate) fn give_lines<D: Desk>(desk: &mut D, text: &str) -> Result<(), Stop>
     ensures { Step (given_to outputs.Out text.now)
-        (moment D.told D.begun D.read_faults D.write_faults D.calls desk.old)
-        (moment D.told D.begun D.read_faults D.write_faults D.calls desk.new) result }
+        (D.seen desk.old)
+        (D.seen desk.new) result }
 {
     for line in text.split_inclusive('\n') {
         give(desk, To::Out, line.as_bytes())?;
@@ -96,8 +96,8 @@ pub(crate) fn tell_row<D: Desk>(
         IsSignatureOfDescription d described.now.sig → IsRow (sizes_at d horizon) row.now }
     ensures { (d : Description) → IsDescriptionOf described.now d →
         Step (given_to outputs.Out (texts.history_text d horizon row.now ++ texts.key_line
-        horizon row.now)) (moment D.told D.begun D.read_faults D.write_faults D.calls desk.old)
-        (moment D.told D.begun D.read_faults D.write_faults D.calls desk.new) result }
+        horizon row.now)) (D.seen desk.old)
+        (D.seen desk.new) result }
 {
     let history = history_text(alloc, &described.table, &described.sig, horizon, row)?;
     give_lines(desk, history.text())?;
@@ -107,8 +107,8 @@ pub(crate) fn tell_row<D: Desk>(
 /// Gives the line of a key to Out.
 fn tell_key<D: Desk>(alloc: Global, desk: &mut D, horizon: u32, row: &[u32]) -> Result<(), Stop>
     ensures { Step (given_to outputs.Out (texts.key_line horizon row.now))
-        (moment D.told D.begun D.read_faults D.write_faults D.calls desk.old)
-        (moment D.told D.begun D.read_faults D.write_faults D.calls desk.new) result }
+        (D.seen desk.old)
+        (D.seen desk.new) result }
 {
     let line = key_line(alloc, horizon, row)?;
     give(desk, To::Out, line.as_bytes())
@@ -117,8 +117,8 @@ fn tell_key<D: Desk>(alloc: Global, desk: &mut D, horizon: u32, row: &[u32]) -> 
 /// Gives the line of an event to Out.
 pub(crate) fn tell_event<D: Desk>(alloc: Global, desk: &mut D, event: &Event) -> Result<(), Stop>
     ensures { Step (given_to outputs.Out (event_line event.now))
-        (moment D.told D.begun D.read_faults D.write_faults D.calls desk.old)
-        (moment D.told D.begun D.read_faults D.write_faults D.calls desk.new) result }
+        (D.seen desk.old)
+        (D.seen desk.new) result }
 {
     let text = event_text(alloc, event)?;
     give(desk, To::Out, text.text().as_bytes())
@@ -128,8 +128,8 @@ pub(crate) fn tell_event<D: Desk>(alloc: Global, desk: &mut D, event: &Event) ->
 pub(crate) fn tell_line<D: Desk>(alloc: Global, desk: &mut D, line: &LogLine) -> Result<(), Stop>
     requires { IsFormed line.now }
     ensures { Step (given_to outputs.Log (line_text line.now))
-        (moment D.told D.begun D.read_faults D.write_faults D.calls desk.old)
-        (moment D.told D.begun D.read_faults D.write_faults D.calls desk.new) result }
+        (D.seen desk.old)
+        (D.seen desk.new) result }
 {
     let text = put_line(alloc, line)?;
     give(desk, To::Log, text.text().as_bytes())
@@ -140,8 +140,8 @@ fn tell_entry<D: Desk>(alloc: Global, desk: &mut D, own: u32, line: &LogLine) ->
     requires formed { IsFormed line.now }
     requires writable { IsWritable own line.now }
     ensures { Step (given_to outputs.Log (entry_bytes (line_behind own line.now)))
-        (moment D.told D.begun D.read_faults D.write_faults D.calls desk.old)
-        (moment D.told D.begun D.read_faults D.write_faults D.calls desk.new) result }
+        (D.seen desk.old)
+        (D.seen desk.new) result }
 {
     let bytes = put_binary(alloc, line, own)?;
     give(desk, To::Log, bytes.items())
@@ -158,8 +158,8 @@ pub(crate) fn tell_line_in<D: Desk>(
     requires formed { IsFormed line.now }
     requires writable { IsWritable own line.now }
     ensures { Step (given_to outputs.Log (line_bytes version own line.now))
-        (moment D.told D.begun D.read_faults D.write_faults D.calls desk.old)
-        (moment D.told D.begun D.read_faults D.write_faults D.calls desk.new) result }
+        (D.seen desk.old)
+        (D.seen desk.new) result }
 {
     match version {
         Version::First => tell_line(alloc, desk, line),
@@ -181,8 +181,8 @@ pub(crate) fn tell_history<D: Desk>(
         IsSignatureOfDescription d described.now.sig → IsRow (sizes_at d horizon) row.now }
     ensures { (d : Description) → IsDescriptionOf described.now d → Step (given_to outputs.Out
         (event_line event.now ++ (texts.history_text d horizon row.now ++ texts.key_line
-        horizon row.now))) (moment D.told D.begun D.read_faults D.write_faults D.calls desk.old)
-        (moment D.told D.begun D.read_faults D.write_faults D.calls desk.new) result }
+        horizon row.now))) (D.seen desk.old)
+        (D.seen desk.new) result }
 {
     tell_event(alloc, desk, event)?;
     tell_row(alloc, desk, described, horizon, row)
@@ -204,8 +204,7 @@ fn tell<D: Desk>(
     requires short { IsShortEvent event.now }
     requires writable { IsWritableEvent own event.now }
     ensures { (d : Description) → IsDescriptionOf described.now d → Step (texts_at version own d
-        (with_row event.now row.now)) (moment D.told D.begun D.read_faults D.write_faults D.calls
-        desk.old) (moment D.told D.begun D.read_faults D.write_faults D.calls desk.new) result }
+        (with_row event.now row.now)) (D.seen desk.old) (D.seen desk.new) result }
 {
     match event {
         Event::Log(line) => tell_line_in(alloc, desk, version, own, line),
@@ -273,8 +272,8 @@ fn tell_numbered<D: Desk>(
     requires few { axioms ≤ most_clauses }
     ensures told { (d : Description) → IsDescriptionOf described.now d →
         Step (texts_at version own.old d (with_row event.now row.now))
-        (moment D.told D.begun D.read_faults D.write_faults D.calls desk.old)
-        (moment D.told D.begun D.read_faults D.write_faults D.calls desk.new) result }
+        (D.seen desk.old)
+        (D.seen desk.new) result }
     ensures number { OnOk result ((counts : Bool → ℕ → ℕ) → IsCounted counts event.now axioms →
         own.new ≡ own_after counts own.old (line_told event.now)) }
 {
@@ -302,8 +301,8 @@ pub(crate) fn tell_by<D: Desk>(
     ensures told { (d : Description) (counts : Bool → ℕ → ℕ) (before : List ToldEvent) →
         IsDescriptionOf described.now d → KeepsUp counts teller.old before →
         Step (texts_behind (manner_of counts teller.old) d before (with_row event.now row.now))
-        (moment D.told D.begun D.read_faults D.write_faults D.calls desk.old)
-        (moment D.told D.begun D.read_faults D.write_faults D.calls desk.new) result }
+        (D.seen desk.old)
+        (D.seen desk.new) result }
     ensures keeps { IfOk result (λ _. (counts : Bool → ℕ → ℕ) (before : List ToldEvent) →
         IsCounted counts event.now axioms →
         KeepsUp counts teller.old before → IsNone (status_told event.now) →

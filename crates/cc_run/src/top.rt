@@ -14,7 +14,8 @@ ghost use Rattle.cc_run.specs.Names.{BeginsAsked, MayEndWith, OpensAsked, names_
 ghost use Rattle.cc_run.specs.Promises.{IsEndStatus};
 ghost use Rattle.cc_run.specs.Requested.{AsksDescription, AsksQuery, IsFileOf, IsWithin, Reads, named_of, opens_behind, source_of};
 ghost use Rattle.cc_run.specs.Requested as requested;
-ghost use Rattle.cc_run.specs.Stops.{Moment, Prints, PrintsAsked, moment};
+ghost use Rattle.cc_ports.specs.Moments.{Moment};
+ghost use Rattle.cc_run.specs.Stops.{Prints, PrintsAsked};
 ghost use Rattle.cc_run.specs.Tasks.{IsTask, request_of};
 ghost use Rattle.cc_sorts.specs.Tables.{IsSignatureFor};
 ghost use Rattle.cc_words.specs.Requests.{Request, ToMake};
@@ -58,29 +59,29 @@ pub fn run<D: Desk>(alloc: Global, words: &[String], desk: &mut D) -> Status
     // query, in ascending order, each once, marked complete only where they are all, and a horizon said to be empty only where
     // it has none, with the log of the search; or, where a horizon passes a limit, that refusal behind what was told before; or
     // what a checker says of the log that they name; or why the values of a history hold; or, after a fault, fronts of these.
-    ensures answer { IfSome (D.told desk.old) (λ before. IsFresh before →
-        D.begun desk.old ≡ false → IsSomeAnd (D.told desk.new) (λ after. Answered before after
-        (D.begun desk.new) (map string_bytes words.now) result (counts (D.read_faults desk.old)
-        (D.read_faults desk.new) (D.write_faults desk.old) (D.write_faults desk.new)))) }
+    ensures answer { IfSome (D.seen desk.old).told (λ before. IsFresh before →
+        (D.seen desk.old).begun ≡ false → IsSomeAnd (D.seen desk.new).told (λ after. Answered before after
+        (D.seen desk.new).begun (map string_bytes words.now) result (counts (D.seen desk.old).reads
+        (D.seen desk.new).reads (D.seen desk.old).writes (D.seen desk.new).writes))) }
     // The names that are opened are those of the words and of the description, in their order, and no others; the log that is begun
     // has the name that the words give it.
-    ensures names { (more : List Call) × (D.calls desk.new ≡ with_calls more (D.calls desk.old))
+    ensures names { (more : List Call) × ((D.seen desk.new).calls ≡ with_calls more (D.seen desk.old).calls)
         × BeginsAsked (request_of (map string_bytes words.now)) result (names_begun more)
-        × IfSome (D.told desk.old) (λ before. OpensAsked before.files
+        × IfSome (D.seen desk.old).told (λ before. OpensAsked before.files
         (request_of (map string_bytes words.now)) result (names_opened more)) }
     // Where it comes to its end, it is with a status that its request may have, and the desk counted no fault.
     ensures ends { IsEndStatus result →
         MayEndWith (request_of (map string_bytes words.now)) result }
-    ensures calm { IsEndStatus result → (D.read_faults desk.new ≡ D.read_faults desk.old)
-        × (D.write_faults desk.new ≡ D.write_faults desk.old) }
+    ensures calm { IsEndStatus result → ((D.seen desk.new).reads ≡ (D.seen desk.old).reads)
+        × ((D.seen desk.new).writes ≡ (D.seen desk.old).writes) }
     // A log is begun only where the words name one.
     ensures no_log { names_log (request_of (map string_bytes words.now)) ≡ false →
-        D.begun desk.new ≡ D.begun desk.old }
+        (D.seen desk.new).begun ≡ (D.seen desk.old).begun }
     // A fault is answered only where the desk counted one.
     ensures read_fault { result ≡ Status.ReadFault →
-        Rose (D.read_faults desk.old) (D.read_faults desk.new) }
+        Rose (D.seen desk.old).reads (D.seen desk.new).reads }
     ensures write_fault { result ≡ Status.WriteFault →
-        Rose (D.write_faults desk.old) (D.write_faults desk.new) }
+        Rose (D.seen desk.old).writes (D.seen desk.new).writes }
 {
     match answer(alloc, words, desk) {
         Ok(status) => status,
@@ -92,8 +93,8 @@ pub fn run<D: Desk>(alloc: Global, words: &[String], desk: &mut D) -> Status
 fn answer<D: Desk>(alloc: Global, words: &[String], desk: &mut D) -> Result<Status, Stop>
     ensures { PrintsAsked
         (map string_bytes words.now) (names_log (request_of (map string_bytes words.now)))
-        (moment D.told D.begun D.read_faults D.write_faults D.calls desk.old)
-        (moment D.told D.begun D.read_faults D.write_faults D.calls desk.new) result }
+        (D.seen desk.old)
+        (D.seen desk.new) result }
 {
     has_places();
     match read(alloc, words)? {
@@ -107,8 +108,8 @@ fn answer_asked<D: Desk>(alloc: Global, desk: &mut D, asked: &Asked<'_>) -> Resu
     requires within { IsWithin (plain_request asked.now) }
     ensures { (words : List Text) → request_of words ≡ Some (plain_request asked.now) →
         PrintsAsked words (names_log (Some (plain_request asked.now)))
-        (moment D.told D.begun D.read_faults D.write_faults D.calls desk.old)
-        (moment D.told D.begun D.read_faults D.write_faults D.calls desk.new) result }
+        (D.seen desk.old)
+        (D.seen desk.new) result }
 {
     match asked {
         Asked::List(list) => answer_file(alloc, desk, asked, list.file),
@@ -157,8 +158,8 @@ fn answer_file<D: Desk>(
     ensures { (words : List Text) → request_of words ≡ Some (plain_request asked.now) →
         IsFileOf (plain_request asked.now) file.now →
         PrintsAsked words (names_log (Some (plain_request asked.now)))
-        (moment D.told D.begun D.read_faults D.write_faults D.calls desk.old)
-        (moment D.told D.begun D.read_faults D.write_faults D.calls desk.new) result }
+        (D.seen desk.old)
+        (D.seen desk.new) result }
 {
     let described = describe(alloc, desk, file, heads_of(asked));
     answer_described(alloc, desk, asked, described)
@@ -177,8 +178,8 @@ fn answer_made<D: Desk>(
     ensures { (words : List Text) (budget : ℕ) → request_of words ≡ Some (plain_request asked.now) →
         plain_request asked.now ≡ ToMake size budget →
         PrintsAsked words (names_log (Some (plain_request asked.now)))
-        (moment D.told D.begun D.read_faults D.write_faults D.calls desk.old)
-        (moment D.told D.begun D.read_faults D.write_faults D.calls desk.new) result }
+        (D.seen desk.old)
+        (D.seen desk.new) result }
 {
     let text = make_text(alloc, size)?;
     let mut source = TextDesk::of(text.text().as_bytes());
@@ -201,9 +202,9 @@ fn answer_described<D: Desk>(
     requires formulas { IfOk described AsksFormulas }
     ensures { (words : List Text) (request : Request) (earlier : Moment) →
         request_of words ≡ Some request → plain_request asked.now ≡ request → Reads request
-        described earlier (moment D.told D.begun D.read_faults D.write_faults D.calls desk.old) →
+        described earlier (D.seen desk.old) →
         PrintsAsked words (names_log (Some request)) earlier
-        (moment D.told D.begun D.read_faults D.write_faults D.calls desk.new) result }
+        (D.seen desk.new) result }
 {
     match described {
         Ok(described) => {
@@ -231,12 +232,12 @@ fn answer_read<D: Desk>(
     requires wide_forms { HasWideForms described.now }
     requires formulas { AsksFormulas described.now }
     ensures { (words : List Text) (request : Request) → request_of words ≡ Some request →
-        plain_request asked.now ≡ request → IfSome (D.told desk.old) (λ before.
+        plain_request asked.now ≡ request → IfSome (D.seen desk.old).told (λ before.
         Describes (requested.heads_of request) (source_of request before.files)
         (named_of request).file described.now) →
         Prints words (names_log (Some request))
-        (opens_behind request) (moment D.told D.begun D.read_faults D.write_faults D.calls desk.old)
-        (moment D.told D.begun D.read_faults D.write_faults D.calls desk.new) result }
+        (opens_behind request) (D.seen desk.old)
+        (D.seen desk.new) result }
 {
     match asked {
         Asked::Explain(explain) => why::explain(alloc, desk, described, explain.key),
@@ -267,12 +268,12 @@ fn answer_query<D: Desk>(
     requires forms { HasForms described.now }
     requires formulas { AsksFormulas described.now }
     ensures { (words : List Text) (request : Request) → request_of words ≡ Some request →
-        plain_request asked.now ≡ request → IfSome (D.told desk.old) (λ before.
+        plain_request asked.now ≡ request → IfSome (D.seen desk.old).told (λ before.
         Describes heads.Definite (source_of request before.files) (named_of request).file
         described.now) →
         Prints words (names_log (Some request))
-        (opens_behind request) (moment D.told D.begun D.read_faults D.write_faults D.calls desk.old)
-        (moment D.told D.begun D.read_faults D.write_faults D.calls desk.new) result }
+        (opens_behind request) (D.seen desk.old)
+        (D.seen desk.new) result }
 {
     let arena = Bump::new(alloc);
     let terms = Terms::new(&arena);
@@ -344,15 +345,15 @@ fn answer_prepared<D: Desk>(
     ensures { (words : List Text) (request : Request) (d : Description) (q : Query) → request_of
         words ≡ Some request → plain_request asked.now ≡ request → IsDescriptionOf described.now d →
         AreOf described.now.sig prepared.entry.laws (plain_ground_query prepared.entry.query) d q →
-        ((count : Option ℕ) (budget : ℕ) → IfSome (D.told desk.old) (λ before. IsTask
+        ((count : Option ℕ) (budget : ℕ) → IfSome (D.seen desk.old).told (λ before. IsTask
         (source_of request before.files) (named_of request) (record {
           description = d;
           query = q;
           ask = record { count = count; budget = budget; after = prepared.entry.key };
         }))) →
         Prints words (names_log (Some request))
-        (opens_behind request) (moment D.told D.begun D.read_faults D.write_faults D.calls desk.old)
-        (moment D.told D.begun D.read_faults D.write_faults D.calls desk.new) result }
+        (opens_behind request) (D.seen desk.old)
+        (D.seen desk.new) result }
 {
     match asked {
         Asked::List(list) => list::list(alloc, desk, described, list, prepared),

@@ -9,7 +9,7 @@ ghost use Rattle.cc_print.specs.Verdicts.{verdict_line};
 ghost use Rattle.cc_run.specs.Asking.{AreOf, AreSearchable};
 ghost use Rattle.cc_run.specs.Modes.Checking as checks;
 ghost use Rattle.cc_run.specs.Modes.Checking.{NamesLog};
-ghost use Rattle.cc_run.specs.Stops.{Prints, Step, moment};
+ghost use Rattle.cc_run.specs.Stops.{Prints, Step};
 ghost use Rattle.cc_run.specs.Tasks.{IsTask, named_in, request_of};
 ghost use Rattle.cc_run.specs.Telling.{task_to_check};
 ghost use Rattle.cc_run.specs.Wholes.{only_out};
@@ -46,8 +46,8 @@ pub(crate) fn tell_verdict<D: Desk>(
     verdict: &LogVerdict,
 ) -> Result<Status, Stop>
     ensures told { Step (only_out (verdict_line verdict.now))
-        (moment D.told D.begun D.read_faults D.write_faults D.calls desk.old)
-        (moment D.told D.begun D.read_faults D.write_faults D.calls desk.new) result }
+        (D.seen desk.old)
+        (D.seen desk.new) result }
     ensures status { IfOk result (λ status. status ≡ checks.verdict_status verdict.now) }
 {
     let text = verdict_text(alloc, verdict)?;
@@ -68,10 +68,10 @@ fn check_log<D: Desk>(
     requires few { length bytes.now ≤ limit_number limits.LogBytes }
     ensures { (words : List Text) (checking : Checking) (d : Description) (q : Query) →
         request_of words ≡ Some (ToCheck checking) → AreOf described.now.sig prepared.now.laws
-        (plain_ground_query prepared.now.query) d q → IfSome (D.told desk.old) (λ before.
+        (plain_ground_query prepared.now.query) d q → IfSome (D.seen desk.old).told (λ before.
         NamesLog before.files checking (task_to_check d q prepared.now.key) bytes.now) →
-        Prints words false [] (moment D.told D.begun D.read_faults D.write_faults D.calls desk.old)
-        (moment D.told D.begun D.read_faults D.write_faults D.calls desk.new) result }
+        Prints words false [] (D.seen desk.old)
+        (D.seen desk.new) result }
 {
     match judge(
         alloc,
@@ -100,10 +100,9 @@ pub(crate) fn check<D: Desk>(
     ensures { (words : List Text) (checking : Checking) (d : Description) (q : Query) →
         request_of words ≡ Some (ToCheck checking) → plain_request (requests.Check asked.now)
         ≡ ToCheck checking → AreOf described.now.sig prepared.now.laws
-        (plain_ground_query prepared.now.query) d q → IfSome (D.told desk.old) (λ before.
+        (plain_ground_query prepared.now.query) d q → IfSome (D.seen desk.old).told (λ before.
         IsTask before.files (named_in checking) (task_to_check d q prepared.now.key)) → Prints words
-        false (asked.now.log.now ∷ []) (moment D.told D.begun D.read_faults D.write_faults D.calls
-        desk.old) (moment D.told D.begun D.read_faults D.write_faults D.calls desk.new) result }
+        false (asked.now.log.now ∷ []) (D.seen desk.old) (D.seen desk.new) result }
 {
     match read_all(alloc, desk, asked.log, LimitAt::LogBytes.number() as usize) {
         Ok(bytes) => check_log(alloc, desk, described, prepared, bytes.items()),

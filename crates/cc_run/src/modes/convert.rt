@@ -18,7 +18,7 @@ ghost use Rattle.cc_run.specs.Asking.{AreOf, AreSearchable};
 ghost use Rattle.cc_run.specs.Converted.{AreLeft, HasLeft, HasOpened, IsJudged, converted_by, other_said};
 ghost use Rattle.cc_run.specs.Modes.Checking as checks;
 ghost use Rattle.cc_run.specs.Modes.Checking.{NamesLog};
-ghost use Rattle.cc_run.specs.Stops.{Prints, Step, given_to, moment};
+ghost use Rattle.cc_run.specs.Stops.{Prints, Step, given_to};
 ghost use Rattle.cc_run.specs.Tasks.{IsTask, checked_by, named_in, request_of};
 ghost use Rattle.cc_run.specs.Telling.{IsCounted, counts_of, task_to_check};
 ghost use Rattle.cc_words.specs.Requests.{Converting, ToConvert};
@@ -133,8 +133,8 @@ fn give_line<'b, D: Desk>(
         AreOf described.now.sig prepared.now.laws (plain_ground_query prepared.now.query) d q →
         AreLeft d q prepared.now.key version own bytes.now (line ∷ others) →
         Step (given_to outputs.Log (line_bytes (log_versions.other_version version) own line))
-        (moment D.told D.begun D.read_faults D.write_faults D.calls desk.old)
-        (moment D.told D.begun D.read_faults D.write_faults D.calls desk.new) result }
+        (D.seen desk.old)
+        (D.seen desk.new) result }
     ensures left { IfOk result (λ next. (d : Description)
         (q : Query) (line : Line) (others : List Line) → AreOf described.now.sig prepared.now.laws
         (plain_ground_query prepared.now.query) d q → AreLeft d q prepared.now.key version own
@@ -165,8 +165,8 @@ fn give_lines<D: Desk>(
         AreOf described.now.sig prepared.now.laws (plain_ground_query prepared.now.query) d q →
         AreLeft d q prepared.now.key version 1 bytes.now said → Step (given_to outputs.Log
         (lines_bytes (log_versions.other_version version) (counts_of d q prepared.now.key) 1 said))
-        (moment D.told D.begun D.read_faults D.write_faults D.calls desk.old)
-        (moment D.told D.begun D.read_faults D.write_faults D.calls desk.new) result }
+        (D.seen desk.old)
+        (D.seen desk.new) result }
 {
     let mut own = 1;
     let mut rest = bytes;
@@ -195,8 +195,8 @@ fn give_other<D: Desk>(
         AreOf described.now.sig prepared.now.laws (plain_ground_query prepared.now.query) d q →
         (says : SaysLines d q prepared.now.key bytes.now) →
         Step (given_to outputs.Log (other_said d q prepared.now.key bytes.now says))
-        (moment D.told D.begun D.read_faults D.write_faults D.calls desk.old)
-        (moment D.told D.begun D.read_faults D.write_faults D.calls desk.new) result }
+        (D.seen desk.old)
+        (D.seen desk.new) result }
 {
     let version = version_of(bytes);
     let teller = Teller::OneByOne {
@@ -232,8 +232,8 @@ fn give_accepted<D: Desk>(
         AreOf described.now.sig prepared.now.laws (plain_ground_query prepared.now.query) d q →
         (says : SaysLines d q prepared.now.key bytes.now) →
         Step (converted_by verdict.now (other_said d q prepared.now.key bytes.now says))
-        (moment D.told D.begun D.read_faults D.write_faults D.calls desk.old)
-        (moment D.told D.begun D.read_faults D.write_faults D.calls desk.new) result }
+        (D.seen desk.old)
+        (D.seen desk.new) result }
     ensures status { IfOk result (λ status. status ≡ checks.verdict_status verdict.now) }
 {
     let status = tell_verdict(alloc, desk, verdict)?;
@@ -260,11 +260,11 @@ fn convert_judged<D: Desk>(
     ensures { (words : List Text) (converting : Converting) (d : Description) (q : Query) →
         request_of words ≡ Some (ToConvert converting) → to.now ≡ converting.to →
         AreOf described.now.sig prepared.now.laws (plain_ground_query prepared.now.query) d q →
-        IfSome (D.told desk.old) (λ before. NamesLog before.files
+        IfSome (D.seen desk.old).told (λ before. NamesLog before.files
         (checked_by converting) (task_to_check d q prepared.now.key) bytes.now) →
         IsJudged d q prepared.now.key bytes.now verdict.now →
-        Prints words true [] (moment D.told D.begun D.read_faults D.write_faults D.calls desk.old)
-        (moment D.told D.begun D.read_faults D.write_faults D.calls desk.new) result }
+        Prints words true [] (D.seen desk.old)
+        (D.seen desk.new) result }
 {
     match verdict {
         LogVerdict::Refused { .. } => tell_verdict(alloc, desk, verdict),
@@ -294,10 +294,10 @@ fn convert_log<D: Desk>(
     ensures { (words : List Text) (converting : Converting) (d : Description) (q : Query) →
         request_of words ≡ Some (ToConvert converting) → to.now ≡ converting.to →
         AreOf described.now.sig prepared.now.laws (plain_ground_query prepared.now.query) d q →
-        IfSome (D.told desk.old) (λ before. NamesLog before.files
+        IfSome (D.seen desk.old).told (λ before. NamesLog before.files
         (checked_by converting) (task_to_check d q prepared.now.key) bytes.now) →
-        Prints words true [] (moment D.told D.begun D.read_faults D.write_faults D.calls desk.old)
-        (moment D.told D.begun D.read_faults D.write_faults D.calls desk.new) result }
+        Prints words true [] (D.seen desk.old)
+        (D.seen desk.new) result }
 {
     match judge(
         alloc,
@@ -330,10 +330,10 @@ pub(crate) fn convert<D: Desk>(
         request_of words ≡ Some (ToConvert converting) →
         plain_request (requests.Convert asked.now) ≡ ToConvert converting →
         AreOf described.now.sig prepared.now.laws (plain_ground_query prepared.now.query) d q →
-        IfSome (D.told desk.old) (λ before. IsTask before.files (named_in (checked_by converting))
+        IfSome (D.seen desk.old).told (λ before. IsTask before.files (named_in (checked_by converting))
         (task_to_check d q prepared.now.key)) → Prints words true (asked.now.log.now ∷ [])
-        (moment D.told D.begun D.read_faults D.write_faults D.calls desk.old)
-        (moment D.told D.begun D.read_faults D.write_faults D.calls desk.new) result }
+        (D.seen desk.old)
+        (D.seen desk.new) result }
 {
     match read_all(alloc, desk, asked.log, LimitAt::LogBytes.number() as usize) {
         Ok(bytes) => convert_log(alloc, desk, described, asked.to, prepared, bytes.items()),

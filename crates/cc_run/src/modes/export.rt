@@ -15,7 +15,7 @@ ghost use Rattle.cc_laws.specs.Vocabulary.{vocabulary_of};
 ghost use Rattle.cc_ports.specs.declared.desk.To.TheVariants as outputs;
 ghost use Rattle.cc_run.specs.Exported.{IsAskedAt, IsExported, IsExportFault, tried_refusal};
 ghost use Rattle.cc_run.specs.Modes.Exporting.{horizon_refusal, is_outside};
-ghost use Rattle.cc_run.specs.Stops.{Prints, Step, given_to, moment};
+ghost use Rattle.cc_run.specs.Stops.{Prints, Step, given_to};
 ghost use Rattle.cc_run.specs.Tasks as tasks;
 ghost use Rattle.cc_run.specs.Tasks.{request_of};
 ghost use Rattle.cc_run.specs.Wholes.{only_out};
@@ -140,8 +140,8 @@ fn exported_form(
 /// Gives the clauses to Out, each by its line.
 fn tell_clauses<D: Desk>(alloc: Global, desk: &mut D, form: &Form) -> Result<(), Stop>
     ensures { Step (given_to outputs.Out (flat_map clause_line form.now.clauses))
-        (moment D.told D.begun D.read_faults D.write_faults D.calls desk.old)
-        (moment D.told D.begun D.read_faults D.write_faults D.calls desk.new) result }
+        (D.seen desk.old)
+        (D.seen desk.new) result }
 {
     for index in 0..form.count() {
         let line = export_line(alloc, form.clause(index + 1))?;
@@ -160,8 +160,7 @@ fn tell_form<D: Desk>(
     ensures told { Step (only_out (export_of horizon (record {
       variables = form.now.variables;
       clauses = form.now.clauses;
-    }))) (moment D.told D.begun D.read_faults D.write_faults D.calls
-        desk.old) (moment D.told D.begun D.read_faults D.write_faults D.calls desk.new) result }
+    }))) (D.seen desk.old) (D.seen desk.new) result }
     ensures status { IfOk result (λ status. status ≡ Status.Right) }
 {
     let heading = export_heading(alloc, form, horizon)?;
@@ -182,10 +181,10 @@ pub(crate) fn export<D: Desk>(
     requires formulas { AsksFormulas described.now }
     ensures { (words : List Text) (exporting : Exporting) → request_of words ≡ Some
         (ToExport exporting) → plain_request (requests.Export asked.now) ≡ ToExport exporting →
-        IfSome (D.told desk.old) (λ before.
+        IfSome (D.seen desk.old).told (λ before.
         Describes heads.Definite before.files exporting.file described.now) →
-        Prints words false [] (moment D.told D.begun D.read_faults D.write_faults D.calls desk.old)
-        (moment D.told D.begun D.read_faults D.write_faults D.calls desk.new) result }
+        Prints words false [] (D.seen desk.old)
+        (D.seen desk.new) result }
 {
     let arena = Bump::new(alloc);
     let terms = Terms::new(&arena);

@@ -9,7 +9,7 @@ ghost use Rattle.cc_general.specs.GeneralRuns.{GeneralRun};
 ghost use Rattle.cc_general.specs.Generals.{HasMore, IsGeneralOf, IsSame, Stands, left_of};
 ghost use Rattle.cc_run.specs.Generals.{AreWideOf, AreWideSearchable, IsGeneralOfSome, TellsGeneralEvent, TellsGenerally, generally_given};
 ghost use Rattle.cc_run.specs.Modes.Generally.{NamesWide, named_generally};
-ghost use Rattle.cc_run.specs.Stops.{Prints, moment};
+ghost use Rattle.cc_run.specs.Stops.{Prints};
 ghost use Rattle.cc_run.specs.Tasks.{request_of};
 ghost use Rattle.cc_run.specs.Wholes.{nothing};
 ghost use Rattle.cc_sorts.specs.Tables.{IsSignatureFor};
@@ -47,8 +47,8 @@ fn tell_next<D: Desk>(
     ensures tells { (w : WideDescription) (q : Query) (run : GeneralRun) →
         IsWideDescriptionOf described.now w → IsGeneralOf general.old w q →
         Stands w q general.old run → TellsGeneralEvent w q general.old.count general.old.budget
-        run general.new (moment D.told D.begun D.read_faults D.write_faults D.calls desk.old)
-        (moment D.told D.begun D.read_faults D.write_faults D.calls desk.new) result }
+        run general.new (D.seen desk.old)
+        (D.seen desk.new) result }
     ensures next { IfOk result (λ status. IsNone status →
         HasMore general.new × (left_of general.new < left_of general.old)) }
     ensures same { IsSame general.old general.new }
@@ -75,8 +75,8 @@ fn tell_all<D: Desk>(
         IsWideDescriptionOf described.now w → IsGeneralOf general.entry w q →
         Stands w q general.entry run → TellsGenerally w q general.entry.count general.entry.budget
         (generally_given w q run)
-        (moment D.told D.begun D.read_faults D.write_faults D.calls desk.old)
-        (moment D.told D.begun D.read_faults D.write_faults D.calls desk.new) result }
+        (D.seen desk.old)
+        (D.seen desk.new) result }
 {
     loop {
         match tell_next(alloc, desk, described, &mut general)? {
@@ -106,8 +106,8 @@ fn tell_run<D: Desk>(
     ensures { (w : WideDescription) (q : Query) → IsWideDescriptionOf described.now w → AreWideOf
         described.now.sig prepared.now.laws (plain_ground_query prepared.now.query) w q →
         TellsGenerally w q count budget nothing
-        (moment D.told D.begun D.read_faults D.write_faults D.calls desk.old)
-        (moment D.told D.begun D.read_faults D.write_faults D.calls desk.new) result }
+        (D.seen desk.old)
+        (D.seen desk.new) result }
 {
     let general = General::new(
         alloc,
@@ -141,10 +141,9 @@ fn list_generally<D: Desk>(
         request_of words ≡ Some (ToListGenerally generally) →
         plain_request (requests.General asked.now) ≡ ToListGenerally generally →
         IsWideDescriptionOf described.now w → AreWideOf described.now.sig prepared.now.laws
-        (plain_ground_query prepared.now.query) w q → IfSome (D.told desk.old) (λ before.
+        (plain_ground_query prepared.now.query) w q → IfSome (D.seen desk.old).told (λ before.
         NamesWide before.files (named_generally generally) w q) → Prints words
-        (is_some generally.log) [] (moment D.told D.begun D.read_faults D.write_faults D.calls
-        desk.old) (moment D.told D.begun D.read_faults D.write_faults D.calls desk.new) result }
+        (is_some generally.log) [] (D.seen desk.old) (D.seen desk.new) result }
 {
     begin_log(desk, asked.log)?;
     tell_run(alloc, desk, described, prepared, asked.count, asked.budget)
@@ -165,10 +164,9 @@ pub(crate) fn general<D: Desk>(
     ensures { (words : List Text) (generally : Generally) →
         request_of words ≡ Some (ToListGenerally generally) →
         plain_request (requests.General asked.now) ≡ ToListGenerally generally →
-        IfSome (D.told desk.old) (λ before.
+        IfSome (D.seen desk.old).told (λ before.
         Describes heads.Any before.files generally.file described.now) → Prints words
-        (is_some generally.log) [] (moment D.told D.begun D.read_faults D.write_faults D.calls
-        desk.old) (moment D.told D.begun D.read_faults D.write_faults D.calls desk.new) result }
+        (is_some generally.log) [] (D.seen desk.old) (D.seen desk.new) result }
 {
     let arena = Bump::new(alloc);
     let terms = Terms::new(&arena);

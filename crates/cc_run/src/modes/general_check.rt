@@ -9,7 +9,7 @@ ghost use Rattle.cc_describe.specs.Describing.{AsksFormulas, Describes, HasWideF
 ghost use Rattle.cc_run.specs.Generals.{AreWideOf, AreWideSearchable};
 ghost use Rattle.cc_run.specs.Modes.CheckingGeneral.{NamesGeneralLog, named_for_general};
 ghost use Rattle.cc_run.specs.Modes.Generally.{NamesWide};
-ghost use Rattle.cc_run.specs.Stops.{Prints, moment};
+ghost use Rattle.cc_run.specs.Stops.{Prints};
 ghost use Rattle.cc_run.specs.Tasks.{request_of};
 ghost use Rattle.cc_wide.specs.WideLaws.{WideDescription};
 ghost use Rattle.cc_words.specs.Requests.{GeneralChecking, ToCheckGeneral};
@@ -44,9 +44,9 @@ fn check_log<D: Desk>(
     ensures { (words : List Text) (checking : GeneralChecking) (w : WideDescription) (q : Query) →
         request_of words ≡ Some (ToCheckGeneral checking) →
         AreWideOf described.now.sig prepared.now.laws (plain_ground_query prepared.now.query) w q →
-        IfSome (D.told desk.old) (λ before. NamesGeneralLog before.files checking w q bytes.now) →
-        Prints words false [] (moment D.told D.begun D.read_faults D.write_faults D.calls desk.old)
-        (moment D.told D.begun D.read_faults D.write_faults D.calls desk.new) result }
+        IfSome (D.seen desk.old).told (λ before. NamesGeneralLog before.files checking w q bytes.now) →
+        Prints words false [] (D.seen desk.old)
+        (D.seen desk.new) result }
 {
     match check_general(
         alloc,
@@ -74,10 +74,10 @@ fn check_over<D: Desk>(
     ensures { (words : List Text) (checking : GeneralChecking) (w : WideDescription) (q : Query) →
         request_of words ≡ Some (ToCheckGeneral checking) → log.now ≡ checking.log →
         AreWideOf described.now.sig prepared.now.laws (plain_ground_query prepared.now.query) w q →
-        IfSome (D.told desk.old) (λ before.
+        IfSome (D.seen desk.old).told (λ before.
         NamesWide before.files (named_for_general checking) w q) → Prints words false
-        (log.now ∷ []) (moment D.told D.begun D.read_faults D.write_faults D.calls desk.old)
-        (moment D.told D.begun D.read_faults D.write_faults D.calls desk.new) result }
+        (log.now ∷ []) (D.seen desk.old)
+        (D.seen desk.new) result }
 {
     match read_all(alloc, desk, log, LimitAt::LogBytes.number() as usize) {
         Ok(bytes) => check_log(alloc, desk, described, prepared, bytes.items()),
@@ -100,11 +100,11 @@ pub(crate) fn check<D: Desk>(
     ensures { (words : List Text) (checking : GeneralChecking) →
         request_of words ≡ Some (ToCheckGeneral checking) →
         plain_request (requests.CheckGeneral asked.now) ≡ ToCheckGeneral checking →
-        IfSome (D.told desk.old)
+        IfSome (D.seen desk.old).told
         (λ before. Describes heads.Any before.files checking.file described.now) →
         Prints words false (asked.now.log.now ∷ [])
-        (moment D.told D.begun D.read_faults D.write_faults D.calls desk.old)
-        (moment D.told D.begun D.read_faults D.write_faults D.calls desk.new) result }
+        (D.seen desk.old)
+        (D.seen desk.new) result }
 {
     let arena = Bump::new(alloc);
     let terms = Terms::new(&arena);

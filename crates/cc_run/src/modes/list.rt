@@ -5,7 +5,7 @@ ghost use Rattle.cc_asked.specs.Descriptions.{IsDescriptionOf};
 ghost use Rattle.cc_defs.specs.Description.{Description};
 ghost use Rattle.cc_defs.specs.Resolved.{Query};
 ghost use Rattle.cc_run.specs.Asking.{AreOf, AreSearchable};
-ghost use Rattle.cc_run.specs.Stops.{Prints, moment};
+ghost use Rattle.cc_run.specs.Stops.{Prints};
 ghost use Rattle.cc_run.specs.Tasks.{IsTask, named_by, request_of};
 ghost use Rattle.cc_sorts.specs.Tables.{IsSignatureFor};
 ghost use Rattle.cc_words.specs.Requests.{Listing, ToList};
@@ -42,7 +42,7 @@ pub(crate) fn list<D: Desk>(
         request_of words ≡ Some (ToList listing) →
         plain_request (requests.List asked.now) ≡ ToList listing → IsDescriptionOf described.now d →
         AreOf described.now.sig prepared.entry.laws (plain_ground_query prepared.entry.query) d q →
-        IfSome (D.told desk.old) (λ before. IsTask before.files (named_by listing)
+        IfSome (D.seen desk.old).told (λ before. IsTask before.files (named_by listing)
         (record {
           description = d;
           query = q;
@@ -52,8 +52,7 @@ pub(crate) fn list<D: Desk>(
             after = prepared.entry.key;
           };
         })) → Prints words
-        (is_some listing.log) [] (moment D.told D.begun D.read_faults D.write_faults D.calls
-        desk.old) (moment D.told D.begun D.read_faults D.write_faults D.calls desk.new) result }
+        (is_some listing.log) [] (D.seen desk.old) (D.seen desk.new) result }
 {
     begin_log(desk, asked.log)?;
     let Prepared { laws, query, key } = prepared;

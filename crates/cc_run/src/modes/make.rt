@@ -5,7 +5,7 @@ ghost use Rattle.cc_asked.specs.Descriptions.{IsDescriptionOf};
 ghost use Rattle.cc_defs.specs.Description.{Description};
 ghost use Rattle.cc_defs.specs.Resolved.{Query};
 ghost use Rattle.cc_run.specs.Asking.{AreOf, AreSearchable};
-ghost use Rattle.cc_run.specs.Stops.{Prints, moment};
+ghost use Rattle.cc_run.specs.Stops.{Prints};
 ghost use Rattle.cc_run.specs.Tasks.{IsTask, made_files, made_named, request_of};
 ghost use Rattle.cc_sorts.specs.Tables.{IsSignatureFor};
 ghost use Rattle.cc_words.specs.Requests.{ToMake};
@@ -38,13 +38,13 @@ pub(crate) fn make<D: Desk>(
     ensures { (words : List Text) (d : Description) (q : Query) →
         request_of words ≡ Some (ToMake size budget) → IsDescriptionOf described.now d → AreOf
         described.now.sig prepared.entry.laws (plain_ground_query prepared.entry.query) d q → IfSome
-        (D.told desk.old) (λ _. IsTask (made_files size) made_named (record {
+        (D.seen desk.old).told (λ _. IsTask (made_files size) made_named (record {
           description = d;
           query = q;
           ask = record { count = None; budget = budget; after = prepared.entry.key };
         })) →
-        Prints words false [] (moment D.told D.begun D.read_faults D.write_faults D.calls desk.old)
-        (moment D.told D.begun D.read_faults D.write_faults D.calls desk.new) result }
+        Prints words false [] (D.seen desk.old)
+        (D.seen desk.new) result }
 {
     let Prepared { laws, query, key } = prepared;
     let ask = Ask {

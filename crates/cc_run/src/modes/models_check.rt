@@ -7,7 +7,7 @@ ghost use Rattle.cc_print.specs.Models.{models_verdict_line};
 ghost use Rattle.cc_run.specs.CnfForms.{IsFormOf};
 ghost use Rattle.cc_run.specs.Modes.Checking as checks;
 ghost use Rattle.cc_run.specs.Modes.Modelling.{IsCnfIn};
-ghost use Rattle.cc_run.specs.Stops.{Prints, PrintsAsked, Step, moment};
+ghost use Rattle.cc_run.specs.Stops.{Prints, PrintsAsked, Step};
 ghost use Rattle.cc_run.specs.Tasks.{request_of};
 ghost use Rattle.cc_run.specs.Wholes.{only_out};
 ghost use Rattle.cc_words.specs.Requests.{ModelChecking, ToCheckModels};
@@ -39,8 +39,8 @@ fn verdict_status(verdict: &LogVerdict) -> Status
 /// Tells a verdict by its line.
 fn tell_verdict<D: Desk>(alloc: Global, desk: &mut D, verdict: &LogVerdict) -> Result<Status, Stop>
     ensures told { Step (only_out (models_verdict_line verdict.now))
-        (moment D.told D.begun D.read_faults D.write_faults D.calls desk.old)
-        (moment D.told D.begun D.read_faults D.write_faults D.calls desk.new) result }
+        (D.seen desk.old)
+        (D.seen desk.new) result }
     ensures status { IfOk result (λ status. status ≡ checks.verdict_status verdict.now) }
 {
     let text = models_verdict_text(alloc, verdict)?;
@@ -58,10 +58,10 @@ fn check_log<D: Desk>(
     requires few { length bytes.now ≤ limit_number limits.LogBytes }
     ensures { (words : List Text) (checking : ModelChecking) (cnf : PlainCnf) →
         request_of words ≡ Some (ToCheckModels checking) →
-        IsFormOf cnf form.now → IfSome (D.told desk.old) (λ c. IsCnfIn c.files checking.file cnf) →
-        IfSome (D.told desk.old) (λ c. c.files checking.log ≡ Some bytes.now) →
-        Prints words false [] (moment D.told D.begun D.read_faults D.write_faults D.calls desk.old)
-        (moment D.told D.begun D.read_faults D.write_faults D.calls desk.new) result }
+        IsFormOf cnf form.now → IfSome (D.seen desk.old).told (λ c. IsCnfIn c.files checking.file cnf) →
+        IfSome (D.seen desk.old).told (λ c. c.files checking.log ≡ Some bytes.now) →
+        Prints words false [] (D.seen desk.old)
+        (D.seen desk.new) result }
 {
     let verdict = judge_over(alloc, form, bytes)?;
     tell_verdict(alloc, desk, &verdict)
@@ -71,9 +71,9 @@ fn check_log<D: Desk>(
 fn check_over<D: Desk>(alloc: Global, desk: &mut D, form: &Form, log: &str) -> Result<Status, Stop>
     ensures { (words : List Text) (checking : ModelChecking) (cnf : PlainCnf) → request_of words
         ≡ Some (ToCheckModels checking) → log.now ≡ checking.log → IsFormOf cnf form.now →
-        IfSome (D.told desk.old) (λ c. IsCnfIn c.files checking.file cnf) → Prints words false
-        (log.now ∷ []) (moment D.told D.begun D.read_faults D.write_faults D.calls desk.old)
-        (moment D.told D.begun D.read_faults D.write_faults D.calls desk.new) result }
+        IfSome (D.seen desk.old).told (λ c. IsCnfIn c.files checking.file cnf) → Prints words false
+        (log.now ∷ []) (D.seen desk.old)
+        (D.seen desk.new) result }
 {
     match read_all(alloc, desk, log, LimitAt::LogBytes.number() as usize) {
         Ok(bytes) => check_log(alloc, desk, form, bytes.items()),
@@ -92,8 +92,7 @@ pub(crate) fn check<D: Desk>(
     ensures { (words : List Text) (checking : ModelChecking) →
         request_of words ≡ Some (ToCheckModels checking) →
         plain_request (requests.CheckModels asked.now) ≡ ToCheckModels checking →
-        PrintsAsked words false (moment D.told D.begun D.read_faults D.write_faults D.calls
-        desk.old) (moment D.told D.begun D.read_faults D.write_faults D.calls desk.new) result }
+        PrintsAsked words false (D.seen desk.old) (D.seen desk.new) result }
 {
     match read_form(alloc, desk, asked.file) {
         Ok(form) => check_over(alloc, desk, &form, asked.log),

@@ -8,7 +8,7 @@ ghost use Rattle.cc_describe.specs.declared.heads.Heads.TheVariants as heads;
 ghost use Rattle.cc_describe.specs.Describing.{AsksFormulas, Describes, HasForms, SaysAll};
 ghost use Rattle.cc_run.specs.Asking.{AreOf, AreSearchable};
 ghost use Rattle.cc_run.specs.Modes.Surely.{NamesUnclaimed, named_surely};
-ghost use Rattle.cc_run.specs.Stops.{Prints, moment};
+ghost use Rattle.cc_run.specs.Stops.{Prints};
 ghost use Rattle.cc_run.specs.Sures.{IsSureOfSome, IsWritableRun, TellsEvent, TellsSure, surely_given};
 ghost use Rattle.cc_run.specs.Tasks.{request_of};
 ghost use Rattle.cc_run.specs.Wholes.{nothing};
@@ -50,8 +50,8 @@ fn tell_next<D: Desk>(
     requires of { IsSureOfSome described.now sure.old }
     ensures tells { (d : Description) (q : Query) (run : SureRun) → IsDescriptionOf described.now
         d → IsSureOf sure.old d q → Stands d q sure.old run → TellsEvent d q sure.old.budget
-        run sure.new (moment D.told D.begun D.read_faults D.write_faults D.calls desk.old)
-        (moment D.told D.begun D.read_faults D.write_faults D.calls desk.new) result }
+        run sure.new (D.seen desk.old)
+        (D.seen desk.new) result }
     ensures next { IfOk result (λ status. IsNone status →
         HasMore sure.new × (left_of sure.new < left_of sure.old)) }
     ensures same { IsSame sure.old sure.new }
@@ -78,8 +78,8 @@ fn tell_all<D: Desk>(
     ensures { (d : Description) (q : Query) (run : SureRun) → IsDescriptionOf described.now d →
         IsSureOf sure.entry d q → Stands d q sure.entry run → IsWritableRun d q run →
         TellsSure d q sure.entry.budget (surely_given d q run)
-        (moment D.told D.begun D.read_faults D.write_faults D.calls desk.old)
-        (moment D.told D.begun D.read_faults D.write_faults D.calls desk.new) result }
+        (D.seen desk.old)
+        (D.seen desk.new) result }
 {
     loop {
         match tell_next(alloc, desk, described, &mut sure)? {
@@ -106,8 +106,7 @@ fn tell_run<D: Desk>(
         × AreOf described.now.sig prepared.now.laws (plain_ground_query prepared.now.query) d q }
     ensures { (d : Description) (q : Query) → IsDescriptionOf described.now d →
         AreOf described.now.sig prepared.now.laws (plain_ground_query prepared.now.query) d q →
-        TellsSure d q budget nothing (moment D.told D.begun D.read_faults D.write_faults D.calls
-        desk.old) (moment D.told D.begun D.read_faults D.write_faults D.calls desk.new) result }
+        TellsSure d q budget nothing (D.seen desk.old) (D.seen desk.new) result }
 {
     let sure = Sure::new(
         alloc,
@@ -138,10 +137,10 @@ fn be_sure<D: Desk>(
     ensures { (words : List Text) (surely : Surely) (d : Description) (q : Query) → request_of words
         ≡ Some (ToBeSure surely) → plain_request (requests.Sure asked.now) ≡ ToBeSure surely →
         IsDescriptionOf described.now d → AreOf described.now.sig prepared.now.laws
-        (plain_ground_query prepared.now.query) d q → IfSome (D.told desk.old) (λ before.
+        (plain_ground_query prepared.now.query) d q → IfSome (D.seen desk.old).told (λ before.
         NamesUnclaimed before.files (named_surely surely) d q) → Prints words (is_some surely.log)
-        [] (moment D.told D.begun D.read_faults D.write_faults D.calls desk.old)
-        (moment D.told D.begun D.read_faults D.write_faults D.calls desk.new) result }
+        [] (D.seen desk.old)
+        (D.seen desk.new) result }
 {
     sure_logs_are_accepted();
     begin_log(desk, asked.log)?;
@@ -160,10 +159,9 @@ pub(crate) fn sure<D: Desk>(
     requires forms { HasForms described.now }
     requires formulas { AsksFormulas described.now }
     ensures { (words : List Text) (surely : Surely) → request_of words ≡ Some (ToBeSure surely) →
-        plain_request (requests.Sure asked.now) ≡ ToBeSure surely → IfSome (D.told desk.old)
+        plain_request (requests.Sure asked.now) ≡ ToBeSure surely → IfSome (D.seen desk.old).told
         (λ before. Describes heads.Definite before.files surely.file described.now) → Prints words
-        (is_some surely.log) [] (moment D.told D.begun D.read_faults D.write_faults D.calls
-        desk.old) (moment D.told D.begun D.read_faults D.write_faults D.calls desk.new) result }
+        (is_some surely.log) [] (D.seen desk.old) (D.seen desk.new) result }
 {
     let arena = Bump::new(alloc);
     let terms = Terms::new(&arena);

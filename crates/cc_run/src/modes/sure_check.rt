@@ -10,7 +10,7 @@ ghost use Rattle.cc_describe.specs.Describing.{AsksFormulas, Describes, HasForms
 ghost use Rattle.cc_run.specs.Asking.{AreOf, AreSearchable};
 ghost use Rattle.cc_run.specs.Modes.CheckingSure.{NamesSureLog, named_to_check};
 ghost use Rattle.cc_run.specs.Modes.Surely.{NamesUnclaimed};
-ghost use Rattle.cc_run.specs.Stops.{Prints, moment};
+ghost use Rattle.cc_run.specs.Stops.{Prints};
 ghost use Rattle.cc_run.specs.Tasks.{request_of};
 ghost use Rattle.cc_words.specs.Requests.{SureChecking, ToCheckSure};
 ghost use Rattle.cc_words.specs.Views.{plain_request};
@@ -46,9 +46,9 @@ fn check_log<D: Desk>(
     ensures { (words : List Text) (checking : SureChecking) (d : Description) (q : Query) →
         request_of words ≡ Some (ToCheckSure checking) →
         AreOf described.now.sig prepared.now.laws (plain_ground_query prepared.now.query) d q →
-        IfSome (D.told desk.old) (λ before. NamesSureLog before.files checking d q bytes.now) →
-        Prints words false [] (moment D.told D.begun D.read_faults D.write_faults D.calls desk.old)
-        (moment D.told D.begun D.read_faults D.write_faults D.calls desk.new) result }
+        IfSome (D.seen desk.old).told (λ before. NamesSureLog before.files checking d q bytes.now) →
+        Prints words false [] (D.seen desk.old)
+        (D.seen desk.new) result }
 {
     match check_sure(
         alloc,
@@ -77,10 +77,10 @@ fn check_over<D: Desk>(
     ensures { (words : List Text) (checking : SureChecking) (d : Description) (q : Query) →
         request_of words ≡ Some (ToCheckSure checking) → log.now ≡ checking.log →
         AreOf described.now.sig prepared.now.laws (plain_ground_query prepared.now.query) d q →
-        IfSome (D.told desk.old) (λ before.
+        IfSome (D.seen desk.old).told (λ before.
         NamesUnclaimed before.files (named_to_check checking) d q) → Prints words false
-        (log.now ∷ []) (moment D.told D.begun D.read_faults D.write_faults D.calls desk.old)
-        (moment D.told D.begun D.read_faults D.write_faults D.calls desk.new) result }
+        (log.now ∷ []) (D.seen desk.old)
+        (D.seen desk.new) result }
 {
     match read_all(alloc, desk, log, LimitAt::LogBytes.number() as usize) {
         Ok(bytes) => check_log(alloc, desk, described, prepared, bytes.items()),
@@ -103,11 +103,11 @@ pub(crate) fn check<D: Desk>(
     ensures { (words : List Text) (checking : SureChecking) →
         request_of words ≡ Some (ToCheckSure checking) →
         plain_request (requests.CheckSure asked.now) ≡ ToCheckSure checking →
-        IfSome (D.told desk.old) (λ before.
+        IfSome (D.seen desk.old).told (λ before.
         Describes heads.Definite before.files checking.file described.now) →
         Prints words false (asked.now.log.now ∷ [])
-        (moment D.told D.begun D.read_faults D.write_faults D.calls desk.old)
-        (moment D.told D.begun D.read_faults D.write_faults D.calls desk.new) result }
+        (D.seen desk.old)
+        (D.seen desk.new) result }
 {
     let arena = Bump::new(alloc);
     let terms = Terms::new(&arena);

@@ -9,7 +9,7 @@ ghost use Rattle.cc_describe.specs.declared.heads.Heads.TheVariants as heads;
 ghost use Rattle.cc_describe.specs.Describing.{Describes, HasForms, SaysAll};
 ghost use Rattle.cc_run.specs.Explained.{IsLookedAt, TellsRow};
 ghost use Rattle.cc_run.specs.Modes.Explaining.{no_history_line};
-ghost use Rattle.cc_run.specs.Stops.{Prints, Step, moment};
+ghost use Rattle.cc_run.specs.Stops.{Prints, Step};
 ghost use Rattle.cc_run.specs.Tasks.{request_of};
 ghost use Rattle.cc_run.specs.Wholes.{only_out};
 ghost use Rattle.cc_sorts.specs.Tables.{IsSignatureFor};
@@ -33,8 +33,8 @@ use std::alloc::Global;
 /// Tells that a row is no history.
 fn tell_none<D: Desk>(desk: &mut D) -> Result<Status, Stop>
     ensures told { Step (only_out no_history_line)
-        (moment D.told D.begun D.read_faults D.write_faults D.calls desk.old)
-        (moment D.told D.begun D.read_faults D.write_faults D.calls desk.new) result }
+        (D.seen desk.old)
+        (D.seen desk.new) result }
     ensures status { IfOk result (λ status. status ≡ Status.Not) }
 {
     give(desk, To::Out, b"not a history\n")?;
@@ -57,8 +57,7 @@ fn tell_history<D: Desk>(
         × IsRow (sizes_at d key.now.horizon) key.now.row × IsPath d key.now.horizon key.now.row }
     ensures { (d : Description) → IsDescriptionOf described.now d →
         AreLawsOf described.now.sig laws.now d → IsPath d key.now.horizon key.now.row → TellsRow
-        d described.now.files key.now (moment D.told D.begun D.read_faults D.write_faults D.calls
-        desk.old) (moment D.told D.begun D.read_faults D.write_faults D.calls desk.new) result }
+        d described.now.files key.now (D.seen desk.old) (D.seen desk.new) result }
 {
     positions_have_sizes();
     let row = key.row.items();
@@ -81,8 +80,7 @@ fn explain_row<D: Desk>(
         × IsLookedAt d described.now.sig text row.now.laws row.now.key row.now.is_path }
     ensures { (d : Description) (text : Text) → IsDescriptionOf described.now d →
         IsLookedAt d described.now.sig text row.now.laws row.now.key row.now.is_path → TellsRow d
-        described.now.files row.now.key (moment D.told D.begun D.read_faults D.write_faults D.calls
-        desk.old) (moment D.told D.begun D.read_faults D.write_faults D.calls desk.new) result }
+        described.now.files row.now.key (D.seen desk.old) (D.seen desk.new) result }
 {
     if row.is_path {
         return tell_history(alloc, desk, described, &row.laws, &row.key);
@@ -101,10 +99,10 @@ pub(crate) fn explain<D: Desk>(
     requires forms { HasForms described.now }
     ensures { (words : List Text) (explaining : Explaining) →
         request_of words ≡ Some (ToExplain explaining) → explaining.key ≡ key.now →
-        IfSome (D.told desk.old) (λ before.
+        IfSome (D.seen desk.old).told (λ before.
         Describes heads.Definite before.files explaining.file described.now) →
-        Prints words false [] (moment D.told D.begun D.read_faults D.write_faults D.calls desk.old)
-        (moment D.told D.begun D.read_faults D.write_faults D.calls desk.new) result }
+        Prints words false [] (D.seen desk.old)
+        (D.seen desk.new) result }
 {
     let arena = Bump::new(alloc);
     let terms = Terms::new(&arena);

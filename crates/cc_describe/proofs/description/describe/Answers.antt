@@ -8,21 +8,21 @@ use Rattle.cc_describe.proofs.PlacesForms.{asks_formulas, has_forms, has_wide_fo
 use Rattle.cc_describe.proofs.description.describe.Goals as goal
 
 pub returns-in-Err-clause-after : goal.returns-in-Err-clause-after
-returns-in-Err-clause-after g c = untouched (g.D.Desk.told c.args.desk.now)
+returns-in-Err-clause-after g c = untouched (g.D.Desk.seen c.args.desk.now).told
 
 pub returns-in-Ok-read_file-clause-described : goal.returns-in-Ok-read_file-clause-described
 returns-in-Ok-read_file-clause-described g c =
-    is_described c.number.result (g.D.Desk.told c.args.desk.now) c.args.name.now c.in-Ok.progress c.read_file.new.progress c.in-Ok-read_file.field-0 c.finish.result
+    is_described c.number.result (g.D.Desk.seen c.args.desk.now).told c.args.name.now c.in-Ok.progress c.read_file.new.progress c.in-Ok-read_file.field-0 c.finish.result
     c.number.ensures c.in-Ok.ensures.begun c.in-Ok.ensures.outside c.in-Ok-read_file.ensures.gone c.in-Ok-read_file.ensures.there c.finish.ensures.described
 
 pub returns-in-Ok-read_file-clause-refused : goal.returns-in-Ok-read_file-clause-refused
 returns-in-Ok-read_file-clause-refused g c =
-    is_refused_whole c.number.result (g.D.Desk.told c.args.desk.now) c.args.name.now c.in-Ok.progress c.read_file.new.progress c.in-Ok-read_file.field-0 c.finish.result
+    is_refused_whole c.number.result (g.D.Desk.seen c.args.desk.now).told c.args.name.now c.in-Ok.progress c.read_file.new.progress c.in-Ok-read_file.field-0 c.finish.result
     c.number.ensures c.in-Ok.ensures.begun c.in-Ok.ensures.outside c.in-Ok-read_file.ensures.gone c.in-Ok-read_file.ensures.there c.finish.ensures.refused
 
 pub returns-in-Err-read_file-clause-refused : goal.returns-in-Err-read_file-clause-refused
 returns-in-Err-read_file-clause-refused g c =
-    is_refused c.number.result (g.D.Desk.told c.args.desk.now) c.args.name.now c.deref.result.now c.in-Ok.progress c.read_file.new.progress c.in-Err-read_file.halt c.stop_of.result
+    is_refused c.number.result (g.D.Desk.seen c.args.desk.now).told c.args.name.now c.deref.result.now c.in-Ok.progress c.read_file.new.progress c.in-Err-read_file.halt c.stop_of.result
     c.number.ensures c.in-Ok.ensures.begun c.in-Ok.ensures.outside c.in-Err-read_file.ensures.gone c.in-Err-read_file.ensures.there c.deref.ensures.value c.stop_of.ensures
 
 pub returns-in-Err-read_file-clause-failed : goal.returns-in-Err-read_file-clause-failed
@@ -58,18 +58,18 @@ returns-in-Err-read_file-clause-stopped g c =
 
 pub returns-in-Err-clause-calls : goal.returns-in-Err-clause-calls
 returns-in-Err-clause-calls g c =
-    as_called c.args.heads (g.D.Desk.told c.args.desk.now) c.args.name.now (Err stops.OutOfMemory) refl (keeps_names _ refl) (opens_none c.args.heads c.has_places.ensures (g.D.Desk.told c.args.desk.now) c.args.name.now)
+    as_called c.args.heads (g.D.Desk.seen c.args.desk.now).told c.args.name.now (Err stops.OutOfMemory) refl (keeps_names _ refl) (opens_none c.args.heads c.has_places.ensures (g.D.Desk.seen c.args.desk.now).told c.args.name.now)
 
 pub returns-in-Ok-read_file-clause-calls : goal.returns-in-Ok-read_file-clause-calls
 returns-in-Ok-read_file-clause-calls g c =
-    as_called c.args.heads (g.D.Desk.told c.args.desk.now) c.args.name.now c.finish.result c.in-Ok.ensures.begun.names c.in-Ok-read_file.ensures.calls
-    (opens_whole c.number.result (g.D.Desk.told c.args.desk.now) c.args.name.now c.in-Ok.progress c.read_file.new.progress c.in-Ok-read_file.field-0 c.finish.result
+    as_called c.args.heads (g.D.Desk.seen c.args.desk.now).told c.args.name.now c.finish.result c.in-Ok.ensures.begun.names c.in-Ok-read_file.ensures.calls
+    (opens_whole c.number.result (g.D.Desk.seen c.args.desk.now).told c.args.name.now c.in-Ok.progress c.read_file.new.progress c.in-Ok-read_file.field-0 c.finish.result
     c.number.ensures c.in-Ok.ensures.begun c.in-Ok.ensures.outside c.in-Ok-read_file.ensures.gone)
 
 pub returns-in-Err-read_file-clause-calls : goal.returns-in-Err-read_file-clause-calls
 returns-in-Err-read_file-clause-calls g c =
-    as_called c.args.heads (g.D.Desk.told c.args.desk.now) c.args.name.now (Err c.stop_of.result) c.in-Ok.ensures.begun.names c.in-Err-read_file.ensures.calls
-    (opens_stopped c.number.result (g.D.Desk.told c.args.desk.now) c.args.name.now c.deref.result.now c.in-Ok.progress c.read_file.new.progress c.in-Err-read_file.halt c.stop_of.result
+    as_called c.args.heads (g.D.Desk.seen c.args.desk.now).told c.args.name.now (Err c.stop_of.result) c.in-Ok.ensures.begun.names c.in-Err-read_file.ensures.calls
+    (opens_stopped c.number.result (g.D.Desk.seen c.args.desk.now).told c.args.name.now c.deref.result.now c.in-Ok.progress c.read_file.new.progress c.in-Err-read_file.halt c.stop_of.result
     c.number.ensures c.in-Ok.ensures.begun c.in-Ok.ensures.outside c.in-Err-read_file.ensures.gone c.stop_of.ensures)
 
 pub returns-in-Ok-read_file-clause-calm : goal.returns-in-Ok-read_file-clause-calm

@@ -14,15 +14,15 @@ decreases-read_file g l = l.deep
 abbrev pub invariant-loop-i : goal.invariant-loop-i
 invariant-loop-i g l = record {
   around : l.progress.around.items ≡ l.fn.progress.around.items ++ l.name ∷ [];
-  gone : (contents : Contents) (which : Heads) (before : List Place) → g.D.Desk.told l.fn.desk ≡ Some contents → IsProgress which l.fn.progress before →
+  gone : (contents : Contents) (which : Heads) (before : List Place) → (g.D.Desk.seen l.fn.desk).told ≡ Some contents → IsProgress which l.fn.progress before →
       Midway which l.deep contents.files before l.name l.file (l.fn.progress.around.items ++ l.name ∷ []) (cut_at 0 l.tokens-inside.ends.items (token_views l.tokens-inside.tokens.items)) l.i l.progress;
   kept : (which : Heads) (before : List Place) → IsProgress which l.fn.progress before → Gone which before l.progress;
-  there : (contents : Contents) → g.D.Desk.told l.fn.desk ≡ Some contents → AreThere contents.files l.fn.progress.names.items →
+  there : (contents : Contents) → (g.D.Desk.seen l.fn.desk).told ≡ Some contents → AreThere contents.files l.fn.progress.names.items →
       AreThere contents.files l.progress.names.items;
-  told : (rest : List ℕ) × (g.D.Desk.told l.desk ≡ option_map (with_rest rest) (g.D.Desk.told l.fn.desk));
-  calls : OpensAsKept l.fn.progress.names.items l.progress.names.items (g.D.Desk.calls l.fn.desk) (g.D.Desk.calls l.desk);
-  calm : (g.D.Desk.read_faults l.desk ≡ g.D.Desk.read_faults l.fn.desk) × (g.D.Desk.write_faults l.desk ≡ g.D.Desk.write_faults l.fn.desk);
-  begun : g.D.Desk.begun l.desk ≡ g.D.Desk.begun l.fn.desk;
-  reads_count : g.D.Desk.read_faults l.fn.desk ≤ g.D.Desk.read_faults l.desk;
-  writes_count : g.D.Desk.write_faults l.fn.desk ≤ g.D.Desk.write_faults l.desk;
+  told : (rest : List ℕ) × ((g.D.Desk.seen l.desk).told ≡ option_map (with_rest rest) (g.D.Desk.seen l.fn.desk).told);
+  calls : OpensAsKept l.fn.progress.names.items l.progress.names.items (g.D.Desk.seen l.fn.desk).calls (g.D.Desk.seen l.desk).calls;
+  calm : ((g.D.Desk.seen l.desk).reads ≡ (g.D.Desk.seen l.fn.desk).reads) × ((g.D.Desk.seen l.desk).writes ≡ (g.D.Desk.seen l.fn.desk).writes);
+  begun : (g.D.Desk.seen l.desk).begun ≡ (g.D.Desk.seen l.fn.desk).begun;
+  reads_count : (g.D.Desk.seen l.fn.desk).reads ≤ (g.D.Desk.seen l.desk).reads;
+  writes_count : (g.D.Desk.seen l.fn.desk).writes ≤ (g.D.Desk.seen l.desk).writes;
 }

@@ -6,7 +6,7 @@ use Rattle.cc_describe.proofs.SomePlaces.{too_long}
 use Rattle.cc_describe.proofs.files.open.Goals as goal
 
 pub returns-in_err-file-clause-after : goal.returns-in_err-file-clause-after
-returns-in_err-file-clause-after g c = untouched (g.D.Desk.told c.args.desk.now)
+returns-in_err-file-clause-after g c = untouched (g.D.Desk.seen c.args.desk.now).told
 
 pub returns-clause-opened : goal.returns-clause-opened
 returns-clause-opened g c contents which before told was =

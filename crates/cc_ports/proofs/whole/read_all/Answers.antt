@@ -19,13 +19,13 @@ loop-bytes-init g c = record {
 
 pub returns-then-n-most-clause-after : goal.returns-then-n-most-clause-after
 returns-then-n-most-clause-after g c =
-    let read = was_read c.args.name.now _ _ _ c.in_ok-n.n (g.D.Desk.told c.args.desk.now) _ _
+    let read = was_read c.args.name.now _ _ _ c.in_ok-n.n (g.D.Desk.seen c.args.desk.now).told _ _
     c.loop-bytes.invariant.told c.in_ok-n.ensures.after c.in_ok-n.ensures.bytes refl in
     (read.0, read.1)
 
 pub returns-in_err-extend_from_slice-clause-after : goal.returns-in_err-extend_from_slice-clause-after
 returns-in_err-extend_from_slice-clause-after g c =
-    let read = was_read c.args.name.now _ _ _ c.in_ok-n.n (g.D.Desk.told c.args.desk.now) _ _
+    let read = was_read c.args.name.now _ _ _ c.in_ok-n.n (g.D.Desk.seen c.args.desk.now).told _ _
     c.loop-bytes.invariant.told c.in_ok-n.ensures.after c.in_ok-n.ensures.bytes refl in
     (read.0, read.1)
 
@@ -33,7 +33,7 @@ pub loop-bytes-preserved : goal.loop-bytes-preserved
 loop-bytes-preserved g c = record {
   within = omega (arith, length-take c.in_ok-n.n c.read.new.buffer, c.in_ok-extend_from_slice.ensures.len, c.in_ok-n.ensures.count);
   piece = cc;
-  told = was_read c.args.name.now _ _ _ c.in_ok-n.n (g.D.Desk.told c.args.desk.now) _ _
+  told = was_read c.args.name.now _ _ _ c.in_ok-n.n (g.D.Desk.seen c.args.desk.now).told _ _
       c.loop-bytes.invariant.told c.in_ok-n.ensures.after c.in_ok-n.ensures.bytes c.in_ok-extend_from_slice.ensures.items;
   begun = cc (c.in_ok-n.ensures.begun);
   calls = read_longer c.args.name.now _ _ _ _

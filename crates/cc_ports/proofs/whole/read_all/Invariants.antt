@@ -7,13 +7,13 @@ abbrev pub invariant-loop-bytes : goal.invariant-loop-bytes
 invariant-loop-bytes g l = record {
   within : vec_len l.bytes ≤ l.most;
   piece : length l.piece ≡ 4096;
-  told : (rest : List ℕ) × (g.D.Desk.told l.desk ≡ option_map (with_rest rest) (g.D.Desk.told l.fn.desk))
-      × IfSome (g.D.Desk.told l.fn.desk) (λ c. c.files l.name ≡ Some (l.bytes.items ++ rest));
-  begun : g.D.Desk.begun l.desk ≡ g.D.Desk.begun l.fn.desk;
-  calls : HaveRead l.name (vec_len l.bytes) (g.D.Desk.calls l.fn.desk) (g.D.Desk.calls l.desk);
-  calm : (g.D.Desk.read_faults l.desk ≡ g.D.Desk.read_faults l.fn.desk) × (g.D.Desk.write_faults l.desk ≡ g.D.Desk.write_faults l.fn.desk);
-  reads_count : g.D.Desk.read_faults l.fn.desk ≤ g.D.Desk.read_faults l.desk;
-  writes_count : g.D.Desk.write_faults l.fn.desk ≤ g.D.Desk.write_faults l.desk;
+  told : (rest : List ℕ) × ((g.D.Desk.seen l.desk).told ≡ option_map (with_rest rest) (g.D.Desk.seen l.fn.desk).told)
+      × IfSome (g.D.Desk.seen l.fn.desk).told (λ c. c.files l.name ≡ Some (l.bytes.items ++ rest));
+  begun : (g.D.Desk.seen l.desk).begun ≡ (g.D.Desk.seen l.fn.desk).begun;
+  calls : HaveRead l.name (vec_len l.bytes) (g.D.Desk.seen l.fn.desk).calls (g.D.Desk.seen l.desk).calls;
+  calm : ((g.D.Desk.seen l.desk).reads ≡ (g.D.Desk.seen l.fn.desk).reads) × ((g.D.Desk.seen l.desk).writes ≡ (g.D.Desk.seen l.fn.desk).writes);
+  reads_count : (g.D.Desk.seen l.fn.desk).reads ≤ (g.D.Desk.seen l.desk).reads;
+  writes_count : (g.D.Desk.seen l.fn.desk).writes ≤ (g.D.Desk.seen l.desk).writes;
 }
 
 abbrev pub decreases-loop-bytes : goal.decreases-loop-bytes

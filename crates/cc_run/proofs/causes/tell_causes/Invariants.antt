@@ -1,7 +1,6 @@
 use Rattle.std.proofs.Common.{◌≡◌, ℕ, map, Some}
 use Rattle.cc_asked.specs.Descriptions.{IsDescriptionOf}
 use Rattle.cc_defs.specs.Description.{Description}
-use Rattle.cc_run.specs.Stops.{moment}
 use Rattle.cc_run.proofs.CauseLines.{AreToldTo}
 use Rattle.cc_why.specs.declared.cause.Cause.{Cause}
 use Rattle.cc_why.specs.Causes.{causes_at}
@@ -13,4 +12,4 @@ invariant-loop-position g l =
     let desk = g.D.Desk in
     (d : Description) (horizon : ℕ) → IsDescriptionOf l.described d → map (λ (cause : Cause). Some cause) l.causes ≡ causes_at d horizon l.row →
     AreToldTo d l.described.files horizon l.row l.position
-    (moment desk.told desk.begun desk.read_faults desk.write_faults desk.calls l.initial.desk) (moment desk.told desk.begun desk.read_faults desk.write_faults desk.calls l.desk)
+    (desk.seen l.initial.desk) (desk.seen l.desk)

@@ -1,6 +1,5 @@
 use Rattle.cc_asked.specs.Descriptions.{IsDescriptionOf}
 use Rattle.cc_defs.specs.Description.{Description}
-use Rattle.cc_run.specs.Stops.{moment}
 use Rattle.cc_run.proofs.SureLines.{AreAnswered}
 use Rattle.cc_run.proofs.certain.tell_answers.Given as goal
 
@@ -10,4 +9,4 @@ invariant-loop-value g l =
     let desk = g.D.Desk in
     (d : Description) → IsDescriptionOf l.described d →
     AreAnswered d l.position l.answers l.value
-    (moment desk.told desk.begun desk.read_faults desk.write_faults desk.calls l.initial.desk) (moment desk.told desk.begun desk.read_faults desk.write_faults desk.calls l.desk)
+    (desk.seen l.initial.desk) (desk.seen l.desk)

@@ -3,7 +3,8 @@ use Rattle.std.specs.Prelude.{if◌then◌else◌, ◌==◌}
 use Rattle.cc_ports.specs.declared.desk.To.TheVariants as outputs
 use Rattle.cc_run.specs.declared.status.Stop.{Stop}
 use Rattle.cc_run.specs.Refusing.{usage_line}
-use Rattle.cc_run.specs.Stops.{Moment, Step, given_to}
+use Rattle.cc_ports.specs.Moments.{Moment}
+use Rattle.cc_run.specs.Stops.{Step, given_to}
 use Rattle.cc_run.proofs.refusing.tell_usage.Goals as goal
 
 told : {X : Type 0} (number : ℕ) (bytes : List ℕ) (x y : Moment) (r : Result X Stop) → number ≡ 1 → bytes ≡ usage_line → Step (given_to outputs.Err bytes) x y r →

@@ -1,5 +1,4 @@
 use Rattle.cc_query.specs.Lefts.{left_of}
-use Rattle.cc_run.specs.Stops.{moment}
 use Rattle.cc_run.specs.Telling.{IsListing}
 use Rattle.cc_run.proofs.searching.list_events.Given as goal
 
@@ -7,7 +6,7 @@ abbrev pub invariant-loop-session : goal.invariant-loop-session
 invariant-loop-session g l =
     let desk = g.D.Desk in
     IsListing l.described l.initial.teller l.initial.session l.teller l.session
-    (moment desk.told desk.begun desk.read_faults desk.write_faults desk.calls l.initial.desk) (moment desk.told desk.begun desk.read_faults desk.write_faults desk.calls l.desk)
+    (desk.seen l.initial.desk) (desk.seen l.desk)
 
 abbrev pub decreases-loop-session : goal.decreases-loop-session
 decreases-loop-session g l = left_of l.session

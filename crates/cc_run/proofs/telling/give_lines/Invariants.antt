@@ -1,6 +1,5 @@
 use Rattle.std.specs.Str.Iter.{split_inclusive_text}
 use Rattle.cc_ports.specs.declared.desk.To.TheVariants as outputs
-use Rattle.cc_run.specs.Stops.{moment}
 use Rattle.cc_run.proofs.LineSteps.{LinesSoFar}
 use Rattle.cc_run.proofs.telling.give_lines.Given as goal
 
@@ -12,5 +11,5 @@ invariant-loop-line g l =
       can : (goal.iterator-loop-line g).can_next l.line-iterator;
       finite : (goal.iterator-loop-line g).is_finite l.line-iterator;
       given : LinesSoFar outputs.Out l.text (split_inclusive_text l.line-iterator)
-          (moment desk.told desk.begun desk.read_faults desk.write_faults desk.calls l.initial.desk) (moment desk.told desk.begun desk.read_faults desk.write_faults desk.calls l.desk);
+          (desk.seen l.initial.desk) (desk.seen l.desk);
     }

@@ -5,7 +5,6 @@ use Rattle.cc_defs.specs.Description.{Description}
 use Rattle.cc_defs.specs.Resolved.{Query}
 use Rattle.cc_run.specs.Asking.{AreOf}
 use Rattle.cc_run.specs.Converted.{AreLeft}
-use Rattle.cc_run.specs.Stops.{moment}
 use Rattle.cc_run.proofs.Converted.{TellsLines}
 use Rattle.cc_run.proofs.modes.convert.give_lines.Given as goal
 
@@ -17,7 +16,7 @@ invariant-loop-rest g l =
     (d : Description) (q : Query) (said : List LogLine) → AreOf l.described.sig l.prepared.laws (plain_ground_query l.prepared.query) d q →
     AreLeft d q key l.version 1 l.bytes said →
     TellsLines d q key l.version said l.own l.rest
-    (moment desk.told desk.begun desk.read_faults desk.write_faults desk.calls l.initial.desk) (moment desk.told desk.begun desk.read_faults desk.write_faults desk.calls l.desk)
+    (desk.seen l.initial.desk) (desk.seen l.desk)
 
 abbrev pub decreases-loop-rest : goal.decreases-loop-rest
 decreases-loop-rest g l = length l.rest

@@ -1,4 +1,3 @@
-use Rattle.cc_run.specs.Stops.{moment}
 use Rattle.cc_run.proofs.GeneralFinds.{IsTelling}
 use Rattle.cc_general.specs.Generals.{left_of}
 use Rattle.cc_run.proofs.modes.general.tell_all.Given as goal
@@ -7,7 +6,7 @@ abbrev pub invariant-loop-general : goal.invariant-loop-general
 invariant-loop-general g l =
     let desk = g.D.Desk in
     IsTelling l.described l.initial.general l.general
-    (moment desk.told desk.begun desk.read_faults desk.write_faults desk.calls l.initial.desk) (moment desk.told desk.begun desk.read_faults desk.write_faults desk.calls l.desk)
+    (desk.seen l.initial.desk) (desk.seen l.desk)
 
 abbrev pub decreases-loop-general : goal.decreases-loop-general
 decreases-loop-general g l = left_of l.general

@@ -1,5 +1,4 @@
 use Rattle.cc_query.specs.Searches.{left_of}
-use Rattle.cc_run.specs.Stops.{moment}
 use Rattle.cc_run.proofs.ModelFinds.{IsListing}
 use Rattle.cc_run.proofs.modes.models.tell_finds.Given as goal
 
@@ -7,7 +6,7 @@ abbrev pub invariant-loop-search : goal.invariant-loop-search
 invariant-loop-search g l =
     let desk = g.D.Desk in
     IsListing l.initial.lister l.lister l.initial.search l.search
-    (moment desk.told desk.begun desk.read_faults desk.write_faults desk.calls l.initial.desk) (moment desk.told desk.begun desk.read_faults desk.write_faults desk.calls l.desk)
+    (desk.seen l.initial.desk) (desk.seen l.desk)
 
 abbrev pub decreases-loop-search : goal.decreases-loop-search
 decreases-loop-search g l = left_of l.search

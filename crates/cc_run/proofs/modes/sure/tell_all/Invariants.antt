@@ -1,4 +1,3 @@
-use Rattle.cc_run.specs.Stops.{moment}
 use Rattle.cc_run.proofs.SureFinds.{IsTelling}
 use Rattle.cc_sure.specs.Sures.{left_of}
 use Rattle.cc_run.proofs.modes.sure.tell_all.Given as goal
@@ -7,7 +6,7 @@ abbrev pub invariant-loop-sure : goal.invariant-loop-sure
 invariant-loop-sure g l =
     let desk = g.D.Desk in
     IsTelling l.described l.initial.sure l.sure
-    (moment desk.told desk.begun desk.read_faults desk.write_faults desk.calls l.initial.desk) (moment desk.told desk.begun desk.read_faults desk.write_faults desk.calls l.desk)
+    (desk.seen l.initial.desk) (desk.seen l.desk)
 
 abbrev pub decreases-loop-sure : goal.decreases-loop-sure
 decreases-loop-sure g l = left_of l.sure
