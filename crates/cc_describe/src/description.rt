@@ -60,10 +60,10 @@ pub fn describe<D: Desk>(
 ) -> Result<Described, DescribeStop>
     // Where the desk tells its files, Ok is what they describe, and a refusal is exactly the first that they have; the files
     // that were opened are there.
-    ensures described { IfSome (D.seen desk.old).told (λ contents.
-        IfOk result (Describes heads contents.files name.now)) }
-    ensures refused { IfSome (D.seen desk.old).told (λ contents.
-        IfErr result (HasStopped heads contents.files name.now)) }
+    ensures described { IfSome (D.seen desk.old).told
+        (λ contents. IfOk result (Describes heads contents.files name.now)) }
+    ensures refused { IfSome (D.seen desk.old).told
+        (λ contents. IfErr result (HasStopped heads contents.files name.now)) }
     // Whatever it told, Ok is what some places say, and a refusal is the first of some places.
     ensures whole { IfOk result (SaysAll heads) }
     ensures stopped { IfErr result (IsOfSome heads) }
@@ -73,13 +73,14 @@ pub fn describe<D: Desk>(
     // A fault is answered only where the desk counted one.
     ensures failed { IsErrOf result DescribeStop.ReadFault →
         Rose (D.seen desk.old).reads (D.seen desk.new).reads }
-    ensures after { (rest : Items ℕ)
-        × ((D.seen desk.new).told ≡ option_map (with_rest rest) (D.seen desk.old).told) }
+    ensures after { (rest : Items ℕ) × ((D.seen desk.new).told
+        ≡ option_map (with_rest rest) (D.seen desk.old).told) }
     ensures begun { (D.seen desk.new).begun ≡ (D.seen desk.old).begun }
     // The names that are opened are those of its files, in their order, and no others; no log is begun.
-    ensures calls { (more : Items Call) × ((D.seen desk.new).calls ≡ with_calls more (D.seen desk.old).calls)
-        × (names_begun more ≡ []) × IfSome (D.seen desk.old).told (λ contents.
-        OpensFor heads contents.files name.now result (names_opened more)) }
+    ensures calls { (more : Items Call) × ((D.seen desk.new).calls
+        ≡ with_calls more (D.seen desk.old).calls) × (names_begun more ≡ [])
+        × IfSome (D.seen desk.old).told (λ contents. OpensFor heads contents.files name.now result
+        (names_opened more)) }
     // Where no fault is answered, the desk counted none.
     ensures calm { (IsErrOf result DescribeStop.ReadFault → ⊥) →
         ((D.seen desk.new).reads ≡ (D.seen desk.old).reads)

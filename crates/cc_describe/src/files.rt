@@ -63,24 +63,24 @@ fn open<D: Desk>(
         × (read.1 ≡ length (opened_in before))) }
     ensures refused { (contents : Contents) (which : Which) (before : Items Place) →
         (D.seen desk.old).told ≡ Some contents → IsProgress which progress.old before →
-        IfErr result (λ halt. IsRefusedOpening before name.now
-        (content contents.files name.now) halt progress.new) }
+        IfErr result (λ halt. IsRefusedOpening before name.now (content contents.files name.now)
+        halt progress.new) }
     // Whatever the desk told, some bytes were read.
     ensures kept { (which : Which) (before : Items Place) → IsProgress which progress.old before →
         IfOk result (λ read. IsOpened which before name.now read.0 progress.new) }
     ensures stopped { (which : Which) (before : Items Place) →
         IsProgress which progress.old before → IfErr result (λ halt.
         (bytes : Items ℕ) × IsRefusedOpening before name.now bytes halt progress.new) }
-    ensures there { (contents : Contents) →
-        (D.seen desk.old).told ≡ Some contents → AreThere contents.files progress.old.names.items →
+    ensures there { (contents : Contents) → (D.seen desk.old).told ≡ Some contents →
+        AreThere contents.files progress.old.names.items →
         FindsFiles contents.files result progress.new.names.items }
     ensures within { IfOk result (λ read. length read.0 ≤ limit_number limits.FileBytes) }
     ensures around { OnOk result
         (progress.new.around.items ≡ progress.old.around.items ++ name.now ∷ []) }
     ensures failed { IsErrOf result Halt.ReadFault →
         Rose (D.seen desk.old).reads (D.seen desk.new).reads }
-    ensures after { (rest : Items ℕ)
-        × ((D.seen desk.new).told ≡ option_map (with_rest rest) (D.seen desk.old).told) }
+    ensures after { (rest : Items ℕ) × ((D.seen desk.new).told
+        ≡ option_map (with_rest rest) (D.seen desk.old).told) }
     ensures begun { (D.seen desk.new).begun ≡ (D.seen desk.old).begun }
     // Each file whose name is kept was opened, and no other; no log was begun.
     ensures calls { OpensAsKept progress.old.names.items progress.new.names.items
@@ -122,14 +122,14 @@ pub(crate) fn read_file<D: Desk>(
         (length (opened_in before)) name.now) before result progress.new }
     ensures kept { (which : Which) (before : Items Place) →
         IsProgress which progress.old before → GoesSomewhere which before result progress.new }
-    ensures there { (contents : Contents) →
-        (D.seen desk.old).told ≡ Some contents → AreThere contents.files progress.old.names.items →
+    ensures there { (contents : Contents) → (D.seen desk.old).told ≡ Some contents →
+        AreThere contents.files progress.old.names.items →
         FindsFiles contents.files result progress.new.names.items }
     ensures around { OnOk result (progress.new.around.items ≡ progress.old.around.items) }
     ensures failed { IsErrOf result Halt.ReadFault →
         Rose (D.seen desk.old).reads (D.seen desk.new).reads }
-    ensures after { (rest : Items ℕ)
-        × ((D.seen desk.new).told ≡ option_map (with_rest rest) (D.seen desk.old).told) }
+    ensures after { (rest : Items ℕ) × ((D.seen desk.new).told
+        ≡ option_map (with_rest rest) (D.seen desk.old).told) }
     ensures begun { (D.seen desk.new).begun ≡ (D.seen desk.old).begun }
     // Each file whose name is kept was opened, and no other; no log was begun.
     ensures calls { OpensAsKept progress.old.names.items progress.new.names.items

@@ -43,11 +43,12 @@ pub trait Desk {
         requires { 0 < length buffer.old }
         ensures count { IfOk result (λ n. n ≤ length buffer.old) }
         ensures after { (seen self.new).told ≡ option_map (after_read result) (seen self.old).told }
-        ensures bytes { IfOk result (λ n.
-            IfSome (seen self.old).told (λ c. ReadsFrom c.rest n buffer.new)) }
+        ensures bytes { IfOk result (λ n. IfSome (seen self.old).told
+            (λ c. ReadsFrom c.rest n buffer.new)) }
         ensures cause { OnErr result (Rose (seen self.old).reads (seen self.new).reads) }
         ensures begun { (seen self.new).begun ≡ (seen self.old).begun }
-        ensures calls { (seen self.new).calls ≡ with_call (Reads (length buffer.old)) (seen self.old).calls }
+        ensures calls { (seen self.new).calls ≡ with_call (Reads (length buffer.old))
+            (seen self.old).calls }
         ensures calm { OnOk result (((seen self.new).reads ≡ (seen self.old).reads)
             × ((seen self.new).writes ≡ (seen self.old).writes)) }
         ensures reads_count { (seen self.old).reads ≤ (seen self.new).reads }
@@ -55,8 +56,10 @@ pub trait Desk {
 
     /// Begins an empty log. A fault leaves the log as it was.
     fn create_file(&mut self, name: &str) -> Result<(), Failed>
-        ensures after { (seen self.new).told ≡ option_map (after_create (is_ok result)) (seen self.old).told }
-        ensures begun { (seen self.new).begun ≡ (if is_ok result then true else (seen self.old).begun) }
+        ensures after { (seen self.new).told ≡ option_map (after_create (is_ok result))
+            (seen self.old).told }
+        ensures begun { (seen self.new).begun ≡ (if is_ok result then true else
+            (seen self.old).begun) }
         ensures cause { OnErr result (Rose (seen self.old).writes (seen self.new).writes) }
         ensures calls { (seen self.new).calls ≡ with_call (Begins name.now) (seen self.old).calls }
         ensures calm { OnOk result (((seen self.new).reads ≡ (seen self.old).reads)
@@ -70,11 +73,12 @@ pub trait Desk {
         requires { 0 < length bytes.now }
         ensures some { IfOk result (λ n. 0 < n) }
         ensures count { IfOk result (λ n. n ≤ length bytes.now) }
-        ensures after { (seen self.new).told
-            ≡ option_map (after_give to result bytes.now) (seen self.old).told }
+        ensures after { (seen self.new).told ≡ option_map (after_give to result bytes.now)
+            (seen self.old).told }
         ensures begun { (seen self.new).begun ≡ (seen self.old).begun }
         ensures cause { OnErr result (Rose (seen self.old).writes (seen self.new).writes) }
-        ensures calls { (seen self.new).calls ≡ with_call (Gives to bytes.now) (seen self.old).calls }
+        ensures calls { (seen self.new).calls ≡ with_call (Gives to bytes.now)
+            (seen self.old).calls }
         ensures calm { OnOk result (((seen self.new).reads ≡ (seen self.old).reads)
             × ((seen self.new).writes ≡ (seen self.old).writes)) }
         ensures reads_count { (seen self.old).reads ≤ (seen self.new).reads }

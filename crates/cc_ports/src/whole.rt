@@ -54,18 +54,19 @@ pub fn read_all<D: Desk>(
     name: &str,
     most: usize,
 ) -> Result<Bytes, ReadStop>
-    ensures bytes { IfOk result (λ bytes.
-        IfSome (D.seen desk.old).told (λ c. c.files name.now ≡ Some bytes)) }
+    ensures bytes { IfOk result (λ bytes. IfSome (D.seen desk.old).told
+        (λ c. c.files name.now ≡ Some bytes)) }
     ensures within { IfOk result (λ bytes. length bytes ≤ most) }
-    ensures limit { IsErrOf result ReadStop.Limit → IfSome (D.seen desk.old).told (λ c.
-        (bytes : List ℕ) × (c.files name.now ≡ Some bytes) × (most < length bytes)) }
+    ensures limit { IsErrOf result ReadStop.Limit →
+        IfSome (D.seen desk.old).told (λ c. (bytes : List ℕ) × (c.files name.now ≡ Some bytes)
+        × (most < length bytes)) }
     ensures failed { IsErrOf result ReadStop.Failed →
         Rose (D.seen desk.old).reads (D.seen desk.new).reads }
-    ensures after { (rest : List ℕ)
-        × ((D.seen desk.new).told ≡ option_map (with_rest rest) (D.seen desk.old).told) }
+    ensures after { (rest : List ℕ) × ((D.seen desk.new).told
+        ≡ option_map (with_rest rest) (D.seen desk.old).told) }
     ensures begun { (D.seen desk.new).begun ≡ (D.seen desk.old).begun }
-    ensures calls { (more : List Call)
-        × AreReadings name.now most more × ((D.seen desk.new).calls ≡ with_calls more (D.seen desk.old).calls) }
+    ensures calls { (more : List Call) × AreReadings name.now most more
+        × ((D.seen desk.new).calls ≡ with_calls more (D.seen desk.old).calls) }
     ensures calm { (IsErrOf result ReadStop.Failed → ⊥) →
         ((D.seen desk.new).reads ≡ (D.seen desk.old).reads)
         × ((D.seen desk.new).writes ≡ (D.seen desk.old).writes) }
@@ -89,14 +90,14 @@ pub fn read_all<D: Desk>(
 
 /// Gives all the bytes to an output. It takes no memory.
 pub fn give_all<D: Desk>(desk: &mut D, to: To, bytes: &[u8]) -> Result<(), Failed>
-    ensures all { OnOk result
-        ((D.seen desk.new).told ≡ option_map (appended to bytes.now) (D.seen desk.old).told) }
+    ensures all { OnOk result ((D.seen desk.new).told
+        ≡ option_map (appended to bytes.now) (D.seen desk.old).told) }
     ensures some { OnErr result ((front : List ℕ) × IsPrefix front bytes.now
         × ((D.seen desk.new).told ≡ option_map (appended to front) (D.seen desk.old).told)) }
     ensures failed { OnErr result (Rose (D.seen desk.old).writes (D.seen desk.new).writes) }
     ensures begun { (D.seen desk.new).begun ≡ (D.seen desk.old).begun }
-    ensures calls { (more : List Call)
-        × AreGivings to more × ((D.seen desk.new).calls ≡ with_calls more (D.seen desk.old).calls) }
+    ensures calls { (more : List Call) × AreGivings to more
+        × ((D.seen desk.new).calls ≡ with_calls more (D.seen desk.old).calls) }
     ensures calm { OnOk result (((D.seen desk.new).reads ≡ (D.seen desk.old).reads)
         × ((D.seen desk.new).writes ≡ (D.seen desk.old).writes)) }
     ensures reads_count { (D.seen desk.old).reads ≤ (D.seen desk.new).reads }

@@ -764,38 +764,38 @@ cut_short : (stop : Stop) (status : Status) (x y z : Moment) (line : List ℕ) �
     (stop ≡ stops.ReadFault → Rose x.reads y.reads) → (stop ≡ stops.WriteFault → Rose x.writes y.writes) →
     ((line ≡ stop_line stop) × (status ≡ stop_status stop)) ⊎ (IsPrefix line (stop_line stop) × (status ≡ cut_status stop) × Rose y.writes z.writes) →
     (files : Files) (words : List Text) (l before : Left) → GaveSoFar files words before → l.given ≡ record before.given { err = before.given.err ++ line } →
-    l.begun ≡ before.begun → Answers files words status (counts x.reads z.reads x.writes z.writes) l
+    l.begun ≡ before.begun → Answers files words status (counts x z) l
 cut_short stops.ReadFault status x y z line reads writes later_reads later_writes read_fault write_fault (inl whole) files words l before gave given begun =
-    subst (λ s. Answers files words s (counts x.reads z.reads x.writes z.writes) l) (sym whole.1)
+    subst (λ s. Answers files words s (counts x z) l) (sym whole.1)
     (line, whole.0, record { before = before; gave = gave; given = given; begun = begun })
 cut_short stops.ReadFault status x y z line reads writes later_reads later_writes read_fault write_fault (inr cut) files words l before gave given begun =
-    subst (λ s. Answers files words s (counts x.reads z.reads x.writes z.writes) l) (sym cut.1) (
+    subst (λ s. Answers files words s (counts x z) l) (sym cut.1) (
       line,
       inr (inr (cut.0, rose_earlier x.reads y.reads z.reads (read_fault refl) later_reads, rose_later x.writes y.writes z.writes writes cut.2)),
       record { before = before; gave = gave; given = given; begun = begun },
     )
 cut_short stops.WriteFault status x y z line reads writes later_reads later_writes read_fault write_fault (inl whole) files words l before gave given begun =
-    subst (λ s. Answers files words s (counts x.reads z.reads x.writes z.writes) l) (sym whole.1)
+    subst (λ s. Answers files words s (counts x z) l) (sym whole.1)
     (line, inl whole.0, record { before = before; gave = gave; given = given; begun = begun })
 cut_short stops.WriteFault status x y z line reads writes later_reads later_writes read_fault write_fault (inr cut) files words l before gave given begun =
-    subst (λ s. Answers files words s (counts x.reads z.reads x.writes z.writes) l) (sym cut.1) (
+    subst (λ s. Answers files words s (counts x z) l) (sym cut.1) (
       line,
       inr (inl (cut.0, rose_twice x.writes y.writes z.writes (write_fault refl) cut.2)),
       record { before = before; gave = gave; given = given; begun = begun },
     )
 cut_short stops.OutOfMemory status x y z line reads writes later_reads later_writes read_fault write_fault (inl whole) files words l before gave given begun =
-    subst (λ s. Answers files words s (counts x.reads z.reads x.writes z.writes) l) (sym whole.1)
+    subst (λ s. Answers files words s (counts x z) l) (sym whole.1)
     (line, inl whole.0, record { before = before; gave = gave; given = given; begun = begun })
 cut_short stops.OutOfMemory status x y z line reads writes later_reads later_writes read_fault write_fault (inr cut) files words l before gave given begun =
-    subst (λ s. Answers files words s (counts x.reads z.reads x.writes z.writes) l) (sym cut.1)
+    subst (λ s. Answers files words s (counts x z) l) (sym cut.1)
     (line, inr (cut.0, rose_later x.writes y.writes z.writes writes cut.2), record { before = before; gave = gave; given = given; begun = begun })
 
 over_stopped : (words : List Text) (begins : Bool) (opens : List Text) (stop : Stop) (status : Status) (x y z : Moment) (before : Contents) (mid : Option Contents) → y.told ≡ mid →
     Prints words begins opens x y (Err stop) → TellsStop stop y z status → IsSomeAnd mid (λ after. Leaves words before after y.begun (Err stop)) →
-    IsSomeAnd z.told (λ after. Answered before after z.begun words status (counts x.reads z.reads x.writes z.writes))
+    IsSomeAnd z.told (λ after. Answered before after z.begun words status (counts x z))
 over_stopped words begins opens stop status x y z before None is prints tells over = absurd over
 over_stopped words begins opens stop status x y z before (Some m) is prints tells over =
-    let Done : Option Contents → Type 0 = λ n. IsSomeAnd n (λ after. Answered before after z.begun words status (counts x.reads z.reads x.writes z.writes)) in
+    let Done : Option Contents → Type 0 = λ n. IsSomeAnd n (λ after. Answered before after z.begun words status (counts x z)) in
     subst Done (sym (tells.told ∙ ap (option_map (adding (given_to outputs.Err tells.line))) is)) (record {
       files = over.files;
       answer = cut_short stop status x y z tells.line prints.reads prints.writes tells.reads tells.writes
@@ -807,10 +807,10 @@ over_stopped words begins opens stop status x y z before (Some m) is prints tell
 -- a run that stopped, and told why
 pub run_stopped : (words : List Text) (begins : Bool) (opens : List Text) (stop : Stop) (status : Status) (x y z : Moment) → Prints words begins opens x y (Err stop) → TellsStop stop y z status →
     IfSome x.told (λ before. IsFresh before → x.begun ≡ false →
-    IsSomeAnd z.told (λ after. Answered before after z.begun words status (counts x.reads z.reads x.writes z.writes)))
+    IsSomeAnd z.told (λ after. Answered before after z.begun words status (counts x z)))
 run_stopped words begins opens stop status x y z prints tells =
     known x.told (λ before. IsFresh before → x.begun ≡ false → IsSomeAnd y.told (λ after. Leaves words before after y.begun (Err stop)))
-    (λ before. IsFresh before → x.begun ≡ false → IsSomeAnd z.told (λ after. Answered before after z.begun words status (counts x.reads z.reads x.writes z.writes)))
+    (λ before. IsFresh before → x.begun ≡ false → IsSomeAnd z.told (λ after. Answered before after z.begun words status (counts x z)))
     (λ before over fresh none. over_stopped words begins opens stop status x y z before y.told refl prints tells (over fresh none)) prints.told
 
 -- ---- the names of a run

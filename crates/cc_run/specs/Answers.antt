@@ -3,6 +3,7 @@ use Rattle.std.specs.Prelude.{◌≡◌, ℕ, ◌+◌, ◌≤◌, ◌⊎◌, Boo
 use Rattle.cc_defs.specs.declared.refusal.Refusal.{Refusal}
 use Rattle.cc_describe.specs.Places.{Files}
 use Rattle.cc_ports.specs.Contents.{Contents, IsPrefix, Rose}
+use Rattle.cc_ports.specs.Moments.{Moment}
 use Rattle.cc_run.specs.declared.status.Status.{Status}
 use Rattle.cc_run.specs.declared.status.Status.TheVariants as statuses
 use Rattle.cc_run.specs.Modes.Checking.{checking_promise}
@@ -86,9 +87,9 @@ pub record Counts : Type 0 where
   pub writes_before : ℕ
   pub writes_after : ℕ
 
-abbrev pub counts : ℕ → ℕ → ℕ → ℕ → Counts
-counts reads_before reads_after writes_before writes_after =
-    record { reads_before = reads_before; reads_after = reads_after; writes_before = writes_before; writes_after = writes_after }
+abbrev pub counts : (before after : Moment) → Counts
+counts before after =
+    record { reads_before = before.reads; reads_after = after.reads; writes_before = before.writes; writes_after = after.writes }
 
 -- how much of a fault's line was given, by the status
 abbrev pub IsFaultLine : Status → Counts → List ℕ → Type 0

@@ -110,10 +110,9 @@ fn tell_cause<D: Desk>(
 ) -> Result<(), Stop>
     requires signature { IsSignatureFor described.now.table described.now.sig }
     requires atom { IsAtomOf described.now.sig position value }
-    ensures { (d : Description) → IsDescriptionOf described.now d → Step
-        (given_to outputs.Out (lines.cause_line d described.now.files position value (Some cause)))
-        (D.seen desk.old)
-        (D.seen desk.new) result }
+    ensures { (d : Description) → IsDescriptionOf described.now d →
+        Step (given_to outputs.Out (lines.cause_line d described.now.files position value
+        (Some cause))) (D.seen desk.old) (D.seen desk.new) result }
 {
     let line = cause_line(alloc, described, position, value, cause)?;
     give(desk, To::Out, line.as_bytes())
@@ -134,8 +133,7 @@ pub(crate) fn tell_causes<D: Desk>(
     ensures { (d : Description) (horizon : ℕ) → IsDescriptionOf described.now d →
         map (λ cause. Some cause) causes.now ≡ causes_at d horizon row.now →
         Step (given_to outputs.Out (why_text d described.now.files horizon row.now))
-        (D.seen desk.old)
-        (D.seen desk.new) result }
+        (D.seen desk.old) (D.seen desk.new) result }
 {
     for position in 0..row.len() {
         let value = row[position];

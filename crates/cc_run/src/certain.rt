@@ -52,9 +52,10 @@ fn tell_example<D: Desk>(
     requires signature { IsSignatureFor described.now.table described.now.sig }
     requires row { (d : Description) →
         IsSignatureOfDescription d described.now.sig → IsRow (sizes_at d horizon) row.now }
-    ensures { (d : Description) → IsDescriptionOf described.now d → Step (given_to outputs.Out
-        (of_horizon horizon (codes "example " ++ decimal number) ++ (history_text d horizon row.now
-        ++ key_line horizon row.now))) (D.seen desk.old) (D.seen desk.new) result }
+    ensures { (d : Description) → IsDescriptionOf described.now d →
+        Step (given_to outputs.Out (of_horizon horizon (codes "example " ++ decimal number)
+        ++ (history_text d horizon row.now ++ key_line horizon row.now))) (D.seen desk.old)
+        (D.seen desk.new) result }
 {
     let line = example_line(alloc, horizon, number)?;
     give(desk, To::Out, line.as_bytes())?;
@@ -120,10 +121,9 @@ fn tell_answer<D: Desk>(
 ) -> Result<(), Stop>
     requires signature { IsSignatureFor described.now.table described.now.sig }
     requires atom { IsAtomOf described.now.sig position value }
-    ensures { (d : Description) → IsDescriptionOf described.now d → Step
-        (given_to outputs.Out (atoms.atom_text d position value ++ answer_words answer ++ 10 ∷ []))
-        (D.seen desk.old)
-        (D.seen desk.new) result }
+    ensures { (d : Description) → IsDescriptionOf described.now d →
+        Step (given_to outputs.Out (atoms.atom_text d position value ++ answer_words answer
+        ++ 10 ∷ [])) (D.seen desk.old) (D.seen desk.new) result }
 {
     let line = answer_line(alloc, described, position, value, answer)?;
     give(desk, To::Out, line.as_bytes())
@@ -142,8 +142,7 @@ fn tell_answers<D: Desk>(
     requires atoms { (value : ℕ) →
         value < length answers.now → IsAtomOf described.now.sig position value }
     ensures { (d : Description) → IsDescriptionOf described.now d →
-        Step (given_to outputs.Out (answer_lines d position 0 answers.now))
-        (D.seen desk.old)
+        Step (given_to outputs.Out (answer_lines d position 0 answers.now)) (D.seen desk.old)
         (D.seen desk.new) result }
 {
     for value in 0..answers.len() {
@@ -196,8 +195,7 @@ fn tell_heading<D: Desk>(
     horizon: u32,
     atom: Option<(u64, u32)>,
 ) -> Result<(), Stop>
-    ensures { Step (given_to outputs.Log (heading_of horizon atom))
-        (D.seen desk.old)
+    ensures { Step (given_to outputs.Log (heading_of horizon atom)) (D.seen desk.old)
         (D.seen desk.new) result }
 {
     let text = heading_text(alloc, horizon, atom)?;
@@ -211,8 +209,7 @@ pub(crate) fn tell_lines<D: Desk>(
     lines: &[LogLine],
 ) -> Result<(), Stop>
     requires formed { AllByRecursion IsFormed lines.now }
-    ensures { Step (given_to outputs.Log (flat_map line_text lines.now))
-        (D.seen desk.old)
+    ensures { Step (given_to outputs.Log (flat_map line_text lines.now)) (D.seen desk.old)
         (D.seen desk.new) result }
 {
     for i in 0..lines.len() {
@@ -231,8 +228,7 @@ fn tell_section<D: Desk>(
 ) -> Result<(), Stop>
     requires formed { AllByRecursion IsFormed lines.now }
     ensures { Step (given_to outputs.Log (heading_of horizon atom ++ flat_map line_text lines.now))
-        (D.seen desk.old)
-        (D.seen desk.new) result }
+        (D.seen desk.old) (D.seen desk.new) result }
 {
     tell_heading(alloc, desk, horizon, atom)?;
     tell_lines(alloc, desk, lines)
@@ -262,8 +258,7 @@ fn tell_spent<D: Desk>(
 /// Gives the line of a horizon without a history to Out.
 fn tell_none<D: Desk>(alloc: Global, desk: &mut D, horizon: u32) -> Result<(), Stop>
     ensures { Step (given_to outputs.Out (of_horizon horizon (codes "no history")))
-        (D.seen desk.old)
-        (D.seen desk.new) result }
+        (D.seen desk.old) (D.seen desk.new) result }
 {
     tell_event(alloc, desk, &Event::NoHistory { horizon })
 }
@@ -278,8 +273,8 @@ fn tell<D: Desk>(
 ) -> Result<(), Stop>
     requires signature { IsSignatureFor described.now.table described.now.sig }
     requires printable { IsPrintable described.now.sig horizon event.now }
-    ensures { (d : Description) → IsDescriptionOf described.now d → Step
-        (given_of d horizon event.now) (D.seen desk.old) (D.seen desk.new) result }
+    ensures { (d : Description) → IsDescriptionOf described.now d →
+        Step (given_of d horizon event.now) (D.seen desk.old) (D.seen desk.new) result }
 {
     match event {
         SureEvent::NoHistory { horizon: empty } => tell_none(alloc, desk, *empty),
@@ -333,8 +328,8 @@ pub(crate) fn tell_sure<D: Desk>(
 ) -> Result<Option<Status>, Stop>
     requires signature { IsSignatureFor described.now.table described.now.sig }
     requires printable { IsPrintable described.now.sig horizon event.now }
-    ensures told { (d : Description) → IsDescriptionOf described.now d → Step
-        (given_of d horizon event.now) (D.seen desk.old) (D.seen desk.new) result }
+    ensures told { (d : Description) → IsDescriptionOf described.now d →
+        Step (given_of d horizon event.now) (D.seen desk.old) (D.seen desk.new) result }
     ensures status { IfOk result (λ status. status ≡ sures.status_behind event.now) }
 {
     tell(alloc, desk, described, horizon, event)?;

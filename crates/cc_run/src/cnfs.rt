@@ -46,20 +46,19 @@ fn form_of(alloc: Global, bytes: &[u8]) -> Result<Form, Fault>
 /// Reads the CNF of a file. Refuses more than 1,048,576 bytes (14, at line 1), a text that is none (19, at its line), and what
 /// passes a limit (14, without a place).
 pub(crate) fn read_form<D: Desk>(alloc: Global, desk: &mut D, file: &str) -> Result<Form, CnfStop>
-    ensures form { IfOk result (λ form. (cnf : PlainCnf)
-        × IsFormOf cnf form × IfSome (D.seen desk.old).told (λ c. IsCnfIn c.files file.now cnf)) }
+    ensures form { IfOk result (λ form. (cnf : PlainCnf) × IsFormOf cnf form
+        × IfSome (D.seen desk.old).told (λ c. IsCnfIn c.files file.now cnf)) }
     ensures refused { IfErr result (λ stop. (refusal : RefusalSeen) →
-        stop ≡ CnfStop.Refused refusal → IfSome (D.seen desk.old).told (λ c.
-        RefusesCnf c.files file.now refusal (refusals.file_named (file.now ∷ []) refusal))) }
+        stop ≡ CnfStop.Refused refusal → IfSome (D.seen desk.old).told
+        (λ c. RefusesCnf c.files file.now refusal (refusals.file_named (file.now ∷ []) refusal))) }
     ensures failed { IsErrOf result CnfStop.ReadFault →
         Rose (D.seen desk.old).reads (D.seen desk.new).reads }
-    ensures after { (rest : List ℕ)
-        × ((D.seen desk.new).told ≡ option_map (with_rest rest) (D.seen desk.old).told) }
+    ensures after { (rest : List ℕ) × ((D.seen desk.new).told
+        ≡ option_map (with_rest rest) (D.seen desk.old).told) }
     ensures begun { (D.seen desk.new).begun ≡ (D.seen desk.old).begun }
     ensures called { Called (file.now ∷ []) [] (D.seen desk.old) (D.seen desk.new) }
     ensures calm { (IsErrOf result CnfStop.ReadFault → ⊥) →
-        IsCalm (D.seen desk.old)
-        (D.seen desk.new) }
+        IsCalm (D.seen desk.old) (D.seen desk.new) }
     ensures reads_count { (D.seen desk.old).reads ≤ (D.seen desk.new).reads }
     ensures writes_count { (D.seen desk.old).writes ≤ (D.seen desk.new).writes }
 {

@@ -57,8 +57,7 @@ fn tell_section<D: Desk>(
     lines: &[LogLine],
 ) -> Result<(), Stop>
     requires formed { AllByRecursion IsFormed lines.now }
-    ensures { Step (given_to outputs.Log (heading.now ++ lines_text lines.now))
-        (D.seen desk.old)
+    ensures { Step (given_to outputs.Log (heading.now ++ lines_text lines.now)) (D.seen desk.old)
         (D.seen desk.new) result }
 {
     give(desk, To::Log, heading.as_bytes())?;
@@ -67,10 +66,8 @@ fn tell_section<D: Desk>(
 
 /// Gives the line of an event without a row to Out.
 fn tell_alone<D: Desk>(alloc: Global, desk: &mut D, event: &Event) -> Result<(), Stop>
-    ensures { (d : Description) →
-        Step (given_to outputs.Out (out_text d (told event.now ∷ [])))
-        (D.seen desk.old)
-        (D.seen desk.new) result }
+    ensures { (d : Description) → Step (given_to outputs.Out (out_text d (told event.now ∷ [])))
+        (D.seen desk.old) (D.seen desk.new) result }
 {
     tell_event(alloc, desk, event)
 }
@@ -89,8 +86,7 @@ fn tell_shown<D: Desk>(
     requires row { IsRow (position_sizes described.now.sig horizon) row.now }
     requires formed { AllByRecursion IsFormed lines.now }
     ensures { (d : Description) → IsDescriptionOf described.now d →
-        Step (given_generally d (events.History horizon number row.now lines.now))
-        (D.seen desk.old)
+        Step (given_generally d (events.History horizon number row.now lines.now)) (D.seen desk.old)
         (D.seen desk.new) result }
 {
     let heading = rivals_line(alloc, horizon, row)?;
@@ -111,8 +107,7 @@ fn tell_spent<D: Desk>(
     requires formed { AllByRecursion IsFormed lines.now }
     ensures { (d : Description) →
         Step (given_generally d (events.Spent horizon listed rivals_of.now lines.now))
-        (D.seen desk.old)
-        (D.seen desk.new) result }
+        (D.seen desk.old) (D.seen desk.new) result }
 {
     let heading = heading_text(alloc, horizon, rivals_of)?;
     tell_section(alloc, desk, &heading, lines)?;
@@ -131,9 +126,7 @@ fn tell<D: Desk>(
     requires signature { IsSignatureFor described.now.table described.now.sig }
     requires writable { IsWritable described.now.sig event.now }
     ensures { (d : Description) → IsDescriptionOf described.now d →
-        Step (given_generally d event.now)
-        (D.seen desk.old)
-        (D.seen desk.new) result }
+        Step (given_generally d event.now) (D.seen desk.old) (D.seen desk.new) result }
 {
     match event {
         GeneralEvent::NoHistory { horizon } => {
@@ -184,9 +177,7 @@ pub(crate) fn tell_general<D: Desk>(
     requires signature { IsSignatureFor described.now.table described.now.sig }
     requires writable { IsWritable described.now.sig event.now }
     ensures told { (d : Description) → IsDescriptionOf described.now d →
-        Step (given_generally d event.now)
-        (D.seen desk.old)
-        (D.seen desk.new) result }
+        Step (given_generally d event.now) (D.seen desk.old) (D.seen desk.new) result }
     ensures status { IfOk result (λ status. status ≡ general_status_behind event.now) }
 {
     tell(alloc, desk, described, event)?;

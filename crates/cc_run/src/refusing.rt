@@ -19,9 +19,7 @@ const USAGE: &str =
 
 /// Gives bytes to an output.
 pub(crate) fn give<D: Desk>(desk: &mut D, to: To, bytes: &[u8]) -> Result<(), Stop>
-    ensures { Step (given_to to bytes.now)
-        (D.seen desk.old)
-        (D.seen desk.new) result }
+    ensures { Step (given_to to bytes.now) (D.seen desk.old) (D.seen desk.new) result }
 {
     match give_all(desk, to, bytes) {
         Ok(()) => Ok(()),
@@ -49,8 +47,7 @@ pub(crate) fn refuse<D: Desk>(
     refusal: &Refusal,
     file: &str,
 ) -> Result<Status, Stop>
-    ensures told { Step (only_err (whole_refusal_text refusal.now file.now))
-        (D.seen desk.old)
+    ensures told { Step (only_err (whole_refusal_text refusal.now file.now)) (D.seen desk.old)
         (D.seen desk.new) result }
     ensures status { IfOk result (λ status. status ≡ Status.Refused) }
 {
@@ -65,8 +62,7 @@ fn tell_refusal<D: Desk>(
     refusal: &Refusal,
     file: &str,
 ) -> Result<(), Stop>
-    ensures { Step (given_to outputs.Err (refusal_line refusal.now file.now))
-        (D.seen desk.old)
+    ensures { Step (given_to outputs.Err (refusal_line refusal.now file.now)) (D.seen desk.old)
         (D.seen desk.new) result }
 {
     let text = refusal_text(alloc, refusal, file)?;
@@ -75,8 +71,7 @@ fn tell_refusal<D: Desk>(
 
 /// Tells how the words are to be, where they were refused.
 fn tell_usage<D: Desk>(desk: &mut D, number: u8) -> Result<(), Stop>
-    ensures { Step (given_to outputs.Err (if number == 1 then usage_line else []))
-        (D.seen desk.old)
+    ensures { Step (given_to outputs.Err (if number == 1 then usage_line else [])) (D.seen desk.old)
         (D.seen desk.new) result }
 {
     if number != 1 {
@@ -87,8 +82,7 @@ fn tell_usage<D: Desk>(desk: &mut D, number: u8) -> Result<(), Stop>
 
 /// Tells why a run stops, by a fixed line, which takes no memory; and answers the run's status.
 pub(crate) fn tell_stop<D: Desk>(desk: &mut D, stop: Stop) -> Status
-    ensures { TellsStop stop (D.seen desk.old)
-        (D.seen desk.new) result }
+    ensures { TellsStop stop (D.seen desk.old) (D.seen desk.new) result }
 {
     match give_all(desk, To::Err, line_of(stop).as_bytes()) {
         Ok(()) => whole_status(stop),

@@ -33,8 +33,7 @@ use std::alloc::Global;
 
 /// Begins a log where one is named.
 pub(crate) fn begin_log<D: Desk>(desk: &mut D, name: Option<&str>) -> Result<(), Stop>
-    ensures { Begins (is_some name.entry) (optional (plain_text name.entry))
-        (D.seen desk.old)
+    ensures { Begins (is_some name.entry) (optional (plain_text name.entry)) (D.seen desk.old)
         (D.seen desk.new) result }
 {
     match name {
@@ -113,8 +112,7 @@ fn tell_next<D: Desk>(
     ensures told { (d : Description) (counts : Bool → ℕ → ℕ) (before : List Told) →
         IsDescriptionOf described.now d → KeepsUp counts teller.old before →
         Step (texts_behind (manner_of counts teller.old) d before (with_row event.now row.now))
-        (D.seen desk.old)
-        (D.seen desk.new) result }
+        (D.seen desk.old) (D.seen desk.new) result }
     ensures keeps { IfOk result (λ _. (counts : Bool → ℕ → ℕ) (before : List Told) →
         IsCounted counts event.now axioms →
         KeepsUp counts teller.old before → IsNone (status_told event.now) →
@@ -133,8 +131,7 @@ pub(crate) fn tell_limit<D: Desk>(
     desk: &mut D,
     refusal: &Refusal,
 ) -> Result<Option<Status>, Stop>
-    ensures told { Step (only_err (refusals.refusal_text refusal.now []))
-        (D.seen desk.old)
+    ensures told { Step (only_err (refusals.refusal_text refusal.now [])) (D.seen desk.old)
         (D.seen desk.new) result }
     ensures status { IfOk result (λ status. status ≡ Some Status.Refused) }
 {
@@ -159,8 +156,8 @@ fn list_event<D: Desk>(
         IsDescriptionOf described.now d → IsSessionOf session.old d q →
         After d q session.old given → HasGoodLines d q session.old.ask.after given →
         KeepsUp (counts_of d q session.old.ask.after) teller.old given →
-        GoesOn (manner_of (counts_of d q session.old.ask.after) teller.old) d q given teller.new
-        session.old session.new (D.seen desk.old) (D.seen desk.new) result }
+        GoesOn (manner_of (counts_of d q session.old.ask.after) teller.old)
+        d q given teller.new session.old session.new (D.seen desk.old) (D.seen desk.new) result }
     ensures next { IfOk result (λ status. IsNone status → IsSame session.old session.new
         × HasMore session.new × (left_of session.new < left_of session.old)) }
     ensures manner { (counts : Bool → ℕ → ℕ) →

@@ -53,8 +53,7 @@ pub(crate) fn tell_silent_verdict<D: Desk>(
     counted: &str,
     verdict: SilentVerdict,
 ) -> Result<Status, Stop>
-    ensures told { Step (only_out (silent_verdict_line counted.now verdict))
-        (D.seen desk.old)
+    ensures told { Step (only_out (silent_verdict_line counted.now verdict)) (D.seen desk.old)
         (D.seen desk.new) result }
     ensures status { IfOk result (λ status. status ≡ silent_verdict_status verdict) }
 {

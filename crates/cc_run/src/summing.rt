@@ -28,8 +28,7 @@ pub(crate) fn sum<D: Desk>(
     requires short { IsShortEvent event.now }
     ensures told { (d : Description) (before : List ToldEvent) (row : List ℕ) →
         SumUp outcome.old.items before → endings_told before ≡ [] →
-        Step (texts_behind (Summed size) d before (with_row event.now row))
-        (D.seen desk.old)
+        Step (texts_behind (Summed size) d before (with_row event.now row)) (D.seen desk.old)
         (D.seen desk.new) result }
     ensures keeps { IfOk result (λ _. (before : List ToldEvent) (row : List ℕ) →
         SumUp outcome.old.items before → IsNone (status_told event.now) →
@@ -68,8 +67,7 @@ fn tell_summary<D: Desk>(
     size: u32,
     outcome: &mut Vec<Told>,
 ) -> Result<(), Stop>
-    ensures { Step (given_to outputs.Out (summary size outcome.old.items))
-        (D.seen desk.old)
+    ensures { Step (given_to outputs.Out (summary size outcome.old.items)) (D.seen desk.old)
         (D.seen desk.new) result }
 {
     let told = Items::of(replace(outcome, Vec::new(alloc)));

@@ -43,8 +43,7 @@ pub(crate) enum Teller {
 /// Gives the header of a log.
 pub(crate) fn give_header<D: Desk>(desk: &mut D, teller: &Teller) -> Result<(), Stop>
     ensures { (counts : Bool → ℕ → ℕ) →
-        Step (given_to outputs.Log (header_told (manner_of counts teller.now)))
-        (D.seen desk.old)
+        Step (given_to outputs.Log (header_told (manner_of counts teller.now))) (D.seen desk.old)
         (D.seen desk.new) result }
 {
     match teller {
@@ -62,9 +61,7 @@ pub(crate) fn give_header<D: Desk>(desk: &mut D, teller: &Teller) -> Result<(), 
 
 /// Gives the lines of a text to Out, one after another.
 pub(crate) fn give_lines<D: Desk>(desk: &mut D, text: &str) -> Result<(), Stop>
-    ensures { Step (given_to outputs.Out text.now)
-        (D.seen desk.old)
-        (D.seen desk.new) result }
+    ensures { Step (given_to outputs.Out text.now) (D.seen desk.old) (D.seen desk.new) result }
 {
     for line in text.split_inclusive('\n') {
         give(desk, To::Out, line.as_bytes())?;
@@ -95,9 +92,8 @@ pub(crate) fn tell_row<D: Desk>(
     requires row { (d : Description) →
         IsSignatureOfDescription d described.now.sig → IsRow (sizes_at d horizon) row.now }
     ensures { (d : Description) → IsDescriptionOf described.now d →
-        Step (given_to outputs.Out (texts.history_text d horizon row.now ++ texts.key_line
-        horizon row.now)) (D.seen desk.old)
-        (D.seen desk.new) result }
+        Step (given_to outputs.Out (texts.history_text d horizon row.now
+        ++ texts.key_line horizon row.now)) (D.seen desk.old) (D.seen desk.new) result }
 {
     let history = history_text(alloc, &described.table, &described.sig, horizon, row)?;
     give_lines(desk, history.text())?;
@@ -106,8 +102,7 @@ pub(crate) fn tell_row<D: Desk>(
 
 /// Gives the line of a key to Out.
 fn tell_key<D: Desk>(alloc: Global, desk: &mut D, horizon: u32, row: &[u32]) -> Result<(), Stop>
-    ensures { Step (given_to outputs.Out (texts.key_line horizon row.now))
-        (D.seen desk.old)
+    ensures { Step (given_to outputs.Out (texts.key_line horizon row.now)) (D.seen desk.old)
         (D.seen desk.new) result }
 {
     let line = key_line(alloc, horizon, row)?;
@@ -116,9 +111,8 @@ fn tell_key<D: Desk>(alloc: Global, desk: &mut D, horizon: u32, row: &[u32]) -> 
 
 /// Gives the line of an event to Out.
 pub(crate) fn tell_event<D: Desk>(alloc: Global, desk: &mut D, event: &Event) -> Result<(), Stop>
-    ensures { Step (given_to outputs.Out (event_line event.now))
-        (D.seen desk.old)
-        (D.seen desk.new) result }
+    ensures { Step (given_to outputs.Out (event_line event.now)) (D.seen desk.old) (D.seen desk.new)
+        result }
 {
     let text = event_text(alloc, event)?;
     give(desk, To::Out, text.text().as_bytes())
@@ -127,9 +121,8 @@ pub(crate) fn tell_event<D: Desk>(alloc: Global, desk: &mut D, event: &Event) ->
 /// Gives a line of the log to Log.
 pub(crate) fn tell_line<D: Desk>(alloc: Global, desk: &mut D, line: &LogLine) -> Result<(), Stop>
     requires { IsFormed line.now }
-    ensures { Step (given_to outputs.Log (line_text line.now))
-        (D.seen desk.old)
-        (D.seen desk.new) result }
+    ensures { Step (given_to outputs.Log (line_text line.now)) (D.seen desk.old) (D.seen desk.new)
+        result }
 {
     let text = put_line(alloc, line)?;
     give(desk, To::Log, text.text().as_bytes())
@@ -139,8 +132,7 @@ pub(crate) fn tell_line<D: Desk>(alloc: Global, desk: &mut D, line: &LogLine) ->
 fn tell_entry<D: Desk>(alloc: Global, desk: &mut D, own: u32, line: &LogLine) -> Result<(), Stop>
     requires formed { IsFormed line.now }
     requires writable { IsWritable own line.now }
-    ensures { Step (given_to outputs.Log (entry_bytes (line_behind own line.now)))
-        (D.seen desk.old)
+    ensures { Step (given_to outputs.Log (entry_bytes (line_behind own line.now))) (D.seen desk.old)
         (D.seen desk.new) result }
 {
     let bytes = put_binary(alloc, line, own)?;
@@ -157,8 +149,7 @@ pub(crate) fn tell_line_in<D: Desk>(
 ) -> Result<(), Stop>
     requires formed { IsFormed line.now }
     requires writable { IsWritable own line.now }
-    ensures { Step (given_to outputs.Log (line_bytes version own line.now))
-        (D.seen desk.old)
+    ensures { Step (given_to outputs.Log (line_bytes version own line.now)) (D.seen desk.old)
         (D.seen desk.new) result }
 {
     match version {
@@ -179,10 +170,10 @@ pub(crate) fn tell_history<D: Desk>(
     requires signature { IsSignatureFor described.now.table described.now.sig }
     requires row { (d : Description) →
         IsSignatureOfDescription d described.now.sig → IsRow (sizes_at d horizon) row.now }
-    ensures { (d : Description) → IsDescriptionOf described.now d → Step (given_to outputs.Out
-        (event_line event.now ++ (texts.history_text d horizon row.now ++ texts.key_line
-        horizon row.now))) (D.seen desk.old)
-        (D.seen desk.new) result }
+    ensures { (d : Description) → IsDescriptionOf described.now d →
+        Step (given_to outputs.Out (event_line event.now
+        ++ (texts.history_text d horizon row.now ++ texts.key_line horizon row.now)))
+        (D.seen desk.old) (D.seen desk.new) result }
 {
     tell_event(alloc, desk, event)?;
     tell_row(alloc, desk, described, horizon, row)
@@ -203,8 +194,9 @@ fn tell<D: Desk>(
     requires row { IsRowOfEvent described.now.sig event.now row.now }
     requires short { IsShortEvent event.now }
     requires writable { IsWritableEvent own event.now }
-    ensures { (d : Description) → IsDescriptionOf described.now d → Step (texts_at version own d
-        (with_row event.now row.now)) (D.seen desk.old) (D.seen desk.new) result }
+    ensures { (d : Description) → IsDescriptionOf described.now d →
+        Step (texts_at version own d (with_row event.now row.now)) (D.seen desk.old)
+        (D.seen desk.new) result }
 {
     match event {
         Event::Log(line) => tell_line_in(alloc, desk, version, own, line),
@@ -271,8 +263,7 @@ fn tell_numbered<D: Desk>(
     requires writable { IsWritableEvent own.old event.now }
     requires few { axioms ≤ most_clauses }
     ensures told { (d : Description) → IsDescriptionOf described.now d →
-        Step (texts_at version own.old d (with_row event.now row.now))
-        (D.seen desk.old)
+        Step (texts_at version own.old d (with_row event.now row.now)) (D.seen desk.old)
         (D.seen desk.new) result }
     ensures number { OnOk result ((counts : Bool → ℕ → ℕ) → IsCounted counts event.now axioms →
         own.new ≡ own_after counts own.old (line_told event.now)) }
@@ -301,8 +292,7 @@ pub(crate) fn tell_by<D: Desk>(
     ensures told { (d : Description) (counts : Bool → ℕ → ℕ) (before : List ToldEvent) →
         IsDescriptionOf described.now d → KeepsUp counts teller.old before →
         Step (texts_behind (manner_of counts teller.old) d before (with_row event.now row.now))
-        (D.seen desk.old)
-        (D.seen desk.new) result }
+        (D.seen desk.old) (D.seen desk.new) result }
     ensures keeps { IfOk result (λ _. (counts : Bool → ℕ → ℕ) (before : List ToldEvent) →
         IsCounted counts event.now axioms →
         KeepsUp counts teller.old before → IsNone (status_told event.now) →

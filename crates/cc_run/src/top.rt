@@ -60,12 +60,13 @@ pub fn run<D: Desk>(alloc: Global, words: &[String], desk: &mut D) -> Status
     // it has none, with the log of the search; or, where a horizon passes a limit, that refusal behind what was told before; or
     // what a checker says of the log that they name; or why the values of a history hold; or, after a fault, fronts of these.
     ensures answer { IfSome (D.seen desk.old).told (λ before. IsFresh before →
-        (D.seen desk.old).begun ≡ false → IsSomeAnd (D.seen desk.new).told (λ after. Answered before after
-        (D.seen desk.new).begun (map string_bytes words.now) result (counts (D.seen desk.old).reads
-        (D.seen desk.new).reads (D.seen desk.old).writes (D.seen desk.new).writes))) }
+        (D.seen desk.old).begun ≡ false → IsSomeAnd (D.seen desk.new).told
+        (λ after. Answered before after (D.seen desk.new).begun (map string_bytes words.now) result
+        (counts (D.seen desk.old) (D.seen desk.new)))) }
     // The names that are opened are those of the words and of the description, in their order, and no others; the log that is begun
     // has the name that the words give it.
-    ensures names { (more : List Call) × ((D.seen desk.new).calls ≡ with_calls more (D.seen desk.old).calls)
+    ensures names { (more : List Call) × ((D.seen desk.new).calls
+        ≡ with_calls more (D.seen desk.old).calls)
         × BeginsAsked (request_of (map string_bytes words.now)) result (names_begun more)
         × IfSome (D.seen desk.old).told (λ before. OpensAsked before.files
         (request_of (map string_bytes words.now)) result (names_opened more)) }
@@ -91,10 +92,9 @@ pub fn run<D: Desk>(alloc: Global, words: &[String], desk: &mut D) -> Status
 
 /// The answer up to its end, or to where it stops.
 fn answer<D: Desk>(alloc: Global, words: &[String], desk: &mut D) -> Result<Status, Stop>
-    ensures { PrintsAsked
-        (map string_bytes words.now) (names_log (request_of (map string_bytes words.now)))
-        (D.seen desk.old)
-        (D.seen desk.new) result }
+    ensures { PrintsAsked (map string_bytes words.now)
+        (names_log (request_of (map string_bytes words.now))) (D.seen desk.old) (D.seen desk.new)
+        result }
 {
     has_places();
     match read(alloc, words)? {
@@ -107,8 +107,7 @@ fn answer<D: Desk>(alloc: Global, words: &[String], desk: &mut D) -> Result<Stat
 fn answer_asked<D: Desk>(alloc: Global, desk: &mut D, asked: &Asked<'_>) -> Result<Status, Stop>
     requires within { IsWithin (plain_request asked.now) }
     ensures { (words : List Text) → request_of words ≡ Some (plain_request asked.now) →
-        PrintsAsked words (names_log (Some (plain_request asked.now)))
-        (D.seen desk.old)
+        PrintsAsked words (names_log (Some (plain_request asked.now))) (D.seen desk.old)
         (D.seen desk.new) result }
 {
     match asked {
@@ -157,8 +156,7 @@ fn answer_file<D: Desk>(
     requires description { AsksDescription (plain_request asked.now) }
     ensures { (words : List Text) → request_of words ≡ Some (plain_request asked.now) →
         IsFileOf (plain_request asked.now) file.now →
-        PrintsAsked words (names_log (Some (plain_request asked.now)))
-        (D.seen desk.old)
+        PrintsAsked words (names_log (Some (plain_request asked.now))) (D.seen desk.old)
         (D.seen desk.new) result }
 {
     let described = describe(alloc, desk, file, heads_of(asked));
@@ -177,8 +175,7 @@ fn answer_made<D: Desk>(
     requires size { 1 ≤ size }
     ensures { (words : List Text) (budget : ℕ) → request_of words ≡ Some (plain_request asked.now) →
         plain_request asked.now ≡ ToMake size budget →
-        PrintsAsked words (names_log (Some (plain_request asked.now)))
-        (D.seen desk.old)
+        PrintsAsked words (names_log (Some (plain_request asked.now))) (D.seen desk.old)
         (D.seen desk.new) result }
 {
     let text = make_text(alloc, size)?;
@@ -201,10 +198,9 @@ fn answer_described<D: Desk>(
     requires wide_forms { IfOk described HasWideForms }
     requires formulas { IfOk described AsksFormulas }
     ensures { (words : List Text) (request : Request) (earlier : Moment) →
-        request_of words ≡ Some request → plain_request asked.now ≡ request → Reads request
-        described earlier (D.seen desk.old) →
-        PrintsAsked words (names_log (Some request)) earlier
-        (D.seen desk.new) result }
+        request_of words ≡ Some request → plain_request asked.now ≡ request →
+        Reads request described earlier (D.seen desk.old) →
+        PrintsAsked words (names_log (Some request)) earlier (D.seen desk.new) result }
 {
     match described {
         Ok(described) => {
@@ -232,12 +228,10 @@ fn answer_read<D: Desk>(
     requires wide_forms { HasWideForms described.now }
     requires formulas { AsksFormulas described.now }
     ensures { (words : List Text) (request : Request) → request_of words ≡ Some request →
-        plain_request asked.now ≡ request → IfSome (D.seen desk.old).told (λ before.
-        Describes (requested.heads_of request) (source_of request before.files)
-        (named_of request).file described.now) →
-        Prints words (names_log (Some request))
-        (opens_behind request) (D.seen desk.old)
-        (D.seen desk.new) result }
+        plain_request asked.now ≡ request → IfSome (D.seen desk.old).told
+        (λ before. Describes (requested.heads_of request) (source_of request before.files)
+        (named_of request).file described.now) → Prints words (names_log (Some request))
+        (opens_behind request) (D.seen desk.old) (D.seen desk.new) result }
 {
     match asked {
         Asked::Explain(explain) => why::explain(alloc, desk, described, explain.key),
@@ -268,12 +262,10 @@ fn answer_query<D: Desk>(
     requires forms { HasForms described.now }
     requires formulas { AsksFormulas described.now }
     ensures { (words : List Text) (request : Request) → request_of words ≡ Some request →
-        plain_request asked.now ≡ request → IfSome (D.seen desk.old).told (λ before.
-        Describes heads.Definite (source_of request before.files) (named_of request).file
-        described.now) →
-        Prints words (names_log (Some request))
-        (opens_behind request) (D.seen desk.old)
-        (D.seen desk.new) result }
+        plain_request asked.now ≡ request → IfSome (D.seen desk.old).told
+        (λ before. Describes heads.Definite (source_of request before.files)
+        (named_of request).file described.now) → Prints words (names_log (Some request))
+        (opens_behind request) (D.seen desk.old) (D.seen desk.new) result }
 {
     let arena = Bump::new(alloc);
     let terms = Terms::new(&arena);

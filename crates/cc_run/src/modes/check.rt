@@ -45,9 +45,8 @@ pub(crate) fn tell_verdict<D: Desk>(
     desk: &mut D,
     verdict: &LogVerdict,
 ) -> Result<Status, Stop>
-    ensures told { Step (only_out (verdict_line verdict.now))
-        (D.seen desk.old)
-        (D.seen desk.new) result }
+    ensures told { Step (only_out (verdict_line verdict.now)) (D.seen desk.old) (D.seen desk.new)
+        result }
     ensures status { IfOk result (λ status. status ≡ checks.verdict_status verdict.now) }
 {
     let text = verdict_text(alloc, verdict)?;
@@ -67,11 +66,11 @@ fn check_log<D: Desk>(
         (plain_ground_query prepared.now.query) prepared.now.key }
     requires few { length bytes.now ≤ limit_number limits.LogBytes }
     ensures { (words : List Text) (checking : Checking) (d : Description) (q : Query) →
-        request_of words ≡ Some (ToCheck checking) → AreOf described.now.sig prepared.now.laws
-        (plain_ground_query prepared.now.query) d q → IfSome (D.seen desk.old).told (λ before.
-        NamesLog before.files checking (task_to_check d q prepared.now.key) bytes.now) →
-        Prints words false [] (D.seen desk.old)
-        (D.seen desk.new) result }
+        request_of words ≡ Some (ToCheck checking) →
+        AreOf described.now.sig prepared.now.laws (plain_ground_query prepared.now.query) d q →
+        IfSome (D.seen desk.old).told (λ before. NamesLog before.files checking
+        (task_to_check d q prepared.now.key) bytes.now) →
+        Prints words false [] (D.seen desk.old) (D.seen desk.new) result }
 {
     match judge(
         alloc,
@@ -98,11 +97,12 @@ pub(crate) fn check<D: Desk>(
     requires searchable { AreSearchable described.now.sig prepared.now.laws
         (plain_ground_query prepared.now.query) prepared.now.key }
     ensures { (words : List Text) (checking : Checking) (d : Description) (q : Query) →
-        request_of words ≡ Some (ToCheck checking) → plain_request (requests.Check asked.now)
-        ≡ ToCheck checking → AreOf described.now.sig prepared.now.laws
-        (plain_ground_query prepared.now.query) d q → IfSome (D.seen desk.old).told (λ before.
-        IsTask before.files (named_in checking) (task_to_check d q prepared.now.key)) → Prints words
-        false (asked.now.log.now ∷ []) (D.seen desk.old) (D.seen desk.new) result }
+        request_of words ≡ Some (ToCheck checking) →
+        plain_request (requests.Check asked.now) ≡ ToCheck checking →
+        AreOf described.now.sig prepared.now.laws (plain_ground_query prepared.now.query) d q →
+        IfSome (D.seen desk.old).told (λ before. IsTask before.files (named_in checking)
+        (task_to_check d q prepared.now.key)) → Prints words false (asked.now.log.now ∷ [])
+        (D.seen desk.old) (D.seen desk.new) result }
 {
     match read_all(alloc, desk, asked.log, LimitAt::LogBytes.number() as usize) {
         Ok(bytes) => check_log(alloc, desk, described, prepared, bytes.items()),

@@ -133,8 +133,7 @@ fn give_line<'b, D: Desk>(
         AreOf described.now.sig prepared.now.laws (plain_ground_query prepared.now.query) d q →
         AreLeft d q prepared.now.key version own bytes.now (line ∷ others) →
         Step (given_to outputs.Log (line_bytes (log_versions.other_version version) own line))
-        (D.seen desk.old)
-        (D.seen desk.new) result }
+        (D.seen desk.old) (D.seen desk.new) result }
     ensures left { IfOk result (λ next. (d : Description)
         (q : Query) (line : Line) (others : List Line) → AreOf described.now.sig prepared.now.laws
         (plain_ground_query prepared.now.query) d q → AreLeft d q prepared.now.key version own
@@ -163,10 +162,9 @@ fn give_lines<D: Desk>(
         (plain_ground_query prepared.now.query) prepared.now.key version 1 bytes.now }
     ensures { (d : Description) (q : Query) (said : List Line) →
         AreOf described.now.sig prepared.now.laws (plain_ground_query prepared.now.query) d q →
-        AreLeft d q prepared.now.key version 1 bytes.now said → Step (given_to outputs.Log
-        (lines_bytes (log_versions.other_version version) (counts_of d q prepared.now.key) 1 said))
-        (D.seen desk.old)
-        (D.seen desk.new) result }
+        AreLeft d q prepared.now.key version 1 bytes.now said →
+        Step (given_to outputs.Log (lines_bytes (log_versions.other_version version)
+        (counts_of d q prepared.now.key) 1 said)) (D.seen desk.old) (D.seen desk.new) result }
 {
     let mut own = 1;
     let mut rest = bytes;
@@ -191,12 +189,11 @@ fn give_other<D: Desk>(
     requires few { length bytes.now ≤ most_log_bytes }
     requires says { (d : Description) × (q : Query) × AreOf described.now.sig prepared.now.laws
         (plain_ground_query prepared.now.query) d q × SaysLines d q prepared.now.key bytes.now }
-    ensures { (d : Description) (q : Query) →
-        AreOf described.now.sig prepared.now.laws (plain_ground_query prepared.now.query) d q →
+    ensures { (d : Description) (q : Query) → AreOf described.now.sig prepared.now.laws
+        (plain_ground_query prepared.now.query) d q →
         (says : SaysLines d q prepared.now.key bytes.now) →
         Step (given_to outputs.Log (other_said d q prepared.now.key bytes.now says))
-        (D.seen desk.old)
-        (D.seen desk.new) result }
+        (D.seen desk.old) (D.seen desk.new) result }
 {
     let version = version_of(bytes);
     let teller = Teller::OneByOne {
@@ -232,8 +229,7 @@ fn give_accepted<D: Desk>(
         AreOf described.now.sig prepared.now.laws (plain_ground_query prepared.now.query) d q →
         (says : SaysLines d q prepared.now.key bytes.now) →
         Step (converted_by verdict.now (other_said d q prepared.now.key bytes.now says))
-        (D.seen desk.old)
-        (D.seen desk.new) result }
+        (D.seen desk.old) (D.seen desk.new) result }
     ensures status { IfOk result (λ status. status ≡ checks.verdict_status verdict.now) }
 {
     let status = tell_verdict(alloc, desk, verdict)?;
@@ -260,11 +256,10 @@ fn convert_judged<D: Desk>(
     ensures { (words : List Text) (converting : Converting) (d : Description) (q : Query) →
         request_of words ≡ Some (ToConvert converting) → to.now ≡ converting.to →
         AreOf described.now.sig prepared.now.laws (plain_ground_query prepared.now.query) d q →
-        IfSome (D.seen desk.old).told (λ before. NamesLog before.files
-        (checked_by converting) (task_to_check d q prepared.now.key) bytes.now) →
+        IfSome (D.seen desk.old).told (λ before. NamesLog before.files (checked_by converting)
+        (task_to_check d q prepared.now.key) bytes.now) →
         IsJudged d q prepared.now.key bytes.now verdict.now →
-        Prints words true [] (D.seen desk.old)
-        (D.seen desk.new) result }
+        Prints words true [] (D.seen desk.old) (D.seen desk.new) result }
 {
     match verdict {
         LogVerdict::Refused { .. } => tell_verdict(alloc, desk, verdict),
@@ -294,10 +289,9 @@ fn convert_log<D: Desk>(
     ensures { (words : List Text) (converting : Converting) (d : Description) (q : Query) →
         request_of words ≡ Some (ToConvert converting) → to.now ≡ converting.to →
         AreOf described.now.sig prepared.now.laws (plain_ground_query prepared.now.query) d q →
-        IfSome (D.seen desk.old).told (λ before. NamesLog before.files
-        (checked_by converting) (task_to_check d q prepared.now.key) bytes.now) →
-        Prints words true [] (D.seen desk.old)
-        (D.seen desk.new) result }
+        IfSome (D.seen desk.old).told (λ before. NamesLog before.files (checked_by converting)
+        (task_to_check d q prepared.now.key) bytes.now) →
+        Prints words true [] (D.seen desk.old) (D.seen desk.new) result }
 {
     match judge(
         alloc,
@@ -330,10 +324,9 @@ pub(crate) fn convert<D: Desk>(
         request_of words ≡ Some (ToConvert converting) →
         plain_request (requests.Convert asked.now) ≡ ToConvert converting →
         AreOf described.now.sig prepared.now.laws (plain_ground_query prepared.now.query) d q →
-        IfSome (D.seen desk.old).told (λ before. IsTask before.files (named_in (checked_by converting))
-        (task_to_check d q prepared.now.key)) → Prints words true (asked.now.log.now ∷ [])
-        (D.seen desk.old)
-        (D.seen desk.new) result }
+        IfSome (D.seen desk.old).told (λ before. IsTask before.files
+        (named_in (checked_by converting)) (task_to_check d q prepared.now.key)) →
+        Prints words true (asked.now.log.now ∷ []) (D.seen desk.old) (D.seen desk.new) result }
 {
     match read_all(alloc, desk, asked.log, LimitAt::LogBytes.number() as usize) {
         Ok(bytes) => convert_log(alloc, desk, described, asked.to, prepared, bytes.items()),

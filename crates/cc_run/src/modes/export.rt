@@ -139,8 +139,7 @@ fn exported_form(
 
 /// Gives the clauses to Out, each by its line.
 fn tell_clauses<D: Desk>(alloc: Global, desk: &mut D, form: &Form) -> Result<(), Stop>
-    ensures { Step (given_to outputs.Out (flat_map clause_line form.now.clauses))
-        (D.seen desk.old)
+    ensures { Step (given_to outputs.Out (flat_map clause_line form.now.clauses)) (D.seen desk.old)
         (D.seen desk.new) result }
 {
     for index in 0..form.count() {
@@ -179,12 +178,12 @@ pub(crate) fn export<D: Desk>(
     requires says { SaysAll heads.Definite described.now }
     requires forms { HasForms described.now }
     requires formulas { AsksFormulas described.now }
-    ensures { (words : List Text) (exporting : Exporting) → request_of words ≡ Some
-        (ToExport exporting) → plain_request (requests.Export asked.now) ≡ ToExport exporting →
-        IfSome (D.seen desk.old).told (λ before.
-        Describes heads.Definite before.files exporting.file described.now) →
-        Prints words false [] (D.seen desk.old)
-        (D.seen desk.new) result }
+    ensures { (words : List Text) (exporting : Exporting) →
+        request_of words ≡ Some (ToExport exporting) →
+        plain_request (requests.Export asked.now) ≡ ToExport exporting →
+        IfSome (D.seen desk.old).told (λ before. Describes heads.Definite before.files
+        exporting.file described.now) → Prints words false [] (D.seen desk.old) (D.seen desk.new)
+        result }
 {
     let arena = Bump::new(alloc);
     let terms = Terms::new(&arena);

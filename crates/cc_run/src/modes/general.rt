@@ -46,9 +46,8 @@ fn tell_next<D: Desk>(
     requires of { IsGeneralOfSome described.now general.old }
     ensures tells { (w : WideDescription) (q : Query) (run : GeneralRun) →
         IsWideDescriptionOf described.now w → IsGeneralOf general.old w q →
-        Stands w q general.old run → TellsGeneralEvent w q general.old.count general.old.budget
-        run general.new (D.seen desk.old)
-        (D.seen desk.new) result }
+        Stands w q general.old run → TellsGeneralEvent w q general.old.count general.old.budget run
+        general.new (D.seen desk.old) (D.seen desk.new) result }
     ensures next { IfOk result (λ status. IsNone status →
         HasMore general.new × (left_of general.new < left_of general.old)) }
     ensures same { IsSame general.old general.new }
@@ -74,9 +73,7 @@ fn tell_all<D: Desk>(
     ensures { (w : WideDescription) (q : Query) (run : GeneralRun) →
         IsWideDescriptionOf described.now w → IsGeneralOf general.entry w q →
         Stands w q general.entry run → TellsGenerally w q general.entry.count general.entry.budget
-        (generally_given w q run)
-        (D.seen desk.old)
-        (D.seen desk.new) result }
+        (generally_given w q run) (D.seen desk.old) (D.seen desk.new) result }
 {
     loop {
         match tell_next(alloc, desk, described, &mut general)? {
@@ -103,11 +100,9 @@ fn tell_run<D: Desk>(
     requires of { (w : WideDescription) × (q : Query) × IsWideDescriptionOf described.now w
         × AreWideOf described.now.sig prepared.now.laws
         (plain_ground_query prepared.now.query) w q }
-    ensures { (w : WideDescription) (q : Query) → IsWideDescriptionOf described.now w → AreWideOf
-        described.now.sig prepared.now.laws (plain_ground_query prepared.now.query) w q →
-        TellsGenerally w q count budget nothing
-        (D.seen desk.old)
-        (D.seen desk.new) result }
+    ensures { (w : WideDescription) (q : Query) → IsWideDescriptionOf described.now w →
+        AreWideOf described.now.sig prepared.now.laws (plain_ground_query prepared.now.query) w q →
+        TellsGenerally w q count budget nothing (D.seen desk.old) (D.seen desk.new) result }
 {
     let general = General::new(
         alloc,
@@ -141,9 +136,9 @@ fn list_generally<D: Desk>(
         request_of words ≡ Some (ToListGenerally generally) →
         plain_request (requests.General asked.now) ≡ ToListGenerally generally →
         IsWideDescriptionOf described.now w → AreWideOf described.now.sig prepared.now.laws
-        (plain_ground_query prepared.now.query) w q → IfSome (D.seen desk.old).told (λ before.
-        NamesWide before.files (named_generally generally) w q) → Prints words
-        (is_some generally.log) [] (D.seen desk.old) (D.seen desk.new) result }
+        (plain_ground_query prepared.now.query) w q →
+        IfSome (D.seen desk.old).told (λ before. NamesWide before.files (named_generally generally)
+        w q) → Prints words (is_some generally.log) [] (D.seen desk.old) (D.seen desk.new) result }
 {
     begin_log(desk, asked.log)?;
     tell_run(alloc, desk, described, prepared, asked.count, asked.budget)
@@ -164,9 +159,9 @@ pub(crate) fn general<D: Desk>(
     ensures { (words : List Text) (generally : Generally) →
         request_of words ≡ Some (ToListGenerally generally) →
         plain_request (requests.General asked.now) ≡ ToListGenerally generally →
-        IfSome (D.seen desk.old).told (λ before.
-        Describes heads.Any before.files generally.file described.now) → Prints words
-        (is_some generally.log) [] (D.seen desk.old) (D.seen desk.new) result }
+        IfSome (D.seen desk.old).told (λ before. Describes heads.Any before.files generally.file
+        described.now) → Prints words (is_some generally.log) [] (D.seen desk.old) (D.seen desk.new)
+        result }
 {
     let arena = Bump::new(alloc);
     let terms = Terms::new(&arena);

@@ -44,9 +44,8 @@ fn check_log<D: Desk>(
     ensures { (words : List Text) (checking : GeneralChecking) (w : WideDescription) (q : Query) →
         request_of words ≡ Some (ToCheckGeneral checking) →
         AreWideOf described.now.sig prepared.now.laws (plain_ground_query prepared.now.query) w q →
-        IfSome (D.seen desk.old).told (λ before. NamesGeneralLog before.files checking w q bytes.now) →
-        Prints words false [] (D.seen desk.old)
-        (D.seen desk.new) result }
+        IfSome (D.seen desk.old).told (λ before. NamesGeneralLog before.files checking w q
+        bytes.now) → Prints words false [] (D.seen desk.old) (D.seen desk.new) result }
 {
     match check_general(
         alloc,
@@ -74,10 +73,8 @@ fn check_over<D: Desk>(
     ensures { (words : List Text) (checking : GeneralChecking) (w : WideDescription) (q : Query) →
         request_of words ≡ Some (ToCheckGeneral checking) → log.now ≡ checking.log →
         AreWideOf described.now.sig prepared.now.laws (plain_ground_query prepared.now.query) w q →
-        IfSome (D.seen desk.old).told (λ before.
-        NamesWide before.files (named_for_general checking) w q) → Prints words false
-        (log.now ∷ []) (D.seen desk.old)
-        (D.seen desk.new) result }
+        IfSome (D.seen desk.old).told (λ before. NamesWide before.files (named_for_general checking)
+        w q) → Prints words false (log.now ∷ []) (D.seen desk.old) (D.seen desk.new) result }
 {
     match read_all(alloc, desk, log, LimitAt::LogBytes.number() as usize) {
         Ok(bytes) => check_log(alloc, desk, described, prepared, bytes.items()),
@@ -100,10 +97,8 @@ pub(crate) fn check<D: Desk>(
     ensures { (words : List Text) (checking : GeneralChecking) →
         request_of words ≡ Some (ToCheckGeneral checking) →
         plain_request (requests.CheckGeneral asked.now) ≡ ToCheckGeneral checking →
-        IfSome (D.seen desk.old).told
-        (λ before. Describes heads.Any before.files checking.file described.now) →
-        Prints words false (asked.now.log.now ∷ [])
-        (D.seen desk.old)
+        IfSome (D.seen desk.old).told (λ before. Describes heads.Any before.files checking.file
+        described.now) → Prints words false (asked.now.log.now ∷ []) (D.seen desk.old)
         (D.seen desk.new) result }
 {
     let arena = Bump::new(alloc);

@@ -115,9 +115,8 @@ fn tell_clause<D: Desk>(
 ) -> Result<Option<Status>, Stop>
     requires formed { IsFormed line.now }
     requires writable { IsWritable lister.old.own line.now }
-    ensures told { Step (given_to outputs.Log (line_bytes lister.old.version lister.old.own
-        line.now)) (D.seen desk.old)
-        (D.seen desk.new) result }
+    ensures told { Step (given_to outputs.Log (line_bytes lister.old.version lister.old.own line.now))
+        (D.seen desk.old) (D.seen desk.new) result }
     ensures behind { OnOk result (lister.new ≡ record lister.old { own = lister.old.own + 1 }) }
     ensures version { lister.new.version ≡ lister.old.version }
     ensures goes_on { IfOk result (λ status. status ≡ None) }
@@ -137,8 +136,7 @@ fn tell_model<D: Desk>(
     requires short { length row.now ≤ 1000000 }
     requires few { lister.old.listed ≤ 100000000 }
     ensures told { Step (given_to outputs.Out (model_line (lister.old.listed + 1) row.now))
-        (D.seen desk.old)
-        (D.seen desk.new) result }
+        (D.seen desk.old) (D.seen desk.new) result }
     ensures behind { OnOk result
         (lister.new ≡ record lister.old { listed = lister.old.listed + 1 }) }
     ensures version { lister.new.version ≡ lister.old.version }
@@ -161,10 +159,9 @@ fn tell_end<D: Desk>(
     requires { lister.own ≤ 999999999 }
     ensures told { Step (record nothing {
       out = models_end lister.listed word;
-      log = line_bytes lister.version lister.own (lines.End word);
-    })
-        (D.seen desk.old)
-        (D.seen desk.new) result }
+      log = line_bytes
+          lister.version lister.own (lines.End word);
+    }) (D.seen desk.old) (D.seen desk.new) result }
     ensures status { IfOk result (λ status. status ≡ Some (models_status lister.listed word)) }
 {
     tell_line_in(alloc, desk, lister.version, lister.own, &LogLine::End(word))?;
@@ -186,8 +183,7 @@ fn tell_find<D: Desk>(
     ensures tells { (axioms : Axioms) (count : Option ℕ) (budget : ℕ) (section : Section) →
         AreAt axioms count budget section lister.old.own lister.old.listed search.old →
         TellsFind axioms lister.old.version count budget section lister.new.own lister.new.listed
-        search.new (D.seen desk.old)
-        (D.seen desk.new) result }
+        search.new (D.seen desk.old) (D.seen desk.new) result }
     ensures next { IfOk result (λ status. IsNone status →
         HasMore search.new × (left_of search.new < left_of search.old)) }
     ensures version { lister.new.version ≡ lister.old.version }
@@ -213,8 +209,7 @@ fn tell_finds<D: Desk>(
     ensures { (axioms : Axioms) (count : Option ℕ) (budget : ℕ) (section : Section) →
         AreAt axioms count budget section lister.own lister.listed search →
         TellsListing axioms lister.version count budget (told_of axioms lister.version section)
-        (D.seen desk.old)
-        (D.seen desk.new) result }
+        (D.seen desk.old) (D.seen desk.new) result }
 {
     loop {
         match tell_find(alloc, desk, &mut lister, &mut search)? {
@@ -226,8 +221,9 @@ fn tell_finds<D: Desk>(
 
 /// Gives the header of the log and the heading of its section.
 fn give_heading<D: Desk>(alloc: Global, desk: &mut D, version: Version) -> Result<(), Stop>
-    ensures { Step (given_to outputs.Log (header_in version ++ line_bytes version 1
-        (lines.Section false 0))) (D.seen desk.old) (D.seen desk.new) result }
+    ensures { Step (given_to outputs.Log (header_in version
+        ++ line_bytes version 1 (lines.Section false 0))) (D.seen desk.old) (D.seen desk.new)
+        result }
 {
     let heading = LogLine::Section {
         conditions: false,
@@ -248,9 +244,9 @@ fn tell_section<D: Desk>(
     requires at { (axioms : Axioms) × (count : Option ℕ) × (budget : ℕ)
         × AreWithin axioms budget × Stands axioms count budget search (open_section []) }
     ensures { (axioms : Axioms) (count : Option ℕ) (budget : ℕ) → AreWithin axioms budget →
-        Stands axioms count budget search (open_section []) → TellsListing axioms version
-        count budget nothing (D.seen desk.old)
-        (D.seen desk.new) result }
+        Stands axioms count budget search (open_section []) →
+        TellsListing axioms version count budget nothing (D.seen desk.old) (D.seen desk.new)
+        result }
 {
     give_heading(alloc, desk, version)?;
     let lister = Lister {
@@ -271,12 +267,11 @@ fn list_models<D: Desk>(
     requires count { IfSome asked.now.count (λ count. 1 ≤ count) }
     requires budget { asked.now.budget ≤ 2000000 }
     requires form { (cnf : PlainCnf) × IsFormOf cnf form }
-    ensures { (words : List Text) (modelling : Modelling) (cnf : PlainCnf) → request_of words
-        ≡ Some (ToModel modelling) → plain_request (requests.Models asked.now) ≡ ToModel modelling →
-        IsFormOf cnf form → IfSome (D.seen desk.old).told (λ c. IsCnfIn c.files modelling.file cnf) →
-        Prints words (is_some modelling.log) []
-        (D.seen desk.old)
-        (D.seen desk.new) result }
+    ensures { (words : List Text) (modelling : Modelling) (cnf : PlainCnf) →
+        request_of words ≡ Some (ToModel modelling) →
+        plain_request (requests.Models asked.now) ≡ ToModel modelling → IsFormOf cnf form →
+        IfSome (D.seen desk.old).told (λ c. IsCnfIn c.files modelling.file cnf) →
+        Prints words (is_some modelling.log) [] (D.seen desk.old) (D.seen desk.new) result }
 {
     let search = Search::of(alloc, form, asked.count, asked.budget)?;
     begin_log(desk, asked.log)?;
@@ -292,10 +287,9 @@ pub(crate) fn models<D: Desk>(
     requires count { IfSome asked.now.count (λ count. 1 ≤ count) }
     requires budget { asked.now.budget ≤ 2000000 }
     ensures { (words : List Text) (modelling : Modelling) →
-        request_of words ≡ Some (ToModel modelling) → plain_request (requests.Models asked.now)
-        ≡ ToModel modelling → PrintsAsked words (is_some modelling.log)
-        (D.seen desk.old)
-        (D.seen desk.new) result }
+        request_of words ≡ Some (ToModel modelling) →
+        plain_request (requests.Models asked.now) ≡ ToModel modelling →
+        PrintsAsked words (is_some modelling.log) (D.seen desk.old) (D.seen desk.new) result }
 {
     match read_form(alloc, desk, asked.file) {
         Ok(form) => list_models(alloc, desk, asked, form),

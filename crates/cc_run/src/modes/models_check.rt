@@ -38,8 +38,7 @@ fn verdict_status(verdict: &LogVerdict) -> Status
 
 /// Tells a verdict by its line.
 fn tell_verdict<D: Desk>(alloc: Global, desk: &mut D, verdict: &LogVerdict) -> Result<Status, Stop>
-    ensures told { Step (only_out (models_verdict_line verdict.now))
-        (D.seen desk.old)
+    ensures told { Step (only_out (models_verdict_line verdict.now)) (D.seen desk.old)
         (D.seen desk.new) result }
     ensures status { IfOk result (λ status. status ≡ checks.verdict_status verdict.now) }
 {
@@ -57,11 +56,10 @@ fn check_log<D: Desk>(
 ) -> Result<Status, Stop>
     requires few { length bytes.now ≤ limit_number limits.LogBytes }
     ensures { (words : List Text) (checking : ModelChecking) (cnf : PlainCnf) →
-        request_of words ≡ Some (ToCheckModels checking) →
-        IsFormOf cnf form.now → IfSome (D.seen desk.old).told (λ c. IsCnfIn c.files checking.file cnf) →
+        request_of words ≡ Some (ToCheckModels checking) → IsFormOf cnf form.now →
+        IfSome (D.seen desk.old).told (λ c. IsCnfIn c.files checking.file cnf) →
         IfSome (D.seen desk.old).told (λ c. c.files checking.log ≡ Some bytes.now) →
-        Prints words false [] (D.seen desk.old)
-        (D.seen desk.new) result }
+        Prints words false [] (D.seen desk.old) (D.seen desk.new) result }
 {
     let verdict = judge_over(alloc, form, bytes)?;
     tell_verdict(alloc, desk, &verdict)
@@ -69,11 +67,11 @@ fn check_log<D: Desk>(
 
 /// Reads the log and judges it.
 fn check_over<D: Desk>(alloc: Global, desk: &mut D, form: &Form, log: &str) -> Result<Status, Stop>
-    ensures { (words : List Text) (checking : ModelChecking) (cnf : PlainCnf) → request_of words
-        ≡ Some (ToCheckModels checking) → log.now ≡ checking.log → IsFormOf cnf form.now →
-        IfSome (D.seen desk.old).told (λ c. IsCnfIn c.files checking.file cnf) → Prints words false
-        (log.now ∷ []) (D.seen desk.old)
-        (D.seen desk.new) result }
+    ensures { (words : List Text) (checking : ModelChecking) (cnf : PlainCnf) →
+        request_of words ≡ Some (ToCheckModels checking) → log.now ≡ checking.log →
+        IsFormOf cnf form.now → IfSome (D.seen desk.old).told
+        (λ c. IsCnfIn c.files checking.file cnf) →
+        Prints words false (log.now ∷ []) (D.seen desk.old) (D.seen desk.new) result }
 {
     match read_all(alloc, desk, log, LimitAt::LogBytes.number() as usize) {
         Ok(bytes) => check_log(alloc, desk, form, bytes.items()),

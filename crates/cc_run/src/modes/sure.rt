@@ -48,10 +48,9 @@ fn tell_next<D: Desk>(
     requires same { described.now.sig ≡ sure.old.signature }
     requires more { HasMore sure.old }
     requires of { IsSureOfSome described.now sure.old }
-    ensures tells { (d : Description) (q : Query) (run : SureRun) → IsDescriptionOf described.now
-        d → IsSureOf sure.old d q → Stands d q sure.old run → TellsEvent d q sure.old.budget
-        run sure.new (D.seen desk.old)
-        (D.seen desk.new) result }
+    ensures tells { (d : Description) (q : Query) (run : SureRun) →
+        IsDescriptionOf described.now d → IsSureOf sure.old d q → Stands d q sure.old run →
+        TellsEvent d q sure.old.budget run sure.new (D.seen desk.old) (D.seen desk.new) result }
     ensures next { IfOk result (λ status. IsNone status →
         HasMore sure.new × (left_of sure.new < left_of sure.old)) }
     ensures same { IsSame sure.old sure.new }
@@ -77,9 +76,8 @@ fn tell_all<D: Desk>(
     requires of { IsSureOfSome described.now sure }
     ensures { (d : Description) (q : Query) (run : SureRun) → IsDescriptionOf described.now d →
         IsSureOf sure.entry d q → Stands d q sure.entry run → IsWritableRun d q run →
-        TellsSure d q sure.entry.budget (surely_given d q run)
-        (D.seen desk.old)
-        (D.seen desk.new) result }
+        TellsSure d q sure.entry.budget (surely_given d q run) (D.seen desk.old) (D.seen desk.new)
+        result }
 {
     loop {
         match tell_next(alloc, desk, described, &mut sure)? {
@@ -134,13 +132,13 @@ fn be_sure<D: Desk>(
     requires budget { asked.now.budget ≤ 2000000 }
     requires of { (d : Description) × (q : Query) × IsDescriptionOf described.now d
         × AreOf described.now.sig prepared.now.laws (plain_ground_query prepared.now.query) d q }
-    ensures { (words : List Text) (surely : Surely) (d : Description) (q : Query) → request_of words
-        ≡ Some (ToBeSure surely) → plain_request (requests.Sure asked.now) ≡ ToBeSure surely →
+    ensures { (words : List Text) (surely : Surely) (d : Description) (q : Query) →
+        request_of words ≡ Some (ToBeSure surely) →
+        plain_request (requests.Sure asked.now) ≡ ToBeSure surely →
         IsDescriptionOf described.now d → AreOf described.now.sig prepared.now.laws
-        (plain_ground_query prepared.now.query) d q → IfSome (D.seen desk.old).told (λ before.
-        NamesUnclaimed before.files (named_surely surely) d q) → Prints words (is_some surely.log)
-        [] (D.seen desk.old)
-        (D.seen desk.new) result }
+        (plain_ground_query prepared.now.query) d q →
+        IfSome (D.seen desk.old).told (λ before. NamesUnclaimed before.files (named_surely surely)
+        d q) → Prints words (is_some surely.log) [] (D.seen desk.old) (D.seen desk.new) result }
 {
     sure_logs_are_accepted();
     begin_log(desk, asked.log)?;
@@ -159,9 +157,10 @@ pub(crate) fn sure<D: Desk>(
     requires forms { HasForms described.now }
     requires formulas { AsksFormulas described.now }
     ensures { (words : List Text) (surely : Surely) → request_of words ≡ Some (ToBeSure surely) →
-        plain_request (requests.Sure asked.now) ≡ ToBeSure surely → IfSome (D.seen desk.old).told
-        (λ before. Describes heads.Definite before.files surely.file described.now) → Prints words
-        (is_some surely.log) [] (D.seen desk.old) (D.seen desk.new) result }
+        plain_request (requests.Sure asked.now) ≡ ToBeSure surely →
+        IfSome (D.seen desk.old).told (λ before. Describes heads.Definite before.files surely.file
+        described.now) → Prints words (is_some surely.log) [] (D.seen desk.old) (D.seen desk.new)
+        result }
 {
     let arena = Bump::new(alloc);
     let terms = Terms::new(&arena);

@@ -47,8 +47,7 @@ fn check_log<D: Desk>(
         request_of words ≡ Some (ToCheckSure checking) →
         AreOf described.now.sig prepared.now.laws (plain_ground_query prepared.now.query) d q →
         IfSome (D.seen desk.old).told (λ before. NamesSureLog before.files checking d q bytes.now) →
-        Prints words false [] (D.seen desk.old)
-        (D.seen desk.new) result }
+        Prints words false [] (D.seen desk.old) (D.seen desk.new) result }
 {
     match check_sure(
         alloc,
@@ -77,9 +76,8 @@ fn check_over<D: Desk>(
     ensures { (words : List Text) (checking : SureChecking) (d : Description) (q : Query) →
         request_of words ≡ Some (ToCheckSure checking) → log.now ≡ checking.log →
         AreOf described.now.sig prepared.now.laws (plain_ground_query prepared.now.query) d q →
-        IfSome (D.seen desk.old).told (λ before.
-        NamesUnclaimed before.files (named_to_check checking) d q) → Prints words false
-        (log.now ∷ []) (D.seen desk.old)
+        IfSome (D.seen desk.old).told (λ before. NamesUnclaimed before.files
+        (named_to_check checking) d q) → Prints words false (log.now ∷ []) (D.seen desk.old)
         (D.seen desk.new) result }
 {
     match read_all(alloc, desk, log, LimitAt::LogBytes.number() as usize) {
@@ -103,10 +101,8 @@ pub(crate) fn check<D: Desk>(
     ensures { (words : List Text) (checking : SureChecking) →
         request_of words ≡ Some (ToCheckSure checking) →
         plain_request (requests.CheckSure asked.now) ≡ ToCheckSure checking →
-        IfSome (D.seen desk.old).told (λ before.
-        Describes heads.Definite before.files checking.file described.now) →
-        Prints words false (asked.now.log.now ∷ [])
-        (D.seen desk.old)
+        IfSome (D.seen desk.old).told (λ before. Describes heads.Definite before.files checking.file
+        described.now) → Prints words false (asked.now.log.now ∷ []) (D.seen desk.old)
         (D.seen desk.new) result }
 {
     let arena = Bump::new(alloc);

@@ -32,9 +32,7 @@ use std::alloc::Global;
 
 /// Tells that a row is no history.
 fn tell_none<D: Desk>(desk: &mut D) -> Result<Status, Stop>
-    ensures told { Step (only_out no_history_line)
-        (D.seen desk.old)
-        (D.seen desk.new) result }
+    ensures told { Step (only_out no_history_line) (D.seen desk.old) (D.seen desk.new) result }
     ensures status { IfOk result (λ status. status ≡ Status.Not) }
 {
     give(desk, To::Out, b"not a history\n")?;
@@ -56,8 +54,8 @@ fn tell_history<D: Desk>(
         × IsDescriptionOf described.now d × AreLawsOf described.now.sig laws.now d
         × IsRow (sizes_at d key.now.horizon) key.now.row × IsPath d key.now.horizon key.now.row }
     ensures { (d : Description) → IsDescriptionOf described.now d →
-        AreLawsOf described.now.sig laws.now d → IsPath d key.now.horizon key.now.row → TellsRow
-        d described.now.files key.now (D.seen desk.old) (D.seen desk.new) result }
+        AreLawsOf described.now.sig laws.now d → IsPath d key.now.horizon key.now.row →
+        TellsRow d described.now.files key.now (D.seen desk.old) (D.seen desk.new) result }
 {
     positions_have_sizes();
     let row = key.row.items();
@@ -79,8 +77,8 @@ fn explain_row<D: Desk>(
     requires of { (d : Description) × (text : Text) × IsDescriptionOf described.now d
         × IsLookedAt d described.now.sig text row.now.laws row.now.key row.now.is_path }
     ensures { (d : Description) (text : Text) → IsDescriptionOf described.now d →
-        IsLookedAt d described.now.sig text row.now.laws row.now.key row.now.is_path → TellsRow d
-        described.now.files row.now.key (D.seen desk.old) (D.seen desk.new) result }
+        IsLookedAt d described.now.sig text row.now.laws row.now.key row.now.is_path →
+        TellsRow d described.now.files row.now.key (D.seen desk.old) (D.seen desk.new) result }
 {
     if row.is_path {
         return tell_history(alloc, desk, described, &row.laws, &row.key);
@@ -99,10 +97,9 @@ pub(crate) fn explain<D: Desk>(
     requires forms { HasForms described.now }
     ensures { (words : List Text) (explaining : Explaining) →
         request_of words ≡ Some (ToExplain explaining) → explaining.key ≡ key.now →
-        IfSome (D.seen desk.old).told (λ before.
-        Describes heads.Definite before.files explaining.file described.now) →
-        Prints words false [] (D.seen desk.old)
-        (D.seen desk.new) result }
+        IfSome (D.seen desk.old).told (λ before. Describes heads.Definite before.files
+        explaining.file described.now) → Prints words false [] (D.seen desk.old) (D.seen desk.new)
+        result }
 {
     let arena = Bump::new(alloc);
     let terms = Terms::new(&arena);
