@@ -417,6 +417,7 @@ pub fn learn(
     let level = trail.level_count();
     let number = kernel.finish()?;
     let back = highest_but(trail, level, kernel.clause(number));
+    probe.weigh(kernel.clause(number).len(), kernel.chain().len() / 2);
     probe.take_back(trail, back);
     trail.back_to(back);
     trail.attach(kernel, number)?;

@@ -1,6 +1,6 @@
 //! The probe with which a section begins: for as many lines as it has clauses then, what is decided is what had most to do with the lines
-//! before, and not what leads to the least row. The lines that it derives are there when the rows are listed. Nothing is claimed of what it decides but that it
-//! had no value.
+//! before, and not what leads to the least row. Where its first hundred lines have more literals than steps, it is over with them. The
+//! lines that it derives are there when the rows are listed. Nothing is claimed of what it decides but that it had no value.
 ghost use Rattle.std.specs.Prelude.{◌≡◌, ◌<◌, ◌≤◌, None, IsTrue, IsSome, IfSome, IfNone, length, OnOk};
 ghost use Rattle.cc_defs.specs.Clauses.{IsLiteralOver};
 ghost use Rattle.cc_defs.specs.Limits.{most_variables};
@@ -52,6 +52,9 @@ pub struct Probe {
     lines: u32,
     left: u32,
     run: u32,
+    // How many literals its lines have, and by how many steps they were derived.
+    literals: usize,
+    steps: usize,
 }
 
 // Whether a variable is one of a trail and has no value.
@@ -86,6 +89,8 @@ impl Probe {
             lines: 0,
             left: RUN,
             run: RUN,
+            literals: 0,
+            steps: 0,
         }
     }
 
@@ -241,7 +246,20 @@ impl Probe {
         }
     }
 
-    /// Counts a line.
+    /// Takes in how many literals a line has, and by how many steps it was derived.
+    pub fn weigh(&mut self, literals: usize, steps: usize)
+        ensures { self.new.phase ≡ self.old.phase }
+    {
+        self.literals = self.literals.saturating_add(literals);
+        self.steps = self.steps.saturating_add(steps);
+    }
+
+    // Whether the lines have more literals than steps: few of these are resolved away, so the lines lead nowhere.
+    fn is_wide(&self) -> bool {
+        self.literals > self.steps
+    }
+
+    /// Counts a line. The probe is over where there were as many as it was begun for, or where its first run brought wide lines.
     pub fn count_line(&mut self) -> After
         ensures { self.new.phase ≡ self.old.phase }
     {
@@ -252,6 +270,9 @@ impl Probe {
         self.left = self.left.saturating_sub(1);
         if self.left > 0 {
             return After::More;
+        }
+        if self.run == RUN && self.is_wide() {
+            return After::End;
         }
         self.run = self.run.saturating_add(RUN);
         self.left = self.run;
