@@ -68,6 +68,9 @@ module _ (law : HistoriesHaveNoRivals) (w : WideDescription) (q : Query) (horizo
     pub candidate : IsCandidate w q horizon row
     candidate = first.each row here
 
+    pub untold : Contains told row → ⊥
+    untold there = not_below_itself row (last_above rows row first.ascending row ((judged row).0 there).0)
+
     pub told_below : AreToldBelow w q horizon row told
     told_below other is below = elim (first.others other (is_candidate other is)) [
       | inl there ↦ elim (one_more rows row other there) [
@@ -100,8 +103,7 @@ module _ (law : HistoriesHaveNoRivals) (w : WideDescription) (q : Query) (horizo
       )
 
       pub first_told : AreFirstOf Is told → AreFirstOf Is (told ++ row ∷ [])
-      first_told before = first_more Is told row before is
-          (λ there. not_below_itself row (last_above rows row first.ascending row ((judged row).0 there).0))
+      first_told before = first_more Is told row before is untold
           (λ other so apart. elim (first.others other (is_candidate other so)) [
             | inl there ↦ elim (one_more rows row other there) [
               | inl early ↦ absurd (apart ((judged other).1 (early, so)))

@@ -1,4 +1,5 @@
 mod AcceptedSilent
+mod Accepting
 mod Beginning
 mod Candidates
 mod Checking

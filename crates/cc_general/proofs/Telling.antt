@@ -26,7 +26,7 @@ use Rattle.cc_general.specs.declared.phase.Phase.TheVariants as phases
 use Rattle.cc_general.specs.GeneralRuns.{GeneralEnding, Complete, Asked, NoneAtAll, SpentAmong, SpentOver, GeneralRun, IsFairGeneral, IsGeneralLimit, IsWanting, MayEndGeneral, ReachesGeneralLimit, Shown, general_horizon, rows_shown}
 use Rattle.cc_general.specs.Generals.{Awaits, GeneralView, IsAmong, IsGeneralOf, IsGoodEvent, IsOver, IsReady, IsRightFault, Stands, left_at, left_of}
 use Rattle.cc_general.specs.Walks.{Comes, Gives, HaltsAt, IsListingAt, IsToldOf, IsWalkFault, IsWalkLimit}
-use Rattle.cc_general.proofs.Candidates.{all_told, candidate, first_told, judged_more, none_told, told_below}
+use Rattle.cc_general.proofs.Candidates.{all_told, candidate, first_told, judged_more, none_told, told_below, untold}
 use Rattle.cc_general.proofs.Fairness.{ends_fair, passes_fair, range_is, shown_behind, shows_fair}
 use Rattle.cc_general.proofs.Walking.{all_append}
 use Rattle.cc_query.specs.declared.stage.Stage.{Stage}
@@ -218,6 +218,7 @@ module _ (now : GeneralView) where
                   low_of w q run of.query stands.horizon ready.low,
                   wanting_of run stands.listed wanting,
                   candidate law w q (general_horizon q run) (rows_in found.steps) (rows_shown run) row found.first found.judged,
+                  untold law w q (general_horizon q run) (rows_in found.steps) (rows_shown run) row found.first found.judged,
                   told_below law w q (general_horizon q run) (rows_in found.steps) (rows_shown run) row found.first found.judged,
                   shown.looks,
                   shown.ends,

@@ -24,7 +24,7 @@ use Rattle.cc_general.specs.declared.halt.Halt.TheVariants as halts
 use Rattle.cc_general.specs.GeneralRuns.{AreJudged}
 use Rattle.cc_general.specs.Generals.{GeneralView, IsAmong}
 use Rattle.cc_general.specs.Walks.{Comes, IsClosed, IsFormedOutcome, IsFound, IsJudged, IsListingAt, IsShownBy, IsSought, IsWalkFault, halt_of}
-use Rattle.cc_general.proofs.Candidates.{candidate, judged_pass, no_history, told_below}
+use Rattle.cc_general.proofs.Candidates.{candidate, judged_pass, no_history, told_below, untold}
 use Rattle.cc_query.specs.declared.least.Outcome.{Outcome}
 use Rattle.cc_query.specs.declared.least.Outcome.TheVariants as outcomes
 use Rattle.cc_query.specs.declared.stage.Find.{Find}
@@ -266,6 +266,7 @@ module _ (law : HistoriesHaveNoRivals) (general : GeneralView) (old : SearchView
           inl (
             new.row,
             candidate law w q general.horizon (rows_in found.steps) told new.row found.first found.judged,
+            untold law w q general.horizon (rows_in found.steps) told new.row found.first found.judged,
             told_below law w q general.horizon (rows_in found.steps) told new.row found.first found.judged,
             refused w laws,
           )

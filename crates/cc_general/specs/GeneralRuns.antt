@@ -84,7 +84,7 @@ MayEndGeneral w q count budget run (SpentAmong section) =
     × AreJudged w q (general_horizon q run) (rows_of section) (rows_shown run) × EndsWith words.Spent section
 MayEndGeneral w q count budget run (SpentOver row section) =
     (general_horizon q run ≤ (range_of q).1) × IsWanting count run × IsCandidate w q (general_horizon q run) row
-    × AreToldBelow w q (general_horizon q run) row (rows_shown run)
+    × (Contains (rows_shown run) row → ⊥) × AreToldBelow w q (general_horizon q run) row (rows_shown run)
     × LooksForRival w budget (general_horizon q run) row section × EndsWith words.Spent section
 
 -- A run tells the truth: horizons that are told to have no history have none; the first histories of the next one are told, at most
@@ -114,8 +114,8 @@ pub record HasManyCandidates (w : WideDescription) (q : Query) (horizon : ℕ) (
 abbrev pub IsGeneralLimit : WideDescription → Query → GeneralRun → Refusal → Type 0
 IsGeneralLimit w q run refusal =
     ((run.shown ≡ []) × (candidates_refusal w q (general_horizon q run) ≡ Some refusal))
-    ⊎ (((row : List ℕ) × IsCandidate w q (general_horizon q run) row × AreToldBelow w q (general_horizon q run) row (rows_shown run)
-    × (rivals_refusal w (general_horizon q run) row ≡ Some refusal))
+    ⊎ (((row : List ℕ) × IsCandidate w q (general_horizon q run) row × (Contains (rows_shown run) row → ⊥)
+    × AreToldBelow w q (general_horizon q run) row (rows_shown run) × (rivals_refusal w (general_horizon q run) row ≡ Some refusal))
     ⊎ ((refusal ≡ past limits.Histories) × HasManyCandidates w q (general_horizon q run) (rows_shown run)))
 
 -- a run that has not ended, at a horizon of the range, comes to this limit

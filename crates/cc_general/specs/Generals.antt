@@ -15,6 +15,7 @@ use Rattle.cc_defs.specs.Sections.{Axioms}
 use Rattle.cc_defs.specs.Signatures.{Signature}
 use Rattle.cc_form.specs.Places.{position_sizes}
 use Rattle.cc_form.specs.Queries.{IsQueryAt}
+use Rattle.cc_general.specs.Accepted.{IsUnspentEnding}
 use Rattle.cc_general.specs.declared.event.GeneralEvent.{GeneralEvent}
 use Rattle.cc_general.specs.declared.event.GeneralEvent.TheVariants as events
 use Rattle.cc_general.specs.declared.phase.Phase.{Phase}
@@ -86,14 +87,6 @@ nothing_told = record { empty = 0; shown = []; ending = None }
 
 -- ---- what a call tells
 
--- an ending in which no search is spent
-abbrev pub IsUnspent : GeneralEnding → Type 0
-IsUnspent Complete = Unit {0}
-IsUnspent Asked = Unit {0}
-IsUnspent NoneAtAll = Unit {0}
-IsUnspent (SpentAmong section) = ⊥
-IsUnspent (SpentOver row section) = ⊥
-
 -- a search is spent with these lines: that for a rival of this row, or that among the candidates
 abbrev pub IsSpentWith : Option (List ℕ) → List LogLine → GeneralEnding → Type 0
 IsSpentWith rivals_of lines Complete = ⊥
@@ -111,7 +104,7 @@ GoesOnBy q run (events.History horizon number row lines) after =
     × ((section : Section) × (lines ≡ section_lines section)
     × (after ≡ record run { shown = run.shown ++ record { row = row; section = section } ∷ [] }))
 GoesOnBy q run (events.Ended ending) after =
-    (how : GeneralEnding) × IsUnspent how × (ending ≡ ending_of (general_horizon q run) (length run.shown) how)
+    (how : GeneralEnding) × IsUnspentEnding how × (ending ≡ ending_of (general_horizon q run) (length run.shown) how)
     × (after ≡ record run { ending = Some how })
 GoesOnBy q run (events.Spent horizon listed rivals_of lines) after =
     (how : GeneralEnding) × IsSpentWith rivals_of lines how × (horizon ≡ general_horizon q run) × (listed ≡ length run.shown)

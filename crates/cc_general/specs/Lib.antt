@@ -1,3 +1,4 @@
+pub mod Accepted
 pub mod GeneralLogs
 pub mod GeneralRuns
 pub mod GeneralTold

@@ -1,5 +1,5 @@
 -- The walk over the candidates of a horizon: what it knows, and what it comes to.
-use Rattle.std.specs.Prelude.{◌≡◌, ◌⊎◌, ℕ, ◌+◌, ◌<◌, List, [], ◌∷◌, ◌++◌, Option, Some, None}
+use Rattle.std.specs.Prelude.{◌≡◌, ◌⊎◌, ℕ, ◌+◌, ◌<◌, List, [], ◌∷◌, ◌++◌, Option, Some, None, Contains}
 use Rattle.std.specs.Global.{Vec}
 use Rattle.std.specs.List.{AllByRecursion}
 use Rattle.cc_clauses.specs.Tells.{Tells}
@@ -137,7 +137,8 @@ pub record Comes (general : GeneralView) (old : SearchView) (before : List LogLi
 -- the limit of the next candidate's rivals, or that of candidates
 abbrev pub IsWalkLimit : WideDescription → Query → (horizon : ℕ) → (told : List (List ℕ)) → Refusal → Type 0
 IsWalkLimit w q horizon told refusal =
-    ((row : List ℕ) × IsCandidate w q horizon row × AreToldBelow w q horizon row told × (rivals_refusal w horizon row ≡ Some refusal))
+    ((row : List ℕ) × IsCandidate w q horizon row × (Contains told row → ⊥) × AreToldBelow w q horizon row told
+    × (rivals_refusal w horizon row ≡ Some refusal))
     ⊎ ((refusal ≡ past limits.Histories) × HasManyCandidates w q horizon told)
 
 abbrev pub IsWalkFault : GeneralView → SearchView → List LogLine → Fault → Type 0

@@ -6,6 +6,7 @@ mod check;
 mod event;
 mod general;
 mod halt;
+pub mod laws;
 mod phase;
 
 pub use check::check_general;

@@ -25,6 +25,10 @@ pub all_behind : {A : Type 0} (P : A → Type 0) (xs ys : List A) → AllByRecur
 all_behind P [] ys all = all
 all_behind P (x ∷ xs) ys all = all_behind P xs ys all.1
 
+pub all_both : {A : Type 0} (P Q : A → Type 0) (xs : List A) → AllByRecursion P xs → AllByRecursion Q xs → AllByRecursion (λ x. P x × Q x) xs
+all_both P Q [] one other = tt
+all_both P Q (x ∷ xs) one other = ((one.0, other.0), all_both P Q xs one.1 other.1)
+
 pub all_map : {A B : Type 0} (P : B → Type 0) (Q : A → Type 0) (f : A → B) → ((x : A) → Q x → P (f x)) → (xs : List A) → AllByRecursion Q xs → AllByRecursion P (map f xs)
 all_map P Q f each [] all = tt
 all_map P Q f each (x ∷ xs) all = (each x all.0, all_map P Q f each xs all.1)
@@ -52,10 +56,10 @@ literal_digits literal short = of_sign literal.positive
     of_sign true = digits literal.variable short.1
     of_sign false = (refl, digits literal.variable short.1)
 
-joined : (parts : List (List ℕ)) → AllByRecursion HasNoFeed parts → HasNoFeed (join_with_byte 32 parts)
-joined [] all = tt
-joined (part ∷ []) all = all.0
-joined (part ∷ next ∷ parts) all = all_append IsNoFeed part (32 ∷ join_with_byte 32 (next ∷ parts)) all.0 (refl, joined (next ∷ parts) all.1)
+pub joined : (byte : ℕ) → IsNoFeed byte → (parts : List (List ℕ)) → AllByRecursion HasNoFeed parts → HasNoFeed (join_with_byte byte parts)
+joined byte is [] all = tt
+joined byte is (part ∷ []) all = all.0
+joined byte is (part ∷ next ∷ parts) all = all_append IsNoFeed part (byte ∷ join_with_byte byte (next ∷ parts)) all.0 (is, joined byte is (next ∷ parts) all.1)
 
 parts_have_none : (line : LogLine) → IsFormed line → AllByRecursion HasNoFeed (line_parts line)
 parts_have_none (lines.Section true horizon) formed = ((refl, tt), (digits horizon formed, tt))
@@ -80,7 +84,7 @@ cut (byte ∷ text) rest none = let other : eqb byte 10 ≡ false = none.0 in rw
 pub line_cut : (line : LogLine) (rest : List ℕ) → IsFormed line → lines_in (line_text line ++ rest) ≡ line_text line ∷ lines_in rest
 line_cut line rest formed =
     ap lines_in (append_assoc (join_with_byte 32 (line_parts line)) (10 ∷ []) rest)
-    ∙ cut (join_with_byte 32 (line_parts line)) rest (joined (line_parts line) (parts_have_none line formed))
+    ∙ cut (join_with_byte 32 (line_parts line)) rest (joined 32 refl (line_parts line) (parts_have_none line formed))
 
 pub lines_cut : (all : List LogLine) (rest : List ℕ) → AllByRecursion IsFormed all → lines_in (flat_map line_text all ++ rest) ≡ map line_text all ++ lines_in rest
 lines_cut [] rest formed = refl
@@ -136,7 +140,7 @@ IsWithin (lines.End word) = Unit {0}
 pub read_back : (line : LogLine) → IsFormed line → IsLine (line_text line) line
 read_back line formed = record { formed = formed; spelled = refl }
 
-letter_within : (line : LogLine) → IsWithin line → letter_of line ≤ 101
+pub letter_within : (line : LogLine) → IsWithin line → letter_of line ≤ 101
 letter_within (lines.Section conditions horizon) within = absurd within
 letter_within (lines.Derived clause chain) within = omega arith
 letter_within (lines.Block row) within = omega arith

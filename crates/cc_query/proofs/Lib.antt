@@ -16,6 +16,7 @@ pub mod Shortness
 pub mod Steps
 pub mod Told
 pub mod Within
+pub mod AcceptedEmpty
 pub mod AcceptedLines
 pub mod AcceptedSections
 pub mod SpentBudgets

@@ -10,7 +10,7 @@ use Rattle.cc_describe.specs.declared.description.Described.{Described}
 use Rattle.cc_general.specs.declared.event.GeneralEvent.{GeneralEvent}
 use Rattle.cc_general.specs.declared.event.GeneralEvent.TheVariants as events
 use Rattle.cc_general.specs.GeneralRuns.{GeneralRun, IsFairGeneral, ReachesGeneralLimit}
-use Rattle.cc_general.specs.Generals.{GeneralView, GoesOn, HasMore, IsGeneralOf, IsSame, Stands, TellsNext, left_of, nothing_told}
+use Rattle.cc_general.specs.Generals.{GeneralView, GoesOn, HasMore, IsGeneralOf, IsGoodEvent, IsSame, IsWritable, Stands, TellsNext, left_of, nothing_told}
 use Rattle.cc_general.specs.GeneralTold.{general_header, general_log}
 use Rattle.cc_ports.specs.declared.desk.To.TheVariants as outputs
 use Rattle.cc_rivals.specs.Wides.{AreWideLawsOf}
@@ -18,7 +18,7 @@ use Rattle.cc_run.specs.declared.status.Status.{Status}
 use Rattle.cc_run.specs.declared.status.Status.TheVariants as statuses
 use Rattle.cc_run.specs.declared.status.Stop.{Stop}
 use Rattle.cc_run.specs.declared.status.Stop.TheVariants as stops
-use Rattle.cc_run.specs.Generals.{AreWideOf, IsGeneralOfSome, TellsGeneralEvent, TellsGeneralRun, TellsGenerally, general_status_behind, generally_given, given_generally}
+use Rattle.cc_run.specs.Generals.{AreWideOf, IsGeneralOfSome, IsWritableGeneral, TellsGeneralEvent, TellsGeneralRun, TellsGenerally, general_status_behind, generally_given, given_generally}
 use Rattle.cc_run.specs.Modes.Generally.{EndsGenerally}
 use Rattle.cc_run.specs.Refusing.{refusal_text}
 use Rattle.cc_ports.specs.Moments.{Moment}
@@ -27,6 +27,7 @@ use Rattle.cc_run.specs.Wholes.{Given, joined, nothing, only_err}
 use Rattle.cc_wide.specs.declared.ground.WideGroundLaw.{WideGroundLaw}
 use Rattle.cc_wide.specs.WideLaws.{WideDescription, frame}
 use Rattle.cc_run.proofs.GeneralTexts.{ends_so, grown}
+use Rattle.cc_run.proofs.GeneralWritten.{more_written}
 use Rattle.cc_run.proofs.GivenSteps.{given_all, joined-nothing, moves_none, step_again, step_done, step_nothing, step_of, step_then}
 use Rattle.cc_run.proofs.SureFinds.{always, joined_both, status_is}
 
@@ -34,12 +35,12 @@ use Rattle.cc_run.proofs.SureFinds.{always, joined_both, status_is}
 
 module _ (w : WideDescription) (q : Query) (run : GeneralRun) (old new : GeneralView) (stands : Stands w q old run) where
   pub event_told : (event : GeneralEvent) (x y : Moment) (r : Result (Option Status) Stop) → TellsNext w q new run event → IsSame old new →
-      Step (given_generally (frame w) event) x y r → IfOk r (λ status. status ≡ general_status_behind event) → TellsGeneralEvent w q old.count old.budget run new x y r
-  event_told event x y r (after, open_yet, goes, next) same step status = record {
+      IsWritable old.signature event → IsGoodEvent w event → Step (given_generally (frame w) event) x y r → IfOk r (λ status. status ≡ general_status_behind event) → TellsGeneralEvent w q old.count old.budget run new x y r
+  event_told event x y r (after, open_yet, goes, next) same writable good step status = record {
     next = after;
     ends = general_status_behind event;
     more = record {
-      fair = subst (λ (b : ℕ). IsFairGeneral w q old.count b after) same.budget (subst (λ (n : Option ℕ). IsFairGeneral w q n new.budget after) same.count next.fair);
+      fair = fair;
       err = [];
       how = ends_so w q old.count run event after goes;
       given = given_generally (frame w) event;
@@ -48,7 +49,11 @@ module _ (w : WideDescription) (q : Query) (run : GeneralRun) (old new : General
     };
     ended = status_is r (general_status_behind event) status;
     keeps = always r (λ s none. next);
+    writes = more_written w q old.count old.budget run old.signature event after goes fair writable good;
   }
+    where
+      fair : IsFairGeneral w q old.count old.budget after
+      fair = subst (λ (b : ℕ). IsFairGeneral w q old.count b after) same.budget (subst (λ (n : Option ℕ). IsFairGeneral w q n new.budget after) same.count next.fair)
 
   pub limit_told : (refusal : Refusal) (x y : Moment) (r : Result (Option Status) Stop) → ReachesGeneralLimit w q old.count run refusal →
       Step (only_err (refusal_text refusal [])) x y r → IfOk r (λ status. status ≡ Some statuses.Refused) → TellsGeneralEvent w q old.count old.budget run new x y r
@@ -69,6 +74,7 @@ module _ (w : WideDescription) (q : Query) (run : GeneralRun) (old new : General
     };
     ended = status_is r (Some statuses.Refused) status;
     keeps = ended_keeps r status;
+    writes = λ written. written;
   }
     where
       ended_keeps : (r : Result (Option Status) Stop) → IfOk r (λ status. status ≡ Some statuses.Refused) → IfOk r (λ status. IsNone status → Stands w q new run)
@@ -91,6 +97,7 @@ module _ (w : WideDescription) (q : Query) (run : GeneralRun) (old new : General
     };
     ended = tt;
     keeps = tt;
+    writes = λ written. written;
   }
 
 -- behind an event that is not the last more is to come
@@ -111,6 +118,7 @@ pub record ToldSoFar (w : WideDescription) (q : Query) (first : GeneralRun) (gen
   pub given : Given
   pub grows : joined (generally_given w q first) given ≡ generally_given w q run
   pub moves : Moves {X = Unit {0}} given old new (Ok tt)
+  pub writes : IsWritableGeneral w q first → IsWritableGeneral w q run
 
 pub record IsTelling (described : Described) (start now : GeneralView) (old new : Moment) : Type 0 where
   pub same : IsSame start now
@@ -130,6 +138,7 @@ telling_begins described start m more of = record {
     given = nothing;
     grows = joined-nothing (generally_given w q run);
     moves = moves_none m tt;
+    writes = λ written. written;
   };
 }
 
@@ -181,8 +190,8 @@ module _ (described : Described) (start now next : GeneralView) (old mid new : M
         Step more.given mid new b → TellsGeneralRun w q start.count start.budget (generally_given w q so_far.run) last ends mid new b
     more_as last ends a b more step = record { fair = more.fair; err = more.err; how = more.how; given = more.given; grows = more.grows; step = step }
 
-    pub telling_ends : (status : Status) → r ≡ Ok (Some status) → TellsGenerally w q start.count start.budget (generally_given w q run) old new (Ok status)
-    telling_ends status was =
+    pub telling_ends : IsWritableGeneral w q run → (status : Status) → r ≡ Ok (Some status) → TellsGenerally w q start.count start.budget (generally_given w q run) old new (Ok status)
+    telling_ends written status was =
         let done : Result (Option Status) Stop = Ok (Some status) in
         let event : TellsGeneralEvent w q start.count start.budget so_far.run next mid new done = subst (λ (t : Result (Option Status) Stop). TellsGeneralEvent w q start.count start.budget so_far.run next mid new t) was event_at in
         let more = event.more in
@@ -192,11 +201,12 @@ module _ (described : Described) (start now next : GeneralView) (old mid new : M
           ends = event.ends;
           more = more_behind ended event.next event.ends (more_as event.next event.ends done ended more (step_done more.given mid new done (Some status) status more.step refl));
           ended = event.ended;
+          writable = event.writes (so_far.writes written);
         }
 
-    pub telling_stops : (e : Stop) (s : Result Status Stop) → r ≡ Err e → IsErrAnd s (λ d. d ≡ e) → TellsGenerally w q start.count start.budget (generally_given w q run) old new s
-    telling_stops e (Ok status) was same = absurd same
-    telling_stops e (Err stop) was same =
+    pub telling_stops : IsWritableGeneral w q run → (e : Stop) (s : Result Status Stop) → r ≡ Err e → IsErrAnd s (λ d. d ≡ e) → TellsGenerally w q start.count start.budget (generally_given w q run) old new s
+    telling_stops written e (Ok status) was same = absurd same
+    telling_stops written e (Err stop) was same =
         let event = event_at in
         let more = event.more in
         let stopped : Result Status Stop = Err stop in
@@ -205,6 +215,7 @@ module _ (described : Described) (start now next : GeneralView) (old mid new : M
           ends = event.ends;
           more = more_behind stopped event.next event.ends (more_as event.next event.ends r stopped more (step_again more.given mid new r e stopped more.step was same));
           ended = tt;
+          writable = event.writes (so_far.writes written);
         }
 
   abbrev none : Option Status
@@ -246,6 +257,7 @@ module _ (described : Described) (start now next : GeneralView) (old mid new : M
             given = behind.given;
             grows = behind.grows ∙ grown_bare w q event.next more.err event.ends event.ended more.how;
             moves = given_all behind.given old new tt behind.step;
+            writes = λ written. event.writes ((so_far w q run is general stands).writes written);
           }
 
 -- ---- behind the header of the log
@@ -279,6 +291,7 @@ module _ (w : WideDescription) (q : Query) (general : GeneralView) (stands : Sta
         ends = None;
         more = record { fair = stands.fair; err = []; how = refl; given = header_given; grows = begun_is w q; step = step_again header_given x y r e stopped step was same };
         ended = tt;
+        writable = tt;
       }
 
   pub header_told : {X : Type 0} (x y z : Moment) (r : Result X Stop) (v : X) (s : Result Status Stop) → Step header_given x y r → r ≡ Ok v →
@@ -297,4 +310,5 @@ module _ (w : WideDescription) (q : Query) (general : GeneralView) (stands : Sta
           step = step_then header_given more.given x y z r v s step was more.step;
         };
         ended = told.ended;
+        writable = told.writable;
       }

@@ -13,7 +13,8 @@ use Rattle.cc_defs.specs.Runs.{Section, range_of, told, told_row}
 use Rattle.cc_general.specs.declared.event.GeneralEvent.{GeneralEvent}
 use Rattle.cc_general.specs.declared.event.GeneralEvent.TheVariants as events
 use Rattle.cc_general.specs.GeneralRuns.{GeneralEnding, Complete, Asked, NoneAtAll, SpentAmong, SpentOver, GeneralRun, Shown, general_horizon}
-use Rattle.cc_general.specs.Generals.{GoesOnBy, IsSpentWith, IsUnspent}
+use Rattle.cc_general.specs.Accepted.{IsUnspentEnding}
+use Rattle.cc_general.specs.Generals.{GoesOnBy, IsSpentWith}
 use Rattle.cc_general.specs.GeneralTold.{ending_of, general_header, general_log, general_told, none_told, shown_text, shown_told, spent_text}
 use Rattle.cc_query.specs.Parts.{section_lines}
 use Rattle.cc_run.specs.Generals.{general_status_behind, generally_given, given_generally, heading_for, lines_text}
@@ -113,7 +114,7 @@ module _ (q : Query) where
     ended_log how = ap (λ (l : List ℕ). log ++ l) (append-nil (spent_text at how)) ∙ ap (λ (l : List ℕ). l ++ spent_text at how) (sym (append-nil log))
 
     -- no section is logged where no search is spent
-    unlogged : (how : GeneralEnding) → IsUnspent how → spent_text at how ≡ []
+    unlogged : (how : GeneralEnding) → IsUnspentEnding how → spent_text at how ≡ []
     unlogged Complete is = refl
     unlogged Asked is = refl
     unlogged NoneAtAll is = refl

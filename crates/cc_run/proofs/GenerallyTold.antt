@@ -1,11 +1,14 @@
 -- A run over candidates that is told, from its steps.
-use Rattle.std.proofs.Common.{◌≡◌, ◌∙◌, refl, sym, ap, subst, ℕ, List, [], Option, Some, None, Result, Ok, Err, IfSome, IfOk, inl, inr}
+use Rattle.std.proofs.Common.{◌≡◌, ◌∙◌, refl, sym, ap, subst, arith, ℕ, ◌≤◌, List, [], Option, Some, None, Result, Ok, Err, IfSome, IfOk, inl, inr}
 use Rattle.std.specs.Prelude.{is_some}
 use Rattle.cc_defs.specs.declared.refusal.Refusal.{Refusal}
+use Rattle.cc_defs.specs.Limits.{most_steps}
+use Rattle.cc_defs.specs.LogTexts.{IsShort}
 use Rattle.cc_defs.specs.Resolved.{Query}
-use Rattle.cc_defs.specs.Runs.{optional}
+use Rattle.cc_defs.specs.Runs.{optional, range_of}
 use Rattle.cc_describe.specs.Places.{Files}
-use Rattle.cc_general.specs.GeneralRuns.{GeneralEnding, Complete, Asked, NoneAtAll, SpentAmong, SpentOver, GeneralRun}
+use Rattle.cc_general.specs.Accepted.{GeneralLogsAreAccepted}
+use Rattle.cc_general.specs.GeneralRuns.{GeneralEnding, Complete, Asked, NoneAtAll, SpentAmong, SpentOver, GeneralRun, general_horizon}
 use Rattle.cc_ports.specs.Contents.{Contents}
 use Rattle.cc_run.specs.declared.status.Status.{Status}
 use Rattle.cc_run.specs.declared.status.Status.TheVariants as statuses
@@ -71,10 +74,12 @@ generally_may w q count run err (Some other) status (inr refused) is =
     let same : other ≡ status = cc in subst IsEndStatus (sym refused.3 ∙ same) tt
 
 pub prints_generally : {X : Type 0} (words : List Text) (generally : Generally) (w : WideDescription) (q : Query) (names : List Text) (x y z : Moment) (b : Result X Stop) (v : X) (r : Result Status Stop) →
-    request_of words ≡ Some (ToListGenerally generally) → names ≡ optional generally.log → IfSome x.told (λ c. NamesWide c.files (named_generally generally) w q) →
-    Begins (is_some generally.log) names x y b → b ≡ Ok v → TellsGenerally w q generally.count generally.budget nothing y z r → Prints words (is_some generally.log) [] x z r
-prints_generally words generally w q names x y z b v r asked named is at was told =
+    GeneralLogsAreAccepted → (range_of q).1 ≤ most_steps → request_of words ≡ Some (ToListGenerally generally) → names ≡ optional generally.log →
+    IfSome x.told (λ c. NamesWide c.files (named_generally generally) w q) → Begins (is_some generally.log) names x y b → b ≡ Ok v → TellsGenerally w q generally.count generally.budget nothing y z r → Prints words (is_some generally.log) [] x z r
+prints_generally words generally w q names x y z b v r law low asked named is at was told =
     let more = told.more in
+    let within = more.fair.within in
+    let short : IsShort (general_horizon q told.run) = omega arith in
     let whole : Whole = record { given = record (generally_given w q told.run) { err = more.err }; begun = is_some generally.log; ends = told.ends } in
     let lists : (files : Files) → NamesWide files (named_generally generally) w q → ListsGenerally generally files whole = λ files is. record {
       description = w;
@@ -84,6 +89,7 @@ prints_generally words generally w q names x y z b v r asked named is at was tol
       fair = more.fair;
       out = refl;
       log = refl;
+      accepted = λ unspent. law w q generally.count generally.budget told.run more.fair unspent short told.writable;
       begun = refl;
       ends = more.how;
     } in

@@ -9,6 +9,7 @@ pub mod Explained
 pub mod Exported
 pub mod GeneralFinds
 pub mod GeneralTexts
+mod GeneralWritten
 pub mod GenerallyChecked
 pub mod GenerallyTold
 pub mod GivenSteps

@@ -1,5 +1,6 @@
 -- What general mode works on, and how a run over candidates is told, step by step.
 use Rattle.std.specs.Prelude.{◌≡◌, ◌⊎◌, ℕ, ◌≤◌, List, [], ◌∷◌, ◌++◌, false, flat_map, Option, Some, None, IfOk, IsNone, IsSome, Result}
+use Rattle.std.specs.List.{AllByRecursion}
 use Rattle.cc_asked.specs.Descriptions.{IsWideDescriptionOf}
 use Rattle.cc_defs.specs.declared.event.Event.TheVariants as said
 use Rattle.cc_defs.specs.declared.event.Ending.TheVariants as endings
@@ -19,7 +20,8 @@ use Rattle.cc_describe.specs.declared.description.Described.{Described}
 use Rattle.cc_form.specs.Queries.{IsQueryAt}
 use Rattle.cc_general.specs.declared.event.GeneralEvent.{GeneralEvent}
 use Rattle.cc_general.specs.declared.event.GeneralEvent.TheVariants as events
-use Rattle.cc_general.specs.GeneralRuns.{GeneralRun, IsFairGeneral}
+use Rattle.cc_general.specs.Accepted.{IsWritableShown}
+use Rattle.cc_general.specs.GeneralRuns.{GeneralRun, IsFairGeneral, general_horizon}
 use Rattle.cc_general.specs.Generals.{GeneralView, IsGeneralOf, Stands}
 use Rattle.cc_general.specs.GeneralTold.{general_log, rivals_heading}
 use Rattle.cc_rivals.specs.Wides.{AreWideLawsFor, AreWideLawsOf}
@@ -103,6 +105,10 @@ general_status_behind (events.Spent horizon listed rivals_of lines) = Some statu
 abbrev pub generally_given : WideDescription → Query → GeneralRun → Given
 generally_given w q run = record { out = general_text w q run; err = []; log = general_log q run }
 
+-- all that a run told of its histories can be written
+abbrev pub IsWritableGeneral : WideDescription → Query → GeneralRun → Type 0
+IsWritableGeneral w q run = AllByRecursion (IsWritableShown w (general_horizon q run)) run.shown
+
 -- Behind what was told before, a step tells more, up to this run.
 pub record TellsGeneralRun {X : Type 0} (w : WideDescription) (q : Query) (count : Option ℕ) (budget : ℕ) (before : Given) (run : GeneralRun) (ends : Option Status) (old new : Moment) (result : Result X Stop) : Type 0 where
   pub fair : IsFairGeneral w q count budget run
@@ -119,6 +125,7 @@ pub record TellsGeneralEvent (w : WideDescription) (q : Query) (count : Option �
   pub more : TellsGeneralRun w q count budget (generally_given w q run) next ends old new result
   pub ended : IfOk result (λ status. ends ≡ status)
   pub keeps : IfOk result (λ status. IsNone status → Stands w q general next)
+  pub writes : IsWritableGeneral w q run → IsWritableGeneral w q next
 
 -- All of a run is told behind that.
 pub record TellsGenerally (w : WideDescription) (q : Query) (count : Option ℕ) (budget : ℕ) (before : Given) (old new : Moment) (result : Result Status Stop) : Type 0 where
@@ -126,6 +133,7 @@ pub record TellsGenerally (w : WideDescription) (q : Query) (count : Option ℕ)
   pub ends : Option Status
   pub more : TellsGeneralRun w q count budget before run ends old new result
   pub ended : IfOk result (λ status. ends ≡ Some status)
+  pub writable : IsWritableGeneral w q run
 
 -- there are a description and a query that it is about, and a run that it stands for
 abbrev pub IsGeneralOfSome : Described → GeneralView → Type 0

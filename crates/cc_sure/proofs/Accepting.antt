@@ -1,24 +1,19 @@
 -- The log of a fair run in which no search was spent is accepted.
 use Rattle.std.proofs.Common.{◌≡◌, ◌∙◌, ℕ, zero, suc, ◌+◌, ◌≤◌, ◌⊎◌, inl, inr, List, [], ◌∷◌, ◌++◌, map, flat_map, length, Option, Some, None, refl, sym, subst, ap, arith, append_assoc}
-use Rattle.std.specs.Prelude.{false, IfSome, IsNone}
+use Rattle.std.specs.Prelude.{IfSome, IsNone}
 use Rattle.std.specs.List.{AllByRecursion}
 use Rattle.cc_check.specs.declared.silent.SilentVerdict.TheVariants as verdicts
-use Rattle.cc_check.specs.Clauses.{as_text}
 use Rattle.cc_check.specs.Silent.{BeginsSection, LeadsTo, SilentSection}
-use Rattle.cc_defs.specs.declared.log.EndWord.{EndWord}
 use Rattle.cc_defs.specs.declared.log.EndWord.TheVariants as words
-use Rattle.cc_defs.specs.declared.log.LogLine.{LogLine}
-use Rattle.cc_defs.specs.declared.log.LogLine.TheVariants as lines
-use Rattle.cc_defs.specs.Clauses.{Literal}
 use Rattle.cc_defs.specs.Description.{Description}
 use Rattle.cc_defs.specs.Histories.{AreFirst}
-use Rattle.cc_defs.specs.LogTexts.{IsFormed, IsShort, line_text, lines_in}
+use Rattle.cc_defs.specs.LogTexts.{IsShort, line_text, lines_in}
 use Rattle.cc_defs.specs.Resolved.{Query}
-use Rattle.cc_defs.specs.Runs.{Section, Step, Derive, Tell, AreFairSteps, EndsWith, optional, range_of, row_told}
-use Rattle.cc_defs.specs.Sections.{Axioms, IsFound, Right, EndsRightly}
-use Rattle.cc_query.specs.Parts.{section_lines, step_line}
-use Rattle.cc_query.proofs.AcceptedLines.{IsWithin, all_append, lines_cut, read_back}
-use Rattle.cc_query.proofs.AcceptedSections.{IsGoodClause, good_both, good_resolved, reached}
+use Rattle.cc_defs.specs.Runs.{Section, EndsWith, optional, range_of}
+use Rattle.cc_defs.specs.Sections.{Right}
+use Rattle.cc_query.specs.Parts.{section_lines}
+use Rattle.cc_query.proofs.AcceptedEmpty.{lines_within, section_found}
+use Rattle.cc_query.proofs.AcceptedLines.{all_append, all_both, lines_cut}
 use Rattle.cc_sure.specs.declared.check.AtomHeading.{AtomHeading}
 use Rattle.cc_sure.specs.Accepted.{IsUnspent, IsUnspentEnding, IsWritableTold, SureLogsAreAccepted, never_of}
 use Rattle.cc_sure.specs.Sought.{PassesNoLimit, Sought, Any, With, sought_axioms}
@@ -26,44 +21,6 @@ use Rattle.cc_sure.specs.SureLogs.{IsAtomHeading, IsInRange, sure_subject}
 use Rattle.cc_sure.specs.SureRuns.{Settled, SureEnding, Complete, NoneAtAll, Spent, SureRun, Tried, Known, Shown, Never, AreTrueSettled, AreTrueTried, IsFairSure, LooksFor, settled_examples, shown_at, sought_next, sure_horizon}
 use Rattle.cc_sure.specs.SureTold.{SureTold, NoneAt, ExampleIs, NeverSo, AnswersAre, Ends, atom_heading, none_told, settled_told, sure_lines, sure_told, tried_told}
 use Rattle.cc_sure.proofs.AtomLines.{all_unread, heading_cut}
-
-all_both : {A : Type 0} (P Q : A → Type 0) (xs : List A) → AllByRecursion P xs → AllByRecursion Q xs → AllByRecursion (λ x. P x × Q x) xs
-all_both P Q [] one other = tt
-all_both P Q (x ∷ xs) one other = ((one.0, other.0), all_both P Q xs one.1 other.1)
-
--- ---- a section that tells no row, and ends with `empty`
-
--- the lines behind its heading
-abbrev empty_lines : List Step → List LogLine
-empty_lines steps = map step_line steps ++ lines.End words.Empty ∷ []
-
-lines_are : (section : Section) → EndsWith words.Empty section → section_lines section ≡ empty_lines section.steps
-lines_are section ends = ap (λ (word : Option EndWord). map step_line section.steps ++ map lines.End (optional word)) ends
-
-all_within : (steps : List Step) → AllByRecursion IsWithin (empty_lines steps)
-all_within [] = (tt, tt)
-all_within (Derive clause chain ∷ steps) = (tt, all_within steps)
-all_within (Tell row ∷ steps) = (tt, all_within steps)
-
--- without blocks, at some line
-abbrev IsFoundEmpty : Axioms → List (List Literal) → (line : ℕ) → List (List ℕ) → Type 0
-IsFoundEmpty axioms before line texts = (last : ℕ) × IsFound (as_text false) axioms before 0 line texts (Right words.Empty 0 last)
-
-found_empty : (axioms : Axioms) (steps : List Step) (more : List (List ℕ)) (before after : List (List Literal)) (line : ℕ) →
-    AllByRecursion (IsGoodClause axioms.variables) before → flat_map row_told steps ++ more ≡ [] → AreFairSteps axioms.sizes before steps after →
-    AllByRecursion IsFormed (empty_lines steps) → EndsRightly after words.Empty → IsFoundEmpty axioms before line (map line_text (empty_lines steps))
-found_empty axioms [] more before after line good silent fair formed ends = (
-  line,
-  inr (lines.End words.Empty, read_back (lines.End words.Empty) formed.0, inl (subst (λ (w : List (List Literal)). EndsRightly w words.Empty) fair ends, refl)),
-)
-found_empty axioms (Derive clause chain ∷ steps) more before after line good silent (none, fair_line, fair) formed ends =
-    let is_good = reached (IsGoodClause axioms.variables) (good_resolved axioms.variables) before good chain clause fair_line.reached in
-    let (last, found) = found_empty axioms steps more (before ++ clause ∷ []) after (line + 1)
-    (all_append (IsGoodClause axioms.variables) before (clause ∷ []) good (is_good, tt)) silent fair formed.1 ends in (
-      last,
-      inr (lines.Derived clause chain, read_back (lines.Derived clause chain) formed.0, inr (inr (none, is_good.0, is_good.1, fair_line.reached, found))),
-    )
-found_empty axioms (Tell row ∷ steps) more before after line good silent fair formed ends = absurd cc
 
 module _ (d : Description) (q : Query) (budget horizon : ℕ) where
   abbrev heading_at : (position value : ℕ) → AtomHeading
@@ -121,17 +78,6 @@ module _ (d : Description) (q : Query) (budget horizon : ℕ) where
   abbrev IsGoodTold : SureTold → Type 0
   IsGoodTold told = IsTrueTold told × IsWritableTold d q horizon told
 
-  section_found : (position value : ℕ) (section : Section) (line : ℕ) → IsGoodTold (NeverSo position value section) →
-      IsFoundEmpty (sought_axioms d q horizon (With position value)) (sought_axioms d q horizon (With position value)).clauses line (map line_text (section_lines section))
-  section_found position value section line ((range, looks, ends), (in_row, at_value, formed, good)) =
-      let axioms = sought_axioms d q horizon (With position value) in
-      let fair = looks.tells.fair in
-      let are = lines_are section ends in
-      subst (λ (all : List LogLine). IsFoundEmpty axioms axioms.clauses line (map line_text all)) (sym are)
-      (found_empty axioms section.steps (optional section.last) axioms.clauses fair.clauses line
-      (good_both axioms.variables axioms.clauses good.clauses good.over) looks.silent fair.steps
-      (subst (AllByRecursion IsFormed) are formed) (subst (λ (word : Option EndWord). IfSome word (EndsRightly fair.clauses)) ends fair.ends))
-
   -- the texts from a line on: sections, as many as atoms are told to be impossible
   record IsLed (line : ℕ) (texts : List (List ℕ)) (count : ℕ) : Type 0 where
     pub begins : BeginsSection (sure_subject d q) texts
@@ -160,9 +106,10 @@ module _ (d : Description) (q : Query) (budget horizon : ℕ) where
       IsLed line (atom_heading horizon position value ∷ (map line_text (section_lines section) ++ texts_of others)) (suc (count_of others))
   section_led position value section others line short good next =
       let heading = heading_at position value in
-      let reads : IsAtomHeading (atom_heading horizon position value) heading = record { horizon = short; position = good.1.0; value = good.1.1; spelled = refl } in
+      let ((range, looks, ends), (in_row, at_value, formed, good_axioms)) = good in
+      let reads : IsAtomHeading (atom_heading horizon position value) heading = record { horizon = short; position = in_row; value = at_value; spelled = refl } in
       let inside = map line_text (section_lines section) in
-      let (last, found) = section_found position value section (line + 1) good in
+      let (last, found) = section_found section ends (sought_axioms d q horizon (With position value)) budget (line + 1) looks.tells.fair looks.silent good_axioms formed in
       record {
         begins = (heading, reads);
         sections = record { heading = heading; line = line; texts = inside } ∷ next.sections;
@@ -174,10 +121,10 @@ module _ (d : Description) (q : Query) (budget horizon : ℕ) where
             parts = refl;
             line_is = refl;
             reads = reads;
-            inside = all_unread (section_lines section) (subst (AllByRecursion IsWithin) (sym (lines_are section good.0.2)) (all_within section.steps));
+            inside = all_unread (section_lines section) (lines_within section ends);
             next = next.begins;
           },
-          (good.0.0, tt, (Right words.Empty 0 last, found, refl)),
+          (range, tt, (Right words.Empty 0 last, found, refl)),
           next.leads,
         );
         as_many = ap suc next.as_many;

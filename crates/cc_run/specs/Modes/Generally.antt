@@ -2,6 +2,8 @@
 use Rattle.std.specs.Prelude.{◌≡◌, ◌⊎◌, ℕ, List, [], length, Option, Some, None, IsNone, IsSome, is_some}
 use Rattle.std.specs.Option.{option_or}
 use Rattle.cc_asked.specs.Descriptions.{wide_description_of}
+use Rattle.cc_check.specs.Silent.{IsSilentVerdict}
+use Rattle.cc_check.specs.declared.silent.SilentVerdict.TheVariants as verdicts
 use Rattle.cc_defs.specs.declared.refusal.Refusal.{Refusal}
 use Rattle.cc_defs.specs.Events.{out_text}
 use Rattle.cc_defs.specs.Resolved.{Query}
@@ -9,6 +11,8 @@ use Rattle.cc_describe.specs.declared.heads.Heads.TheVariants as heads
 use Rattle.cc_describe.specs.Describing.{AreToOpen, wide_behind}
 use Rattle.cc_describe.specs.FirstRefusal.{declared_in, file_named}
 use Rattle.cc_describe.specs.Places.{Files, Place, opened_in}
+use Rattle.cc_general.specs.Accepted.{IsUnspent}
+use Rattle.cc_general.specs.GeneralLogs.{general_subject}
 use Rattle.cc_general.specs.GeneralRuns.{GeneralEnding, GeneralRun, IsFairGeneral, ReachesGeneralLimit, general_horizon}
 use Rattle.cc_general.specs.GeneralTold.{ending_of, general_log, general_told}
 use Rattle.cc_run.specs.declared.status.Status.{Status}
@@ -93,6 +97,8 @@ pub record ListsGenerally (generally : Generally) (files : Files) (whole : Whole
   pub fair : IsFairGeneral description query generally.count generally.budget run
   pub out : whole.given.out ≡ general_text description query run
   pub log : whole.given.log ≡ general_log query run
+  -- unless a search was spent, a checker accepts the log, with a section for each history
+  pub accepted : IsUnspent run → IsSilentVerdict (general_subject description query) whole.given.log (verdicts.Accepted (length run.shown))
   pub begun : whole.begun ≡ is_some generally.log
   pub ends : EndsGenerally description query generally.count run whole.given.err whole.ends
 

@@ -7,7 +7,7 @@ ghost use Rattle.cc_describe.specs.declared.heads.Heads.TheVariants as heads;
 ghost use Rattle.cc_describe.specs.Describing.{AsksFormulas, Describes, HasWideForms, SaysAll};
 ghost use Rattle.cc_general.specs.GeneralRuns.{GeneralRun};
 ghost use Rattle.cc_general.specs.Generals.{HasMore, IsGeneralOf, IsSame, Stands, left_of};
-ghost use Rattle.cc_run.specs.Generals.{AreWideOf, AreWideSearchable, IsGeneralOfSome, TellsGeneralEvent, TellsGenerally, generally_given};
+ghost use Rattle.cc_run.specs.Generals.{AreWideOf, AreWideSearchable, IsGeneralOfSome, IsWritableGeneral, TellsGeneralEvent, TellsGenerally, generally_given};
 ghost use Rattle.cc_run.specs.Modes.Generally.{NamesWide, named_generally};
 ghost use Rattle.cc_run.specs.Stops.{Prints};
 ghost use Rattle.cc_run.specs.Tasks.{request_of};
@@ -29,6 +29,7 @@ use cc_arena::Terms;
 use cc_defs::Fault;
 use cc_describe::Described;
 use cc_general::General;
+use cc_general::laws::general_logs_are_accepted;
 use cc_ports::{Desk, To};
 use cc_words::GeneralAsked;
 use std::alloc::Global;
@@ -72,8 +73,9 @@ fn tell_all<D: Desk>(
     requires of { IsGeneralOfSome described.now general }
     ensures { (w : WideDescription) (q : Query) (run : GeneralRun) →
         IsWideDescriptionOf described.now w → IsGeneralOf general.entry w q →
-        Stands w q general.entry run → TellsGenerally w q general.entry.count general.entry.budget
-        (generally_given w q run) (D.seen desk.old) (D.seen desk.new) result }
+        Stands w q general.entry run → IsWritableGeneral w q run →
+        TellsGenerally w q general.entry.count general.entry.budget (generally_given w q run)
+        (D.seen desk.old) (D.seen desk.new) result }
 {
     loop {
         match tell_next(alloc, desk, described, &mut general)? {
@@ -140,6 +142,7 @@ fn list_generally<D: Desk>(
         IfSome (D.seen desk.old).told (λ before. NamesWide before.files (named_generally generally)
         w q) → Prints words (is_some generally.log) [] (D.seen desk.old) (D.seen desk.new) result }
 {
+    general_logs_are_accepted();
     begin_log(desk, asked.log)?;
     tell_run(alloc, desk, described, prepared, asked.count, asked.budget)
 }

@@ -13,11 +13,11 @@ loop-general-preserved g c =
     (c.in_ok-status.was ∙ ap Ok c.in-None.is) c.tell_next.ensures.same next.0
 
 pub returns-in_err-status : goal.returns-in_err-status
-returns-in_err-status g c = λ w q run is general stands.
+returns-in_err-status g c = λ w q run is general stands written.
     telling_stops c.args.described.now c.args.general c.loop-general.general c.tell_next.new.general _ _ _ c.tell_next.result c.loop-general.invariant c.tell_next.ensures.tells
-    w q run is general stands c.in_err-status.field-0.0 c.from_residual.result c.in_err-status.was c.from_residual.ensures.1
+    w q run is general stands written c.in_err-status.field-0.0 c.from_residual.result c.in_err-status.was c.from_residual.ensures.1
 
 pub returns-in-Some : goal.returns-in-Some
-returns-in-Some g c = λ w q run is general stands.
+returns-in-Some g c = λ w q run is general stands written.
     telling_ends c.args.described.now c.args.general c.loop-general.general c.tell_next.new.general _ _ _ c.tell_next.result c.loop-general.invariant c.tell_next.ensures.tells
-    w q run is general stands c.in-Some.status (c.in_ok-status.was ∙ ap Ok c.in-Some.is)
+    w q run is general stands written c.in-Some.status (c.in_ok-status.was ∙ ap Ok c.in-Some.is)

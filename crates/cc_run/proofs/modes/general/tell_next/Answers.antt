@@ -11,6 +11,7 @@ tell_general-requires-clause-writable g c = subst (λ s. IsWritable s c.in-Ok.ev
 pub returns-in-Ok-clause-tells : goal.returns-in-Ok-clause-tells
 returns-in-Ok-clause-tells g c = λ w q run is general stands.
     event_told w q run c.args.general.now c.next.new.self stands c.in-Ok.event _ _ c.tell_general.result (c.in-Ok.ensures.tells w q run general stands) c.next.ensures.same
+    c.in-Ok.ensures.writable (c.in-Ok.ensures.good w q general)
     (step_as _ _ _ _ c.tell_general.result (given_framed c.args.described.now w is c.in-Ok.event)
     (c.tell_general.ensures.told (bare c.args.described.now w is) (bare_is c.args.described.now w is))) c.tell_general.ensures.status
 

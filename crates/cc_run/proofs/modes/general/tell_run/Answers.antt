@@ -26,4 +26,4 @@ returns g c = λ w q is of.
     let general = general_of c.new-general.result _ _ _ w q new.signature new.laws new.query of in
     asked_so w q c.new-general.result.count c.args.count c.new-general.result.budget c.args.budget _ _ c.tell_all.result new.count new.budget
     (header_told w q c.new-general.result (new.begun w q general) _ _ _ c.give.result c.in_ok-give.field-0 c.tell_all.result c.give.ensures c.in_ok-give.was
-    (c.tell_all.ensures w q _ is general (new.begun w q general)))
+    (c.tell_all.ensures w q _ is general (new.begun w q general) tt))
