@@ -1,6 +1,6 @@
 -- Entries at the front of bytes: what stands behind their kinds, and that bytes begin with one at most.
-use Rattle.std.proofs.Common.{◌≡◌, ◌≢◌, ℕ, ◌+◌, ◌*◌, ◌/◌, Bool, true, false, cond, eqb, ltb, List, ◌∷◌, ◌++◌, Option, Some, None, Result, length, get_or, flat_map, refl, sym, ap, subst, ◌∙◌, arith, append_assoc}
-use Rattle.std.specs.Prelude.{IfOk, MatchOption}
+use Rattle.std.proofs.Common.{◌≡◌, ◌≢◌, ℕ, ◌+◌, ◌*◌, ◌/◌, Bool, true, false, cond, eqb, ltb, List, ◌∷◌, ◌++◌, Option, length, get_or, flat_map, refl, sym, ap, subst, ◌∙◌, arith, append_assoc}
+use Rattle.std.specs.Prelude.{MatchOption}
 use Rattle.std.specs.Borrow.{Bor}
 use Rattle.cc_defs.specs.declared.log.EndWord.{EndWord}
 use Rattle.cc_defs.specs.declared.log.EndWord.TheVariants as words
@@ -11,7 +11,8 @@ use Rattle.cc_defs.specs.LogBytes.{IsNumber, HasNumbers, end_word_bytes, entry_b
 use Rattle.cc_defs.specs.LogTexts.{IsShortLiteral}
 use Rattle.cc_defs.specs.LogBytes.{BeginsWith, HasNoEntry}
 use Rattle.cc_check.specs.Entries.{IsNumberIn, HasNoNumberIn, AreNumbersIn, HasNoNumbersIn, AreLiteralsIn, HasNoHeading, HasNoEnd, IsEntryRead}
-use Rattle.cc_check.specs.declared.line.Kind.{Kind}
+use Rattle.cc_check.specs.declared.line.LineParts.{LineParts}
+use Rattle.cc_check.specs.Readers.{literals_of, numbers_of}
 use Rattle.cc_check.specs.Laws.{OneEntry}
 use Rattle.cc_check.proofs.NumberBytes.{one_within, one_number_in, one_literal_in, cells}
 use Rattle.cc_check.proofs.ListBytes.{one_list_in}
@@ -176,24 +177,18 @@ module _ (body : List ℕ) (count : ℕ) (after : List ℕ) (made : List Literal
 
 -- ---- by what was read
 
-pub read_behind : {E : Type 0} (kind : ℕ) (bytes body : List ℕ) (r : Result (Option (Kind × Bor (List ℕ))) E) (literals : List Literal) (numbers : List ℕ) → bytes ≡ kind ∷ body →
-    IfOk r (λ read. MatchOption read (HasNoEntry (kind ∷ body)) (λ entry. IsEntryRead (kind ∷ body) literals numbers entry.0 entry.1.now)) →
-    IfOk r (λ read. MatchOption read (HasNoEntry bytes) (λ entry. IsEntryRead bytes literals numbers entry.0 entry.1.now))
-read_behind kind bytes body r literals numbers is h =
-    subst (λ (t : List ℕ). IfOk r (λ read. MatchOption read (HasNoEntry t) (λ entry. IsEntryRead t literals numbers entry.0 entry.1.now))) (sym is) h
+pub read_behind : (kind : ℕ) (bytes body : List ℕ) (r : Option (LineParts × Bor (List ℕ))) → bytes ≡ kind ∷ body →
+    MatchOption r (HasNoEntry (kind ∷ body)) (λ read. IsEntryRead (kind ∷ body) (literals_of read.0.literals) (numbers_of read.0.numbers) read.0.kind read.1.now) →
+    MatchOption r (HasNoEntry bytes) (λ read. IsEntryRead bytes (literals_of read.0.literals) (numbers_of read.0.numbers) read.0.kind read.1.now)
+read_behind kind bytes body r is h =
+    subst (λ (t : List ℕ). MatchOption r (HasNoEntry t) (λ read. IsEntryRead t (literals_of read.0.literals) (numbers_of read.0.numbers) read.0.kind read.1.now)) (sym is) h
 
-no_other : (bytes : List ℕ) → get_or bytes 0 0 ≢ 3 → get_or bytes 0 0 ≢ 4 → HasNoHeading bytes → HasNoEnd bytes → HasNoEntry bytes
+pub no_other : (bytes : List ℕ) → get_or bytes 0 0 ≢ 3 → get_or bytes 0 0 ≢ 4 → HasNoHeading bytes → HasNoEnd bytes → HasNoEntry bytes
 no_other bytes not_derived not_block heading end (lines.Section conditions horizon) rest h = heading conditions horizon rest h
 no_other bytes not_derived not_block heading end (lines.Derived clause chain) rest h =
     not_derived (ap (λ (t : List ℕ). get_or t 0 0) (whole bytes (lines.Derived clause chain) rest h))
 no_other bytes not_derived not_block heading end (lines.Block row) rest h = not_block (ap (λ (t : List ℕ). get_or t 0 0) (whole bytes (lines.Block row) rest h))
 no_other bytes not_derived not_block heading end (lines.End word) rest h = end word rest h
-
-pub other_read : (bytes : List ℕ) (r : Option (Kind × Bor (List ℕ))) (literals : List Literal) (numbers : List ℕ) → get_or bytes 0 0 ≢ 3 → get_or bytes 0 0 ≢ 4 →
-    MatchOption r (HasNoHeading bytes × HasNoEnd bytes) (λ entry. (ls : List Literal) (ns : List ℕ) → IsEntryRead bytes ls ns entry.0 entry.1.now) →
-    MatchOption r (HasNoEntry bytes) (λ entry. IsEntryRead bytes literals numbers entry.0 entry.1.now)
-other_read bytes None literals numbers not_derived not_block h = no_other bytes not_derived not_block h.0 h.1
-other_read bytes (Some entry) literals numbers not_derived not_block h = h literals numbers
 
 -- ---- bytes begin with one entry at most
 

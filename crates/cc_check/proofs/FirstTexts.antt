@@ -14,7 +14,9 @@ use Rattle.cc_check.specs.declared.line.Kind.{Kind}
 use Rattle.cc_check.specs.declared.line.Kind.TheVariants as kinds
 use Rattle.cc_check.specs.Entries.{HasNoHeading, IsEntryRead}
 use Rattle.cc_check.specs.Parts.{IsCut}
-use Rattle.cc_check.specs.Reading.{IsFirstRead}
+use Rattle.cc_check.specs.declared.line.LineParts.{LineParts}
+use Rattle.cc_check.specs.Readers.{literals_of, numbers_of}
+use Rattle.cc_check.specs.Reading.{IsFirstRead, IsReadIn}
 use Rattle.cc_check.specs.Texts.{AreTexts, EndsLine, EndsTexts, IsFirstLine, IsFirstText}
 use Rattle.cc_check.proofs.EntryBytes.{one_entry}
 
@@ -89,8 +91,8 @@ module _ (bytes : List ℕ) (none : HasNoEntry bytes) where
     behind = λ texts are. last_behind texts some are;
   }
 
-  pub unread_first : (literals : List Literal) (numbers : List ℕ) → 0 < length bytes → IsFirstRead Second bytes literals numbers None []
-  unread_first literals numbers some = record { text = bytes; first = last_text_first some; read = no_form }
+  pub unread_first : 0 < length bytes → IsFirstRead Second bytes None []
+  unread_first some = record { text = bytes; first = last_text_first some; read = no_form }
 
   pub unread_cut : 0 < length bytes → IsCut Second bytes None []
   unread_cut some = record { text = bytes; first = last_text_first some; read = λ conditions horizon is. no_form (lines.Section conditions horizon) is }
@@ -98,13 +100,20 @@ module _ (bytes : List ℕ) (none : HasNoEntry bytes) where
 begun_first : (bytes rest : List ℕ) (line : LogLine) (h : BeginsWith bytes line rest) → IsFirstText Second bytes h.entry rest
 begun_first bytes rest line h = entry_text_first bytes h.entry rest line h.read h.spelled
 
-pub entry_first : (bytes : List ℕ) (literals : List Literal) (numbers : List ℕ) (kind : Kind) (rest : List ℕ) → IsEntryRead bytes literals numbers kind rest →
-    IsFirstRead Second bytes literals numbers (Some kind) rest
-entry_first bytes literals numbers kinds.Heading rest (conditions, horizon, h) =
-    record { text = h.entry; first = begun_first bytes rest (lines.Section conditions horizon) h; read = (conditions, horizon, h.read) }
-entry_first bytes literals numbers kinds.Derived rest h = record { text = h.entry; first = begun_first bytes rest (lines.Derived literals numbers) h; read = h.read }
-entry_first bytes literals numbers kinds.Block rest h = record { text = h.entry; first = begun_first bytes rest (lines.Block numbers) h; read = h.read }
-entry_first bytes literals numbers (kinds.End word) rest h = record { text = h.entry; first = begun_first bytes rest (lines.End word) h; read = h.read }
+-- the text of an entry
+pub entry_text : (bytes : List ℕ) (literals : List Literal) (numbers : List ℕ) (kind : Kind) (rest : List ℕ) → IsEntryRead bytes literals numbers kind rest →
+    (text : List ℕ) × IsFirstText Second bytes text rest × IsReadIn Second text literals numbers kind
+entry_text bytes literals numbers kinds.Heading rest (conditions, horizon, h) =
+    (h.entry, begun_first bytes rest (lines.Section conditions horizon) h, (conditions, horizon, h.read))
+entry_text bytes literals numbers kinds.Derived rest h = (h.entry, begun_first bytes rest (lines.Derived literals numbers) h, h.read)
+entry_text bytes literals numbers kinds.Block rest h = (h.entry, begun_first bytes rest (lines.Block numbers) h, h.read)
+entry_text bytes literals numbers (kinds.End word) rest h = (h.entry, begun_first bytes rest (lines.End word) h, h.read)
+
+pub entry_first : (bytes : List ℕ) (line : LineParts) (rest : List ℕ) → IsEntryRead bytes (literals_of line.literals) (numbers_of line.numbers) line.kind rest →
+    IsFirstRead Second bytes (Some line) rest
+entry_first bytes line rest h =
+    let (text, first, read) = entry_text bytes (literals_of line.literals) (numbers_of line.numbers) line.kind rest h in
+    record { text = text; first = first; read = read }
 
 pub heading_cut : (bytes : List ℕ) (heading : Heading) (rest : List ℕ) → BeginsWith bytes (lines.Section heading.conditions heading.horizon) rest →
     IsCut Second bytes (Some heading) rest
@@ -114,11 +123,11 @@ heading_cut bytes heading rest h =
 pub other_cut : (bytes : List ℕ) (literals : List Literal) (numbers : List ℕ) (kind : Kind) (rest : List ℕ) → HasNoHeading bytes → IsEntryRead bytes literals numbers kind rest →
     IsCut Second bytes None rest
 other_cut bytes literals numbers kind rest none h =
-    let read = entry_first bytes literals numbers kind rest h in
+    let (text, first, _) = entry_text bytes literals numbers kind rest h in
     record {
-      text = read.text;
-      first = read.first;
-      read = λ conditions horizon is. none conditions horizon rest (record { entry = read.text; read = is; spelled = read.first.parts });
+      text = text;
+      first = first;
+      read = λ conditions horizon is. none conditions horizon rest (record { entry = text; read = is; spelled = first.parts });
     }
 
 -- ---- both versions

@@ -1,12 +1,12 @@
 -- What lines do, behind the clauses of a section.
-use Rattle.std.proofs.Common.{◌≡◌, ◌≢◌, ℕ, zero, suc, ◌+◌, ◌-◌, ◌<◌, ◌≤◌, get_or, take, drop, slice_set, Bool, true, false, ◌||◌, eqb, List, [], ◌∷◌, ◌++◌, length, refl, sym, ap, subst, ◌∙◌, arith, append_assoc, append-nil, length-append, inl, inr}
+use Rattle.std.proofs.Common.{◌≡◌, ◌≢◌, ℕ, suc, ◌+◌, ◌-◌, ◌≤◌, Bool, true, false, not, ◌||◌, eqb, List, [], ◌∷◌, ◌++◌, length, refl, sym, ap, subst, ◌∙◌, arith, append_assoc, append-nil, length-append, inl, inr}
 use Rattle.std.specs.Prelude.{◌↔◌, IsTrue}
 use Rattle.std.specs.Bool.{MatchBool, beq}
-use Rattle.std.specs.Prelude.{MatchOption, Option, None, Some, Result, Ok, Err, IfOk}
+use Rattle.std.specs.Prelude.{MatchOption, Option, None, Some}
 use Rattle.std.proofs.Math.Dec.{eqb-suc-zero}
 use Rattle.std.specs.List.{Contains}
 use Rattle.std.proofs.lemmas.Bool.{false≢true}
-use Rattle.std.proofs.lemmas.List.{drop_all, nil_from_length, take-append-drop}
+use Rattle.std.proofs.lemmas.List.{nil_from_length}
 use Rattle.std.proofs.lemmas.List.Elements.{Contains-append_left, Contains-push, Contains-push_cases}
 use Rattle.cc_defs.specs.declared.log.Cause.{Cause}
 use Rattle.cc_defs.specs.declared.log.Cause.TheVariants as causes
@@ -20,13 +20,13 @@ use Rattle.cc_defs.specs.Clauses.{Literal, Reaches}
 use Rattle.cc_defs.specs.LogBytes.{IsSpelled, chain_behind, line_meant}
 use Rattle.cc_defs.specs.Rows.{IsRow}
 use Rattle.cc_defs.specs.Sections.{Axioms, Finding, Reading, Right, Trailed, Wrong, HasNoEmpty, AreNamed, EndsRightly, IsBlockJudged, IsFound, IsEnded, IsJudged, row_denial}
-use Rattle.cc_defs.specs.declared.refusal.OutOfMemory.{OutOfMemory}
-use Rattle.cc_check.specs.declared.judge.Finding.{Finding as Told}
 use Rattle.cc_check.specs.declared.judge.Pass.{Pass}
 use Rattle.cc_check.specs.declared.judge.Pass.TheVariants as passes
 use Rattle.cc_check.specs.declared.line.Kind.{Kind}
 use Rattle.cc_check.specs.declared.line.Kind.TheVariants as kinds
-use Rattle.cc_check.specs.Clauses.{IsClauseOver, AreClausesOver, AreSound, IsEndedInBytes, IsFoundInBytes, IsPassed, IsPassedAt, IsRightDerived, IsWrongDerived, ReachesNothing, plain_finding, reading_as}
+use Rattle.cc_check.specs.Clauses.{IsClauseOver, AreClausesOver, AreSound, IsEndedInBytes, IsFoundInBytes, IsPassed, IsPassedAt, IsRightDerived, IsWrongDerived, ReachesNothing, reading_as}
+use Rattle.cc_check.specs.declared.line.LineParts.{LineParts}
+use Rattle.cc_check.specs.Readers.{links, literals_of, numbers_of}
 use Rattle.cc_check.specs.Reading.{IsFirstRead, IsReadIn}
 use Rattle.cc_check.specs.Texts.{AreTexts}
 use Rattle.cc_check.proofs.FirstTexts.{nothing_in}
@@ -40,6 +40,24 @@ block_meant Second own row = refl
 end_meant : (version : Version) (own : ℕ) (word : EndWord) → line_meant version own (lines.End word) ≡ lines.End word
 end_meant First own word = refl
 end_meant Second own word = refl
+
+-- ---- a chain's clauses, named one after another
+
+same_links : (own : ℕ) (names : Bool) (numbers : List ℕ) → links First own names numbers ≡ numbers
+same_links own names [] = refl
+same_links own names (number ∷ numbers) = ap (λ (t : List ℕ). number ∷ t) (same_links own (not names) numbers)
+
+far_links : (own : ℕ) (numbers : List ℕ) → links Second own true numbers ≡ chain_behind own numbers
+far_links own [] = refl
+far_links own (distance ∷ []) = refl
+far_links own (distance ∷ pivot ∷ numbers) = ap (λ (t : List ℕ). (own - distance) ∷ pivot ∷ t) (far_links own numbers)
+
+pub linked : (version : Version) (own : ℕ) (clause : List Literal) (numbers : List ℕ) →
+    line_meant version own (lines.Derived clause numbers) ≡ lines.Derived clause (links version own true numbers)
+linked First own clause numbers = ap (lines.Derived clause) (sym (same_links own true numbers))
+linked Second own clause numbers = ap (lines.Derived clause) (sym (far_links own numbers))
+
+-- ---- what a line does
 
 module _ (version : Version) (may : Bool) (axioms : Axioms) (own : List (List Literal)) (blocks : ℕ) (text : List ℕ) where
   abbrev Found : ℕ → List (List ℕ) → Finding → List (List Literal) → ℕ → Type 0
@@ -82,70 +100,38 @@ module _ (version : Version) (may : Bool) (axioms : Axioms) (own : List (List Li
       found_by (lines.End word) (lines.End word) read (end_meant version _ word) line texts (Wrong line causes.Section) (inr (wrong, refl))
 
   -- a derived line, with its clauses named by their numbers
-  module _ (literals : List Literal) (distances numbers : List ℕ) (number : ℕ) (number_is : number ≡ length (axioms.clauses ++ own) + 1)
-      (meant : (c : List Literal) → line_meant version number (lines.Derived c distances) ≡ lines.Derived c numbers)
-      (read : IsSpelled version text (lines.Derived literals distances)) where
-    said : line_meant version (length (axioms.clauses ++ own) + 1) (lines.Derived literals distances) ≡ lines.Derived literals numbers
-    said = ap (λ (n : ℕ). line_meant version n (lines.Derived literals distances)) (sym number_is) ∙ meant literals
+  module _ (literals : List Literal) (numbers chain : List ℕ) (number : ℕ) (number_is : number ≡ length (axioms.clauses ++ own) + 1)
+      (chain_is : chain ≡ links version number true numbers) (read : IsSpelled version text (lines.Derived literals numbers)) where
+    said : line_meant version (length (axioms.clauses ++ own) + 1) (lines.Derived literals numbers) ≡ lines.Derived literals chain
+    said =
+        ap (λ (n : ℕ). line_meant version n (lines.Derived literals numbers)) (sym number_is) ∙ linked version number literals numbers
+        ∙ ap (lines.Derived literals) (sym chain_is)
 
-    derived_goes : (after : List (List Literal)) (count : ℕ) → IsRightDerived axioms (axioms.clauses ++ own) literals numbers → after ≡ own ++ literals ∷ [] → count ≡ blocks →
-        IsPassed (reading_as version may) axioms own blocks text passes.Goes after count
-    derived_goes after count right is same line texts finding next =
-        let here = moved literals after count (line + 1) texts finding is next in
-        found_by (lines.Derived literals distances) (lines.Derived literals numbers) read said line texts finding
+    pub derived_passed : (r : Option Cause) (staged : List Literal) (after : List (List Literal)) (count : ℕ) →
+        MatchOption r (IsRightDerived axioms (axioms.clauses ++ own) literals chain × (staged ≡ literals)) (IsWrongDerived axioms (axioms.clauses ++ own) literals chain) → r ≡ None →
+        after ≡ own ++ staged ∷ [] → count ≡ blocks → IsPassed (reading_as version may) axioms own blocks text passes.Goes after count
+    derived_passed r staged after count h none is same line texts finding next =
+        let right : IsRightDerived axioms (axioms.clauses ++ own) literals chain × (staged ≡ literals) = rw none at h in
+        let here = moved literals after count (line + 1) texts finding (is ∙ ap (λ (c : List Literal). own ++ c ∷ []) right.1) next in
+        found_by (lines.Derived literals numbers) (lines.Derived literals chain) read said line texts finding
         (inr (inr (
-          right.open_still,
-          right.clause_over.0,
-          right.clause_over.1,
-          right.reached,
+          right.0.open_still,
+          right.0.clause_over.0,
+          right.0.clause_over.1,
+          right.0.reached,
           subst (λ (k : ℕ). Found (line + 1) texts finding ((axioms.clauses ++ own) ++ literals ∷ []) k) same here,
         )))
 
-    pub derived_passed : (r : Option Cause) (clause staged : List Literal) (chain : List ℕ) (after : List (List Literal)) (count : ℕ) → clause ≡ literals → chain ≡ numbers →
-        MatchOption r (IsRightDerived axioms (axioms.clauses ++ own) clause chain × (staged ≡ clause)) (IsWrongDerived axioms (axioms.clauses ++ own) clause chain) → r ≡ None →
-        after ≡ own ++ staged ∷ [] → count ≡ blocks → IsPassed (reading_as version may) axioms own blocks text passes.Goes after count
-    derived_passed r clause staged chain after count same_clause same_chain h none is same =
-        let right : IsRightDerived axioms (axioms.clauses ++ own) clause chain × (staged ≡ clause) = rw none at h in
-        let moved_right : IsRightDerived axioms (axioms.clauses ++ own) literals numbers =
-        subst (λ (c : List Literal). IsRightDerived axioms (axioms.clauses ++ own) c numbers) same_clause
-        (subst (λ (n : List ℕ). IsRightDerived axioms (axioms.clauses ++ own) clause n) same_chain right.0) in
-        derived_goes after count moved_right (is ∙ ap (λ (c : List Literal). own ++ c ∷ []) (right.1 ∙ same_clause)) same
-
-    pub derived_wrong : (r : Option Cause) (cause : Cause) (clause : List Literal) (chain : List ℕ) (right : Type 0) (after : List (List Literal)) (count : ℕ) →
-        clause ≡ literals → chain ≡ numbers → MatchOption r right (IsWrongDerived axioms (axioms.clauses ++ own) clause chain) → r ≡ Some cause →
+    pub derived_wrong : (r : Option Cause) (cause : Cause) (right : Type 0) (after : List (List Literal)) (count : ℕ) →
+        MatchOption r right (IsWrongDerived axioms (axioms.clauses ++ own) literals chain) → r ≡ Some cause →
         IsPassed (reading_as version may) axioms own blocks text (passes.Wrong cause) after count
-    derived_wrong r cause clause chain right after count same_clause same_chain h some line texts =
-        let wrong : IsWrongDerived axioms (axioms.clauses ++ own) clause chain cause = rw some at h in
-        let moved_wrong : IsWrongDerived axioms (axioms.clauses ++ own) literals numbers cause =
-        subst (λ (c : List Literal). IsWrongDerived axioms (axioms.clauses ++ own) c numbers cause) same_clause
-        (subst (λ (n : List ℕ). IsWrongDerived axioms (axioms.clauses ++ own) clause n cause) same_chain wrong) in
-        found_by (lines.Derived literals distances) (lines.Derived literals numbers) read said line texts (Wrong line cause)
-        (elim moved_wrong [
+    derived_wrong r cause right after count h some line texts =
+        let wrong : IsWrongDerived axioms (axioms.clauses ++ own) literals chain cause = rw some at h in
+        found_by (lines.Derived literals numbers) (lines.Derived literals chain) read said line texts (Wrong line cause)
+        (elim wrong [
           | inl there ↦ inl (there.0, ap (Wrong line) there.1)
           | inr wrongly ↦ inr (inl (wrongly.0, (cause, wrongly.1, refl)))
         ])
-
--- ---- a chain's clauses, named one after another
-
-pub named_step : (own i : ℕ) (items : List ℕ) → i < length items →
-    take (suc (suc i)) (slice_set items i (own - get_or items i 0)) ++ chain_behind own (drop (suc (suc i)) (slice_set items i (own - get_or items i 0)))
-    ≡ take i items ++ chain_behind own (drop i items)
-named_step own i [] below = absurd (omega arith)
-named_step own zero (x ∷ []) below = refl
-named_step own zero (x ∷ y ∷ items) below = refl
-named_step own (suc i) (x ∷ items) below = ap (λ (t : List ℕ). x ∷ t) (named_step own i items (omega arith))
-
-pub named_so_far : (own i next : ℕ) (items made whole : List ℕ) → i < length items → next ≡ i + 2 → made ≡ slice_set items i (own - get_or items i 0) →
-    take i items ++ chain_behind own (drop i items) ≡ whole → take next made ++ chain_behind own (drop next made) ≡ whole
-named_so_far own i next items made whole below is same so_far =
-    let two : next ≡ suc (suc i) = omega arith in
-    ap (λ (n : ℕ). take n made ++ chain_behind own (drop n made)) two
-    ∙ ap (λ (t : List ℕ). take (suc (suc i)) t ++ chain_behind own (drop (suc (suc i)) t)) same ∙ named_step own i items below ∙ so_far
-
-pub named_whole : (own i : ℕ) (items whole : List ℕ) → length items ≤ i → take i items ++ chain_behind own (drop i items) ≡ whole → items ≡ whole
-named_whole own i items whole past so_far =
-    let none = drop_all i items past in
-    sym (take-append-drop i items) ∙ ap (λ (t : List ℕ). take i items ++ t) none ∙ ap (λ (t : List ℕ). take i items ++ chain_behind own t) (sym none) ∙ so_far
 
 -- ---- the end word
 
@@ -277,7 +263,7 @@ module _ (reading : Reading) (axioms : Axioms) (first : ℕ) (bytes : List ℕ) 
         own_few = omega arith;
       }
 
-  found_ends : (word : EndWord) (finding : Finding) → pass ≡ passes.Ends word → IsEndedInBytes reading.version word count line behind finding →
+  pub found_ends : (word : EndWord) (finding : Finding) → pass ≡ passes.Ends word → IsEndedInBytes reading.version word count line behind finding →
       IsFoundInBytes reading axioms first bytes finding
   found_ends word finding is ended texts are =
       let (others, others_are, go) = found_at texts are in
@@ -287,11 +273,6 @@ module _ (reading : Reading) (axioms : Axioms) (first : ℕ) (bytes : List ℕ) 
   found_wrong cause is texts are =
       let (others, others_are, go) = found_at texts are in
       go (Wrong line cause) ((subst (λ (p : Pass). IsPassed reading axioms own blocks at.text p after count) is at.passed) line others)
-
-  pub found_ends_ok : (word : EndWord) (r : Result Told OutOfMemory) → pass ≡ passes.Ends word →
-      IfOk r (λ found. IsEndedInBytes reading.version word count line behind (plain_finding found)) → IfOk r (λ found. IsFoundInBytes reading axioms first bytes (plain_finding found))
-  found_ends_ok word (Ok found) is ended = found_ends word (plain_finding found) is ended
-  found_ends_ok word (Err e) is ended = tt
 
 pub found_nothing : (reading : Reading) (axioms : Axioms) (first : ℕ) (bytes : List ℕ) (own : List (List Literal)) (blocks line : ℕ) (rest : List ℕ) →
     FoundSoFar reading axioms first bytes own blocks line rest → length rest ≡ 0 → IsFoundInBytes reading axioms first bytes (Wrong line causes.Section)
@@ -315,15 +296,15 @@ ended_none version word blocks line rest nil texts are =
     let none = nothing_in version texts (subst (λ (t : List ℕ). AreTexts version t texts) (nil_from_length rest nil) are) in
     subst (λ (ts : List (List ℕ)). IsEnded version word blocks line ts (Right word blocks line)) (sym none) refl
 
-module _ (version : Version) (word : EndWord) (blocks line : ℕ) (bytes : List ℕ) (literals : List Literal) (numbers : List ℕ) (kind : Option Kind) (rest : List ℕ)
-    (h : IsFirstRead version bytes literals numbers kind rest) where
+module _ (version : Version) (word : EndWord) (blocks line : ℕ) (bytes : List ℕ) (read : Option LineParts) (rest : List ℕ) (h : IsFirstRead version bytes read rest) where
   ended_at : (finding : Finding) → ((more : List (List ℕ)) → IsEnded version word blocks line (h.text ∷ more) finding) → IsEndedInBytes version word blocks line bytes finding
   ended_at finding ended texts are =
       let (more, same, more_are) = h.first.behind texts are in
       subst (λ (ts : List (List ℕ)). IsEnded version word blocks line ts finding) (sym same) (ended more)
 
-  pub ended_unread : kind ≡ None → IsEndedInBytes version word blocks line bytes (Trailed word line causes.Form)
+  pub ended_unread : read ≡ None → IsEndedInBytes version word blocks line bytes (Trailed word line causes.Form)
   ended_unread none = ended_at (Trailed word line causes.Form) (λ more. inl (rw none at h.read, refl))
 
-  pub ended_read : (read : Kind) → kind ≡ Some read → IsEndedInBytes version word blocks line bytes (Trailed word line causes.Section)
-  ended_read read some = ended_at (Trailed word line causes.Section) (λ more. inr (line_read version h.text literals numbers read (rw some at h.read), refl))
+  pub ended_read : (parts : LineParts) → read ≡ Some parts → IsEndedInBytes version word blocks line bytes (Trailed word line causes.Section)
+  ended_read parts some = ended_at (Trailed word line causes.Section)
+      (λ more. inr (line_read version h.text (literals_of parts.literals) (numbers_of parts.numbers) parts.kind (rw some at h.read), refl))

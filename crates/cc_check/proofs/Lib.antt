@@ -19,6 +19,8 @@ pub mod SilentLogs
 pub mod Refuted
 pub mod NumberBytes
 pub mod ListBytes
+pub mod Taken
+pub mod Counted
 pub mod WrittenBytes
 pub mod EntryBytes
 pub mod ConvertingLines

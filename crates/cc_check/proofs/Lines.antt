@@ -1,8 +1,6 @@
 -- The texts of lines: what stands behind their letters.
-use Rattle.std.proofs.Common.{◌≡◌, ℕ, ◌<◌, true, false, List, [], ◌∷◌, ◌++◌, Option, None, decimal, codes, length, get_or, refl, sym, ap, subst, ◌∙◌, arith, append_assoc, inl, inr, ◌⊎◌}
+use Rattle.std.proofs.Common.{◌≡◌, ℕ, ◌<◌, true, false, List, [], ◌∷◌, ◌++◌, decimal, codes, length, get_or, refl, sym, ap, subst, ◌∙◌, arith, append_assoc, inl, inr, ◌⊎◌}
 use Rattle.std.specs.List.{AllByRecursion}
-use Rattle.std.specs.Borrow.{Bor}
-use Rattle.std.specs.Prelude.{MatchOption}
 use Rattle.std.proofs.lemmas.List.Concat.{flat_map-append}
 use Rattle.std.proofs.lemmas.List.{same_from_push}
 use Rattle.std.proofs.lemmas.Fmt.{decimal_digit}
@@ -14,7 +12,7 @@ use Rattle.cc_defs.specs.Clauses.{Literal}
 use Rattle.cc_defs.specs.declared.log.Version.TheVariants.{First}
 use Rattle.cc_defs.specs.LogTexts.{IsShort, IsOdd, IsLine, line_text}
 use Rattle.cc_defs.specs.Sections.{HasNoForm}
-use Rattle.cc_check.specs.Reading.{AreNumbers, HasNoNumbers, AreLiterals, HasNoLiterals, IsEndedChain, IsLast, IsNumberAt}
+use Rattle.cc_check.specs.Reading.{AreNumbers, HasNoNumbers, AreLiterals, HasNoChain, HasNoLiterals, IsLast, IsNumberAt}
 use Rattle.cc_check.proofs.Spelled.{numbers_text, literals_text, numbered_text, derived_text}
 use Rattle.cc_check.proofs.Rows.{one_list, one_clause, numbers_end}
 use Rattle.cc_check.proofs.Numbers.{one_number}
@@ -109,23 +107,12 @@ pub last_by : (text rest : List ℕ) (number : ℕ) → IsNumberAt text number r
 last_by text rest number h never other (short, spelled) =
     never (one_number text number other rest (10 ∷ []) h (record { formed = short; spelled = spelled; ends = refl })).1
 
-pub no_literals_derived : (body : List ℕ) (r : Option (Bor (List ℕ))) (made : List Literal) →
-    MatchOption r (HasNoLiterals body) (λ rest. AreLiterals body made rest.now) → r ≡ None → HasNoForm First (100 ∷ body)
-no_literals_derived body r made h is = no_derived body (λ clause tail chain ls ns odd. (rw is at h) clause tail ls)
+pub no_literals_derived : (body : List ℕ) → HasNoLiterals body → HasNoForm First (100 ∷ body)
+no_literals_derived body none = no_derived body (λ clause tail chain ls ns odd. none clause tail ls)
 
-pub no_numbers_derived : (body tail : List ℕ) (made : List Literal) → AreLiterals body made tail → HasNoNumbers tail → HasNoForm First (100 ∷ body)
-no_numbers_derived body tail made h none = no_derived body (λ clause rest chain ls ns odd.
-    none (chain ++ 0 ∷ []) (subst (λ (t : List ℕ). AreNumbers t (chain ++ 0 ∷ [])) (sym (one_clause made clause body tail rest h ls).1) ns))
-
-pub no_end_derived : (body tail numbers : List ℕ) (made : List Literal) → AreLiterals body made tail → AreNumbers tail numbers →
-    ((chain : List ℕ) → IsEndedChain numbers chain → ⊥) → HasNoForm First (100 ∷ body)
-no_end_derived body tail numbers made h ns none = no_derived body (λ clause rest chain ls more odd.
-    none chain (odd, one_list numbers (chain ++ 0 ∷ []) tail ns (subst (λ (t : List ℕ). AreNumbers t (chain ++ 0 ∷ [])) (sym (one_clause made clause body tail rest h ls).1) more)))
-
-pub derived_read : (body tail numbers chain : List ℕ) (made : List Literal) → AreLiterals body made tail → AreNumbers tail numbers → IsEndedChain numbers chain →
-    IsLine (100 ∷ body) (lines.Derived made chain)
-derived_read body tail numbers chain made h ns (odd, is) =
-    derived_line body tail chain made h (subst (λ (xs : List ℕ). AreNumbers tail xs) is ns) odd
+pub no_chain_derived : (body tail : List ℕ) (made : List Literal) → AreLiterals body made tail → HasNoChain tail → HasNoForm First (100 ∷ body)
+no_chain_derived body tail made h none = no_derived body (λ clause rest chain ls ns odd.
+    none chain (subst (λ (t : List ℕ). AreNumbers t (chain ++ 0 ∷ [])) (sym (one_clause made clause body tail rest h ls).1) ns, odd))
 
 -- ---- no text is that of two lines
 

@@ -1,6 +1,7 @@
 -- Lists at the front of bytes: items of which each is told by its own bytes, one after another.
-use Rattle.std.proofs.Common.{◌≡◌, ℕ, ◌<◌, ◌≤◌, List, [], ◌∷◌, ◌++◌, length, flat_map, refl, sym, ap, ◌∙◌, arith, append_assoc, length-append}
+use Rattle.std.proofs.Common.{◌≡◌, ℕ, ◌+◌, ◌<◌, List, [], ◌∷◌, ◌++◌, length, flat_map, refl, sym, ap, ◌∙◌, arith, append_assoc, append-nil, length-append}
 use Rattle.std.specs.List.{AllByRecursion}
+use Rattle.std.proofs.lemmas.List.Concat.{flat_map-append}
 use Rattle.cc_check.specs.Entries.{AreIn}
 
 module _ {X : Type 0} (Is : X → Type 0) (written : X → List ℕ)
@@ -44,20 +45,23 @@ module _ {X : Type 0} (Is : X → Type 0) (written : X → List ℕ)
       let (item, next, one, is) = next_item made items rest end (omega arith) so_far.formed there.formed (sym so_far.spelled ∙ there.spelled) in
       none item next one is
 
--- ---- each item has a byte at least
+-- ---- one more at the end
 
-module _ {X : Type 0} (Is : X → Type 0) (written : X → List ℕ) (some : (x : X) → 1 ≤ length (written x)) where
-  as_long : (items : List X) → length items ≤ length (flat_map written items)
-  as_long [] = omega arith
-  as_long (x ∷ items) =
-      let front = some x in
-      let others = as_long items in
-      let both = length-append (written x) (flat_map written items) in
-      omega arith
+module _ {X : Type 0} (Is : X → Type 0) (written : X → List ℕ) where
+  all_push : (items : List X) (item : X) → AllByRecursion Is items → Is item → AllByRecursion Is (items ++ item ∷ [])
+  all_push [] item all one = (one, tt)
+  all_push (x ∷ items) item all one = (all.0, all_push items item all.1 one)
 
-  pub too_many : (count : ℕ) (bytes : List ℕ) → length bytes < count → (items : List X) (rest : List ℕ) → AreIn Is written count bytes items rest → ⊥
-  too_many count bytes past items rest h =
+  pub one_more_in : (count : ℕ) (bytes : List ℕ) (made : List X) (item : X) (rest next : List ℕ) → AreIn Is written count bytes made rest → Is item → rest ≡ written item ++ next →
+      AreIn Is written (count + 1) bytes (made ++ item ∷ []) next
+  one_more_in count bytes made item rest next h one is =
       let counted = h.counted in
-      let long = as_long items in
-      let whole = ap length h.spelled ∙ length-append (flat_map written items) rest in
-      omega arith
+      let longer = length-append made (item ∷ []) in
+      let last : flat_map written (made ++ item ∷ []) ≡ flat_map written made ++ written item =
+      flat_map-append written made (item ∷ []) ∙ ap (λ (t : List ℕ). flat_map written made ++ t) (append-nil (written item)) in
+      record {
+        counted = omega arith;
+        formed = all_push made item h.formed one;
+        spelled = h.spelled ∙ ap (λ (t : List ℕ). flat_map written made ++ t) is ∙ sym (append_assoc (flat_map written made) (written item) next)
+            ∙ ap (λ (t : List ℕ). t ++ next) (sym last);
+      }

@@ -28,19 +28,54 @@ pub clause_begun : (variables : ℕ) (whole : List Literal) → ClauseFrom varia
 clause_begun variables [] = record { to = λ h. (tt, tt); from = λ h. (tt, tt) }
 clause_begun variables (literal ∷ literals) = record { to = λ h. (h.0.1, h.1); from = λ h. ((inl h.1.0, h.0), h.1) }
 
-module _ (variables : ℕ) (last literal : Literal) (rest whole : List Literal) (so_far : ClauseFrom variables last (literal ∷ rest) whole) where
-  pub clause_more : IsBefore last literal → 0 < literal.variable → literal.variable ≤ variables → ClauseFrom variables literal rest whole
-  clause_more before some most = record {
-    to = λ h. so_far.to ((before, h.0), (some, most, h.1));
-    from = λ h. let state = so_far.from h in (state.0.1, state.1.2);
-  }
+module _ (variables : ℕ) (last : Literal) (left whole : List Literal) (so_far : ClauseFrom variables last left whole) where
+  module _ (literal : Literal) (rest : List Literal) (is : left ≡ literal ∷ rest) where
+    pub clause_more : IsBefore last literal → (0 < literal.variable) × (literal.variable ≤ variables) → ClauseFrom variables literal rest whole
+    clause_more before within = record {
+      to = λ h. so_far.to (subst (ClauseState variables last) (sym is) ((before, h.0), (within.0, within.1, h.1)));
+      from = λ h. let state = subst (ClauseState variables last) is (so_far.from h) in (state.0.1, state.1.2);
+    }
 
-  pub clause_fails : (IsBefore last literal → ⊥) ⊎ ((0 < literal.variable) × (literal.variable ≤ variables) → ⊥) → IsClauseOver variables whole → ⊥
-  clause_fails (inl not_before) h = not_before (so_far.from h).0.0
-  clause_fails (inr not_within) h = let state = so_far.from h in not_within (state.1.0, state.1.1)
+    pub clause_fails : (IsBefore last literal → ⊥) ⊎ ((0 < literal.variable) × (literal.variable ≤ variables) → ⊥) → IsClauseOver variables whole → ⊥
+    clause_fails (inl not_before) h = not_before (subst (ClauseState variables last) is (so_far.from h)).0.0
+    clause_fails (inr not_within) h = let state = subst (ClauseState variables last) is (so_far.from h) in not_within (state.1.0, state.1.1)
 
-pub clause_done : (variables : ℕ) (last : Literal) (whole : List Literal) → ClauseFrom variables last [] whole → IsClauseOver variables whole
-clause_done variables last whole so_far = so_far.to (tt, tt)
+  pub clause_done : left ≡ [] → IsClauseOver variables whole
+  clause_done nil = so_far.to (subst (ClauseState variables last) (sym nil) (tt, tt))
+
+-- ---- whether two clauses are the same
+
+pub record SameFrom (left others clause literals : List Literal) : Type 0 where
+  pub to : left ≡ others → clause ≡ literals
+  pub from : clause ≡ literals → left ≡ others
+
+pub same_begun : (clause literals : List Literal) → SameFrom (drop 0 clause) literals clause literals
+same_begun clause literals = record { to = λ h. h; from = λ h. h }
+
+module _ (clause literals : List Literal) (i : ℕ) (others : List Literal) (so_far : SameFrom (drop i clause) others clause literals) where
+  pub same_more : (first : Literal) (more : List Literal) (default : Literal) → i < length clause → others ≡ first ∷ more → get_or clause i default ≡ first →
+      SameFrom (drop (i + 1) clause) more clause literals
+  same_more first more default within is same =
+      let split : drop i clause ≡ first ∷ drop (i + 1) clause = drop_more clause i default within ∙ ap (λ (l : Literal). l ∷ drop (i + 1) clause) same in
+      record {
+        to = λ h. so_far.to (split ∙ ap (λ (ls : List Literal). first ∷ ls) h ∙ sym is);
+        from = λ h. ap (λ (ls : List Literal). drop 1 ls) (sym split ∙ so_far.from h ∙ is);
+      }
+
+  pub same_differs : (first : Literal) (more : List Literal) (default : Literal) → i < length clause → others ≡ first ∷ more → (get_or clause i default ≡ first → ⊥) → clause ≡ literals → ⊥
+  same_differs first more default within is other h =
+      other (ap (λ (ls : List Literal). get_or ls 0 default) (sym (drop_more clause i default within) ∙ so_far.from h ∙ is))
+
+  pub same_short : (default : Literal) → i < length clause → others ≡ [] → clause ≡ literals → ⊥
+  same_short default within nil h =
+      let e : suc (length (drop (i + 1) clause)) ≡ 0 = ap length (sym (drop_more clause i default within) ∙ so_far.from h ∙ nil) in omega arith
+
+  pub same_done : length clause ≤ i → others ≡ [] → clause ≡ literals
+  same_done all nil = so_far.to (drop_all i clause all ∙ sym nil)
+
+  pub same_long : (first : Literal) (more : List Literal) → length clause ≤ i → others ≡ first ∷ more → clause ≡ literals → ⊥
+  same_long first more all is h =
+      let e : suc (length more) ≡ 0 = ap length (sym is ∙ sym (so_far.from h) ∙ drop_all i clause all) in omega arith
 
 -- ---- resolvents
 
@@ -77,17 +112,40 @@ no_pivot variables a b pivot over out r is =
 
 -- ---- the denial of a row
 
-pub row_at : (sizes row : List ℕ) (i : ℕ) → IsRow sizes row → i < length row → (i < length sizes) × (get_or row i 0 < get_or sizes i 0)
-row_at [] [] i h below = absurd (omega arith)
-row_at [] (index ∷ row) i h below = absurd h
-row_at (size ∷ sizes) [] i h below = absurd h
-row_at (size ∷ sizes) (index ∷ row) zero h below = (omega arith, h.0)
-row_at (size ∷ sizes) (index ∷ row) (suc i) h below = let more = row_at sizes row i h.1 (omega arith) in let first = more.0 in (omega arith, more.1)
+-- what is known of a row once the sizes up to one, and its indexes there, are gone through
+pub record RowFrom (sizes_left left sizes row : List ℕ) : Type 0 where
+  pub to : IsRow sizes_left left → IsRow sizes row
+  pub from : IsRow sizes row → IsRow sizes_left left
 
-pub row_sized : (sizes row : List ℕ) (i : ℕ) → IsRow sizes row → i < length row → (size : ℕ) × (slice_get sizes i ≡ Some size) × (get_or row i 0 < size)
-row_sized sizes row i h below =
-    let at = row_at sizes row i h below in
-    (get_or sizes i 0, slice_get-get_or sizes i 0 at.0, at.1)
+pub row_begun : (sizes row : List ℕ) → RowFrom (drop 0 sizes) row sizes row
+row_begun sizes row = record { to = λ h. h; from = λ h. h }
+
+first_index : (sizes_left left sizes more : List ℕ) (size index : ℕ) → sizes_left ≡ size ∷ sizes → left ≡ index ∷ more → IsRow sizes_left left → (index < size) × IsRow sizes more
+first_index sizes_left left sizes more size index sizes_are left_is h =
+    subst (λ (s : List ℕ). IsRow s (index ∷ more)) sizes_are (subst (IsRow sizes_left) left_is h)
+
+pub row_next : (sizes : List ℕ) (i : ℕ) (left : List ℕ) (index : ℕ) (more : List ℕ) → i < length sizes → left ≡ index ∷ more → IsRow (drop i sizes) left →
+    (index < get_or sizes i 0) × IsRow (drop (i + 1) sizes) more
+row_next sizes i left index more within is h = first_index (drop i sizes) left (drop (i + 1) sizes) more (get_or sizes i 0) index (drop_more sizes i 0 within) is h
+
+module _ (sizes row : List ℕ) (i : ℕ) (left : List ℕ) (so_far : RowFrom (drop i sizes) left sizes row) where
+  pub row_more : (index : ℕ) (more : List ℕ) → i < length sizes → left ≡ index ∷ more → index < get_or sizes i 0 → RowFrom (drop (i + 1) sizes) more sizes row
+  row_more index more within is below = record {
+    to = λ h. so_far.to (subst (IsRow (drop i sizes)) (sym is) (subst (λ (s : List ℕ). IsRow s (index ∷ more)) (sym (drop_more sizes i 0 within)) (below, h)));
+    from = λ h. (row_next sizes i left index more within is (so_far.from h)).1;
+  }
+
+  pub row_past : (index : ℕ) (more : List ℕ) → i < length sizes → left ≡ index ∷ more → get_or sizes i 0 ≤ index → IsRow sizes row → ⊥
+  row_past index more within is past h = let below = (row_next sizes i left index more within is (so_far.from h)).0 in omega arith
+
+  pub row_short : i < length sizes → left ≡ [] → IsRow sizes row → ⊥
+  row_short within nil h = subst (λ (s : List ℕ). IsRow s []) (drop_more sizes i 0 within) (subst (IsRow (drop i sizes)) nil (so_far.from h))
+
+  pub row_done : length sizes ≤ i → left ≡ [] → IsRow sizes row
+  row_done all nil = so_far.to (subst (IsRow (drop i sizes)) (sym nil) (subst (λ (s : List ℕ). IsRow s []) (sym (drop_all i sizes all)) tt))
+
+  pub row_long : (index : ℕ) (more : List ℕ) → length sizes ≤ i → left ≡ index ∷ more → IsRow sizes row → ⊥
+  row_long index more all is h = subst (λ (s : List ℕ). IsRow s (index ∷ more)) (drop_all i sizes all) (subst (IsRow (drop i sizes)) is (so_far.from h))
 
 -- the variables of atoms end with the sum of the sizes
 pub atom_within : (sizes : List ℕ) (position size value : ℕ) → slice_get sizes position ≡ Some size → value < size → atom_variable sizes position value ≤ sum sizes
@@ -107,24 +165,17 @@ first_variable_suc (size ∷ sizes) (suc i) below = let e = first_variable_suc s
 first_variable_more : (sizes : List ℕ) (i : ℕ) → i < length sizes → first_variable sizes (i + 1) ≡ first_variable sizes i + get_or sizes i 0
 first_variable_more sizes i below = ap (first_variable sizes) (add-one i) ∙ first_variable_suc sizes i below
 
-pub denial_begun : (sizes row : List ℕ) → [] ++ denial_from (first_variable sizes 0) (drop 0 sizes) (drop 0 row) ≡ row_denial sizes row
+pub denial_begun : (sizes row : List ℕ) → [] ++ denial_from (first_variable sizes 0) (drop 0 sizes) row ≡ row_denial sizes row
 denial_begun [] row = refl
 denial_begun (size ∷ sizes) row = refl
 
-split : (sizes row : List ℕ) (i : ℕ) → i < length sizes → i < length row →
-    denial_from (first_variable sizes i) (drop i sizes) (drop i row)
-    ≡ opposite (positive (first_variable sizes i + get_or row i 0)) ∷ denial_from (first_variable sizes i + get_or sizes i 0) (drop (i + 1) sizes) (drop (i + 1) row)
-split sizes row i within below =
-    ap (λ (s : List ℕ). denial_from (first_variable sizes i) s (drop i row)) (drop_more sizes i 0 within)
-    ∙ ap (λ (r : List ℕ). denial_from (first_variable sizes i) (get_or sizes i 0 ∷ drop (i + 1) sizes) r) (drop_more row i 0 below)
-
-pub denial_more : (sizes row : List ℕ) (i : ℕ) (out : List Literal) → IsRow sizes row → i < length row →
-    out ++ denial_from (first_variable sizes i) (drop i sizes) (drop i row) ≡ row_denial sizes row →
-    (out ++ opposite (positive (atom_variable sizes i (get_or row i 0))) ∷ []) ++ denial_from (first_variable sizes (i + 1)) (drop (i + 1) sizes) (drop (i + 1) row) ≡ row_denial sizes row
-denial_more sizes row i out h below so_far =
-    let within = (row_at sizes row i h below).0 in
+pub denial_more : (sizes : List ℕ) (i : ℕ) (out : List Literal) (left : List ℕ) (index : ℕ) (more : List ℕ) (whole : List Literal) → i < length sizes → left ≡ index ∷ more →
+    out ++ denial_from (first_variable sizes i) (drop i sizes) left ≡ whole →
+    (out ++ opposite (positive (atom_variable sizes i index)) ∷ []) ++ denial_from (first_variable sizes (i + 1)) (drop (i + 1) sizes) more ≡ whole
+denial_more sizes i out left index more whole within is so_far =
     rw (append_assoc, first_variable_more sizes i within)
-    (ap (λ (more : List Literal). out ++ more) (sym (split sizes row i within below)) ∙ so_far)
+    (ap (λ (made : List Literal). out ++ made) (sym (ap (denial_from (first_variable sizes i) (drop i sizes)) is
+    ∙ ap (λ (s : List ℕ). denial_from (first_variable sizes i) s (index ∷ more)) (drop_more sizes i 0 within))) ∙ so_far)
 
 denial_ascends : (first : ℕ) (sizes row : List ℕ) (last : Literal) → IsRow sizes row → last.variable < first → IsClause (last ∷ denial_from first sizes row)
 denial_ascends first [] [] last h below = tt
@@ -151,16 +202,18 @@ first_variable_some [] i = omega arith
 first_variable_some (size ∷ sizes) zero = omega arith
 first_variable_some (size ∷ sizes) (suc i) = let some = first_variable_some sizes i in omega arith
 
-no_more : (first : ℕ) (sizes : List ℕ) → denial_from first sizes [] ≡ []
-no_more first [] = refl
-no_more first (size ∷ sizes) = refl
+no_index : (first : ℕ) (sizes : List ℕ) → denial_from first sizes [] ≡ []
+no_index first [] = refl
+no_index first (size ∷ sizes) = refl
 
-pub denial_done : (sizes row : List ℕ) (i : ℕ) (out : List Literal) → length row ≤ i →
-    out ++ denial_from (first_variable sizes i) (drop i sizes) (drop i row) ≡ row_denial sizes row → out ≡ row_denial sizes row
-denial_done sizes row i out past so_far =
-    let nil : denial_from (first_variable sizes i) (drop i sizes) (drop i row) ≡ [] =
-    ap (denial_from (first_variable sizes i) (drop i sizes)) (drop_all i row past) ∙ no_more (first_variable sizes i) (drop i sizes) in
-    sym (append-nil out) ∙ ap (λ (more : List Literal). out ++ more) (sym nil) ∙ so_far
+done_by : (out made whole : List Literal) → made ≡ [] → out ++ made ≡ whole → out ≡ whole
+done_by out made whole nil so_far = sym (append-nil out) ∙ ap (λ (more : List Literal). out ++ more) (sym nil) ∙ so_far
+
+pub denial_short : (sizes left : List ℕ) (first : ℕ) (out whole : List Literal) → left ≡ [] → out ++ denial_from first sizes left ≡ whole → out ≡ whole
+denial_short sizes left first out whole nil so_far = done_by out _ whole (ap (denial_from first sizes) nil ∙ no_index first sizes) so_far
+
+pub denial_done : (sizes : List ℕ) (i first : ℕ) (left : List ℕ) (out whole : List Literal) → length sizes ≤ i → out ++ denial_from first (drop i sizes) left ≡ whole → out ≡ whole
+denial_done sizes i first left out whole all so_far = done_by out _ whole (ap (λ (s : List ℕ). denial_from first s left) (drop_all i sizes all)) so_far
 
 -- ---- whether one of the clauses is empty
 

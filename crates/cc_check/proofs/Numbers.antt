@@ -1,24 +1,15 @@
 -- The number at the front of a text, read digit by digit.
-use Rattle.std.proofs.Common.{◌≡◌, ℕ, ◌+◌, ◌-◌, ◌*◌, ◌/◌, ◌%◌, ◌<◌, ◌≤◌, true, false, ◌||◌, cond, eqb, ltb, List, [], ◌∷◌, ◌++◌, Option, Some, None, decimal, refl, sym, ap, subst, ◌∙◌, arith, append_assoc, length, get_or, inl, inr, ◌⊎◌}
+use Rattle.std.proofs.Common.{◌≡◌, ℕ, ◌+◌, ◌-◌, ◌*◌, ◌/◌, ◌%◌, ◌<◌, ◌≤◌, true, false, ◌||◌, eqb, ltb, List, [], ◌∷◌, ◌++◌, Option, Some, None, decimal, refl, sym, ap, subst, ◌∙◌, arith, append_assoc, length, get_or, inl, inr, ◌⊎◌}
 use Rattle.std.proofs.lemmas.Bool.{cases_Bool}
 use Rattle.std.proofs.lemmas.Bool.Decides.{nat_tests}
 use Rattle.std.proofs.lemmas.Fmt.{decimal_digit, decimal_step, decimal_by_steps}
 use Rattle.std.proofs.lemmas.Option.{same_Some, none-some}
 use Rattle.cc_defs.specs.Tokens.{is_digit}
+use Rattle.cc_check.specs.Readers.{number_from, number_of}
 use Rattle.cc_check.specs.Reading.{EndsNumber, IsNumberAt, HasNoNumber}
 
 abbrev pub read : ℕ → List ℕ → Option (ℕ × List ℕ)
 read number rest = Some (number, rest)
-
--- behind digits that make this number
-abbrev pub number_from : ℕ → List ℕ → Option (ℕ × List ℕ)
-number_from number [] = Some (number, [])
-number_from number (byte ∷ bytes) =
-    cond (is_digit byte) (cond (eqb number 0 || ltb 99999999 number) None (number_from (10 * number + (byte - 48)) bytes)) (Some (number, byte ∷ bytes))
-
-abbrev pub number_of : List ℕ → Option (ℕ × List ℕ)
-number_of [] = None
-number_of (byte ∷ bytes) = cond (is_digit byte) (number_from (byte - 48) bytes) None
 
 digit_is : (n : ℕ) → n < 10 → is_digit (48 + n) ≡ true
 digit_is n below = grind (arith, nat_tests)

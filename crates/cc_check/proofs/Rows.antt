@@ -1,9 +1,7 @@
 -- Numbers and literals one after another, each behind a space.
-use Rattle.std.proofs.Common.{◌≡◌, ◌≢◌, ℕ, suc, ◌<◌, ◌≤◌, Bool, true, false, List, [], ◌∷◌, ◌++◌, decimal, length, get_or, refl, sym, ap, subst, ◌∙◌, arith, append_assoc, append-nil, length-append, inl, inr, ◌⊎◌}
-use Rattle.std.proofs.lemmas.Bool.{cases_Bool, false≢true}
+use Rattle.std.proofs.Common.{◌≡◌, ◌≢◌, ℕ, suc, ◌<◌, ◌≤◌, true, List, [], ◌∷◌, ◌++◌, decimal, length, get_or, refl, sym, ap, subst, ◌∙◌, arith, append_assoc, append-nil, length-append, inl, inr, ◌⊎◌}
+use Rattle.std.proofs.lemmas.Bool.{cases_Bool}
 use Rattle.std.proofs.lemmas.Fmt.{decimal_digit}
-use Rattle.std.specs.Prelude.{IsTrue, ◌↔◌}
-use Rattle.std.specs.Bool.{MatchBool}
 use Rattle.cc_defs.specs.Clauses.{Literal}
 use Rattle.cc_defs.specs.LogTexts.{literal_text}
 use Rattle.cc_check.specs.Reading.{EndsNumber, IsNumberAt, HasNoNumber, IsSignedAt, HasNoSigned, AreNumbers, HasNoNumbers, AreLiterals, HasNoLiterals}
@@ -87,10 +85,6 @@ module _ (text made rest : List ℕ) (so_far : NumbersSoFar text made rest) wher
   numbers_fail other never numbers there =
       let (others, left, same) = so_far.from numbers there in
       numbers_none rest others left other never
-
-  pub numbers_result : (r : Bool) → (IsTrue r ↔ (rest ≡ 10 ∷ [])) → (length rest < 1) ⊎ (get_or rest 0 0 ≢ 32) → MatchBool r (AreNumbers text made) (HasNoNumbers text)
-  numbers_result true is other = numbers_done (is.0 refl)
-  numbers_result false is other = numbers_fail other (λ h. absurd (false≢true (is.1 h)))
 
 pub one_list : (a b text : List ℕ) → AreNumbers text a → AreNumbers text b → a ≡ b
 one_list [] [] text x y = refl

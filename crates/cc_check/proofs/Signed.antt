@@ -9,7 +9,7 @@ use Rattle.std.proofs.lemmas.List.{take_rest}
 use Rattle.std.proofs.lemmas.Option.{none-some}
 
 -- a number at the front of a sign is none
-number_or_minus : (text : List ℕ) (n : ℕ) (rest : List ℕ) → IsNumberAt (45 ∷ text) n rest → ⊥
+pub number_or_minus : (text : List ℕ) (n : ℕ) (rest : List ℕ) → IsNumberAt (45 ∷ text) n rest → ⊥
 number_or_minus text n rest h = none-some (n, rest) (number_complete (45 ∷ text) n rest h)
 
 signed_parts : (text : List ℕ) (variable : ℕ) (positive : Bool) (rest : List ℕ) →

@@ -2,6 +2,7 @@ pub mod Clauses
 pub mod Entries
 pub mod Laws
 pub mod Parts
+pub mod Readers
 pub mod Reading
 pub mod SectionTexts
 pub mod Silent

@@ -1,5 +1,5 @@
 -- What stands at the front of a text.
-use Rattle.std.specs.Prelude.{◌≡◌, ℕ, ◌<◌, Bool, false, List, [], ◌∷◌, ◌++◌, Option, MatchOption, length, flat_map, decimal}
+use Rattle.std.specs.Prelude.{◌≡◌, ℕ, ◌<◌, ◌⊎◌, Bool, false, List, [], ◌∷◌, ◌++◌, Option, MatchOption, length, flat_map, decimal}
 use Rattle.std.specs.List.{AllByRecursion}
 use Rattle.cc_defs.specs.declared.log.EndWord.{EndWord}
 use Rattle.cc_defs.specs.declared.log.LogLine.TheVariants as lines
@@ -12,6 +12,8 @@ use Rattle.cc_defs.specs.Sections.{HasNoForm}
 use Rattle.cc_defs.specs.Tokens.{is_digit}
 use Rattle.cc_check.specs.declared.line.Kind.{Kind}
 use Rattle.cc_check.specs.declared.line.Kind.TheVariants as kinds
+use Rattle.cc_check.specs.declared.line.LineParts.{LineParts}
+use Rattle.cc_check.specs.Readers.{literals_of, numbers_in, numbers_of}
 use Rattle.cc_check.specs.Texts.{IsFirstText}
 
 -- a text that does not go on with a digit
@@ -67,18 +69,32 @@ IsReadIn version text literals numbers (kinds.End word) = IsSpelled version text
 abbrev pub IsRead : List ℕ → List Literal → List ℕ → Kind → Type 0
 IsRead text literals numbers kind = IsReadIn First text literals numbers kind
 
--- A text stands at the front of bytes, and this is behind it; it is read as that, or is no line.
-pub record IsFirstRead (version : Version) (bytes : List ℕ) (literals : List Literal) (numbers : List ℕ) (kind : Option Kind) (rest : List ℕ) : Type 0 where
+-- a text is read as that, or is no line
+abbrev pub IsLineRead : Version → List ℕ → Option LineParts → Type 0
+IsLineRead version text line =
+    MatchOption line (HasNoForm version text) (λ line. IsReadIn version text (literals_of line.literals) (numbers_of line.numbers) line.kind)
+
+-- A text stands at the front of bytes, and this is behind it; it is read as that.
+pub record IsFirstRead (version : Version) (bytes : List ℕ) (line : Option LineParts) (rest : List ℕ) : Type 0 where
   pub text : List ℕ
   pub first : IsFirstText version bytes text rest
-  pub read : MatchOption kind (HasNoForm version text) (IsReadIn version text literals numbers)
+  pub read : IsLineRead version text line
 
 abbrev pub IsNoEnd : List ℕ → Type 0
 IsNoEnd text = (word : EndWord) → IsLine text (lines.End word) → ⊥
 
--- the numbers of a chain with the 0 that ends it
-abbrev pub IsEndedChain : List ℕ → List ℕ → Type 0
-IsEndedChain numbers chain = IsOdd (length chain) × (numbers ≡ chain ++ 0 ∷ [])
+-- A text is so many numbers and a line feed, and this is the last of them, if there is one.
+pub record AreCounted (text : List ℕ) (count last : ℕ) : Type 0 where
+  pub numbers : AreNumbers text (numbers_in First count text)
+  pub counted : length (numbers_in First count text) ≡ count
+  pub ended : (count ≡ 0) ⊎ ((front : List ℕ) × (numbers_in First count text ≡ front ++ last ∷ []))
+
+-- a text is a chain, the 0 that ends it, and a line feed
+abbrev pub IsChainIn : List ℕ → List ℕ → Type 0
+IsChainIn text chain = AreNumbers text (chain ++ 0 ∷ []) × IsOdd (length chain)
+
+abbrev pub HasNoChain : List ℕ → Type 0
+HasNoChain text = (chain : List ℕ) → IsChainIn text chain → ⊥
 
 -- the number of a heading's horizon, with the line feed
 abbrev pub IsLast : List ℕ → ℕ → Type 0

@@ -7,8 +7,10 @@ ghost use Rattle.cc_defs.specs.Limits.{most_variables};
 ghost use Rattle.cc_defs.specs.Rows.{IsRow};
 ghost use Rattle.cc_defs.specs.Sections.{AreNamed, HasNoEmpty, row_denial};
 ghost use Rattle.cc_check.specs.Clauses.{IsClauseOver, AreClausesOver, HaveNoResolvent, IsStep, ReachesNothing};
+ghost use Rattle.cc_check.specs.Readers.{chain_of, literals_of, numbers_of};
 
 use crate::number::Named;
+use crate::reader::{ChainReader, LiteralReader, NumberReader};
 use cc_clauses::laws::resolvents_are_unique;
 use cc_clauses::{ClauseArena, clash_on, resolve_into};
 use cc_defs::{Lit, OutOfMemory};
@@ -50,13 +52,14 @@ fn is_within(variables: u32, literal: Named) -> bool
 }
 
 /// Whether literals ascend, over the variables up to the last.
-pub(crate) fn is_clause_over(variables: u32, literals: &[Named]) -> bool
-    ensures { IsTrue result ↔ IsClauseOver variables literals.now }
+pub(crate) fn is_clause_over(variables: u32, literals: &LiteralReader<'_>) -> bool
+    ensures { IsTrue result ↔ IsClauseOver variables (literals_of literals.now) }
 {
     let mut variable = 0;
     let mut positive = false;
-    for literal in literals {
-        if !is_before(variable, positive, *literal) || !is_within(variables, *literal) {
+    let mut rest = *literals;
+    while let Some(literal) = rest.next() {
+        if !is_before(variable, positive, literal) || !is_within(variables, literal) {
             return false;
         }
         variable = literal.variable();
@@ -72,18 +75,19 @@ fn is_same(literal: Lit, named: Named) -> bool
 }
 
 /// Whether a clause has just these literals.
-pub(crate) fn is_same_clause(clause: &[Lit], literals: &[Named]) -> bool
-    ensures { IsTrue result ↔ (clause.now ≡ literals.now) }
+pub(crate) fn is_same_clause(clause: &[Lit], literals: &LiteralReader<'_>) -> bool
+    ensures { IsTrue result ↔ (clause.now ≡ literals_of literals.now) }
 {
-    if clause.len() != literals.len() {
-        return false;
-    }
-    for (i, literal) in clause.iter().enumerate() {
-        if !is_same(*literal, literals[i]) {
+    let mut others = *literals;
+    for literal in clause {
+        let Some(named) = others.next() else {
+            return false;
+        };
+        if !is_same(*literal, named) {
             return false;
         }
     }
-    true
+    others.next().is_none()
 }
 
 // Whether a number is that of a clause.
@@ -97,18 +101,17 @@ fn is_named(number: u32, given: u32, own: usize) -> bool
 }
 
 /// Whether each number of a clause in a chain is one of so many.
-pub(crate) fn are_named(given: u32, own: usize, chain: &[u32]) -> bool
-    ensures { IsTrue result ↔ AreNamed (given + own) chain.now }
+pub(crate) fn are_named(given: u32, own: usize, chain: &ChainReader<'_>) -> bool
+    ensures { IsTrue result ↔ AreNamed (given + own) (chain_of chain.now) }
 {
-    let mut rest = chain;
-    while let [number, behind @ ..] = rest {
-        if !is_named(*number, given, own) {
+    let mut rest = *chain;
+    while let Some(number) = rest.next() {
+        if !is_named(number, given, own) {
             return false;
         }
-        let [_, others @ ..] = behind else {
+        let Some(_) = rest.next() else {
             return true;
         };
-        rest = others;
     }
     true
 }
@@ -200,28 +203,28 @@ fn step(
 pub(crate) fn reach(
     form: &Form,
     own: &ClauseArena,
-    chain: &[u32],
+    chain: &ChainReader<'_>,
     stage: &mut Stage,
 ) -> Result<bool, OutOfMemory>
     requires own { AreClausesOver form.now.variables own.now }
-    requires named { AreNamed (length (form.now.clauses ++ own.now)) chain.now }
-    ensures { IfOk result (λ done. MatchBool done (Reaches (form.now.clauses ++ own.now) chain.now
-        stage.new.clause.items) (ReachesNothing (form.now.clauses ++ own.now) chain.now)) }
+    requires named { AreNamed (length (form.now.clauses ++ own.now)) (chain_of chain.now) }
+    ensures { IfOk result (λ done. MatchBool done
+        (Reaches (form.now.clauses ++ own.now) (chain_of chain.now) stage.new.clause.items)
+        (ReachesNothing (form.now.clauses ++ own.now) (chain_of chain.now))) }
 {
     resolvents_are_unique();
-    let [first, behind @ ..] = chain else {
+    let mut rest = *chain;
+    let Some(first) = rest.next() else {
         return Ok(false);
     };
-    begin(form, own, *first, stage)?;
-    let mut rest = behind;
-    while let [pivot, others @ ..] = rest {
-        let [number, later @ ..] = others else {
+    begin(form, own, first, stage)?;
+    while let Some(pivot) = rest.next() {
+        let Some(number) = rest.next() else {
             return Ok(false);
         };
-        if !step(form, own, *pivot, *number, stage)? {
+        if !step(form, own, pivot, number, stage)? {
             return Ok(false);
         }
-        rest = later;
     }
     Ok(true)
 }
@@ -249,15 +252,41 @@ fn denied(form: &Form, position: u64, value: u32) -> Lit
     form.atom(position, value).opposite()
 }
 
+/// Whether a row has an index for each position, below the number of its values.
+pub(crate) fn is_row(form: &Form, row: &NumberReader<'_>) -> bool
+    ensures { IsTrue result ↔ IsRow form.now.sizes (numbers_of row.now) }
+{
+    let sizes = form.sizes();
+    let mut indexes = *row;
+    for size in sizes {
+        let Some(index) = indexes.next() else {
+            return false;
+        };
+        if index >= *size {
+            return false;
+        }
+    }
+    indexes.next().is_none()
+}
+
 /// Writes the clause that denies a row in the place of what is there.
-pub(crate) fn write_denial(form: &Form, row: &[u32], out: &mut Vec<Lit>) -> Result<(), OutOfMemory>
-    requires { IsRow form.now.sizes row.now }
-    ensures denial { OnOk result (out.new.items ≡ row_denial form.now.sizes row.now) }
+pub(crate) fn write_denial(
+    form: &Form,
+    row: &NumberReader<'_>,
+    out: &mut Vec<Lit>,
+) -> Result<(), OutOfMemory>
+    requires { IsRow form.now.sizes (numbers_of row.now) }
+    ensures denial { OnOk result (out.new.items ≡ row_denial form.now.sizes (numbers_of row.now)) }
     ensures clause { OnOk result (IsClauseOver form.now.variables out.new.items) }
 {
     out.clear();
-    for (i, index) in row.iter().enumerate() {
-        out.push(denied(form, i as u64, *index))?;
+    let count = form.sizes().len();
+    let mut rest = *row;
+    for i in 0..count {
+        let Some(index) = rest.next() else {
+            return Ok(());
+        };
+        out.push(denied(form, i as u64, index))?;
     }
     Ok(())
 }

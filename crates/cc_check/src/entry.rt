@@ -1,14 +1,16 @@
 //! Reading the entries of version 2 of a log.
-ghost use Rattle.std.specs.Prelude.{◌≡◌, ℕ, ◌<◌, ◌≤◌, ◌↔◌, List, [], ◌∷◌, IfOk, IsTrue, MatchOption};
+ghost use Rattle.std.specs.Prelude.{◌≡◌, ℕ, ◌<◌, ◌≤◌, ◌↔◌, List, [], ◌∷◌, IsTrue, MatchOption};
 ghost use Rattle.cc_defs.specs.declared.log.LogLine.TheVariants as lines;
+ghost use Rattle.cc_defs.specs.declared.log.Version.TheVariants as versions;
 ghost use Rattle.cc_defs.specs.Clauses.{Literal};
 ghost use Rattle.cc_defs.specs.LogBytes.{end_word_bytes};
 ghost use Rattle.cc_defs.specs.LogBytes.{BeginsWith, HasNoEntry};
 ghost use Rattle.cc_check.specs.Entries.{AreLiteralsIn, AreNumbersIn, HasNoEnd, HasNoHeading, HasNoLiteralIn, HasNoLiteralsIn, HasNoNumberIn, HasNoNumberWithin, HasNoNumbersIn, IsEntryRead, IsLiteralIn, IsNoWord, IsNumberIn, IsNumberWithin};
+ghost use Rattle.cc_check.specs.Readers.{literals_in, literals_of, numbers_in, numbers_of};
 
-use crate::line::{Heading, Kind, Room};
-use crate::number::Named;
-use cc_defs::{EndWord, OutOfMemory};
+use crate::line::{Heading, Kind, LineParts};
+use crate::reader::{LiteralReader, NumberReader};
+use cc_defs::{EndWord, Version};
 
 // Whether a number can have this above its lowest seven bits: with 0 it would be one byte shorter, with more it is past 1999999999.
 fn is_high_part(high: u32) -> bool
@@ -41,7 +43,7 @@ fn number_within(more: u32, bytes: &[u8]) -> Option<(u32, &[u8])>
 }
 
 // The number that bytes begin with, and what stands behind it.
-fn number_in(bytes: &[u8]) -> Option<(u32, &[u8])>
+pub(crate) fn number_in(bytes: &[u8]) -> Option<(u32, &[u8])>
     ensures { MatchOption result
         (HasNoNumberIn bytes.now) (λ read. IsNumberIn bytes.now read.0 read.1.now) }
 {
@@ -49,7 +51,7 @@ fn number_in(bytes: &[u8]) -> Option<(u32, &[u8])>
 }
 
 // The literal that bytes begin with: its variable and whether it is positive, and what stands behind it.
-fn literal_in(bytes: &[u8]) -> Option<(u32, bool, &[u8])>
+pub(crate) fn literal_in(bytes: &[u8]) -> Option<(u32, bool, &[u8])>
     ensures { MatchOption result (HasNoLiteralIn bytes.now) (λ read.
         IsLiteralIn bytes.now (record { variable = read.0; positive = read.1 }) read.2.now) }
 {
@@ -62,91 +64,90 @@ fn literal_in(bytes: &[u8]) -> Option<(u32, bool, &[u8])>
     Some((number / 2, number % 2 == 0, rest))
 }
 
-// Reads so many numbers, and gives what stands behind them. With a count past the bytes none is read.
-fn read_numbers<'b>(
-    bytes: &'b [u8],
-    count: u32,
-    numbers: &mut Vec<u32>,
-) -> Result<Option<&'b [u8]>, OutOfMemory>
-    ensures { IfOk result (λ rest. MatchOption rest (HasNoNumbersIn count bytes.now) (λ rest.
-        AreNumbersIn count bytes.now numbers.new.items rest.now)) }
+// What stands behind so many numbers.
+fn behind_numbers(bytes: &[u8], count: usize) -> Option<&[u8]>
+    ensures { MatchOption result (HasNoNumbersIn count bytes.now) (λ rest.
+        AreNumbersIn count bytes.now (numbers_in versions.Second count bytes.now) rest.now) }
 {
-    numbers.clear();
-    if count as usize > bytes.len() {
-        return Ok(None);
-    }
     let mut rest = bytes;
     for _ in 0..count {
-        let Some((number, next)) = number_in(rest) else {
-            return Ok(None);
+        let Some((_, next)) = number_in(rest) else {
+            return None;
         };
-        numbers.push(number)?;
         rest = next;
     }
-    Ok(Some(rest))
+    Some(rest)
 }
 
-// Reads so many literals, and gives what stands behind them. With a count past the bytes none is read.
-fn read_literals<'b>(
-    bytes: &'b [u8],
-    count: u32,
-    literals: &mut Vec<Named>,
-) -> Result<Option<&'b [u8]>, OutOfMemory>
-    ensures { IfOk result (λ rest. MatchOption rest (HasNoLiteralsIn count bytes.now) (λ rest.
-        AreLiteralsIn count bytes.now literals.new.items rest.now)) }
+// What stands behind so many literals.
+fn behind_literals(bytes: &[u8], count: usize) -> Option<&[u8]>
+    ensures { MatchOption result (HasNoLiteralsIn count bytes.now) (λ rest.
+        AreLiteralsIn count bytes.now (literals_in versions.Second count bytes.now) rest.now) }
 {
-    literals.clear();
-    if count as usize > bytes.len() {
-        return Ok(None);
-    }
     let mut rest = bytes;
     for _ in 0..count {
-        let Some((variable, positive, next)) = literal_in(rest) else {
-            return Ok(None);
+        let Some((_, _, next)) = literal_in(rest) else {
+            return None;
         };
-        literals.push(Named { variable, positive })?;
         rest = next;
     }
-    Ok(Some(rest))
+    Some(rest)
 }
 
-// Reads what stands behind the kind of a derived line.
-fn read_derived<'b>(
-    body: &'b [u8],
-    room: &mut Room,
-) -> Result<Option<(Kind, &'b [u8])>, OutOfMemory>
-    ensures { IfOk result (λ read.
-        MatchOption read (HasNoEntry (3 ∷ body.now)) (λ entry. IsEntryRead
-        (3 ∷ body.now) room.new.literals.items room.new.numbers.items entry.0 entry.1.now)) }
+// What stands behind the kind of a derived line, and behind that line.
+fn derived_in(body: &[u8]) -> Option<(LineParts<'_>, &[u8])>
+    ensures { MatchOption result (HasNoEntry (3 ∷ body.now)) (λ read. IsEntryRead (3 ∷ body.now)
+        (literals_of read.0.literals) (numbers_of read.0.numbers) read.0.kind read.1.now) }
 {
     let Some((count, clause)) = number_in(body) else {
-        return Ok(None);
+        return None;
     };
-    let Some(behind) = read_literals(clause, count, &mut room.literals)? else {
-        return Ok(None);
+    let Some(behind) = behind_literals(clause, count as usize) else {
+        return None;
     };
     let Some((pairs, chain)) = number_in(behind) else {
-        return Ok(None);
+        return None;
     };
-    let Some(rest) = read_numbers(chain, 2 * pairs + 1, &mut room.numbers)? else {
-        return Ok(None);
+    let Some(rest) = behind_numbers(chain, 2 * pairs as usize + 1) else {
+        return None;
     };
-    Ok(Some((Kind::Derived, rest)))
+    let line = LineParts {
+        kind: Kind::Derived,
+        literals: LiteralReader {
+            version: Version::Second,
+            count: count as usize,
+            bytes: clause,
+        },
+        numbers: NumberReader {
+            version: Version::Second,
+            count: 2 * pairs as usize + 1,
+            bytes: chain,
+        },
+    };
+    Some((line, rest))
 }
 
-// Reads what stands behind the kind of a block.
-fn read_block<'b>(body: &'b [u8], room: &mut Room) -> Result<Option<(Kind, &'b [u8])>, OutOfMemory>
-    ensures { IfOk result (λ read.
-        MatchOption read (HasNoEntry (4 ∷ body.now)) (λ entry. IsEntryRead
-        (4 ∷ body.now) room.new.literals.items room.new.numbers.items entry.0 entry.1.now)) }
+// What stands behind the kind of a block, and behind that block.
+fn block_in(body: &[u8]) -> Option<(LineParts<'_>, &[u8])>
+    ensures { MatchOption result (HasNoEntry (4 ∷ body.now)) (λ read. IsEntryRead (4 ∷ body.now)
+        (literals_of read.0.literals) (numbers_of read.0.numbers) read.0.kind read.1.now) }
 {
     let Some((count, row)) = number_in(body) else {
-        return Ok(None);
+        return None;
     };
-    let Some(rest) = read_numbers(row, count, &mut room.numbers)? else {
-        return Ok(None);
+    let Some(rest) = behind_numbers(row, count as usize) else {
+        return None;
     };
-    Ok(Some((Kind::Block, rest)))
+    let line = LineParts {
+        kind: Kind::Block,
+        literals: LiteralReader::none(),
+        numbers: NumberReader {
+            version: Version::Second,
+            count: count as usize,
+            bytes: row,
+        },
+    };
+    Some((line, rest))
 }
 
 fn word_of(byte: u8) -> Option<EndWord>
@@ -202,26 +203,25 @@ pub fn heading_in(bytes: &[u8]) -> Option<(Heading, &[u8])>
     ))
 }
 
-/// Reads the entry at the front of bytes: what it is, its literals and numbers into the room in place of what is there (a chain
-/// has distances in place of the numbers of clauses), and what stands behind it. Nothing: no entry stands there. A count takes no
-/// memory: the lists grow by what is read, and nothing is where the count is greater than the number of bytes that are left.
-pub fn read_entry<'b>(
-    bytes: &'b [u8],
-    room: &mut Room,
-) -> Result<Option<(Kind, &'b [u8])>, OutOfMemory>
-    ensures { IfOk result (λ read. MatchOption read (HasNoEntry bytes.now) (λ entry.
-        IsEntryRead bytes.now room.new.literals.items room.new.numbers.items entry.0 entry.1.now)) }
+/// The entry at the front of bytes, whose literals and numbers are left where they stand (a chain has distances in place of the
+/// numbers of clauses), and what stands behind it. Nothing: no entry stands there. It takes no memory, whatever the counts are.
+pub fn read_entry(bytes: &[u8]) -> Option<(LineParts<'_>, &[u8])>
+    ensures { MatchOption result (HasNoEntry bytes.now) (λ read. IsEntryRead bytes.now
+        (literals_of read.0.literals) (numbers_of read.0.numbers) read.0.kind read.1.now) }
 {
     let [kind, body @ ..] = bytes else {
-        return Ok(None);
+        return None;
     };
     if *kind == 3 {
-        return read_derived(body, room);
+        return derived_in(body);
     }
     if *kind == 4 {
-        return read_block(body, room);
+        return block_in(body);
     }
-    Ok(other_in(bytes))
+    match other_in(bytes) {
+        Some((kind, rest)) => Some((LineParts::bare(kind), rest)),
+        None => None,
+    }
 }
 
 // An entry that is neither a derived line nor a block.

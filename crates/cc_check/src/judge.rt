@@ -3,20 +3,21 @@ ghost use Rattle.std.specs.Prelude.{◌≡◌, ◌==◌, ◌||◌, ◌↔◌, Bo
 ghost use Rattle.std.specs.Bool.{MatchBool};
 ghost use Rattle.cc_defs.specs.declared.log.EndWord.TheVariants as words;
 ghost use Rattle.cc_defs.specs.declared.log.LogLine.TheVariants as lines;
-ghost use Rattle.cc_defs.specs.Clauses.{IsClause, IsOver, Literal};
+ghost use Rattle.cc_defs.specs.Clauses.{IsClause, IsOver};
 ghost use Rattle.cc_defs.specs.Limits.{most_log_bytes};
-ghost use Rattle.cc_defs.specs.LogBytes.{IsSpelled, chain_behind, line_meant};
+ghost use Rattle.cc_defs.specs.LogBytes.{IsSpelled};
 ghost use Rattle.cc_defs.specs.Sections.{EndsRightly, Finding as PlainFinding, HasNoForm, row_denial};
 ghost use Rattle.cc_check.specs.Clauses.{AreSound, HasLineBehind, IsClauseOver, IsEndedInBytes, IsFoundInBytes, IsPassed, IsPassedAt, IsVerdictOf, IsWrongDerived, IsRightDerived, plain_finding, reading_as};
-ghost use Rattle.cc_check.specs.Reading.{IsReadIn};
+ghost use Rattle.cc_check.specs.Readers.{chain_of, literals_of, numbers_of};
+ghost use Rattle.cc_check.specs.Reading.{IsLineRead};
 ghost use Rattle.cc_check.specs.SectionTexts.{IsFoundOf};
 
 use crate::clauses::{
-    Stage, are_named, has_empty, is_clause_over, is_same_clause, reach, write_denial,
+    Stage, are_named, has_empty, is_clause_over, is_row, is_same_clause, reach, write_denial,
 };
 use crate::front::read_text;
-use crate::line::{Kind, Room};
-use crate::number::Named;
+use crate::line::{Kind, LineParts};
+use crate::reader::{ChainReader, LiteralReader, NumberReader};
 use crate::sections::Section;
 use cc_clauses::ClauseArena;
 use cc_defs::{Cause, EndWord, Lit, OutOfMemory, Version};
@@ -69,14 +70,13 @@ pub(crate) enum Pass {
     Wrong(Cause),
 }
 
-// The clauses of a section behind those of its form, and room for one line after another.
+// The clauses of a section behind those of its form, and room for what one line after another reaches.
 #[derive(Drop)]
 struct Checker {
     own: ClauseArena,
     blocks: u32,
     /// Whether a clause is empty.
     refuted: bool,
-    room: Room,
     stage: Stage,
 }
 
@@ -85,14 +85,16 @@ fn derived_cause(
     form: &Form,
     own: &ClauseArena,
     refuted: bool,
-    clause: &[Named],
-    chain: &[u32],
+    clause: &LiteralReader<'_>,
+    chain: &ChainReader<'_>,
     stage: &mut Stage,
 ) -> Result<Option<Cause>, OutOfMemory>
     requires { AreSound form.now own.now refuted }
-    ensures { IfOk result (λ cause. MatchOption cause (IsRightDerived form.now
-        (form.now.clauses ++ own.now) clause.now chain.now × (stage.new.clause.items ≡ clause.now))
-        (IsWrongDerived form.now (form.now.clauses ++ own.now) clause.now chain.now)) }
+    ensures { IfOk result (λ cause. MatchOption cause
+        (IsRightDerived form.now (form.now.clauses ++ own.now) (literals_of clause.now)
+        (chain_of chain.now) × (stage.new.clause.items ≡ literals_of clause.now))
+        (IsWrongDerived form.now (form.now.clauses ++ own.now) (literals_of clause.now)
+        (chain_of chain.now))) }
 {
     if refuted {
         return Ok(Some(Cause::Section));
@@ -136,28 +138,6 @@ fn own_number(form: &Form, own: &ClauseArena) -> u32
     form.count() + own.count() as u32 + 1
 }
 
-// Puts the number of a clause in the place of each distance from the own number; 0, where the distance is not below it.
-fn name_distances(own: u32, chain: &mut Vec<u32>)
-    ensures { chain.new.items ≡ chain_behind own chain.old.items }
-{
-    let mut i = 0;
-    while i < chain.len() {
-        chain[i] = own.saturating_sub(chain[i]);
-        i += 2;
-    }
-}
-
-// Names the clauses of a chain by their numbers, where the version of the log has distances from the own number.
-fn name_clauses(version: Version, own: u32, chain: &mut Vec<u32>)
-    ensures { (clause : List Literal) → line_meant version own
-        (lines.Derived clause chain.old.items) ≡ lines.Derived clause chain.new.items }
-{
-    match version {
-        Version::First => {}
-        Version::Second => name_distances(own, chain),
-    }
-}
-
 impl Checker {
     fn new(alloc: Global, form: &Form) -> Checker
         ensures own { result.own ≡ [] }
@@ -168,7 +148,6 @@ impl Checker {
             own: ClauseArena::new(alloc),
             blocks: 0,
             refuted: has_empty(form),
-            room: Room::new(alloc),
             stage: Stage::new(alloc),
         }
     }
@@ -188,12 +167,17 @@ impl Checker {
         Ok(())
     }
 
-    // The derived line that was read into the room, as its version writes it: its clauses are named by their numbers afterwards.
-    fn derived(&mut self, form: &Form, version: Version) -> Result<Pass, OutOfMemory>
+    // A derived line, as its version writes it.
+    fn derived(
+        &mut self,
+        form: &Form,
+        version: Version,
+        line: &LineParts<'_>,
+    ) -> Result<Pass, OutOfMemory>
         requires sound { AreSound form.now self.old.own self.old.refuted }
         requires few { length self.old.own ≤ most_log_bytes }
         ensures passed { IfOk result (λ pass. (may : Bool) (text : List ℕ) → IsSpelled version text
-            (lines.Derived self.old.room.literals.items self.old.room.numbers.items) →
+            (lines.Derived (literals_of line.now.literals) (numbers_of line.now.numbers)) →
             IsPassed (reading_as version may)
             form.now self.old.own self.old.blocks text pass self.new.own self.new.blocks) }
         ensures sound { OnOk result (AreSound form.now self.new.own self.new.refuted) }
@@ -201,15 +185,13 @@ impl Checker {
         ensures grown { OnOk result (length self.new.own ≤ length self.old.own + 1) }
     {
         let own = own_number(form, &self.own);
-        name_clauses(version, own, &mut self.room.numbers);
-        let clause = self.room.literals.as_slice();
-        let chain = self.room.numbers.as_slice();
+        let chain = ChainReader::of(version, own, line.numbers);
         match derived_cause(
             form,
             &self.own,
             self.refuted,
-            clause,
-            chain,
+            &line.literals,
+            &chain,
             &mut self.stage,
         )? {
             Some(cause) => Ok(Pass::Wrong(cause)),
@@ -220,12 +202,12 @@ impl Checker {
         }
     }
 
-    // The block that was read into the room: one may be there or not.
-    fn block(&mut self, form: &Form, may: bool) -> Result<Pass, OutOfMemory>
+    // A block of a row: one may be there or not.
+    fn block(&mut self, form: &Form, may: bool, row: &NumberReader<'_>) -> Result<Pass, OutOfMemory>
         requires sound { AreSound form.now self.old.own self.old.refuted }
         requires few { self.old.blocks ≤ most_log_bytes }
         ensures passed { IfOk result (λ pass. (version : _) (text : List ℕ) → IsSpelled version text
-            (lines.Block self.old.room.numbers.items) → IsPassed (reading_as version may)
+            (lines.Block (numbers_of row.now)) → IsPassed (reading_as version may)
             form.now self.old.own self.old.blocks text pass self.new.own self.new.blocks) }
         ensures sound { OnOk result (AreSound form.now self.new.own self.new.refuted) }
         ensures counted { OnOk result (self.new.blocks ≤ self.old.blocks + 1) }
@@ -237,10 +219,10 @@ impl Checker {
         if self.refuted {
             return Ok(Pass::Wrong(Cause::Section));
         }
-        if !form.is_row(&self.room.numbers) {
+        if !is_row(form, row) {
             return Ok(Pass::Wrong(Cause::Row));
         }
-        write_denial(form, &self.room.numbers, &mut self.stage.clause)?;
+        write_denial(form, row, &mut self.stage.clause)?;
         self.add(form)?;
         self.blocks += 1;
         Ok(Pass::Goes)
@@ -261,31 +243,32 @@ impl Checker {
         }
     }
 
-    // The line that was read into the room, or what is no line.
+    // A line that was read, or what is no line.
     fn line(
         &mut self,
         form: &Form,
         version: Version,
         may: bool,
-        kind: Option<Kind>,
+        line: Option<LineParts<'_>>,
     ) -> Result<Pass, OutOfMemory>
         requires sound { AreSound form.now self.old.own self.old.refuted }
         requires few { self.old.blocks ≤ most_log_bytes }
         requires own { length self.old.own ≤ most_log_bytes }
-        ensures passed { IfOk result (λ pass. (text : List ℕ) → MatchOption kind
-            (HasNoForm version text) (IsReadIn version text self.old.room.literals.items
-            self.old.room.numbers.items) → IsPassed (reading_as version may)
+        ensures passed { IfOk result (λ pass. (text : List ℕ) → IsLineRead version text line.entry →
+            IsPassed (reading_as version may)
             form.now self.old.own self.old.blocks text pass self.new.own self.new.blocks) }
         ensures sound { OnOk result (AreSound form.now self.new.own self.new.refuted) }
         ensures counted { OnOk result (self.new.blocks ≤ self.old.blocks + 1) }
         ensures grown { OnOk result (length self.new.own ≤ length self.old.own + 1) }
     {
-        match kind {
-            None => Ok(Pass::Wrong(Cause::Form)),
-            Some(Kind::Heading) => Ok(Pass::Wrong(Cause::Section)),
-            Some(Kind::End(word)) => Ok(self.end(form, word)),
-            Some(Kind::Derived) => self.derived(form, version),
-            Some(Kind::Block) => self.block(form, may),
+        let Some(line) = line else {
+            return Ok(Pass::Wrong(Cause::Form));
+        };
+        match line.kind {
+            Kind::Heading => Ok(Pass::Wrong(Cause::Section)),
+            Kind::End(word) => Ok(self.end(form, word)),
+            Kind::Derived => self.derived(form, version, &line),
+            Kind::Block => self.block(form, may, &line.numbers),
         }
     }
 
@@ -308,43 +291,37 @@ impl Checker {
         ensures counted { OnOk result (self.new.blocks ≤ self.old.blocks + 1) }
         ensures grown { OnOk result (length self.new.own ≤ length self.old.own + 1) }
     {
-        let (kind, rest) = read_text(version, bytes, &mut self.room)?;
-        let pass = self.line(form, version, may, kind)?;
+        let (line, rest) = read_text(version, bytes);
+        let pass = self.line(form, version, may, line)?;
         Ok((pass, rest))
     }
 
     // What stands behind the end of a section, whose line is given.
-    fn behind_end(
-        &mut self,
-        version: Version,
-        word: EndWord,
-        line: u32,
-        rest: &[u8],
-    ) -> Result<Finding, OutOfMemory>
+    fn behind_end(&self, version: Version, word: EndWord, line: u32, rest: &[u8]) -> Finding
         requires { line ≤ 4000000000 }
-        ensures ended { IfOk result (λ finding.
-            IsEndedInBytes version word self.old.blocks line rest.now (plain_finding finding)) }
-        ensures few { IfOk result (λ finding. HasLineBehind finding) }
+        ensures ended { IsEndedInBytes
+            version word self.now.blocks line rest.now (plain_finding result) }
+        ensures few { HasLineBehind result }
     {
         if rest.is_empty() {
-            return Ok(Finding::Right {
+            return Finding::Right {
                 ending: word,
                 blocks: self.blocks,
                 line,
-            });
+            };
         }
-        let (kind, _) = read_text(version, rest, &mut self.room)?;
-        match kind {
-            None => Ok(Finding::Trailed {
+        let (read, _) = read_text(version, rest);
+        match read {
+            None => Finding::Trailed {
                 ending: word,
                 line,
                 cause: Cause::Form,
-            }),
-            Some(_) => Ok(Finding::Trailed {
+            },
+            Some(_) => Finding::Trailed {
                 ending: word,
                 line,
                 cause: Cause::Section,
-            }),
+            },
         }
     }
 }
@@ -371,7 +348,7 @@ pub(crate) fn find_lines(
         let (pass, behind) = checker.pass(form, version, may, rest)?;
         match pass {
             Pass::Goes => {}
-            Pass::Ends(word) => return checker.behind_end(version, word, line, behind),
+            Pass::Ends(word) => return Ok(checker.behind_end(version, word, line, behind)),
             Pass::Wrong(cause) => return Ok(Finding::Wrong { line, cause }),
         }
         rest = behind;

@@ -1,19 +1,19 @@
 //! Reading a line.
-ghost use Rattle.std.specs.Prelude.{◌≡◌, ℕ, List, [], ◌∷◌, ◌++◌, ◌↔◌, true, false, length, IfOk, IsTrue, MatchOption};
-ghost use Rattle.std.specs.Bool.{MatchBool};
+ghost use Rattle.std.specs.Prelude.{◌≡◌, ℕ, ◌<◌, ◌%◌, List, [], ◌∷◌, ◌↔◌, IsTrue, MatchOption};
 ghost use Rattle.cc_defs.specs.declared.log.LogLine.TheVariants as lines;
 ghost use Rattle.cc_defs.specs.declared.log.Version.TheVariants.{First};
 ghost use Rattle.cc_defs.specs.LogTexts.{IsLine};
 ghost use Rattle.cc_defs.specs.Clauses.{Literal};
 ghost use Rattle.cc_defs.specs.Logs.{IsNoHeading};
 ghost use Rattle.cc_defs.specs.Sections.{HasNoForm};
-ghost use Rattle.cc_check.specs.Reading.{AreNumbers, HasNoNumbers, AreLiterals, HasNoLiterals, IsRead, IsNoEnd, IsEndedChain, IsLast};
+ghost use Rattle.cc_check.specs.Readers.{literals_in, literals_of, numbers_in, numbers_of};
+ghost use Rattle.cc_check.specs.Reading.{AreCounted, AreLiterals, HasNoChain, HasNoNumbers, HasNoLiterals, IsChainIn, IsRead, IsNoEnd, IsLast};
 
-use crate::number::{Named, number_at, signed_at};
-use cc_defs::{EndWord, OutOfMemory};
-use std::alloc::Global;
+use crate::number::{number_at, signed_at};
+use crate::reader::{LiteralReader, NumberReader};
+use cc_defs::{EndWord, Version};
 
-/// What a line is: its literals and numbers stand in a room.
+/// What a line is.
 #[derive(Clone, Copy)]
 pub enum Kind {
     Heading,
@@ -22,13 +22,14 @@ pub enum Kind {
     End(EndWord),
 }
 
-/// Room for what a line has, used for one line after another.
-#[derive(Drop)]
-pub struct Room {
+/// A line, whose literals and numbers are left in the bytes that they stand in.
+#[derive(Clone, Copy)]
+pub struct LineParts<'b> {
+    pub kind: Kind,
     /// Those of a derived line's clause.
-    pub literals: Vec<Named>,
+    pub literals: LiteralReader<'b>,
     /// The chain of a derived line, or the row of a block.
-    pub numbers: Vec<u32>,
+    pub numbers: NumberReader<'b>,
 }
 
 /// The heading of a section.
@@ -38,12 +39,15 @@ pub struct Heading {
     pub horizon: u32,
 }
 
-impl Room {
-    /// Room that is empty. It takes no memory.
-    pub fn new(alloc: Global) -> Room {
-        Room {
-            literals: Vec::new(alloc),
-            numbers: Vec::new(alloc),
+impl<'b> LineParts<'b> {
+    /// A line that has no literals and no numbers.
+    pub(crate) fn bare(kind: Kind) -> LineParts<'b>
+        ensures { result.kind ≡ kind }
+    {
+        LineParts {
+            kind,
+            literals: LiteralReader::none(),
+            numbers: NumberReader::none(),
         }
     }
 }
@@ -54,89 +58,117 @@ fn is_line_feed(text: &[u8]) -> bool
     text == b"\n".as_slice()
 }
 
-// Reads numbers up to the line feed, whether they are there or not.
-fn read_numbers(text: &[u8], numbers: &mut Vec<u32>) -> Result<bool, OutOfMemory>
-    ensures { IfOk result (λ read.
-        MatchBool read (AreNumbers text.now numbers.new.items) (HasNoNumbers text.now)) }
+// How many numbers stand before the line feed, and the last of them.
+fn count_numbers(text: &[u8]) -> Option<(usize, u32)>
+    ensures { MatchOption result (HasNoNumbers text.now) (λ read. AreCounted text.now read.0 read.1) }
 {
-    numbers.clear();
     let mut rest = text;
+    let mut count = 0;
+    let mut last = 0;
     while let [byte, behind @ ..] = rest {
         if *byte != b' ' {
             break;
         }
         let Some((number, next)) = number_at(behind) else {
-            return Ok(false);
+            return None;
         };
-        numbers.push(number)?;
+        count += 1;
+        last = number;
         rest = next;
     }
-    Ok(is_line_feed(rest))
+    if !is_line_feed(rest) {
+        return None;
+    }
+    Some((count, last))
 }
 
-// Reads literals up to a 0, and gives what stands behind it.
-fn read_literals<'b>(
-    text: &'b [u8],
-    literals: &mut Vec<Named>,
-) -> Result<Option<&'b [u8]>, OutOfMemory>
-    ensures { IfOk result (λ rest. MatchOption rest (HasNoLiterals text.now) (λ rest.
-        AreLiterals text.now literals.new.items rest.now)) }
+// How many literals stand before a 0, and what stands behind that.
+fn count_literals(text: &[u8]) -> Option<(usize, &[u8])>
+    ensures { MatchOption result (HasNoLiterals text.now) (λ read.
+        AreLiterals text.now (literals_in First read.0 text.now) read.1.now) }
 {
-    literals.clear();
     let mut rest = text;
+    let mut count = 0;
     while let [byte, behind @ ..] = rest {
         if *byte != b' ' {
-            return Ok(None);
+            return None;
         }
-        let Some((variable, positive, next)) = signed_at(behind) else {
-            return Ok(None);
+        let Some((variable, _, next)) = signed_at(behind) else {
+            return None;
         };
         if variable == 0 {
-            return Ok(Some(next));
+            return Some((count, next));
         }
-        literals.push(Named { variable, positive })?;
+        count += 1;
         rest = next;
     }
-    Ok(None)
+    None
 }
 
-// Takes away the 0 that ends a chain, and says whether what is left is one.
-fn take_end(numbers: &mut Vec<u32>) -> bool
-    ensures { MatchBool result (IsEndedChain numbers.old.items numbers.new.items)
-        ((chain : List ℕ) → IsEndedChain numbers.old.items chain → ⊥) }
+// Whether so many numbers, of which this is the last, are a chain and a 0 behind it.
+fn is_ended(count: usize, last: u32) -> bool
+    ensures { IsTrue result ↔ ((0 < count) × (count % 2 ≡ 0) × (last ≡ 0)) }
 {
-    match numbers.pop() {
-        Some(0) => numbers.len() % 2 == 1,
-        _ => false,
-    }
+    count > 0 && count % 2 == 0 && last == 0
 }
 
-// Reads what stands behind the letter of a derived line.
-fn read_derived(body: &[u8], room: &mut Room) -> Result<Option<Kind>, OutOfMemory>
-    ensures { IfOk result (λ kind. MatchOption kind (HasNoForm First (100 ∷ body.now))
-        (IsRead (100 ∷ body.now) room.new.literals.items room.new.numbers.items)) }
+// How many numbers a chain has that stands before the line feed: a 0 stands behind them.
+fn count_chain(text: &[u8]) -> Option<usize>
+    ensures { MatchOption result (HasNoChain text.now) (λ count.
+        IsChainIn text.now (numbers_in First count text.now)) }
 {
-    let Some(tail) = read_literals(body, &mut room.literals)? else {
-        return Ok(None);
+    let Some((count, last)) = count_numbers(text) else {
+        return None;
     };
-    if !read_numbers(tail, &mut room.numbers)? {
-        return Ok(None);
+    if !is_ended(count, last) {
+        return None;
     }
-    if !take_end(&mut room.numbers) {
-        return Ok(None);
-    }
-    Ok(Some(Kind::Derived))
+    Some(count - 1)
 }
 
-// Reads what stands behind the letter of a block.
-fn read_block(body: &[u8], room: &mut Room) -> Result<Option<Kind>, OutOfMemory>
-    ensures { IfOk result (λ kind. MatchOption kind (HasNoForm First (98 ∷ body.now))
-        (IsRead (98 ∷ body.now) room.new.literals.items room.new.numbers.items)) }
+// What stands behind the letter of a derived line.
+fn derived_of(body: &[u8]) -> Option<LineParts<'_>>
+    ensures { MatchOption result (HasNoForm First (100 ∷ body.now)) (λ read. IsRead
+        (100 ∷ body.now) (literals_of read.literals) (numbers_of read.numbers) read.kind) }
 {
-    if !read_numbers(body, &mut room.numbers)? {
-        return Ok(None);
-    }
-    Ok(Some(Kind::Block))
+    let Some((count, tail)) = count_literals(body) else {
+        return None;
+    };
+    let Some(links) = count_chain(tail) else {
+        return None;
+    };
+    Some(LineParts {
+        kind: Kind::Derived,
+        literals: LiteralReader {
+            version: Version::First,
+            count,
+            bytes: body,
+        },
+        numbers: NumberReader {
+            version: Version::First,
+            count: links,
+            bytes: tail,
+        },
+    })
+}
+
+// What stands behind the letter of a block.
+fn block_of(body: &[u8]) -> Option<LineParts<'_>>
+    ensures { MatchOption result (HasNoForm First (98 ∷ body.now)) (λ read. IsRead
+        (98 ∷ body.now) (literals_of read.literals) (numbers_of read.numbers) read.kind) }
+{
+    let Some((count, _)) = count_numbers(body) else {
+        return None;
+    };
+    Some(LineParts {
+        kind: Kind::Block,
+        literals: LiteralReader::none(),
+        numbers: NumberReader {
+            version: Version::First,
+            count,
+            bytes: body,
+        },
+    })
 }
 
 fn end_of(text: &[u8]) -> Option<EndWord>
@@ -187,22 +219,25 @@ pub fn heading_of(text: &[u8]) -> Option<Heading>
     })
 }
 
-/// Reads a line, its line feed included: what it is, and its literals and numbers into the room, in the place of what is there.
-/// Nothing: it is no line of a log. A line's variables may be past those that a `LogLine` can hold.
-pub fn read_line(text: &[u8], room: &mut Room) -> Result<Option<Kind>, OutOfMemory>
-    ensures { IfOk result (λ kind. MatchOption kind (HasNoForm First text.now)
-        (IsRead text.now room.new.literals.items room.new.numbers.items)) }
+/// A line, its line feed included, whose literals and numbers are left where they stand. Nothing: it is no line of a log. A line's
+/// variables may be past those that a `LogLine` can hold. It takes no memory.
+pub fn read_line(text: &[u8]) -> Option<LineParts<'_>>
+    ensures { MatchOption result (HasNoForm First text.now) (λ read. IsRead
+        text.now (literals_of read.literals) (numbers_of read.numbers) read.kind) }
 {
     let [letter, body @ ..] = text else {
-        return Ok(None);
+        return None;
     };
     if *letter == b'd' {
-        return read_derived(body, room);
+        return derived_of(body);
     }
     if *letter == b'b' {
-        return read_block(body, room);
+        return block_of(body);
     }
-    Ok(other_of(text))
+    match other_of(text) {
+        Some(kind) => Some(LineParts::bare(kind)),
+        None => None,
+    }
 }
 
 // A line that is neither a derived one nor a block.

@@ -10,7 +10,7 @@ ghost use Rattle.cc_check.specs.SectionTexts.{AreAhead, IsAheadBehind, length_ah
 use crate::CheckFault;
 use crate::entry::{heading_in, read_entry};
 use crate::front::read_text;
-use crate::line::{Heading, Room, heading_of, read_line};
+use crate::line::{Heading, heading_of, read_line};
 use crate::text::first_line;
 use cc_defs::{Cause, OutOfMemory, Version};
 use std::alloc::Global;
@@ -147,87 +147,74 @@ fn cut_line(bytes: &[u8]) -> (Option<Heading>, &[u8])
 }
 
 // The heading that the first entry of bytes is, if it is one, and what stands behind that entry: nothing, where none stands there.
-fn cut_entry<'b>(
-    bytes: &'b [u8],
-    room: &mut Room,
-) -> Result<(Option<Heading>, &'b [u8]), OutOfMemory>
+fn cut_entry(bytes: &[u8]) -> (Option<Heading>, &[u8])
     requires { 0 < length bytes.now }
-    ensures { IfOk result (λ cut. IsCut versions.Second bytes.now cut.0 cut.1.now) }
+    ensures { IsCut versions.Second bytes.now result.0 result.1.now }
 {
     if let Some((heading, rest)) = heading_in(bytes) {
-        return Ok((Some(heading), rest));
+        return (Some(heading), rest);
     }
-    match read_entry(bytes, room)? {
-        Some((_, rest)) => Ok((None, rest)),
-        None => Ok((None, &[])),
+    match read_entry(bytes) {
+        Some((_, rest)) => (None, rest),
+        None => (None, &[]),
     }
 }
 
 // The heading that the first text of bytes is, if it is one, and what stands behind that text.
-fn cut_text<'b>(
-    version: Version,
-    bytes: &'b [u8],
-    room: &mut Room,
-) -> Result<(Option<Heading>, &'b [u8]), OutOfMemory>
+fn cut_text(version: Version, bytes: &[u8]) -> (Option<Heading>, &[u8])
     requires { 0 < length bytes.now }
-    ensures { IfOk result (λ cut. IsCut version bytes.now cut.0 cut.1.now) }
+    ensures { IsCut version bytes.now result.0 result.1.now }
 {
     match version {
-        Version::First => Ok(cut_line(bytes)),
-        Version::Second => cut_entry(bytes, room),
+        Version::First => cut_line(bytes),
+        Version::Second => cut_entry(bytes),
     }
 }
 
 // The lines up to the next heading.
-fn inside_of<'b>(
-    version: Version,
-    all: &'b [u8],
-    room: &mut Room,
-) -> Result<Inside<'b>, OutOfMemory>
+fn inside_of(version: Version, all: &[u8]) -> Inside<'_>
     requires { length all.now ≤ most_log_bytes }
-    ensures { IfOk result (λ inside.
-        IsInside version all.now inside.bytes.now inside.count inside.next) }
+    ensures { IsInside version all.now result.bytes.now result.count result.next }
 {
     let mut rest = all;
     let mut count = 0;
     while !rest.is_empty() {
-        let (heading, behind) = cut_text(version, rest, room)?;
+        let (heading, behind) = cut_text(version, rest);
         if let Some(heading) = heading {
             let next = Some((heading, behind));
             let bytes = ahead(all, rest.len());
-            return Ok(Inside { bytes, count, next });
+            return Inside { bytes, count, next };
         }
         count += 1;
         rest = behind;
     }
     let next = None;
-    Ok(Inside {
+    Inside {
         bytes: all,
         count,
         next,
-    })
+    }
 }
 
 // What is wrong with a text of version 1 that stands where a heading has to.
-pub(crate) fn second_cause(alloc: Global, text: &[u8]) -> Result<Cause, OutOfMemory>
-    ensures { IfOk result (λ cause. IsSecond text.now cause) }
+pub(crate) fn second_cause(text: &[u8]) -> Cause
+    ensures { IsSecond text.now result }
 {
-    let mut room = Room::new(alloc);
-    match read_line(text, &mut room)? {
-        None => Ok(Cause::Form),
-        Some(_) => Ok(Cause::Section),
+    match read_line(text) {
+        None => Cause::Form,
+        Some(_) => Cause::Section,
     }
 }
 
 // What is wrong with the first text of bytes, where a heading has to stand.
-fn second_cause_at(version: Version, body: &[u8], room: &mut Room) -> Result<Cause, OutOfMemory>
+fn second_cause_at(version: Version, body: &[u8]) -> Cause
     requires { 0 < length body.now }
-    ensures { IfOk result (λ cause. IsSecondAt version body.now cause) }
+    ensures { IsSecondAt version body.now result }
 {
-    let (kind, _) = read_text(version, body, room)?;
-    match kind {
-        None => Ok(Cause::Form),
-        Some(_) => Ok(Cause::Section),
+    let (line, _) = read_text(version, body);
+    match line {
+        None => Cause::Form,
+        Some(_) => Cause::Section,
     }
 }
 
@@ -235,7 +222,6 @@ fn second_cause_at(version: Version, body: &[u8], room: &mut Room) -> Result<Cau
 /// stands behind it. It takes no memory between two sections.
 #[derive(Drop)]
 pub struct Sections<'b> {
-    alloc: Global,
     version: Version,
     line: u32,
     next: Option<(Heading, &'b [u8])>,
@@ -254,11 +240,7 @@ impl<'b> Model for Sections<'b> {
 }
 
 // The sections of the bytes behind a header.
-fn read_behind<'b>(
-    alloc: Global,
-    version: Version,
-    body: &'b [u8],
-) -> Result<Sections<'b>, CheckFault>
+fn read_behind(version: Version, body: &[u8]) -> Result<Sections<'_>, CheckFault>
     requires { length body.now ≤ 268435448 }
     ensures read { IfOk result (λ sections. AreSectionsBehind version body.now sections) }
     ensures refused { IfErr result (IsRefusalBehind version body.now) }
@@ -266,14 +248,12 @@ fn read_behind<'b>(
     if body.is_empty() {
         return Err(refused(2, Cause::Section));
     }
-    let mut room = Room::new(alloc);
-    let (heading, behind) = cut_text(version, body, &mut room)?;
+    let (heading, behind) = cut_text(version, body);
     let Some(heading) = heading else {
-        let cause = second_cause_at(version, body, &mut room)?;
+        let cause = second_cause_at(version, body);
         return Err(refused(2, cause));
     };
     Ok(Sections {
-        alloc,
         version,
         line: 2,
         next: Some((heading, behind)),
@@ -288,13 +268,15 @@ impl<'b> Sections<'b> {
         ensures read { IfOk result (λ sections. AreSectionsOf bytes.now sections) }
         ensures refused { IfErr result (IsRefusal bytes.now) }
     {
+        // It takes no memory.
+        let _ = alloc;
         if let Some(body) = bytes.strip_prefix(BINARY_HEADER) {
-            return read_behind(alloc, Version::Second, body);
+            return read_behind(Version::Second, body);
         }
         let Some(body) = bytes.strip_prefix(HEADER) else {
             return Err(refused(1, Cause::Header));
         };
-        read_behind(alloc, Version::First, body)
+        read_behind(Version::First, body)
     }
 
     /// Reads the section that comes next, up to the heading behind it; a section is a part of the bytes. Nothing: none is left.
@@ -309,8 +291,7 @@ impl<'b> Sections<'b> {
         let Some((heading, behind)) = self.next else {
             return Ok(None);
         };
-        let mut room = Room::new(self.alloc);
-        let inside = inside_of(self.version, behind, &mut room)?;
+        let inside = inside_of(self.version, behind);
         let section = Section {
             version: self.version,
             conditions: heading.conditions,

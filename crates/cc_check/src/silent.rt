@@ -176,7 +176,7 @@ fn pass_section<'b, S: Silent>(
         IfErr result (IsPassFault (S.subject of) line (text.now ∷ lines_in behind.now)) }
 {
     let Some(heading) = kind.read(alloc, text)? else {
-        let cause = second_cause(alloc, text)?;
+        let cause = second_cause(text);
         return Ok(Passed::Stops(refused(line, cause)));
     };
     let inside = inside_of(alloc, kind, behind)?;

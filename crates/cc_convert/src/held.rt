@@ -1,12 +1,13 @@
 //! Lines as they were read, made into lines of a log.
-ghost use Rattle.std.specs.Prelude.{◌≡◌, ◌≤◌, List, IfOk};
+ghost use Rattle.std.specs.Prelude.{◌≡◌, ◌≤◌, IfOk};
+ghost use Rattle.cc_check.specs.Readers.{chain_of, literals_of, numbers_of};
 ghost use Rattle.cc_defs.specs.declared.log.LogLine.TheVariants as lines;
-ghost use Rattle.cc_defs.specs.Clauses.{IsOver, Literal};
+ghost use Rattle.cc_defs.specs.Clauses.{IsOver};
 ghost use Rattle.cc_defs.specs.Limits.{most_variables};
-ghost use Rattle.cc_defs.specs.LogBytes.{chain_behind, line_meant};
+ghost use Rattle.cc_defs.specs.LogBytes.{line_meant};
 ghost use Rattle.cc_convert.specs.Held.{IsHeld, IsHoldable};
 
-use cc_check::{Kind, Named, Room};
+use cc_check::{ChainReader, Kind, LineParts, LiteralReader, Named, NumberReader};
 use cc_defs::{Lit, Lits, LogLine, Nums, OutOfMemory, Row, Version};
 use std::alloc::Global;
 
@@ -22,77 +23,72 @@ fn lit_of(named: Named) -> Lit
     }
 }
 
-fn lits_of(alloc: Global, literals: &[Named]) -> Result<Lits, OutOfMemory>
-    requires { IsOver most_variables literals.now }
-    ensures { IfOk result (λ lits. lits ≡ literals.now) }
+fn lits_of(alloc: Global, literals: &LiteralReader<'_>) -> Result<Lits, OutOfMemory>
+    requires { IsOver most_variables (literals_of literals.now) }
+    ensures { IfOk result (λ lits. lits ≡ literals_of literals.now) }
 {
     let mut lits = Vec::new(alloc);
-    let mut rest = literals;
-    while let [first, behind @ ..] = rest {
-        lits.push(lit_of(*first))?;
-        rest = behind;
+    let mut rest = *literals;
+    while let Some(named) = rest.next() {
+        lits.push(lit_of(named))?;
     }
     Ok(Lits::of(lits))
 }
 
-// Puts the number of a clause in the place of each distance from the own number; 0, where the distance is not below it.
-fn name_distances(own: u32, chain: &mut Vec<u32>)
-    ensures { chain.new.items ≡ chain_behind own chain.old.items }
+// The numbers of a chain, its clauses named by their numbers.
+fn chain_in(alloc: Global, chain: &ChainReader<'_>) -> Result<Nums, OutOfMemory>
+    ensures { IfOk result (λ nums. nums ≡ chain_of chain.now) }
 {
-    let mut i = 0;
-    while i < chain.len() {
-        chain[i] = own.saturating_sub(chain[i]);
-        i += 2;
+    let mut nums = Vec::new(alloc);
+    let mut rest = *chain;
+    while let Some(number) = rest.next() {
+        nums.push(number)?;
     }
+    Ok(Nums::of(nums))
 }
 
-// Names the clauses of a chain by their numbers, where the version of the log has distances from the own number.
-fn name_clauses(version: Version, own: u32, chain: &mut Vec<u32>)
-    ensures { (clause : List Literal) → lines.Derived clause chain.new.items
-        ≡ line_meant version own (lines.Derived clause chain.old.items) }
+fn row_of(alloc: Global, row: &NumberReader<'_>) -> Result<Row, OutOfMemory>
+    ensures { IfOk result (λ made. made ≡ numbers_of row.now) }
 {
-    match version {
-        Version::First => {}
-        Version::Second => name_distances(own, chain),
+    let mut indexes = Vec::new(alloc);
+    let mut rest = *row;
+    while let Some(index) = rest.next() {
+        indexes.push(index)?;
     }
+    Ok(Row::of(indexes))
 }
 
-// The derived line of which this is the clause, and this the chain.
 fn derived_line(
     alloc: Global,
     version: Version,
     own: u32,
-    literals: &[Named],
-    numbers: Vec<u32>,
+    line: &LineParts<'_>,
 ) -> Result<LogLine, OutOfMemory>
-    requires { IsOver most_variables literals.now }
-    ensures { IfOk result (λ line.
-        line ≡ line_meant version own (lines.Derived literals.now numbers.items)) }
+    requires { IsOver most_variables (literals_of line.now.literals) }
+    ensures { IfOk result (λ made. made ≡ line_meant version own
+        (lines.Derived (literals_of line.now.literals) (numbers_of line.now.numbers))) }
 {
-    let clause = lits_of(alloc, literals)?;
-    let mut chain = numbers;
-    name_clauses(version, own, &mut chain);
-    let chain = Nums::of(chain);
+    let clause = lits_of(alloc, &line.literals)?;
+    let chain = chain_in(alloc, &ChainReader::of(version, own, line.numbers))?;
     Ok(LogLine::Derived { clause, chain })
 }
 
-/// The line of this kind that was read into the room in a version, where its own clause has the number `own`.
+/// The line that was read in a version, where its own clause has the number `own`.
 pub(crate) fn line_of(
     alloc: Global,
     version: Version,
     own: u32,
-    kind: Kind,
-    room: Room,
+    line: &LineParts<'_>,
 ) -> Result<LogLine, OutOfMemory>
-    requires { IsHoldable room.literals.items kind }
-    ensures { IfOk result (IsHeld version own room.literals.items room.numbers.items kind) }
+    requires { IsHoldable (literals_of line.now.literals) line.now.kind }
+    ensures { IfOk result (IsHeld version own (literals_of line.now.literals)
+        (numbers_of line.now.numbers) line.now.kind) }
 {
-    let Room { literals, numbers } = room;
-    match kind {
+    match line.kind {
         Kind::Heading => unreachable!(),
-        Kind::Derived => derived_line(alloc, version, own, &literals, numbers),
+        Kind::Derived => derived_line(alloc, version, own, line),
         Kind::Block => {
-            let row = Row::of(numbers);
+            let row = row_of(alloc, &line.numbers)?;
             Ok(LogLine::Block { row })
         }
         Kind::End(word) => Ok(LogLine::End(word)),

@@ -9,7 +9,7 @@ ghost use Rattle.cc_defs.specs.LogVersions.{header_of, line_bytes};
 ghost use Rattle.cc_convert.specs.Saying.{IsOverMost, IsSayableAt};
 
 use crate::held::line_of;
-use cc_check::{Heading, Room, first_line, heading_in, heading_of, read_entry, read_line};
+use cc_check::{Heading, first_line, heading_in, heading_of, read_entry, read_line};
 use cc_defs::{LogLine, OutOfMemory, Version};
 use std::alloc::Global;
 
@@ -56,9 +56,8 @@ fn text_line(alloc: Global, text: &[u8]) -> Result<LogLine, OutOfMemory>
     if let Some(heading) = heading_of(text) {
         return Ok(section_of(heading));
     }
-    let mut room = Room::new(alloc);
-    match read_line(text, &mut room)? {
-        Some(kind) => line_of(alloc, Version::First, 0, kind, room),
+    match read_line(text) {
+        Some(line) => line_of(alloc, Version::First, 0, &line),
         None => unreachable!(),
     }
 }
@@ -90,11 +89,10 @@ fn said_entry<'b>(
     if let Some((heading, rest)) = heading_in(bytes) {
         return Ok((section_of(heading), rest));
     }
-    let mut room = Room::new(alloc);
-    match read_entry(bytes, &mut room)? {
-        Some((kind, rest)) => {
-            let line = line_of(alloc, Version::Second, own, kind, room)?;
-            Ok((line, rest))
+    match read_entry(bytes) {
+        Some((line, rest)) => {
+            let said = line_of(alloc, Version::Second, own, &line)?;
+            Ok((said, rest))
         }
         None => unreachable!(),
     }

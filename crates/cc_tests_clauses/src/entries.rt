@@ -3,7 +3,7 @@ ghost use Rattle.std.specs.Prelude.{IfOk};
 ghost use Rattle.cc_defs.specs.LogTexts.{IsFormed};
 ghost use Rattle.cc_check.specs.Entries.{HasShortLists, NamesBefore};
 
-use cc_check::{Kind, Room, put_binary, read_entry};
+use cc_check::{Kind, LineParts, put_binary, read_entry};
 use cc_defs::{Lits, LogLine, Nums, OutOfMemory};
 use std::alloc::Global;
 use std::test::Fail;
@@ -32,28 +32,33 @@ fn a_line_is_written(rt: HostRuntime) -> Result<(), Fail> {
     Ok(())
 }
 
-fn is_chain(room: &Room) -> bool {
-    room.literals.is_empty()
-        && room.numbers.as_slice() == [1, 1, 27, 2, 3, 4, 15, 10, 6, 9, 17, 2, 3, 6, 2].as_slice()
+// Whether a line has no literals and just these numbers.
+fn is_chain(line: &LineParts<'_>, chain: &[u32]) -> bool {
+    let mut literals = line.literals;
+    let mut numbers = line.numbers;
+    for number in chain {
+        if numbers.next() != Some(*number) {
+            return false;
+        }
+    }
+    literals.next().is_none() && numbers.next().is_none()
 }
 
 #[test]
 fn an_entry_is_read(rt: HostRuntime) {
-    let mut room = Room::new(rt.alloc());
-    match read_entry(ENTRY.as_slice(), &mut room) {
-        Ok(Some((Kind::Derived, rest))) => {
+    match read_entry(ENTRY.as_slice()) {
+        Some((line, rest)) => {
             assert!(rt; rest.is_empty());
-            assert!(rt; is_chain(&room));
+            assert!(rt; matches!(line.kind, Kind::Derived));
+            assert!(rt; is_chain(&line, &[1, 1, 27, 2, 3, 4, 15, 10, 6, 9, 17, 2, 3, 6, 2]));
         }
-        _ => assert!(rt; false),
+        None => assert!(rt; false),
     }
 }
 
 #[test]
 fn a_cut_entry_is_none(rt: HostRuntime) {
-    let mut room = Room::new(rt.alloc());
     for length in 0..ENTRY.len() {
-        let read = read_entry(&ENTRY[..length], &mut room);
-        assert!(rt; matches!(read, Ok(None)));
+        assert!(rt; read_entry(&ENTRY[..length]).is_none());
     }
 }

@@ -1,9 +1,10 @@
 use Rattle.std.proofs.Common.{◌+◌, length}
+use Rattle.cc_check.specs.Readers.{chain_of}
 use Rattle.cc_check.proofs.Chains.{NamedFrom}
 use Rattle.cc_check.proofs.clauses.are_named.Given as goal
 
-abbrev pub invariant-loop-rest : goal.invariant-loop-rest
-invariant-loop-rest l = NamedFrom (l.given + l.own) l.rest l.chain
+abbrev pub invariant-loop-number : goal.invariant-loop-number
+invariant-loop-number l = NamedFrom (l.given + l.own) (chain_of l.rest) (chain_of l.chain)
 
-abbrev pub decreases-loop-rest : goal.decreases-loop-rest
-decreases-loop-rest l = length l.rest
+abbrev pub decreases-loop-number : goal.decreases-loop-number
+decreases-loop-number l = length (chain_of l.rest)

@@ -1,9 +1,10 @@
 use Rattle.std.proofs.Common.{◌++◌, length}
+use Rattle.cc_check.specs.Readers.{chain_of}
 use Rattle.cc_check.proofs.Chains.{ReachedFrom}
 use Rattle.cc_check.proofs.clauses.reach.Given as goal
 
-abbrev pub invariant-loop-rest : goal.invariant-loop-rest
-invariant-loop-rest l = ReachedFrom (l.form.clauses ++ l.own) l.form.variables l.chain l.stage.clause.items l.rest
+abbrev pub invariant-loop-pivot : goal.invariant-loop-pivot
+invariant-loop-pivot l = ReachedFrom (l.form.clauses ++ l.own) l.form.variables (chain_of l.chain) l.stage.clause.items (chain_of l.rest)
 
-abbrev pub decreases-loop-rest : goal.decreases-loop-rest
-decreases-loop-rest l = length l.rest
+abbrev pub decreases-loop-pivot : goal.decreases-loop-pivot
+decreases-loop-pivot l = length (chain_of l.rest)

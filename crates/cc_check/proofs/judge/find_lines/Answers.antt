@@ -1,6 +1,6 @@
 use Rattle.std.proofs.Common.{rules}
-use Rattle.cc_check.specs.Clauses.{reading_as}
-use Rattle.cc_check.proofs.Judged.{found_more, found_ends_ok, found_nothing, found_wrong}
+use Rattle.cc_check.specs.Clauses.{plain_finding, reading_as}
+use Rattle.cc_check.proofs.Judged.{found_more, found_ends, found_nothing, found_wrong}
 use Rattle.cc_check.proofs.judge.find_lines.Goals as goal
 
 pub loop-rest-preserved : goal.loop-rest-preserved
@@ -13,9 +13,9 @@ loop-rest-preserved c = record {
 
 pub returns-in-Ends-clause-found : goal.returns-in-Ends-clause-found
 returns-in-Ends-clause-found c =
-    found_ends_ok _ _ _ _ c.loop-rest.checker.own c.loop-rest.checker.blocks c.loop-rest.line c.loop-rest.rest.now c.loop-rest.invariant.found
+    found_ends _ _ _ _ c.loop-rest.checker.own c.loop-rest.checker.blocks c.loop-rest.line c.loop-rest.rest.now c.loop-rest.invariant.found
     c.in_ok-pass.pass c.in_ok-pass.behind.now c.pass.new.self.own c.pass.new.self.blocks c.in_ok-pass.ensures.passed c.in-Ends.word
-    c.behind_end.result c.in-Ends.is c.behind_end.ensures.ended
+    (plain_finding c.behind_end.result) c.in-Ends.is c.behind_end.ensures.ended
 
 pub returns-in-Wrong-clause-found : goal.returns-in-Wrong-clause-found
 returns-in-Wrong-clause-found c =
