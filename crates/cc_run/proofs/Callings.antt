@@ -1,33 +1,31 @@
 -- Which calls steps make of a desk, one after another.
 use Rattle.std.proofs.Common.{◌≡◌, ◌∙◌, refl, sym, ap, subst, ℕ, List, [], ◌∷◌, ◌++◌, map, Option, Some, None, IfSome, Result, Err, append_assoc, append-nil, inl, inr}
 use Rattle.std.specs.Prelude.{◌⊎◌, IsErrOf}
-use Rattle.std.proofs.lemmas.Grind.{flat_map-append}
 use Rattle.cc_defs.specs.declared.refusal.Refusal.{Refusal}
 use Rattle.cc_describe.specs.declared.description.Described.{Described}
 use Rattle.cc_describe.specs.declared.description.DescribeStop.{DescribeStop}
 use Rattle.cc_describe.specs.declared.description.DescribeStop.TheVariants as describe_stops
 use Rattle.cc_describe.specs.Describing.{AreFirstNames}
 use Rattle.cc_describe.specs.Places.{Files, HasPlaces}
-use Rattle.cc_ports.specs.Calls.{AreGivings, AreReadings, Begins, Call, Gives, Reads, name_begun, name_opened, names_begun, names_opened, with_call, with_calls}
+use Rattle.cc_ports.specs.Calls.{AreReadings, Call, Reads, names_begun, names_opened, with_calls}
 use Rattle.cc_ports.specs.Contents.{Contents}
-use Rattle.cc_ports.specs.declared.desk.To.{To}
 use Rattle.cc_ports.specs.declared.whole.ReadStop.{ReadStop}
 use Rattle.cc_ports.specs.declared.whole.ReadStop.TheVariants as read_stops
-use Rattle.cc_run.specs.declared.status.Status.{Status}
-use Rattle.cc_run.specs.declared.status.Status.TheVariants as statuses
-use Rattle.cc_run.specs.declared.status.Stop.{Stop}
-use Rattle.cc_run.specs.declared.status.Stop.TheVariants as stops
+use Rattle.cc_ports.specs.Moments.{Moment}
 use Rattle.cc_run.specs.Names.{AreAsked, IsAnswer, MayEndWith}
 use Rattle.cc_run.specs.Promises.{IsEndStatus}
-use Rattle.cc_ports.specs.Moments.{Moment}
-use Rattle.cc_run.specs.Stops.{Asks, Called, TellsStop, cut_status, outcome, stop_status}
+use Rattle.cc_run.specs.Stops.{Asks, outcome}
+use Rattle.cc_tell.specs.declared.status.Status.{Status}
+use Rattle.cc_tell.specs.declared.status.Status.TheVariants as statuses
+use Rattle.cc_tell.specs.declared.status.Stop.{Stop}
+use Rattle.cc_tell.specs.declared.status.Stop.TheVariants as stops
+use Rattle.cc_tell.specs.Steps.{Called}
+use Rattle.cc_tell.specs.StopLines.{TellsStop, cut_status, stop_status}
 use Rattle.cc_words.specs.Requests.{Request, ToBeSure, ToCheck, ToCheckGeneral, ToCheckModels, ToCheckSure, ToConvert, ToExplain, ToExport, ToList, ToListGenerally, ToMake, ToModel}
 use Rattle.cc_words.specs.Words.{Text}
+use Rattle.cc_tell.proofs.Calls.{called_both}
 
 -- ---- names, one after another
-
-names_both : (a b c d : List Text) → a ≡ c → b ≡ d → a ++ b ≡ c ++ d
-names_both a b c d first second = λ i. first i ++ second i
 
 pub first_none : (names : List Text) → AreFirstNames [] names
 first_none names = (names, refl)
@@ -43,42 +41,6 @@ first_behind a b c first = (first.0, ap (λ (l : List Text). a ++ l) first.1 ∙
 
 -- ---- calls, one after another
 
-calls_both : (a b : List Call) (x y z : Option (List Call)) → y ≡ with_calls a x → z ≡ with_calls b y → z ≡ with_calls (a ++ b) x
-calls_both a b None y z first second = second ∙ ap (λ (o : Option (List Call)). with_calls b o) first
-calls_both a b (Some c) y z first second = (second ∙ ap (λ (o : Option (List Call)). with_calls b o) first) ∙ ap Some (append_assoc c a b)
-
-no_calls : (o : Option (List Call)) → o ≡ with_calls [] o
-no_calls None = refl
-no_calls (Some c) = ap Some (sym (append-nil c))
-
-pub called_none : (m : Moment) → Called [] [] m m
-called_none m = record { more = []; calls = no_calls m.calls; opened_are = refl; begun_are = refl }
-
-pub called_both : (opened begun opened_then begun_then : List Text) (x y z : Moment) → Called opened begun x y → Called opened_then begun_then y z →
-    Called (opened ++ opened_then) (begun ++ begun_then) x z
-called_both opened begun opened_then begun_then x y z first second = record {
-  more = first.more ++ second.more;
-  calls = calls_both first.more second.more x.calls y.calls z.calls first.calls second.calls;
-  opened_are = flat_map-append name_opened first.more second.more
-      ∙ names_both (names_opened first.more) (names_opened second.more) opened opened_then first.opened_are second.opened_are;
-  begun_are = flat_map-append name_begun first.more second.more
-      ∙ names_both (names_begun first.more) (names_begun second.more) begun begun_then first.begun_are second.begun_are;
-}
-
--- behind other calls, these only give
-pub called_on : (opened begun : List Text) (x y z : Moment) → Called opened begun x y → Called [] [] y z → Called opened begun x z
-called_on opened begun x y z first second =
-    subst (λ (b : List Text). Called opened b x z) (append-nil begun)
-    (subst (λ (o : List Text). Called o (begun ++ []) x z) (append-nil opened) (called_both opened begun [] [] x y z first second))
-
-gives_opened : (to : To) (parts : List (List ℕ)) → names_opened (map (Gives to) parts) ≡ []
-gives_opened to [] = refl
-gives_opened to (part ∷ parts) = gives_opened to parts
-
-gives_begun : (to : To) (parts : List (List ℕ)) → names_begun (map (Gives to) parts) ≡ []
-gives_begun to [] = refl
-gives_begun to (part ∷ parts) = gives_begun to parts
-
 reads_opened : (rooms : List ℕ) → names_opened (map Reads rooms) ≡ []
 reads_opened [] = refl
 reads_opened (room ∷ rooms) = reads_opened rooms
@@ -86,15 +48,6 @@ reads_opened (room ∷ rooms) = reads_opened rooms
 reads_begun : (rooms : List ℕ) → names_begun (map Reads rooms) ≡ []
 reads_begun [] = refl
 reads_begun (room ∷ rooms) = reads_begun rooms
-
--- what `give_all` says of its calls
-pub called_gives : (to : To) (x y : Moment) → ((more : List Call) × AreGivings to more × (y.calls ≡ with_calls more x.calls)) → Called [] [] x y
-called_gives to x y made = record {
-  more = made.0;
-  calls = made.2;
-  opened_are = ap (λ (l : List Call). names_opened l) made.1.calls_are ∙ gives_opened to made.1.parts;
-  begun_are = ap (λ (l : List Call). names_begun l) made.1.calls_are ∙ gives_begun to made.1.parts;
-}
 
 -- what `read_all` says of its calls
 pub called_reads : (name : Text) (most : ℕ) (x y : Moment) → ((more : List Call) × AreReadings name most more × (y.calls ≡ with_calls more x.calls)) → Called (name ∷ []) [] x y
@@ -104,10 +57,6 @@ called_reads name most x y made = record {
   opened_are = ap (λ (l : List Call). names_opened l) made.1.calls_are ∙ ap (λ (l : List Text). name ∷ l) (reads_opened made.1.rooms);
   begun_are = ap (λ (l : List Call). names_begun l) made.1.calls_are ∙ reads_begun made.1.rooms;
 }
-
--- what `create_file` says of its call
-pub called_begins : (name : Text) (x y : Moment) → y.calls ≡ with_call (Begins name) x.calls → Called [] (name ∷ []) x y
-called_begins name x y made = record { more = Begins name ∷ []; calls = made; opened_are = refl; begun_are = refl }
 
 -- ---- what is asked for
 

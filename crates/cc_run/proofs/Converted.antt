@@ -28,35 +28,38 @@ use Rattle.cc_defs.specs.LogVersions.{AreEarlier, NamesEarlier, header_of, line_
 use Rattle.cc_defs.specs.Resolved.{Query}
 use Rattle.cc_defs.specs.Runs.{first_horizon, last_horizon, range_of}
 use Rattle.cc_defs.specs.Signatures.{Signature}
-use Rattle.cc_form.specs.Queries.{IsKeyAt, IsQueryAt}
-use Rattle.cc_ports.specs.declared.desk.To.TheVariants as outputs
-use Rattle.cc_judge.specs.Judging.{IsVerdictWithin, limit_of}
 use Rattle.cc_describe.specs.Places.{Files}
+use Rattle.cc_form.specs.Queries.{IsKeyAt, IsQueryAt}
+use Rattle.cc_judge.specs.Judging.{IsVerdictWithin, limit_of}
+use Rattle.cc_ports.specs.declared.desk.To.TheVariants as outputs
+use Rattle.cc_ports.specs.Moments.{Moment}
 use Rattle.cc_print.specs.Verdicts.{verdict_line}
 use Rattle.cc_query.specs.Accepted.{subject_of}
 use Rattle.cc_query.specs.Sessions.{Fits, refusal_at}
-use Rattle.cc_theory.specs.Theories.{AreLawsOf}
+use Rattle.cc_query.proofs.Giving.{last_is}
+use Rattle.cc_query.proofs.Shortness.{last_low}
 use Rattle.cc_run.specs.Asking.{AreOf, AreSearchable}
 use Rattle.cc_run.specs.Converted.{AreLeft, HasLeft, HasOpened, IsJudged, converted_by, other_said}
-use Rattle.cc_ports.specs.Moments.{Moment}
-use Rattle.cc_run.specs.Stops.{Asks, Begins, Prints, Step, given_to, outcome}
-use Rattle.cc_run.specs.Telling.{IsCounted, IsWritable, counts_of, task_to_check}
-use Rattle.cc_run.specs.declared.status.Status.{Status}
-use Rattle.cc_run.specs.declared.status.Status.TheVariants as statuses
-use Rattle.cc_run.specs.declared.status.Stop.{Stop}
+use Rattle.cc_run.specs.Stops.{Asks, Prints, outcome}
+use Rattle.cc_run.specs.Telling.{counts_of, task_to_check}
 use Rattle.cc_run.specs.Answers.{Gives}
 use Rattle.cc_run.specs.Modes.Checking.{NamesLog, verdict_status}
 use Rattle.cc_run.specs.Modes.Converting.{Converts, IsConverted}
 use Rattle.cc_run.specs.Names.{IsAnswer, MayEndWith, log_asked}
 use Rattle.cc_run.specs.Tasks.{checked_by, request_of}
-use Rattle.cc_run.specs.Wholes.{Whole, joined, only_out}
+use Rattle.cc_run.specs.Wholes.{Whole}
+use Rattle.cc_tell.specs.Steps.{Begins, Step}
+use Rattle.cc_tell.specs.Givens.{given_to, joined, only_out}
+use Rattle.cc_tell.specs.Tellers.{IsCounted, IsWritable}
+use Rattle.cc_tell.specs.declared.status.Status.{Status}
+use Rattle.cc_tell.specs.declared.status.Status.TheVariants as statuses
+use Rattle.cc_tell.specs.declared.status.Stop.{Stop}
+use Rattle.cc_theory.specs.Theories.{AreLawsOf}
 use Rattle.cc_words.specs.Requests.{Converting, Request, ToConvert}
 use Rattle.cc_words.specs.Words.{Text}
-use Rattle.cc_query.proofs.Giving.{last_is}
-use Rattle.cc_query.proofs.Shortness.{last_low}
+use Rattle.cc_tell.proofs.LineSteps.{LinesSoFar, lines_begin, lines_end, lines_more, lines_stop}
 use Rattle.cc_run.proofs.Callings.{first_none, stop_answers_nothing}
 use Rattle.cc_run.proofs.Outcomes.{known, log_asked_as, prints_begun, prints_whole}
-use Rattle.cc_run.proofs.LineSteps.{LinesSoFar, lines_begin, lines_end, lines_more, lines_stop}
 use Rattle.cc_run.proofs.Passing.{range_is}
 
 -- ---- a section of the log

@@ -1,30 +1,29 @@
 -- The line of an event that comes can be written in version 2, and the section whose heading it is has few axioms.
-use Rattle.std.proofs.Common.{◌≡◌, ℕ, ◌≤◌, Bool, not, List, [], ◌∷◌, ◌++◌, Result, Ok, Err, refl, sym, ap, subst, ◌∙◌}
-use Rattle.std.specs.Prelude.{IfOk, IsNone, OnOk, length}
+use Rattle.std.proofs.Common.{◌≡◌, ℕ, ◌≤◌, Bool, not, List, [], ◌∷◌, ◌++◌, sym, subst}
+use Rattle.std.specs.Prelude.{length}
 use Rattle.cc_defs.specs.declared.event.Event.{Event}
 use Rattle.cc_defs.specs.declared.event.Event.TheVariants as events
 use Rattle.cc_defs.specs.declared.event.Told.{Told}
 use Rattle.cc_defs.specs.declared.log.LogLine.{LogLine}
 use Rattle.cc_defs.specs.declared.log.LogLine.TheVariants as lines
-use Rattle.cc_defs.specs.declared.log.Version.{Version}
 use Rattle.cc_defs.specs.ClauseLists.{clause_list}
 use Rattle.cc_defs.specs.Description.{Description}
-use Rattle.cc_defs.specs.Events.{line_told}
 use Rattle.cc_defs.specs.Limits.{most_clauses}
 use Rattle.cc_defs.specs.LogVersions.{own_behind}
 use Rattle.cc_defs.specs.Resolved.{Query}
 use Rattle.cc_defs.specs.Runs.{Ask, AreFair, axioms_of, events_of, first_horizon}
 use Rattle.cc_query.specs.Accepted.{lines_of}
 use Rattle.cc_query.specs.Sessions.{After, IsOpened, IsSame, IsSessionOf, OpensWithin, SessionView, StandsOpened, with_row}
+use Rattle.cc_run.specs.Telling.{HasFewAxioms, HasGoodLines, counts_of}
+use Rattle.cc_tell.specs.declared.telling.Teller.{Teller}
+use Rattle.cc_tell.specs.declared.telling.Teller.TheVariants as tellers
+use Rattle.cc_tell.specs.EventTexts.{own_after}
+use Rattle.cc_tell.specs.Tellers.{IsCounted, IsWritableBy, IsWritableEvent, KeepsUp}
 use Rattle.cc_theory.specs.Theories.{rules_refusal}
-use Rattle.cc_run.specs.declared.status.Stop.{Stop}
-use Rattle.cc_run.specs.declared.telling.Teller.{Teller}
-use Rattle.cc_run.specs.declared.telling.Teller.TheVariants as tellers
-use Rattle.cc_run.specs.Stops.{own_after}
-use Rattle.cc_run.specs.Telling.{HasFewAxioms, HasGoodLines, IsCounted, IsWritableBy, IsWritableEvent, KeepsUp, counts_of, status_told}
-use Rattle.cc_run.proofs.NumberedRuns.{own_both, run_writable}
+use Rattle.cc_tell.proofs.OwnNumbers.{lines_both}
+use Rattle.cc_run.proofs.NumberedRuns.{run_writable}
 use Rattle.cc_run.proofs.NumberedSteps.{AreWritable, section_low}
-use Rattle.cc_run.proofs.Worth.{IsGoodEvent, lines_both, next_good}
+use Rattle.cc_run.proofs.Worth.{IsGoodEvent, next_good}
 
 pub few_axioms : (d : Description) (q : Query) (given : List Told) (session next : SessionView) (event : Event) → IsSame session next → IsSessionOf session d q →
     OpensWithin session event → After d q next given → HasFewAxioms next event
@@ -66,32 +65,6 @@ one_writable counts own (events.NoConditions horizon) row can = tt
 one_writable counts own (events.Holds horizon) row can = tt
 one_writable counts own (events.Counterexample horizon) row can = tt
 one_writable counts own (events.Ended ending) row can = tt
-
--- the number behind one event more
-one_told : (event : Event) (row : List ℕ) → line_told event ≡ lines_of (with_row event row ∷ [])
-one_told (events.Log line) row = refl
-one_told (events.NoHistory horizon) row = refl
-one_told (events.History horizon number) row = refl
-one_told (events.NoConditions horizon) row = refl
-one_told (events.Holds horizon) row = refl
-one_told (events.Counterexample horizon) row = refl
-one_told (events.Ended ending) row = refl
-
-own_more : (counts : Bool → ℕ → ℕ) (own after : ℕ) (before : List Told) (event : Event) (row : List ℕ) → own ≡ own_after counts 1 (lines_of before) →
-    after ≡ own_after counts own (line_told event) → after ≡ own_after counts 1 (lines_of (before ++ with_row event row ∷ []))
-own_more counts own after before event row keeps number =
-    number ∙ (ap (λ (n : ℕ). own_after counts n (line_told event)) keeps
-    ∙ (sym (own_both counts 1 (lines_of before) (line_told event))
-    ∙ ap (λ (l : List LogLine). own_after counts 1 l) (ap (λ (l : List LogLine). lines_of before ++ l) (one_told event row) ∙ sym (lines_both before (with_row event row ∷ [])))))
-
--- what a teller keeps that tells one by one
-pub numbered_keeps : {X : Type 0} (r : Result X Stop) (teller : Teller) (version : Version) (own after axioms : ℕ) (event : Event) (row : List ℕ) →
-    teller ≡ tellers.OneByOne version own → OnOk r ((counts : Bool → ℕ → ℕ) → IsCounted counts event axioms → after ≡ own_after counts own (line_told event)) →
-    IfOk r (λ _. (counts : Bool → ℕ → ℕ) (before : List Told) → IsCounted counts event axioms → KeepsUp counts teller before → IsNone (status_told event) →
-    after ≡ own_after counts 1 (lines_of (before ++ with_row event row ∷ [])))
-numbered_keeps (Ok v) teller version own after axioms event row is number = λ counts before counted keeps goes.
-    own_more counts own after before event row (subst (λ (t : Teller). KeepsUp counts t before) is keeps) (number counts counted)
-numbered_keeps (Err e) teller version own after axioms event row is number = tt
 
 module _ (d : Description) (q : Query) (ask : Ask) (budget : ask.budget ≤ 2000000) (given : List Told) (event : Event) (row : List ℕ) where
   last_writable : HasGoodLines d q ask.after given → IsGoodEvent d q ask.after event → AreFair d q ask (given ++ with_row event row ∷ []) →

@@ -13,13 +13,13 @@ use Rattle.cc_defs.specs.Events.{line_told, out_text, told_text}
 use Rattle.cc_defs.specs.LogTexts.{line_text}
 use Rattle.cc_defs.specs.LogVersions.{line_bytes, lines_bytes, own_behind}
 use Rattle.cc_query.specs.Accepted.{lines_of}
-use Rattle.cc_run.specs.declared.telling.Teller.{Teller}
-use Rattle.cc_run.specs.declared.telling.Teller.TheVariants as tellers
-use Rattle.cc_run.specs.Searching.{Manner, Summed, out_told, summed}
-use Rattle.cc_run.specs.Stops.{lines_text, own_after, texts_behind, texts_of}
-use Rattle.cc_run.specs.Telling.{KeepsUp, manner_of}
-use Rattle.cc_run.specs.Wholes.{joined}
-use Rattle.cc_run.proofs.Worth.{lines_both}
+use Rattle.cc_tell.specs.declared.telling.Teller.{Teller}
+use Rattle.cc_tell.specs.declared.telling.Teller.TheVariants as tellers
+use Rattle.cc_tell.specs.Manners.{Manner, Summed, out_told, summed}
+use Rattle.cc_tell.specs.EventTexts.{lines_text, own_after, texts_behind, texts_of}
+use Rattle.cc_tell.specs.Tellers.{KeepsUp, manner_of}
+use Rattle.cc_tell.specs.Givens.{joined}
+use Rattle.cc_tell.proofs.OwnNumbers.{lines_both}
 
 lines_more : (told more : List Told) → lines_text (told ++ more) ≡ lines_text told ++ lines_text more
 lines_more told more = ap (λ (lines : List LogLine). flat_map line_text lines) (lines_both told more) ∙ flat_map-append line_text (lines_of told) (lines_of more)

@@ -23,19 +23,22 @@ use Rattle.cc_describe.specs.Places.{Files, Place, opened_in}
 use Rattle.cc_ground.specs.Counting.{laws_refusal}
 use Rattle.cc_ports.specs.Contents.{Contents}
 use Rattle.cc_ports.specs.declared.desk.To.TheVariants as outputs
+use Rattle.cc_ports.specs.Moments.{Moment}
 use Rattle.cc_print.specs.Keys.{IsKeyText}
 use Rattle.cc_print.specs.Laws.{OneKey}
-use Rattle.cc_run.specs.declared.status.Status.{Status}
-use Rattle.cc_run.specs.declared.status.Status.TheVariants as statuses
-use Rattle.cc_run.specs.declared.status.Stop.{Stop}
 use Rattle.cc_run.specs.Answers.{Gives}
 use Rattle.cc_run.specs.Explained.{IsExplainingFault, IsLookedAt, IsRowFault, TellsRow}
-use Rattle.cc_run.specs.Modes.Explaining.{Explains, HasNoRow, IsExplained, IsRowNamed, MayEndExplaining, RefusesRow, RefusesRowOf, no_history_line, why_text}
+use Rattle.cc_run.specs.Modes.Explaining.{Explains, HasNoRow, IsExplained, IsRowNamed, MayEndExplaining, RefusesRow, RefusesRowOf, no_history_line}
 use Rattle.cc_run.specs.Names.{MayEndWith}
-use Rattle.cc_ports.specs.Moments.{Moment}
-use Rattle.cc_run.specs.Stops.{Prints, Step, given_to}
+use Rattle.cc_run.specs.Stops.{Prints}
 use Rattle.cc_run.specs.Tasks.{AreRead, description_in, request_of}
-use Rattle.cc_run.specs.Wholes.{Whole, only_out}
+use Rattle.cc_run.specs.Wholes.{Whole}
+use Rattle.cc_tell.specs.declared.status.Status.{Status}
+use Rattle.cc_tell.specs.declared.status.Status.TheVariants as statuses
+use Rattle.cc_tell.specs.declared.status.Stop.{Stop}
+use Rattle.cc_tell.specs.CauseTexts.{why_text}
+use Rattle.cc_tell.specs.Steps.{Step}
+use Rattle.cc_tell.specs.Givens.{given_to, only_out}
 use Rattle.cc_theory.specs.Theories.{rules_refusal}
 use Rattle.cc_words.specs.Requests.{Explaining, Request, ToExplain}
 use Rattle.cc_words.specs.Words.{Text}

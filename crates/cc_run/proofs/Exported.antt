@@ -34,24 +34,26 @@ use Rattle.cc_ground.specs.Counting.{laws_refusal}
 use Rattle.cc_laws.specs.Questions.{step_refusal, steps_refusal}
 use Rattle.cc_ports.specs.Contents.{Contents}
 use Rattle.cc_ports.specs.declared.desk.To.TheVariants as outputs
+use Rattle.cc_ports.specs.Moments.{Moment}
 use Rattle.cc_query.specs.Sessions.{refusal_at}
-use Rattle.cc_run.specs.declared.status.Status.{Status}
-use Rattle.cc_run.specs.declared.status.Status.TheVariants as statuses
-use Rattle.cc_run.specs.declared.status.Stop.{Stop}
-use Rattle.cc_run.specs.declared.status.Stop.TheVariants as stops
 use Rattle.cc_run.specs.Answers.{Gives}
 use Rattle.cc_run.specs.Exported.{IsAskedAt, IsExportFault, IsExported, tried_refusal}
 use Rattle.cc_run.specs.Modes.Exporting.{Exports, MayEndExporting, NamesHorizon, RefusesExporting, export_refusal, horizon_refusal, is_outside}
 use Rattle.cc_run.specs.Names.{MayEndWith}
-use Rattle.cc_ports.specs.Moments.{Moment}
-use Rattle.cc_run.specs.Stops.{Prints, Step, given_to}
+use Rattle.cc_run.specs.Stops.{Prints}
 use Rattle.cc_run.specs.Tasks.{AreRead, description_in, queries_in, query_named, query_refusal, request_of}
-use Rattle.cc_run.specs.Wholes.{Whole, only_out}
+use Rattle.cc_run.specs.Wholes.{Whole}
+use Rattle.cc_tell.specs.declared.status.Status.{Status}
+use Rattle.cc_tell.specs.declared.status.Status.TheVariants as statuses
+use Rattle.cc_tell.specs.declared.status.Stop.{Stop}
+use Rattle.cc_tell.specs.declared.status.Stop.TheVariants as stops
+use Rattle.cc_tell.specs.Steps.{Step}
+use Rattle.cc_tell.specs.Givens.{given_to, only_out}
 use Rattle.cc_words.specs.Requests.{Exporting, Request, ToExport}
 use Rattle.cc_words.specs.Words.{Text}
+use Rattle.cc_tell.proofs.GivenSteps.{step_nothing}
+use Rattle.cc_tell.proofs.LineSteps.{LinesSoFar, lines_end, lines_stop}
 use Rattle.cc_run.proofs.Explained.{ended_as}
-use Rattle.cc_run.proofs.GivenSteps.{step_nothing}
-use Rattle.cc_run.proofs.LineSteps.{LinesSoFar, lines_end, lines_stop}
 use Rattle.cc_run.proofs.Named.{refused_found, unrefused_query}
 use Rattle.cc_run.proofs.Outcomes.{RefusesRequest, asks_no_more, known, prints_whole}
 use Rattle.cc_run.proofs.Readings.{IsRead, asked_refuses}

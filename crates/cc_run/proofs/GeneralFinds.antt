@@ -14,21 +14,22 @@ use Rattle.cc_general.specs.Generals.{GeneralView, GoesOn, HasMore, IsGeneralOf,
 use Rattle.cc_general.specs.GeneralTold.{general_header, general_log}
 use Rattle.cc_ports.specs.declared.desk.To.TheVariants as outputs
 use Rattle.cc_rivals.specs.Wides.{AreWideLawsOf}
-use Rattle.cc_run.specs.declared.status.Status.{Status}
-use Rattle.cc_run.specs.declared.status.Status.TheVariants as statuses
-use Rattle.cc_run.specs.declared.status.Stop.{Stop}
-use Rattle.cc_run.specs.declared.status.Stop.TheVariants as stops
-use Rattle.cc_run.specs.Generals.{AreWideOf, IsGeneralOfSome, IsWritableGeneral, TellsGeneralEvent, TellsGeneralRun, TellsGenerally, general_status_behind, generally_given, given_generally}
+use Rattle.cc_tell.specs.declared.status.Status.{Status}
+use Rattle.cc_tell.specs.declared.status.Status.TheVariants as statuses
+use Rattle.cc_tell.specs.declared.status.Stop.{Stop}
+use Rattle.cc_tell.specs.declared.status.Stop.TheVariants as stops
+use Rattle.cc_run.specs.Generals.{AreWideOf, IsGeneralOfSome, IsWritableGeneral, TellsGeneralEvent, TellsGeneralRun, TellsGenerally, generally_given}
+use Rattle.cc_tell.specs.GeneralTexts.{general_status_behind, given_generally}
 use Rattle.cc_run.specs.Modes.Generally.{EndsGenerally}
-use Rattle.cc_run.specs.Refusing.{refusal_text}
+use Rattle.cc_tell.specs.ErrLines.{refusal_text}
 use Rattle.cc_ports.specs.Moments.{Moment}
-use Rattle.cc_run.specs.Stops.{Moves, Step, given_to}
-use Rattle.cc_run.specs.Wholes.{Given, joined, nothing, only_err}
+use Rattle.cc_tell.specs.Steps.{Moves, Step}
+use Rattle.cc_tell.specs.Givens.{given_to, Given, joined, nothing, only_err}
 use Rattle.cc_wide.specs.declared.ground.WideGroundLaw.{WideGroundLaw}
 use Rattle.cc_wide.specs.WideLaws.{WideDescription, frame}
 use Rattle.cc_run.proofs.GeneralTexts.{ends_so, grown}
 use Rattle.cc_run.proofs.GeneralWritten.{more_written}
-use Rattle.cc_run.proofs.GivenSteps.{given_all, joined-nothing, moves_none, step_again, step_done, step_nothing, step_of, step_then}
+use Rattle.cc_tell.proofs.GivenSteps.{given_all, joined-nothing, moves_none, step_again, step_done, step_nothing, step_of, step_then}
 use Rattle.cc_run.proofs.SureFinds.{always, joined_both, status_is}
 
 -- ---- one event

@@ -17,10 +17,11 @@ use Rattle.cc_general.specs.Accepted.{IsUnspentEnding}
 use Rattle.cc_general.specs.Generals.{GoesOnBy, IsSpentWith}
 use Rattle.cc_general.specs.GeneralTold.{ending_of, general_header, general_log, general_told, none_told, shown_text, shown_told, spent_text}
 use Rattle.cc_query.specs.Parts.{section_lines}
-use Rattle.cc_run.specs.Generals.{general_status_behind, generally_given, given_generally, heading_for, lines_text}
+use Rattle.cc_run.specs.Generals.{generally_given}
 use Rattle.cc_run.specs.Modes.Generally.{EndsGenerally}
-use Rattle.cc_run.specs.Searching.{status_of}
-use Rattle.cc_run.specs.Wholes.{Given, joined}
+use Rattle.cc_tell.specs.GeneralTexts.{general_status_behind, given_generally, heading_for, lines_text}
+use Rattle.cc_tell.specs.Statuses.{status_of}
+use Rattle.cc_tell.specs.Givens.{Given, joined}
 use Rattle.cc_wide.specs.WideLaws.{WideDescription, frame}
 
 -- ---- what is told of an event

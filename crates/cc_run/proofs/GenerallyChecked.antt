@@ -9,19 +9,22 @@ use Rattle.cc_defs.specs.Limits.{limit_number}
 use Rattle.cc_defs.specs.Refusals.{past}
 use Rattle.cc_defs.specs.Resolved.{Query}
 use Rattle.cc_describe.specs.Places.{Files}
+use Rattle.cc_general.specs.GeneralLogs.{ProvesHistories, general_subject}
 use Rattle.cc_ports.specs.Contents.{Contents}
-use Rattle.cc_run.specs.declared.status.Status.{Status}
-use Rattle.cc_run.specs.declared.status.Stop.{Stop}
+use Rattle.cc_ports.specs.Moments.{Moment}
 use Rattle.cc_run.specs.Answers.{Gives}
 use Rattle.cc_run.specs.Modes.CheckingGeneral.{ChecksGeneral, NamesGeneralLog, RefusesCheckingGeneral, named_for_general}
-use Rattle.cc_run.specs.Modes.CheckingSure.{MayEndCheckingSure, silent_verdict_line, silent_verdict_status}
+use Rattle.cc_run.specs.Modes.CheckingSure.{MayEndCheckingSure}
 use Rattle.cc_run.specs.Modes.Generally.{NamesWide, RefusesGenerally}
 use Rattle.cc_run.specs.Names.{MayEndWith}
-use Rattle.cc_ports.specs.Moments.{Moment}
-use Rattle.cc_run.specs.Stops.{Prints, Step}
+use Rattle.cc_run.specs.Stops.{Prints}
 use Rattle.cc_run.specs.Tasks.{request_of}
-use Rattle.cc_run.specs.Wholes.{Whole, only_out}
-use Rattle.cc_general.specs.GeneralLogs.{ProvesHistories, general_subject}
+use Rattle.cc_run.specs.Wholes.{Whole}
+use Rattle.cc_tell.specs.declared.status.Status.{Status}
+use Rattle.cc_tell.specs.declared.status.Stop.{Stop}
+use Rattle.cc_tell.specs.SilentVerdicts.{silent_verdict_line, silent_verdict_status}
+use Rattle.cc_tell.specs.Steps.{Step}
+use Rattle.cc_tell.specs.Givens.{only_out}
 use Rattle.cc_wide.specs.WideLaws.{WideDescription}
 use Rattle.cc_words.specs.declared.asked.CheckGeneralAsked.{CheckGeneralAsked}
 use Rattle.cc_words.specs.Requests.{Request, GeneralChecking, ToCheckGeneral}

@@ -10,23 +10,25 @@ use Rattle.cc_describe.specs.Places.{Files}
 use Rattle.cc_general.specs.Accepted.{GeneralLogsAreAccepted}
 use Rattle.cc_general.specs.GeneralRuns.{GeneralEnding, Complete, Asked, NoneAtAll, SpentAmong, SpentOver, GeneralRun, general_horizon}
 use Rattle.cc_ports.specs.Contents.{Contents}
-use Rattle.cc_run.specs.declared.status.Status.{Status}
-use Rattle.cc_run.specs.declared.status.Status.TheVariants as statuses
-use Rattle.cc_run.specs.declared.status.Stop.{Stop}
+use Rattle.cc_ports.specs.Moments.{Moment}
 use Rattle.cc_run.specs.Answers.{Gives}
 use Rattle.cc_run.specs.Generals.{TellsGenerally, generally_given}
 use Rattle.cc_run.specs.Modes.Generally.{EndsGenerally, ListsGenerally, NamesWide, RefusesGenerally, general_status, named_generally}
 use Rattle.cc_run.specs.Names.{MayEndWith, log_asked}
 use Rattle.cc_run.specs.Promises.{IsEndStatus}
-use Rattle.cc_ports.specs.Moments.{Moment}
-use Rattle.cc_run.specs.Stops.{Begins, Prints, outcome}
+use Rattle.cc_run.specs.Stops.{Prints, outcome}
 use Rattle.cc_run.specs.Tasks.{request_of}
-use Rattle.cc_run.specs.Wholes.{Whole, nothing}
+use Rattle.cc_run.specs.Wholes.{Whole}
+use Rattle.cc_tell.specs.declared.status.Status.{Status}
+use Rattle.cc_tell.specs.declared.status.Status.TheVariants as statuses
+use Rattle.cc_tell.specs.declared.status.Stop.{Stop}
+use Rattle.cc_tell.specs.Steps.{Begins}
+use Rattle.cc_tell.specs.Givens.{nothing}
 use Rattle.cc_wide.specs.WideLaws.{WideDescription}
 use Rattle.cc_words.specs.declared.asked.GeneralAsked.{GeneralAsked}
 use Rattle.cc_words.specs.Requests.{Generally, Request, ToListGenerally}
 use Rattle.cc_words.specs.Words.{Text}
-use Rattle.cc_run.proofs.GivenSteps.{step_as}
+use Rattle.cc_tell.proofs.GivenSteps.{step_as}
 use Rattle.cc_run.proofs.Outcomes.{RefusesRequest, known, prints_begun}
 use Rattle.cc_run.proofs.Readings.{generally_by}
 use Rattle.cc_run.proofs.SurelyTold.{log_begins}

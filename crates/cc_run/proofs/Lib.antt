@@ -1,8 +1,8 @@
 pub mod Callings
-pub mod CauseLines
 pub mod Claims
 pub mod CnfReadings
 pub mod Converted
+pub mod DescribedNames
 pub mod EventNumbers
 pub mod EventTexts
 pub mod Explained
@@ -12,10 +12,8 @@ pub mod GeneralTexts
 mod GeneralWritten
 pub mod GenerallyChecked
 pub mod GenerallyTold
-pub mod GivenSteps
 pub mod GoodClauses
 pub mod Judged
-pub mod LineSteps
 pub mod Listed
 pub mod LogsAccepted
 pub mod ModelFinds
@@ -31,9 +29,7 @@ pub mod Readings
 pub mod Requests
 pub mod RunEvents
 pub mod Spending
-pub mod SummedTexts
 pub mod SureFinds
-pub mod SureLines
 pub mod SureTexts
 pub mod SurelyChecked
 pub mod SurelyTold

@@ -16,26 +16,31 @@ use Rattle.cc_defs.specs.Runs.{Ask, Run, AreFair, IsFairRun, events_of, first_ho
 use Rattle.cc_defs.specs.Signatures.{Signature}
 use Rattle.cc_describe.specs.declared.description.Described.{Described}
 use Rattle.cc_ports.specs.declared.desk.To.TheVariants as outputs
+use Rattle.cc_ports.specs.Moments.{Moment}
 use Rattle.cc_query.specs.Lefts.{left_of}
 use Rattle.cc_query.specs.Laws.{SpentBudgetsAreSmall}
 use Rattle.cc_query.specs.Sessions.{After, HasMore, IsSame, IsSessionOf, SessionView, with_row}
-use Rattle.cc_run.specs.declared.status.Status.{Status}
-use Rattle.cc_run.specs.declared.status.Status.TheVariants as statuses
-use Rattle.cc_run.specs.declared.status.Stop.{Stop}
-use Rattle.cc_run.specs.declared.status.Stop.TheVariants as stops
-use Rattle.cc_run.specs.declared.telling.Teller.{Teller}
 use Rattle.cc_run.specs.Asking.{AreOf}
 use Rattle.cc_run.specs.Laws.{LogLaws}
-use Rattle.cc_run.specs.Refusing.{refusal_text}
-use Rattle.cc_run.specs.Searching.{EndsSo, IsTold, Manner, OneByOne, Summed, header_told, log_told, out_told, status_of}
-use Rattle.cc_ports.specs.Moments.{Moment}
-use Rattle.cc_run.specs.Stops.{IsRowOfEvent, Moves, Searches, Step, given_to, lines_told, texts_behind, texts_of}
+use Rattle.cc_run.specs.Searching.{EndsSo, IsTold}
+use Rattle.cc_run.specs.Stops.{Searches}
 use Rattle.cc_run.specs.Tasks.{Task}
-use Rattle.cc_run.specs.Telling.{GoesOn, HasGoodLines, IsCounted, IsListing, KeepsUp, ListedSoFar, counts_of, manner_of, so_far, status_told, task_of}
-use Rattle.cc_run.specs.Wholes.{Given, joined, nothing, only_err, only_log}
+use Rattle.cc_run.specs.Telling.{GoesOn, HasGoodLines, IsListing, ListedSoFar, counts_of, so_far, task_of}
+use Rattle.cc_tell.specs.declared.status.Status.{Status}
+use Rattle.cc_tell.specs.declared.status.Status.TheVariants as statuses
+use Rattle.cc_tell.specs.declared.status.Stop.{Stop}
+use Rattle.cc_tell.specs.declared.status.Stop.TheVariants as stops
+use Rattle.cc_tell.specs.declared.telling.Teller.{Teller}
+use Rattle.cc_tell.specs.ErrLines.{refusal_text}
+use Rattle.cc_tell.specs.Manners.{Manner, OneByOne, Summed, header_told, log_told, out_told}
+use Rattle.cc_tell.specs.Statuses.{status_of, status_told}
+use Rattle.cc_tell.specs.EventTexts.{IsRowOfEvent, lines_told, texts_behind, texts_of}
+use Rattle.cc_tell.specs.Steps.{Moves, Step}
+use Rattle.cc_tell.specs.Givens.{given_to, Given, joined, nothing, only_err, only_log}
+use Rattle.cc_tell.specs.Tellers.{IsCounted, KeepsUp, manner_of}
 use Rattle.cc_theory.specs.Theories.{AreLawsOf}
+use Rattle.cc_tell.proofs.GivenSteps.{given_all, joined-nothing, moves_again, moves_as, moves_both, moves_done, moves_none, step_again, step_as, step_nothing, step_of, step_then}
 use Rattle.cc_run.proofs.EventTexts.{texts_more}
-use Rattle.cc_run.proofs.GivenSteps.{given_all, joined-nothing, moves_again, moves_as, moves_both, moves_done, moves_none, step_again, step_as, step_nothing, step_of, step_then}
 use Rattle.cc_run.proofs.LogsAccepted.{logs_accepted}
 use Rattle.cc_run.proofs.Passing.{StopsAt, no_run}
 use Rattle.cc_run.proofs.RunEvents.{ends_so, last_row}

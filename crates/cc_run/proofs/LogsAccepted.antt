@@ -21,11 +21,12 @@ use Rattle.cc_defs.specs.Logs.{IsAccepted, Subject}
 use Rattle.cc_defs.specs.Resolved.{Query}
 use Rattle.cc_defs.specs.Runs.{Ask, Horizon, Histories, Conditions, Claim, Failure, Run, IsFairRun, MayEnd, done_events, events_of, first_horizon, horizon_at, horizon_events, optional, told}
 use Rattle.cc_query.specs.Accepted.{IsReported, lines_of, subject_of}
-use Rattle.cc_run.specs.declared.telling.Teller.{Teller}
-use Rattle.cc_run.specs.declared.telling.Teller.TheVariants as tellers
 use Rattle.cc_run.specs.Laws.{LogLaws}
 use Rattle.cc_run.specs.Searching.{AreLogsAccepted, IsLogAccepted, only_reported}
-use Rattle.cc_run.specs.Telling.{HasGoodLines, IsWritable, counts_of, manner_of, task_of}
+use Rattle.cc_run.specs.Telling.{HasGoodLines, counts_of, task_of}
+use Rattle.cc_tell.specs.declared.telling.Teller.{Teller}
+use Rattle.cc_tell.specs.declared.telling.Teller.TheVariants as tellers
+use Rattle.cc_tell.specs.Tellers.{IsWritable, manner_of}
 use Rattle.cc_run.proofs.NumberedRuns.{run_writable}
 use Rattle.cc_run.proofs.NumberedSteps.{AreWritable}
 use Rattle.cc_run.proofs.Worth.{front_good}

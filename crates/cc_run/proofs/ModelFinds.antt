@@ -14,23 +14,23 @@ use Rattle.cc_defs.specs.Runs.{Derive, Section, Step as SectionStep, Tell, rows_
 use Rattle.cc_defs.specs.Sections.{Axioms}
 use Rattle.cc_judge.specs.Single.{subject_over}
 use Rattle.cc_ports.specs.declared.desk.To.TheVariants as outputs
+use Rattle.cc_ports.specs.Moments.{Moment}
 use Rattle.cc_print.specs.Models.{model_line}
 use Rattle.cc_query.specs.declared.stage.Find.TheVariants as finds
 use Rattle.cc_query.specs.Parts.{open_section, section_of}
 use Rattle.cc_query.specs.Searches.{HasMore, IsBehind, SearchView, Stands, TellsTooMany, found_behind}
-use Rattle.cc_run.specs.declared.modes.models.Lister.{Lister}
-use Rattle.cc_run.specs.declared.status.Status.{Status}
-use Rattle.cc_run.specs.declared.status.Status.TheVariants as statuses
-use Rattle.cc_run.specs.declared.status.Stop.{Stop}
-use Rattle.cc_run.specs.declared.status.Stop.TheVariants as stops
-use Rattle.cc_run.specs.Modes.Modelling.{models_end, models_status, models_text}
 use Rattle.cc_run.specs.ModelsTold.{AreAt, AreWithin, EndsListing, IsAt, TellsFind, TellsListing, TellsMore, told_of}
-use Rattle.cc_run.specs.Refusing.{refusal_text}
-use Rattle.cc_ports.specs.Moments.{Moment}
-use Rattle.cc_run.specs.Stops.{Moves, Step, given_to}
-use Rattle.cc_run.specs.Telling.{IsWritable}
-use Rattle.cc_run.specs.Wholes.{Given, joined, nothing, only_err}
-use Rattle.cc_run.proofs.GivenSteps.{given_all, moves_none, step_again, step_done, step_nothing, step_of, step_then}
+use Rattle.cc_tell.specs.declared.models.Lister.{Lister}
+use Rattle.cc_tell.specs.declared.status.Status.{Status}
+use Rattle.cc_tell.specs.declared.status.Status.TheVariants as statuses
+use Rattle.cc_tell.specs.declared.status.Stop.{Stop}
+use Rattle.cc_tell.specs.declared.status.Stop.TheVariants as stops
+use Rattle.cc_tell.specs.ModelTexts.{models_end, models_status, models_text}
+use Rattle.cc_tell.specs.ErrLines.{refusal_text}
+use Rattle.cc_tell.specs.Steps.{Moves, Step}
+use Rattle.cc_tell.specs.Givens.{given_to, Given, joined, nothing, only_err}
+use Rattle.cc_tell.specs.Tellers.{IsWritable}
+use Rattle.cc_tell.proofs.GivenSteps.{given_all, moves_none, step_again, step_done, step_nothing, step_of, step_then}
 use Rattle.cc_run.proofs.ModelLines.{blocked_writable, derived_writable}
 use Rattle.cc_run.proofs.ModelTexts.{listed_blocked, listed_derived, log_begun, log_ended, log_front, log_pushed, log_told, text_blocked, text_derived, text_ended, text_told, rows_more}
 

@@ -13,7 +13,7 @@ use Rattle.cc_defs.specs.Sections.{Axioms, row_denial}
 use Rattle.cc_query.specs.Parts.{open_section, section_of}
 use Rattle.cc_query.specs.Searches.{SearchView, Stands}
 use Rattle.cc_run.specs.ModelsTold.{AreWithin}
-use Rattle.cc_run.specs.Telling.{IsWritable}
+use Rattle.cc_tell.specs.Tellers.{IsWritable}
 use Rattle.cc_run.proofs.GoodClauses.{IsGood, all_good, chain_good, clause_few, denial_good, in_first, in_rest}
 use Rattle.cc_run.proofs.NumberedSteps.{steps_few, told_count}
 use Rattle.cc_run.proofs.Worth.{all_both, all_front}

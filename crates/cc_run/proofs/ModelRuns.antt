@@ -18,32 +18,36 @@ use Rattle.cc_describe.specs.Places.{Files}
 use Rattle.cc_dimacs.specs.Cnfs.{PlainCnf, IsModelOf, cnf_axioms, twos}
 use Rattle.cc_judge.specs.Single.{BlocksAll, subject_over}
 use Rattle.cc_ports.specs.Contents.{Contents}
+use Rattle.cc_ports.specs.Moments.{Moment}
 use Rattle.cc_print.specs.Models.{models_verdict_line}
 use Rattle.cc_query.proofs.Moving.{told_moved}
 use Rattle.cc_query.specs.Accepted.{AreGoodAxioms}
-use Rattle.cc_run.specs.declared.status.Status.{Status}
-use Rattle.cc_run.specs.declared.status.Status.TheVariants as statuses
-use Rattle.cc_run.specs.declared.status.Stop.{Stop}
 use Rattle.cc_run.specs.Answers.{Gives}
 use Rattle.cc_run.specs.CnfForms.{IsFormOf}
 use Rattle.cc_run.specs.Modes.Checking.{verdict_status}
 use Rattle.cc_run.specs.Modes.CheckingModels.{ChecksModels}
-use Rattle.cc_run.specs.Modes.Modelling.{EndsModels, IsCnfIn, Models, RefusesCnf, models_status}
+use Rattle.cc_run.specs.Modes.Modelling.{EndsModels, IsCnfIn, Models, RefusesCnf}
 use Rattle.cc_run.specs.ModelsTold.{AreWithin, EndsListing, TellsListing, told_of}
 use Rattle.cc_run.specs.Names.{MayEndWith, log_asked}
 use Rattle.cc_run.specs.Promises.{IsEndStatus}
-use Rattle.cc_ports.specs.Moments.{Moment}
-use Rattle.cc_run.specs.Stops.{Begins, Prints, Step, outcome}
+use Rattle.cc_run.specs.Stops.{Prints, outcome}
 use Rattle.cc_run.specs.Tasks.{request_of}
-use Rattle.cc_run.specs.Wholes.{Whole, nothing, only_out}
+use Rattle.cc_run.specs.Wholes.{Whole}
+use Rattle.cc_tell.specs.declared.status.Status.{Status}
+use Rattle.cc_tell.specs.declared.status.Status.TheVariants as statuses
+use Rattle.cc_tell.specs.declared.status.Stop.{Stop}
+use Rattle.cc_tell.specs.ModelTexts.{models_status}
+use Rattle.cc_tell.specs.Steps.{Begins, Step}
+use Rattle.cc_tell.specs.Givens.{nothing, only_out}
 use Rattle.cc_words.specs.declared.asked.Asked.TheVariants as requests
 use Rattle.cc_words.specs.declared.asked.CheckModelsAsked.{CheckModelsAsked}
 use Rattle.cc_words.specs.declared.asked.ModelsAsked.{ModelsAsked}
 use Rattle.cc_words.specs.Requests.{ModelChecking, Modelling, Request, ToCheckModels, ToModel}
 use Rattle.cc_words.specs.Views.{plain_request, plain_text}
 use Rattle.cc_words.specs.Words.{Text}
-use Rattle.cc_run.proofs.Callings.{called_on, first_none}
-use Rattle.cc_run.proofs.GivenSteps.{calm_both, rose_later, step_as}
+use Rattle.cc_tell.proofs.Calls.{called_on}
+use Rattle.cc_tell.proofs.GivenSteps.{calm_both, rose_later, step_as}
+use Rattle.cc_run.proofs.Callings.{first_none}
 use Rattle.cc_run.proofs.NumberedSteps.{section_low}
 use Rattle.cc_run.proofs.Outcomes.{Comes, RefusesRequest, known, left, prints_whole, told_search, whole_comes}
 

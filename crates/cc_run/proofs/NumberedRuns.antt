@@ -1,5 +1,5 @@
 -- The lines of a run that keeps to its limits can be written in version 2.
-use Rattle.std.proofs.Common.{◌≡◌, ℕ, ◌+◌, ◌≤◌, Bool, not, true, false, List, [], ◌∷◌, ◌++◌, length, map, Option, Some, None, refl, sym, subst, arith}
+use Rattle.std.proofs.Common.{ℕ, ◌+◌, ◌≤◌, Bool, not, true, false, List, [], ◌∷◌, ◌++◌, length, map, Option, Some, None, refl, sym, subst, arith}
 use Rattle.std.specs.Prelude.{IfSome, flat_map}
 use Rattle.std.specs.List.{AllByRecursion}
 use Rattle.cc_defs.specs.declared.event.Ending.{Ending}
@@ -14,23 +14,20 @@ use Rattle.cc_defs.specs.Resolved.{Query}
 use Rattle.cc_defs.specs.Rows.{IsRow}
 use Rattle.cc_defs.specs.Runs.{Ask, Horizon, Histories, Conditions, Claim, Failure, Run, Section, AreDone, IsFairRun, IsFairSection, IsTrueOf, LooksForOne, axioms_of, denied_rows, done_events, events_of, first_horizon, horizon_at, horizon_events, key_row, last_horizon, logged, optional, said_of, section_events, step_events, told, told_row}
 use Rattle.cc_defs.specs.Sections.{Axioms}
-use Rattle.cc_theory.specs.Theories.{rules_refusal}
 use Rattle.cc_defs.specs.ClauseLists.{clause_list}
 use Rattle.cc_query.specs.Accepted.{AreGoodAxioms, lines_of}
-use Rattle.cc_run.specs.Stops.{own_after}
 use Rattle.cc_run.specs.Telling.{HasGoodLines, counts_of}
+use Rattle.cc_tell.specs.EventTexts.{own_after}
+use Rattle.cc_theory.specs.Theories.{rules_refusal}
+use Rattle.cc_tell.proofs.OwnNumbers.{lines_both, own_both}
 use Rattle.cc_run.proofs.GoodClauses.{all_good, in_first}
 use Rattle.cc_run.proofs.NumberedSteps.{AreWritable, few_rest, section_low, steps_few, steps_go, told_few}
 use Rattle.cc_run.proofs.Spending.{first_rows, no_rows}
-use Rattle.cc_run.proofs.Worth.{behind_good, event_in, few_front, front_good, lines_both}
+use Rattle.cc_run.proofs.Worth.{behind_good, event_in, few_front, front_good}
 
 -- ---- lines behind others
 
 module _ (counts : Bool → ℕ → ℕ) where
-  pub own_both : (own : ℕ) (a b : List LogLine) → own_after counts own (a ++ b) ≡ own_after counts (own_after counts own a) b
-  own_both own [] b = refl
-  own_both own (line ∷ a) b = own_both (own_behind counts own line) a b
-
   writable_both : (own : ℕ) (a b : List LogLine) → AreWritable counts own a → AreWritable counts (own_after counts own a) b → AreWritable counts own (a ++ b)
   writable_both own [] b first rest = rest
   writable_both own (line ∷ a) b first rest = (first.0, writable_both (own_behind counts own line) a b first.1 rest)

@@ -5,6 +5,7 @@ use Rattle.std.specs.List.{AllByRecursion}
 use Rattle.std.specs.Option.{option_or}
 use Rattle.std.proofs.lemmas.Bool.{ltb-false}
 use Rattle.std.proofs.lemmas.List.Elements.{Contains-push}
+use Rattle.cc_check.specs.Entries.{AreBefore}
 use Rattle.cc_defs.specs.declared.event.Event.{Event}
 use Rattle.cc_defs.specs.declared.event.Event.TheVariants as events
 use Rattle.cc_defs.specs.declared.log.LogLine.{LogLine}
@@ -19,9 +20,8 @@ use Rattle.cc_defs.specs.Runs.{Step, Derive, Tell, AreFairSteps, counted_in, row
 use Rattle.cc_defs.specs.Sections.{row_denial}
 use Rattle.cc_form.specs.Forms.{form_refusal}
 use Rattle.cc_query.specs.Accepted.{lines_of}
-use Rattle.cc_check.specs.Entries.{AreBefore}
-use Rattle.cc_run.specs.Stops.{own_after}
-use Rattle.cc_run.specs.Telling.{IsWritable}
+use Rattle.cc_tell.specs.EventTexts.{own_after}
+use Rattle.cc_tell.specs.Tellers.{IsWritable}
 use Rattle.cc_run.proofs.GoodClauses.{IsGood, chain_good, clause_few, denial_good, in_first, in_rest, row_few}
 use Rattle.cc_run.proofs.Worth.{AreFew, all_both, event_in}
 

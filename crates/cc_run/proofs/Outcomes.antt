@@ -1,7 +1,6 @@
 -- What a run leaves behind, from its steps.
 use Rattle.std.proofs.Common.{◌≡◌, ◌∙◌, refl, sym, ap, subst, ℕ, ◌≤◌, Bool, true, false, List, [], ◌++◌, Option, Some, None, Result, Ok, Err, IfSome, IfOk, MatchResult, inl, inr, option_map, append-nil, length, arith}
 use Rattle.std.specs.Prelude.{◌⊎◌, IsNone, is_some, IsErrAnd, IsErrOf, IsSomeAnd, ◌||◌}
-use Rattle.std.specs.Borrow.{Bor}
 use Rattle.cc_defs.specs.declared.event.Ending.{Ending}
 use Rattle.cc_defs.specs.declared.event.Ending.TheVariants as endings
 use Rattle.cc_defs.specs.declared.log.LogVerdict.{LogVerdict}
@@ -11,19 +10,17 @@ use Rattle.cc_defs.specs.declared.refusal.LimitAt.TheVariants as limits
 use Rattle.cc_defs.specs.declared.refusal.Refusal.{Refusal}
 use Rattle.cc_defs.specs.Limits.{limit_number}
 use Rattle.cc_defs.specs.Logs.{IsVerdict}
+use Rattle.cc_defs.specs.Runs.{Claim, Conditions, Failure, Histories, Horizon, IsFairRun, IsTrueOf, MayEnd, MayEndWithin, Run, first_horizon, horizon_at, last_horizon, optional, rows_of}
 use Rattle.cc_describe.specs.Describing.{AreFirstNames}
 use Rattle.cc_describe.specs.Places.{Files, HasPlaces}
-use Rattle.cc_ports.specs.Calls.{Begins as BeginsLog, Call, names_begun, names_opened, with_call, with_calls}
-use Rattle.cc_ports.specs.Contents.{Contents, Rose, IsPrefix, after_create, with_rest}
-use Rattle.cc_ports.specs.declared.desk.To.TheVariants as outputs
 use Rattle.cc_judge.specs.Judging.{BlocksHistories, IsVerdictWithin}
+use Rattle.cc_ports.specs.Calls.{Call, names_begun, names_opened, with_calls}
+use Rattle.cc_ports.specs.Contents.{Contents, Rose, IsPrefix, with_rest}
+use Rattle.cc_ports.specs.declared.desk.To.TheVariants as outputs
+use Rattle.cc_ports.specs.Moments.{Moment}
 use Rattle.cc_print.specs.Verdicts.{verdict_line}
 use Rattle.cc_query.specs.Accepted.{subject_of}
-use Rattle.cc_run.specs.declared.status.Status.{Status}
-use Rattle.cc_run.specs.declared.status.Status.TheVariants as statuses
-use Rattle.cc_run.specs.declared.status.Stop.{Stop}
-use Rattle.cc_run.specs.declared.status.Stop.TheVariants as stops
-use Rattle.cc_run.specs.Answers.{Answered, Answers, Counts, Ended, GaveSoFar, Gives, IsFresh, RefusesWords, RoseTwice, counts, left_in, promise_of}
+use Rattle.cc_run.specs.Answers.{Answered, Answers, Counts, Ended, GaveSoFar, Gives, RefusesWords, RoseTwice, counts, left_in, promise_of}
 use Rattle.cc_run.specs.Modes.Checking.{Checks, MayEndChecking, NamesLog, verdict_status}
 use Rattle.cc_run.specs.Modes.CheckingSure.{MayEndCheckingSure}
 use Rattle.cc_run.specs.Modes.Explaining.{MayEndExplaining}
@@ -33,19 +30,26 @@ use Rattle.cc_run.specs.Modes.Making.{Makes, MayEndMaking}
 use Rattle.cc_run.specs.Modes.Surely.{MayEndSurely}
 use Rattle.cc_run.specs.Names.{AreAsked, BeginsAsked, IsAnswer, MayEndWith, OpensAsked, log_asked}
 use Rattle.cc_run.specs.Promises.{IsEndStatus}
-use Rattle.cc_run.specs.Refusing.{refusal_text}
-use Rattle.cc_run.specs.Searching.{EndsSo, IsTold, Manner, OneByOne, Summed, status_of}
-use Rattle.cc_ports.specs.Moments.{Moment}
-use Rattle.cc_run.specs.Stops.{Asks, Begins, Called, IsCalm, Leaves, Prints, PrintsAsked, Searches, Step, TellsStop, adding, cut_status, given_to, outcome, stop_line, stop_status}
+use Rattle.cc_run.specs.Searching.{EndsSo, IsTold}
+use Rattle.cc_run.specs.Stops.{Asks, Leaves, Prints, PrintsAsked, Searches, outcome}
 use Rattle.cc_run.specs.Tasks.{IsTask, Task, made_files, made_named, named_by, request_of}
 use Rattle.cc_run.specs.Telling.{counts_of}
-use Rattle.cc_run.specs.Wholes.{AreFronts, Given, Left, Whole, nothing, only_err, only_out}
-use Rattle.cc_defs.specs.Runs.{Claim, Conditions, Failure, Histories, Horizon, IsFairRun, IsTrueOf, MayEnd, MayEndWithin, Run, first_horizon, horizon_at, last_horizon, optional, rows_of}
+use Rattle.cc_run.specs.Wholes.{Left, Whole}
+use Rattle.cc_tell.specs.declared.status.Status.{Status}
+use Rattle.cc_tell.specs.declared.status.Status.TheVariants as statuses
+use Rattle.cc_tell.specs.declared.status.Stop.{Stop}
+use Rattle.cc_tell.specs.declared.status.Stop.TheVariants as stops
+use Rattle.cc_tell.specs.Steps.{IsFresh, Begins, Called, IsCalm, Step}
+use Rattle.cc_tell.specs.ErrLines.{refusal_text}
+use Rattle.cc_tell.specs.Manners.{Manner, OneByOne, Summed}
+use Rattle.cc_tell.specs.Statuses.{status_of}
+use Rattle.cc_tell.specs.StopLines.{TellsStop, cut_status, stop_line, stop_status}
+use Rattle.cc_tell.specs.Givens.{adding, given_to, AreFronts, Given, nothing, only_err, only_out}
 use Rattle.cc_words.specs.Requests.{Checking, Listing, Request, ToBeSure, ToCheck, ToCheckGeneral, ToCheckModels, ToCheckSure, ToConvert, ToExplain, ToExport, ToList, ToListGenerally, ToMake, ToModel}
-use Rattle.cc_words.specs.Views.{plain_text}
 use Rattle.cc_words.specs.Words.{Text}
-use Rattle.cc_run.proofs.Callings.{asks_behind, asks_nothing, called_begins, called_none, called_on, first_none, may_be_refused, some_asked_of, stop_answers_nothing, told_answers_nothing}
-use Rattle.cc_run.proofs.GivenSteps.{calm_both}
+use Rattle.cc_tell.proofs.Calls.{called_none, called_on}
+use Rattle.cc_tell.proofs.GivenSteps.{calm_both}
+use Rattle.cc_run.proofs.Callings.{asks_behind, asks_nothing, first_none, may_be_refused, some_asked_of, stop_answers_nothing, told_answers_nothing}
 
 -- ---- counts
 
@@ -560,46 +564,6 @@ prints_search words begins names manner task x y z b v r for at is searched =
     let told : IsTold manner task searched.run whole = told_with manner task searched.run searched.given searched.ends begins searched.told in
     prints_begun words begins names whole x y z b v r (for.names_are statuses.Right) (λ _. for.names_are (outcome r)) (for.gives searched.run whole refl told) refl at is searched.step
     searched.ended (search_may words begins names manner task x searched.run whole r for told searched.ended)
-
--- a log that was to be begun
-begun_fresh : (c : Contents) → IsFresh c → after_create true c ≡ c
-begun_fresh c fresh = λ i. record c { log = sym fresh.log i }
-
-after_begun : (old new : Option Contents) → new ≡ option_map (after_create true) old → IfSome old (λ before. IsFresh before → new ≡ Some before)
-after_begun None new is = tt
-after_begun (Some c) new is = λ fresh. is ∙ ap Some (begun_fresh c fresh)
-
-after_failed : (old new : Option Contents) → new ≡ option_map (after_create false) old → IfSome old (λ before. IsFresh before → new ≡ Some before)
-after_failed None new is = tt
-after_failed (Some c) new is = λ fresh. is
-
-pub begins_done : {X : Type 0} (o : Option (Bor Text)) (name : Bor Text) (x y : Moment) (v : X) → o ≡ Some name → y.told ≡ option_map (after_create true) x.told → y.begun ≡ true →
-    y.calls ≡ with_call (BeginsLog name.now) x.calls → IsCalm x y → x.reads ≤ y.reads → x.writes ≤ y.writes → Begins (is_some o) (optional (plain_text o)) x y (Ok v)
-begins_done o name x y v is told begun calls calm reads writes =
-    subst (λ (n : Option (Bor Text)). Begins (is_some n) (optional (plain_text n)) x y (Ok v)) (sym is) (record {
-      told = after_begun x.told y.told told;
-      begun = begun;
-      failed = tt;
-      called = called_begins name.now x y calls;
-      calm = λ _. calm;
-      reads = reads;
-      writes = writes;
-    })
-
-pub begins_failed : {X : Type 0} (o : Option (Bor Text)) (name : Bor Text) (x y : Moment) → o ≡ Some name → y.told ≡ option_map (after_create false) x.told → y.begun ≡ x.begun →
-    y.calls ≡ with_call (BeginsLog name.now) x.calls → Rose x.writes y.writes → x.reads ≤ y.reads → x.writes ≤ y.writes →
-    Begins {X = X} (is_some o) (optional (plain_text o)) x y (Err stops.WriteFault)
-begins_failed {X = X} o name x y is told begun calls rose reads writes =
-    let failed : Result X Stop = Err stops.WriteFault in
-    subst (λ (n : Option (Bor Text)). Begins (is_some n) (optional (plain_text n)) x y failed) (sym is) (record {
-      told = after_failed x.told y.told told;
-      begun = begun;
-      failed = (refl, rose, refl);
-      called = called_begins name.now x y calls;
-      calm = λ ok. absurd cc;
-      reads = reads;
-      writes = writes;
-    })
 
 -- a log that was not begun
 pub prints_unbegun : {X : Type 0} (words : List Text) (named : Bool) (names : List Text) (x y : Moment) (b : Result X Stop) (e : Stop) (r : Result Status Stop) →

@@ -16,16 +16,17 @@ use Rattle.cc_describe.specs.FirstRefusal.{declared_in, file_named}
 use Rattle.cc_describe.specs.Places.{Files, Place}
 use Rattle.cc_ports.specs.Calls.{Call, names_begun, names_opened, with_calls}
 use Rattle.cc_ports.specs.Contents.{Contents, Rose, with_rest}
+use Rattle.cc_ports.specs.Moments.{Moment}
 use Rattle.cc_run.specs.Asking.{AreNamed, IsRefusedNamed}
 use Rattle.cc_run.specs.Modes.Generally.{wide_in}
 use Rattle.cc_run.specs.Requested.{AsksDescription, AsksQuery, IsFileOf, heads_of, named_of, opens_behind, source_of, OpensDescription, Reads}
 use Rattle.cc_run.specs.Answers.{promise_of}
 use Rattle.cc_run.specs.Names.{names_log}
-use Rattle.cc_ports.specs.Moments.{Moment}
-use Rattle.cc_run.specs.Stops.{Begins, IsCalm, Prints}
-use Rattle.cc_run.specs.declared.status.Status.{Status}
-use Rattle.cc_run.specs.declared.status.Stop.{Stop}
+use Rattle.cc_run.specs.Stops.{Prints}
 use Rattle.cc_run.specs.Tasks.{AreRead, AreReadFor, IsTask, Named, RefusesDescriptionFor, RefusesNamed, Task, asked_refusal, description_in, made_files, made_named, query_named, request_of}
+use Rattle.cc_tell.specs.Steps.{Begins, IsCalm}
+use Rattle.cc_tell.specs.declared.status.Status.{Status}
+use Rattle.cc_tell.specs.declared.status.Stop.{Stop}
 use Rattle.cc_words.specs.declared.asked.Asked.{Asked}
 use Rattle.cc_words.specs.declared.asked.CheckAsked.{CheckAsked}
 use Rattle.cc_words.specs.declared.asked.CheckGeneralAsked.{CheckGeneralAsked}
@@ -41,7 +42,8 @@ use Rattle.cc_words.specs.declared.asked.SureAsked.{SureAsked}
 use Rattle.cc_words.specs.Requests.{Checking, Converting, Explaining, Exporting, GeneralChecking, Generally, Listing, ModelChecking, Modelling, Request, SureChecking, Surely, ToBeSure, ToCheck, ToCheckGeneral, ToCheckModels, ToCheckSure, ToConvert, ToExplain, ToExport, ToList, ToListGenerally, ToMake, ToModel}
 use Rattle.cc_words.specs.Views.{plain_request, plain_text}
 use Rattle.cc_words.specs.Words.{Text}
-use Rattle.cc_run.proofs.Callings.{called_none, called_reading, first_all, first_longer}
+use Rattle.cc_tell.proofs.Calls.{called_none}
+use Rattle.cc_run.proofs.Callings.{called_reading, first_all, first_longer}
 use Rattle.cc_run.proofs.Outcomes.{RefusesRequest}
 
 -- what is asked for, in plain words

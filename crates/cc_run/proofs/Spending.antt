@@ -21,8 +21,9 @@ use Rattle.cc_query.specs.Accepted.{HaveGoodAxioms, lines_of}
 use Rattle.cc_query.specs.Laws.{SpentBudgetsAreSmall}
 use Rattle.cc_run.specs.Searching.{IsSpentEarly, axioms_in}
 use Rattle.cc_run.specs.Telling.{HasGoodLines, task_of}
+use Rattle.cc_tell.proofs.OwnNumbers.{lines_both}
 use Rattle.cc_run.proofs.GoodClauses.{in_first, in_rest}
-use Rattle.cc_run.proofs.Worth.{all_front, lines_both}
+use Rattle.cc_run.proofs.Worth.{all_front}
 
 -- ---- rows that were told
 

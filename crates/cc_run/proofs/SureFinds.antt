@@ -10,17 +10,10 @@ use Rattle.cc_defs.specs.Resolved.{Query}
 use Rattle.cc_defs.specs.Signatures.{Signature}
 use Rattle.cc_describe.specs.declared.description.Described.{Described}
 use Rattle.cc_ports.specs.declared.desk.To.TheVariants as outputs
-use Rattle.cc_run.specs.Asking.{AreOf}
-use Rattle.cc_run.specs.declared.status.Status.{Status}
-use Rattle.cc_run.specs.declared.status.Status.TheVariants as statuses
-use Rattle.cc_run.specs.declared.status.Stop.{Stop}
-use Rattle.cc_run.specs.declared.status.Stop.TheVariants as stops
-use Rattle.cc_run.specs.Modes.Surely.{EndsSurely}
-use Rattle.cc_run.specs.Refusing.{refusal_text}
 use Rattle.cc_ports.specs.Moments.{Moment}
-use Rattle.cc_run.specs.Stops.{Moves, Step, given_to}
-use Rattle.cc_run.specs.Sures.{IsSureOfSome, IsWritableRun, TellsEvent, TellsRun, TellsSure, given_of, status_behind, surely_given}
-use Rattle.cc_run.specs.Wholes.{Given, joined, nothing, only_err}
+use Rattle.cc_run.specs.Asking.{AreOf}
+use Rattle.cc_run.specs.Modes.Surely.{EndsSurely}
+use Rattle.cc_run.specs.Sures.{IsSureOfSome, IsWritableRun, TellsEvent, TellsRun, TellsSure, surely_given}
 use Rattle.cc_sure.specs.declared.answer.SureEvent.{SureEvent}
 use Rattle.cc_sure.specs.declared.answer.SureEvent.TheVariants as events
 use Rattle.cc_sure.specs.declared.phase.Phase.{Phase}
@@ -28,8 +21,16 @@ use Rattle.cc_sure.specs.declared.phase.Phase.TheVariants as phases
 use Rattle.cc_sure.specs.SureRuns.{IsFairSure, ReachesSureLimit, SureRun, sure_horizon}
 use Rattle.cc_sure.specs.Sures.{Awaits, GoesOn, HasMore, IsFewEvent, IsGoodEvent, IsSame, IsShortEvent, IsSureOf, Stands, SureView, TellsNext, left_of, nothing_told}
 use Rattle.cc_sure.specs.SureTold.{sure_header, sure_log, sure_told}
+use Rattle.cc_tell.specs.declared.status.Status.{Status}
+use Rattle.cc_tell.specs.declared.status.Status.TheVariants as statuses
+use Rattle.cc_tell.specs.declared.status.Stop.{Stop}
+use Rattle.cc_tell.specs.declared.status.Stop.TheVariants as stops
+use Rattle.cc_tell.specs.ErrLines.{refusal_text}
+use Rattle.cc_tell.specs.Steps.{Moves, Step}
+use Rattle.cc_tell.specs.Givens.{given_to, Given, joined, nothing, only_err}
+use Rattle.cc_tell.specs.SureTexts.{given_of, status_behind}
 use Rattle.cc_theory.specs.Theories.{AreLawsOf}
-use Rattle.cc_run.proofs.GivenSteps.{given_all, joined-nothing, moves_none, step_again, step_done, step_nothing, step_of, step_then}
+use Rattle.cc_tell.proofs.GivenSteps.{given_all, joined-nothing, moves_none, step_again, step_done, step_nothing, step_of, step_then}
 use Rattle.cc_run.proofs.SureTexts.{ends_so, event_given, event_written, grown, more_written, told_at}
 
 -- ---- one event

@@ -18,14 +18,8 @@ use Rattle.cc_defs.specs.Texts.{history_text, key_line}
 use Rattle.cc_ports.specs.declared.desk.To.TheVariants as outputs
 use Rattle.cc_print.specs.Atoms.{IsAtomOf}
 use Rattle.cc_query.specs.Parts.{section_lines}
-use Rattle.cc_run.specs.Modes.Surely.{EndsSurely, ending_line, sure_line}
-use Rattle.cc_run.specs.Stops.{given_to}
-use Rattle.cc_run.specs.Sures.{IsPrintable, IsWritableRun, given_of, heading_of, status_behind, surely_given}
-use Rattle.cc_run.specs.Wholes.{Given, joined}
-use Rattle.cc_run.proofs.GoodClauses.{in_first}
-use Rattle.cc_run.proofs.RunEvents.{same_sizes}
-use Rattle.cc_run.proofs.Spending.{path_row}
-use Rattle.cc_run.proofs.Worth.{all_both}
+use Rattle.cc_run.specs.Modes.Surely.{EndsSurely, sure_line}
+use Rattle.cc_run.specs.Sures.{IsWritableRun, surely_given}
 use Rattle.cc_sure.specs.declared.answer.SureEvent.{SureEvent}
 use Rattle.cc_sure.specs.declared.answer.SureEvent.TheVariants as events
 use Rattle.cc_sure.specs.Sought.{IsSought, PassesNoLimit, Sought, Any, With}
@@ -33,6 +27,12 @@ use Rattle.cc_sure.specs.SureRuns.{AreTrueSettled, AreTrueTried, IsFairSure, Set
 use Rattle.cc_sure.specs.Accepted.{IsWritableTold}
 use Rattle.cc_sure.specs.Sures.{GoesOn, IsFewEvent, IsGoodEvent, IsOver, IsShortEvent, IsSureEvent, SureView, sought_atom}
 use Rattle.cc_sure.specs.SureTold.{SureTold, NoneAt, ExampleIs, NeverSo, AnswersAre, Ends, atom_heading, none_told, settled_told, sought_heading, sure_header, sure_lines, sure_told, tried_told}
+use Rattle.cc_tell.specs.SureTexts.{ending_line, IsPrintable, given_of, heading_of, status_behind}
+use Rattle.cc_tell.specs.Givens.{given_to, Given, joined}
+use Rattle.cc_run.proofs.GoodClauses.{in_first}
+use Rattle.cc_run.proofs.RunEvents.{same_sizes}
+use Rattle.cc_run.proofs.Spending.{path_row}
+use Rattle.cc_run.proofs.Worth.{all_both}
 
 -- ---- what is true of all that is told: rows are of the horizon, and the answers of a position are those of its values
 

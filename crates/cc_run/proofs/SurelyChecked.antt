@@ -13,17 +13,20 @@ use Rattle.cc_defs.specs.Refusals.{past}
 use Rattle.cc_defs.specs.Resolved.{Query}
 use Rattle.cc_describe.specs.Places.{Files}
 use Rattle.cc_ports.specs.Contents.{Contents}
-use Rattle.cc_run.specs.declared.status.Status.{Status}
-use Rattle.cc_run.specs.declared.status.Stop.{Stop}
+use Rattle.cc_ports.specs.Moments.{Moment}
 use Rattle.cc_run.specs.Answers.{Gives}
-use Rattle.cc_run.specs.Modes.CheckingSure.{ChecksSure, MayEndCheckingSure, NamesSureLog, RefusesCheckingSure, named_to_check, silent_verdict_line, silent_verdict_status}
+use Rattle.cc_run.specs.Modes.CheckingSure.{ChecksSure, MayEndCheckingSure, NamesSureLog, RefusesCheckingSure, named_to_check}
 use Rattle.cc_run.specs.Modes.Surely.{NamesUnclaimed, RefusesClaimed}
 use Rattle.cc_run.specs.Names.{MayEndWith}
-use Rattle.cc_ports.specs.Moments.{Moment}
-use Rattle.cc_run.specs.Stops.{Prints, Step}
+use Rattle.cc_run.specs.Stops.{Prints}
 use Rattle.cc_run.specs.Tasks.{request_of}
-use Rattle.cc_run.specs.Wholes.{Whole, only_out}
+use Rattle.cc_run.specs.Wholes.{Whole}
 use Rattle.cc_sure.specs.SureLogs.{RefutesAtoms, sure_subject}
+use Rattle.cc_tell.specs.declared.status.Status.{Status}
+use Rattle.cc_tell.specs.declared.status.Stop.{Stop}
+use Rattle.cc_tell.specs.SilentVerdicts.{silent_verdict_line, silent_verdict_status}
+use Rattle.cc_tell.specs.Steps.{Step}
+use Rattle.cc_tell.specs.Givens.{only_out}
 use Rattle.cc_words.specs.declared.asked.CheckSureAsked.{CheckSureAsked}
 use Rattle.cc_words.specs.Requests.{Request, SureChecking, ToCheckSure}
 use Rattle.cc_words.specs.Words.{Text}

@@ -11,24 +11,26 @@ use Rattle.cc_defs.specs.Resolved.{Query}
 use Rattle.cc_defs.specs.Runs.{optional, range_of}
 use Rattle.cc_describe.specs.Places.{Files}
 use Rattle.cc_ports.specs.Contents.{Contents}
-use Rattle.cc_run.specs.declared.status.Status.{Status}
-use Rattle.cc_run.specs.declared.status.Status.TheVariants as statuses
-use Rattle.cc_run.specs.declared.status.Stop.{Stop}
+use Rattle.cc_ports.specs.Moments.{Moment}
 use Rattle.cc_run.specs.Answers.{Gives}
 use Rattle.cc_run.specs.Modes.Surely.{EndsSurely, MayEndSurely, NamesUnclaimed, RefusesClaimed, TellsSurely, named_surely, sure_status}
 use Rattle.cc_run.specs.Names.{MayEndWith, log_asked}
-use Rattle.cc_ports.specs.Moments.{Moment}
-use Rattle.cc_run.specs.Stops.{Begins, Prints, outcome}
+use Rattle.cc_run.specs.Stops.{Prints, outcome}
 use Rattle.cc_run.specs.Sures.{TellsSure, surely_given}
 use Rattle.cc_run.specs.Tasks.{request_of}
-use Rattle.cc_run.specs.Wholes.{Whole, nothing}
+use Rattle.cc_run.specs.Wholes.{Whole}
 use Rattle.cc_sure.specs.Accepted.{SureLogsAreAccepted}
 use Rattle.cc_sure.specs.SureRuns.{SureEnding, Complete, NoneAtAll, Spent, SureRun, sure_horizon}
+use Rattle.cc_tell.specs.declared.status.Status.{Status}
+use Rattle.cc_tell.specs.declared.status.Status.TheVariants as statuses
+use Rattle.cc_tell.specs.declared.status.Stop.{Stop}
+use Rattle.cc_tell.specs.Steps.{Begins}
+use Rattle.cc_tell.specs.Givens.{nothing}
 use Rattle.cc_words.specs.declared.asked.SureAsked.{SureAsked}
 use Rattle.cc_words.specs.Requests.{Request, Surely, ToBeSure}
 use Rattle.cc_words.specs.Views.{plain_text}
 use Rattle.cc_words.specs.Words.{Text}
-use Rattle.cc_run.proofs.GivenSteps.{step_as}
+use Rattle.cc_tell.proofs.GivenSteps.{step_as}
 use Rattle.cc_run.proofs.Outcomes.{RefusesRequest, known, prints_begun}
 use Rattle.cc_run.proofs.Passing.{range_is}
 use Rattle.cc_run.proofs.Readings.{surely_by}

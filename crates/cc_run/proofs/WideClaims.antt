@@ -1,31 +1,25 @@
 -- A query without a claim of a description whose laws may have heads of any form, and what is refused where it has one.
-use Rattle.std.proofs.Common.{◌≡◌, ◌∙◌, refl, sym, ap, subst, ℕ, List, [], ◌++◌, map, Option, Some, None, IfSome, Result, inl, inr, option_map}
+use Rattle.std.proofs.Common.{◌≡◌, ◌∙◌, refl, sym, ap, subst, ℕ, List, map, Option, Some, None, IfSome, Result, inl, inr, option_map}
 use Rattle.std.specs.Prelude.{IfErr, IsErrAnd, IsNone}
 use Rattle.std.specs.Option.{option_or}
 use Rattle.cc_arena.specs.GroundViews.{plain_ground_query}
 use Rattle.cc_arena.specs.declared.ground_laws.GroundQuery.{GroundQuery}
 use Rattle.cc_asked.specs.Descriptions.{IsDescriptionOf, IsWideDescriptionOf, description_of, ground_refusal_of, wide_description_of}
-use Rattle.cc_defs.specs.declared.event.Event.TheVariants as said
 use Rattle.cc_defs.specs.declared.refusal.Fault.{Fault}
 use Rattle.cc_defs.specs.declared.refusal.Fault.TheVariants as faults
 use Rattle.cc_defs.specs.declared.refusal.Refusal.{Refusal}
 use Rattle.cc_defs.specs.Description.{Description}
-use Rattle.cc_defs.specs.Events.{event_text}
 use Rattle.cc_defs.specs.GroundLaws.{PlainGroundQuery, StandsForQuery}
 use Rattle.cc_defs.specs.Refusals.{IsRefusedBy}
 use Rattle.cc_defs.specs.Resolved.{Query, plain_base_law, plain_query}
-use Rattle.cc_defs.specs.Texts.{history_text, key_line}
 use Rattle.cc_defs.specs.Universe.{universe}
 use Rattle.cc_describe.specs.declared.description.Described.{Described}
 use Rattle.cc_describe.specs.declared.heads.Heads.TheVariants as heads
 use Rattle.cc_describe.specs.FirstRefusal.{file_named}
 use Rattle.cc_describe.specs.Places.{Files}
-use Rattle.cc_general.specs.declared.event.GeneralEvent.{GeneralEvent}
-use Rattle.cc_general.specs.declared.event.GeneralEvent.TheVariants as events
 use Rattle.cc_laws.specs.Questions.{steps_refusal}
 use Rattle.cc_ports.specs.Contents.{Contents}
-use Rattle.cc_print.proofs.Described.{same_text_of}
-use Rattle.cc_run.specs.Generals.{IsWideFault, IsWideUnclaimed, given_generally, heading_for, lines_text}
+use Rattle.cc_run.specs.Generals.{IsWideFault, IsWideUnclaimed}
 use Rattle.cc_run.specs.Modes.Generally.{NamesWide, RefusesGenerally, wide_asked_refusal, wide_in}
 use Rattle.cc_run.specs.Sures.{claimed_named}
 use Rattle.cc_run.specs.Tasks.{AreReadFor, Named, query_named, query_refusal}
@@ -37,7 +31,7 @@ use Rattle.cc_run.proofs.Exported.{handed_on}
 use Rattle.cc_run.proofs.Outcomes.{known}
 use Rattle.cc_run.proofs.Readings.{IsRead}
 
--- ---- the description without laws with heads of any form: a query of it and its texts are those of the frame
+-- ---- the description without laws with heads of any form: a query of it is one of the frame
 
 module _ (described : Described) (w : WideDescription) (is : IsWideDescriptionOf described w) where
   abbrev pub bare : Description
@@ -60,23 +54,6 @@ module _ (described : Described) (w : WideDescription) (is : IsWideDescriptionOf
       same : (named : Option Query) → query_refusal bare named ≡ query_refusal (frame (wide_description_of is.declarations (map plain_wide_base described.wide))) named
       same None = refl
       same (Some q) = ap (λ r. option_or (steps_refusal (universe is.declarations).symbols q) r) (nodes q q.range)
-
-  history_framed : (horizon : ℕ) (row : List ℕ) → history_text bare horizon row ≡ history_text (frame w) horizon row
-  history_framed horizon row =
-      sym (same_text_of described.table is.declarations described.sig bare is.table is.signature refl refl horizon row)
-      ∙ same_text_of described.table is.declarations described.sig (frame w) is.table is.signature (ap (λ (x : WideDescription). x.universe) is.is)
-      (ap (λ (x : WideDescription). x.objects) is.is) horizon row
-
-  pub given_framed : (event : GeneralEvent) → given_generally bare event ≡ given_generally (frame w) event
-  given_framed (events.NoHistory horizon) = refl
-  given_framed (events.History horizon number row lines) =
-      ap (λ (history : List ℕ). record {
-        out = event_text (said.History horizon number) ++ (history ++ key_line horizon row) ++ [];
-        err = [];
-        log = heading_for horizon (Some row) ++ lines_text lines;
-      }) (history_framed horizon row)
-  given_framed (events.Ended ending) = refl
-  given_framed (events.Spent horizon listed rivals_of lines) = refl
 
 -- ---- the claim
 

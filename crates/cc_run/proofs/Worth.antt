@@ -2,7 +2,6 @@
 use Rattle.std.proofs.Common.{◌≡◌, ℕ, ◌≤◌, ◌⊎◌, Bool, not, List, [], ◌∷◌, ◌++◌, map, Option, None, refl, sym, ap, subst, arith, inl, inr}
 use Rattle.std.specs.Prelude.{Contains}
 use Rattle.std.specs.List.{AllByRecursion}
-use Rattle.std.proofs.lemmas.Grind.{flat_map-append}
 use Rattle.std.proofs.lemmas.List.{map-append}
 use Rattle.std.proofs.lemmas.List.Elements.{Contains-append_left, Contains-append_right, Contains-append_cases, Contains-push_cases}
 use Rattle.cc_defs.specs.declared.event.Event.{Event}
@@ -12,7 +11,6 @@ use Rattle.cc_defs.specs.declared.lists.Key.{Key}
 use Rattle.cc_defs.specs.declared.log.LogLine.{LogLine}
 use Rattle.cc_defs.specs.declared.log.LogLine.TheVariants as lines
 use Rattle.cc_defs.specs.Description.{Description}
-use Rattle.cc_defs.specs.Events.{line_told}
 use Rattle.cc_defs.specs.Limits.{most_histories}
 use Rattle.cc_defs.specs.LogTexts.{IsFormed}
 use Rattle.cc_defs.specs.Resolved.{Query}
@@ -21,11 +19,9 @@ use Rattle.cc_query.specs.Accepted.{AreGoodAxioms, lines_of}
 use Rattle.cc_query.specs.Sessions.{IsFewEvent, IsShortEvent, refusal_at, with_row}
 use Rattle.cc_run.specs.Searching.{KeepsLimits}
 use Rattle.cc_run.specs.Telling.{HasGoodLines, task_of}
+use Rattle.cc_tell.proofs.OwnNumbers.{lines_both}
 
 -- ---- lines behind others
-
-pub lines_both : (front more : List Told) → lines_of (front ++ more) ≡ lines_of front ++ lines_of more
-lines_both front more = flat_map-append (λ (one : Told). line_told one.event) front more
 
 pub all_front : {A : Type 0} (P : A → Type 0) (front more : List A) → AllByRecursion P (front ++ more) → AllByRecursion P front
 all_front P [] more all = tt

@@ -4,8 +4,6 @@ use Rattle.cc_defs.specs.declared.refusal.Refusal.{Refusal}
 use Rattle.cc_describe.specs.Places.{Files}
 use Rattle.cc_ports.specs.Contents.{Contents, IsPrefix, Rose}
 use Rattle.cc_ports.specs.Moments.{Moment}
-use Rattle.cc_run.specs.declared.status.Status.{Status}
-use Rattle.cc_run.specs.declared.status.Status.TheVariants as statuses
 use Rattle.cc_run.specs.Modes.Checking.{checking_promise}
 use Rattle.cc_run.specs.Modes.CheckingGeneral.{general_checking_promise}
 use Rattle.cc_run.specs.Modes.CheckingModels.{models_checking_promise}
@@ -19,9 +17,13 @@ use Rattle.cc_run.specs.Modes.Making.{making_promise}
 use Rattle.cc_run.specs.Modes.Modelling.{modelling_promise}
 use Rattle.cc_run.specs.Modes.Surely.{sure_promise}
 use Rattle.cc_run.specs.Promises.{Promise}
-use Rattle.cc_run.specs.Refusing.{IsRefusedWith, memory_line, read_fault_line, write_fault_line}
+use Rattle.cc_run.specs.Refusing.{IsRefusedWith}
 use Rattle.cc_run.specs.Tasks.{refusal_without_place, request_of}
-use Rattle.cc_run.specs.Wholes.{IsFrontOf, Left, Whole, left_by, nothing}
+use Rattle.cc_run.specs.Wholes.{IsFrontOf, Left, Whole, left_by}
+use Rattle.cc_tell.specs.declared.status.Status.{Status}
+use Rattle.cc_tell.specs.declared.status.Status.TheVariants as statuses
+use Rattle.cc_tell.specs.ErrLines.{memory_line, read_fault_line, write_fault_line}
+use Rattle.cc_tell.specs.Givens.{nothing}
 use Rattle.cc_words.specs.Requests.{Request, ToList, ToCheck, ToMake, ToExplain, ToConvert, ToExport, ToModel, ToCheckModels, ToBeSure, ToCheckSure, ToListGenerally, ToCheckGeneral}
 use Rattle.cc_words.specs.Words.{Text}
 
@@ -121,12 +123,6 @@ Answers files words statuses.Asked counts left = Ended files words statuses.Aske
 Answers files words statuses.ReadFault counts left = CutShortBy files words statuses.ReadFault counts left
 Answers files words statuses.WriteFault counts left = CutShortBy files words statuses.WriteFault counts left
 Answers files words statuses.OutOfMemory counts left = CutShortBy files words statuses.OutOfMemory counts left
-
--- nothing was written yet
-pub record IsFresh (contents : Contents) : Type 0 where
-  pub out : contents.out ≡ []
-  pub err : contents.err ≡ []
-  pub log : contents.log ≡ []
 
 abbrev pub left_in : Contents → Bool → Left
 left_in contents begun = record { given = record { out = contents.out; err = contents.err; log = contents.log }; begun = begun }

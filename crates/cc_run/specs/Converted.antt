@@ -19,7 +19,7 @@ use Rattle.cc_print.specs.Verdicts.{verdict_line}
 use Rattle.cc_query.specs.Accepted.{subject_of}
 use Rattle.cc_run.specs.Asking.{AreOf}
 use Rattle.cc_run.specs.Telling.{counts_of}
-use Rattle.cc_run.specs.Wholes.{Given}
+use Rattle.cc_tell.specs.Givens.{Given}
 
 -- These lines are left, in this version; the own clause of the first has this number.
 pub record AreLeft (d : Description) (q : Query) (key : Option Key) (version : Version) (own : ℕ) (bytes : List ℕ) (said : List LogLine) : Type 0 where

@@ -1,5 +1,5 @@
 -- What why mode works on, what is refused of it, and how it is told.
-use Rattle.std.specs.Prelude.{◌≡◌, ◌⊎◌, ◌↔◌, ◌++◌, ◌∷◌, ℕ, Bool, false, List, [], Result, IfOk, IsTrue, None, Option, Some, codes}
+use Rattle.std.specs.Prelude.{◌≡◌, ◌⊎◌, ◌↔◌, Bool, false, List, Result, IfOk, IsTrue, None, Some}
 use Rattle.cc_arena.specs.declared.ground_laws.GroundLaw.{GroundLaw}
 use Rattle.cc_defs.specs.declared.lists.Key.{Key}
 use Rattle.cc_defs.specs.declared.refusal.Fault.{Fault}
@@ -8,16 +8,14 @@ use Rattle.cc_defs.specs.Description.{Description}
 use Rattle.cc_defs.specs.Paths.{IsPath}
 use Rattle.cc_defs.specs.Signatures.{Signature}
 use Rattle.cc_ground.specs.Counting.{laws_refusal}
-use Rattle.cc_print.specs.Atoms.{atom_text}
-use Rattle.cc_run.specs.declared.status.Status.{Status}
-use Rattle.cc_run.specs.declared.status.Stop.{Stop}
-use Rattle.cc_run.specs.Modes.Explaining.{HasNoRow, IsExplained, IsRowNamed, RefusesRowOf, cause_text}
 use Rattle.cc_ports.specs.Moments.{Moment}
-use Rattle.cc_run.specs.Stops.{Step}
+use Rattle.cc_run.specs.Modes.Explaining.{HasNoRow, IsExplained, IsRowNamed, RefusesRowOf}
 use Rattle.cc_run.specs.Tasks.{refusal_without_place}
 use Rattle.cc_run.specs.Wholes.{Whole}
+use Rattle.cc_tell.specs.declared.status.Status.{Status}
+use Rattle.cc_tell.specs.declared.status.Stop.{Stop}
+use Rattle.cc_tell.specs.Steps.{Step}
 use Rattle.cc_theory.specs.Theories.{AreLawsOf, rules_refusal}
-use Rattle.cc_why.specs.declared.cause.Cause.{Cause}
 use Rattle.cc_words.specs.Words.{Text}
 
 -- no row has the text, or memory was wanting
@@ -38,10 +36,6 @@ pub record IsLookedAt (d : Description) (signature : Signature) (text : Text) (l
   pub named : IsRowNamed d text key
   pub rules : rules_refusal d key.horizon ≡ None
   pub path : IsTrue is_path ↔ IsPath d key.horizon key.row
-
--- the line of a cause
-abbrev pub cause_line : Description → List Text → (position value : ℕ) → Option Cause → List ℕ
-cause_line d names position value cause = atom_text d position value ++ codes ": " ++ cause_text names d.laws cause ++ 10 ∷ []
 
 -- a row is explained up to the end, or to a stop within
 pub record TellsRow (d : Description) (names : List Text) (key : Key) (old new : Moment) (result : Result Status Stop) : Type 0 where

@@ -1,40 +1,28 @@
 -- What general mode works on, and how a run over candidates is told, step by step.
-use Rattle.std.specs.Prelude.{◌≡◌, ◌⊎◌, ℕ, ◌≤◌, List, [], ◌∷◌, ◌++◌, false, flat_map, Option, Some, None, IfOk, IsNone, IsSome, Result}
+use Rattle.std.specs.Prelude.{◌≡◌, ◌⊎◌, ℕ, ◌≤◌, List, [], Option, Some, None, IfOk, IsNone, IsSome, Result}
 use Rattle.std.specs.List.{AllByRecursion}
 use Rattle.cc_asked.specs.Descriptions.{IsWideDescriptionOf}
-use Rattle.cc_defs.specs.declared.event.Event.TheVariants as said
-use Rattle.cc_defs.specs.declared.event.Ending.TheVariants as endings
-use Rattle.cc_defs.specs.declared.log.LogLine.{LogLine}
-use Rattle.cc_defs.specs.declared.log.LogLine.TheVariants as lines
 use Rattle.cc_defs.specs.declared.refusal.Fault.{Fault}
 use Rattle.cc_defs.specs.declared.refusal.Fault.TheVariants as faults
-use Rattle.cc_defs.specs.Description.{Description}
-use Rattle.cc_defs.specs.Events.{out_text}
 use Rattle.cc_defs.specs.GroundLaws.{PlainGroundQuery, StandsForQuery}
 use Rattle.cc_defs.specs.Limits.{most_steps}
-use Rattle.cc_defs.specs.LogTexts.{line_text}
 use Rattle.cc_defs.specs.Resolved.{Query}
-use Rattle.cc_defs.specs.Runs.{told, told_row}
 use Rattle.cc_defs.specs.Signatures.{Signature}
 use Rattle.cc_describe.specs.declared.description.Described.{Described}
 use Rattle.cc_form.specs.Queries.{IsQueryAt}
-use Rattle.cc_general.specs.declared.event.GeneralEvent.{GeneralEvent}
-use Rattle.cc_general.specs.declared.event.GeneralEvent.TheVariants as events
 use Rattle.cc_general.specs.Accepted.{IsWritableShown}
 use Rattle.cc_general.specs.GeneralRuns.{GeneralRun, IsFairGeneral, general_horizon}
 use Rattle.cc_general.specs.Generals.{GeneralView, IsGeneralOf, Stands}
-use Rattle.cc_general.specs.GeneralTold.{general_log, rivals_heading}
+use Rattle.cc_general.specs.GeneralTold.{general_log}
+use Rattle.cc_ports.specs.Moments.{Moment}
 use Rattle.cc_rivals.specs.Wides.{AreWideLawsFor, AreWideLawsOf}
-use Rattle.cc_run.specs.declared.status.Status.{Status}
-use Rattle.cc_run.specs.declared.status.Status.TheVariants as statuses
-use Rattle.cc_run.specs.declared.status.Stop.{Stop}
 use Rattle.cc_run.specs.Modes.Generally.{EndsGenerally, general_text, wide_asked_refusal}
 use Rattle.cc_run.specs.Modes.Surely.{claim_refusal}
-use Rattle.cc_run.specs.Searching.{status_of}
-use Rattle.cc_ports.specs.Moments.{Moment}
-use Rattle.cc_run.specs.Stops.{Step}
 use Rattle.cc_run.specs.Tasks.{query_named}
-use Rattle.cc_run.specs.Wholes.{Given, joined}
+use Rattle.cc_tell.specs.declared.status.Status.{Status}
+use Rattle.cc_tell.specs.declared.status.Stop.{Stop}
+use Rattle.cc_tell.specs.Steps.{Step}
+use Rattle.cc_tell.specs.Givens.{Given, joined}
 use Rattle.cc_wide.specs.declared.ground.WideGroundLaw.{WideGroundLaw}
 use Rattle.cc_wide.specs.WideLaws.{WideDescription, frame}
 use Rattle.cc_words.specs.Words.{Text}
@@ -66,38 +54,6 @@ IsWideFault w queries label (faults.Refused refusal) =
     (wide_asked_refusal w (query_named label queries) ≡ Some refusal)
     ⊎ ((q : Query) × (query_named label queries ≡ Some q) × (wide_asked_refusal w (Some q) ≡ None) × IsSome q.claim × (refusal ≡ claim_refusal q))
 IsWideFault w queries label faults.OutOfMemory = Unit {0}
-
--- ---- an event
-
-abbrev pub lines_text : List LogLine → List ℕ
-lines_text lines = flat_map line_text lines
-
--- the heading of a search: that for a rival of a row, or that among the candidates of a horizon
-abbrev pub heading_for : (horizon : ℕ) → Option (List ℕ) → List ℕ
-heading_for horizon None = line_text (lines.Section false horizon)
-heading_for horizon (Some row) = rivals_heading horizon row
-
--- what is given of an event
-abbrev pub given_generally : Description → GeneralEvent → Given
-given_generally d (events.NoHistory horizon) = record { out = out_text d (told (said.NoHistory horizon) ∷ []); err = []; log = [] }
-given_generally d (events.History horizon number row lines) = record {
-  out = out_text d (told_row (said.History horizon number) row ∷ []);
-  err = [];
-  log = heading_for horizon (Some row) ++ lines_text lines;
-}
-given_generally d (events.Ended ending) = record { out = out_text d (told (said.Ended ending) ∷ []); err = []; log = [] }
-given_generally d (events.Spent horizon listed rivals_of lines) = record {
-  out = out_text d (told (said.Ended (endings.Spent horizon listed)) ∷ []);
-  err = [];
-  log = heading_for horizon rivals_of ++ lines_text lines;
-}
-
--- the status of a run whose last event this is; none where more is to come
-abbrev pub general_status_behind : GeneralEvent → Option Status
-general_status_behind (events.NoHistory horizon) = None
-general_status_behind (events.History horizon number row lines) = None
-general_status_behind (events.Ended ending) = Some (status_of ending)
-general_status_behind (events.Spent horizon listed rivals_of lines) = Some statuses.Spent
 
 -- ---- a run
 

@@ -1,7 +1,6 @@
 pub mod Answers
 pub mod Asking
 pub mod CnfForms
-pub mod Codes
 pub mod Converted
 pub mod Explained
 pub mod Exported

@@ -10,16 +10,16 @@ use Rattle.cc_defs.specs.Refusals.{past}
 use Rattle.cc_defs.specs.Runs.{Section, TellsRows, rows_of, section_events}
 use Rattle.cc_defs.specs.Sections.{Axioms}
 use Rattle.cc_judge.specs.Single.{subject_over}
+use Rattle.cc_ports.specs.Moments.{Moment}
 use Rattle.cc_query.specs.Accepted.{AreGoodAxioms, lines_of}
 use Rattle.cc_query.specs.Searches.{SearchView, Stands, TellsTooMany}
-use Rattle.cc_run.specs.declared.status.Status.{Status}
-use Rattle.cc_run.specs.declared.status.Status.TheVariants as statuses
-use Rattle.cc_run.specs.declared.status.Stop.{Stop}
-use Rattle.cc_run.specs.Modes.Modelling.{models_status, models_text}
-use Rattle.cc_run.specs.Refusing.{refusal_text}
-use Rattle.cc_ports.specs.Moments.{Moment}
-use Rattle.cc_run.specs.Stops.{Step}
-use Rattle.cc_run.specs.Wholes.{Given, joined}
+use Rattle.cc_tell.specs.declared.status.Status.{Status}
+use Rattle.cc_tell.specs.declared.status.Status.TheVariants as statuses
+use Rattle.cc_tell.specs.declared.status.Stop.{Stop}
+use Rattle.cc_tell.specs.ModelTexts.{models_status, models_text}
+use Rattle.cc_tell.specs.ErrLines.{refusal_text}
+use Rattle.cc_tell.specs.Steps.{Step}
+use Rattle.cc_tell.specs.Givens.{Given, joined}
 
 -- what is given of a section: its models, and its log
 abbrev pub told_of : Axioms → Version → Section → Given

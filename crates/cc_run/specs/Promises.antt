@@ -2,9 +2,9 @@
 use Rattle.std.specs.Prelude.{List, Option}
 use Rattle.cc_defs.specs.declared.refusal.Refusal.{Refusal}
 use Rattle.cc_describe.specs.Places.{Files}
-use Rattle.cc_run.specs.declared.status.Status.{Status}
-use Rattle.cc_run.specs.declared.status.Status.TheVariants as statuses
 use Rattle.cc_run.specs.Wholes.{Whole}
+use Rattle.cc_tell.specs.declared.status.Status.{Status}
+use Rattle.cc_tell.specs.declared.status.Status.TheVariants as statuses
 use Rattle.cc_words.specs.Words.{Text}
 
 -- a status with which a run comes to its end

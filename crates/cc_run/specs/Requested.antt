@@ -8,13 +8,13 @@ use Rattle.cc_describe.specs.declared.heads.Heads.TheVariants as heads
 use Rattle.cc_describe.specs.Describing.{Describes, HasStopped, OpensFor}
 use Rattle.cc_describe.specs.Places.{Files}
 use Rattle.cc_ports.specs.Contents.{Rose, with_rest}
+use Rattle.cc_ports.specs.Moments.{Moment}
 use Rattle.cc_run.specs.Modes.CheckingGeneral.{named_for_general}
 use Rattle.cc_run.specs.Modes.CheckingSure.{named_to_check}
 use Rattle.cc_run.specs.Modes.Generally.{named_generally}
 use Rattle.cc_run.specs.Modes.Surely.{named_surely}
-use Rattle.cc_ports.specs.Moments.{Moment}
-use Rattle.cc_run.specs.Stops.{Called, IsCalm}
 use Rattle.cc_run.specs.Tasks.{Named, checked_by, made_files, made_named, named_alone, named_by, named_from, named_in, named_to}
+use Rattle.cc_tell.specs.Steps.{Called, IsCalm}
 use Rattle.cc_words.specs.Requests.{Request, ToList, ToCheck, ToMake, ToExplain, ToConvert, ToExport, ToModel, ToCheckModels, ToBeSure, ToCheckSure, ToListGenerally, ToCheckGeneral}
 use Rattle.cc_words.specs.Words.{Text}
 

@@ -1,5 +1,5 @@
--- What all modes that search share: a run of the search, its limits, what its log is worth, and how it is told.
-use Rattle.std.specs.Prelude.{◌≡◌, ℕ, ◌<◌, ◌^◌, ◌≤◌, ◌⊎◌, Bool, true, false, List, [], ◌∷◌, length, map, Contains, Option, Some, None, is_some, IsNone}
+-- What all modes that search share: a run of the search, its limits, and what its log is worth.
+use Rattle.std.specs.Prelude.{◌≡◌, ℕ, ◌<◌, ◌^◌, ◌≤◌, ◌⊎◌, Bool, true, false, List, [], length, map, Contains, Option, Some, None, is_some, IsNone}
 use Rattle.std.specs.List.{AllByRecursion}
 use Rattle.cc_defs.specs.declared.event.Ending.{Ending}
 use Rattle.cc_defs.specs.declared.event.Ending.TheVariants as endings
@@ -7,36 +7,24 @@ use Rattle.cc_defs.specs.declared.event.Told.{Told}
 use Rattle.cc_defs.specs.declared.event.Event.TheVariants as events
 use Rattle.cc_defs.specs.declared.log.EndWord.TheVariants as words
 use Rattle.cc_defs.specs.declared.log.LogLine.TheVariants as lines
-use Rattle.cc_defs.specs.declared.log.Version.{Version}
 use Rattle.cc_defs.specs.declared.refusal.LimitAt.TheVariants as limits
 use Rattle.cc_defs.specs.declared.refusal.Refusal.{Refusal}
 use Rattle.cc_defs.specs.Assignments.{HasOpen}
-use Rattle.cc_defs.specs.Description.{Description}
-use Rattle.cc_defs.specs.Events.{out_text, log_of}
 use Rattle.cc_defs.specs.Limits.{most_histories}
-use Rattle.cc_defs.specs.LogTexts.{IsFormed, header}
-use Rattle.cc_defs.specs.LogVersions.{header_of, log_in}
+use Rattle.cc_defs.specs.LogTexts.{IsFormed}
 use Rattle.cc_defs.specs.Logs.{IsAccepted}
 use Rattle.cc_defs.specs.Refusals.{past}
 use Rattle.cc_defs.specs.Runs.{Horizon, Histories, Conditions, Claim, Failure, Run, EndsWith, IsFairRun, axioms_of, events_of, first_horizon, horizon_at, last_horizon}
 use Rattle.cc_defs.specs.Sections.{Axioms}
-use Rattle.cc_print.specs.Summaries.{endings_told, summary}
 use Rattle.cc_query.specs.Accepted.{lines_of, subject_of}
 use Rattle.cc_query.specs.Sessions.{TellsTooMany, opening_refusal}
-use Rattle.cc_run.specs.declared.status.Status.{Status}
-use Rattle.cc_run.specs.declared.status.Status.TheVariants as statuses
-use Rattle.cc_run.specs.Refusing.{refusal_text}
 use Rattle.cc_run.specs.Tasks.{Task}
 use Rattle.cc_run.specs.Wholes.{Whole}
-
-abbrev pub status_of : Ending → Status
-status_of (endings.Complete horizon listed) = statuses.Right
-status_of (endings.Asked horizon listed) = statuses.Asked
-status_of (endings.Spent horizon listed) = statuses.Spent
-status_of endings.NoHistory = statuses.Not
-status_of endings.ClaimHolds = statuses.Right
-status_of endings.ClaimEmpty = statuses.Right
-status_of endings.ClaimFails = statuses.Not
+use Rattle.cc_tell.specs.declared.status.Status.{Status}
+use Rattle.cc_tell.specs.declared.status.Status.TheVariants as statuses
+use Rattle.cc_tell.specs.ErrLines.{refusal_text}
+use Rattle.cc_tell.specs.Statuses.{status_of}
+use Rattle.cc_tell.specs.Manners.{Manner, out_told, log_told}
 
 -- the events of a run of a task
 abbrev pub told_by : Task → Run → List Told
@@ -77,34 +65,6 @@ pub record KeepsLimits (task : Task) (told : List Told) : Type 0 where
       opening_refusal task.description task.query task.ask horizon conditions ≡ None
   pub few : (horizon number : ℕ) → Contains (map (λ one. one.event) told) (events.History horizon number) → number ≤ most_histories
   pub formed : AllByRecursion IsFormed (lines_of told)
-
--- ---- how a search is told
-
--- To Out each event as it comes, with a log in this version, where a section has so many axioms; or a summary at the end, as that of a
--- made description of a size, with a log in version 1.
-pub data Manner : Type 0 where
-  OneByOne : Version → (counts : Bool → ℕ → ℕ) → Manner
-  Summed : (size : ℕ) → Manner
-
--- a summary, where a search has ended
-abbrev pub summed : ℕ → List Told → List Ending → List ℕ
-summed size told [] = []
-summed size told (ending ∷ others) = summary size told
-
--- what a search gives to Out
-abbrev pub out_told : Manner → Description → List Told → List ℕ
-out_told (OneByOne version counts) d told = out_text d told
-out_told (Summed size) d told = summed size told (endings_told told)
-
--- and to Log
-abbrev pub log_told : Manner → List Told → List ℕ
-log_told (OneByOne version counts) told = log_in version counts (lines_of told)
-log_told (Summed size) told = log_of told
-
--- how that begins
-abbrev pub header_told : Manner → List ℕ
-header_told (OneByOne version counts) = header_of version
-header_told (Summed size) = header
 
 -- ---- what the log is worth
 

@@ -1,13 +1,11 @@
--- What is told of one event of a search, and how a search goes on behind what it told before.
+-- How a search goes on behind what it told before.
 use Rattle.std.specs.Prelude.{◌≡◌, ℕ, ◌≤◌, Bool, not, length, List, [], ◌∷◌, ◌++◌, map, Contains, Option, Some, None, Result, Ok, Err}
 use Rattle.std.specs.List.{AllByRecursion}
-use Rattle.cc_check.specs.Entries.{HasShortLists, NamesBefore}
 use Rattle.cc_asked.specs.Descriptions.{IsDescriptionOf}
 use Rattle.cc_defs.specs.declared.event.Event.{Event}
 use Rattle.cc_defs.specs.declared.event.Event.TheVariants as events
 use Rattle.cc_defs.specs.declared.event.Told.{Told}
 use Rattle.cc_defs.specs.declared.lists.Key.{Key}
-use Rattle.cc_defs.specs.declared.log.LogLine.{LogLine}
 use Rattle.cc_defs.specs.declared.log.LogLine.TheVariants as lines
 use Rattle.cc_defs.specs.Description.{Description}
 use Rattle.cc_defs.specs.Limits.{most_clauses, most_histories}
@@ -16,28 +14,19 @@ use Rattle.cc_defs.specs.LogVersions.{counts_in}
 use Rattle.cc_defs.specs.Resolved.{Query}
 use Rattle.cc_defs.specs.Runs.{Ask, axioms_of}
 use Rattle.cc_describe.specs.declared.description.Described.{Described}
-use Rattle.cc_print.specs.Summaries.{empty_horizons, endings_told}
+use Rattle.cc_ports.specs.Moments.{Moment}
 use Rattle.cc_query.specs.Accepted.{HaveGoodAxioms, lines_of, subject_of}
 use Rattle.cc_query.specs.Sessions.{After, HasMore, IsSame, IsSessionOf, SessionView, refusal_at}
-use Rattle.cc_run.specs.declared.status.Status.{Status}
-use Rattle.cc_run.specs.declared.status.Stop.{Stop}
-use Rattle.cc_run.specs.declared.telling.Teller.{Teller}
-use Rattle.cc_run.specs.declared.telling.Teller.TheVariants as tellers
-use Rattle.cc_run.specs.Searching.{Manner, OneByOne, Summed, header_told, status_of}
-use Rattle.cc_ports.specs.Moments.{Moment}
-use Rattle.cc_run.specs.Stops.{Moves, Searches, own_after, texts_behind, texts_of}
+use Rattle.cc_run.specs.Stops.{Searches}
 use Rattle.cc_run.specs.Tasks.{Task}
-use Rattle.cc_run.specs.Wholes.{Given, joined, only_log}
-
--- the status of a run whose last event this is; none where more is to come
-abbrev pub status_told : Event → Option Status
-status_told (events.Log line) = None
-status_told (events.NoHistory horizon) = None
-status_told (events.History horizon number) = None
-status_told (events.NoConditions horizon) = None
-status_told (events.Holds horizon) = None
-status_told (events.Counterexample horizon) = None
-status_told (events.Ended ending) = Some (status_of ending)
+use Rattle.cc_tell.specs.declared.status.Status.{Status}
+use Rattle.cc_tell.specs.declared.status.Stop.{Stop}
+use Rattle.cc_tell.specs.declared.telling.Teller.{Teller}
+use Rattle.cc_tell.specs.Manners.{Manner, header_told}
+use Rattle.cc_tell.specs.Steps.{Moves}
+use Rattle.cc_tell.specs.EventTexts.{texts_behind, texts_of}
+use Rattle.cc_tell.specs.Givens.{Given, joined, only_log}
+use Rattle.cc_tell.specs.Tellers.{manner_of, KeepsUp}
 
 abbrev pub task_of : Description → Query → Ask → Task
 task_of d q ask = record { description = d; query = q; ask = ask }
@@ -61,10 +50,6 @@ pub record HasGoodLines (d : Description) (q : Query) (key : Option Key) (told :
 abbrev pub counts_of : Description → Query → Option Key → Bool → ℕ → ℕ
 counts_of d q key = counts_in (subject_of d q key)
 
--- so many axioms has the section whose heading an event is
-abbrev pub IsCounted : (counts : Bool → ℕ → ℕ) → Event → ℕ → Type 0
-IsCounted counts event axioms = (conditions : Bool) (horizon : ℕ) → event ≡ events.Log (lines.Section conditions horizon) → axioms ≡ counts conditions horizon
-
 -- they are not more than there may be: this is known of some description and query that the session is of
 abbrev pub HasFewAxioms : SessionView → Event → Type 0
 HasFewAxioms session event =
@@ -72,38 +57,7 @@ HasFewAxioms session event =
     × ((conditions : Bool) (horizon : ℕ) → event ≡ events.Log (lines.Section conditions horizon) →
     length ((axioms_of d q session.ask.after conditions horizon).clauses) ≤ most_clauses)
 
--- a line that version 2 can say, where its own clause has this number
-abbrev pub IsWritable : ℕ → LogLine → Type 0
-IsWritable own line = (own ≤ 999999999) × HasShortLists line × NamesBefore own line
-
-abbrev pub IsWritableEvent : ℕ → Event → Type 0
-IsWritableEvent own (events.Log line) = IsWritable own line
-IsWritableEvent own (events.NoHistory horizon) = Unit {0}
-IsWritableEvent own (events.History horizon number) = Unit {0}
-IsWritableEvent own (events.NoConditions horizon) = Unit {0}
-IsWritableEvent own (events.Holds horizon) = Unit {0}
-IsWritableEvent own (events.Counterexample horizon) = Unit {0}
-IsWritableEvent own (events.Ended ending) = Unit {0}
-
 -- ---- how events are told
-
--- a section has so many axioms
-abbrev pub manner_of : (counts : Bool → ℕ → ℕ) → Teller → Manner
-manner_of counts (tellers.OneByOne version own) = OneByOne version counts
-manner_of counts (tellers.Summed size outcome) = Summed size
-
-abbrev pub IsWritableBy : Teller → Event → Type 0
-IsWritableBy (tellers.OneByOne version own) event = IsWritableEvent own event
-IsWritableBy (tellers.Summed size outcome) event = Unit {0}
-
--- these events have the summary of those
-abbrev pub SumUp : List Told → List Told → Type 0
-SumUp outcome told = (empty_horizons outcome ≡ empty_horizons told) × (endings_told outcome ≡ endings_told told)
-
--- What a teller keeps is right for the events that were told, with which the search has not ended.
-abbrev pub KeepsUp : (counts : Bool → ℕ → ℕ) → Teller → List Told → Type 0
-KeepsUp counts (tellers.OneByOne version own) told = own ≡ own_after counts 1 (lines_of told)
-KeepsUp counts (tellers.Summed size outcome) told = SumUp outcome.items told × (endings_told told ≡ [])
 
 -- one event more of it was told
 pub record TellsOne (manner : Manner) (d : Description) (q : Query) (given : List Told) (teller : Teller) (session : SessionView) (old new : Moment) : Type 0 where

@@ -7,7 +7,7 @@ ghost use Rattle.cc_dimacs.specs.Cnfs.{PlainCnf};
 ghost use Rattle.cc_ports.specs.Contents.{Rose, with_rest};
 ghost use Rattle.cc_run.specs.CnfForms.{HasForm, IsFormFault, IsFormOf};
 ghost use Rattle.cc_run.specs.Modes.Modelling.{IsCnfIn, RefusesCnf};
-ghost use Rattle.cc_run.specs.Stops.{Called, IsCalm};
+ghost use Rattle.cc_tell.specs.Steps.{Called, IsCalm};
 
 use cc_defs::{Fault, LimitAt, Refusal};
 use cc_dimacs::{cnf_form, read_cnf};

@@ -1,61 +1,33 @@
 //! A search, told event by event: what all modes that search share.
-ghost use Rattle.std.specs.Prelude.{◌≡◌, ◌<◌, ◌≤◌, ℕ, Bool, List, ◌∷◌, ◌++◌, [], IfOk, IfSome, IsNone, Some, is_some};
+ghost use Rattle.std.specs.Prelude.{◌≡◌, ◌<◌, ◌≤◌, ℕ, Bool, List, ◌∷◌, ◌++◌, [], IfOk, IfSome, IsNone};
 ghost use Rattle.cc_arena.specs.GroundViews.{plain_ground_query};
 ghost use Rattle.cc_asked.specs.Descriptions.{IsDescriptionOf};
 ghost use Rattle.cc_defs.specs.Description.{Description};
 ghost use Rattle.cc_defs.specs.declared.event.Told.{Told};
 ghost use Rattle.cc_defs.specs.Limits.{most_clauses};
-ghost use Rattle.cc_defs.specs.Runs.{optional};
 ghost use Rattle.cc_defs.specs.Resolved.{Query as QueryAsked};
 ghost use Rattle.cc_query.specs.Lefts.{left_of};
 ghost use Rattle.cc_query.specs.Sessions.{After, HasMore, IsSame, IsSessionOf, IsShortEvent, StandsOpened, with_row};
 ghost use Rattle.cc_run.specs.Asking.{AreOf, AreSearchable};
-ghost use Rattle.cc_run.specs.Refusing as refusals;
-ghost use Rattle.cc_run.specs.Searching as searches;
-ghost use Rattle.cc_run.specs.Searching.{header_told};
-ghost use Rattle.cc_run.specs.Stops.{Begins, IsRowOfEvent, Searches, Step, texts_behind};
-ghost use Rattle.cc_run.specs.Telling.{GoesOn, HasFewAxioms, HasGoodLines, IsCounted, IsOfSome, IsWritableBy, KeepsUp, counts_of, manner_of, status_told};
-ghost use Rattle.cc_run.specs.Wholes.{nothing, only_err, only_log};
+ghost use Rattle.cc_run.specs.Stops.{Searches};
+ghost use Rattle.cc_run.specs.Telling.{GoesOn, HasFewAxioms, HasGoodLines, IsOfSome, counts_of};
 ghost use Rattle.cc_sorts.specs.Tables.{IsSignatureFor};
-ghost use Rattle.cc_words.specs.Views.{plain_text};
+ghost use Rattle.cc_tell.specs.Manners.{header_told};
+ghost use Rattle.cc_tell.specs.Steps.{Step};
+ghost use Rattle.cc_tell.specs.EventTexts.{IsRowOfEvent, texts_behind};
+ghost use Rattle.cc_tell.specs.Tellers.{IsCounted, IsWritableBy, KeepsUp, manner_of};
+ghost use Rattle.cc_tell.specs.Statuses.{status_told};
+ghost use Rattle.cc_tell.specs.Givens.{nothing, only_log};
 
 use crate::laws::log_laws;
-use crate::refusing::refuse;
-use crate::status::{Status, Stop};
-use crate::telling::{Teller, give_header, tell_by};
 use cc_arena::{GroundQuery, Laws};
-use cc_defs::{Ending, Event, Fault, LogLine, Refusal};
+use cc_defs::{Event, Fault, LogLine};
 use cc_describe::Described;
 use cc_ports::Desk;
 use cc_query::laws::spent_budgets_are_small;
 use cc_query::{Ask, Session};
+use cc_tell::{Status, Stop, Teller, give_header, status_of, tell_by, tell_limit};
 use std::alloc::Global;
-
-/// Begins a log where one is named.
-pub(crate) fn begin_log<D: Desk>(desk: &mut D, name: Option<&str>) -> Result<(), Stop>
-    ensures { Begins (is_some name.entry) (optional (plain_text name.entry)) (D.seen desk.old)
-        (D.seen desk.new) result }
-{
-    match name {
-        Some(name) => match desk.create_file(name) {
-            Ok(()) => Ok(()),
-            Err(_) => Err(Stop::WriteFault),
-        },
-        None => Ok(()),
-    }
-}
-
-/// The status of a run that ends so.
-pub(crate) fn status_of(ending: Ending) -> Status
-    ensures { result ≡ searches.status_of ending }
-{
-    match ending {
-        Ending::Complete { .. } | Ending::ClaimHolds | Ending::ClaimEmpty => Status::Right,
-        Ending::NoHistory | Ending::ClaimFails => Status::Not,
-        Ending::Spent { .. } => Status::Spent,
-        Ending::Asked { .. } => Status::Asked,
-    }
-}
 
 /// The status of a run whose last event this is; none where more is to come.
 fn status_behind(event: &Event) -> Option<Status>
@@ -121,22 +93,17 @@ fn tell_next<D: Desk>(
         manner_of counts teller.new ≡ manner_of counts teller.old }
     ensures status { IfOk result (λ status. status ≡ status_told event.now) }
 {
-    tell_by(alloc, desk, described, teller, event, row, axioms)?;
+    tell_by(
+        alloc,
+        desk,
+        &described.table,
+        &described.sig,
+        teller,
+        event,
+        row,
+        axioms,
+    )?;
     Ok(status_behind(event))
-}
-
-/// Tells a limit that a horizon passes.
-pub(crate) fn tell_limit<D: Desk>(
-    alloc: Global,
-    desk: &mut D,
-    refusal: &Refusal,
-) -> Result<Option<Status>, Stop>
-    ensures told { Step (only_err (refusals.refusal_text refusal.now [])) (D.seen desk.old)
-        (D.seen desk.new) result }
-    ensures status { IfOk result (λ status. status ≡ Some Status.Refused) }
-{
-    let status = refuse(alloc, desk, refusal, "")?;
-    Ok(Some(status))
 }
 
 /// Tells the next event of a search, or the limit that a horizon passes, and answers the run's status where that was the last.

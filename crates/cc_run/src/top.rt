@@ -8,16 +8,17 @@ ghost use Rattle.cc_describe.specs.declared.heads.Heads.TheVariants as heads;
 ghost use Rattle.cc_describe.specs.Describing.{Describes, SaysAll, AsksFormulas, HasForms, HasWideForms};
 ghost use Rattle.cc_ports.specs.Calls.{Call, names_begun, names_opened, with_calls};
 ghost use Rattle.cc_ports.specs.Contents.{Rose};
-ghost use Rattle.cc_run.specs.Answers.{IsFresh, Answered, counts};
+ghost use Rattle.cc_ports.specs.Moments.{Moment};
+ghost use Rattle.cc_run.specs.Answers.{Answered, counts};
 ghost use Rattle.cc_run.specs.Asking.{AreOf, AreSearchable};
 ghost use Rattle.cc_run.specs.Names.{BeginsAsked, MayEndWith, OpensAsked, names_log};
 ghost use Rattle.cc_run.specs.Promises.{IsEndStatus};
 ghost use Rattle.cc_run.specs.Requested.{AsksDescription, AsksQuery, IsFileOf, IsWithin, Reads, named_of, opens_behind, source_of};
 ghost use Rattle.cc_run.specs.Requested as requested;
-ghost use Rattle.cc_ports.specs.Moments.{Moment};
 ghost use Rattle.cc_run.specs.Stops.{Prints, PrintsAsked};
 ghost use Rattle.cc_run.specs.Tasks.{IsTask, request_of};
 ghost use Rattle.cc_sorts.specs.Tables.{IsSignatureFor};
+ghost use Rattle.cc_tell.specs.Steps.{IsFresh};
 ghost use Rattle.cc_words.specs.Requests.{Request, ToMake};
 ghost use Rattle.cc_words.specs.Views.{plain_request, plain_text};
 ghost use Rattle.cc_words.specs.Words.{Text};
@@ -27,8 +28,6 @@ use crate::modes::{
     check, convert, export, general, general_check, list, make, models, models_check, sure,
     sure_check, why,
 };
-use crate::refusing::{file_named, refuse, tell_stop};
-use crate::status::{Status, Stop};
 use bumpalo::Bump;
 use cc_arena::Terms;
 use cc_defs::{Fault, Refusal};
@@ -36,6 +35,7 @@ use cc_describe::laws::has_places;
 use cc_describe::{DescribeStop, Described, Heads, describe};
 use cc_make::{TextDesk, make_text};
 use cc_ports::{Desk, Files, StillDesk};
+use cc_tell::{Status, Stop, file_named, refuse, tell_stop};
 use cc_words::{Asked, read};
 use std::alloc::Global;
 

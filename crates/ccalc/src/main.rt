@@ -2,7 +2,7 @@
 #![tactic(auto)]
 
 ghost use Rattle.std.specs.Prelude.{◌≢◌};
-ghost use Rattle.cc_run.specs.Codes as codes;
+ghost use Rattle.cc_tell.specs.Codes as codes;
 
 pub use cc_describe::{DescribeStop, Described, describe};
 use cc_ports::RealDesk;

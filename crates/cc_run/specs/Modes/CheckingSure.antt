@@ -1,26 +1,26 @@
 -- Surecheck mode: a log of impossible atoms is judged.
-use Rattle.std.specs.Prelude.{◌≡◌, ◌≤◌, ◌<◌, ◌⊎◌, ℕ, false, List, [], ◌∷◌, ◌++◌, length, codes, decimal, Some, None}
-use Rattle.cc_check.specs.Silent.{IsSilentFault, IsSilentVerdict, IsSilentVerdictWithin}
+use Rattle.std.specs.Prelude.{◌≡◌, ◌≤◌, ◌<◌, ◌⊎◌, ℕ, false, List, [], ◌∷◌, ◌++◌, length, codes, Some, None}
 use Rattle.cc_check.specs.declared.silent.SilentVerdict.{SilentVerdict}
-use Rattle.cc_check.specs.declared.silent.SilentVerdict.TheVariants as verdicts
+use Rattle.cc_check.specs.Silent.{IsSilentFault, IsSilentVerdict, IsSilentVerdictWithin}
 use Rattle.cc_defs.specs.declared.refusal.Fault.TheVariants as faults
 use Rattle.cc_defs.specs.declared.refusal.LimitAt.TheVariants as limits
 use Rattle.cc_defs.specs.declared.refusal.Refusal.{Refusal}
 use Rattle.cc_defs.specs.Description.{Description}
 use Rattle.cc_defs.specs.Limits.{limit_number}
-use Rattle.cc_defs.specs.LogTexts.{cause_words}
 use Rattle.cc_defs.specs.Refusals.{past}
 use Rattle.cc_defs.specs.Resolved.{Query}
 use Rattle.cc_describe.specs.declared.heads.Heads.TheVariants as heads
 use Rattle.cc_describe.specs.Describing.{AreToOpen}
 use Rattle.cc_describe.specs.Places.{Files}
-use Rattle.cc_run.specs.declared.status.Status.{Status}
-use Rattle.cc_run.specs.declared.status.Status.TheVariants as statuses
 use Rattle.cc_run.specs.Modes.Surely.{NamesUnclaimed, RefusesClaimed}
 use Rattle.cc_run.specs.Promises.{Promise, IsEndStatus}
 use Rattle.cc_run.specs.Tasks.{Named}
-use Rattle.cc_run.specs.Wholes.{Whole, only_out}
+use Rattle.cc_run.specs.Wholes.{Whole}
 use Rattle.cc_sure.specs.SureLogs.{RefutesAtoms, sure_subject}
+use Rattle.cc_tell.specs.declared.status.Status.{Status}
+use Rattle.cc_tell.specs.declared.status.Status.TheVariants as statuses
+use Rattle.cc_tell.specs.Givens.{only_out}
+use Rattle.cc_tell.specs.SilentVerdicts.{silent_verdict_line, silent_verdict_status}
 use Rattle.cc_words.specs.Requests.{SureChecking}
 use Rattle.cc_words.specs.Words.{Text}
 
@@ -41,15 +41,6 @@ abbrev pub RefusesCheckingSure : Files → SureChecking → Refusal → Text →
 RefusesCheckingSure files checking refusal file =
     RefusesClaimed files (named_to_check checking) refusal file
     ⊎ ((d : Description) × (q : Query) × (bytes : List ℕ) × NamesSureLog files checking d q bytes × RefusesSureLog d q bytes refusal × (file ≡ []))
-
--- the line of a verdict, which says so of what an accepted log's sections are
-abbrev pub silent_verdict_line : (counted : List ℕ) → SilentVerdict → List ℕ
-silent_verdict_line counted (verdicts.Accepted sections) = codes "log accepted: " ++ counted ++ codes " " ++ decimal sections ++ 10 ∷ []
-silent_verdict_line counted (verdicts.Refused line reason) = codes "log refused: line " ++ decimal line ++ codes ", " ++ cause_words reason ++ 10 ∷ []
-
-abbrev pub silent_verdict_status : SilentVerdict → Status
-silent_verdict_status (verdicts.Accepted sections) = statuses.Right
-silent_verdict_status (verdicts.Refused line reason) = statuses.Not
 
 -- What a checker says of the log is given to Out. Where it is accepted, no history has an atom that it names.
 pub record ChecksSure (checking : SureChecking) (files : Files) (whole : Whole) : Type 0 where

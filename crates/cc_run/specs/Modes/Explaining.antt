@@ -1,29 +1,25 @@
 -- Why mode: a cause of each value of one history.
-use Rattle.std.specs.Prelude.{◌≡◌, ◌≤◌, ◌⊎◌, ℕ, false, List, [], ◌∷◌, ◌++◌, codes, decimal, flat_map, length, slice_get, slice_index, slice_index_or, Option, Some, None}
+use Rattle.std.specs.Prelude.{◌≡◌, ◌≤◌, ◌⊎◌, ℕ, false, List, [], ◌∷◌, ◌++◌, codes, Some, None}
 use Rattle.cc_defs.specs.declared.lists.Key.{Key}
 use Rattle.cc_defs.specs.declared.refusal.Refusal.{Refusal}
 use Rattle.cc_defs.specs.Description.{Description, sizes_at}
 use Rattle.cc_defs.specs.Limits.{most_steps}
 use Rattle.cc_defs.specs.Paths.{IsPath}
-use Rattle.cc_defs.specs.Resolved.{BaseLaw, One, NoConcurrency}
 use Rattle.cc_defs.specs.Rows.{IsRow}
-use Rattle.cc_defs.specs.Rules.{upto}
 use Rattle.cc_describe.specs.declared.heads.Heads.TheVariants as heads
 use Rattle.cc_describe.specs.Describing.{AreToOpen}
 use Rattle.cc_describe.specs.FirstRefusal.{file_named}
 use Rattle.cc_describe.specs.Places.{Files, Place, opened_in}
 use Rattle.cc_ground.specs.Counting.{laws_refusal}
-use Rattle.cc_print.specs.Atoms.{atom_text}
 use Rattle.cc_print.specs.Keys.{IsKeyText}
-use Rattle.cc_run.specs.declared.status.Status.{Status}
-use Rattle.cc_run.specs.declared.status.Status.TheVariants as statuses
 use Rattle.cc_run.specs.Promises.{Promise, IsEndStatus}
 use Rattle.cc_run.specs.Tasks.{AreRead, RefusesDescription, description_in, named_to, refusal_without_place}
-use Rattle.cc_run.specs.Wholes.{Whole, only_out}
+use Rattle.cc_run.specs.Wholes.{Whole}
+use Rattle.cc_tell.specs.declared.status.Status.{Status}
+use Rattle.cc_tell.specs.declared.status.Status.TheVariants as statuses
+use Rattle.cc_tell.specs.Givens.{only_out}
+use Rattle.cc_tell.specs.CauseTexts.{why_text}
 use Rattle.cc_theory.specs.Theories.{rules_refusal}
-use Rattle.cc_why.specs.declared.cause.Cause.{Cause}
-use Rattle.cc_why.specs.declared.cause.Cause.TheVariants as causes
-use Rattle.cc_why.specs.Causes.{cause_at}
 use Rattle.cc_words.specs.Requests.{Explaining}
 use Rattle.cc_words.specs.Words.{Text}
 
@@ -59,29 +55,6 @@ RefusesExplaining files explaining refusal file =
     RefusesDescription files (named_to explaining) refusal file ⊎ RefusesRow files explaining refusal file
 
 -- ---- what is given
-
--- the place of a law: its file, by the names of the files that were opened, and its line
-abbrev pub place_text : List Text → (file line : ℕ) → List ℕ
-place_text names file line = slice_index_or names file [] ++ codes ":" ++ decimal line
-
-abbrev pub law_text : List Text → Option BaseLaw → List ℕ
-law_text names (Some (One law)) = place_text names law.file law.line
-law_text names (Some (NoConcurrency file line)) = place_text names file line
-law_text names None = []
-
-abbrev pub cause_text : List Text → List BaseLaw → Option Cause → List ℕ
-cause_text names laws (Some causes.OneValue) = codes "one value"
-cause_text names laws (Some causes.Initial) = codes "initial"
-cause_text names laws (Some (causes.Law base)) = law_text names (slice_get laws base)
-cause_text names laws None = []
-
--- a line for each position: its atom, and why it holds
-abbrev pub why_line : Description → List Text → ℕ → List ℕ → ℕ → List ℕ
-why_line d names horizon row position =
-    atom_text d position (slice_index row position) ++ codes ": " ++ cause_text names d.laws (cause_at d horizon row position) ++ 10 ∷ []
-
-abbrev pub why_text : Description → List Text → ℕ → List ℕ → List ℕ
-why_text d names horizon row = flat_map (why_line d names horizon row) (upto (length row))
 
 abbrev pub no_history_line : List ℕ
 no_history_line = codes "not a history" ++ 10 ∷ []

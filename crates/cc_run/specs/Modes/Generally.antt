@@ -15,12 +15,12 @@ use Rattle.cc_general.specs.Accepted.{IsUnspent}
 use Rattle.cc_general.specs.GeneralLogs.{general_subject}
 use Rattle.cc_general.specs.GeneralRuns.{GeneralEnding, GeneralRun, IsFairGeneral, ReachesGeneralLimit, general_horizon}
 use Rattle.cc_general.specs.GeneralTold.{ending_of, general_log, general_told}
-use Rattle.cc_run.specs.declared.status.Status.{Status}
-use Rattle.cc_run.specs.declared.status.Status.TheVariants as statuses
+use Rattle.cc_tell.specs.declared.status.Status.{Status}
+use Rattle.cc_tell.specs.declared.status.Status.TheVariants as statuses
 use Rattle.cc_run.specs.Modes.Surely.{claim_refusal}
 use Rattle.cc_run.specs.Promises.{Promise, IsEndStatus}
-use Rattle.cc_run.specs.Refusing.{refusal_text}
-use Rattle.cc_run.specs.Searching.{status_of}
+use Rattle.cc_tell.specs.ErrLines.{refusal_text}
+use Rattle.cc_tell.specs.Statuses.{status_of}
 use Rattle.cc_run.specs.Tasks.{AreReadFor, Named, RefusesDescriptionFor, queries_in, query_named, query_refusal}
 use Rattle.cc_run.specs.Wholes.{Whole}
 use Rattle.cc_wide.specs.WideLaws.{WideDescription, frame}

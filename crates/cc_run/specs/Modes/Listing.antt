@@ -7,9 +7,10 @@ use Rattle.cc_describe.specs.Describing.{AreToOpen}
 use Rattle.cc_describe.specs.Places.{Files}
 use Rattle.cc_query.specs.Accepted.{subject_of}
 use Rattle.cc_run.specs.Promises.{Promise, IsEndStatus}
-use Rattle.cc_run.specs.Searching.{IsTold, Manner, OneByOne}
+use Rattle.cc_run.specs.Searching.{IsTold}
 use Rattle.cc_run.specs.Tasks.{IsTask, RefusesNamed, Task, named_by}
 use Rattle.cc_run.specs.Wholes.{Whole}
+use Rattle.cc_tell.specs.Manners.{Manner, OneByOne}
 use Rattle.cc_words.specs.Requests.{Listing}
 
 -- how a listing is told: event by event, with a log in the version that is asked for

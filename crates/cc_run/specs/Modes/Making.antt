@@ -2,12 +2,13 @@
 use Rattle.std.specs.Prelude.{◌≡◌, ℕ, false, [], None, IsNone}
 use Rattle.cc_defs.specs.Runs.{Run}
 use Rattle.cc_describe.specs.Places.{Files}
-use Rattle.cc_run.specs.declared.status.Status.{Status}
-use Rattle.cc_run.specs.declared.status.Status.TheVariants as statuses
 use Rattle.cc_run.specs.Promises.{Promise, IsEndStatus}
-use Rattle.cc_run.specs.Searching.{IsTold, Summed}
+use Rattle.cc_run.specs.Searching.{IsTold}
 use Rattle.cc_run.specs.Tasks.{IsTask, RefusesNamed, Task, made_files, made_named}
 use Rattle.cc_run.specs.Wholes.{Whole}
+use Rattle.cc_tell.specs.declared.status.Status.{Status}
+use Rattle.cc_tell.specs.declared.status.Status.TheVariants as statuses
+use Rattle.cc_tell.specs.Manners.{Summed}
 
 -- All histories of the query of a made description, within a budget: they are summed up, and no log is begun.
 pub record Makes (size budget : ℕ) (files : Files) (whole : Whole) : Type 0 where

@@ -1,27 +1,26 @@
 -- Models mode: the first models of a CNF.
-use Rattle.std.specs.Prelude.{◌≡◌, ◌<◌, ◌≤◌, ◌⊎◌, ◌+◌, ℕ, zero, suc, [], ◌∷◌, ◌++◌, List, length, false, flat_map, codes, decimal, Option, Some, None, IsNone, is_some}
+use Rattle.std.specs.Prelude.{◌≡◌, ◌<◌, ◌≤◌, ◌⊎◌, ℕ, [], ◌∷◌, List, length, false, Option, Some, None, IsNone, is_some}
 use Rattle.cc_defs.specs.declared.log.EndWord.{EndWord}
-use Rattle.cc_defs.specs.declared.log.EndWord.TheVariants as words
 use Rattle.cc_defs.specs.declared.refusal.Fault.TheVariants as faults
 use Rattle.cc_defs.specs.declared.refusal.LimitAt.TheVariants as limits
 use Rattle.cc_defs.specs.declared.refusal.Refusal.{Refusal}
 use Rattle.cc_defs.specs.Limits.{limit_number, most_cnf_variables}
 use Rattle.cc_defs.specs.LogVersions.{counts_in, log_in}
 use Rattle.cc_defs.specs.Refusals.{past, past_at}
-use Rattle.cc_defs.specs.Runs.{Section, TellsRows, optional, rows_of, section_events}
+use Rattle.cc_defs.specs.Runs.{Section, TellsRows, rows_of, section_events}
 use Rattle.cc_describe.specs.FirstRefusal.{file_named}
 use Rattle.cc_describe.specs.Places.{Files}
 use Rattle.cc_dimacs.specs.Cnfs.{PlainCnf, IsModelOf, cnf_axioms, cnf_refusal}
 use Rattle.cc_dimacs.specs.CnfTexts.{IsCnfText, IsCnfRefusal}
 use Rattle.cc_judge.specs.Single.{subject_over}
-use Rattle.cc_print.specs.Models.{model_line}
 use Rattle.cc_query.specs.Accepted.{lines_of}
 use Rattle.cc_query.specs.Searches.{TellsTooMany}
-use Rattle.cc_run.specs.declared.status.Status.{Status}
-use Rattle.cc_run.specs.declared.status.Status.TheVariants as statuses
 use Rattle.cc_run.specs.Promises.{Promise, IsEndStatus}
-use Rattle.cc_run.specs.Refusing.{refusal_text}
 use Rattle.cc_run.specs.Wholes.{Whole}
+use Rattle.cc_tell.specs.declared.status.Status.{Status}
+use Rattle.cc_tell.specs.declared.status.Status.TheVariants as statuses
+use Rattle.cc_tell.specs.ErrLines.{refusal_text}
+use Rattle.cc_tell.specs.ModelTexts.{models_text, models_status}
 use Rattle.cc_words.specs.Requests.{Modelling}
 use Rattle.cc_words.specs.Words.{Text}
 
@@ -50,34 +49,6 @@ pub record RefusesCnf (files : Files) (file : Text) (refusal : Refusal) (name : 
   pub name_is : name ≡ file_named (file ∷ []) refusal
 
 -- ---- what is told
-
--- the lines of models, numbered from this number on
-abbrev pub model_lines : ℕ → List (List ℕ) → List ℕ
-model_lines number [] = []
-model_lines number (row ∷ rows) = model_line number row ++ model_lines (number + 1) rows
-
--- the line where all models were listed: how many they are, or that there is none
-abbrev pub all_listed : (listed : ℕ) → List ℕ
-all_listed zero = codes "no model" ++ 10 ∷ []
-all_listed (suc more) = codes "complete, " ++ decimal (suc more) ++ codes " listed" ++ 10 ∷ []
-
--- the line of an end, with how many models were listed
-abbrev pub models_end : (listed : ℕ) → EndWord → List ℕ
-models_end listed words.Empty = all_listed listed
-models_end listed words.Found = codes "asked number reached, " ++ decimal listed ++ codes " listed" ++ 10 ∷ []
-models_end listed words.Spent = codes "budget spent, " ++ decimal listed ++ codes " listed" ++ 10 ∷ []
-
-abbrev pub models_text : Section → List ℕ
-models_text section = model_lines 1 (rows_of section) ++ flat_map (models_end (length (rows_of section))) (optional section.word)
-
-abbrev pub status_of_all : (listed : ℕ) → Status
-status_of_all zero = statuses.Not
-status_of_all (suc more) = statuses.Right
-
-abbrev pub models_status : (listed : ℕ) → EndWord → Status
-models_status listed words.Empty = status_of_all listed
-models_status listed words.Found = statuses.Asked
-models_status listed words.Spent = statuses.Spent
 
 -- how it ends: with its end word, or with the refusal where there are more models than may be listed; or it has not ended yet
 abbrev pub EndsModels : PlainCnf → Section → (err : List ℕ) → Option Status → Type 0

@@ -1,7 +1,7 @@
 -- Sure mode: what is certain, possible and impossible at the first horizon of a query that has a history.
-use Rattle.std.specs.Prelude.{◌≡◌, ◌⊎◌, ◌+◌, ℕ, List, [], ◌∷◌, ◌++◌, flat_map, length, codes, decimal, Option, Some, None, IsNone, IsSome, is_some}
-use Rattle.cc_check.specs.Silent.{IsSilentVerdict}
+use Rattle.std.specs.Prelude.{◌≡◌, ◌⊎◌, ◌+◌, ℕ, List, [], ◌++◌, flat_map, length, codes, decimal, Option, Some, None, IsNone, IsSome, is_some}
 use Rattle.cc_check.specs.declared.silent.SilentVerdict.TheVariants as verdicts
+use Rattle.cc_check.specs.Silent.{IsSilentVerdict}
 use Rattle.cc_defs.specs.declared.refusal.Refusal.{Refusal}
 use Rattle.cc_defs.specs.Description.{Description}
 use Rattle.cc_defs.specs.Events.{of_horizon}
@@ -12,19 +12,17 @@ use Rattle.cc_describe.specs.declared.heads.Heads.TheVariants as heads
 use Rattle.cc_describe.specs.Describing.{AreToOpen}
 use Rattle.cc_describe.specs.FirstRefusal.{file_named}
 use Rattle.cc_describe.specs.Places.{Files, Place, opened_in}
-use Rattle.cc_print.specs.Atoms.{atom_text}
-use Rattle.cc_run.specs.declared.status.Status.{Status}
-use Rattle.cc_run.specs.declared.status.Status.TheVariants as statuses
 use Rattle.cc_run.specs.Promises.{Promise, IsEndStatus}
-use Rattle.cc_run.specs.Refusing.{refusal_text}
 use Rattle.cc_run.specs.Tasks.{AreRead, Named, RefusesDescription, RefusesQuery, asked_refusal, description_in, queries_in, query_named}
 use Rattle.cc_run.specs.Wholes.{Whole}
-use Rattle.cc_sure.specs.declared.answer.Answer.{Answer}
-use Rattle.cc_sure.specs.declared.answer.Answer.TheVariants as answers
 use Rattle.cc_sure.specs.Accepted.{IsUnspent, never_told}
 use Rattle.cc_sure.specs.SureLogs.{sure_subject}
 use Rattle.cc_sure.specs.SureRuns.{IsFairSure, ReachesSureLimit, SureEnding, Complete, NoneAtAll, Spent, SureRun, sure_horizon}
 use Rattle.cc_sure.specs.SureTold.{SureTold, NoneAt, ExampleIs, NeverSo, AnswersAre, Ends, sure_log, sure_told}
+use Rattle.cc_tell.specs.declared.status.Status.{Status}
+use Rattle.cc_tell.specs.declared.status.Status.TheVariants as statuses
+use Rattle.cc_tell.specs.ErrLines.{refusal_text}
+use Rattle.cc_tell.specs.SureTexts.{answer_lines, ending_line}
 use Rattle.cc_words.specs.Requests.{Surely}
 use Rattle.cc_words.specs.Words.{Text}
 
@@ -61,22 +59,6 @@ pub record NamesUnclaimed (files : Files) (named : Named) (d : Description) (q :
   pub claim : IsNone q.claim
 
 -- ---- what is printed
-
-abbrev pub answer_words : Answer → List ℕ
-answer_words answers.Certain = codes " certain"
-answer_words (answers.Possible example) = codes " possible, example " ++ decimal example
-answer_words answers.Impossible = codes " impossible"
-
--- the answers of a position, a line each, from this value on
-abbrev pub answer_lines : Description → (position value : ℕ) → List Answer → List ℕ
-answer_lines d position value [] = []
-answer_lines d position value (answer ∷ others) =
-    atom_text d position value ++ answer_words answer ++ 10 ∷ answer_lines d position (value + 1) others
-
-abbrev pub ending_line : SureEnding → List ℕ
-ending_line Complete = codes "complete" ++ 10 ∷ []
-ending_line NoneAtAll = codes "no history" ++ 10 ∷ []
-ending_line (Spent section) = codes "budget spent" ++ 10 ∷ []
 
 -- what is printed of an event, where the run is at this horizon
 abbrev pub sure_line : Description → (horizon : ℕ) → SureTold → List ℕ

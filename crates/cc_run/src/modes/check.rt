@@ -9,23 +9,23 @@ ghost use Rattle.cc_print.specs.Verdicts.{verdict_line};
 ghost use Rattle.cc_run.specs.Asking.{AreOf, AreSearchable};
 ghost use Rattle.cc_run.specs.Modes.Checking as checks;
 ghost use Rattle.cc_run.specs.Modes.Checking.{NamesLog};
-ghost use Rattle.cc_run.specs.Stops.{Prints, Step};
+ghost use Rattle.cc_run.specs.Stops.{Prints};
 ghost use Rattle.cc_run.specs.Tasks.{IsTask, named_in, request_of};
 ghost use Rattle.cc_run.specs.Telling.{task_to_check};
-ghost use Rattle.cc_run.specs.Wholes.{only_out};
+ghost use Rattle.cc_tell.specs.Steps.{Step};
+ghost use Rattle.cc_tell.specs.Givens.{only_out};
 ghost use Rattle.cc_words.specs.Requests.{Checking, ToCheck};
 ghost use Rattle.cc_words.specs.Views.{plain_request};
 ghost use Rattle.cc_words.specs.declared.asked.Asked.TheVariants as requests;
 ghost use Rattle.cc_words.specs.Words.{Text};
 
 use crate::asking::Prepared;
-use crate::refusing::{give, refuse};
-use crate::status::{Status, Stop};
 use cc_defs::{Fault, LimitAt, LogVerdict, Refusal};
 use cc_describe::Described;
 use cc_judge::judge;
 use cc_ports::{Desk, ReadStop, To, read_all};
 use cc_print::verdict_text;
+use cc_tell::{Status, Stop, give, refuse};
 use cc_words::CheckAsked;
 use std::alloc::Global;
 

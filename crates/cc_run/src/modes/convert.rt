@@ -18,9 +18,12 @@ ghost use Rattle.cc_run.specs.Asking.{AreOf, AreSearchable};
 ghost use Rattle.cc_run.specs.Converted.{AreLeft, HasLeft, HasOpened, IsJudged, converted_by, other_said};
 ghost use Rattle.cc_run.specs.Modes.Checking as checks;
 ghost use Rattle.cc_run.specs.Modes.Checking.{NamesLog};
-ghost use Rattle.cc_run.specs.Stops.{Prints, Step, given_to};
+ghost use Rattle.cc_run.specs.Stops.{Prints};
 ghost use Rattle.cc_run.specs.Tasks.{IsTask, checked_by, named_in, request_of};
-ghost use Rattle.cc_run.specs.Telling.{IsCounted, counts_of, task_to_check};
+ghost use Rattle.cc_run.specs.Telling.{counts_of, task_to_check};
+ghost use Rattle.cc_tell.specs.Steps.{Step};
+ghost use Rattle.cc_tell.specs.Givens.{given_to};
+ghost use Rattle.cc_tell.specs.Tellers.{IsCounted};
 ghost use Rattle.cc_words.specs.Requests.{Converting, ToConvert};
 ghost use Rattle.cc_words.specs.Views.{plain_request};
 ghost use Rattle.cc_words.specs.declared.asked.Asked.TheVariants as requests;
@@ -28,10 +31,6 @@ ghost use Rattle.cc_words.specs.Words.{Text};
 
 use crate::asking::Prepared;
 use crate::modes::check::tell_verdict;
-use crate::refusing::refuse;
-use crate::searching::begin_log;
-use crate::status::{Status, Stop};
-use crate::telling::{Teller, give_header, own_behind_line, tell_line_in};
 use cc_check::laws::other_versions_are_judged_alike;
 use cc_convert::laws::accepted_logs_say_lines;
 use cc_convert::{behind_header, said_line, version_of};
@@ -40,6 +39,9 @@ use cc_describe::Described;
 use cc_judge::judge;
 use cc_ports::{Desk, ReadStop, read_all};
 use cc_query::form_at;
+use cc_tell::{
+    Status, Stop, Teller, begin_log, give_header, own_behind_line, refuse, tell_line_in,
+};
 use cc_words::ConvertAsked;
 use std::alloc::Global;
 

@@ -11,18 +11,14 @@ ghost use Rattle.cc_run.specs.Generals.{AreWideOf, AreWideSearchable, IsGeneralO
 ghost use Rattle.cc_run.specs.Modes.Generally.{NamesWide, named_generally};
 ghost use Rattle.cc_run.specs.Stops.{Prints};
 ghost use Rattle.cc_run.specs.Tasks.{request_of};
-ghost use Rattle.cc_run.specs.Wholes.{nothing};
 ghost use Rattle.cc_sorts.specs.Tables.{IsSignatureFor};
+ghost use Rattle.cc_tell.specs.Givens.{nothing};
 ghost use Rattle.cc_wide.specs.WideLaws.{WideDescription};
 ghost use Rattle.cc_words.specs.Requests.{Generally, ToListGenerally};
 ghost use Rattle.cc_words.specs.Views.{plain_request};
 ghost use Rattle.cc_words.specs.Words.{Text};
 ghost use Rattle.cc_words.specs.declared.asked.Asked.TheVariants as requests;
 
-use crate::generally::tell_general;
-use crate::refusing::{file_named, give, refuse};
-use crate::searching::{begin_log, tell_limit};
-use crate::status::{Status, Stop};
 use crate::wide::{PreparedWide, prepare_wide};
 use bumpalo::Bump;
 use cc_arena::Terms;
@@ -31,6 +27,7 @@ use cc_describe::Described;
 use cc_general::General;
 use cc_general::laws::general_logs_are_accepted;
 use cc_ports::{Desk, To};
+use cc_tell::{Status, Stop, begin_log, file_named, give, refuse, tell_general, tell_limit};
 use cc_words::GeneralAsked;
 use std::alloc::Global;
 
@@ -54,7 +51,7 @@ fn tell_next<D: Desk>(
     ensures same { IsSame general.old general.new }
 {
     match general.next() {
-        Ok(event) => tell_general(alloc, desk, described, &event),
+        Ok(event) => tell_general(alloc, desk, &described.table, &described.sig, &event),
         Err(Fault::Refused(refusal)) => tell_limit(alloc, desk, &refusal),
         Err(Fault::OutOfMemory) => Err(Stop::OutOfMemory),
     }

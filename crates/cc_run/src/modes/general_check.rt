@@ -17,9 +17,6 @@ ghost use Rattle.cc_words.specs.Views.{plain_request};
 ghost use Rattle.cc_words.specs.Words.{Text};
 ghost use Rattle.cc_words.specs.declared.asked.Asked.TheVariants as requests;
 
-use crate::refusing::{file_named, refuse};
-use crate::silent::tell_silent_verdict;
-use crate::status::{Status, Stop};
 use crate::wide::{PreparedWide, prepare_wide};
 use bumpalo::Bump;
 use cc_arena::Terms;
@@ -27,6 +24,7 @@ use cc_defs::{Fault, LimitAt, Refusal};
 use cc_describe::Described;
 use cc_general::check_general;
 use cc_ports::{Desk, ReadStop, read_all};
+use cc_tell::{Status, Stop, file_named, refuse, tell_silent_verdict};
 use cc_words::CheckGeneralAsked;
 use std::alloc::Global;
 

@@ -14,12 +14,11 @@ ghost use Rattle.cc_words.specs.declared.asked.Asked.TheVariants as requests;
 ghost use Rattle.cc_words.specs.Words.{Text};
 
 use crate::asking::Prepared;
-use crate::searching::{begin_log, search};
-use crate::status::{Status, Stop};
-use crate::telling::Teller;
+use crate::searching::search;
 use cc_describe::Described;
 use cc_ports::Desk;
 use cc_query::Ask;
+use cc_tell::{Status, Stop, Teller, begin_log};
 use cc_words::ListAsked;
 use std::alloc::Global;
 

@@ -13,11 +13,10 @@ ghost use Rattle.cc_words.specs.Words.{Text};
 
 use crate::asking::Prepared;
 use crate::searching::search;
-use crate::status::{Status, Stop};
-use crate::telling::Teller;
 use cc_describe::Described;
 use cc_ports::Desk;
 use cc_query::Ask;
+use cc_tell::{Status, Stop, Teller};
 use std::alloc::Global;
 
 /// Lists the histories of a made description, and sums them up.

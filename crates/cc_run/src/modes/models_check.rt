@@ -7,22 +7,22 @@ ghost use Rattle.cc_print.specs.Models.{models_verdict_line};
 ghost use Rattle.cc_run.specs.CnfForms.{IsFormOf};
 ghost use Rattle.cc_run.specs.Modes.Checking as checks;
 ghost use Rattle.cc_run.specs.Modes.Modelling.{IsCnfIn};
-ghost use Rattle.cc_run.specs.Stops.{Prints, PrintsAsked, Step};
+ghost use Rattle.cc_run.specs.Stops.{Prints, PrintsAsked};
 ghost use Rattle.cc_run.specs.Tasks.{request_of};
-ghost use Rattle.cc_run.specs.Wholes.{only_out};
+ghost use Rattle.cc_tell.specs.Steps.{Step};
+ghost use Rattle.cc_tell.specs.Givens.{only_out};
 ghost use Rattle.cc_words.specs.Requests.{ModelChecking, ToCheckModels};
 ghost use Rattle.cc_words.specs.Views.{plain_request};
 ghost use Rattle.cc_words.specs.Words.{Text};
 ghost use Rattle.cc_words.specs.declared.asked.Asked.TheVariants as requests;
 
 use crate::cnfs::{CnfStop, name_of, read_form};
-use crate::refusing::{give, refuse};
-use crate::status::{Status, Stop};
 use cc_defs::{LimitAt, LogVerdict, Refusal};
 use cc_form::Form;
 use cc_judge::judge_over;
 use cc_ports::{Desk, ReadStop, To, read_all};
 use cc_print::models_verdict_text;
+use cc_tell::{Status, Stop, give, refuse};
 use cc_words::CheckModelsAsked;
 use std::alloc::Global;
 

@@ -11,20 +11,16 @@ ghost use Rattle.cc_run.specs.Modes.Surely.{NamesUnclaimed, named_surely};
 ghost use Rattle.cc_run.specs.Stops.{Prints};
 ghost use Rattle.cc_run.specs.Sures.{IsSureOfSome, IsWritableRun, TellsEvent, TellsSure, surely_given};
 ghost use Rattle.cc_run.specs.Tasks.{request_of};
-ghost use Rattle.cc_run.specs.Wholes.{nothing};
 ghost use Rattle.cc_sorts.specs.Tables.{IsSignatureFor};
 ghost use Rattle.cc_sure.specs.SureRuns.{SureRun};
 ghost use Rattle.cc_sure.specs.Sures.{HasMore, IsSame, IsSureOf, Stands, left_of};
+ghost use Rattle.cc_tell.specs.Givens.{nothing};
 ghost use Rattle.cc_words.specs.Requests.{Surely, ToBeSure};
 ghost use Rattle.cc_words.specs.Views.{plain_request};
 ghost use Rattle.cc_words.specs.Words.{Text};
 ghost use Rattle.cc_words.specs.declared.asked.Asked.TheVariants as requests;
 
 use crate::asking::Prepared;
-use crate::certain::tell_sure;
-use crate::refusing::{file_named, give, refuse};
-use crate::searching::{begin_log, tell_limit};
-use crate::status::{Status, Stop};
 use crate::unclaimed::prepare_unclaimed;
 use bumpalo::Bump;
 use cc_arena::Terms;
@@ -34,6 +30,7 @@ use cc_describe::Described;
 use cc_ports::{Desk, To};
 use cc_sure::Sure;
 use cc_sure::laws::sure_logs_are_accepted;
+use cc_tell::{Status, Stop, begin_log, file_named, give, refuse, tell_limit, tell_sure};
 use cc_words::SureAsked;
 use std::alloc::Global;
 
@@ -57,7 +54,14 @@ fn tell_next<D: Desk>(
 {
     positions_have_sizes();
     match sure.next() {
-        Ok(event) => tell_sure(alloc, desk, described, sure.horizon(), &event),
+        Ok(event) => tell_sure(
+            alloc,
+            desk,
+            &described.table,
+            &described.sig,
+            sure.horizon(),
+            &event,
+        ),
         Err(Fault::Refused(refusal)) => tell_limit(alloc, desk, &refusal),
         Err(Fault::OutOfMemory) => Err(Stop::OutOfMemory),
     }

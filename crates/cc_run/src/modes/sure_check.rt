@@ -18,9 +18,6 @@ ghost use Rattle.cc_words.specs.Words.{Text};
 ghost use Rattle.cc_words.specs.declared.asked.Asked.TheVariants as requests;
 
 use crate::asking::Prepared;
-use crate::refusing::{file_named, refuse};
-use crate::silent::tell_silent_verdict;
-use crate::status::{Status, Stop};
 use crate::unclaimed::prepare_unclaimed;
 use bumpalo::Bump;
 use cc_arena::Terms;
@@ -28,6 +25,7 @@ use cc_defs::{Fault, LimitAt, Refusal};
 use cc_describe::Described;
 use cc_ports::{Desk, ReadStop, read_all};
 use cc_sure::check_sure;
+use cc_tell::{Status, Stop, file_named, refuse, tell_silent_verdict};
 use cc_words::CheckSureAsked;
 use std::alloc::Global;
 

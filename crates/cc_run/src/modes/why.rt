@@ -9,24 +9,23 @@ ghost use Rattle.cc_describe.specs.declared.heads.Heads.TheVariants as heads;
 ghost use Rattle.cc_describe.specs.Describing.{Describes, HasForms, SaysAll};
 ghost use Rattle.cc_run.specs.Explained.{IsLookedAt, TellsRow};
 ghost use Rattle.cc_run.specs.Modes.Explaining.{no_history_line};
-ghost use Rattle.cc_run.specs.Stops.{Prints, Step};
+ghost use Rattle.cc_run.specs.Stops.{Prints};
 ghost use Rattle.cc_run.specs.Tasks.{request_of};
-ghost use Rattle.cc_run.specs.Wholes.{only_out};
 ghost use Rattle.cc_sorts.specs.Tables.{IsSignatureFor};
+ghost use Rattle.cc_tell.specs.Steps.{Step};
+ghost use Rattle.cc_tell.specs.Givens.{only_out};
 ghost use Rattle.cc_theory.specs.Theories.{AreLawsFor, AreLawsOf};
 ghost use Rattle.cc_words.specs.Requests.{Explaining, ToExplain};
 ghost use Rattle.cc_words.specs.Words.{Text};
 
-use crate::causes::tell_causes;
-use crate::refusing::{file_named, give, refuse};
 use crate::rows::{LookedAt, look_at};
-use crate::status::{Status, Stop};
 use bumpalo::Bump;
 use cc_arena::{Laws, Terms};
 use cc_defs::laws::positions_have_sizes;
 use cc_defs::{Fault, Key};
 use cc_describe::Described;
 use cc_ports::{Desk, To};
+use cc_tell::{Status, Stop, file_named, give, refuse, tell_causes};
 use cc_why::why;
 use std::alloc::Global;
 
@@ -60,7 +59,18 @@ fn tell_history<D: Desk>(
     positions_have_sizes();
     let row = key.row.items();
     let causes = why(alloc, &described.sig, laws, key.horizon, row)?;
-    tell_causes(alloc, desk, described, row, causes.items())?;
+    let files = described.files.items();
+    let base = described.laws.items();
+    tell_causes(
+        alloc,
+        desk,
+        &described.table,
+        &described.sig,
+        files,
+        base,
+        row,
+        causes.items(),
+    )?;
     Ok(Status::Right)
 }
 

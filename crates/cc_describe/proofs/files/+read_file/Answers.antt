@@ -126,12 +126,12 @@ loop-i-preserved g t c =
                 subst (λ p. AreThere contents.files p.names.items) (sym w.progress-is)
                 (read.there (with_rest after.0 contents) (tells_still after.0 _ _ contents after.1 told)
                 (subst (λ l. AreThere contents.files l.items) (sym c.in_ok-included.ensures.names) (c.loop-i.invariant.there contents told are)));
-            told = touched_again after.0 _ _ _ after.1 read.after.0 (ap (g.D.Desk.seen w.desk).told-is ∙ read.after.1);
+            told = touched_again after.0 _ _ _ after.1 read.after.0 (ap (λ desk. (g.D.Desk.seen desk).told) w.desk-is ∙ read.after.1);
             calls = rw (w.progress-is, w.desk-is) (keeps_more taken_calls read.calls);
             calm =
                 let calm = read.calm (done_no_fault _) in
-                (ap (g.D.Desk.seen w.desk).reads-is ∙ calm.0 ∙ c.loop-i.invariant.calm.0, ap (g.D.Desk.seen w.desk).writes-is ∙ calm.1 ∙ c.loop-i.invariant.calm.1);
-            begun = ap (g.D.Desk.seen w.desk).begun-is ∙ read.begun ∙ c.loop-i.invariant.begun;
+                (ap (λ desk. (g.D.Desk.seen desk).reads) w.desk-is ∙ calm.0 ∙ c.loop-i.invariant.calm.0, ap (λ desk. (g.D.Desk.seen desk).writes) w.desk-is ∙ calm.1 ∙ c.loop-i.invariant.calm.1);
+            begun = ap (λ desk. (g.D.Desk.seen desk).begun) w.desk-is ∙ read.begun ∙ c.loop-i.invariant.begun;
             reads_count = rw w.desk-is (omega (arith, read.reads_count));
             writes_count = rw w.desk-is (omega (arith, read.writes_count));
           }
@@ -151,10 +151,10 @@ loop-i-preserved g t c =
             there = λ contents told are.
                 subst (λ p. AreThere contents.files p.names.items) (sym w.progress-is)
                 (subst (λ l. AreThere contents.files l.items) (sym c.in_ok-included.ensures.names) (c.loop-i.invariant.there contents told are));
-            told = (after.0, ap (g.D.Desk.seen w.desk).told-is ∙ after.1);
+            told = (after.0, ap (λ desk. (g.D.Desk.seen desk).told) w.desk-is ∙ after.1);
             calls = rw (w.progress-is, w.desk-is) taken_calls;
-            calm = (ap (g.D.Desk.seen w.desk).reads-is ∙ c.loop-i.invariant.calm.0, ap (g.D.Desk.seen w.desk).writes-is ∙ c.loop-i.invariant.calm.1);
-            begun = ap (g.D.Desk.seen w.desk).begun-is ∙ c.loop-i.invariant.begun;
+            calm = (ap (λ desk. (g.D.Desk.seen desk).reads) w.desk-is ∙ c.loop-i.invariant.calm.0, ap (λ desk. (g.D.Desk.seen desk).writes) w.desk-is ∙ c.loop-i.invariant.calm.1);
+            begun = ap (λ desk. (g.D.Desk.seen desk).begun) w.desk-is ∙ c.loop-i.invariant.begun;
             reads_count = rw w.desk-is (omega arith);
             writes_count = rw w.desk-is (omega arith);
           }
@@ -174,10 +174,10 @@ loop-i-preserved g t c =
             there = λ contents told are.
                 subst (λ p. AreThere contents.files p.names.items) (sym w.progress-is)
                 (subst (λ l. AreThere contents.files l.items) (sym c.in_ok-included.ensures.names) (c.loop-i.invariant.there contents told are));
-            told = (after.0, ap (g.D.Desk.seen w.desk).told-is ∙ after.1);
+            told = (after.0, ap (λ desk. (g.D.Desk.seen desk).told) w.desk-is ∙ after.1);
             calls = rw (w.progress-is, w.desk-is) taken_calls;
-            calm = (ap (g.D.Desk.seen w.desk).reads-is ∙ c.loop-i.invariant.calm.0, ap (g.D.Desk.seen w.desk).writes-is ∙ c.loop-i.invariant.calm.1);
-            begun = ap (g.D.Desk.seen w.desk).begun-is ∙ c.loop-i.invariant.begun;
+            calm = (ap (λ desk. (g.D.Desk.seen desk).reads) w.desk-is ∙ c.loop-i.invariant.calm.0, ap (λ desk. (g.D.Desk.seen desk).writes) w.desk-is ∙ c.loop-i.invariant.calm.1);
+            begun = ap (λ desk. (g.D.Desk.seen desk).begun) w.desk-is ∙ c.loop-i.invariant.begun;
             reads_count = rw w.desk-is (omega arith);
             writes_count = rw w.desk-is (omega arith);
           }

@@ -1,6 +1,7 @@
 use Rattle.std.proofs.Common.{subst}
 use Rattle.cc_query.specs.Sessions.{IsRightFault}
-use Rattle.cc_run.specs.Telling.{IsCounted, counts_of}
+use Rattle.cc_run.specs.Telling.{counts_of}
+use Rattle.cc_tell.specs.Tellers.{IsCounted}
 use Rattle.cc_run.proofs.EventNumbers.{event_writable, few_axioms}
 use Rattle.cc_run.proofs.Listed.{event_row, event_told, fair_of, goes_next, limit_told, memory_told}
 use Rattle.cc_run.proofs.Passing.{stops_at}

@@ -1,7 +1,8 @@
 use Rattle.cc_arena.specs.GroundViews.{plain_ground_query}
-use Rattle.cc_run.specs.Searching.{header_told}
-use Rattle.cc_run.specs.Telling.{counts_of, manner_of, task_of}
-use Rattle.cc_run.specs.Wholes.{nothing, only_log}
+use Rattle.cc_run.specs.Telling.{counts_of, task_of}
+use Rattle.cc_tell.specs.Manners.{header_told}
+use Rattle.cc_tell.specs.Tellers.{manner_of}
+use Rattle.cc_tell.specs.Givens.{nothing, only_log}
 use Rattle.cc_run.proofs.Listed.{header_cut, header_lacks, search_as, search_behind, session_of}
 use Rattle.cc_run.proofs.Passing.{no_run_is_fair}
 use Rattle.cc_run.proofs.searching.search.Goals as goal

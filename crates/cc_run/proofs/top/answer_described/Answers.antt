@@ -2,7 +2,7 @@ use Rattle.std.proofs.Common.{◌∙◌, Err, ap, refl, subst}
 use Rattle.cc_describe.specs.declared.description.DescribeStop.TheVariants as stops
 use Rattle.cc_describe.specs.Describing.{Describes, HasStopped}
 use Rattle.cc_run.specs.Requested.{AsksDescription, heads_of, named_of, opens_behind, source_of}
-use Rattle.cc_run.specs.declared.status.Stop.TheVariants as run_stops
+use Rattle.cc_tell.specs.declared.status.Stop.TheVariants as run_stops
 use Rattle.cc_run.proofs.Callings.{refused_is_no_fault}
 use Rattle.cc_run.proofs.Outcomes.{files_stay, prints_after_read, prints_opened, prints_refusal, prints_stopped}
 use Rattle.cc_run.proofs.Readings.{first_of, opened_all, opened_refused, reads_as, refuses_description}

@@ -2,7 +2,7 @@ use Rattle.std.proofs.Common.{[], ◌∷◌, ap, Err}
 use Rattle.cc_run.specs.Modes.Checking.{NamesLog}
 use Rattle.cc_run.specs.Tasks.{request_of}
 use Rattle.cc_run.specs.Telling.{task_to_check}
-use Rattle.cc_run.specs.declared.status.Stop.TheVariants as stops
+use Rattle.cc_tell.specs.declared.status.Stop.TheVariants as stops
 use Rattle.cc_run.proofs.Callings.{called_reads, first_all, limit_is_no_fault}
 use Rattle.cc_run.proofs.Judged.{as_checking, is_log_of, log_is, refuses_long}
 use Rattle.cc_run.proofs.Outcomes.{RefusesRequest, files_stay, prints_after_read, prints_refusal, prints_stopped}

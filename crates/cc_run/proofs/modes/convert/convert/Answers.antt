@@ -2,7 +2,7 @@ use Rattle.std.proofs.Common.{[], ◌∷◌, ap, Err}
 use Rattle.cc_run.specs.Modes.Checking.{NamesLog}
 use Rattle.cc_run.specs.Tasks.{checked_by, request_of}
 use Rattle.cc_run.specs.Telling.{task_to_check}
-use Rattle.cc_run.specs.declared.status.Stop.TheVariants as stops
+use Rattle.cc_tell.specs.declared.status.Stop.TheVariants as stops
 use Rattle.cc_words.specs.Requests.{Converting}
 use Rattle.cc_run.proofs.Callings.{called_reads, first_all, limit_is_no_fault}
 use Rattle.cc_run.proofs.Judged.{as_converting, converting_is, is_log_of, refuses_long}

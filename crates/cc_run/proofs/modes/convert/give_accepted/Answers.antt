@@ -1,10 +1,9 @@
 use Rattle.cc_ports.specs.declared.desk.To.TheVariants as outputs
 use Rattle.cc_print.specs.Verdicts.{verdict_line}
 use Rattle.cc_run.specs.Converted.{other_said}
-use Rattle.cc_run.specs.Stops.{given_to}
-use Rattle.cc_run.specs.Wholes.{only_out}
+use Rattle.cc_tell.specs.Givens.{given_to, only_out}
+use Rattle.cc_tell.proofs.GivenSteps.{step_again, step_as, step_cut, step_done, step_then}
 use Rattle.cc_run.proofs.Converted.{converted_joined}
-use Rattle.cc_run.proofs.GivenSteps.{step_again, step_as, step_cut, step_done, step_then}
 use Rattle.cc_run.proofs.modes.convert.give_accepted.Goals as goal
 
 pub returns-in_err-status-clause-told : goal.returns-in_err-status-clause-told

@@ -3,9 +3,9 @@ use Rattle.cc_arena.specs.GroundViews.{plain_ground_query}
 use Rattle.cc_convert.specs.Saying.{OpensWithin}
 use Rattle.cc_defs.specs.declared.log.LogLine.{LogLine}
 use Rattle.cc_defs.specs.LogTexts.{IsFormed}
-use Rattle.cc_run.specs.Telling.{IsWritable}
+use Rattle.cc_tell.specs.Tellers.{IsWritable}
+use Rattle.cc_tell.proofs.GivenSteps.{step_nothing}
 use Rattle.cc_run.proofs.Converted.{bytes_behind, one_left, shorter, writable}
-use Rattle.cc_run.proofs.GivenSteps.{step_nothing}
 use Rattle.cc_run.proofs.modes.convert.give_line.Goals as goal
 
 pub said_line-requires : goal.said_line-requires

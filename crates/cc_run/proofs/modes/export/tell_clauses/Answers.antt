@@ -1,7 +1,7 @@
 use Rattle.std.proofs.Common.{◌∙◌, refl}
 use Rattle.cc_ports.specs.declared.desk.To.TheVariants as outputs
+use Rattle.cc_tell.proofs.LineSteps.{lines_begin, lines_more, lines_stop}
 use Rattle.cc_run.proofs.Exported.{all_given, line_is, lines_lack}
-use Rattle.cc_run.proofs.LineSteps.{lines_begin, lines_more, lines_stop}
 use Rattle.cc_run.proofs.modes.export.tell_clauses.Goals as goal
 
 pub loop-index-init : goal.loop-index-init

@@ -1,7 +1,7 @@
 use Rattle.std.proofs.Common.{drop, flat_map}
 use Rattle.cc_dimacs.specs.CnfTexts.{clause_line}
 use Rattle.cc_ports.specs.declared.desk.To.TheVariants as outputs
-use Rattle.cc_run.proofs.LineSteps.{LinesSoFar}
+use Rattle.cc_tell.proofs.LineSteps.{LinesSoFar}
 use Rattle.cc_run.proofs.modes.export.tell_clauses.Given as goal
 
 -- the lines of the clauses before this one were given

@@ -1,9 +1,9 @@
 use Rattle.std.proofs.Common.{◌∙◌, flat_map, length}
 use Rattle.cc_dimacs.specs.CnfTexts.{clause_line, heading_text}
 use Rattle.cc_ports.specs.declared.desk.To.TheVariants as outputs
-use Rattle.cc_run.specs.declared.status.Status.TheVariants as statuses
-use Rattle.cc_run.specs.Stops.{given_to}
-use Rattle.cc_run.proofs.GivenSteps.{cut_one, one_as, step_again, step_done, step_nothing, then_one}
+use Rattle.cc_tell.specs.declared.status.Status.TheVariants as statuses
+use Rattle.cc_tell.specs.Givens.{given_to}
+use Rattle.cc_tell.proofs.GivenSteps.{cut_one, one_as, step_again, step_done, step_nothing, then_one}
 use Rattle.cc_run.proofs.modes.export.tell_form.Goals as goal
 
 pub returns-in_err-heading-clause-told : goal.returns-in_err-heading-clause-told

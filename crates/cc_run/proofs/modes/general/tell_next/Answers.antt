@@ -1,8 +1,8 @@
 use Rattle.std.proofs.Common.{refl, subst, sym}
 use Rattle.cc_general.specs.Generals.{IsRightFault, IsWritable}
+use Rattle.cc_run.proofs.DescribedNames.{framed_names}
 use Rattle.cc_run.proofs.GeneralFinds.{event_told, goes_next, limit_told, memory_told}
-use Rattle.cc_run.proofs.GivenSteps.{step_as}
-use Rattle.cc_run.proofs.WideClaims.{bare, bare_is, given_framed}
+use Rattle.cc_wide.specs.WideLaws.{frame}
 use Rattle.cc_run.proofs.modes.general.tell_next.Goals as goal
 
 pub tell_general-requires-clause-writable : goal.tell_general-requires-clause-writable
@@ -12,8 +12,7 @@ pub returns-in-Ok-clause-tells : goal.returns-in-Ok-clause-tells
 returns-in-Ok-clause-tells g c = λ w q run is general stands.
     event_told w q run c.args.general.now c.next.new.self stands c.in-Ok.event _ _ c.tell_general.result (c.in-Ok.ensures.tells w q run general stands) c.next.ensures.same
     c.in-Ok.ensures.writable (c.in-Ok.ensures.good w q general)
-    (step_as _ _ _ _ c.tell_general.result (given_framed c.args.described.now w is c.in-Ok.event)
-    (c.tell_general.ensures.told (bare c.args.described.now w is) (bare_is c.args.described.now w is))) c.tell_general.ensures.status
+    (c.tell_general.ensures.told (frame w) (framed_names c.args.described.now w is)) c.tell_general.ensures.status
 
 pub returns-in-Ok-clause-next : goal.returns-in-Ok-clause-next
 returns-in-Ok-clause-next g c =

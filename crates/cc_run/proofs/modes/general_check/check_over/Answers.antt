@@ -1,7 +1,7 @@
 use Rattle.std.proofs.Common.{[], ◌∷◌, ap, Err}
-use Rattle.cc_run.specs.declared.status.Stop.TheVariants as stops
 use Rattle.cc_run.specs.Modes.CheckingGeneral.{NamesGeneralLog}
 use Rattle.cc_run.specs.Tasks.{request_of}
+use Rattle.cc_tell.specs.declared.status.Stop.TheVariants as stops
 use Rattle.cc_run.proofs.Callings.{called_reads, first_all, limit_is_no_fault}
 use Rattle.cc_run.proofs.Outcomes.{RefusesRequest, files_stay, prints_after_read, prints_refusal, prints_stopped}
 use Rattle.cc_run.proofs.GenerallyChecked.{is_log, refuses_long}

@@ -1,7 +1,7 @@
 use Rattle.std.proofs.Common.{ap}
 use Rattle.cc_defs.specs.Runs.{optional}
+use Rattle.cc_tell.specs.declared.status.Status.TheVariants as statuses
 use Rattle.cc_words.specs.Views.{plain_text}
-use Rattle.cc_run.specs.declared.status.Status.TheVariants as statuses
 use Rattle.cc_run.proofs.Outcomes.{lists_for, log_asked_by, prints_search, prints_unbegun}
 use Rattle.cc_run.proofs.Readings.{begins_named, listing_is}
 use Rattle.cc_run.proofs.modes.list.list.Goals as goal

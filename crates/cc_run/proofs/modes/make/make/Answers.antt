@@ -1,5 +1,5 @@
 use Rattle.std.proofs.Common.{refl}
-use Rattle.cc_run.specs.Searching.{Summed}
+use Rattle.cc_tell.specs.Manners.{Summed}
 use Rattle.cc_run.proofs.Outcomes.{makes_for, prints_made}
 use Rattle.cc_run.proofs.modes.make.make.Goals as goal
 

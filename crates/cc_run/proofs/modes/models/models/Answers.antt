@@ -1,7 +1,7 @@
 use Rattle.std.proofs.Common.{[], ◌∷◌, ap, Err, refl}
-use Rattle.cc_run.specs.declared.status.Stop.TheVariants as stops
 use Rattle.cc_run.specs.Modes.Modelling.{IsCnfIn}
 use Rattle.cc_run.specs.Tasks.{request_of}
+use Rattle.cc_tell.specs.declared.status.Stop.TheVariants as stops
 use Rattle.cc_words.specs.Requests.{Modelling, ToModel}
 use Rattle.cc_run.proofs.CnfReadings.{refused_is_no_fault}
 use Rattle.cc_run.proofs.ModelRuns.{always, modelling_is, cnf_as, models_refuse}

@@ -1,7 +1,7 @@
 use Rattle.std.proofs.Common.{◌≤◌, ◌+◌, ℕ, List, ap, arith, length, refl, subst, sym}
 use Rattle.cc_ports.specs.declared.desk.To.TheVariants as outputs
 use Rattle.cc_print.specs.Models.{model_line}
-use Rattle.cc_run.proofs.GivenSteps.{one_as}
+use Rattle.cc_tell.proofs.GivenSteps.{one_as}
 use Rattle.cc_run.proofs.ModelFinds.{end_found, limit_found, line_found, line_writable, memory_found, model_found}
 use Rattle.cc_run.proofs.ModelLines.{own_low, row_short}
 use Rattle.cc_run.proofs.modes.models.tell_find.Goals as goal

@@ -1,4 +1,4 @@
-use Rattle.cc_run.proofs.GivenSteps.{step_nothing}
+use Rattle.cc_tell.proofs.GivenSteps.{step_nothing}
 use Rattle.cc_run.proofs.modes.models_check.tell_verdict.Goals as goal
 
 pub returns-in_err-text-clause-told : goal.returns-in_err-text-clause-told

@@ -1,6 +1,6 @@
 use Rattle.std.proofs.Common.{ap}
 use Rattle.cc_defs.specs.Runs.{optional}
-use Rattle.cc_run.specs.declared.status.Status.TheVariants as statuses
+use Rattle.cc_tell.specs.declared.status.Status.TheVariants as statuses
 use Rattle.cc_words.specs.Requests.{Surely}
 use Rattle.cc_words.specs.Views.{plain_text}
 use Rattle.cc_run.proofs.Outcomes.{prints_unbegun}

@@ -1,8 +1,9 @@
 use Rattle.std.proofs.Common.{◌∙◌, refl, subst}
+use Rattle.cc_sure.specs.Sures.{IsRightFault}
+use Rattle.cc_run.proofs.DescribedNames.{names_of}
 use Rattle.cc_run.proofs.Named.{signature_of}
 use Rattle.cc_run.proofs.SureFinds.{event_told, goes_next, limit_told, memory_told}
 use Rattle.cc_run.proofs.SureTexts.{event_printable}
-use Rattle.cc_sure.specs.Sures.{IsRightFault}
 use Rattle.cc_run.proofs.modes.sure.tell_next.Goals as goal
 
 pub tell_sure-requires-clause-printable : goal.tell_sure-requires-clause-printable
@@ -15,7 +16,7 @@ tell_sure-requires-clause-printable g c =
 pub returns-in-Ok-clause-tells : goal.returns-in-Ok-clause-tells
 returns-in-Ok-clause-tells g c = λ d q run is sure stands.
     event_told d q run c.args.sure.now c.next.new.self c.requires.more stands c.in-Ok.event c.horizon.result _ _ c.tell_sure.result (c.in-Ok.ensures.tells d q run sure stands)
-    c.next.ensures.same c.in-Ok.ensures.goes c.in-Ok.ensures.short c.in-Ok.ensures.few (c.in-Ok.ensures.good d q sure) c.horizon.ensures (c.tell_sure.ensures.told d is) c.tell_sure.ensures.status
+    c.next.ensures.same c.in-Ok.ensures.goes c.in-Ok.ensures.short c.in-Ok.ensures.few (c.in-Ok.ensures.good d q sure) c.horizon.ensures (c.tell_sure.ensures.told d (names_of c.args.described.now d is)) c.tell_sure.ensures.status
 
 pub returns-in-Ok-clause-next : goal.returns-in-Ok-clause-next
 returns-in-Ok-clause-next g c =

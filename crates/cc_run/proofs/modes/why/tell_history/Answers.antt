@@ -1,13 +1,15 @@
-use Rattle.std.proofs.Common.{◌∙◌, Some, ap, map, refl}
+use Rattle.std.proofs.Common.{◌∙◌, Some, ap, map, refl, sym}
+use Rattle.cc_defs.specs.Resolved.{plain_base_law}
 use Rattle.cc_ports.specs.declared.desk.To.TheVariants as outputs
-use Rattle.cc_run.specs.declared.status.Status.TheVariants as statuses
-use Rattle.cc_run.specs.Modes.Explaining.{why_text}
-use Rattle.cc_run.specs.Stops.{given_to}
-use Rattle.cc_run.proofs.CauseLines.{cause_each, row_atoms}
-use Rattle.cc_run.proofs.Explained.{stopped_so, tells_history}
-use Rattle.cc_run.proofs.GivenSteps.{one_as, step_again, step_done, step_nothing}
-use Rattle.cc_run.proofs.Named.{signature_of}
+use Rattle.cc_tell.specs.declared.status.Status.TheVariants as statuses
+use Rattle.cc_tell.specs.CauseTexts.{why_text}
+use Rattle.cc_tell.specs.Givens.{given_to}
 use Rattle.cc_why.specs.declared.cause.Cause.{Cause}
+use Rattle.cc_tell.proofs.CauseLines.{cause_each, row_atoms}
+use Rattle.cc_tell.proofs.GivenSteps.{one_as, step_again, step_done, step_nothing}
+use Rattle.cc_run.proofs.DescribedNames.{laws_of, names_of}
+use Rattle.cc_run.proofs.Explained.{stopped_so, tells_history}
+use Rattle.cc_run.proofs.Named.{signature_of}
 use Rattle.cc_run.proofs.modes.why.tell_history.Goals as goal
 
 pub tell_causes-requires-clause-atoms : goal.tell_causes-requires-clause-atoms
@@ -30,19 +32,25 @@ returns-in_err-causes g c = λ d of laws path.
 pub returns-in_err-tell_causes : goal.returns-in_err-tell_causes
 returns-in_err-tell_causes g c = λ d of laws path.
     let causes = ap (map (λ (cause : Cause). Some cause)) c.items.ensures ∙ c.in_ok-causes.ensures d laws in
+    let base = laws_of c.args.described.now d of ∙ ap (map plain_base_law) (sym c.items-base.ensures) in
+    let text = ap (λ names. why_text d names c.args.key.now.horizon c.items-row.result.now) c.items-files.ensures
+    ∙ ap (λ row. why_text d c.args.described.now.files c.args.key.now.horizon row) c.items-row.ensures in
     tells_history d c.args.described.now.files c.args.key.now _ _ c.from_residual-in_err-tell_causes.result path
     (step_again (given_to outputs.Out (why_text d c.args.described.now.files c.args.key.now.horizon c.args.key.now.row)) _ _ c.tell_causes.result c.in_err-tell_causes.field-0.0
     c.from_residual-in_err-tell_causes.result
-    (one_as outputs.Out _ _ _ _ c.tell_causes.result (ap (λ row. why_text d c.args.described.now.files c.args.key.now.horizon row) c.items-row.ensures)
-    (c.tell_causes.ensures d c.args.key.now.horizon of causes)) c.in_err-tell_causes.was c.from_residual-in_err-tell_causes.ensures.1)
+    (one_as outputs.Out _ _ _ _ c.tell_causes.result text
+    (c.tell_causes.ensures d c.args.key.now.horizon (names_of c.args.described.now d of) base causes)) c.in_err-tell_causes.was c.from_residual-in_err-tell_causes.ensures.1)
     (stopped_so _ _ c.from_residual-in_err-tell_causes.result c.from_residual-in_err-tell_causes.ensures.1)
 
 pub returns : goal.returns
 returns g c = λ d of laws path.
     let causes = ap (map (λ (cause : Cause). Some cause)) c.items.ensures ∙ c.in_ok-causes.ensures d laws in
+    let base = laws_of c.args.described.now d of ∙ ap (map plain_base_law) (sym c.items-base.ensures) in
+    let text = ap (λ names. why_text d names c.args.key.now.horizon c.items-row.result.now) c.items-files.ensures
+    ∙ ap (λ row. why_text d c.args.described.now.files c.args.key.now.horizon row) c.items-row.ensures in
     tells_history d c.args.described.now.files c.args.key.now _ _ _ path
     (step_done (given_to outputs.Out (why_text d c.args.described.now.files c.args.key.now.horizon c.args.key.now.row)) _ _ c.tell_causes.result c.in_ok-tell_causes.field-0
     statuses.Right
-    (one_as outputs.Out _ _ _ _ c.tell_causes.result (ap (λ row. why_text d c.args.described.now.files c.args.key.now.horizon row) c.items-row.ensures)
-    (c.tell_causes.ensures d c.args.key.now.horizon of causes)) c.in_ok-tell_causes.was)
+    (one_as outputs.Out _ _ _ _ c.tell_causes.result text
+    (c.tell_causes.ensures d c.args.key.now.horizon (names_of c.args.described.now d of) base causes)) c.in_ok-tell_causes.was)
     refl

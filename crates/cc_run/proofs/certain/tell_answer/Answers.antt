@@ -1,5 +1,0 @@
-use Rattle.cc_run.proofs.GivenSteps.{step_nothing}
-use Rattle.cc_run.proofs.certain.tell_answer.Goals as goal
-
-pub returns-in_err-line : goal.returns-in_err-line
-returns-in_err-line g c = λ d of. step_nothing _ _ c.from_residual.result c.from_residual.ensures.1

@@ -1,5 +1,0 @@
-use Rattle.cc_run.proofs.GivenSteps.{step_nothing}
-use Rattle.cc_run.proofs.summing.tell_summary.Goals as goal
-
-pub returns-in_err-text : goal.returns-in_err-text
-returns-in_err-text g c = step_nothing _ _ c.from_residual.result c.from_residual.ensures.1

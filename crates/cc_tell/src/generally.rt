@@ -1,0 +1,189 @@
+//! Tells the events of a run over candidates, each line of an output by one call of the desk.
+ghost use Rattle.std.specs.Prelude.{◌≡◌, ◌∷◌, ◌++◌, [], IfOk, None, Some, string_bytes};
+ghost use Rattle.std.specs.List.{AllByRecursion};
+ghost use Rattle.cc_defs.specs.Description.{Description};
+ghost use Rattle.cc_defs.specs.Events.{out_text};
+ghost use Rattle.cc_defs.specs.LogTexts.{IsFormed};
+ghost use Rattle.cc_defs.specs.Rows.{IsRow};
+ghost use Rattle.cc_defs.specs.Runs.{told};
+ghost use Rattle.cc_form.specs.Places.{position_sizes};
+ghost use Rattle.cc_general.specs.declared.event.GeneralEvent.TheVariants as events;
+ghost use Rattle.cc_general.specs.GeneralTold.{rivals_heading};
+ghost use Rattle.cc_general.specs.Generals.{IsWritable};
+ghost use Rattle.cc_ports.specs.declared.desk.To.TheVariants as outputs;
+ghost use Rattle.cc_sorts.specs.Tables.{IsSignatureFor};
+ghost use Rattle.cc_tell.specs.Names.{AreNamesOf};
+ghost use Rattle.cc_tell.specs.GeneralTexts.{given_generally, general_status_behind, heading_for, lines_text};
+ghost use Rattle.cc_tell.specs.Steps.{Step};
+ghost use Rattle.cc_tell.specs.Givens.{given_to};
+
+use crate::certain::{horizon_line, tell_lines};
+use crate::refusing::give;
+use crate::status::{Status, Stop, status_of};
+use crate::telling::{tell_event, tell_history};
+use cc_defs::{Ending, Event, LogLine, OutOfMemory, Row, Sig};
+use cc_general::GeneralEvent;
+use cc_ports::{Desk, To};
+use cc_print::key_text;
+use cc_sorts::Table;
+use std::alloc::Global;
+
+/// The heading of the search for a rival of a row.
+fn rivals_line(alloc: Global, horizon: u32, row: &[u32]) -> Result<String, OutOfMemory>
+    ensures { IfOk result (λ line. string_bytes line ≡ rivals_heading horizon row.now) }
+{
+    let key = key_text(alloc, horizon, row)?;
+    let mut line = String::from_str(alloc, "u ")?;
+    line.push_str(key.text())?;
+    line.push_str("\n")?;
+    Ok(line)
+}
+
+/// The heading of a search: that for a rival of a row, or that among the candidates of a horizon.
+fn heading_text(alloc: Global, horizon: u32, row: &Option<Row>) -> Result<String, OutOfMemory>
+    ensures { IfOk result (λ text. string_bytes text ≡ heading_for horizon row.now) }
+{
+    match row {
+        Some(row) => rivals_line(alloc, horizon, row.items()),
+        None => horizon_line(alloc, horizon),
+    }
+}
+
+/// Gives the lines of a section to Log, behind its heading.
+fn tell_section<D: Desk>(
+    alloc: Global,
+    desk: &mut D,
+    heading: &str,
+    lines: &[LogLine],
+) -> Result<(), Stop>
+    requires formed { AllByRecursion IsFormed lines.now }
+    ensures { Step (given_to outputs.Log (heading.now ++ lines_text lines.now)) (D.seen desk.old)
+        (D.seen desk.new) result }
+{
+    give(desk, To::Log, heading.as_bytes())?;
+    tell_lines(alloc, desk, lines)
+}
+
+/// Gives the line of an event without a row to Out.
+fn tell_alone<D: Desk>(alloc: Global, desk: &mut D, event: &Event) -> Result<(), Stop>
+    ensures { (d : Description) → Step (given_to outputs.Out (out_text d (told event.now ∷ [])))
+        (D.seen desk.old) (D.seen desk.new) result }
+{
+    tell_event(alloc, desk, event)
+}
+
+/// Gives the section of a history to Log, and then its line, the history and its key to Out.
+fn tell_shown<D: Desk>(
+    alloc: Global,
+    desk: &mut D,
+    table: &Table,
+    sig: &Sig,
+    horizon: u32,
+    number: u32,
+    row: &[u32],
+    lines: &[LogLine],
+) -> Result<(), Stop>
+    requires signature { IsSignatureFor table.now sig.now }
+    requires row { IsRow (position_sizes sig.now horizon) row.now }
+    requires formed { AllByRecursion IsFormed lines.now }
+    ensures { (d : Description) → AreNamesOf table.now sig.now d →
+        Step (given_generally d (events.History horizon number row.now lines.now)) (D.seen desk.old)
+        (D.seen desk.new) result }
+{
+    let heading = rivals_line(alloc, horizon, row)?;
+    tell_section(alloc, desk, &heading, lines)?;
+    let event = Event::History { horizon, number };
+    tell_history(alloc, desk, table, sig, &event, horizon, row)
+}
+
+/// Gives the section of a search that was spent to Log, and the line of that end to Out.
+fn tell_spent<D: Desk>(
+    alloc: Global,
+    desk: &mut D,
+    horizon: u32,
+    listed: u32,
+    rivals_of: &Option<Row>,
+    lines: &[LogLine],
+) -> Result<(), Stop>
+    requires formed { AllByRecursion IsFormed lines.now }
+    ensures { (d : Description) →
+        Step (given_generally d (events.Spent horizon listed rivals_of.now lines.now))
+        (D.seen desk.old) (D.seen desk.new) result }
+{
+    let heading = heading_text(alloc, horizon, rivals_of)?;
+    tell_section(alloc, desk, &heading, lines)?;
+    let ending = Ending::Spent { horizon, listed };
+    tell_alone(alloc, desk, &Event::Ended(ending))
+}
+
+/// Gives what an event is told by: to Log first the section of a history, or of a search that was spent, and then to Out its line,
+/// with the history and its key.
+fn tell<D: Desk>(
+    alloc: Global,
+    desk: &mut D,
+    table: &Table,
+    sig: &Sig,
+    event: &GeneralEvent,
+) -> Result<(), Stop>
+    requires signature { IsSignatureFor table.now sig.now }
+    requires writable { IsWritable sig.now event.now }
+    ensures { (d : Description) → AreNamesOf table.now sig.now d →
+        Step (given_generally d event.now) (D.seen desk.old) (D.seen desk.new) result }
+{
+    match event {
+        GeneralEvent::NoHistory { horizon } => {
+            tell_alone(alloc, desk, &Event::NoHistory { horizon: *horizon })
+        }
+        GeneralEvent::History {
+            horizon,
+            number,
+            row,
+            lines,
+        } => tell_shown(
+            alloc,
+            desk,
+            table,
+            sig,
+            *horizon,
+            *number,
+            row.items(),
+            lines.items(),
+        ),
+        GeneralEvent::Ended(ending) => tell_alone(alloc, desk, &Event::Ended(*ending)),
+        GeneralEvent::Spent {
+            horizon,
+            listed,
+            rivals_of,
+            lines,
+        } => tell_spent(alloc, desk, *horizon, *listed, rivals_of, lines.items()),
+    }
+}
+
+/// The status of a run whose last event this is; none where more is to come.
+fn status_behind(event: &GeneralEvent) -> Option<Status>
+    ensures { result ≡ general_status_behind event.now }
+{
+    match event {
+        GeneralEvent::NoHistory { .. } | GeneralEvent::History { .. } => None,
+        GeneralEvent::Ended(ending) => Some(status_of(*ending)),
+        GeneralEvent::Spent { .. } => Some(Status::Spent),
+    }
+}
+
+/// Tells an event, and answers the run's status where it is the last one.
+pub fn tell_general<D: Desk>(
+    alloc: Global,
+    desk: &mut D,
+    table: &Table,
+    sig: &Sig,
+    event: &GeneralEvent,
+) -> Result<Option<Status>, Stop>
+    requires signature { IsSignatureFor table.now sig.now }
+    requires writable { IsWritable sig.now event.now }
+    ensures told { (d : Description) → AreNamesOf table.now sig.now d →
+        Step (given_generally d event.now) (D.seen desk.old) (D.seen desk.new) result }
+    ensures status { IfOk result (λ status. status ≡ general_status_behind event.now) }
+{
+    tell(alloc, desk, table, sig, event)?;
+    Ok(status_behind(event))
+}
