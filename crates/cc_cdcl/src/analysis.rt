@@ -169,6 +169,10 @@ fn clashing_reason(trail: &Trail, kernel: &Kernel, pivot: u32) -> Option<u32>
     ensures none { IfNone result ((id : ℕ) → option_and_then reason_of_step
         (step_of trail.now.steps pivot) ≡ Some id → ClashesWith kernel.now pivot id → ⊥) }
 {
+    let _variables = kernel.variables();
+    if !kernel.stages(Lit::positive(pivot)) && !kernel.stages(Lit::negative(pivot)) {
+        return None;
+    }
     match trail.reason(pivot) {
         Some(id) => if kernel.clashes(pivot, id) {
             Some(id)
@@ -420,7 +424,7 @@ pub fn learn(
     probe.weigh(kernel.clause(number).len(), kernel.chain().len() / 2);
     probe.take_back(trail, back);
     trail.back_to(back);
-    trail.attach(kernel, number)?;
+    trail.attach_over(kernel, number)?;
     Ok(())
 }
 

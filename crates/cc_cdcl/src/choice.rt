@@ -163,6 +163,9 @@ pub fn next_choice(
         IsChoice sizes.now trail.now.variables trail.now.steps lit) }
     ensures none { IfNone result.1 (IsFull trail.now.variables (values_of trail.now.steps)) }
 {
+    if trail.is_full() {
+        return (start, None);
+    }
     let variables = kernel.variables();
     let cursor = pass_positions(trail, sizes, start);
     if cursor.position < sizes.len() {

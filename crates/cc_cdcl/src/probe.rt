@@ -1,5 +1,5 @@
 //! The probe with which a section begins: for as many lines as it has clauses then, what is decided is what had most to do with the lines
-//! before, and not what leads to the least row. Where its first hundred lines have more literals than steps, it is over with them. The
+//! before, and not what leads to the least row. Where its first fifty lines have more than three literals to four steps, it is over with them. The
 //! lines that it derives are there when the rows are listed. Nothing is claimed of what it decides but that it had no value.
 ghost use Rattle.std.specs.Prelude.{◌≡◌, ◌<◌, ◌≤◌, None, IsTrue, IsSome, IfSome, IfNone, length, OnOk};
 ghost use Rattle.cc_defs.specs.Clauses.{IsLiteralOver};
@@ -94,15 +94,32 @@ impl Probe {
         }
     }
 
-    /// Begins, over the variables 1, .., `variables`, and for so many lines. Where these are as many as there are clauses, the lines
+    // Takes in the variables that have no value.
+    fn put_open(&mut self, trail: &Trail, variables: u32)
+        requires variables { variables ≡ trail.now.variables }
+        requires few { trail.now.variables ≤ most_variables }
+        ensures { self.new.phase ≡ self.old.phase }
+    {
+        for index in 0..variables {
+            if is_open(trail, variables, index + 1) {
+                self.order.insert(index + 1);
+            }
+        }
+    }
+
+    /// Begins, over those of the variables 1, .., `variables` that have no value, and for so many lines. Where these are as many as there are clauses, the lines
     /// come to no more than these, and looking at all of them takes twice as long at most.
-    pub fn begin(&mut self, variables: u32, lines: u32) -> Result<(), OutOfMemory> {
+    pub fn begin(&mut self, trail: &Trail, variables: u32, lines: u32) -> Result<(), OutOfMemory>
+        requires variables { variables ≡ trail.now.variables }
+        requires few { trail.now.variables ≤ most_variables }
+    {
         self.order.fill(variables)?;
         self.signs.reserve(variables as usize)?;
         for _ in 0..variables {
             self.signs.push(false)?;
         }
         self.signs.push(false)?;
+        self.put_open(trail, variables);
         self.lines = lines;
         self.phase = Phase::Probing;
         Ok(())
@@ -254,12 +271,13 @@ impl Probe {
         self.steps = self.steps.saturating_add(steps);
     }
 
-    // Whether the lines have more literals than steps: few of these are resolved away, so the lines lead nowhere.
+    // Whether the lines have more than three literals to four steps: few are resolved away, so the lines lead nowhere.
     fn is_wide(&self) -> bool {
-        self.literals > self.steps
+        self.literals / 3 > self.steps / 4
     }
 
-    /// Counts a line. The probe is over where there were as many as it was begun for, or where its first run brought wide lines.
+    /// Counts a line. The probe is over where there were as many as it was begun for, or where the first half of its first run
+    /// brought wide lines.
     pub fn count_line(&mut self) -> After
         ensures { self.new.phase ≡ self.old.phase }
     {
@@ -268,11 +286,11 @@ impl Probe {
             return After::End;
         }
         self.left = self.left.saturating_sub(1);
+        if self.run == RUN && self.left == RUN / 2 && self.is_wide() {
+            return After::End;
+        }
         if self.left > 0 {
             return After::More;
-        }
-        if self.run == RUN && self.is_wide() {
-            return After::End;
         }
         self.run = self.run.saturating_add(RUN);
         self.left = self.run;

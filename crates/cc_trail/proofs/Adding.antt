@@ -8,7 +8,8 @@ use Rattle.cc_kernel.specs.Kernels.{KernelView, clauses_of}
 use Rattle.cc_trail.specs.declared.entries.Step.{Step}
 use Rattle.cc_trail.specs.Steps.{values_to}
 use Rattle.cc_trail.specs.Watches.{AreReasonedAfter}
-use Rattle.cc_trail.specs.Trails.{TrailView, FitsClauses, Fits, IsMild, IsSettledOver}
+use Rattle.cc_trail.specs.Pairs.{IsPair}
+use Rattle.cc_trail.specs.Trails.{TrailView, FitsClauses, Fits, IsCovered, IsMild, IsSettledOver}
 
 pub get_append : {X : Type 0} (xs ys : List X) (k : ℕ) (x : X) → slice_get xs k ≡ Some x → slice_get (xs ++ ys) k ≡ Some x
 get_append [] ys k x is = cc
@@ -26,6 +27,13 @@ reasoned_more clauses more before (step ∷ steps) reasoned = (
       (clause, numbered_more clauses more number clause numbered, member, others)),
   reasoned_more clauses more (before ++ step ∷ []) steps reasoned.1,
 )
+
+pair_more : (clauses more : List (List Literal)) (number : ℕ) (a b : Literal) → IsPair clauses number a b → IsPair (clauses ++ more) number a b
+pair_more clauses more number a b (clause, numbered, a_in, b_in, only) = (clause, numbered_more clauses more number clause numbered, a_in, b_in, only)
+
+covered_more : (clauses more : List (List Literal)) (number : ℕ) → IsCovered clauses number → IsCovered (clauses ++ more) number
+covered_more clauses more number (by, later, clause, part, numbered, by_numbered, all) =
+    (by, later, clause, part, numbered_more clauses more number clause numbered, numbered_more clauses more by part by_numbered, all)
 
 pub fits_more : (trail : TrailView) (clauses more : List (List Literal)) → FitsClauses trail clauses → FitsClauses trail (clauses ++ more)
 fits_more trail clauses more fits = record {
@@ -47,8 +55,19 @@ fits_more trail clauses more fits = record {
         there = long.there;
         apart = long.apart;
       };
-  each = fits.each;
+  pairs = λ literal other beside. pair_more clauses more other.number literal other.lit (fits.pairs literal other beside);
+  each = λ number some most. elim (fits.each number some most) [
+    | inl short ↦ inl short
+    | inr rest ↦ elim rest [
+      | inl long ↦ inr (inl long)
+      | inr others ↦ elim others [
+        | inl paired ↦ inr (inr (inl paired))
+        | inr covered ↦ inr (inr (inr (covered_more clauses more number covered)))
+      ]
+    ]
+  ];
   watches = fits.watches;
+  followed = fits.followed;
 }
 
 pub fits_added : (trail : TrailView) (old new : KernelView) (clause : List Literal) → new.variables ≡ old.variables →

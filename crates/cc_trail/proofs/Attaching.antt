@@ -8,8 +8,9 @@ use Rattle.cc_defs.specs.Clauses.{Literal, opposite, IsClause, IsOver, IsBefore,
 use Rattle.cc_kernel.specs.Kernels.{KernelView, Entry, clauses_of, IsThere}
 use Rattle.cc_trail.specs.declared.entries.Step.{Step}
 use Rattle.cc_trail.specs.Links.{no_literal, watched_at}
+use Rattle.cc_trail.specs.Pairs.{PairsView, IsPair, IsPaired, ArePaired, AreFollowed, other_in}
 use Rattle.cc_trail.specs.Watches.{IsWatched, Watches, partner}
-use Rattle.cc_trail.specs.Trails.{TrailView, Fits, IsTrail, IsLong, number_of}
+use Rattle.cc_trail.specs.Trails.{TrailView, Fits, IsTrail, IsCovered, IsLong, IsPairLong, number_of}
 use Rattle.cc_trail.proofs.StepLists.{in_left, in_right, in_push}
 
 pub on_ok : {T E : Type 0} (r : Result T E) {P Q : Type 0} → (P → Q) → OnOk r P → OnOk r Q
@@ -44,7 +45,7 @@ module _ (old new : TrailView) (kernel : KernelView) (fits : Fits old kernel) (n
       let count : length (clauses_of kernel) ≡ length kernel.entries = length-map kernel.entries (λ (entry : Entry). entry.clause) in
       omega arith
 
-  each_or : (k : ℕ) → 0 < k → k ≤ number → (IsIn old.shorts k ⊎ IsIn old.longs k) ⊎ (k ≡ number)
+  each_or : (k : ℕ) → 0 < k → k ≤ number → (IsIn old.shorts k ⊎ (IsIn old.longs k ⊎ (IsPaired old.pairs k ⊎ IsCovered (clauses_of kernel) k))) ⊎ (k ≡ number)
   each_or k some most = elim (eqb_tells k number) [
     | inl same ↦ inr (same.1)
     | inr other ↦ let apart : k ≢ number = other.1 in inl (fits.clauses.each k some (omega arith))
@@ -63,14 +64,16 @@ module _ (old new : TrailView) (kernel : KernelView) (fits : Fits old kernel) (n
       met_few = let few = fits.clauses.met_few in omega (arith, length-append old.shorts (number ∷ []));
       met = λ k here. fits.clauses.met k (subst (λ (ks : List ℕ). IsIn ks k) (take-append-le old.met old.shorts (number ∷ []) fits.clauses.met_few) here);
       longs = fits.clauses.longs;
+      pairs = fits.clauses.pairs;
       each = λ k some most. elim (each_or k some most) [
         | inl before ↦ elim before [
           | inl left ↦ inl (in_left old.shorts (number ∷ []) k left)
-          | inr right ↦ inr right
+          | inr rest ↦ inr rest
         ]
         | inr last ↦ inl (in_right old.shorts (number ∷ []) k (inl (sym last)))
       ];
       watches = fits.clauses.watches;
+      followed = fits.clauses.followed;
     };
   })
 
@@ -98,6 +101,11 @@ take_fewer_in (suc m) zero steps step few here = absurd (omega arith)
 take_fewer_in (suc m) (suc n) [] step few here = elim here [ ]
 take_fewer_in (suc m) (suc n) (first ∷ steps) step few (inl same) = inl same
 take_fewer_in (suc m) (suc n) (first ∷ steps) step few (inr here) = inr (take_fewer_in m n steps step (omega arith) here)
+
+followed_fewer : (pairs : PairsView) (fewer visited : ℕ) (steps : List Step) → fewer ≤ visited → AreFollowed pairs (take visited steps) steps →
+    AreFollowed pairs (take fewer steps) steps
+followed_fewer pairs fewer visited steps few followed literal other there step here =
+    followed literal other there step (take_fewer_in fewer visited steps step few here)
 
 module _ (old new : TrailView) (kernel : KernelView) (fits : Fits old kernel) (trail : IsTrail old) (number : ℕ) (next : number ≡ old.attached + 1) (there : IsThere kernel number)
     (clause : List Literal) (numbered : IsNumbered (clauses_of kernel) number clause) (first second : Literal)
@@ -206,13 +214,108 @@ module _ (old new : TrailView) (kernel : KernelView) (fits : Fits old kernel) (t
       met_few = rw (long.met, long.shorts) fits.clauses.met_few;
       met = rw (long.met, long.shorts, long.steps) fits.clauses.met;
       longs = longs_then;
-      each = rw (long.attached, long.shorts, long.longs) (λ k some most. elim (each_or old new kernel fits number next there clause numbered k some most) [
+      pairs = rw long.pairs fits.clauses.pairs;
+      each = rw (long.attached, long.shorts, long.longs, long.pairs) (λ k some most. elim (each_or old new kernel fits number next there clause numbered k some most) [
         | inl before ↦ elim before [
           | inl left ↦ inl left
-          | inr right ↦ inr (in_left old.longs (number ∷ []) k right)
+          | inr rest ↦ elim rest [
+            | inl right ↦ inr (inl (in_left old.longs (number ∷ []) k right))
+            | inr others ↦ inr (inr others)
+          ]
         ]
-        | inr last ↦ inr (in_right old.longs (number ∷ []) k (inl (sym last)))
+        | inr last ↦ inr (inl (in_right old.longs (number ∷ []) k (inl (sym last))))
       ]);
       watches = watches_then;
+      followed = rw (long.pairs, long.steps) (followed_fewer old.pairs new.visited old.visited old.steps long.fewer fits.clauses.followed);
+    };
+  }
+
+-- ---- a clause of two literals
+
+pub only_two : (clause : List Literal) (one two d e : Literal) → length clause ≡ 2 → one ≡ get_or clause 0 d → two ≡ get_or clause 1 e →
+    Contains clause one × Contains clause two × ((literal : Literal) → Contains clause literal → (literal ≡ one) ⊎ (literal ≡ two))
+only_two [] one two d e long one_is two_is = absurd (omega arith)
+only_two (a ∷ []) one two d e long one_is two_is = absurd (omega arith)
+only_two (a ∷ b ∷ c ∷ clause) one two d e long one_is two_is = absurd (omega arith)
+only_two (a ∷ b ∷ []) one two d e long one_is two_is = ((0, omega arith, sym one_is), (1, omega arith, sym two_is), only)
+  where
+    only : (literal : Literal) → Contains (a ∷ b ∷ []) literal → (literal ≡ one) ⊎ (literal ≡ two)
+    only literal (zero, within, is) = inl (sym is ∙ sym one_is)
+    only literal (suc zero, within, is) = inr (sym is ∙ sym two_is)
+    only literal (suc (suc k), within, is) = absurd (omega arith)
+
+module _ (old new : TrailView) (kernel : KernelView) (fits : Fits old kernel) (number : ℕ) (next : number ≡ old.attached + 1) (there : IsThere kernel number)
+    (clause : List Literal) (numbered : IsNumbered (clauses_of kernel) number clause) (first second : Literal) (apart : first ≢ second)
+    (first_in : Contains clause first) (second_in : Contains clause second)
+    (only : (literal : Literal) → Contains clause literal → (literal ≡ first) ⊎ (literal ≡ second)) (pair : IsPairLong old new number first second) where
+  one_way : IsPair (clauses_of kernel) number first second
+  one_way = (clause, numbered, first_in, second_in, only)
+
+  other_way : IsPair (clauses_of kernel) number second first
+  other_way = (
+    clause,
+    numbered,
+    second_in,
+    first_in,
+    (λ literal member. elim (only literal member) [
+      | inl is ↦ inr is
+      | inr is ↦ inl is
+    ]),
+  )
+
+  paired_then : ArePaired (clauses_of kernel) new.pairs
+  paired_then literal other here = elim (pair.pairs.only literal other here) [
+    | inl before ↦ fits.clauses.pairs literal other before
+    | inr added ↦ elim added [
+      | inl is ↦ rw (is.0, is.1) one_way
+      | inr is ↦ rw (is.0, is.1) other_way
+    ]
+  ]
+
+  followed_then : AreFollowed new.pairs (take new.visited new.steps) new.steps
+  followed_then literal other among step here is = elim (pair.pairs.only literal other among) [
+    | inl before ↦
+        rw pair.steps
+        (followed_fewer old.pairs new.visited old.visited old.steps pair.fewer fits.clauses.followed literal other before step
+        (subst (λ (ss : List Step). IsIn (take new.visited ss) step) pair.steps here) is)
+    | inr added ↦ elim added [
+      | inl at ↦ absurd (pair.first_open step here (ap (λ (l : Literal). l.variable) is ∙ ap (λ (l : Literal). l.variable) (at.0)))
+      | inr at ↦ absurd (pair.second_open step here (ap (λ (l : Literal). l.variable) is ∙ ap (λ (l : Literal). l.variable) (at.0)))
+    ]
+  ]
+
+  still_paired : (k : ℕ) → IsPaired old.pairs k → IsPaired new.pairs k
+  still_paired k (a, b, differ, ab, ba) = (a, b, differ, pair.pairs.before a (other_in b k) ab, pair.pairs.before b (other_in a k) ba)
+
+  each_then : (k : ℕ) → 0 < k → k ≤ number → IsIn old.shorts k ⊎ (IsIn old.longs k ⊎ (IsPaired new.pairs k ⊎ IsCovered (clauses_of kernel) k))
+  each_then k some most = elim (each_or old new kernel fits number next there clause numbered k some most) [
+    | inr last ↦ inr (inr (inl (rw last (first, second, apart, pair.pairs.first, pair.pairs.second))))
+    | inl before ↦ elim before [
+      | inl left ↦ inl left
+      | inr rest ↦ elim rest [
+        | inl right ↦ inr (inl right)
+        | inr others ↦ elim others [
+          | inl paired ↦ inr (inr (inl (still_paired k paired)))
+          | inr covered ↦ inr (inr (inr covered))
+        ]
+      ]
+    ]
+  ]
+
+  pub fits_pair : Fits new kernel
+  fits_pair = record {
+    variables = pair.variables ∙ fits.variables;
+    clauses = record {
+      attached = rw pair.attached (within old new kernel fits number next there clause numbered);
+      reasons = rw pair.steps fits.clauses.reasons;
+      shorts = rw pair.shorts fits.clauses.shorts;
+      met_few = rw (pair.met, pair.shorts) fits.clauses.met_few;
+      met = rw (pair.met, pair.shorts, pair.steps) fits.clauses.met;
+      longs = rw (pair.watched, pair.longs, pair.steps) fits.clauses.longs;
+      pairs = paired_then;
+      each = rw (pair.attached, pair.shorts, pair.longs) each_then;
+      watches = rw (pair.watched, pair.steps) (λ node low step here is.
+          fits.clauses.watches node low step (take_fewer_in new.visited old.visited old.steps step pair.fewer here) is);
+      followed = followed_then;
     };
   }

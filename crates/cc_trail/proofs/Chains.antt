@@ -1,9 +1,9 @@
 -- Chains of nodes: each head has one, no node is twice in it, and a write at a node that is not in it leaves it. A walk goes
 -- along a chain, and takes nodes out of it.
-use Rattle.std.proofs.Common.{◌≡◌, ◌≢◌, ◌∙◌, ℕ, ◌+◌, ◌<◌, ◌≤◌, zero, suc, inl, inr, eqb, true, false, List, [], ◌∷◌, ◌++◌, length, get_or, set, refl, sym, subst, ap, arith, length-append, append_assoc}
+use Rattle.std.proofs.Common.{◌≡◌, ◌≢◌, ◌∙◌, ℕ, ◌+◌, ◌<◌, ◌≤◌, zero, suc, inl, inr, eqb, true, false, List, [], ◌∷◌, ◌++◌, length, get_or, set, take, refl, sym, subst, ap, arith, length-append, append_assoc}
 use Rattle.std.specs.Prelude.{◌⊎◌}
 use Rattle.std.specs.List.{IsDistinct, AllByRecursion, list_any}
-use Rattle.std.proofs.lemmas.List.{length-set, get_or-set_other, get_or-set_same, get_or_append_left}
+use Rattle.std.proofs.lemmas.List.{length-set, length-take-le, get_or-take, get_or-set_other, get_or-set_same, get_or_append_left}
 use Rattle.std.proofs.lemmas.Bool.Decides.{eqb_tells}
 use Rattle.std.proofs.lemmas.Map.Steps.{length-le_from_distinct_below}
 use Rattle.cc_defs.specs.Clauses.{IsIn}
@@ -63,6 +63,20 @@ chain_append next more head (x ∷ xs) chain =
       omega arith,
       subst (λ (head : ℕ). IsChain (next ++ more) head xs) (sym (get_or_append_left next more 0 x within))
           (chain_append next more (get_or next x 0) xs chain.2),
+    )
+
+-- a chain that the last node is not in
+pub chain_take : (next : List ℕ) (head : ℕ) (xs : List ℕ) (last : ℕ) → suc last ≡ length next → IsChain next head xs → (IsIn xs last → ⊥) →
+    IsChain (take last next) head xs
+chain_take next head [] last is chain fresh = chain
+chain_take next head (x ∷ xs) last is chain fresh =
+    let other : x ≢ last = λ same. fresh (inl same) in
+    let within : x < length next = chain.1 in
+    let count : length (take last next) ≡ last = length-take-le last next (omega arith) in (
+      chain.0,
+      omega arith,
+      subst (λ (head : ℕ). IsChain (take last next) head xs) (sym (get_or-take last next x 0 (omega arith)))
+          (chain_take next (get_or next x 0) xs last is chain.2 (λ later. fresh (inr later))),
     )
 
 apart : (x : ℕ) (ys : List ℕ) → (IsIn ys x → ⊥) → AllByRecursion (λ y. eqb x y ≡ false) ys

@@ -9,12 +9,13 @@ use Rattle.cc_defs.specs.Clauses.{Literal, opposite, IsIn, IsLiteralOver}
 use Rattle.cc_kernel.specs.Kernels.{KernelView, clauses_of}
 use Rattle.cc_trail.specs.declared.entries.Step.{Step}
 use Rattle.cc_trail.specs.Links.{LinksView, watched_at}
+use Rattle.cc_trail.specs.Pairs.{PairsView, AreFollowed}
 use Rattle.cc_trail.specs.Steps.{EntriesView, step_of, values_to}
 use Rattle.cc_trail.specs.Watches.{IsTrueBy, IsWatched, Watches, HasReason, partner}
 use Rattle.cc_trail.specs.Trails.{IsPropagatedAt, number_of}
 use Rattle.cc_trail.specs.Visits.{IsFalseAt, IsFalseBut, AreSound, AreGrown, AreWatched, IsVisiting}
 use Rattle.cc_trail.proofs.StepLists.{in_left, in_right, steps_push}
-use Rattle.cc_trail.proofs.Values.{closed_same, to_front, only_high, reasoned_push, true_more, watches_more, take_left}
+use Rattle.cc_trail.proofs.Values.{closed_same, to_front, only_high, reasoned_push, true_more, watches_more, followed_more, take_left}
 use Rattle.cc_trail.proofs.Adding.{get_append}
 
 -- ---- literals
@@ -97,6 +98,11 @@ pub watched_more : (n : ℕ) (old new : EntriesView) → AreGrown old new → n 
 watched_more n old new grown within watched node is = subst (λ (steps : List Step). IsWatched (take n steps) steps watched node) (sym grown.steps)
     (λ step here false_is. true_more old.steps grown.more (watched_at watched (partner node)) step.level
     (is step (subst (λ (steps : List Step). IsIn steps step) (take_left n old.steps grown.more within) here) false_is))
+
+pub followed_grown : (pairs : PairsView) (n : ℕ) (old new : EntriesView) → AreGrown old new → n ≤ length old.steps → AreFollowed pairs (take n old.steps) old.steps →
+    AreFollowed pairs (take n new.steps) new.steps
+followed_grown pairs n old new grown within followed = subst (λ (steps : List Step). AreFollowed pairs (take n steps) steps) (sym grown.steps)
+    (followed_more pairs n old.steps grown.more within followed)
 
 pub watched_grown : (kernel : KernelView) (longs : List ℕ) (visited : ℕ) (old new : EntriesView) (links : LinksView) →
     AreGrown old new → AreWatched kernel longs visited old links → AreWatched kernel longs visited new links

@@ -13,7 +13,11 @@ mod TrailViews
 mod Attaching
 mod Starting
 mod Growing
+mod Pairing
 mod Visiting
 mod Walking
+mod Following
+mod Covered
+mod Dropping
 mod Propagated
 mod Choosing

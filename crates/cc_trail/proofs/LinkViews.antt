@@ -1,11 +1,11 @@
 -- What the holder of links sees after their parts have changed.
-use Rattle.std.proofs.Common.{◌≡◌, ◌≢◌, ◌∙◌, ℕ, ◌+◌, ◌<◌, suc, List, [], ◌∷◌, ◌++◌, length, get_or, set, refl, sym, subst, ap, arith}
+use Rattle.std.proofs.Common.{◌≡◌, ◌≢◌, ◌∙◌, ℕ, ◌+◌, ◌-◌, ◌<◌, suc, List, [], ◌∷◌, ◌++◌, length, get_or, set, take, refl, sym, subst, ap, arith}
 use Rattle.std.specs.Prelude.{drop}
 use Rattle.cc_defs.specs.Clauses.{Literal, IsLiteralOver}
 use Rattle.cc_trail.specs.Links.{LinksView, AreAhead, BeginsWith, watched_at, code_of}
 use Rattle.cc_trail.specs.LinkParts.{chain_of, link_at, heads_relinked, next_relinked, AreLinks, view_of}
 use Rattle.cc_trail.specs.declared.links.Links.TheInside.{Inside}
-use Rattle.cc_trail.proofs.Linked.{read_at, within_heads, links_begun, nodes_begun, none_ended, node_within, links_passed, chain_passed, counts, links_moved, chain_moved, links_added}
+use Rattle.cc_trail.proofs.Linked.{read_at, within_heads, links_begun, nodes_begun, none_ended, node_within, links_passed, chain_passed, counts, links_removed, links_moved, chain_moved, links_added}
 
 module _ (inside : Inside) (old : LinksView) (is : view_of inside ≡ old)
     (links : AreLinks inside.variables inside.heads.items inside.nodes.next inside.nodes.watched inside.walked inside.before) where
@@ -60,13 +60,9 @@ module _ (inside : Inside) (old : LinksView) (is : view_of inside ≡ old)
     )
         (ap (λ (v : LinksView). let w : LinksView = record v { ahead = begins.0 } in w) is)
 
-    -- a node is moved
-    module _ (literal : Literal) (over : IsLiteralOver old.variables literal) (apart : watched_at old.watched node ≢ literal) (code : ℕ) (code_is : code ≡ code_of literal)
-        (link : ℕ) (link_is : link ≡ get_or inside.nodes.next node 0) (heads next : List ℕ)
+    -- a node is taken out of its chain
+    module _ (link : ℕ) (link_is : link ≡ get_or inside.nodes.next node 0) (heads next : List ℕ)
         (heads_are : heads ≡ heads_relinked inside.heads.items inside.walked inside.before link) (next_are : next ≡ next_relinked inside.nodes.next inside.before link) where
-      apart_here : watched_at inside.nodes.watched node ≢ literal
-      apart_here = subst (λ (v : LinksView). watched_at v.watched node ≢ literal) (sym is) apart
-
       heads_here : heads ≡ heads_relinked inside.heads.items inside.walked inside.before (get_or inside.nodes.next node 0)
       heads_here = heads_are ∙ ap (λ (n : ℕ). heads_relinked inside.heads.items inside.walked inside.before n) link_is
 
@@ -75,34 +71,59 @@ module _ (inside : Inside) (old : LinksView) (is : view_of inside ≡ old)
 
       pub counts_here : (length heads ≡ length inside.heads.items) × (length next ≡ length inside.nodes.next)
       counts_here = counts inside.variables inside.heads.items inside.nodes.next inside.nodes.watched inside.walked inside.before links node (begins.0) begins_here
-          literal (over_here literal over) apart_here heads next heads_here next_here mark mark_is
+          heads next heads_here next_here
 
-      pub code_within : code < length heads
-      code_within =
-          let low = within_heads inside.variables inside.heads.items inside.nodes.next inside.nodes.watched inside.walked inside.before links literal (over_here literal over) in
-          let same = counts_here in omega (arith, low, same.0)
+      -- it is the last one, and the lists end before it
+      module _ (last : node ≡ length inside.nodes.watched - 1) (shorter : List ℕ) (shorter_is : shorter ≡ take (length next - 1) next)
+          (watched : List Literal) (watched_is : watched ≡ take (length inside.nodes.watched - 1) inside.nodes.watched) where
+        last_here : (suc node ≡ length inside.nodes.next) × (length next - 1 ≡ node)
+        last_here =
+            let count = links.next_count in
+            let same = counts_here in
+            let within = within_here in
+            ((omega (arith, within.0)), omega (arith, within.0, same.1))
 
-      module _ (first : ℕ) (first_is : first ≡ get_or heads code first) where
-        first_here : first ≡ get_or heads (code_of literal) 0
-        first_here = read_at heads code first 0 code_within first_is ∙ ap (λ (n : ℕ). get_or heads n 0) code_is
+        pub links_then_removed : AreLinks inside.variables heads shorter watched 0 0
+        links_then_removed = rw (shorter_is, watched_is, last_here.1, sym last)
+            (links_removed inside.variables inside.heads.items inside.nodes.next inside.nodes.watched inside.walked inside.before links node (begins.0) begins_here
+            heads next heads_here next_here (last_here.0))
 
-        pub links_then_moved : AreLinks inside.variables (set heads code mark) (set next node first) (set inside.nodes.watched node literal) inside.walked inside.before
-        links_then_moved = rw code_is
-            (links_moved inside.variables inside.heads.items inside.nodes.next inside.nodes.watched inside.walked inside.before links node (begins.0) begins_here
-            literal (over_here literal over) apart_here heads next heads_here next_here mark mark_is first first_here)
+        pub view_removed : ◌≡◌ {A = LinksView} (record (view_of inside) { watched = watched; ahead = chain_of (length shorter) shorter (link_at heads shorter 0 0) })
+            (record old { watched = take (length old.watched - 1) old.watched; ahead = [] })
+        view_removed = rw (none_ended inside.variables heads shorter watched 0 0 links_then_removed, watched_is)
+            (ap (λ (v : LinksView). let w : LinksView = record v { watched = take (length v.watched - 1) v.watched; ahead = [] } in w) is)
 
-        pub view_moved : ◌≡◌ {A = LinksView} (record (view_of inside) {
-          watched = set inside.nodes.watched node literal;
-          ahead = chain_of (length (set next node first)) (set next node first) (link_at (set heads code mark) (set next node first) inside.walked inside.before);
-        })
-            (record old { watched = set old.watched node literal; ahead = drop 1 old.ahead })
-        view_moved = rw (
-          code_is,
-          begins.1,
-          chain_moved inside.variables inside.heads.items inside.nodes.next inside.nodes.watched inside.walked inside.before links node (begins.0) begins_here
-              literal (over_here literal over) apart_here heads next heads_here next_here mark mark_is first first_here,
-        )
-            (ap (λ (v : LinksView). let w : LinksView = record v { watched = set v.watched node literal; ahead = begins.0 } in w) is)
+      -- it is moved to another one
+      module _ (literal : Literal) (over : IsLiteralOver old.variables literal) (apart : watched_at old.watched node ≢ literal) (code : ℕ) (code_is : code ≡ code_of literal) where
+        apart_here : watched_at inside.nodes.watched node ≢ literal
+        apart_here = subst (λ (v : LinksView). watched_at v.watched node ≢ literal) (sym is) apart
+
+        pub code_within : code < length heads
+        code_within =
+            let low = within_heads inside.variables inside.heads.items inside.nodes.next inside.nodes.watched inside.walked inside.before links literal (over_here literal over) in
+            let same = counts_here in omega (arith, low, same.0)
+
+        module _ (first : ℕ) (first_is : first ≡ get_or heads code first) where
+          first_here : first ≡ get_or heads (code_of literal) 0
+          first_here = read_at heads code first 0 code_within first_is ∙ ap (λ (n : ℕ). get_or heads n 0) code_is
+
+          pub links_then_moved : AreLinks inside.variables (set heads code mark) (set next node first) (set inside.nodes.watched node literal) inside.walked inside.before
+          links_then_moved = rw code_is
+              (links_moved inside.variables inside.heads.items inside.nodes.next inside.nodes.watched inside.walked inside.before links node (begins.0) begins_here
+              heads next heads_here next_here literal (over_here literal over) apart_here mark mark_is first first_here)
+
+          pub view_moved : ◌≡◌ {A = LinksView} (record (view_of inside) {
+            watched = set inside.nodes.watched node literal;
+            ahead = chain_of (length (set next node first)) (set next node first) (link_at (set heads code mark) (set next node first) inside.walked inside.before);
+          })
+              (record old { watched = set old.watched node literal; ahead = drop 1 old.ahead })
+          view_moved = rw (
+            code_is,
+            begins.1,
+            chain_moved inside.variables inside.heads.items inside.nodes.next inside.nodes.watched inside.walked inside.before links node (begins.0) begins_here
+                heads next heads_here next_here literal (over_here literal over) apart_here mark mark_is first first_here,
+          )
+              (ap (λ (v : LinksView). let w : LinksView = record v { watched = set v.watched node literal; ahead = begins.0 } in w) is)
 
   -- two nodes are added
   module _ (none : old.ahead ≡ []) (a b : Literal) (a_over : IsLiteralOver old.variables a) (b_over : IsLiteralOver old.variables b) (apart : a ≢ b)

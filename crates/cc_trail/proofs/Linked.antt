@@ -1,12 +1,13 @@
--- What stays true of links: a walk along a chain begins, goes on and ends, a node is moved to another chain, two are added.
-use Rattle.std.proofs.Common.{◌≡◌, ◌≢◌, ◌∙◌, ℕ, ◌+◌, ◌-◌, ◌*◌, ◌<◌, ◌≤◌, zero, suc, inl, inr, eqb, true, false, List, [], ◌∷◌, ◌++◌, length, get_or, set, refl, sym, subst, ap, arith, length-append}
+-- What stays true of links: a walk along a chain begins, goes on and ends, a node is moved to another chain,
+-- or the last one is taken out, two are added.
+use Rattle.std.proofs.Common.{◌≡◌, ◌≢◌, ◌∙◌, ℕ, ◌+◌, ◌-◌, ◌*◌, ◌<◌, ◌≤◌, zero, suc, inl, inr, eqb, true, false, List, [], ◌∷◌, ◌++◌, length, get_or, set, take, refl, sym, subst, ap, arith, length-append}
 use Rattle.std.specs.Prelude.{◌↔◌, if◌then◌else◌, Bool, replicate, drop}
 use Rattle.std.proofs.lemmas.Bool.Decides.{eqb_tells, leb_tells}
-use Rattle.std.proofs.lemmas.List.{length-set, length-replicate, get_or-set_other, get_or-set_same, get_or_append_left, get_or-append-add}
+use Rattle.std.proofs.lemmas.List.{length-set, length-replicate, length-take-le, get_or-take, get_or-set_other, get_or-set_same, get_or_append_left, get_or-append-add}
 use Rattle.cc_defs.specs.Clauses.{Literal, IsIn, IsLiteralOver}
 use Rattle.cc_trail.specs.Links.{BeginsWith, no_literal, watched_at, code_of}
 use Rattle.cc_trail.specs.LinkParts.{IsChain, chain_of, link_at, heads_relinked, next_relinked, AreLinks}
-use Rattle.cc_trail.proofs.Chains.{chain_within, first_once, chain_set, chain_append, chain_is, IsLess, IsLeft, IsRelinked, walk_of, left_in, relinked}
+use Rattle.cc_trail.proofs.Chains.{chain_within, first_once, chain_set, chain_append, chain_take, chain_is, IsLess, IsLeft, IsRelinked, walk_of, left_in, relinked}
 
 bounds_by : (variables x : ℕ) (sign : Bool) → 0 < x → x ≤ variables → (2 ≤ 2 * x + (if sign then 1 else 0)) × (2 * x + (if sign then 1 else 0) < 2 * variables + 2)
 bounds_by variables x false low high = ((omega arith), (omega arith))
@@ -228,38 +229,106 @@ module _ (variables : ℕ) (heads next : List ℕ) (watched : List Literal) (wal
     pub chain_passed : chain_of (length next) next (get_or next node 0) ≡ rest
     chain_passed = chain_is next (get_or next node 0) rest (here_chain.2)
 
-    module _ (literal : Literal) (over : IsLiteralOver variables literal) (apart : watched_at watched node ≢ literal) where
-      pub code_low : code_of literal < length heads
-      code_low = within_heads literal over
+    elsewhere : (code m : ℕ) → code ≢ walked → IsIn (links.linked.nodes code) m → IsIn (links.linked.nodes walked) m → ⊥
+    elsewhere code m other there here = other (sym (links.linked.watching code m there) ∙ links.linked.watching walked m here)
 
-      code_apart : code_of literal ≢ walked
-      code_apart same = apart (code_injective (watched_at watched node) literal (node_code ∙ sym same))
+    fresh : (code : ℕ) → code ≢ walked → IsIn (links.linked.nodes code) node → ⊥
+    fresh code other there = elsewhere code node other there node_in
 
-      elsewhere : (code m : ℕ) → code ≢ walked → IsIn (links.linked.nodes code) m → IsIn (links.linked.nodes walked) m → ⊥
-      elsewhere code m other there here = other (sym (links.linked.watching code m there) ∙ links.linked.watching walked m here)
+    cut : (others : List ℕ) × IsLess others (links.linked.nodes walked) node ×
+        IsRelinked (heads_relinked heads walked before (get_or next node 0)) (next_relinked next before (get_or next node 0)) walked before links.linked.nodes others rest
+    cut = relinked heads next walked before node (links.linked.nodes walked) rest links.linked.nodes links.walked_low (links.linked.chains walked) here_chain
+        (subst (λ (xs : List ℕ). IsLeft before (links.linked.nodes walked) xs) (left_is (node ∷ rest) begins) (walk.2))
+        (λ code _. links.linked.chains code) elsewhere
 
-      cut : (others : List ℕ) × IsLess others (links.linked.nodes walked) node ×
-          IsRelinked (heads_relinked heads walked before (get_or next node 0)) (next_relinked next before (get_or next node 0)) walked before links.linked.nodes others rest
-      cut = relinked heads next walked before node (links.linked.nodes walked) rest links.linked.nodes links.walked_low (links.linked.chains walked) here_chain
-          (subst (λ (xs : List ℕ). IsLeft before (links.linked.nodes walked) xs) (left_is (node ∷ rest) begins) (walk.2))
-          (λ code _. links.linked.chains code) elsewhere
+    module _ (heads_now next_now : List ℕ) (heads_are : heads_now ≡ heads_relinked heads walked before (get_or next node 0))
+        (next_are : next_now ≡ next_relinked next before (get_or next node 0)) where
+      now : IsRelinked heads_now next_now walked before links.linked.nodes (cut.0) rest
+      now = rw (heads_are, next_are) (cut.2)
 
-      module _ (heads_now next_now : List ℕ) (heads_are : heads_now ≡ heads_relinked heads walked before (get_or next node 0))
-          (next_are : next_now ≡ next_relinked next before (get_or next node 0)) (mark : ℕ) (mark_is : mark ≡ suc node) where
-        now : IsRelinked heads_now next_now walked before links.linked.nodes (cut.0) rest
-        now = rw (heads_are, next_are) (cut.2)
+      pub counts : (length heads_now ≡ length heads) × (length next_now ≡ length next)
+      counts = rw (heads_are, next_are) (counts_of before)
+        where
+          counts_of : (b : ℕ) → (length (heads_relinked heads walked b (get_or next node 0)) ≡ length heads) × (length (next_relinked next b (get_or next node 0)) ≡ length next)
+          counts_of zero = (length-set heads walked (get_or next node 0), refl)
+          counts_of (suc b) = (refl, length-set next b (get_or next node 0))
 
-        pub counts : (length heads_now ≡ length heads) × (length next_now ≡ length next)
-        counts = rw (heads_are, next_are) (counts_of before)
+      -- the last node is in no chain any more, and the lists end before it
+      module _ (last : suc node ≡ length next) where
+        cut_short : (head : ℕ) (xs : List ℕ) → IsChain next_now head xs → (IsIn xs node → ⊥) → IsChain (take node next_now) head xs
+        cut_short head xs chain not_here = chain_take next_now head xs node (last ∙ sym (counts.1)) chain not_here
+
+        watched_short : (m : ℕ) → m < node → watched_at (take node watched) m ≡ watched_at watched m
+        watched_short m low = get_or-take node watched m no_literal low
+
+        watching_short : (n m : ℕ) → IsIn (links.linked.nodes n) m → m ≢ node → code_of (watched_at (take node watched) m) ≡ n
+        watching_short n m here other =
+            let within : m < length next = chain_within next (get_or heads n 0) (links.linked.nodes n) m (links.linked.chains n) here in
+            ap code_of (watched_short m (omega arith)) ∙ links.linked.watching n m here
+
+        chains_removed : (n : ℕ) → IsChain (take node next_now) (get_or heads_now n 0) (changed walked walked (cut.0) (cut.0) links.linked.nodes n)
+        chains_removed =
+            let here : IsChain (take node next_now) (get_or heads_now walked 0) (cut.0) = cut_short (get_or heads_now walked 0) (cut.0) now.chain (cut.1).once in
+            changed_each (λ (n : ℕ) (xs : List ℕ). IsChain (take node next_now) (get_or heads_now n 0) xs) walked walked (cut.0) (cut.0) links.linked.nodes here here
+            (λ n other _. cut_short (get_or heads_now n 0) (links.linked.nodes n) (now.apart n other) (fresh n other))
+
+        watching_removed : (n : ℕ) → (m : ℕ) → IsIn (changed walked walked (cut.0) (cut.0) links.linked.nodes n) m → code_of (watched_at (take node watched) m) ≡ n
+        watching_removed =
+            changed_each (λ (n : ℕ) (xs : List ℕ). (m : ℕ) → IsIn xs m → code_of (watched_at (take node watched) m) ≡ n) walked walked (cut.0) (cut.0) links.linked.nodes
+            here here (λ n other _ m there. watching_short n m there (λ e. fresh n other (subst (λ (k : ℕ). IsIn (links.linked.nodes n) k) e there)))
           where
-            counts_of : (b : ℕ) → (length (heads_relinked heads walked b (get_or next node 0)) ≡ length heads) × (length (next_relinked next b (get_or next node 0)) ≡ length next)
-            counts_of zero = (length-set heads walked (get_or next node 0), refl)
-            counts_of (suc b) = (refl, length-set next b (get_or next node 0))
+            here : (m : ℕ) → IsIn (cut.0) m → code_of (watched_at (take node watched) m) ≡ walked
+            here m there = watching_short walked m ((cut.1).wider m there) (λ e. (cut.1).once (subst (λ (k : ℕ). IsIn (cut.0) k) e there))
 
-        module _ (link : ℕ) (link_is : link ≡ get_or heads_now (code_of literal) 0) where
-          fresh : (code : ℕ) → code ≢ walked → IsIn (links.linked.nodes code) node → ⊥
-          fresh code other there = elsewhere code node other there node_in
+        listed_removed : (m : ℕ) → m < node → IsIn (changed walked walked (cut.0) (cut.0) links.linked.nodes (code_of (watched_at (take node watched) m))) m
+        listed_removed m low = rw (watched_short m low) (still (code_of (watched_at watched m)) (links.linked.listed m (omega arith)))
+          where
+            still : (n : ℕ) → IsIn (links.linked.nodes n) m → IsIn (changed walked walked (cut.0) (cut.0) links.linked.nodes n) m
+            still n here = elim (eqb_tells n walked) [
+              | inl same ↦ rw (same.1) (rw (changed_second walked walked (cut.0) (cut.0) links.linked.nodes)
+                  (elim ((cut.1).narrower m (subst (λ (k : ℕ). IsIn (links.linked.nodes k) m) (same.1) here)) [
+                    | inl is ↦ absurd (omega arith)
+                    | inr there ↦ there
+                  ]))
+              | inr other ↦
+                  subst (λ (xs : List ℕ). IsIn xs m) (sym (changed_other walked walked (cut.0) (cut.0) links.linked.nodes n (other.1) (other.1))) here
+            ]
 
+        next_short : length (take node next_now) ≡ node
+        next_short = let same = counts.1 in length-take-le node next_now (omega arith)
+
+        watched_count : length (take node watched) ≡ node
+        watched_count = let count = links.next_count in length-take-le node watched (omega arith)
+
+        pub links_removed : AreLinks variables heads_now (take node next_now) (take node watched) 0 0
+        links_removed = record {
+          variables_few = links.variables_few;
+          heads_count = counts.0 ∙ links.heads_count;
+          next_count = next_short ∙ sym watched_count;
+          next_few = let few = links.next_few in let count = next_short in omega arith;
+          over = λ m within.
+              let count = watched_count in
+              let before_count = links.next_count in
+              let low : m < node = omega arith in
+              rw (watched_short m low) (links.over m (omega arith));
+          walked_low = let count = links.heads_count in let same = counts.0 in omega arith;
+          linked = record {
+            nodes = changed walked walked (cut.0) (cut.0) links.linked.nodes;
+            chains = chains_removed;
+            watching = watching_removed;
+            listed = λ m within. listed_removed m (subst (λ (n : ℕ). m < n) next_short within);
+            passed = λ m none. absurd (omega arith);
+          };
+        }
+
+      module _ (literal : Literal) (over : IsLiteralOver variables literal) (apart : watched_at watched node ≢ literal) where
+        pub code_low : code_of literal < length heads
+        code_low = within_heads literal over
+
+        code_apart : code_of literal ≢ walked
+        code_apart same = apart (code_injective (watched_at watched node) literal (node_code ∙ sym same))
+
+        module _ (mark : ℕ) (mark_is : mark ≡ suc node) (link : ℕ) (link_is : link ≡ get_or heads_now (code_of literal) 0) where
           -- a chain that the node is not in
           kept : (head : ℕ) (xs : List ℕ) → IsChain next_now head xs → (IsIn xs node → ⊥) → IsChain (set next_now node link) head xs
           kept head xs chain not_here = chain_set next_now head xs node link chain not_here

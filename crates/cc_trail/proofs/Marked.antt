@@ -1,12 +1,13 @@
 -- What the marks of variables tell of their steps, and how they stay right.
 use Rattle.std.proofs.Common.{◌≡◌, ◌≢◌, ◌∙◌, ℕ, ◌+◌, ◌-◌, ◌*◌, ◌/◌, ◌%◌, ◌<◌, ◌≤◌, zero, suc, inl, inr, Bool, true, false, List, [], ◌∷◌, ◌++◌, length, get_or, set, replicate, Option, Some, None, refl, sym, ap, arith, length-set}
-use Rattle.std.specs.Prelude.{if◌then◌else◌, not}
+use Rattle.std.specs.Prelude.{if◌then◌else◌, not, option_map}
 use Rattle.std.proofs.lemmas.Bool.Decides.{eqb_tells}
 use Rattle.std.proofs.lemmas.List.{length-replicate, get_or-set_other, get_or-set_same}
 use Rattle.cc_defs.specs.Clauses.{Literal, opposite, IsIn}
 use Rattle.cc_trail.specs.declared.entries.Step.{Step}
 use Rattle.cc_trail.specs.Steps.{step_of, AreApart}
 use Rattle.cc_trail.specs.EntryParts.{mark_of, AreMarked}
+use Rattle.cc_trail.specs.Trails.{level_of_step}
 use Rattle.cc_trail.specs.EntrySteps.{is_true_by, IsValued}
 use Rattle.cc_trail.proofs.Linked.{same_literal}
 use Rattle.cc_trail.proofs.StepLists.{step_found, none_of, of_none, apart_pop}
@@ -106,3 +107,17 @@ open_by steps literal mark (Some step) found_is mark_is low = absurd (past step.
     past : (q : Bool) → mark ≡ 2 * (step.level + 1) + (if q then 1 else 0) → ⊥
     past true e = absurd (omega arith)
     past false e = absurd (omega arith)
+
+-- ---- what a mark tells of a variable
+
+pub no_level_by : (mark : ℕ) (found : Option Step) → mark ≡ mark_of found → mark < 2 → None ≡ option_map level_of_step found
+no_level_by mark None is low = refl
+no_level_by mark (Some step) is low = absurd (omega arith)
+
+pub level_by : (mark : ℕ) (found : Option Step) → mark ≡ mark_of found → 2 ≤ mark → Some (mark / 2 - 1) ≡ option_map level_of_step found
+level_by mark None is high = absurd (omega arith)
+level_by mark (Some step) is high = ap (λ (n : ℕ). Some n) (level step.lit.positive is)
+  where
+    level : (q : Bool) → mark ≡ 2 * (step.level + 1) + (if q then 1 else 0) → mark / 2 - 1 ≡ step.level
+    level true e = omega arith
+    level false e = omega arith

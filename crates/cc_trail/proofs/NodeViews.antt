@@ -1,12 +1,10 @@
 -- What the holder of nodes sees after one of them has changed.
-use Rattle.std.proofs.Common.{◌≡◌, ◌∙◌, ℕ, List, get_or, set, map, refl, subst, ap}
+use Rattle.std.proofs.Common.{◌≡◌, ℕ, List, get_or, set, map, refl, subst, ap}
 use Rattle.std.proofs.lemmas.List.{map-set}
 use Rattle.std.proofs.Math.Seq.{map-set_same}
-use Rattle.cc_defs.specs.Clauses.{Literal}
 use Rattle.cc_trail.specs.Links.{NodesView}
-use Rattle.cc_trail.specs.NodeParts.{next_of, literal_of, view_of}
+use Rattle.cc_trail.specs.NodeParts.{next_of, literal_of}
 use Rattle.cc_trail.specs.declared.nodes.Node.{Node}
-use Rattle.cc_trail.specs.declared.nodes.Nodes.TheInside.{Inside}
 
 -- nodes in a list, as their holder sees them
 abbrev pub seen : List Node → NodesView

@@ -2,22 +2,24 @@
 use Rattle.std.proofs.Common.{◌≡◌, ◌∙◌, ℕ, ◌-◌, ◌*◌, ◌<◌, ◌≤◌, suc, inl, inr, List, [], ◌∷◌, length, take, get_or, Option, Some, None, option_map, refl, sym, subst, ap, arith}
 use Rattle.std.specs.Prelude.{◌⊎◌, Contains, slice_get, IfNone}
 use Rattle.std.proofs.lemmas.List.{length-map, take_all}
-use Rattle.std.proofs.lemmas.Option.{slice_get-get_or}
+use Rattle.std.proofs.lemmas.Option.{slice_get-get_or, slice_get_within}
 use Rattle.cc_defs.specs.Clauses.{Literal, IsNumbered, IsIn}
 use Rattle.cc_defs.specs.Assignments.{IsClosed, IsTrueIn, HasNoValue}
 use Rattle.cc_kernel.specs.Kernels.{KernelView, Entry, clauses_of}
 use Rattle.cc_trail.specs.declared.entries.Step.{Step}
 use Rattle.cc_trail.specs.declared.trail.Trail.TheInside.{Inside}
 use Rattle.cc_trail.specs.Links.{LinksView, watched_at}
+use Rattle.cc_trail.specs.Pairs.{PairsView, IsPaired, ArePaired, AreFollowed, other_in}
 use Rattle.cc_trail.specs.Steps.{EntriesView, AreApart, step_of, sign_of, values_of}
 use Rattle.cc_trail.specs.Watches.{IsFalseBy, IsWatched, IsShort, IsMetForGood, partner}
-use Rattle.cc_trail.specs.Trails.{TrailView, Fits, IsSettled, number_of}
+use Rattle.cc_trail.specs.Trails.{TrailView, Fits, IsCovered, IsSettled, number_of}
 use Rattle.cc_trail.specs.TrailParts.{view_of, AreParts}
 use Rattle.cc_trail.specs.Visits.{AreSound, AreGrown, AreWatched, IsMet}
 use Rattle.cc_trail.proofs.StepLists.{in_take, levels_most, step_found, found_step}
 use Rattle.cc_trail.proofs.Attaching.{half_first, partner_first, partner_second}
 use Rattle.cc_trail.proofs.Adding.{Spares, not_failed, not_unit}
-use Rattle.cc_trail.proofs.Growing.{same_or_opposite, grown_in, grown_then}
+use Rattle.cc_trail.proofs.Covered.{all_spare}
+use Rattle.cc_trail.proofs.Growing.{same_or_opposite, grown_in, grown_then, followed_grown}
 use Rattle.cc_trail.proofs.Values.{good_more}
 use Rattle.cc_trail.proofs.Visiting.{numbered_same}
 
@@ -44,10 +46,12 @@ place_in [] n none = elim none [ ]
 place_in (m ∷ ns) n (inl same) = (0, omega arith, same)
 place_in (m ∷ ns) n (inr here) = let (k, within, at) = place_in ns n here in (suc k, omega (arith, within), at)
 
-module _ (kernel : KernelView) (shorts longs : List ℕ) (visited : ℕ) (entries : EntriesView) (links : LinksView) (sound : AreSound kernel entries)
-    (watched : AreWatched kernel longs visited entries links) (all : visited ≡ length entries.steps)
+module _ (kernel : KernelView) (shorts longs : List ℕ) (visited : ℕ) (entries : EntriesView) (links : LinksView) (pairs : PairsView) (sound : AreSound kernel entries)
+    (watched : AreWatched kernel longs visited entries links) (paired : ArePaired (clauses_of kernel) pairs) (followed : AreFollowed pairs (take visited entries.steps) entries.steps)
+    (all : visited ≡ length entries.steps)
     (met : (number : ℕ) → IsIn shorts number → IsMet (clauses_of kernel) entries.steps number)
-    (each : (number : ℕ) → 0 < number → number ≤ length (clauses_of kernel) → IsIn shorts number ⊎ IsIn longs number) where
+    (each : (number : ℕ) → 0 < number → number ≤ length (clauses_of kernel) →
+    IsIn shorts number ⊎ (IsIn longs number ⊎ (IsPaired pairs number ⊎ IsCovered (clauses_of kernel) number))) where
   watched_all : (node : ℕ) → node < length links.watched → IsWatched entries.steps entries.steps links.watched node
   watched_all node low =
       subst (λ (steps : List Step). IsWatched steps entries.steps links.watched node) (take_all visited entries.steps (omega arith)) (watched.watches node low)
@@ -101,15 +105,54 @@ module _ (kernel : KernelView) (shorts longs : List ℕ) (visited : ℕ) (entrie
       spares_node (2 * k) (omega arith) (rw (partner_first k) (omega arith)) (ap partner (partner_first k) ∙ partner_second k) clause
       (subst (λ (n : ℕ). IsNumbered (clauses_of kernel) n clause) (sym at ∙ ap (λ (j : ℕ). get_or longs j 0) (sym (half_first k))) numbered)
 
+  followed_all : AreFollowed pairs entries.steps entries.steps
+  followed_all = subst (λ (steps : List Step). AreFollowed pairs steps entries.steps) (take_all visited entries.steps (omega arith)) followed
+
+  spares_pair : (number : ℕ) (clause : List Literal) → IsNumbered (clauses_of kernel) number clause → IsPaired pairs number → Spares (values_of entries.steps) clause
+  spares_pair number clause numbered (a, b, apart, ab, ba) =
+      let (other, other_numbered, a_in, b_in, only) = paired a (other_in b number) ab in
+      let same = numbered_same (clauses_of kernel) number other clause other_numbered numbered in
+      let one = subst (λ (c : List Literal). Contains c a) same a_in in
+      let two = subst (λ (c : List Literal). Contains c b) same b_in in
+      elim (value_tells entries.steps a (step_of entries.steps a.variable) refl) [
+        | inr valued ↦ elim valued [
+          | inl (step, among, is) ↦ inl (a, one, true_by entries.steps sound.are_steps.apart a step among is)
+          | inr (step, among, is) ↦
+              let true_is = followed_all a (other_in b number) ab step among is in
+              inl (b, two, true_by entries.steps sound.are_steps.apart b true_is.0 true_is.1 true_is.2)
+        ]
+        | inl a_open ↦ elim (value_tells entries.steps b (step_of entries.steps b.variable) refl) [
+          | inl b_open ↦ inr (a, b, apart, one, two, a_open, b_open)
+          | inr valued ↦ elim valued [
+            | inl (step, among, is) ↦ inl (b, two, true_by entries.steps sound.are_steps.apart b step among is)
+            | inr (step, among, is) ↦
+                let true_is = followed_all b (other_in a number) ba step among is in
+                inl (a, one, true_by entries.steps sound.are_steps.apart a true_is.0 true_is.1 true_is.2)
+          ]
+        ]
+      ]
+
+  near : (number : ℕ) (clause : List Literal) → IsNumbered (clauses_of kernel) number clause → Spares (values_of entries.steps) clause ⊎ IsCovered (clauses_of kernel) number
+  near number clause numbered =
+      let some = numbered.0 in
+      let low = slice_get_within (clauses_of kernel) (number - 1) clause numbered.1 in
+      elim (each number some (omega (arith, some, low))) [
+        | inl here ↦ inl (spares_short number clause numbered here)
+        | inr rest ↦ elim rest [
+          | inl here ↦ inl (spares_long number clause numbered here)
+          | inr others ↦ elim others [
+            | inl here ↦ inl (spares_pair number clause numbered here)
+            | inr covered ↦ inr covered
+          ]
+        ]
+      ]
+
   spares : (clause : List Literal) → Contains (clauses_of kernel) clause → Spares (values_of entries.steps) clause
   spares clause (k, within, at) =
       let back : k ≡ suc k - 1 = omega arith in
       let numbered : IsNumbered (clauses_of kernel) (suc k) clause =
       (omega arith, subst (λ (n : ℕ). slice_get (clauses_of kernel) n ≡ Some clause) back (slice_get-get_or (clauses_of kernel) k clause within ∙ ap (λ (c : List Literal). Some c) at)) in
-      elim (each (suc k) (omega arith) (omega arith)) [
-        | inl here ↦ spares_short (suc k) clause numbered here
-        | inr here ↦ spares_long (suc k) clause numbered here
-      ]
+      all_spare (values_of entries.steps) (clauses_of kernel) near (suc k) clause numbered
 
   pub closed_then : IsClosed (values_of entries.steps) (clauses_of kernel)
   closed_then = record {
@@ -143,6 +186,10 @@ module _ (inside : Inside) (old : TrailView) (is : view_of inside ≡ old) (part
     watches = fits_here.clauses.watches;
   }
 
+  pub followed_still : (entries : EntriesView) → AreGrown inside.entries entries → AreFollowed inside.pairs (take inside.visited entries.steps) entries.steps
+  followed_still entries grown =
+      followed_grown inside.pairs inside.visited inside.entries entries grown parts.trail_is.visited fits_here.clauses.followed
+
   good_here : (entries : EntriesView) → AreGrown inside.entries entries → (number : ℕ) → IsIn (take inside.met inside.shorts.items) number →
       IsMetForGood (clauses_of kernel) entries.steps number
   good_here entries grown number here =
@@ -173,13 +220,15 @@ module _ (inside : Inside) (old : TrailView) (is : view_of inside ≡ old) (part
           let levels = sound.are_steps.levels in
           (clause, numbered, literal, member, (step, grown_in made entries two step among, lit_is, omega (arith, low)))
 
-  each_here : old.attached ≡ length kernel.entries → (number : ℕ) → 0 < number → number ≤ length (clauses_of kernel) → IsIn inside.shorts.items number ⊎ IsIn inside.longs.items number
+  each_here : old.attached ≡ length kernel.entries → (number : ℕ) → 0 < number → number ≤ length (clauses_of kernel) →
+      IsIn inside.shorts.items number ⊎ (IsIn inside.longs.items number ⊎ (IsPaired inside.pairs number ⊎ IsCovered (clauses_of kernel) number))
   each_here attached number some most =
       let here : inside.attached ≡ old.attached = ap (λ (v : TrailView). v.attached) is in
       let count : length (clauses_of kernel) ≡ length kernel.entries = length-map kernel.entries (λ (entry : Entry). entry.clause) in
       fits_here.clauses.each number some (omega arith)
 
   pub fits_then : (visited met : ℕ) (entries : EntriesView) (links : LinksView) → AreSound kernel entries → AreWatched kernel inside.longs.items visited entries links →
+      AreFollowed inside.pairs (take visited entries.steps) entries.steps →
       (met ≤ length inside.shorts.items) × ((number : ℕ) → IsIn (take met inside.shorts.items) number → IsMetForGood (clauses_of kernel) entries.steps number) →
       Fits (record {
         variables = entries.variables;
@@ -190,9 +239,10 @@ module _ (inside : Inside) (old : TrailView) (is : view_of inside ≡ old) (part
         longs = inside.longs.items;
         met = met;
         watched = links.watched;
+        pairs = inside.pairs;
         visited = visited;
       }) kernel
-  fits_then visited met entries links sound watched good = record {
+  fits_then visited met entries links sound watched followed good = record {
     variables = sound.variables;
     clauses = record {
       attached = fits_here.clauses.attached;
@@ -201,14 +251,17 @@ module _ (inside : Inside) (old : TrailView) (is : view_of inside ≡ old) (part
       met_few = good.0;
       met = good.1;
       longs = watched.watching;
+      pairs = fits_here.clauses.pairs;
       each = fits_here.clauses.each;
       watches = watched.watches;
+      followed = followed;
     };
   }
 
   pub all_closed : (found : Option ℕ) (visited : ℕ) (entries : EntriesView) (links : LinksView) → old.attached ≡ length kernel.entries → AreSound kernel entries →
-      AreWatched kernel inside.longs.items visited entries links → ((number : ℕ) → IsIn inside.shorts.items number → IsMet (clauses_of kernel) entries.steps number) →
+      AreWatched kernel inside.longs.items visited entries links → AreFollowed inside.pairs (take visited entries.steps) entries.steps →
+      ((number : ℕ) → IsIn inside.shorts.items number → IsMet (clauses_of kernel) entries.steps number) →
       IfNone found (visited ≡ length entries.steps) → IfNone found (IsClosed (values_of entries.steps) (clauses_of kernel))
-  all_closed None visited entries links attached sound watched met all =
-      closed_then kernel inside.shorts.items inside.longs.items visited entries links sound watched all met (each_here attached)
-  all_closed (Some number) visited entries links attached sound watched met all = tt
+  all_closed None visited entries links attached sound watched followed met all =
+      closed_then kernel inside.shorts.items inside.longs.items visited entries links inside.pairs sound watched fits_here.clauses.pairs followed all met (each_here attached)
+  all_closed (Some number) visited entries links attached sound watched followed met all = tt

@@ -1,7 +1,7 @@
 -- The clauses of a kernel are attached one after another.
 use Rattle.std.proofs.Common.{◌≡◌, ◌∙◌, ℕ, ◌+◌, [], length, refl, ap, arith}
 use Rattle.cc_kernel.specs.Kernels.{KernelView}
-use Rattle.cc_trail.specs.Trails.{TrailView, Fits, IsNew, IsSettled, IsAttached, empty_over}
+use Rattle.cc_trail.specs.Trails.{TrailView, Fits, IsNew, IsSettled, IsAttached, IsEmptyOver}
 
 pub record IsStarting (trail : TrailView) (kernel : KernelView) (index : ℕ) : Type 0 where
   pub steps : trail.steps ≡ []
@@ -9,8 +9,8 @@ pub record IsStarting (trail : TrailView) (kernel : KernelView) (index : ℕ) : 
   pub attached : trail.attached ≡ index
   pub fits : Fits trail kernel
 
-pub starts : (trail : TrailView) (kernel : KernelView) (variables : ℕ) → trail ≡ empty_over variables → variables ≡ kernel.variables → IsStarting trail kernel 0
-starts trail kernel variables is variables_are = rw is (record {
+pub starts : (trail : TrailView) (kernel : KernelView) (variables : ℕ) → IsEmptyOver variables trail → variables ≡ kernel.variables → IsStarting trail kernel 0
+starts trail kernel variables empty variables_are = rw empty.is (record {
   steps = refl;
   level_count = refl;
   attached = refl;
@@ -23,8 +23,10 @@ starts trail kernel variables is variables_are = rw is (record {
       met_few = omega arith;
       met = λ number none. elim none [ ];
       longs = λ node low. absurd (omega arith);
+      pairs = λ literal other beside. absurd (empty.none literal other beside);
       each = λ number some none. absurd (omega arith);
       watches = λ node low. absurd (omega arith);
+      followed = λ literal other beside. absurd (empty.none literal other beside);
     };
   };
 })

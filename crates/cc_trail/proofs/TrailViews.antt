@@ -31,7 +31,8 @@ module _ (inside : Inside) (old : TrailView) (is : view_of inside ≡ old) (part
         (subst (λ (v : TrailView). step_of v.steps literal.variable ≡ None) (sym is) open_yet) (inr (omega arith))))
 
     pub parts_then : IsLiteralOver old.variables literal → step_of old.steps literal.variable ≡ None →
-        IsTrail (record (view_of inside) { variables = entries.variables; steps = entries.steps; level_count = entries.level_count }) × (inside.links.variables ≡ entries.variables)
+        IsTrail (record (view_of inside) { variables = entries.variables; steps = entries.steps; level_count = entries.level_count }) × (inside.links.variables ≡ entries.variables) ×
+        (inside.pairs.variables ≡ entries.variables)
     parts_then over open_yet = (
       (record {
         are_steps = steps_decided over open_yet;
@@ -42,6 +43,7 @@ module _ (inside : Inside) (old : TrailView) (is : view_of inside ≡ old) (part
         nodes = parts.trail_is.nodes;
       }),
       (parts.variables ∙ ap (λ (e : EntriesView). e.variables) (sym entries_are)),
+      (parts.pairs_variables ∙ ap (λ (e : EntriesView). e.variables) (sym entries_are)),
     )
 
     pub fits_then : (kernel : KernelView) → Fits old kernel →

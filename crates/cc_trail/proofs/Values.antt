@@ -6,6 +6,7 @@ use Rattle.cc_defs.specs.Clauses.{Literal, IsIn}
 use Rattle.cc_defs.specs.Assignments.{Values, IsClosed}
 use Rattle.cc_trail.specs.declared.entries.Step.{Step}
 use Rattle.cc_trail.specs.Links.{watched_at}
+use Rattle.cc_trail.specs.Pairs.{PairsView, AreFollowed}
 use Rattle.cc_trail.specs.Steps.{values_of, values_to, steps_to, AreSteps}
 use Rattle.cc_trail.specs.Watches.{IsTrueBy, IsMetForGood, Watches, HasReason, AreReasonedAfter, partner}
 use Rattle.cc_trail.specs.Trails.{TrailView, FitsClauses, number_of, IsSettledOver, decided, back_at}
@@ -128,6 +129,11 @@ take_left zero steps more within = refl
 take_left (suc n) [] more within = absurd (omega arith)
 take_left (suc n) (step ∷ steps) more within = ap (λ (rest : List Step). step ∷ rest) (take_left n steps more (omega arith))
 
+pub followed_more : (pairs : PairsView) (n : ℕ) (steps more : List Step) → n ≤ length steps → AreFollowed pairs (take n steps) steps →
+    AreFollowed pairs (take n (steps ++ more)) (steps ++ more)
+followed_more pairs n steps more within followed one other beside step here is =
+    true_more steps more other.lit step.level (followed one other beside step (subst (λ (ss : List Step). IsIn ss step) (take_left n steps more within) here) is)
+
 pub fits_decided : (trail : TrailView) (literal : Literal) (clauses : List (List Literal)) → trail.visited ≤ length trail.steps → FitsClauses trail clauses →
     FitsClauses (decided trail literal) clauses
 fits_decided trail literal clauses visited fits =
@@ -141,11 +147,13 @@ fits_decided trail literal clauses visited fits =
       longs = λ node within.
           watches_more clauses trail.steps ((record { lit = literal; level = trail.level_count + 1; reason = None }) ∷ []) (number_of trail.longs node) trail.watched node
           (fits.longs node within);
+      pairs = fits.pairs;
       each = fits.each;
       watches = λ node within step here is.
           true_more trail.steps ((record { lit = literal; level = trail.level_count + 1; reason = None }) ∷ []) (watched_at trail.watched (partner node)) step.level
           (fits.watches node within step
           (subst (λ (ss : List Step). IsIn ss step) (take_left trail.visited trail.steps ((record { lit = literal; level = trail.level_count + 1; reason = None }) ∷ []) visited) here) is);
+      followed = followed_more trail.pairs trail.visited trail.steps ((record { lit = literal; level = trail.level_count + 1; reason = None }) ∷ []) visited fits.followed;
     }
 
 take_fewer_in : (m n : ℕ) (steps more : List Step) (step : Step) → m ≤ n → IsIn (take m steps) step → IsIn (take n (steps ++ more)) step
@@ -178,16 +186,21 @@ fits_back trail level gone clauses front high low fits = record {
           | inr is ↦ inr (still 0 (omega arith) (watched_at trail.watched node) is)
         ];
       };
+  pairs = fits.pairs;
   each = fits.each;
   watches = λ node within step here is.
-      let kept_in : IsIn (steps_to level trail.steps) step = in_take (min trail.visited (length (steps_to level trail.steps))) (steps_to level trail.steps) step here in
-      let step_low : step.level ≤ level = low step kept_in in
-      let before : IsIn (take trail.visited trail.steps) step =
-      subst (λ (ss : List Step). IsIn (take trail.visited ss) step) (sym front)
-      (take_fewer_in (min trail.visited (length (steps_to level trail.steps))) trail.visited (steps_to level trail.steps) gone step (omega arith) here) in
-      still step.level step_low (watched_at trail.watched (partner node)) (fits.watches node within step before is);
+      still step.level (low step (kept_in step here)) (watched_at trail.watched (partner node)) (fits.watches node within step (before step here) is);
+  followed = λ one other beside step here is.
+      still step.level (low step (kept_in step here)) other.lit (fits.followed one other beside step (before step here) is);
 }
   where
+    kept_in : (step : Step) → IsIn (take (min trail.visited (length (steps_to level trail.steps))) (steps_to level trail.steps)) step → IsIn (steps_to level trail.steps) step
+    kept_in step here = in_take (min trail.visited (length (steps_to level trail.steps))) (steps_to level trail.steps) step here
+
+    before : (step : Step) → IsIn (take (min trail.visited (length (steps_to level trail.steps))) (steps_to level trail.steps)) step → IsIn (take trail.visited trail.steps) step
+    before step here = subst (λ (ss : List Step). IsIn (take trail.visited ss) step) (sym front)
+        (take_fewer_in (min trail.visited (length (steps_to level trail.steps))) trail.visited (steps_to level trail.steps) gone step (omega arith) here)
+
     still : (at : ℕ) → at ≤ level → (literal : Literal) → IsTrueBy trail.steps literal at → IsTrueBy (steps_to level trail.steps) literal at
     still at at_low literal (step, here, is, step_low) = elim (in_cases (steps_to level trail.steps) gone step (subst (λ (ss : List Step). IsIn ss step) front here)) [
       | inl kept ↦ (step, kept, is, step_low)

@@ -3,6 +3,8 @@ pub mod EntrySteps
 pub mod LinkParts
 pub mod Links
 pub mod NodeParts
+pub mod PairParts
+pub mod Pairs
 pub mod Steps
 pub mod TrailLaws
 pub mod TrailParts

@@ -13,10 +13,12 @@ view_of trail = record {
   longs = trail.longs.items;
   met = trail.met;
   watched = trail.links.watched;
+  pairs = trail.pairs;
   visited = trail.visited;
 }
 
 pub record AreParts (trail : Inside) : Type 0 where
   pub trail_is : IsTrail (view_of trail)
   pub variables : trail.links.variables ≡ trail.entries.variables
+  pub pairs_variables : trail.pairs.variables ≡ trail.entries.variables
   pub ahead : trail.links.ahead ≡ []

@@ -1,17 +1,18 @@
 -- What the holder of a trail sees of it.
-use Rattle.std.specs.Prelude.{◌≡◌, ◌≢◌, ℕ, ◌+◌, ◌*◌, ◌/◌, ◌<◌, ◌≤◌, ◌⊎◌, List, [], ◌∷◌, ◌++◌, length, Contains, take, get_or, min, Option, Some, None, option_map, Bool, not, if◌then◌else◌}
+use Rattle.std.specs.Prelude.{◌≡◌, ◌≢◌, ℕ, ◌+◌, ◌-◌, ◌*◌, ◌/◌, ◌<◌, ◌≤◌, ◌⊎◌, List, [], ◌∷◌, ◌++◌, length, Contains, take, get_or, min, Option, Some, None, option_map, Bool, not, if◌then◌else◌}
 use Rattle.std.specs.List.{AllByRecursion}
 use Rattle.cc_defs.specs.Clauses.{Literal, IsNumbered, IsIn}
 use Rattle.cc_defs.specs.Assignments.{IsClosed, IsFailed, IsTrueIn, HasNoValue}
 use Rattle.cc_kernel.specs.Kernels.{KernelView, clauses_of}
 use Rattle.cc_trail.specs.declared.entries.Step.{Step}
+use Rattle.cc_trail.specs.Pairs.{PairsView, AddsPair, AreFollowed, AreNone, ArePaired, IsPaired}
 use Rattle.cc_trail.specs.Steps.{AreSteps, steps_to, values_of, values_to}
 use Rattle.cc_trail.specs.Watches.{IsWatched, Watches, AreReasoned, IsShort, IsMetForGood}
 
 -- The number of variables, the steps in order, how many levels were opened, how many clauses are attached, the numbers of
 -- those of fewer than two literals and of the others, how many of the former are known to be met for good, the literal that
--- each node of the watch links watches, and how many steps were visited. The nodes of a long clause are twice its place among
--- them, and the next one.
+-- each node of the watch links watches, what stands beside each literal in clauses of two, and how many steps were visited. The
+-- nodes of a long clause are twice its place among them, and the next one.
 pub record TrailView : Type 0 where
   pub variables : ℕ
   pub steps : List Step
@@ -21,6 +22,7 @@ pub record TrailView : Type 0 where
   pub longs : List ℕ
   pub met : ℕ
   pub watched : List Literal
+  pub pairs : PairsView
   pub visited : ℕ
 
 -- the number of the long clause of a node
@@ -33,6 +35,12 @@ pub record IsTrail (trail : TrailView) : Type 0 where
   pub visited : trail.visited ≤ length trail.steps
   pub nodes : length trail.watched ≡ 2 * length trail.longs
 
+-- a later clause is a part of the clause of this number
+abbrev pub IsCovered : List (List Literal) → ℕ → Type 0
+IsCovered clauses number =
+    (by : ℕ) × (number < by) × (clause : List Literal) × (part : List Literal) × IsNumbered clauses number clause × IsNumbered clauses by part ×
+    ((literal : Literal) → Contains part literal → Contains clause literal)
+
 -- the attached clauses are the first ones of these, the reasons hold for them, and they are watched rightly
 pub record FitsClauses (trail : TrailView) (clauses : List (List Literal)) : Type 0 where
   pub attached : trail.attached ≤ length clauses
@@ -41,8 +49,11 @@ pub record FitsClauses (trail : TrailView) (clauses : List (List Literal)) : Typ
   pub met_few : trail.met ≤ length trail.shorts
   pub met : (number : ℕ) → IsIn (take trail.met trail.shorts) number → IsMetForGood clauses trail.steps number
   pub longs : (node : ℕ) → node < length trail.watched → Watches clauses trail.steps (number_of trail.longs node) trail.watched node
-  pub each : (number : ℕ) → 0 < number → number ≤ trail.attached → IsIn trail.shorts number ⊎ IsIn trail.longs number
+  pub pairs : ArePaired clauses trail.pairs
+  pub each : (number : ℕ) → 0 < number → number ≤ trail.attached →
+      IsIn trail.shorts number ⊎ (IsIn trail.longs number ⊎ (IsPaired trail.pairs number ⊎ IsCovered clauses number))
   pub watches : (node : ℕ) → node < length trail.watched → IsWatched (take trail.visited trail.steps) trail.steps trail.watched node
+  pub followed : AreFollowed trail.pairs (take trail.visited trail.steps) trail.steps
 
 -- a trail fits a kernel
 pub record Fits (trail : TrailView) (kernel : KernelView) : Type 0 where
@@ -105,14 +116,49 @@ pub record IsLong (old new : TrailView) (number : ℕ) (first second : Literal) 
   pub shorts : new.shorts ≡ old.shorts
   pub longs : new.longs ≡ old.longs ++ number ∷ []
   pub met : new.met ≡ old.met
+  pub pairs : new.pairs ≡ old.pairs
   pub watched : new.watched ≡ old.watched ++ first ∷ second ∷ []
   pub fewer : new.visited ≤ old.visited
   pub first_open : (step : Step) → IsIn (take new.visited new.steps) step → step.lit.variable ≢ first.variable
   pub second_open : (step : Step) → IsIn (take new.visited new.steps) step → step.lit.variable ≢ second.variable
 
+-- a clause of two literals is attached, which stand beside one another, and no visited step is of their variables
+pub record IsPairLong (old new : TrailView) (number : ℕ) (first second : Literal) : Type 0 where
+  pub variables : new.variables ≡ old.variables
+  pub steps : new.steps ≡ old.steps
+  pub level_count : new.level_count ≡ old.level_count
+  pub attached : new.attached ≡ number
+  pub shorts : new.shorts ≡ old.shorts
+  pub longs : new.longs ≡ old.longs
+  pub met : new.met ≡ old.met
+  pub watched : new.watched ≡ old.watched
+  pub pairs : AddsPair old.pairs new.pairs first second number
+  pub fewer : new.visited ≤ old.visited
+  pub first_open : (step : Step) → IsIn (take new.visited new.steps) step → step.lit.variable ≢ first.variable
+  pub second_open : (step : Step) → IsIn (take new.visited new.steps) step → step.lit.variable ≢ second.variable
+
+-- a later clause is a part of the last long one
+pub record IsLastCovered (clauses : List (List Literal)) (trail : TrailView) : Type 0 where
+  pub some : 0 < length trail.longs
+  pub covered : IsCovered clauses (get_or trail.longs (length trail.longs - 1) 0)
+
+-- nodes were taken out
+pub record IsDropped (old new : TrailView) : Type 0 where
+  pub variables : new.variables ≡ old.variables
+  pub steps : new.steps ≡ old.steps
+  pub level_count : new.level_count ≡ old.level_count
+  pub attached : new.attached ≡ old.attached
+
+-- the last long clause has no nodes any more
+abbrev pub without_last : TrailView → TrailView
+without_last trail = record trail {
+  longs = take (length trail.longs - 1) trail.longs;
+  watched = take (length trail.watched - 2) trail.watched;
+}
+
 -- no clause is attached, and no variable has a value
-abbrev pub empty_over : ℕ → TrailView
-empty_over variables = record {
+abbrev pub empty_over : ℕ → PairsView → TrailView
+empty_over variables pairs = record {
   variables = variables;
   steps = [];
   level_count = 0;
@@ -121,8 +167,15 @@ empty_over variables = record {
   longs = [];
   met = 0;
   watched = [];
+  pairs = pairs;
   visited = 0;
 }
+
+-- no clause is attached, nothing stands beside a literal, and no variable has a value
+pub record IsEmptyOver (variables : ℕ) (trail : TrailView) : Type 0 where
+  pub pairs : PairsView
+  pub none : AreNone pairs
+  pub is : trail ≡ empty_over variables pairs
 
 -- every clause of a kernel is attached, and no variable has a value
 pub record IsNew (trail : TrailView) (kernel : KernelView) : Type 0 where

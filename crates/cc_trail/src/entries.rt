@@ -1,9 +1,10 @@
 //! The entries of a trail: the literals that became true, in order, each with its level and its reason.
-ghost use Rattle.std.specs.Prelude.{◌≡◌, ◌≢◌, ℕ, ◌+◌, ◌*◌, ◌<◌, if◌then◌else◌, ◌≤◌, ◌++◌, [], ◌∷◌, length, map, take, Some, None, IfOk, slice_get};
+ghost use Rattle.std.specs.Prelude.{◌≡◌, ◌≢◌, ℕ, ◌+◌, ◌*◌, ◌<◌, if◌then◌else◌, ◌≤◌, ◌++◌, [], ◌∷◌, length, map, take, Some, None, IfOk, option_map, slice_get};
 ghost use Rattle.cc_defs.specs.Clauses.{IsIn, IsLiteralOver};
 ghost use Rattle.cc_defs.specs.Limits.{most_variables};
 ghost use Rattle.cc_trail.specs.Steps.{EntriesView, AreSteps, step_of, level_after};
 ghost use Rattle.cc_trail.specs.EntryParts.{literal_of_step};
+ghost use Rattle.cc_trail.specs.Trails.{level_of_step, value_of};
 ghost use Rattle.cc_trail.specs.EntrySteps.{IsPopped, IsBack, is_true_by, Stands};
 
 use cc_defs::{Lit, OutOfMemory};
@@ -177,6 +178,30 @@ impl Entries {
             is_true: is_true(mark, lit.is_positive()),
             level: mark / 2 - 1,
         })
+    }
+
+    /// The level at which a variable got its value.
+    pub fn level_of(&self, variable: u32) -> Option<u32>
+        requires { variable ≤ self.now.variables }
+        ensures { result ≡ option_map level_of_step (step_of self.now.steps variable) }
+    {
+        let mark = self.marks[variable as usize];
+        if mark < 2 {
+            return None;
+        }
+        Some(mark / 2 - 1)
+    }
+
+    /// Whether a literal is true, if its variable has a value.
+    pub fn value(&self, lit: Lit) -> Option<bool>
+        requires { lit.variable ≤ self.now.variables }
+        ensures { result ≡ value_of self.now.steps lit }
+    {
+        let mark = self.marks[lit.variable() as usize];
+        if mark < 2 {
+            return None;
+        }
+        Some(is_true(mark, lit.is_positive()))
     }
 
     /// A place before which no step is one of the variable: that of its step, or the end.

@@ -5,6 +5,7 @@ mod entries;
 pub mod laws;
 mod links;
 mod nodes;
+mod pairs;
 mod propagation;
 mod trail;
 mod visits;

@@ -1,5 +1,5 @@
 //! Watch links: for each literal the chain of the nodes that watch it.
-ghost use Rattle.std.specs.Prelude.{◌≡◌, ◌≢◌, ℕ, ◌+◌, ◌*◌, ◌<◌, ◌≤◌, ◌++◌, [], ◌∷◌, length, set, drop, Contains, IfOk, IfSome, IfNone, OnOk, OnErr, Ok};
+ghost use Rattle.std.specs.Prelude.{◌≡◌, ◌≢◌, ℕ, ◌+◌, ◌-◌, ◌*◌, ◌<◌, ◌≤◌, ◌++◌, [], ◌∷◌, length, set, take, drop, Contains, IfOk, IfSome, IfNone, OnOk, OnErr, Ok};
 ghost use Rattle.cc_defs.specs.Clauses.{Literal, IsIn, IsLiteralOver};
 ghost use Rattle.cc_defs.specs.Limits.{most_variables};
 ghost use Rattle.cc_trail.specs.Links.{LinksView, NodesView, AreAhead, BeginsWith, code_of, watched_at};
@@ -12,6 +12,9 @@ use std::marker::Model;
 
 // Nodes are numbered below this, so that a link fits.
 const MOST_NODES: usize = 4294966000;
+
+// So far from the first node of its chain a node is near.
+const NEAR: u32 = 16;
 
 /// The watched literals of clauses, and for each literal the chain of the nodes that watch it. A head and a link are 0
 /// at a chain's end, and else one more than the next node.
@@ -39,8 +42,8 @@ impl Model for Links {
     ghost invariant = { IsLinks };
 }
 
-// A literal as a number: twice its variable, and one more where it is positive.
-fn code(lit: Lit) -> usize
+/// A literal as a number: twice its variable, and one more where it is positive.
+pub fn code(lit: Lit) -> usize
     ensures { result ≡ code_of lit }
 {
     2 * lit.variable() as usize + usize::from(lit.is_positive())
@@ -180,6 +183,64 @@ impl Links {
     pub fn end(&mut self)
         ensures { self.new ≡ record self.old { ahead = [] } }
     {
+        self.walked = 0;
+        self.before = 0;
+    }
+
+    /// Whether a node is one of the first of its chain. Nothing is claimed of it: where one that is far from the first is taken
+    /// out, that takes long.
+    pub fn is_near(&self, node: u32) -> bool
+        requires { node < length self.now.watched }
+    {
+        let mut link = self.heads[code(self.watched(node))];
+        for _ in 0..NEAR {
+            match link.checked_sub(1) {
+                Some(other) => if other == node {
+                    return true;
+                } else if (other as usize) < self.nodes.count() {
+                    link = self.nodes.next(other as usize);
+                },
+                None => return false,
+            }
+        }
+        false
+    }
+
+    // Walks to a node.
+    fn walk_to(&mut self, node: u32)
+        requires { node < length self.old.watched }
+        ensures watched { self.new.watched ≡ self.old.watched }
+        ensures variables { self.new.variables ≡ self.old.variables }
+        ensures first { BeginsWith self.new.ahead node }
+    {
+        self.begin(self.watched(node));
+        while let Some(other) = self.current() {
+            if other == node {
+                return;
+            }
+            self.pass(other);
+        }
+    }
+
+    /// Takes the last node out of its chain. No walk goes on then.
+    pub fn remove_last(&mut self)
+        requires none { self.old.ahead ≡ [] }
+        requires some { 0 < length self.old.watched }
+        ensures { self.new ≡ record self.old {
+          watched = take (length self.old.watched - 1) self.old.watched;
+        } }
+    {
+        let last = self.nodes.count() - 1;
+        self.walk_to(last as u32);
+        let link = self.nodes.next(last);
+        relink(
+            &mut self.heads,
+            &mut self.nodes,
+            self.walked,
+            self.before,
+            link,
+        );
+        self.nodes.remove_last();
         self.walked = 0;
         self.before = 0;
     }

@@ -1,5 +1,5 @@
 //! The nodes of chains: for each the link to the next one, and the literal that it watches.
-ghost use Rattle.std.specs.Prelude.{◌≡◌, ℕ, ◌<◌, ◌++◌, [], ◌∷◌, length, set, get_or, OnOk, OnErr};
+ghost use Rattle.std.specs.Prelude.{◌≡◌, ℕ, ◌-◌, ◌<◌, ◌++◌, [], ◌∷◌, length, set, take, get_or, OnOk, OnErr};
 ghost use Rattle.cc_defs.specs.Clauses.{Literal};
 ghost use Rattle.cc_trail.specs.Links.{NodesView, watched_at};
 
@@ -80,6 +80,16 @@ impl Nodes {
         } }
     {
         self.nodes[node] = Node { next, lit };
+    }
+
+    /// Takes the last node away.
+    pub fn remove_last(&mut self)
+        ensures { self.new ≡ record {
+          next = take (length self.old.next - 1) self.old.next;
+          watched = take (length self.old.watched - 1) self.old.watched;
+        } }
+    {
+        let _ = self.nodes.pop();
     }
 
     /// Adds two nodes, with the links to what is next of them and the literals that they watch.

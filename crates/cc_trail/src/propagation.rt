@@ -4,11 +4,13 @@ ghost use Rattle.cc_kernel.specs.Kernels.{clauses_of};
 ghost use Rattle.cc_defs.specs.Clauses.{IsIn};
 ghost use Rattle.cc_trail.specs.Watches.{IsShort};
 ghost use Rattle.cc_trail.specs.Trails.{IsFailedClause};
+ghost use Rattle.cc_trail.specs.Pairs.{AreFollowed, ArePaired};
 ghost use Rattle.cc_trail.specs.Visits.{AreSound, AreGrown, AreWatched, IsMet};
 
 use crate::entries::Entries;
 use crate::links::Links;
-use crate::visits::{make_true, visit_step};
+use crate::pairs::Pairs;
+use crate::visits::{make_true, visit_pairs, visit_step};
 use cc_kernel::Kernel;
 
 // Makes the literal of a clause of fewer than two literals true. The clause's number where it is false.
@@ -77,14 +79,21 @@ pub fn visit_steps(
     longs: &[u32],
     entries: &mut Entries,
     links: &mut Links,
+    pairs: &Pairs,
     visited: &mut usize,
 ) -> Option<u32>
+    requires variables { pairs.now.variables ≡ entries.old.variables }
     requires sound { AreSound kernel.now entries.old }
     requires watched { AreWatched kernel.now longs.now visited.old entries.old links.old }
+    requires paired { ArePaired (clauses_of kernel.now) pairs.now }
+    requires followed { AreFollowed
+        pairs.now (take visited.old entries.old.steps) entries.old.steps }
     requires none { links.old.ahead ≡ [] }
     ensures grown { AreGrown entries.old entries.new }
     ensures sound { AreSound kernel.now entries.new }
     ensures watched { AreWatched kernel.now longs.now visited.new entries.new links.new }
+    ensures followed { AreFollowed
+        pairs.now (take visited.new entries.new.steps) entries.new.steps }
     ensures none { links.new.ahead ≡ [] }
     ensures all { IfNone result (visited.new ≡ length entries.new.steps) }
     ensures failed { IfSome result (λ number.
@@ -92,6 +101,9 @@ pub fn visit_steps(
 {
     while *visited < entries.count() {
         if let Some(number) = visit_step(kernel, longs, *visited, entries, links) {
+            return Some(number);
+        }
+        if let Some(number) = visit_pairs(kernel, pairs, *visited, entries) {
             return Some(number);
         }
         *visited += 1;

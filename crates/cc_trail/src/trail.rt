@@ -1,15 +1,15 @@
 //! A trail: what is true and false, by levels of decisions, and propagation over the clauses of a kernel.
-ghost use Rattle.std.specs.Prelude.{◌≡◌, ◌≢◌, ◌+◌, ◌<◌, ◌≤◌, [], ◌∷◌, ◌++◌, length, map, None, IfOk, IfSome, IfNone, OnOk, OnErr, option_map, option_and_then};
+ghost use Rattle.std.specs.Prelude.{◌≡◌, ◌≢◌, ℕ, ◌+◌, ◌*◌, ◌<◌, ◌≤◌, false, [], ◌∷◌, ◌++◌, length, map, None, IsTrue, Contains, IfOk, IfSome, IfNone, OnOk, OnErr, option_map, option_and_then};
 ghost use Rattle.cc_defs.specs.Assignments.{IsClosed};
-ghost use Rattle.cc_defs.specs.Limits.{most_variables};
 ghost use Rattle.cc_kernel.specs.Kernels.{KernelView, clauses_of, IsThere};
 ghost use Rattle.cc_trail.specs.EntryParts.{literal_of_step};
-ghost use Rattle.cc_defs.specs.Clauses.{IsLiteralOver};
+ghost use Rattle.cc_defs.specs.Clauses.{Literal, IsClause, IsLiteralOver};
 ghost use Rattle.cc_trail.specs.Steps.{AreSteps, step_of, values_of};
-ghost use Rattle.cc_trail.specs.Trails.{TrailView, Fits, IsSettled, IsNew, empty_over, IsAttached, IsLong, IsPropagated, IsFailedClause, value_of, level_of_step, reason_of_step, decided, back_at};
+ghost use Rattle.cc_trail.specs.Trails.{TrailView, Fits, IsSettled, IsNew, IsEmptyOver, IsAttached, IsLong, IsPairLong, IsLastCovered, IsDropped, IsPropagated, IsFailedClause, value_of, level_of_step, reason_of_step, decided, back_at, without_last};
 
 use crate::entries::Entries;
 use crate::links::Links;
+use crate::pairs::Pairs;
 use crate::propagation::{make_shorts, met_for_good, visit_steps};
 use crate::watches::{Pair, best_two};
 use cc_defs::{Lit, OutOfMemory};
@@ -17,11 +17,30 @@ use cc_kernel::Kernel;
 use std::alloc::Global;
 use std::marker::Model;
 
+// Whether a clause has all literals of another one.
+fn is_part(part: &[Lit], clause: &[Lit]) -> bool
+    requires { IsClause clause.now }
+    ensures { IsTrue result → (literal : Literal) →
+        Contains part.now literal → Contains clause.now literal }
+{
+    if part.len() > clause.len() {
+        return false;
+    }
+    for lit in part {
+        if clause.binary_search(lit).is_err() {
+            return false;
+        }
+    }
+    true
+}
+
 /// What is true and false, in the order in which it became so, and the watch links of the attached clauses.
 #[derive(Drop)]
 pub struct Trail {
     entries: Entries,
     links: Links,
+    // The clauses of two literals that were there at first.
+    pairs: Pairs,
     // How many clauses are attached.
     attached: u32,
     // The numbers of the attached clauses of fewer than two literals, and of the others.
@@ -46,14 +65,15 @@ impl Model for Trail {
 }
 
 impl Trail {
-    // A trail to which no clause is attached.
-    fn empty(alloc: Global, variables: u32) -> Result<Trail, OutOfMemory>
-        requires { variables ≤ most_variables }
-        ensures { IfOk result (λ trail. trail ≡ empty_over variables) }
+    // A trail to which no clause is attached, with room for the clauses of a kernel that have two literals.
+    fn empty(alloc: Global, kernel: &Kernel) -> Result<Trail, OutOfMemory>
+        ensures { IfOk result (λ trail. IsEmptyOver kernel.now.variables trail) }
     {
+        let variables = kernel.variables();
         Ok(Trail {
             entries: Entries::new(alloc, variables)?,
             links: Links::new(alloc, variables)?,
+            pairs: Pairs::over(alloc, kernel)?,
             attached: 0,
             shorts: Vec::new(alloc),
             longs: Vec::new(alloc),
@@ -68,7 +88,7 @@ impl Trail {
         ensures fits { IfOk result (λ trail. Fits trail kernel.now) }
         ensures settled { IfOk result (λ trail. IsSettled trail kernel.now) }
     {
-        let mut trail = Trail::empty(alloc, kernel.variables())?;
+        let mut trail = Trail::empty(alloc, kernel)?;
         for index in 0..kernel.count() {
             trail.attach(kernel, index + 1)?;
         }
@@ -85,6 +105,26 @@ impl Trail {
         self.shorts.push(id)?;
         self.attached = id;
         Ok(())
+    }
+
+    // Attaches a clause of two literals that stand beside one another from then on, where there is room; else nothing is done.
+    fn attach_pair(&mut self, id: u32, first: Lit, second: Lit) -> bool
+        requires next { id ≡ self.old.attached + 1 }
+        requires first { IsLiteralOver self.old.variables first }
+        requires second { IsLiteralOver self.old.variables second }
+        requires apart { first ≢ second }
+        ensures attached { IsTrue result → IsPairLong self.old self.new id first second }
+        ensures kept { result ≡ false → self.new ≡ self.old }
+    {
+        if !self.pairs.add(first, second, id) {
+            return false;
+        }
+        self.visited = self
+            .visited
+            .min(self.entries.place(first.variable()))
+            .min(self.entries.place(second.variable()));
+        self.attached = id;
+        true
     }
 
     // Attaches a clause of two or more literals, which watches two of them.
@@ -122,8 +162,72 @@ impl Trail {
         if clause.len() < 2 {
             return self.attach_short(id);
         }
+        if clause.len() == 2 && self.attach_pair(id, clause[0], clause[1]) {
+            return Ok(());
+        }
         let pair = best_two(&self.entries, clause);
         self.attach_long(id, pair)
+    }
+
+    // Whether the last clause that has nodes contains the clause of a number, and its nodes are easily taken out.
+    fn is_last_covered(&self, kernel: &Kernel, id: u32) -> bool
+        requires fits { Fits self.now kernel.now }
+        requires there { IsThere kernel.now id }
+        requires behind { self.now.attached < id }
+        ensures { IsTrue result → IsLastCovered (clauses_of kernel.now) self.now }
+    {
+        match self.longs.last() {
+            Some(number) => {
+                let node = self.links.count() as u32 - 2;
+                *number < id
+                    && is_part(kernel.clause(id), kernel.clause(*number))
+                    && self.links.is_near(node)
+                    && self.links.is_near(node + 1)
+            },
+            None => false,
+        }
+    }
+
+    // Takes the nodes of the last clause that has some out.
+    fn drop_last(&mut self)
+        requires { 0 < length self.old.longs }
+        ensures dropped { self.new ≡ without_last self.old }
+        ensures nodes { length self.old.watched ≡ 2 * length self.old.longs }
+    {
+        let _ = self.longs.pop();
+        self.links.remove_last();
+        self.links.remove_last();
+    }
+
+    // Takes the nodes out of the last clauses that contain the clause of a number, which is to be attached next and stands for
+    // them then: where it leaves one literal, or none, that is true or unit by it. So a row that was denied costs nothing
+    // any more once a line denies it with others.
+    fn drop_covered(&mut self, kernel: &Kernel, id: u32)
+        requires fits { Fits self.old kernel.now }
+        requires there { IsThere kernel.now id }
+        requires behind { self.old.attached < id }
+        ensures dropped { IsDropped self.old self.new }
+        ensures fits { Fits self.new kernel.now }
+        ensures settled { (other : KernelView) →
+            IsSettled self.old other → IsSettled self.new other }
+    {
+        while self.is_last_covered(kernel, id) {
+            self.drop_last();
+        }
+    }
+
+    /// Attaches the next clause of a kernel, which stands for the last ones that contain it from then on.
+    pub fn attach_over(&mut self, kernel: &Kernel, id: u32) -> Result<(), OutOfMemory>
+        requires fits { Fits self.old kernel.now }
+        requires next { id ≡ self.old.attached + 1 }
+        requires there { IsThere kernel.now id }
+        ensures attached { OnOk result (IsAttached self.old self.new) }
+        ensures fits { OnOk result (Fits self.new kernel.now) }
+        ensures settled { OnOk result ((other : KernelView) →
+            IsSettled self.old other → IsSettled self.new other) }
+    {
+        self.drop_covered(kernel, id);
+        self.attach(kernel, id)
     }
 
     /// Opens a level, and makes a literal true at it.
@@ -174,6 +278,7 @@ impl Trail {
             &self.longs,
             &mut self.entries,
             &mut self.links,
+            &self.pairs,
             &mut self.visited,
         )
     }
@@ -183,13 +288,7 @@ impl Trail {
         requires { lit.variable ≤ self.now.variables }
         ensures { result ≡ value_of self.now.steps lit }
     {
-        match self.entries.find(lit.variable()) {
-            Some(step) => {
-                let sign = step.lit.is_positive();
-                Some(if lit.is_positive() { sign } else { !sign })
-            },
-            None => None,
-        }
+        self.entries.value(lit)
     }
 
     /// The level at which a variable got its value.
@@ -197,10 +296,7 @@ impl Trail {
         requires { variable ≤ self.now.variables }
         ensures { result ≡ option_map level_of_step (step_of self.now.steps variable) }
     {
-        match self.entries.find(variable) {
-            Some(step) => Some(step.level),
-            None => None,
-        }
+        self.entries.level_of(variable)
     }
 
     /// The number of the clause by which a variable got its value; none for a decision.
@@ -212,6 +308,14 @@ impl Trail {
             Some(step) => step.reason,
             None => None,
         }
+    }
+
+    /// Whether every variable has a value.
+    pub fn is_full(&self) -> bool
+        ensures { IsTrue result → (variable : ℕ) → 0 < variable →
+            variable ≤ self.now.variables → values_of self.now.steps variable ≢ None }
+    {
+        self.entries.count() == self.entries.variables() as usize
     }
 
     /// How many levels were opened.

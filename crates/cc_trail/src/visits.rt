@@ -5,10 +5,12 @@ ghost use Rattle.cc_defs.specs.Clauses.{IsIn, IsLiteralOver};
 ghost use Rattle.cc_trail.specs.Links.{BeginsWith, watched_at};
 ghost use Rattle.cc_trail.specs.Watches.{IsTrueBy, HasReason, partner};
 ghost use Rattle.cc_trail.specs.Trails.{IsFailedClause};
+ghost use Rattle.cc_trail.specs.Pairs.{AreFollowed, ArePaired};
 ghost use Rattle.cc_trail.specs.Visits.{IsFalseAt, IsBest, IsValue, AreSound, AreGrown, AreWatched, IsVisiting};
 
 use crate::entries::{Entries, Step};
 use crate::links::Links;
+use crate::pairs::Pairs;
 use cc_defs::Lit;
 use cc_kernel::Kernel;
 
@@ -213,6 +215,37 @@ pub fn visit_step(
         if let Some(number) = visit(kernel, longs, place, &step, node, entries, links) {
             links.end();
             return Some(number);
+        }
+    }
+    None
+}
+
+/// Visits what stands beside the literal that a step made false, in clauses of two: it is true from then on. The number of a clause
+/// that is false, if one is met. This comes behind the visit of nodes, since the reasons that those give are better ones to learn from.
+pub fn visit_pairs(
+    kernel: &Kernel,
+    pairs: &Pairs,
+    place: usize,
+    entries: &mut Entries,
+) -> Option<u32>
+    requires within { place < length entries.old.steps }
+    requires variables { pairs.now.variables ≡ entries.old.variables }
+    requires sound { AreSound kernel.now entries.old }
+    requires paired { ArePaired (clauses_of kernel.now) pairs.now }
+    requires followed { AreFollowed pairs.now (take place entries.old.steps) entries.old.steps }
+    ensures grown { AreGrown entries.old entries.new }
+    ensures sound { AreSound kernel.now entries.new }
+    ensures here { AreFollowed pairs.now (take place entries.new.steps) entries.new.steps }
+    ensures next { IfNone result
+        (AreFollowed pairs.now (take (place + 1) entries.new.steps) entries.new.steps) }
+    ensures failed { IfSome result (λ number.
+        IsFailedClause (clauses_of kernel.now) entries.new.steps number) }
+{
+    let _variables = kernel.variables();
+    let fallen = entries.step(place).lit.opposite();
+    for other in pairs.beside(fallen) {
+        if !make_true(entries, other.lit, other.number) {
+            return Some(other.number);
         }
     }
     None

@@ -10,8 +10,8 @@ back_to-requires c =
     c.in_ok-number.ensures.number c.clause.ensures.clause)
     c.level_count-level.result c.highest_but-back.result c.level_count-level.ensures.level_count c.highest_but-back.ensures
 
-pub attach-requires-clause-fits : goal.attach-requires-clause-fits
-attach-requires-clause-fits c =
+pub attach_over-requires-clause-fits : goal.attach_over-requires-clause-fits
+attach_over-requires-clause-fits c =
     fits_then c.args.trail.now c.args.kernel.now c.derive.new.kernel c.finish.new.self c.level_count-level.ensures.steps c.requires.fits.variables c.derive.ensures.kept
     c.in_ok-derive.ensures.derived c.in_ok-number.ensures.added c.finish.ensures.reached c.requires.level c.adding_keeps_fit.ensures c.back_to.new.self
     (c.back_to.ensures.fits c.args.kernel.now c.requires.fits)
@@ -27,7 +27,7 @@ returns-clause-learned c =
 
 pub returns-clause-back : goal.returns-clause-back
 returns-clause-back c =
-    attached_back c.adding_keeps_settled.ensures c.args.trail.now c.back_to.new.self c.attach.new.self c.args.kernel.now c.finish.new.self
+    attached_back c.adding_keeps_settled.ensures c.args.trail.now c.back_to.new.self c.attach_over.new.self c.args.kernel.now c.finish.new.self
     c.in_ok-derive.ensures.derived.derivation.clause c.highest_but-back.result
     (back_low c.args.trail.now c.args.kernel.now c.derive.new.kernel c.finish.new.self c.level_count-level.ensures.steps c.requires.fits.variables c.derive.ensures.kept
     c.in_ok-derive.ensures.derived c.in_ok-number.ensures.added c.finish.ensures.reached c.requires.level c.clause.result.now (read_there c.args.trail.now c.args.kernel.now c.derive.new.kernel c.finish.new.self c.level_count-level.ensures.steps c.requires.fits.variables c.derive.ensures.kept
@@ -43,11 +43,11 @@ returns-clause-back c =
     c.in_ok-derive.ensures.derived c.in_ok-number.ensures.added c.finish.ensures.reached c.requires.level _ c.clause.result.now
     c.in_ok-number.ensures.number c.clause.ensures.clause)
     c.level_count-level.result c.highest_but-back.result c.level_count-level.ensures.level_count c.highest_but-back.ensures c.learned_is_earned.ensures c.requires.settled)
-    (c.back_to.ensures.settled c.args.kernel.now c.requires.settled) c.in_ok-attach.ensures.attached c.in_ok-attach.ensures.fits c.in_ok-attach.ensures.settled
+    (c.back_to.ensures.settled c.args.kernel.now c.requires.settled) c.in_ok-attach_over.ensures.attached c.in_ok-attach_over.ensures.fits c.in_ok-attach_over.ensures.settled
 
-pub returns-in_err-attach-clause-broken : goal.returns-in_err-attach-clause-broken
-returns-in_err-attach-clause-broken c =
-    on_err _ c.from_residual-in_err-attach.result (inr (learns c.learned_is_earned.ensures c.args.trail.now c.args.kernel.now c.derive.new.kernel c.finish.new.self c.level_count-level.ensures.steps c.requires.settled
+pub returns-in_err-attach_over-clause-broken : goal.returns-in_err-attach_over-clause-broken
+returns-in_err-attach_over-clause-broken c =
+    on_err _ c.from_residual-in_err-attach_over.result (inr (learns c.learned_is_earned.ensures c.args.trail.now c.args.kernel.now c.derive.new.kernel c.finish.new.self c.level_count-level.ensures.steps c.requires.settled
     c.requires.level c.in_ok-derive.ensures.derived (adds c.args.trail.now c.args.kernel.now c.derive.new.kernel c.finish.new.self c.level_count-level.ensures.steps c.requires.fits.variables c.derive.ensures.kept
     c.in_ok-derive.ensures.derived c.in_ok-number.ensures.added c.finish.ensures.reached c.requires.level)
     c.clause.result.now (read_there c.args.trail.now c.args.kernel.now c.derive.new.kernel c.finish.new.self c.level_count-level.ensures.steps c.requires.fits.variables c.derive.ensures.kept

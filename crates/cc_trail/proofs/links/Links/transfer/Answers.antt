@@ -10,8 +10,7 @@ next-link-requires c =
 pub put-requires : goal.put-requires
 put-requires c =
     let here = (within_here c.self.inside c.args.self.now c.self.view_is c.self.invariant c.args.node c.requires.first (c.args.node + 1) (omega arith)).0 in
-    let same = (counts_here c.self.inside c.args.self.now c.self.view_is c.self.invariant c.args.node c.requires.first (c.args.node + 1) (omega arith) c.args.lit c.requires.over
-    c.requires.apart c.code-code.result c.code-code.ensures c.next-link.result c.next-link.ensures c.relink.new.heads.items c.relink.new.nodes.next
+    let same = (counts_here c.self.inside c.args.self.now c.self.view_is c.self.invariant c.args.node c.requires.first (c.args.node + 1) (omega arith) c.next-link.result c.next-link.ensures c.relink.new.heads.items c.relink.new.nodes.next
     c.relink.ensures.heads (ap (λ (v : NodesView). v.next) c.relink.ensures.nodes)).1 in
     omega (arith, here, same)
 
@@ -24,13 +23,11 @@ overflow_add-node c =
 pub invariant_of-self : goal.invariant_of-self
 invariant_of-self c =
     rw (c.put.ensures, ap (λ (v : NodesView). v.watched) c.relink.ensures.nodes)
-    (links_then_moved c.self.inside c.args.self.now c.self.view_is c.self.invariant c.args.node c.requires.first (c.args.node + 1) (omega arith) c.args.lit c.requires.over
-    c.requires.apart c.code-code.result c.code-code.ensures c.next-link.result c.next-link.ensures c.relink.new.heads.items c.relink.new.nodes.next
-    c.relink.ensures.heads (ap (λ (v : NodesView). v.next) c.relink.ensures.nodes) c.index-first.result.now c.index-first.ensures)
+    (links_then_moved c.self.inside c.args.self.now c.self.view_is c.self.invariant c.args.node c.requires.first (c.args.node + 1) (omega arith) c.next-link.result c.next-link.ensures c.relink.new.heads.items c.relink.new.nodes.next
+    c.relink.ensures.heads (ap (λ (v : NodesView). v.next) c.relink.ensures.nodes) c.args.lit c.requires.over c.requires.apart c.code-code.result c.code-code.ensures c.index-first.result.now c.index-first.ensures)
 
 pub returns : goal.returns
 returns c =
     rw (c.put.ensures, ap (λ (v : NodesView). v.watched) c.relink.ensures.nodes)
-    (view_moved c.self.inside c.args.self.now c.self.view_is c.self.invariant c.args.node c.requires.first (c.args.node + 1) (omega arith) c.args.lit c.requires.over
-    c.requires.apart c.code-code.result c.code-code.ensures c.next-link.result c.next-link.ensures c.relink.new.heads.items c.relink.new.nodes.next
-    c.relink.ensures.heads (ap (λ (v : NodesView). v.next) c.relink.ensures.nodes) c.index-first.result.now c.index-first.ensures)
+    (view_moved c.self.inside c.args.self.now c.self.view_is c.self.invariant c.args.node c.requires.first (c.args.node + 1) (omega arith) c.next-link.result c.next-link.ensures c.relink.new.heads.items c.relink.new.nodes.next
+    c.relink.ensures.heads (ap (λ (v : NodesView). v.next) c.relink.ensures.nodes) c.args.lit c.requires.over c.requires.apart c.code-code.result c.code-code.ensures c.index-first.result.now c.index-first.ensures)

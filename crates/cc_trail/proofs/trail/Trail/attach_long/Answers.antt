@@ -26,6 +26,7 @@ returns-clause-attached c =
       shorts = refl;
       longs = longs;
       met = refl;
+      pairs = refl;
       watched = watched;
       fewer = omega arith;
       first_open = λ step here e.

@@ -7,6 +7,7 @@ invariant_of-self c =
     record {
       trail_is = there.0;
       variables = there.1;
+      pairs_variables = there.2;
       ahead = c.self.invariant.ahead;
     }
 

@@ -4,7 +4,7 @@ use Rattle.cc_defs.specs.Clauses.{IsIn}
 use Rattle.cc_trail.specs.Visits.{AreWatched}
 use Rattle.cc_trail.proofs.Growing.{watched_grown}
 use Rattle.cc_trail.proofs.Walking.{met_grown}
-use Rattle.cc_trail.proofs.Propagated.{watched_here, known_here, still_good, good_then, fits_then, all_closed}
+use Rattle.cc_trail.proofs.Propagated.{watched_here, known_here, followed_still, still_good, good_then, fits_then, all_closed}
 use Rattle.cc_trail.proofs.trail.Trail.propagate.Goals as goal
 
 pub make_shorts-requires-clause-known : goal.make_shorts-requires-clause-known
@@ -17,6 +17,7 @@ returns-in-Some-clause-fits c =
     c.self.inside.links c.make_shorts.ensures.sound
     (watched_grown c.args.kernel.now c.self.inside.longs.items c.self.inside.visited c.self.inside.entries c.make_shorts.new.entries c.self.inside.links c.make_shorts.ensures.grown
     (watched_here c.self.inside c.args.self.now c.self.view_is c.self.invariant c.args.kernel.now c.requires.fits))
+    (followed_still c.self.inside c.args.self.now c.self.view_is c.self.invariant c.args.kernel.now c.requires.fits c.make_shorts.new.entries c.make_shorts.ensures.grown)
     (still_good c.self.inside c.args.self.now c.self.view_is c.self.invariant c.args.kernel.now c.requires.fits c.make_shorts.new.entries c.make_shorts.ensures.grown)
 
 pub visit_steps-requires-clause-watched : goal.visit_steps-requires-clause-watched
@@ -25,11 +26,16 @@ visit_steps-requires-clause-watched c =
     (watched_grown c.args.kernel.now c.self.inside.longs.items c.self.inside.visited c.self.inside.entries c.make_shorts.new.entries c.self.inside.links c.make_shorts.ensures.grown
     (watched_here c.self.inside c.args.self.now c.self.view_is c.self.invariant c.args.kernel.now c.requires.fits))
 
+pub visit_steps-requires-clause-followed : goal.visit_steps-requires-clause-followed
+visit_steps-requires-clause-followed c =
+    followed_still c.self.inside c.args.self.now c.self.view_is c.self.invariant c.args.kernel.now c.requires.fits c.make_shorts.new.entries c.make_shorts.ensures.grown
+
 pub returns-clause-fits : goal.returns-clause-fits
 returns-clause-fits c =
     fits_then c.self.inside c.args.self.now c.self.view_is c.self.invariant c.args.kernel.now c.requires.fits c.visit_steps.new.visited c.met_for_good-self-inside.result
     c.visit_steps.new.entries c.visit_steps.new.links c.visit_steps.ensures.sound
     (subst (λ (ns : List ℕ). AreWatched c.args.kernel.now ns c.visit_steps.new.visited c.visit_steps.new.entries c.visit_steps.new.links) c.deref-2.ensures.value c.visit_steps.ensures.watched)
+    c.visit_steps.ensures.followed
     (good_then c.self.inside c.args.self.now c.self.view_is c.self.invariant c.args.kernel.now c.requires.fits c.met_for_good-self-inside.result c.len.result c.make_shorts.new.entries
     c.visit_steps.new.entries c.met_for_good-self-inside.ensures (c.len.ensures ∙ c.self.inside.shorts.ok.0) c.make_shorts.ensures.grown c.visit_steps.ensures.grown c.make_shorts.ensures.sound
     (rw (← c.deref.ensures.value) c.in_default.ensures.met))
@@ -39,6 +45,7 @@ returns-clause-closed c =
     all_closed c.self.inside c.args.self.now c.self.view_is c.self.invariant c.args.kernel.now c.requires.fits c.visit_steps.result c.visit_steps.new.visited
     c.visit_steps.new.entries c.visit_steps.new.links c.requires.all c.visit_steps.ensures.sound
     (subst (λ (ns : List ℕ). AreWatched c.args.kernel.now ns c.visit_steps.new.visited c.visit_steps.new.entries c.visit_steps.new.links) c.deref-2.ensures.value c.visit_steps.ensures.watched)
+    c.visit_steps.ensures.followed
     (λ number here. met_grown (clauses_of c.args.kernel.now) c.make_shorts.new.entries c.visit_steps.new.entries number c.visit_steps.ensures.grown
     (c.in_default.ensures.met number (subst (λ (ns : List ℕ). IsIn ns number) (sym c.deref.ensures.value) here)))
     c.visit_steps.ensures.all
