@@ -9,6 +9,7 @@ pub mod Laws
 pub mod ModelsTold
 pub mod Modes
 pub mod Names
+pub mod Preparing
 pub mod Promises
 pub mod Refusing
 pub mod Requested

@@ -14,7 +14,8 @@ ghost use Rattle.cc_laws.specs.Questions.{steps_refusal};
 ghost use Rattle.cc_laws.specs.Vocabulary.{vocabulary_of};
 ghost use Rattle.cc_print.specs.Keys.{IsKeyText};
 ghost use Rattle.cc_query.specs.Sessions.{Fits};
-ghost use Rattle.cc_run.specs.Asking.{AreNamed, AreOf, AreSearchable, IsAskedAs, IsFaultNamed, IsKeyFault, found_refusal};
+ghost use Rattle.cc_run.specs.Asking.{AreNamed, IsAskedAs, IsFaultNamed, IsKeyFault, found_refusal};
+ghost use Rattle.cc_run.specs.Preparing.{IsSearchable, StandsFor};
 ghost use Rattle.cc_run.specs.Tasks as tasks;
 ghost use Rattle.cc_sorts.specs.Tables.{IsSignatureFor};
 ghost use Rattle.cc_words.specs.Views.{plain_text};
@@ -182,10 +183,10 @@ pub(crate) fn prepare<'a>(
     requires forms { HasForms described.now }
     requires formulas { AsksFormulas described.now }
     ensures searchable { IfOk result (λ made.
-        AreSearchable described.now.sig made.laws (plain_ground_query made.query) made.key) }
+        IsSearchable described.now made made.key) }
     ensures named { (d : Description) → IsDescriptionOf described.now d →
-        IfOk result (λ made. (q : QueryAsked) × AreOf described.now.sig made.laws
-        (plain_ground_query made.query) d q × AreNamed d (map plain_query described.now.queries)
+        IfOk result (λ made. (q : QueryAsked) × StandsFor described.now made d q
+        × AreNamed d (map plain_query described.now.queries)
         (plain_text label.entry) (plain_text after.entry) q made.key) }
     ensures refused { (d : Description) →
         IsDescriptionOf described.now d → IfErr result (IsFaultNamed d

@@ -10,8 +10,8 @@ ghost use Rattle.cc_ports.specs.Calls.{Call, names_begun, names_opened, with_cal
 ghost use Rattle.cc_ports.specs.Contents.{Rose};
 ghost use Rattle.cc_ports.specs.Moments.{Moment};
 ghost use Rattle.cc_run.specs.Answers.{Answered, counts};
-ghost use Rattle.cc_run.specs.Asking.{AreOf, AreSearchable};
 ghost use Rattle.cc_run.specs.Names.{BeginsAsked, MayEndWith, OpensAsked, names_log};
+ghost use Rattle.cc_run.specs.Preparing.{IsSearchable, StandsFor};
 ghost use Rattle.cc_run.specs.Promises.{IsEndStatus};
 ghost use Rattle.cc_run.specs.Requested.{AsksDescription, AsksQuery, IsFileOf, IsWithin, Reads, named_of, opens_behind, source_of};
 ghost use Rattle.cc_run.specs.Requested as requested;
@@ -330,13 +330,12 @@ fn answer_prepared<D: Desk>(
     requires within { IsWithin (plain_request asked.now) }
     requires query { AsksQuery (plain_request asked.now) }
     requires signature { IsSignatureFor described.now.table described.now.sig }
-    requires searchable { AreSearchable described.now.sig prepared.laws
-        (plain_ground_query prepared.query) prepared.key }
+    requires searchable { IsSearchable described.now prepared prepared.key }
     requires of { (d : Description) × (q : Query) × IsDescriptionOf described.now d
-        × AreOf described.now.sig prepared.laws (plain_ground_query prepared.query) d q }
+        × StandsFor described.now prepared d q }
     ensures { (words : List Text) (request : Request) (d : Description) (q : Query) → request_of
         words ≡ Some request → plain_request asked.now ≡ request → IsDescriptionOf described.now d →
-        AreOf described.now.sig prepared.entry.laws (plain_ground_query prepared.entry.query) d q →
+        StandsFor described.now prepared.entry d q →
         ((count : Option ℕ) (budget : ℕ) → IfSome (D.seen desk.old).told (λ before. IsTask
         (source_of request before.files) (named_of request) (record {
           description = d;

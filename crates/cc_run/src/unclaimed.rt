@@ -5,7 +5,7 @@ ghost use Rattle.cc_asked.specs.Descriptions.{IsDescriptionOf};
 ghost use Rattle.cc_defs.specs.Description.{Description};
 ghost use Rattle.cc_defs.specs.Resolved.{Query as QueryAsked, plain_query};
 ghost use Rattle.cc_describe.specs.Describing.{AsksFormulas, HasForms};
-ghost use Rattle.cc_run.specs.Asking.{AreOf, AreSearchable};
+ghost use Rattle.cc_run.specs.Preparing.{IsSearchable, StandsFor};
 ghost use Rattle.cc_run.specs.Sures.{IsClaimFault, IsUnclaimed, claimed, claimed_named};
 ghost use Rattle.cc_run.specs.Tasks as tasks;
 ghost use Rattle.cc_sorts.specs.Tables.{IsSignatureFor};
@@ -51,10 +51,10 @@ pub(crate) fn prepare_unclaimed<'a>(
     requires formulas { AsksFormulas described.now }
     requires of { (d : Description) × IsDescriptionOf described.now d }
     ensures searchable { IfOk result (λ made.
-        AreSearchable described.now.sig made.laws (plain_ground_query made.query) None) }
+        IsSearchable described.now made None) }
     ensures claim { IfOk result (λ made. IsNone made.query.claim) }
     ensures named { (d : Description) → IsDescriptionOf described.now d → IfOk result (λ made.
-        (q : QueryAsked) × AreOf described.now.sig made.laws (plain_ground_query made.query) d q
+        (q : QueryAsked) × StandsFor described.now made d q
         × IsUnclaimed d (map plain_query described.now.queries) (plain_text label.entry) q) }
     ensures refused { (d : Description) → IsDescriptionOf described.now d → IfErr result
         (IsClaimFault d (map plain_query described.now.queries) (plain_text label.entry)) }

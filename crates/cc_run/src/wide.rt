@@ -4,7 +4,8 @@ ghost use Rattle.cc_arena.specs.GroundViews.{plain_ground_query};
 ghost use Rattle.cc_asked.specs.Descriptions.{IsWideDescriptionOf};
 ghost use Rattle.cc_defs.specs.Resolved.{Query as QueryAsked, plain_query};
 ghost use Rattle.cc_describe.specs.Describing.{AsksFormulas, HasWideForms};
-ghost use Rattle.cc_run.specs.Generals.{AreWideOf, AreWideSearchable, IsWideFault, IsWideUnclaimed};
+ghost use Rattle.cc_run.specs.Generals.{IsWideFault, IsWideUnclaimed};
+ghost use Rattle.cc_run.specs.Preparing.{IsSearchableWide, StandsForWide};
 ghost use Rattle.cc_sorts.specs.Tables.{IsSignatureFor};
 ghost use Rattle.cc_wide.specs.WideLaws.{WideDescription};
 ghost use Rattle.cc_words.specs.Views.{plain_text};
@@ -39,10 +40,10 @@ pub(crate) fn prepare_wide<'a>(
     requires formulas { AsksFormulas described.now }
     requires of { (w : WideDescription) × IsWideDescriptionOf described.now w }
     ensures searchable { IfOk result (λ made.
-        AreWideSearchable described.now.sig made.laws (plain_ground_query made.query)) }
+        IsSearchableWide described.now made) }
     ensures named { (w : WideDescription) → IsWideDescriptionOf described.now w →
-        IfOk result (λ made. (q : QueryAsked) × AreWideOf described.now.sig made.laws
-        (plain_ground_query made.query) w q × IsWideUnclaimed w
+        IfOk result (λ made. (q : QueryAsked) × StandsForWide described.now made w q
+        × IsWideUnclaimed w
         (map plain_query described.now.queries) (plain_text label.entry) q) }
     ensures refused { (w : WideDescription) → IsWideDescriptionOf described.now w → IfErr result
         (IsWideFault w (map plain_query described.now.queries) (plain_text label.entry)) }

@@ -6,9 +6,9 @@ ghost use Rattle.cc_defs.specs.Limits.{limit_number};
 ghost use Rattle.cc_defs.specs.declared.refusal.LimitAt.TheVariants as limits;
 ghost use Rattle.cc_defs.specs.Resolved.{Query};
 ghost use Rattle.cc_print.specs.Verdicts.{verdict_line};
-ghost use Rattle.cc_run.specs.Asking.{AreOf, AreSearchable};
 ghost use Rattle.cc_run.specs.Modes.Checking as checks;
 ghost use Rattle.cc_run.specs.Modes.Checking.{NamesLog};
+ghost use Rattle.cc_run.specs.Preparing.{IsSearchable, StandsFor};
 ghost use Rattle.cc_run.specs.Stops.{Prints};
 ghost use Rattle.cc_run.specs.Tasks.{IsTask, named_in, request_of};
 ghost use Rattle.cc_run.specs.Telling.{task_to_check};
@@ -62,12 +62,11 @@ fn check_log<D: Desk>(
     prepared: &Prepared<'_>,
     bytes: &[u8],
 ) -> Result<Status, Stop>
-    requires searchable { AreSearchable described.now.sig prepared.now.laws
-        (plain_ground_query prepared.now.query) prepared.now.key }
+    requires searchable { IsSearchable described.now prepared.now prepared.now.key }
     requires few { length bytes.now ≤ limit_number limits.LogBytes }
     ensures { (words : List Text) (checking : Checking) (d : Description) (q : Query) →
         request_of words ≡ Some (ToCheck checking) →
-        AreOf described.now.sig prepared.now.laws (plain_ground_query prepared.now.query) d q →
+        StandsFor described.now prepared.now d q →
         IfSome (D.seen desk.old).told (λ before. NamesLog before.files checking
         (task_to_check d q prepared.now.key) bytes.now) →
         Prints words false [] (D.seen desk.old) (D.seen desk.new) result }
@@ -94,12 +93,11 @@ pub(crate) fn check<D: Desk>(
     asked: &CheckAsked<'_>,
     prepared: &Prepared<'_>,
 ) -> Result<Status, Stop>
-    requires searchable { AreSearchable described.now.sig prepared.now.laws
-        (plain_ground_query prepared.now.query) prepared.now.key }
+    requires searchable { IsSearchable described.now prepared.now prepared.now.key }
     ensures { (words : List Text) (checking : Checking) (d : Description) (q : Query) →
         request_of words ≡ Some (ToCheck checking) →
         plain_request (requests.Check asked.now) ≡ ToCheck checking →
-        AreOf described.now.sig prepared.now.laws (plain_ground_query prepared.now.query) d q →
+        StandsFor described.now prepared.now d q →
         IfSome (D.seen desk.old).told (λ before. IsTask before.files (named_in checking)
         (task_to_check d q prepared.now.key)) → Prints words false (asked.now.log.now ∷ [])
         (D.seen desk.old) (D.seen desk.new) result }

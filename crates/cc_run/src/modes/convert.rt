@@ -14,10 +14,10 @@ ghost use Rattle.cc_defs.specs.LogVersions.{line_bytes, lines_bytes, own_behind}
 ghost use Rattle.cc_defs.specs.Resolved.{Query};
 ghost use Rattle.cc_judge.specs.Judging.{IsVerdictWithin};
 ghost use Rattle.cc_ports.specs.declared.desk.To.TheVariants as outputs;
-ghost use Rattle.cc_run.specs.Asking.{AreOf, AreSearchable};
 ghost use Rattle.cc_run.specs.Converted.{AreLeft, HasLeft, HasOpened, IsJudged, converted_by, other_said};
 ghost use Rattle.cc_run.specs.Modes.Checking as checks;
 ghost use Rattle.cc_run.specs.Modes.Checking.{NamesLog};
+ghost use Rattle.cc_run.specs.Preparing.{IsSearchable, StandsFor};
 ghost use Rattle.cc_run.specs.Stops.{Prints};
 ghost use Rattle.cc_run.specs.Tasks.{IsTask, checked_by, named_in, request_of};
 ghost use Rattle.cc_run.specs.Telling.{counts_of, task_to_check};
@@ -63,13 +63,12 @@ fn section_axioms(
     conditions: bool,
     horizon: u32,
 ) -> Result<u32, OutOfMemory>
-    requires searchable { AreSearchable described.now.sig prepared.now.laws
-        (plain_ground_query prepared.now.query) prepared.now.key }
+    requires searchable { IsSearchable described.now prepared.now prepared.now.key }
     requires opened { HasOpened described.now.sig prepared.now.laws
         (plain_ground_query prepared.now.query) prepared.now.key
         (lines.Section conditions horizon) }
     ensures counted { (d : Description) (q : Query) →
-        AreOf described.now.sig prepared.now.laws (plain_ground_query prepared.now.query) d q →
+        StandsFor described.now prepared.now d q →
         IfOk result (λ axioms. axioms ≡ counts_of d q prepared.now.key conditions horizon) }
     ensures few { IfOk result (λ axioms. axioms ≤ most_clauses) }
 {
@@ -95,12 +94,11 @@ fn axioms_behind(
     prepared: &Prepared<'_>,
     line: &LogLine,
 ) -> Result<u32, OutOfMemory>
-    requires searchable { AreSearchable described.now.sig prepared.now.laws
-        (plain_ground_query prepared.now.query) prepared.now.key }
+    requires searchable { IsSearchable described.now prepared.now prepared.now.key }
     requires opened { HasOpened described.now.sig prepared.now.laws
         (plain_ground_query prepared.now.query) prepared.now.key line.now }
     ensures counted { (d : Description) (q : Query) →
-        AreOf described.now.sig prepared.now.laws (plain_ground_query prepared.now.query) d q →
+        StandsFor described.now prepared.now d q →
         IfOk result (IsCounted (counts_of d q prepared.now.key) (events.Log line.now)) }
     ensures few { IfOk result (λ axioms. axioms ≤ most_clauses) }
 {
@@ -126,20 +124,19 @@ fn give_line<'b, D: Desk>(
     own: u32,
     bytes: &'b [u8],
 ) -> Result<(u32, &'b [u8]), Stop>
-    requires searchable { AreSearchable described.now.sig prepared.now.laws
-        (plain_ground_query prepared.now.query) prepared.now.key }
+    requires searchable { IsSearchable described.now prepared.now prepared.now.key }
     requires some { 0 < length bytes.now }
     requires left { HasLeft described.now.sig prepared.now.laws
         (plain_ground_query prepared.now.query) prepared.now.key version own bytes.now }
     ensures told { (d : Description) (q : Query) (line : Line) (others : List Line) →
-        AreOf described.now.sig prepared.now.laws (plain_ground_query prepared.now.query) d q →
+        StandsFor described.now prepared.now d q →
         AreLeft d q prepared.now.key version own bytes.now (line ∷ others) →
         Step (given_to outputs.Log (line_bytes (log_versions.other_version version) own line))
         (D.seen desk.old) (D.seen desk.new) result }
     ensures left { IfOk result (λ next. (d : Description)
-        (q : Query) (line : Line) (others : List Line) → AreOf described.now.sig prepared.now.laws
-        (plain_ground_query prepared.now.query) d q → AreLeft d q prepared.now.key version own
-        bytes.now (line ∷ others) → (next.0 ≡ own_behind (counts_of d q prepared.now.key) own line)
+        (q : Query) (line : Line) (others : List Line) → StandsFor described.now prepared.now d q →
+        AreLeft d q prepared.now.key version own bytes.now (line ∷ others) →
+        (next.0 ≡ own_behind (counts_of d q prepared.now.key) own line)
         × AreLeft d q prepared.now.key version next.0 next.1.now others) }
     ensures shorter { IfOk result (λ next. length next.1.now < length bytes.now) }
 {
@@ -158,12 +155,11 @@ fn give_lines<D: Desk>(
     version: Version,
     bytes: &[u8],
 ) -> Result<(), Stop>
-    requires searchable { AreSearchable described.now.sig prepared.now.laws
-        (plain_ground_query prepared.now.query) prepared.now.key }
+    requires searchable { IsSearchable described.now prepared.now prepared.now.key }
     requires left { HasLeft described.now.sig prepared.now.laws
         (plain_ground_query prepared.now.query) prepared.now.key version 1 bytes.now }
     ensures { (d : Description) (q : Query) (said : List Line) →
-        AreOf described.now.sig prepared.now.laws (plain_ground_query prepared.now.query) d q →
+        StandsFor described.now prepared.now d q →
         AreLeft d q prepared.now.key version 1 bytes.now said →
         Step (given_to outputs.Log (lines_bytes (log_versions.other_version version)
         (counts_of d q prepared.now.key) 1 said)) (D.seen desk.old) (D.seen desk.new) result }
@@ -186,13 +182,11 @@ fn give_other<D: Desk>(
     prepared: &Prepared<'_>,
     bytes: &[u8],
 ) -> Result<(), Stop>
-    requires searchable { AreSearchable described.now.sig prepared.now.laws
-        (plain_ground_query prepared.now.query) prepared.now.key }
+    requires searchable { IsSearchable described.now prepared.now prepared.now.key }
     requires few { length bytes.now ≤ most_log_bytes }
-    requires says { (d : Description) × (q : Query) × AreOf described.now.sig prepared.now.laws
-        (plain_ground_query prepared.now.query) d q × SaysLines d q prepared.now.key bytes.now }
-    ensures { (d : Description) (q : Query) → AreOf described.now.sig prepared.now.laws
-        (plain_ground_query prepared.now.query) d q →
+    requires says { (d : Description) × (q : Query) × StandsFor described.now prepared.now d q
+        × SaysLines d q prepared.now.key bytes.now }
+    ensures { (d : Description) (q : Query) → StandsFor described.now prepared.now d q →
         (says : SaysLines d q prepared.now.key bytes.now) →
         Step (given_to outputs.Log (other_said d q prepared.now.key bytes.now says))
         (D.seen desk.old) (D.seen desk.new) result }
@@ -222,13 +216,12 @@ fn give_accepted<D: Desk>(
     bytes: &[u8],
     verdict: &LogVerdict,
 ) -> Result<Status, Stop>
-    requires searchable { AreSearchable described.now.sig prepared.now.laws
-        (plain_ground_query prepared.now.query) prepared.now.key }
+    requires searchable { IsSearchable described.now prepared.now prepared.now.key }
     requires few { length bytes.now ≤ most_log_bytes }
-    requires says { (d : Description) × (q : Query) × AreOf described.now.sig prepared.now.laws
-        (plain_ground_query prepared.now.query) d q × SaysLines d q prepared.now.key bytes.now }
+    requires says { (d : Description) × (q : Query) × StandsFor described.now prepared.now d q
+        × SaysLines d q prepared.now.key bytes.now }
     ensures told { (d : Description) (q : Query) →
-        AreOf described.now.sig prepared.now.laws (plain_ground_query prepared.now.query) d q →
+        StandsFor described.now prepared.now d q →
         (says : SaysLines d q prepared.now.key bytes.now) →
         Step (converted_by verdict.now (other_said d q prepared.now.key bytes.now says))
         (D.seen desk.old) (D.seen desk.new) result }
@@ -249,15 +242,14 @@ fn convert_judged<D: Desk>(
     bytes: &[u8],
     verdict: &LogVerdict,
 ) -> Result<Status, Stop>
-    requires searchable { AreSearchable described.now.sig prepared.now.laws
-        (plain_ground_query prepared.now.query) prepared.now.key }
+    requires searchable { IsSearchable described.now prepared.now prepared.now.key }
     requires few { length bytes.now ≤ most_log_bytes }
     requires within { (d : Description) × (q : Query)
-        × AreOf described.now.sig prepared.now.laws (plain_ground_query prepared.now.query) d q
+        × StandsFor described.now prepared.now d q
         × IsVerdictWithin d q prepared.now.key bytes.now verdict.now }
     ensures { (words : List Text) (converting : Converting) (d : Description) (q : Query) →
         request_of words ≡ Some (ToConvert converting) → to.now ≡ converting.to →
-        AreOf described.now.sig prepared.now.laws (plain_ground_query prepared.now.query) d q →
+        StandsFor described.now prepared.now d q →
         IfSome (D.seen desk.old).told (λ before. NamesLog before.files (checked_by converting)
         (task_to_check d q prepared.now.key) bytes.now) →
         IsJudged d q prepared.now.key bytes.now verdict.now →
@@ -283,14 +275,13 @@ fn convert_log<D: Desk>(
     prepared: &Prepared<'_>,
     bytes: &[u8],
 ) -> Result<Status, Stop>
-    requires searchable { AreSearchable described.now.sig prepared.now.laws
-        (plain_ground_query prepared.now.query) prepared.now.key }
+    requires searchable { IsSearchable described.now prepared.now prepared.now.key }
     requires few { length bytes.now ≤ limit_number limits.LogBytes }
     requires of { (d : Description) × (q : Query) × IsDescriptionOf described.now d
-        × AreOf described.now.sig prepared.now.laws (plain_ground_query prepared.now.query) d q }
+        × StandsFor described.now prepared.now d q }
     ensures { (words : List Text) (converting : Converting) (d : Description) (q : Query) →
         request_of words ≡ Some (ToConvert converting) → to.now ≡ converting.to →
-        AreOf described.now.sig prepared.now.laws (plain_ground_query prepared.now.query) d q →
+        StandsFor described.now prepared.now d q →
         IfSome (D.seen desk.old).told (λ before. NamesLog before.files (checked_by converting)
         (task_to_check d q prepared.now.key) bytes.now) →
         Prints words true [] (D.seen desk.old) (D.seen desk.new) result }
@@ -318,14 +309,13 @@ pub(crate) fn convert<D: Desk>(
     asked: &ConvertAsked<'_>,
     prepared: &Prepared<'_>,
 ) -> Result<Status, Stop>
-    requires searchable { AreSearchable described.now.sig prepared.now.laws
-        (plain_ground_query prepared.now.query) prepared.now.key }
+    requires searchable { IsSearchable described.now prepared.now prepared.now.key }
     requires of { (d : Description) × (q : Query) × IsDescriptionOf described.now d
-        × AreOf described.now.sig prepared.now.laws (plain_ground_query prepared.now.query) d q }
+        × StandsFor described.now prepared.now d q }
     ensures { (words : List Text) (converting : Converting) (d : Description) (q : Query) →
         request_of words ≡ Some (ToConvert converting) →
         plain_request (requests.Convert asked.now) ≡ ToConvert converting →
-        AreOf described.now.sig prepared.now.laws (plain_ground_query prepared.now.query) d q →
+        StandsFor described.now prepared.now d q →
         IfSome (D.seen desk.old).told (λ before. IsTask before.files
         (named_in (checked_by converting)) (task_to_check d q prepared.now.key)) →
         Prints words true (asked.now.log.now ∷ []) (D.seen desk.old) (D.seen desk.new) result }

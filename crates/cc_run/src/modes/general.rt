@@ -7,8 +7,9 @@ ghost use Rattle.cc_describe.specs.declared.heads.Heads.TheVariants as heads;
 ghost use Rattle.cc_describe.specs.Describing.{AsksFormulas, Describes, HasWideForms, SaysAll};
 ghost use Rattle.cc_general.specs.GeneralRuns.{GeneralRun};
 ghost use Rattle.cc_general.specs.Generals.{HasMore, IsGeneralOf, IsSame, Stands, left_of};
-ghost use Rattle.cc_run.specs.Generals.{AreWideOf, AreWideSearchable, IsGeneralOfSome, IsWritableGeneral, TellsGeneralEvent, TellsGenerally, generally_given};
+ghost use Rattle.cc_run.specs.Generals.{IsGeneralOfSome, IsWritableGeneral, TellsGeneralEvent, TellsGenerally, generally_given};
 ghost use Rattle.cc_run.specs.Modes.Generally.{NamesWide, named_generally};
+ghost use Rattle.cc_run.specs.Preparing.{IsSearchableWide, StandsForWide};
 ghost use Rattle.cc_run.specs.Stops.{Prints};
 ghost use Rattle.cc_run.specs.Tasks.{request_of};
 ghost use Rattle.cc_sorts.specs.Tables.{IsSignatureFor};
@@ -92,15 +93,13 @@ fn tell_run<D: Desk>(
     budget: u32,
 ) -> Result<Status, Stop>
     requires signature { IsSignatureFor described.now.table described.now.sig }
-    requires searchable { AreWideSearchable described.now.sig prepared.now.laws
-        (plain_ground_query prepared.now.query) }
+    requires searchable { IsSearchableWide described.now prepared.now }
     requires count { IfSome count (λ most. 1 ≤ most) }
     requires budget { budget ≤ 2000000 }
     requires of { (w : WideDescription) × (q : Query) × IsWideDescriptionOf described.now w
-        × AreWideOf described.now.sig prepared.now.laws
-        (plain_ground_query prepared.now.query) w q }
+        × StandsForWide described.now prepared.now w q }
     ensures { (w : WideDescription) (q : Query) → IsWideDescriptionOf described.now w →
-        AreWideOf described.now.sig prepared.now.laws (plain_ground_query prepared.now.query) w q →
+        StandsForWide described.now prepared.now w q →
         TellsGenerally w q count budget nothing (D.seen desk.old) (D.seen desk.new) result }
 {
     let general = General::new(
@@ -124,18 +123,15 @@ fn list_generally<D: Desk>(
     prepared: &PreparedWide<'_>,
 ) -> Result<Status, Stop>
     requires signature { IsSignatureFor described.now.table described.now.sig }
-    requires searchable { AreWideSearchable described.now.sig prepared.now.laws
-        (plain_ground_query prepared.now.query) }
+    requires searchable { IsSearchableWide described.now prepared.now }
     requires count { IfSome asked.now.count (λ count. 1 ≤ count) }
     requires budget { asked.now.budget ≤ 2000000 }
     requires of { (w : WideDescription) × (q : Query) × IsWideDescriptionOf described.now w
-        × AreWideOf described.now.sig prepared.now.laws
-        (plain_ground_query prepared.now.query) w q }
+        × StandsForWide described.now prepared.now w q }
     ensures { (words : List Text) (generally : Generally) (w : WideDescription) (q : Query) →
         request_of words ≡ Some (ToListGenerally generally) →
         plain_request (requests.General asked.now) ≡ ToListGenerally generally →
-        IsWideDescriptionOf described.now w → AreWideOf described.now.sig prepared.now.laws
-        (plain_ground_query prepared.now.query) w q →
+        IsWideDescriptionOf described.now w → StandsForWide described.now prepared.now w q →
         IfSome (D.seen desk.old).told (λ before. NamesWide before.files (named_generally generally)
         w q) → Prints words (is_some generally.log) [] (D.seen desk.old) (D.seen desk.new) result }
 {

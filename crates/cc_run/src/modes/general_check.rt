@@ -6,9 +6,9 @@ ghost use Rattle.cc_defs.specs.declared.refusal.LimitAt.TheVariants as limits;
 ghost use Rattle.cc_defs.specs.Resolved.{Query};
 ghost use Rattle.cc_describe.specs.declared.heads.Heads.TheVariants as heads;
 ghost use Rattle.cc_describe.specs.Describing.{AsksFormulas, Describes, HasWideForms, SaysAll};
-ghost use Rattle.cc_run.specs.Generals.{AreWideOf, AreWideSearchable};
 ghost use Rattle.cc_run.specs.Modes.CheckingGeneral.{NamesGeneralLog, named_for_general};
 ghost use Rattle.cc_run.specs.Modes.Generally.{NamesWide};
+ghost use Rattle.cc_run.specs.Preparing.{IsSearchableWide, StandsForWide};
 ghost use Rattle.cc_run.specs.Stops.{Prints};
 ghost use Rattle.cc_run.specs.Tasks.{request_of};
 ghost use Rattle.cc_wide.specs.WideLaws.{WideDescription};
@@ -36,12 +36,11 @@ fn check_log<D: Desk>(
     prepared: &PreparedWide<'_>,
     bytes: &[u8],
 ) -> Result<Status, Stop>
-    requires searchable { AreWideSearchable described.now.sig prepared.now.laws
-        (plain_ground_query prepared.now.query) }
+    requires searchable { IsSearchableWide described.now prepared.now }
     requires few { length bytes.now ≤ limit_number limits.LogBytes }
     ensures { (words : List Text) (checking : GeneralChecking) (w : WideDescription) (q : Query) →
         request_of words ≡ Some (ToCheckGeneral checking) →
-        AreWideOf described.now.sig prepared.now.laws (plain_ground_query prepared.now.query) w q →
+        StandsForWide described.now prepared.now w q →
         IfSome (D.seen desk.old).told (λ before. NamesGeneralLog before.files checking w q
         bytes.now) → Prints words false [] (D.seen desk.old) (D.seen desk.new) result }
 {
@@ -66,11 +65,10 @@ fn check_over<D: Desk>(
     prepared: &PreparedWide<'_>,
     log: &str,
 ) -> Result<Status, Stop>
-    requires searchable { AreWideSearchable described.now.sig prepared.now.laws
-        (plain_ground_query prepared.now.query) }
+    requires searchable { IsSearchableWide described.now prepared.now }
     ensures { (words : List Text) (checking : GeneralChecking) (w : WideDescription) (q : Query) →
         request_of words ≡ Some (ToCheckGeneral checking) → log.now ≡ checking.log →
-        AreWideOf described.now.sig prepared.now.laws (plain_ground_query prepared.now.query) w q →
+        StandsForWide described.now prepared.now w q →
         IfSome (D.seen desk.old).told (λ before. NamesWide before.files (named_for_general checking)
         w q) → Prints words false (log.now ∷ []) (D.seen desk.old) (D.seen desk.new) result }
 {

@@ -4,7 +4,7 @@ ghost use Rattle.cc_arena.specs.GroundViews.{plain_ground_query};
 ghost use Rattle.cc_asked.specs.Descriptions.{IsDescriptionOf};
 ghost use Rattle.cc_defs.specs.Description.{Description};
 ghost use Rattle.cc_defs.specs.Resolved.{Query};
-ghost use Rattle.cc_run.specs.Asking.{AreOf, AreSearchable};
+ghost use Rattle.cc_run.specs.Preparing.{IsSearchable, StandsFor};
 ghost use Rattle.cc_run.specs.Stops.{Prints};
 ghost use Rattle.cc_run.specs.Tasks.{IsTask, made_files, made_named, request_of};
 ghost use Rattle.cc_sorts.specs.Tables.{IsSignatureFor};
@@ -30,14 +30,13 @@ pub(crate) fn make<D: Desk>(
 ) -> Result<Status, Stop>
     requires budget { budget ≤ 2000000 }
     requires signature { IsSignatureFor described.now.table described.now.sig }
-    requires searchable { AreSearchable described.now.sig prepared.laws
-        (plain_ground_query prepared.query) prepared.key }
+    requires searchable { IsSearchable described.now prepared prepared.key }
     requires of { (d : Description) × (q : Query) × IsDescriptionOf described.now d
-        × AreOf described.now.sig prepared.laws (plain_ground_query prepared.query) d q }
+        × StandsFor described.now prepared d q }
     ensures { (words : List Text) (d : Description) (q : Query) →
-        request_of words ≡ Some (ToMake size budget) → IsDescriptionOf described.now d → AreOf
-        described.now.sig prepared.entry.laws (plain_ground_query prepared.entry.query) d q → IfSome
-        (D.seen desk.old).told (λ _. IsTask (made_files size) made_named (record {
+        request_of words ≡ Some (ToMake size budget) → IsDescriptionOf described.now d →
+        StandsFor described.now prepared.entry d q →
+        IfSome (D.seen desk.old).told (λ _. IsTask (made_files size) made_named (record {
           description = d;
           query = q;
           ask = record { count = None; budget = budget; after = prepared.entry.key };

@@ -6,8 +6,8 @@ ghost use Rattle.cc_defs.specs.Description.{Description};
 ghost use Rattle.cc_defs.specs.Resolved.{Query};
 ghost use Rattle.cc_describe.specs.declared.heads.Heads.TheVariants as heads;
 ghost use Rattle.cc_describe.specs.Describing.{AsksFormulas, Describes, HasForms, SaysAll};
-ghost use Rattle.cc_run.specs.Asking.{AreOf, AreSearchable};
 ghost use Rattle.cc_run.specs.Modes.Surely.{NamesUnclaimed, named_surely};
+ghost use Rattle.cc_run.specs.Preparing.{IsSearchable, StandsFor};
 ghost use Rattle.cc_run.specs.Stops.{Prints};
 ghost use Rattle.cc_run.specs.Sures.{IsSureOfSome, IsWritableRun, TellsEvent, TellsSure, surely_given};
 ghost use Rattle.cc_run.specs.Tasks.{request_of};
@@ -100,14 +100,13 @@ fn tell_run<D: Desk>(
     budget: u32,
 ) -> Result<Status, Stop>
     requires signature { IsSignatureFor described.now.table described.now.sig }
-    requires searchable { AreSearchable described.now.sig prepared.now.laws
-        (plain_ground_query prepared.now.query) None }
+    requires searchable { IsSearchable described.now prepared.now None }
     requires claim { IsNone prepared.now.query.claim }
     requires budget { budget ≤ 2000000 }
     requires of { (d : Description) × (q : Query) × IsDescriptionOf described.now d
-        × AreOf described.now.sig prepared.now.laws (plain_ground_query prepared.now.query) d q }
+        × StandsFor described.now prepared.now d q }
     ensures { (d : Description) (q : Query) → IsDescriptionOf described.now d →
-        AreOf described.now.sig prepared.now.laws (plain_ground_query prepared.now.query) d q →
+        StandsFor described.now prepared.now d q →
         TellsSure d q budget nothing (D.seen desk.old) (D.seen desk.new) result }
 {
     let sure = Sure::new(
@@ -130,17 +129,15 @@ fn be_sure<D: Desk>(
     prepared: &Prepared<'_>,
 ) -> Result<Status, Stop>
     requires signature { IsSignatureFor described.now.table described.now.sig }
-    requires searchable { AreSearchable described.now.sig prepared.now.laws
-        (plain_ground_query prepared.now.query) None }
+    requires searchable { IsSearchable described.now prepared.now None }
     requires claim { IsNone prepared.now.query.claim }
     requires budget { asked.now.budget ≤ 2000000 }
     requires of { (d : Description) × (q : Query) × IsDescriptionOf described.now d
-        × AreOf described.now.sig prepared.now.laws (plain_ground_query prepared.now.query) d q }
+        × StandsFor described.now prepared.now d q }
     ensures { (words : List Text) (surely : Surely) (d : Description) (q : Query) →
         request_of words ≡ Some (ToBeSure surely) →
         plain_request (requests.Sure asked.now) ≡ ToBeSure surely →
-        IsDescriptionOf described.now d → AreOf described.now.sig prepared.now.laws
-        (plain_ground_query prepared.now.query) d q →
+        IsDescriptionOf described.now d → StandsFor described.now prepared.now d q →
         IfSome (D.seen desk.old).told (λ before. NamesUnclaimed before.files (named_surely surely)
         d q) → Prints words (is_some surely.log) [] (D.seen desk.old) (D.seen desk.new) result }
 {

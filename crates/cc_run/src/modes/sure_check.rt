@@ -7,9 +7,9 @@ ghost use Rattle.cc_defs.specs.declared.refusal.LimitAt.TheVariants as limits;
 ghost use Rattle.cc_defs.specs.Resolved.{Query};
 ghost use Rattle.cc_describe.specs.declared.heads.Heads.TheVariants as heads;
 ghost use Rattle.cc_describe.specs.Describing.{AsksFormulas, Describes, HasForms, SaysAll};
-ghost use Rattle.cc_run.specs.Asking.{AreOf, AreSearchable};
 ghost use Rattle.cc_run.specs.Modes.CheckingSure.{NamesSureLog, named_to_check};
 ghost use Rattle.cc_run.specs.Modes.Surely.{NamesUnclaimed};
+ghost use Rattle.cc_run.specs.Preparing.{IsSearchable, StandsFor};
 ghost use Rattle.cc_run.specs.Stops.{Prints};
 ghost use Rattle.cc_run.specs.Tasks.{request_of};
 ghost use Rattle.cc_words.specs.Requests.{SureChecking, ToCheckSure};
@@ -37,13 +37,12 @@ fn check_log<D: Desk>(
     prepared: &Prepared<'_>,
     bytes: &[u8],
 ) -> Result<Status, Stop>
-    requires searchable { AreSearchable described.now.sig prepared.now.laws
-        (plain_ground_query prepared.now.query) None }
+    requires searchable { IsSearchable described.now prepared.now None }
     requires claim { IsNone prepared.now.query.claim }
     requires few { length bytes.now ≤ limit_number limits.LogBytes }
     ensures { (words : List Text) (checking : SureChecking) (d : Description) (q : Query) →
         request_of words ≡ Some (ToCheckSure checking) →
-        AreOf described.now.sig prepared.now.laws (plain_ground_query prepared.now.query) d q →
+        StandsFor described.now prepared.now d q →
         IfSome (D.seen desk.old).told (λ before. NamesSureLog before.files checking d q bytes.now) →
         Prints words false [] (D.seen desk.old) (D.seen desk.new) result }
 {
@@ -68,12 +67,11 @@ fn check_over<D: Desk>(
     prepared: &Prepared<'_>,
     log: &str,
 ) -> Result<Status, Stop>
-    requires searchable { AreSearchable described.now.sig prepared.now.laws
-        (plain_ground_query prepared.now.query) None }
+    requires searchable { IsSearchable described.now prepared.now None }
     requires claim { IsNone prepared.now.query.claim }
     ensures { (words : List Text) (checking : SureChecking) (d : Description) (q : Query) →
         request_of words ≡ Some (ToCheckSure checking) → log.now ≡ checking.log →
-        AreOf described.now.sig prepared.now.laws (plain_ground_query prepared.now.query) d q →
+        StandsFor described.now prepared.now d q →
         IfSome (D.seen desk.old).told (λ before. NamesUnclaimed before.files
         (named_to_check checking) d q) → Prints words false (log.now ∷ []) (D.seen desk.old)
         (D.seen desk.new) result }
