@@ -44,16 +44,6 @@ clauses_behind : (variables : ℕ) (front entries : List Entry) → AreClauses v
 clauses_behind variables [] entries are = (tt, are)
 clauses_behind variables (first ∷ front) entries are = let rest = clauses_behind variables front entries are.2 in ((are.0, are.1, rest.0), rest.1)
 
-pub clauses_more : (variables : ℕ) (entries : List Entry) (index : ℕ) (clause : List Literal) → AreClauses variables (take index entries) →
-    slice_get (map clause_in entries) index ≡ Some clause → IsClause clause → IsOver variables clause → (more : ℕ) → more ≡ suc index → AreClauses variables (take more entries)
-clauses_more variables entries index clause are at is over more more_is = subst (λ (n : ℕ). AreClauses variables (take n entries)) (sym more_is) (by entries index are at)
-  where
-    by : (entries : List Entry) (index : ℕ) → AreClauses variables (take index entries) → slice_get (map clause_in entries) index ≡ Some clause → AreClauses variables (take (suc index) entries)
-    by [] index are at = cc
-    by (entry ∷ entries) zero are at =
-        let same : clause ≡ entry.clause = cc in (subst IsClause same is, subst (IsOver variables) same over, tt)
-    by (entry ∷ entries) (suc index) are at = (are.0, are.1, by entries index are.2 at)
-
 -- ---- the variables of the positions
 
 positions_within : (variables first : ℕ) (sizes : List ℕ) (clauses : List (List Literal)) → ((clause : List Literal) → Contains clauses clause → IsOver variables clause) →

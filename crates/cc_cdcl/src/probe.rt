@@ -1,6 +1,7 @@
-//! The probe with which a section begins: for as many lines as it has clauses then, what is decided is what had most to do with the lines
-//! before, and not what leads to the least row. Where its first fifty lines have more than three literals to four steps, it is over with them. The
-//! lines that it derives are there when the rows are listed. Nothing is claimed of what it decides but that it had no value.
+//! The probe with which a section begins: for as many lines as it has clauses then, what is decided is what had most to do with
+//! the lines before, and not what leads to the least row. Where its first fifty lines have more than three literals to four steps,
+//! it is over with them. The lines that it derives are there when the rows are listed. Nothing is claimed of what it decides but
+//! that it had no value.
 ghost use Rattle.std.specs.Prelude.{◌≡◌, ◌<◌, ◌≤◌, None, IsTrue, IsSome, IfSome, IfNone, length, OnOk};
 ghost use Rattle.cc_defs.specs.Clauses.{IsLiteralOver};
 ghost use Rattle.cc_defs.specs.Limits.{most_variables};
@@ -107,8 +108,8 @@ impl Probe {
         }
     }
 
-    /// Begins, over those of the variables 1, .., `variables` that have no value, and for so many lines. Where these are as many as there are clauses, the lines
-    /// come to no more than these, and looking at all of them takes twice as long at most.
+    /// Begins, over those of the variables 1, .., `variables` that have no value, and for so many lines. Where these are as many
+    /// as there are clauses, the lines come to no more than these, and looking at all of them takes twice as long at most.
     pub fn begin(&mut self, trail: &Trail, variables: u32, lines: u32) -> Result<(), OutOfMemory>
         requires variables { variables ≡ trail.now.variables }
         requires few { trail.now.variables ≤ most_variables }

@@ -4,7 +4,7 @@ ghost use Rattle.cc_defs.specs.Assignments.{HasOpen};
 ghost use Rattle.cc_defs.specs.Limits.{most_variables};
 ghost use Rattle.cc_defs.specs.Rows.{IsRow};
 ghost use Rattle.cc_defs.specs.Sections.{row_denial};
-ghost use Rattle.cc_kernel.specs.Kernels.{AreAxioms, AreClauses, added, derived_count};
+ghost use Rattle.cc_kernel.specs.Kernels.{AreAxioms, added, derived_count};
 ghost use Rattle.cc_trail.specs.Steps.{values_of};
 ghost use Rattle.cc_cdcl.specs.LeastRows.{row_of};
 ghost use Rattle.cc_cdcl.specs.Sets.{assignment_of};
@@ -78,15 +78,6 @@ impl Model for Solver {
     ghost invariant = { IsSolver };
 }
 
-// Reads each clause once, since each is over the variables as it is read.
-fn read_clauses(kernel: &Kernel)
-    ensures { AreClauses kernel.now.variables kernel.now.entries }
-{
-    for index in 0..kernel.count() {
-        let _clause = kernel.clause(index + 1);
-    }
-}
-
 // Writes the first true value of each position.
 fn write_row(trail: &Trail, sizes: &[u32], row: &mut [u32])
     requires room { length row.old ≡ length sizes.now }
@@ -125,10 +116,10 @@ impl Solver {
         ensures { IfOk result (λ solver.
             solver ≡ record { sizes = sizes.now; kernel = kernel; standing = Ready }) }
     {
-        read_clauses(&kernel);
         let trail = Trail::new(alloc, &kernel)?;
-        let cursors = vec![in alloc; Cursor::start(); kernel.variables() as usize + 1]?;
-        let marks = vec![in alloc; Mark::none(); kernel.variables() as usize + 1]?;
+        let count = kernel.variables() as usize + 1;
+        let cursors = vec![in alloc; Cursor::start(); count]?;
+        let marks = vec![in alloc; Mark::none(); count]?;
         let own_sizes = Vec::from_slice(alloc, sizes)?;
         let row = vec![in alloc; 0u32; sizes.len()]?;
         Ok(Solver {

@@ -1,5 +1,5 @@
 //! The texts of log lines.
-ghost use Rattle.std.specs.Prelude.{◌≡◌, ◌++◌, ◌∷◌, IfOk, OnOk, codes, decimal, flat_map, string_bytes};
+ghost use Rattle.std.specs.Prelude.{◌≡◌, ◌++◌, ◌∷◌, ◌<◌, IfOk, OnOk, codes, decimal, flat_map, string_bytes};
 ghost use Rattle.std.specs.List.{join_with_byte};
 ghost use Rattle.cc_defs.specs.LogTexts.{IsFormed, end_word_text, line_parts, line_text, literal_text};
 
@@ -12,10 +12,23 @@ pub fn put_line(alloc: Global, line: &LogLine) -> Result<Text, OutOfMemory>
     requires { IsFormed line.now }
     ensures { IfOk result (λ text. text ≡ line_text line.now) }
 {
-    let mut text = String::new(alloc);
+    let mut text = String::with_capacity(alloc, room_of(line))?;
     push_parts(&mut text, line)?;
-    text.push_str("\n")?;
+    text.push('\n')?;
     Ok(Text::of(text))
+}
+
+// How many bytes a line mostly takes at the least.
+fn room_of(line: &LogLine) -> usize {
+    match line {
+        LogLine::Section { .. } => 4,
+        LogLine::Derived { clause, chain } => {
+            let count = clause.items().len().saturating_add(chain.items().len());
+            count.saturating_mul(4).saturating_add(8)
+        }
+        LogLine::Block { row } => row.items().len().saturating_mul(2).saturating_add(4),
+        LogLine::End(_) => 8,
+    }
 }
 
 // Writes the parts of a line, with a space between each two.
@@ -85,9 +98,18 @@ fn push_numbers(text: &mut String, numbers: &[u32]) -> Result<(), OutOfMemory>
         ≡ string_bytes text.old ++ flat_map (λ number. 32 ∷ decimal number) numbers.now) }
 {
     for number in numbers {
-        text.push_str(" ")?;
+        text.push(' ')?;
         push_number(text, *number)?;
     }
+    Ok(())
+}
+
+// Writes a number of one digit.
+fn push_digit(text: &mut String, digit: u32) -> Result<(), OutOfMemory>
+    requires { digit < 10 }
+    ensures { OnOk result (string_bytes text.new ≡ string_bytes text.old ++ decimal digit) }
+{
+    text.push(char::from(b'0' + digit as u8))?;
     Ok(())
 }
 
@@ -95,6 +117,9 @@ fn push_numbers(text: &mut String, numbers: &[u32]) -> Result<(), OutOfMemory>
 fn push_number(text: &mut String, number: u32) -> Result<(), OutOfMemory>
     ensures { OnOk result (string_bytes text.new ≡ string_bytes text.old ++ decimal number) }
 {
+    if number < 10 {
+        return push_digit(text, number);
+    }
     let mut digits = Buffer::new();
     text.push_str(digits.format(number))?;
     Ok(())

@@ -85,6 +85,7 @@ impl ClauseArena {
     }
 
     /// The clause of an index, from 0.
+    #[inline(always)]
     pub fn clause(&self, index: usize) -> &[Lit]
         requires { index < length self.now }
         ensures { slice_get self.now index ≡ Some result.now }

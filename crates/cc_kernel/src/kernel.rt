@@ -2,7 +2,7 @@
 ghost use Rattle.std.specs.Prelude.{◌≡◌, ℕ, ◌+◌, ◌<◌, ◌≤◌, ◌++◌, ◌∷◌, [], length, All, Contains, Some, None, IfOk, IfSome, OnOk, OnErr, IsTrue, IsSome, ◌↔◌, Ok};
 ghost use Rattle.cc_defs.specs.Clauses.{Literal, Clash, IsClause, IsOver, IsNumbered, IsResolvent, Reaches};
 ghost use Rattle.cc_defs.specs.Limits.{most_variables};
-ghost use Rattle.cc_kernel.specs.Kernels.{KernelView, Entry, clauses_of, added, axioms_of, IsThere, AreAxioms, IsStarted, ClashesWith, IsStepped, IsFinished, first_empty, DerivedFollow, empty_after, StageIsReached};
+ghost use Rattle.cc_kernel.specs.Kernels.{KernelView, Entry, clauses_of, added, axioms_of, AreClauses, IsThere, AreAxioms, IsStarted, ClashesWith, IsStepped, IsFinished, first_empty, DerivedFollow, empty_after, StageIsReached};
 ghost use Rattle.cc_kernel.specs.Parts.{entries_of};
 
 use cc_clauses::ClauseArena;
@@ -197,6 +197,7 @@ impl Kernel {
     pub fn variables(&self) -> u32
         ensures variables { result ≡ self.now.variables }
         ensures most { result ≤ most_variables }
+        ensures clauses { AreClauses self.now.variables self.now.entries }
         ensures reached { StageIsReached self.now }
     {
         self.variables

@@ -54,7 +54,7 @@ fn written(
     ensures { IfOk result (λ text.
         text ≡ texts.history_text (described table.now sig.now) horizon row.now) }
 {
-    let mut text = String::new(alloc);
+    let mut text = String::with_capacity(alloc, row.len().saturating_mul(4).saturating_add(16))?;
     push_history(&mut text, table, sig, horizon, row)?;
     Ok(Text::of(text))
 }
@@ -100,7 +100,7 @@ fn push_state(
     push_number(text, step)?;
     text.push_str(":")?;
     push_constants(text, table, sig, (0, sig.fluents()), row, place)?;
-    text.push_str("\n")?;
+    text.push('\n')?;
     Ok(())
 }
 
@@ -129,7 +129,7 @@ fn push_actions(
         row,
         place,
     )?;
-    text.push_str("\n")?;
+    text.push('\n')?;
     Ok(())
 }
 
@@ -173,7 +173,7 @@ fn push_shown(
     let value = constant.domain.items()[index as usize];
     if !is_boolean(table, constant.symbol) {
         push_indented(text, table, constant)?;
-        text.push_str("=")?;
+        text.push('=')?;
         text.push_str(object_name(table, value))?;
         Ok(())
     } else if value == 1 {
@@ -216,10 +216,10 @@ fn push_arguments(text: &mut String, table: &Table, args: &[u32]) -> Result<(), 
     match args {
         [] => Ok(()),
         [first, others @ ..] => {
-            text.push_str("(")?;
+            text.push('(')?;
             text.push_str(object_name(table, *first))?;
             push_other_arguments(text, table, others)?;
-            text.push_str(")")?;
+            text.push(')')?;
             Ok(())
         }
     }
@@ -232,7 +232,7 @@ fn push_other_arguments(text: &mut String, table: &Table, args: &[u32]) -> Resul
         ++ flat_map (λ name. 44 ∷ name) (map (texts.object_text (named_by table.now)) args.now)) }
 {
     for object in args {
-        text.push_str(",")?;
+        text.push(',')?;
         text.push_str(object_name(table, *object))?;
     }
     Ok(())

@@ -1,5 +1,5 @@
 //! The printed texts of keys, events and refusals.
-ghost use Rattle.std.specs.Prelude.{◌≡◌, ◌++◌, ◌∷◌, [], IfOk, OnOk, codes, decimal, string_bytes, map, flat_map};
+ghost use Rattle.std.specs.Prelude.{◌≡◌, ◌++◌, ◌∷◌, ◌<◌, [], IfOk, OnOk, codes, decimal, string_bytes, map, flat_map};
 ghost use Rattle.std.specs.List.{join_with_byte};
 ghost use Rattle.cc_defs.specs.Events as events;
 ghost use Rattle.cc_defs.specs.Texts as texts;
@@ -13,7 +13,9 @@ use std::alloc::Global;
 pub fn key_text(alloc: Global, horizon: u32, row: &[u32]) -> Result<Text, OutOfMemory>
     ensures { IfOk result (λ text. text ≡ texts.key_text horizon row.now) }
 {
-    let mut text = format!(in alloc; "{horizon}:")?;
+    let mut text = String::with_capacity(alloc, row.len().saturating_mul(2).saturating_add(12))?;
+    push_number(&mut text, horizon)?;
+    text.push(':')?;
     push_row(&mut text, row)?;
     Ok(Text::of(text))
 }
@@ -124,7 +126,7 @@ fn push_others(text: &mut String, others: &[u32]) -> Result<(), OutOfMemory>
         ≡ string_bytes text.old ++ flat_map (λ digits. 44 ∷ digits) (map decimal others.now)) }
 {
     for index in others {
-        text.push_str(",")?;
+        text.push(',')?;
         push_number(text, *index)?;
     }
     Ok(())
@@ -167,10 +169,22 @@ pub(crate) fn push_number(text: &mut String, number: u32) -> Result<(), OutOfMem
     push_count(text, u64::from(number))
 }
 
+/// Writes a number of one digit at the end of a text.
+fn push_digit(text: &mut String, digit: u64) -> Result<(), OutOfMemory>
+    requires { digit < 10 }
+    ensures { OnOk result (string_bytes text.new ≡ string_bytes text.old ++ decimal digit) }
+{
+    text.push(char::from(b'0' + digit as u8))?;
+    Ok(())
+}
+
 /// Writes a count in decimal at the end of a text.
 pub(crate) fn push_count(text: &mut String, count: u64) -> Result<(), OutOfMemory>
     ensures { OnOk result (string_bytes text.new ≡ string_bytes text.old ++ decimal count) }
 {
+    if count < 10 {
+        return push_digit(text, count);
+    }
     let mut digits = Buffer::new();
     text.push_str(digits.format(count))?;
     Ok(())

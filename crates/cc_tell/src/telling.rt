@@ -77,9 +77,10 @@ fn key_line(alloc: Global, horizon: u32, row: &[u32]) -> Result<String, OutOfMem
     ensures { IfOk result (λ line. string_bytes line ≡ texts.key_line horizon row.now) }
 {
     let key = key_text(alloc, horizon, row)?;
-    let mut line = String::from_str(alloc, "key ")?;
+    let mut line = String::with_capacity(alloc, key.text().len().saturating_add(5))?;
+    line.push_str("key ")?;
     line.push_str(key.text())?;
-    line.push_str("\n")?;
+    line.push('\n')?;
     Ok(line)
 }
 

@@ -119,6 +119,7 @@ impl Links {
     }
 
     /// The node that the walk has come to.
+    #[inline(always)]
     pub fn current(&self) -> Option<u32>
         ensures some { IfSome result (λ node. BeginsWith self.now.ahead node) }
         ensures within { IfSome result (λ node. node < length self.now.watched) }

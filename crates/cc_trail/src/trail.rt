@@ -3,7 +3,7 @@ ghost use Rattle.std.specs.Prelude.{◌≡◌, ◌≢◌, ℕ, ◌+◌, ◌*◌,
 ghost use Rattle.cc_defs.specs.Assignments.{IsClosed};
 ghost use Rattle.cc_kernel.specs.Kernels.{KernelView, clauses_of, IsThere};
 ghost use Rattle.cc_trail.specs.EntryParts.{literal_of_step};
-ghost use Rattle.cc_defs.specs.Clauses.{Literal, IsClause, IsLiteralOver};
+ghost use Rattle.cc_defs.specs.Clauses.{Literal, IsLiteralOver};
 ghost use Rattle.cc_trail.specs.Steps.{AreSteps, step_of, values_of};
 ghost use Rattle.cc_trail.specs.Trails.{TrailView, Fits, IsSettled, IsNew, IsEmptyOver, IsAttached, IsLong, IsPairLong, IsLastCovered, IsDropped, IsPropagated, IsFailedClause, value_of, level_of_step, reason_of_step, decided, back_at, without_last};
 
@@ -19,7 +19,6 @@ use std::marker::Model;
 
 // Whether a clause has all literals of another one.
 fn is_part(part: &[Lit], clause: &[Lit]) -> bool
-    requires { IsClause clause.now }
     ensures { IsTrue result → (literal : Literal) →
         Contains part.now literal → Contains clause.now literal }
 {
@@ -200,8 +199,8 @@ impl Trail {
     }
 
     // Takes the nodes out of the last clauses that contain the clause of a number, which is to be attached next and stands for
-    // them then: where it leaves one literal, or none, that is true or unit by it. So a row that was denied costs nothing
-    // any more once a line denies it with others.
+    // them then: where one of them is false, or leaves one literal, its part is false, or leaves the same one. So a row that
+    // was denied costs nothing any more once a line denies it with others.
     fn drop_covered(&mut self, kernel: &Kernel, id: u32)
         requires fits { Fits self.old kernel.now }
         requires there { IsThere kernel.now id }

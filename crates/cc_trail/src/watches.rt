@@ -21,6 +21,7 @@ struct Ranked {
 
 // How good it is to watch a literal: best where it is not false, and else the better the later it became so. What watches a
 // literal that became false late is looked at again only from there on.
+#[inline(always)]
 fn rank_of(entries: &Entries, lit: Lit) -> Ranked
     requires { lit.variable ≤ entries.now.variables }
     ensures { result.lit ≡ lit }

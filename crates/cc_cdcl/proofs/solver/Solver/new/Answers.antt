@@ -16,7 +16,7 @@ invariant_of-result c =
     (c.in_ok-cursors.ensures.items_if_clones_equal (λ y h. search rules)) other ∙ c.start.ensures) in
     record {
       section = subst (λ (ns : List ℕ). IsSection ns c.args.kernel) (sym c.in_ok-own_sizes.ensures.items)
-          (section_new c.args.sizes.now c.args.kernel c.requires.axioms c.requires.positions c.read_clauses.ensures);
+          (section_new c.args.sizes.now c.args.kernel c.requires.axioms c.requires.positions c.variables.ensures.clauses);
       room =
           let count = c.in_ok-row.ensures.len in let long = c.in_ok-row.row.ok.0 in
           let same : length c.in_ok-own_sizes.own_sizes.items ≡ length c.args.sizes.now = ap length c.in_ok-own_sizes.ensures.items in omega arith;
