@@ -222,10 +222,14 @@ module _ (trail : TrailView) (kernel : KernelView) (start : ℕ) (at_start : IsA
     walking_there : IsWalking trail.steps trail.level_count (suc place) derivation.clause
     walking_there = subst (λ (n : ℕ). IsWalking trail.steps trail.level_count n derivation.clause) next_is derivation.walking
 
+    pub literal_here : (entries : List Literal) (literal : Literal) → entries ≡ map literal_of_step trail.steps → literal ≡ get_or entries place literal →
+        literal ≡ step_there.0.lit
+    literal_here entries literal entries_are literal_is =
+        literal_is ∙ ap (λ (es : List Literal). get_or es place literal) entries_are ∙ step_there.1.literal literal
+
     pub pivot_here : (entries : List Literal) (literal : Literal) (pivot : ℕ) → entries ≡ map literal_of_step trail.steps → literal ≡ get_or entries place literal →
         pivot ≡ literal.variable → pivot ≡ step_there.0.lit.variable
-    pivot_here entries literal pivot entries_are literal_is is =
-        is ∙ ap (λ (l : Literal). l.variable) (literal_is ∙ ap (λ (es : List Literal). get_or es place literal) entries_are ∙ step_there.1.literal literal)
+    pivot_here entries literal pivot entries_are literal_is is = is ∙ ap (λ (l : Literal). l.variable) (literal_here entries literal entries_are literal_is)
 
     module _ (pivot : ℕ) (pivot_is : pivot ≡ step_there.0.lit.variable) where
       pub pivot_over : (1 ≤ pivot) × (pivot ≤ trail.variables)
@@ -237,11 +241,34 @@ module _ (trail : TrailView) (kernel : KernelView) (start : ℕ) (at_start : IsA
       reason_there id at = reason_last trail.variables trail.steps trail.level_count are (clauses_of kernel) opened fits.clauses.reasons place step_there.0 step_there.1 (Some id)
           (ap (λ (n : ℕ). option_and_then reason_of_step (step_of trail.steps n)) (sym pivot_is) ∙ at)
 
-      pub reason_is_there : (id : ℕ) → option_and_then reason_of_step (step_of trail.steps pivot) ≡ Some id → IsThere kernel id
-      reason_is_there id at =
-          let (clause, numbered, there, others) = reasoned_at (clauses_of kernel) [] (take place trail.steps) step_there.0 (drop (suc place) trail.steps)
-          (subst (λ (ss : List Step). AreReasoned (clauses_of kernel) ss) step_there.1.split fits.clauses.reasons) id (reason_there id at) in
-          numbered_there kernel id clause numbered
+      -- the staged clause clashes with the reason where it has the opposite of the step's literal, and only there
+      module _ (literal : Literal) (literal_is : literal ≡ step_there.0.lit) (id : ℕ) (clause : List Literal)
+          (at : option_and_then reason_of_step (step_of trail.steps pivot) ≡ Some id) (staged : kernel.staged ≡ Some clause) where
+        pub clashes_here : Contains clause (opposite literal) → ClashesWith kernel pivot id
+        clashes_here here =
+            let (reason, numbered, there, others) = reasoned_at (clauses_of kernel) [] (take place trail.steps) step_there.0 (drop (suc place) trail.steps)
+            (subst (λ (ss : List Step). AreReasoned (clauses_of kernel) ss) step_there.1.split fits.clauses.reasons) id (reason_there id at) in (
+              derivation.clause,
+              reason,
+              derivation.staged,
+              numbered,
+              subst (λ (n : ℕ). Clash derivation.clause reason n) (sym pivot_is)
+                  (clash_at trail.variables trail.steps trail.level_count are (clauses_of kernel) opened fits.clauses.reasons place step_there.0 step_there.1 derivation.clause
+                  walking_there (may_of trail.steps trail.level_count derivation.clause unfinished) id (reason_there id at) reason numbered
+                  (subst (λ (l : Literal). Contains derivation.clause (opposite l)) literal_is
+                  (subst (λ (c : List Literal). Contains c (opposite literal)) (some_same clause derivation.clause kernel.staged staged derivation.staged) here))).0,
+            )
+
+        pub clashes_only_here : ClashesWith kernel pivot id → Contains clause (opposite literal)
+        clashes_only_here (other_staged, other, other_is, numbered, (sign, (here, alone), there)) =
+            let pivot_literal : Literal = record { variable = pivot; positive = sign } in
+            let inside : Contains derivation.clause pivot_literal =
+            subst (λ (c : List Literal). Contains c pivot_literal) (some_same other_staged derivation.clause kernel.staged other_is derivation.staged) here in
+            let same : pivot_literal ≡ opposite step_there.0.lit =
+            of_last trail.variables trail.steps trail.level_count are (clauses_of kernel) opened fits.clauses.reasons place step_there.0 step_there.1 derivation.clause
+            walking_there (may_of trail.steps trail.level_count derivation.clause unfinished) pivot_literal pivot_is inside in
+            subst (λ (c : List Literal). Contains c (opposite literal)) (some_same derivation.clause clause kernel.staged derivation.staged staged)
+            (subst (λ (l : Literal). Contains derivation.clause l) (same ∙ ap opposite (sym literal_is)) inside)
 
       pub goes_on : ((id : ℕ) → option_and_then reason_of_step (step_of trail.steps pivot) ≡ Some id → ClashesWith kernel pivot id → ⊥) → IsDeriving kernel trail place
       goes_on never = record {

@@ -25,3 +25,4 @@ mod Brought
 mod Shortening
 mod Reasons
 mod Probing
+mod Staged

@@ -1,14 +1,14 @@
 -- Behind the implication point: a step on a literal of a level below the last one leaves a clause that is false, and its one literal of
 -- the last level.
-use Rattle.std.proofs.Common.{◌≡◌, ◌≢◌, ◌∙◌, ℕ, ◌-◌, ◌<◌, ◌≤◌, suc, inl, inr, true, false, List, [], ◌∷◌, ◌++◌, length, map, take, drop, get_or, Option, Some, option_and_then, refl, sym, subst, ap, arith, length-append, eq-eqb}
+use Rattle.std.proofs.Common.{◌≡◌, ◌≢◌, ◌∙◌, ℕ, ◌-◌, ◌<◌, ◌≤◌, suc, inl, inr, Bool, not, true, false, List, [], ◌∷◌, ◌++◌, length, map, take, drop, get_or, Option, Some, option_and_then, refl, sym, subst, ap, arith, length-append, eq-eqb}
 use Rattle.std.specs.Prelude.{◌⊎◌, Contains}
 use Rattle.std.proofs.lemmas.Bool.{cases_lt, ltb-true}
 use Rattle.cc_defs.specs.Assignments.{IsFailed}
-use Rattle.cc_defs.specs.Clauses.{Literal, IsIn, IsResolvent}
-use Rattle.cc_kernel.specs.Kernels.{KernelView, IsStepped, IsThere, clauses_of}
+use Rattle.cc_defs.specs.Clauses.{Literal, Clash, IsIn, IsResolvent, opposite}
+use Rattle.cc_kernel.specs.Kernels.{KernelView, ClashesWith, IsStepped, IsThere, clauses_of}
 use Rattle.cc_trail.specs.declared.entries.Step.{Step}
 use Rattle.cc_trail.specs.EntryParts.{literal_of_step}
-use Rattle.cc_trail.specs.Steps.{AreSteps, IsRising, step_of, values_of}
+use Rattle.cc_trail.specs.Steps.{AreApart, AreSteps, IsRising, step_of, values_of}
 use Rattle.cc_trail.specs.Trails.{TrailView, Fits, reason_of_step}
 use Rattle.cc_trail.specs.Watches.{AreReasoned, HasReason, IsFalseBy}
 use Rattle.cc_cdcl.specs.Analysis.{IsFinal, OpenLevels, is_level, is_level_below, level_count_in, level_of}
@@ -20,8 +20,8 @@ use Rattle.cc_cdcl.proofs.Learning.{level_is, one_level}
 use Rattle.cc_cdcl.proofs.Levelling.{count_some}
 use Rattle.cc_cdcl.proofs.Levels.{failed_false, false_failed, in_found}
 use Rattle.cc_cdcl.proofs.Resolving.{in_front}
-use Rattle.cc_cdcl.proofs.Walking.{reasoned_at}
-use Rattle.cc_cdcl.proofs.Walks.{IsPlace, failed_front, step_at}
+use Rattle.cc_cdcl.proofs.Walking.{opposite_twice, reasoned_at}
+use Rattle.cc_cdcl.proofs.Walks.{IsPlace, failed_front, fresh_before, step_at}
 
 -- ---- levels in front of a step
 
@@ -160,6 +160,50 @@ module _ (trail : TrailView) (kernel : KernelView) (start : ℕ) (are : AreSteps
 
     pub reason_there_before : (id : ℕ) → option_and_then reason_of_step (step_of trail.steps literal.variable) ≡ Some id → IsThere kernel id
     reason_there_before id at = let (clause, numbered, there, others) = reason_before id at in numbered_there kernel id clause numbered
+
+    module _ (id : ℕ) (clause : List Literal) (at : option_and_then reason_of_step (step_of trail.steps literal.variable) ≡ Some id) (staged : kernel.staged ≡ Some clause) where
+      not_before : (other : Literal) → other.variable ≡ step_before.0.lit.variable → IsFalseBy (take (start - 1) trail.steps) other → ⊥
+      not_before other same (step, inside, is) = fresh_before (take (start - 1) trail.steps) (drop (suc (start - 1)) trail.steps) step_before.0
+          (subst AreApart step_before.1.split are.apart) step inside (ap (λ (l : Literal). l.variable) is ∙ same)
+
+      -- a false clause does not have both signs
+      not_both : (last : Literal) → Contains derivation.clause (opposite last) → Contains derivation.clause (opposite (opposite last)) → ⊥
+      not_both last one other = by last.positive (values_of trail.steps last.variable) (derivation.failed (opposite last) one) (derivation.failed (opposite (opposite last)) other)
+        where
+          by : (sign : Bool) (value : Option Bool) → value ≡ Some (not (not sign)) → value ≡ Some (not (not (not sign))) → ⊥
+          by true value is too = cc
+          by false value is too = cc
+
+      -- the staged clause clashes with the reason where it has the opposite of the step's literal
+      pub clashes_before : Contains clause (opposite literal) → ClashesWith kernel literal.variable id
+      clashes_before here = by (reason_before id at)
+        where
+          inside : Contains derivation.clause (opposite step_before.0.lit)
+          inside = subst (λ (l : Literal). Contains derivation.clause (opposite l)) literal_is
+              (subst (λ (c : List Literal). Contains c (opposite literal)) (some_same clause derivation.clause kernel.staged staged derivation.staged) here)
+
+          not_itself : (sign : Bool) → not (not (not sign)) ≡ sign → ⊥
+          not_itself true e = cc
+          not_itself false e = cc
+
+          by : HasReason (clauses_of kernel) (take (start - 1) trail.steps) step_before.0.lit id → ClashesWith kernel literal.variable id
+          by (reason, numbered, there, others) = (
+            derivation.clause,
+            reason,
+            derivation.staged,
+            numbered,
+            subst (λ (l : Literal). Clash derivation.clause reason l.variable) (sym literal_is) (
+              not step_before.0.lit.positive,
+              (inside, not_both step_before.0.lit inside),
+              (
+                subst (λ (l : Literal). Contains reason l) (sym (opposite_twice step_before.0.lit)) there,
+                (λ other. elim (others (opposite (opposite (opposite step_before.0.lit))) other) [
+                  | inl same ↦ not_itself step_before.0.lit.positive (ap (λ (l : Literal). l.positive) same)
+                  | inr before ↦ not_before (opposite (opposite (opposite step_before.0.lit))) refl before
+                ]),
+              ),
+            ),
+          )
 
     pub shortens : (new : KernelView) (id : ℕ) → option_and_then reason_of_step (step_of trail.steps literal.variable) ≡ Some id →
         is_level_below trail.level_count (level_of trail.steps literal.variable) ≡ true → IsStepped kernel new literal.variable id → IsShortening new trail (start - 1) × KeepsEntries kernel new

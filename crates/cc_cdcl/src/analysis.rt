@@ -1,8 +1,8 @@
 //! Conflict analysis: from a false clause back along the trail to the first unique implication point.
-ghost use Rattle.std.specs.Prelude.{◌≡◌, ◌≢◌, ◌&&◌, if◌then◌else◌, List, ℕ, ◌+◌, ◌<◌, ◌≤◌, ◌⊎◌, Some, None, IfOk, IfSome, IfNone, OnOk, OnErr, IsSome, IsTrue, [], length, option_and_then};
+ghost use Rattle.std.specs.Prelude.{◌≡◌, ◌≢◌, ◌&&◌, if◌then◌else◌, List, ℕ, ◌+◌, ◌<◌, ◌≤◌, ◌⊎◌, Some, None, IfOk, IfSome, IfNone, OnOk, OnErr, IsSome, IsTrue, Contains, [], length, option_and_then};
 ghost use Rattle.std.specs.Bool.{MatchBool};
 ghost use Rattle.cc_defs.specs.Assignments.{IsFailed};
-ghost use Rattle.cc_defs.specs.Clauses.{Literal, IsClause, IsOver};
+ghost use Rattle.cc_defs.specs.Clauses.{Literal, IsClause, IsOver, opposite};
 ghost use Rattle.cc_kernel.specs.Kernels.{ClashesWith, IsStepped, IsThere, added, clauses_of};
 ghost use Rattle.cc_trail.specs.Steps.{AreSteps, step_of, steps_to, values_of};
 ghost use Rattle.cc_trail.specs.Trails.{Fits, IsFailedClause, IsMild, IsSettled, reason_of_step};
@@ -155,32 +155,27 @@ fn is_final(trail: &Trail, kernel: &Kernel, held: usize) -> bool
     held == 1
 }
 
-// The reason of a variable's value, where the staged clause clashes with it.
-fn clashing_reason(trail: &Trail, kernel: &Kernel, pivot: u32) -> Option<u32>
-    requires some { 1 ≤ pivot }
+// The reason of the value of a true literal's variable, the pivot, where the staged clause has the opposite of the literal: then,
+// and only then, the two clash.
+fn clashing_reason(trail: &Trail, kernel: &Kernel, pivot: u32, lit: Lit) -> Option<u32>
     requires within { pivot ≤ trail.now.variables }
-    requires variables { trail.now.variables ≡ kernel.now.variables }
     requires staged { IsSome kernel.now.staged }
-    requires there { (id : ℕ) → option_and_then reason_of_step (step_of trail.now.steps pivot)
-        ≡ Some id → IsThere kernel.now id }
+    requires clash { (id : ℕ) (clause : List Literal) → option_and_then reason_of_step
+        (step_of trail.now.steps pivot) ≡ Some id → kernel.now.staged ≡ Some clause →
+        Contains clause (opposite lit) → ClashesWith kernel.now pivot id }
+    requires only { (id : ℕ) (clause : List Literal) → option_and_then reason_of_step
+        (step_of trail.now.steps pivot) ≡ Some id → kernel.now.staged ≡ Some clause →
+        ClashesWith kernel.now pivot id → Contains clause (opposite lit) }
     ensures some { IfSome result (λ id. ClashesWith kernel.now pivot id) }
     ensures reason { IfSome result (λ id.
         option_and_then reason_of_step (step_of trail.now.steps pivot) ≡ Some id) }
     ensures none { IfNone result ((id : ℕ) → option_and_then reason_of_step
         (step_of trail.now.steps pivot) ≡ Some id → ClashesWith kernel.now pivot id → ⊥) }
 {
-    let _variables = kernel.variables();
-    if !kernel.stages(Lit::positive(pivot)) && !kernel.stages(Lit::negative(pivot)) {
+    if !kernel.stages(lit.opposite()) {
         return None;
     }
-    match trail.reason(pivot) {
-        Some(id) => if kernel.clashes(pivot, id) {
-            Some(id)
-        } else {
-            None
-        },
-        None => None,
-    }
+    trail.reason(pivot)
 }
 
 // Where the walk back along the trail stands: in front of a place, with so many staged literals of the last level.
@@ -207,8 +202,9 @@ fn resolve_next(trail: &Trail, kernel: &mut Kernel, start: Walk) -> Result<Walk,
 {
     let entries = trail.entries();
     for place in (0..start.place).rev() {
-        let pivot = entries[place].variable();
-        match clashing_reason(trail, kernel, pivot) {
+        let lit = entries[place];
+        let pivot = lit.variable();
+        match clashing_reason(trail, kernel, pivot, lit) {
             Some(id) => {
                 let held = step_counted(trail, kernel, pivot, id, start.held)?;
                 return Ok(Walk { place, held });
@@ -285,11 +281,13 @@ fn is_worth(trail: &Trail, kernel: &Kernel, marks: &mut [Mark], variable: u32, i
 // the reason shortens it.
 fn shortening_reason(trail: &Trail, kernel: &Kernel, marks: &mut [Mark], lit: Lit) -> Option<u32>
     requires fits { Fits trail.now kernel.now }
-    requires some { 1 ≤ lit.variable }
     requires within { lit.variable ≤ trail.now.variables }
     requires staged { IsSome kernel.now.staged }
     requires there { (id : ℕ) → option_and_then reason_of_step
         (step_of trail.now.steps lit.variable) ≡ Some id → IsThere kernel.now id }
+    requires clash { (id : ℕ) (clause : List Literal) → option_and_then reason_of_step
+        (step_of trail.now.steps lit.variable) ≡ Some id → kernel.now.staged ≡ Some clause →
+        Contains clause (opposite lit) → ClashesWith kernel.now lit.variable id }
     ensures clash { IfSome result (λ id. ClashesWith kernel.now lit.variable id) }
     ensures reason { IfSome result (λ id.
         option_and_then reason_of_step (step_of trail.now.steps lit.variable) ≡ Some id) }
@@ -305,7 +303,7 @@ fn shortening_reason(trail: &Trail, kernel: &Kernel, marks: &mut [Mark], lit: Li
     }
     match trail.reason(pivot) {
         Some(id) => if is_worth(trail, kernel, marks, pivot, id) {
-            clashing_reason(trail, kernel, pivot)
+            Some(id)
         } else {
             None
         },

@@ -1,14 +1,6 @@
 use Rattle.std.proofs.Common.{◌-◌, refl, arith}
-use Rattle.cc_cdcl.proofs.Deriving.{at_of, goes_on, not_at_start, pivot_here, pivot_over, reason_is_there, steps_on}
+use Rattle.cc_cdcl.proofs.Deriving.{at_of, clashes_here, clashes_only_here, goes_on, literal_here, not_at_start, pivot_here, pivot_over, steps_on}
 use Rattle.cc_cdcl.proofs.analysis.resolve_next.Goals as goal
-
-pub clashing_reason-requires-clause-some : goal.clashing_reason-requires-clause-some
-clashing_reason-requires-clause-some c =
-    let at = at_of c.args.trail.now c.args.kernel.now c.loop-place.kernel c.loop-place.place c.loop-place.invariant.same c.entries-entries.ensures.steps c.requires.fits
-    c.requires.opened c.loop-place.invariant.derivation c.requires.unfinished in
-    (pivot_over c.args.trail.now c.loop-place.kernel c.loop-place.place at (c.loop-place.place - 1) refl c.variable-pivot.result
-    (pivot_here c.args.trail.now c.loop-place.kernel c.loop-place.place at (c.loop-place.place - 1) refl c.entries-entries.result.now c.index-entries-place.result
-    c.variable-pivot.result c.entries-entries.ensures.entries c.index-entries-place.is c.variable-pivot.ensures)).0
 
 pub clashing_reason-requires-clause-within : goal.clashing_reason-requires-clause-within
 clashing_reason-requires-clause-within c =
@@ -18,13 +10,25 @@ clashing_reason-requires-clause-within c =
     (pivot_here c.args.trail.now c.loop-place.kernel c.loop-place.place at (c.loop-place.place - 1) refl c.entries-entries.result.now c.index-entries-place.result
     c.variable-pivot.result c.entries-entries.ensures.entries c.index-entries-place.is c.variable-pivot.ensures)).1
 
-pub clashing_reason-requires-clause-there : goal.clashing_reason-requires-clause-there
-clashing_reason-requires-clause-there c =
+pub clashing_reason-requires-clause-clash : goal.clashing_reason-requires-clause-clash
+clashing_reason-requires-clause-clash c =
     let at = at_of c.args.trail.now c.args.kernel.now c.loop-place.kernel c.loop-place.place c.loop-place.invariant.same c.entries-entries.ensures.steps c.requires.fits
     c.requires.opened c.loop-place.invariant.derivation c.requires.unfinished in
-    reason_is_there c.args.trail.now c.loop-place.kernel c.loop-place.place at (c.loop-place.place - 1) refl c.variable-pivot.result
+    clashes_here c.args.trail.now c.loop-place.kernel c.loop-place.place at (c.loop-place.place - 1) refl c.variable-pivot.result
     (pivot_here c.args.trail.now c.loop-place.kernel c.loop-place.place at (c.loop-place.place - 1) refl c.entries-entries.result.now c.index-entries-place.result
-    c.variable-pivot.result c.entries-entries.ensures.entries c.index-entries-place.is c.variable-pivot.ensures)
+    c.variable-pivot.result c.entries-entries.ensures.entries c.index-entries-place.is c.variable-pivot.ensures) c.index-entries-place.result
+    (literal_here c.args.trail.now c.loop-place.kernel c.loop-place.place at (c.loop-place.place - 1) refl c.entries-entries.result.now c.index-entries-place.result
+    c.entries-entries.ensures.entries c.index-entries-place.is)
+
+pub clashing_reason-requires-clause-only : goal.clashing_reason-requires-clause-only
+clashing_reason-requires-clause-only c =
+    let at = at_of c.args.trail.now c.args.kernel.now c.loop-place.kernel c.loop-place.place c.loop-place.invariant.same c.entries-entries.ensures.steps c.requires.fits
+    c.requires.opened c.loop-place.invariant.derivation c.requires.unfinished in
+    clashes_only_here c.args.trail.now c.loop-place.kernel c.loop-place.place at (c.loop-place.place - 1) refl c.variable-pivot.result
+    (pivot_here c.args.trail.now c.loop-place.kernel c.loop-place.place at (c.loop-place.place - 1) refl c.entries-entries.result.now c.index-entries-place.result
+    c.variable-pivot.result c.entries-entries.ensures.entries c.index-entries-place.is c.variable-pivot.ensures) c.index-entries-place.result
+    (literal_here c.args.trail.now c.loop-place.kernel c.loop-place.place at (c.loop-place.place - 1) refl c.entries-entries.result.now c.index-entries-place.result
+    c.entries-entries.ensures.entries c.index-entries-place.is)
 
 pub step_counted-requires-clause-within : goal.step_counted-requires-clause-within
 step_counted-requires-clause-within c =
