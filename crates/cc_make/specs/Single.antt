@@ -1,5 +1,5 @@
 -- A desk with one text.
-use Rattle.std.specs.Prelude.{ℕ, List, [], Option, Some}
+use Rattle.std.specs.Prelude.{ℕ, List, [], Option, Some, true}
 use Rattle.cc_ports.specs.Contents.{Contents}
 
 -- each name is that of a file with this text
@@ -13,4 +13,4 @@ pub record Single : Type 0 where
   pub write_faults : ℕ
 
 abbrev pub contents_of : Single → Contents
-contents_of desk = record { files = each_is desk.text; rest = desk.rest; out = []; err = []; log = [] }
+contents_of desk = record { files = each_is desk.text; rest = desk.rest; out = []; err = []; log = []; keeps = true }

@@ -85,4 +85,8 @@ impl<'a> Desk for TextDesk<'a> {
     fn give(&mut self, _to: To, _bytes: &[u8]) -> Result<usize, Failed> {
         Err(self.write_failed())
     }
+
+    fn drops_log(&self) -> bool {
+        false
+    }
 }

@@ -1,8 +1,8 @@
 -- What the calls of a desk make of what it told before them.
-use Rattle.std.proofs.Common.{◌≡◌, ℕ, ◌+◌, ◌≤◌, List, [], ◌++◌, take, drop, Option, Some, None, option_map, unwrap_or, IfSome, IsSome, OnErr, Result, Ok, Err, refl, sym, append_assoc, true≢false}
+use Rattle.std.proofs.Common.{◌≡◌, Bool, true, false, ℕ, ◌+◌, ◌≤◌, List, [], ◌++◌, take, drop, Option, Some, None, option_map, unwrap_or, IfSome, IsSome, OnErr, Result, Ok, Err, refl, sym, append_assoc, true≢false}
 use Rattle.std.proofs.lemmas.List.{take-append-drop, take-take}
 use Rattle.std.proofs.Math.Seq.{take-add}
-use Rattle.cc_ports.specs.Contents.{Contents, with_rest, content_of, after_read, ReadsFrom, appended, after_give, IsPrefix}
+use Rattle.cc_ports.specs.Contents.{Contents, kept_behind, with_rest, content_of, after_read, ReadsFrom, appended, after_give, IsPrefix}
 use Rattle.cc_ports.specs.declared.desk.Failed.{Failed}
 use Rattle.cc_ports.specs.declared.desk.To.{To}
 use Rattle.cc_ports.specs.declared.desk.To.TheVariants as outputs
@@ -29,6 +29,10 @@ was_read name bytes more buffer n (Some c) now new s e h joined =
     let reads = rw s.1 at h in
     (drop n s.0, rw (e, s.1) refl, rw (joined, reads.front, append_assoc, take-append-drop) s.2)
 
+kept_twice : (keeps : Bool) (log a b : List ℕ) → kept_behind keeps (kept_behind keeps log a) b ≡ kept_behind keeps log (a ++ b)
+kept_twice true log a b = append_assoc log a b
+kept_twice false log a b = refl
+
 -- a give appends a front of what was left to give
 pub was_given : (to : To) (bytes : List ℕ) (given most n : ℕ) (old now new : Option Contents) → n ≤ most
     → now ≡ option_map (appended to (take given bytes)) old
@@ -37,7 +41,7 @@ pub was_given : (to : To) (bytes : List ℕ) (given most n : ℕ) (old now new :
 was_given to bytes given most n None now new within s e = rw (e, s) refl
 was_given outputs.Out bytes given most n (Some c) now new within s e = rw (e, s, take-add, append_assoc, take-take n most (drop given bytes) within) refl
 was_given outputs.Err bytes given most n (Some c) now new within s e = rw (e, s, take-add, append_assoc, take-take n most (drop given bytes) within) refl
-was_given outputs.Log bytes given most n (Some c) now new within s e = rw (e, s, take-add, append_assoc, take-take n most (drop given bytes) within) refl
+was_given outputs.Log bytes given most n (Some c) now new within s e = rw (e, s, take-add, kept_twice, take-take n most (drop given bytes) within) refl
 
 -- a give that fails appends nothing
 pub was_kept : (result : Result (Unit {0}) Failed) (to : To) (bytes : List ℕ) (given most : ℕ) (old now new : Option Contents)

@@ -4,13 +4,14 @@ use Rattle.cc_ports.specs.declared.desk.Failed.{Failed}
 use Rattle.cc_ports.specs.declared.desk.To.{To}
 use Rattle.cc_ports.specs.declared.desk.To.TheVariants as outputs
 
--- the files by name, what is left of the file being read, and what was written
+-- the files by name, what is left of the file being read, what was written, and whether Log keeps what is given to it or drops it
 pub record Contents : Type 0 where
   pub files : List ℕ → Option (List ℕ)
   pub rest : List ℕ
   pub out : List ℕ
   pub err : List ℕ
   pub log : List ℕ
+  pub keeps : Bool
 
 abbrev pub with_rest : List ℕ → Contents → Contents
 with_rest rest c = record c { rest = rest }
@@ -41,11 +42,16 @@ output_of outputs.Out c = c.out
 output_of outputs.Err c = c.err
 output_of outputs.Log c = c.log
 
--- after these bytes were appended to an output
+-- what an output holds behind these bytes once more were given to it, where it keeps what is given to it, or drops it
+abbrev pub kept_behind : Bool → List ℕ → List ℕ → List ℕ
+kept_behind true bytes more = bytes ++ more
+kept_behind false bytes more = bytes
+
+-- after these bytes were given to an output
 abbrev pub appended : To → List ℕ → Contents → Contents
 appended outputs.Out bytes c = record c { out = c.out ++ bytes }
 appended outputs.Err bytes c = record c { err = c.err ++ bytes }
-appended outputs.Log bytes c = record c { log = c.log ++ bytes }
+appended outputs.Log bytes c = record c { log = kept_behind c.keeps c.log bytes }
 
 -- after a give that took so many of the bytes, or that failed
 abbrev pub after_give : To → Result ℕ Failed → List ℕ → Contents → Contents

@@ -1,5 +1,5 @@
 -- Files in memory, and a desk in memory as its callers see it.
-use Rattle.std.specs.Prelude.{◌≡◌, ℕ, ◌+◌, ◌≤◌, Bool, false, min, List, [], length, slice_index_or, Option, option_map, Contains, nat_eq}
+use Rattle.std.specs.Prelude.{◌≡◌, ℕ, ◌+◌, ◌≤◌, Bool, true, false, min, List, [], length, slice_index_or, Option, option_map, Contains, nat_eq}
 use Rattle.std.specs.List.{position}
 use Rattle.std.specs.Cmp.Lexicographic.{pointwise}
 use Rattle.cc_ports.specs.declared.desk.To.{To}
@@ -51,7 +51,7 @@ new_memory files fails most room = record {
 }
 
 abbrev pub contents_of : Memory → Contents
-contents_of m = record { files = file_in m.files; rest = m.rest; out = m.out.bytes; err = m.err.bytes; log = m.log.bytes }
+contents_of m = record { files = file_in m.files; rest = m.rest; out = m.out.bytes; err = m.err.bytes; log = m.log.bytes; keeps = true }
 
 abbrev pub room_of : To → Memory → ℕ
 room_of outputs.Out m = m.out.room

@@ -1,5 +1,5 @@
 //! What a program sees of the outside.
-ghost use Rattle.std.specs.Prelude.{◌≡◌, ℕ, ◌<◌, ◌≤◌, Bool, true, List, length, Option, option_map, IfOk, OnOk, OnErr, OnSome, IfSome, IsSome, is_ok, if◌then◌else◌};
+ghost use Rattle.std.specs.Prelude.{◌≡◌, ℕ, ◌<◌, ◌≤◌, Bool, true, false, List, length, Option, option_map, IfOk, OnOk, OnErr, OnSome, IfSome, IsSome, IsTrue, is_ok, if◌then◌else◌};
 ghost use Rattle.cc_ports.specs.Calls.{Call, Opens, Reads, Begins, Gives, with_call};
 ghost use Rattle.cc_ports.specs.Moments.{Moment};
 ghost use Rattle.cc_ports.specs.Contents.{Contents, with_rest, content_of, after_read, ReadsFrom, after_create, after_give, Rose};
@@ -83,4 +83,9 @@ pub trait Desk {
             × ((seen self.new).writes ≡ (seen self.old).writes)) }
         ensures reads_count { (seen self.old).reads ≤ (seen self.new).reads }
         ensures writes_count { (seen self.old).writes ≤ (seen self.new).writes };
+
+    /// Whether what is given to Log is dropped, so that it need not be made. It is never so once a log was begun.
+    fn drops_log(&self) -> bool
+        ensures told { IsTrue result → IfSome (seen self.now).told (λ c. c.keeps ≡ false) }
+        ensures begun { IsTrue result → (seen self.now).begun ≡ false };
 }

@@ -1,5 +1,5 @@
 //! A desk in memory, whose calls fail where they are told to.
-ghost use Rattle.std.specs.Prelude.{◌≡◌, ℕ, ◌-◌, ◌<◌, ◌≤◌, ◌⊎◌, ◌↔◌, min, Bool, true, List, length, Option, option_map, Some, None, IfOk, OnOk, OnErr, IfSome, IsSome, IsNone, IsErr, IsTrue, is_ok, if◌then◌else◌};
+ghost use Rattle.std.specs.Prelude.{◌≡◌, ℕ, ◌-◌, ◌<◌, ◌≤◌, ◌⊎◌, ◌↔◌, min, Bool, true, false, List, length, Option, option_map, Some, None, IfOk, OnOk, OnErr, IfSome, IsSome, IsNone, IsErr, IsTrue, is_ok, if◌then◌else◌};
 ghost use Rattle.cc_ports.specs.Contents.{Contents, with_rest, content_of, after_read, ReadsFrom, after_create, after_give, output_of, Rose};
 ghost use Rattle.cc_ports.specs.Memory.{Memory, new_memory, contents_of, file_in, room_of, next, CallFails, IsFull, KeepsSetting};
 
@@ -244,5 +244,11 @@ impl Desk for MemoryDesk {
             Ok(n) => Ok(n),
             Err(_) => Err(self.write_failed()),
         }
+    }
+
+    fn drops_log(&self) -> bool
+        ensures { result ≡ false }
+    {
+        false
     }
 }

@@ -99,4 +99,8 @@ impl Desk for RealDesk {
             _ => Err(fault(&mut self.write_faults)),
         }
     }
+
+    fn drops_log(&self) -> bool {
+        self.log.is_none()
+    }
 }

@@ -98,4 +98,10 @@ impl Desk for StillDesk {
     {
         Ok(bytes.len())
     }
+
+    fn drops_log(&self) -> bool
+        ensures { result ≡ false }
+    {
+        false
+    }
 }

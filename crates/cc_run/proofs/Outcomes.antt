@@ -15,7 +15,7 @@ use Rattle.cc_describe.specs.Describing.{AreFirstNames}
 use Rattle.cc_describe.specs.Places.{Files, HasPlaces}
 use Rattle.cc_judge.specs.Judging.{BlocksHistories, IsVerdictWithin}
 use Rattle.cc_ports.specs.Calls.{Call, names_begun, names_opened, with_calls}
-use Rattle.cc_ports.specs.Contents.{Contents, Rose, IsPrefix, with_rest}
+use Rattle.cc_ports.specs.Contents.{Contents, Rose, IsPrefix, kept_behind, with_rest}
 use Rattle.cc_ports.specs.declared.desk.To.TheVariants as outputs
 use Rattle.cc_ports.specs.Moments.{Moment}
 use Rattle.cc_print.specs.Verdicts.{verdict_line}
@@ -48,7 +48,7 @@ use Rattle.cc_tell.specs.Givens.{adding, given_to, AreFronts, Given, nothing, on
 use Rattle.cc_words.specs.Requests.{Checking, Listing, Request, ToBeSure, ToCheck, ToCheckGeneral, ToCheckModels, ToCheckSure, ToConvert, ToExplain, ToExport, ToList, ToListGenerally, ToMake, ToModel}
 use Rattle.cc_words.specs.Words.{Text}
 use Rattle.cc_tell.proofs.Calls.{called_none, called_on}
-use Rattle.cc_tell.proofs.GivenSteps.{calm_both}
+use Rattle.cc_tell.proofs.GivenSteps.{calm_both, kept-nothing}
 use Rattle.cc_run.proofs.Callings.{asks_behind, asks_nothing, first_none, may_be_refused, some_asked_of, stop_answers_nothing, told_answers_nothing}
 
 -- ---- counts
@@ -72,12 +72,12 @@ rose_twice a b c (inr end) (inr again) = inr again
 abbrev pub left : Given → Bool → Left
 left given begun = record { given = given; begun = begun }
 
-fresh_left : (c : Contents) (given : Given) (begun : Bool) → IsFresh c → left_in (adding given c) begun ≡ left given begun
+fresh_left : (c : Contents) (given : Given) (begun : Bool) → IsFresh c → left_in (adding given c) given.log begun ≡ left given begun
 fresh_left c given begun fresh = λ i. record {
   given = record {
     out = ap (λ w. w ++ given.out) fresh.out i;
     err = ap (λ w. w ++ given.err) fresh.err i;
-    log = ap (λ w. w ++ given.log) fresh.log i;
+    log = given.log;
   };
   begun = begun;
 }
@@ -90,6 +90,8 @@ comes_over : (words : List Text) (before c : Contents) (given : Given) (begun : 
     Comes before.files words (left given begun) r → Leaves words before (adding given c) begun r
 comes_over words before c given begun r fresh files how = record {
   files = files;
+  log = given.log;
+  logged = ap (λ (log : List ℕ). kept_behind c.keeps log given.log) fresh.log;
   how = subst (λ l. Comes before.files words l r) (sym (fresh_left c given begun fresh)) how;
 }
 
@@ -281,7 +283,7 @@ refused_known (Some c) request refusal file refused = refused c.files
 
 leaves_read : (words : List Text) (rest : List ℕ) (c after : Contents) (begun : Bool) (r : Result Status Stop) → Leaves words (with_rest rest c) after begun r →
     Leaves words c after begun r
-leaves_read words rest c after begun r over = record { files = over.files; how = over.how }
+leaves_read words rest c after begun r over = record { files = over.files; log = over.log; logged = over.logged; how = over.how }
 
 told_read : (words : List Text) (rest : List ℕ) (old mid new : Option Contents) (was at begun : Bool) (r : Result Status Stop) → mid ≡ option_map (with_rest rest) old → at ≡ was →
     IfSome mid (λ before. IsFresh before → at ≡ false → IsSomeAnd new (λ after. Leaves words before after begun r)) →
@@ -318,11 +320,16 @@ files_stay rest P (Some c) mid told h = subst (λ (m : Option Contents). IfSome 
 
 -- ---- a run that stopped before it gave anything
 
-fresh_nothing : (c : Contents) → IsFresh c → (left_in c false).given ≡ nothing
-fresh_nothing c fresh = λ i. record { out = fresh.out i; err = fresh.err i; log = fresh.log i }
+fresh_nothing : (c : Contents) → IsFresh c → (left_in c [] false).given ≡ nothing
+fresh_nothing c fresh = λ i. record { out = fresh.out i; err = fresh.err i; log = [] }
 
 leaves_nothing : (words : List Text) (before c : Contents) (begun : Bool) (stop : Stop) → c.files ≡ before.files → IsFresh c → begun ≡ false → Leaves words before c begun (Err stop)
-leaves_nothing words before c begun stop files fresh none = record { files = files; how = inl (fresh_nothing c fresh, none) }
+leaves_nothing words before c begun stop files fresh none = record {
+  files = files;
+  log = [];
+  logged = fresh.log ∙ sym (kept-nothing c.keeps []);
+  how = inl (fresh_nothing c fresh, none);
+}
 
 told_stopped : (words : List Text) (rest : List ℕ) (old new : Option Contents) (was begun : Bool) (stop : Stop) → new ≡ option_map (with_rest rest) old → begun ≡ was →
     IfSome old (λ before. IsFresh before → was ≡ false → IsSomeAnd new (λ after. Leaves words before after begun (Err stop)))
@@ -702,7 +709,9 @@ over_ended : (words : List Text) (status : Status) (c : Counts) (before : Conten
 over_ended words status c before None begun ends over = over
 over_ended words status c before (Some after) begun ends over = record {
   files = over.files;
-  answer = answers_ended before.files words status c (left_in after begun) ends over.how;
+  log = over.log;
+  logged = over.logged;
+  answer = answers_ended before.files words status c (left_in after over.log begun) ends over.how;
 }
 
 -- a run that came to its end
@@ -720,9 +729,9 @@ ended_is words begins x z status asked = ends_as_it_may (request_of words) statu
 
 -- ---- a run that was cut short
 
-left_behind : (m : Contents) (line : List ℕ) (begun : Bool) →
-    (left_in (adding (given_to outputs.Err line) m) begun).given ≡ record (left_in m begun).given { err = m.err ++ line }
-left_behind m line begun = λ i. record { out = append-nil m.out i; err = m.err ++ line; log = append-nil m.log i }
+left_behind : (m : Contents) (line log : List ℕ) (begun : Bool) →
+    (left_in (adding (given_to outputs.Err line) m) log begun).given ≡ record (left_in m log begun).given { err = m.err ++ line }
+left_behind m line log begun = λ i. record { out = append-nil m.out i; err = m.err ++ line; log = log }
 
 cut_short : (stop : Stop) (status : Status) (x y z : Moment) (line : List ℕ) → x.reads ≤ y.reads → x.writes ≤ y.writes → y.reads ≤ z.reads → y.writes ≤ z.writes →
     (stop ≡ stops.ReadFault → Rose x.reads y.reads) → (stop ≡ stops.WriteFault → Rose x.writes y.writes) →
@@ -762,10 +771,12 @@ over_stopped words begins opens stop status x y z before (Some m) is prints tell
     let Done : Option Contents → Type 0 = λ n. IsSomeAnd n (λ after. Answered before after z.begun words status (counts x z)) in
     subst Done (sym (tells.told ∙ ap (option_map (adding (given_to outputs.Err tells.line))) is)) (record {
       files = over.files;
+      log = over.log;
+      logged = kept-nothing m.keeps m.log ∙ over.logged;
       answer = cut_short stop status x y z tells.line prints.reads prints.writes tells.reads tells.writes
           (λ same. prints.read_fault (ap Err same)) (λ same. prints.write_fault (ap Err same)) tells.how
-          before.files words (left_in (adding (given_to outputs.Err tells.line) m) z.begun) (left_in m y.begun) over.how
-          (left_behind m tells.line z.begun) tells.begun;
+          before.files words (left_in (adding (given_to outputs.Err tells.line) m) over.log z.begun) (left_in m over.log y.begun) over.how
+          (left_behind m tells.line over.log z.begun) tells.begun;
     })
 
 -- a run that stopped, and told why

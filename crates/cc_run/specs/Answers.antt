@@ -2,7 +2,7 @@
 use Rattle.std.specs.Prelude.{◌≡◌, ℕ, ◌+◌, ◌≤◌, ◌⊎◌, Bool, false, List, [], ◌++◌, Option, Some, None}
 use Rattle.cc_defs.specs.declared.refusal.Refusal.{Refusal}
 use Rattle.cc_describe.specs.Places.{Files}
-use Rattle.cc_ports.specs.Contents.{Contents, IsPrefix, Rose}
+use Rattle.cc_ports.specs.Contents.{Contents, IsPrefix, Rose, kept_behind}
 use Rattle.cc_ports.specs.Moments.{Moment}
 use Rattle.cc_run.specs.Modes.Checking.{checking_promise}
 use Rattle.cc_run.specs.Modes.CheckingGeneral.{general_checking_promise}
@@ -124,11 +124,18 @@ Answers files words statuses.ReadFault counts left = CutShortBy files words stat
 Answers files words statuses.WriteFault counts left = CutShortBy files words statuses.WriteFault counts left
 Answers files words statuses.OutOfMemory counts left = CutShortBy files words statuses.OutOfMemory counts left
 
-abbrev pub left_in : Contents → Bool → Left
-left_in contents begun = record { given = record { out = contents.out; err = contents.err; log = contents.log }; begun = begun }
+-- what is in the outputs, with this for the log
+abbrev pub left_in : Contents → List ℕ → Bool → Left
+left_in contents log begun = record { given = record { out = contents.out; err = contents.err; log = log }; begun = begun }
+
+-- this was given to Log, where it keeps what is given to it; where it drops that, Log is empty
+abbrev pub IsLogOf : Contents → List ℕ → Type 0
+IsLogOf contents log = contents.log ≡ kept_behind contents.keeps [] log
 
 -- What a run leaves on a desk that tells its contents: the files are as before, and the three outputs, whether a log was begun,
 -- and the status are the answer to the words.
 pub record Answered (before after : Contents) (begun : Bool) (words : List Text) (status : Status) (counts : Counts) : Type 0 where
   pub files : after.files ≡ before.files
-  pub answer : Answers before.files words status counts (left_in after begun)
+  pub log : List ℕ
+  pub logged : IsLogOf after log
+  pub answer : Answers before.files words status counts (left_in after log begun)

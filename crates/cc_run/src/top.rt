@@ -51,8 +51,8 @@ const MADE: &str = "made";
 /// of a model itself, where heads may be of any form, or judges a log of that.
 ///
 /// `words` are the program's words without its name. Each line of an output is given by one `give_all`. The lines of the log
-/// are given to Log whether or not the words name a file for it. After a fault of the desk or want of memory one fixed line is
-/// given to Err, which takes no memory.
+/// are given to Log whether or not the words name a file for it, unless the desk drops what is given there. After a fault of the
+/// desk or want of memory one fixed line is given to Err, which takes no memory.
 pub fn run<D: Desk>(alloc: Global, words: &[String], desk: &mut D) -> Status
     // Where the desk tells its contents, nothing was written yet and no log was begun, the files, the three outputs, whether a
     // log was begun, and the status are the answer to the words: exactly the first refusal; or the first histories of the

@@ -1,7 +1,7 @@
 -- Steps that give to the outputs, one after another.
-use Rattle.std.proofs.Common.{◌≡◌, ℕ, ◌≤◌, List, [], ◌++◌, Option, Some, None, Result, Ok, Err, refl, sym, ◌∙◌, ap, subst, append_assoc, append-nil, arith, inl, inr, option_map, MatchResult}
+use Rattle.std.proofs.Common.{◌≡◌, Bool, true, false, IfSome, ℕ, ◌≤◌, List, [], ◌++◌, Option, Some, None, Result, Ok, Err, refl, sym, ◌∙◌, ap, subst, append_assoc, append-nil, arith, inl, inr, option_map, MatchResult}
 use Rattle.std.specs.Prelude.{IsErrAnd}
-use Rattle.cc_ports.specs.Contents.{Contents, appended, IsPrefix, Rose}
+use Rattle.cc_ports.specs.Contents.{Contents, appended, kept_behind, IsPrefix, Rose}
 use Rattle.cc_ports.specs.declared.desk.To.{To}
 use Rattle.cc_ports.specs.declared.desk.To.TheVariants as outputs
 use Rattle.cc_ports.specs.Moments.{Moment}
@@ -16,16 +16,24 @@ use Rattle.cc_tell.proofs.Calls.{called_both, called_none}
 pub joined-nothing : (a : Given) → joined a nothing ≡ a
 joined-nothing a = λ i. record { out = append-nil a.out i; err = append-nil a.err i; log = append-nil a.log i }
 
+pub kept-nothing : (keeps : Bool) (log : List ℕ) → kept_behind keeps log [] ≡ log
+kept-nothing true log = append-nil log
+kept-nothing false log = refl
+
+kept_twice : (keeps : Bool) (log a b : List ℕ) → kept_behind keeps (kept_behind keeps log a) b ≡ kept_behind keeps log (a ++ b)
+kept_twice true log a b = append_assoc log a b
+kept_twice false log a b = refl
+
 adding-nothing : (c : Contents) → adding nothing c ≡ c
-adding-nothing c = λ i. record c { out = append-nil c.out i; err = append-nil c.err i; log = append-nil c.log i }
+adding-nothing c = λ i. record c { out = append-nil c.out i; err = append-nil c.err i; log = kept-nothing c.keeps c.log i }
 
 adding_adding : (a b : Given) (c : Contents) → adding b (adding a c) ≡ adding (joined a b) c
-adding_adding a b c = λ i. record c { out = append_assoc c.out a.out b.out i; err = append_assoc c.err a.err b.err i; log = append_assoc c.log a.log b.log i }
+adding_adding a b c = λ i. record c { out = append_assoc c.out a.out b.out i; err = append_assoc c.err a.err b.err i; log = kept_twice c.keeps c.log a.log b.log i }
 
 adding_one : (to : To) (bytes : List ℕ) (c : Contents) → appended to bytes c ≡ adding (given_to to bytes) c
-adding_one outputs.Out bytes c = λ i. record c { out = c.out ++ bytes; err = sym (append-nil c.err) i; log = sym (append-nil c.log) i }
-adding_one outputs.Err bytes c = λ i. record c { out = sym (append-nil c.out) i; err = c.err ++ bytes; log = sym (append-nil c.log) i }
-adding_one outputs.Log bytes c = λ i. record c { out = sym (append-nil c.out) i; err = sym (append-nil c.err) i; log = c.log ++ bytes }
+adding_one outputs.Out bytes c = λ i. record c { out = c.out ++ bytes; err = sym (append-nil c.err) i; log = sym (kept-nothing c.keeps c.log) i }
+adding_one outputs.Err bytes c = λ i. record c { out = sym (append-nil c.out) i; err = c.err ++ bytes; log = sym (kept-nothing c.keeps c.log) i }
+adding_one outputs.Log bytes c = λ i. record c { out = sym (append-nil c.out) i; err = sym (append-nil c.err) i; log = kept_behind c.keeps c.log bytes }
 
 told-nothing : (o : Option Contents) → o ≡ option_map (adding nothing) o
 told-nothing None = refl
@@ -235,6 +243,31 @@ step_given to bytes x y v told begun reads writes called calm = record {
   };
   how = refl;
 }
+
+-- bytes for a log that drops them need not be given
+pub step_dropped : {X : Type 0} (bytes : List ℕ) (m : Moment) (v : X) → IfSome m.told (λ c. c.keeps ≡ false) → Step (given_to outputs.Log bytes) m m (Ok v)
+step_dropped bytes m v dropped = record {
+  given = given_to outputs.Log bytes;
+  moves = record {
+    told = told_dropped m.told dropped;
+    begun = refl;
+    reads = omega arith;
+    writes = omega arith;
+    called = called_none m;
+    calm = λ ok. (refl, refl);
+    no_read_fault = λ is. cc;
+    write_fault = λ is. cc;
+  };
+  how = refl;
+}
+  where
+    kept : (keeps : Bool) (log : List ℕ) → keeps ≡ false → log ≡ kept_behind keeps log bytes
+    kept true log is = absurd cc
+    kept false log is = refl
+
+    told_dropped : (told : Option Contents) → IfSome told (λ c. c.keeps ≡ false) → told ≡ option_map (adding (given_to outputs.Log bytes)) told
+    told_dropped None dropped = refl
+    told_dropped (Some c) dropped = ap Some (λ i. record c { out = sym (append-nil c.out) i; err = sym (append-nil c.err) i; log = kept c.keeps c.log dropped i })
 
 pub step_failed : {X : Type 0} (to : To) (front bytes : List ℕ) (x y : Moment) → IsPrefix front bytes → y.told ≡ option_map (appended to front) x.told →
     y.begun ≡ x.begun → x.reads ≤ y.reads → x.writes ≤ y.writes → Rose x.writes y.writes → Called [] [] x y → Step {X = X} (given_to to bytes) x y (Err stops.WriteFault)

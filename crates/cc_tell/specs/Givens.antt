@@ -2,7 +2,7 @@
 use Rattle.std.specs.Prelude.{ℕ, List, [], ◌++◌}
 use Rattle.cc_ports.specs.declared.desk.To.{To}
 use Rattle.cc_ports.specs.declared.desk.To.TheVariants as outputs
-use Rattle.cc_ports.specs.Contents.{IsPrefix, Contents}
+use Rattle.cc_ports.specs.Contents.{IsPrefix, Contents, kept_behind}
 
 -- what is given to the three outputs
 pub record Given : Type 0 where
@@ -34,7 +34,7 @@ pub record AreFronts (given whole : Given) : Type 0 where
 
 -- behind what is there
 abbrev pub adding : Given → Contents → Contents
-adding given c = record c { out = c.out ++ given.out; err = c.err ++ given.err; log = c.log ++ given.log }
+adding given c = record c { out = c.out ++ given.out; err = c.err ++ given.err; log = kept_behind c.keeps c.log given.log }
 
 -- bytes for one output
 abbrev pub given_to : To → List ℕ → Given

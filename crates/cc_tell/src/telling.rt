@@ -123,23 +123,29 @@ pub(crate) fn tell_event<D: Desk>(alloc: Global, desk: &mut D, event: &Event) ->
     give(desk, To::Out, text.text().as_bytes())
 }
 
-/// Gives a line of the log to Log.
+/// Gives a line of the log to Log; where it would be dropped, it is not made.
 pub(crate) fn tell_line<D: Desk>(alloc: Global, desk: &mut D, line: &LogLine) -> Result<(), Stop>
     requires { IsFormed line.now }
     ensures { Step (given_to outputs.Log (line_text line.now)) (D.seen desk.old) (D.seen desk.new)
         result }
 {
+    if desk.drops_log() {
+        return Ok(());
+    }
     let text = put_line(alloc, line)?;
     give(desk, To::Log, text.text().as_bytes())
 }
 
-/// Gives a line of the log to Log, in version 2, where its own clause has this number.
+/// The same in version 2, where the line's own clause has this number.
 fn tell_entry<D: Desk>(alloc: Global, desk: &mut D, own: u32, line: &LogLine) -> Result<(), Stop>
     requires formed { IsFormed line.now }
     requires writable { IsWritable own line.now }
     ensures { Step (given_to outputs.Log (entry_bytes (line_behind own line.now))) (D.seen desk.old)
         (D.seen desk.new) result }
 {
+    if desk.drops_log() {
+        return Ok(());
+    }
     let bytes = put_binary(alloc, line, own)?;
     give(desk, To::Log, bytes.items())
 }

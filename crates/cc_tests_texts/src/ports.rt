@@ -119,6 +119,8 @@ fn reaches_the_machine(rt: HostRuntime) {
     let failed = matches!(absent, Err(ReadStop::Failed));
     let given = give_all(&mut desk, To::Err, b"to the error stream\n");
     let dropped = give_all(&mut desk, To::Log, b"to no log");
+    let is_dropped = desk.drops_log();
+    assert!(rt; is_dropped);
     assert!(rt; failed);
     assert_eq!(rt; given, Ok(()));
     assert_eq!(rt; dropped, Ok(()));

@@ -1,7 +1,10 @@
-use Rattle.std.proofs.Common.{[], ◌∷◌, ap}
+use Rattle.std.proofs.Common.{[], ◌∷◌, ◌∙◌, ap, sym}
 use Rattle.cc_arena.specs.GroundViews.{plain_ground_query}
+use Rattle.cc_tell.specs.declared.status.Status.TheVariants as statuses
+use Rattle.cc_words.specs.Requests.{ToConvert}
 use Rattle.cc_words.specs.Words.{Text}
 use Rattle.cc_run.proofs.Converted.{last_short, prints_accepted_log, prints_refused_log, says_of}
+use Rattle.cc_run.proofs.Outcomes.{log_asked_as, prints_unbegun}
 use Rattle.cc_run.proofs.modes.convert.convert_judged.Goals as goal
 
 pub give_accepted-requires-clause-says : goal.give_accepted-requires-clause-says
@@ -29,3 +32,9 @@ returns-in_ok-begin_log-in-Accepted g c = λ words converting d q asked to of na
     c.in-Accepted.from c.in-Accepted.to c.in-Accepted.blocked (c.args.to.now ∷ []) _ _ _ c.begin_log.result c.in_ok-begin_log-in-Accepted.field-0 c.give_accepted.result says
     c.in-Accepted.is (ap (λ (name : Text). name ∷ []) to) named judged c.begin_log.ensures c.in_ok-begin_log-in-Accepted.was
     (c.give_accepted.ensures.told d q of says) c.give_accepted.ensures.status
+
+pub returns-in_err-begin_log-in-Accepted : goal.returns-in_err-begin_log-in-Accepted
+returns-in_err-begin_log-in-Accepted g c = λ words converting d q asked to of named judged.
+    prints_unbegun words _ (c.args.to.now ∷ []) _ _ c.begin_log.result c.in_err-begin_log-in-Accepted.field-0.0 c.from_residual.result
+    (ap (λ (name : Text). name ∷ []) to ∙ sym (log_asked_as words (ToConvert converting) statuses.Right asked)) c.begin_log.ensures
+    c.in_err-begin_log-in-Accepted.was c.from_residual.ensures.1
