@@ -1,17 +1,18 @@
 -- A step of resolution by the number of literals of a level: what is staged then is what was, without the pivot's literal, and what
 -- the other clause brings.
-use Rattle.std.proofs.Common.{◌≡◌, ◌≢◌, ◌∙◌, ℕ, ◌+◌, ◌-◌, ◌*◌, ◌<◌, ◌≤◌, ◌||◌, suc, inl, inr, Bool, true, false, not, List, [], ◌∷◌, length, filter, Option, Some, refl, sym, subst, ap, arith, eqb-true, eq-eqb}
+use Rattle.std.proofs.Common.{◌≡◌, ◌≢◌, ◌∙◌, ℕ, ◌+◌, ◌-◌, ◌*◌, ◌<◌, ◌≤◌, ◌||◌, suc, inl, inr, Bool, true, false, not, List, [], ◌∷◌, length, filter, Option, Some, None, refl, sym, subst, ap, arith, eqb-true, eq-eqb}
 use Rattle.std.specs.Prelude.{◌⊎◌, ◌↔◌, ◌==◌, IsSome, IsTrue, IfSome, Contains, if◌then◌else◌}
 use Rattle.std.proofs.lemmas.Bool.Decides.{eqb_tells}
 use Rattle.cc_clauses.specs.Merging.{code}
 use Rattle.cc_clauses.proofs.Literals.{among, clause_cons, clause_low, clause_rest, contained, same_from_code, same_literal, same_members}
-use Rattle.cc_defs.specs.Clauses.{Literal, IsClause, IsIn, IsNumbered, IsOver, IsResolvent, opposite}
+use Rattle.cc_defs.specs.Clauses.{Literal, IsClause, IsIn, IsNumbered, IsOver, IsResolvent, Reaches, opposite}
 use Rattle.cc_defs.specs.Limits.{most_variables}
 use Rattle.cc_kernel.specs.Kernels.{KernelView, ClashesWith, IsStepped, StageIsReached, clauses_of}
 use Rattle.cc_stage.proofs.Sorting.{filtered_in, in_filter}
 use Rattle.cc_trail.specs.declared.entries.Step.{Step}
 use Rattle.cc_cdcl.specs.Analysis.{is_level, level_count_in, level_of}
 use Rattle.cc_cdcl.specs.Brought.{IsCounted, fresh_of, has_literal, is_fresh}
+use Rattle.cc_cdcl.proofs.Closed.{member_over}
 use Rattle.cc_cdcl.proofs.Deriving.{one_clause, some_same}
 
 -- ---- tests of literals
@@ -280,6 +281,17 @@ count_few steps level (literal ∷ clause) = by (is_level level (level_of steps 
 
 pub stage_here : (kernel : KernelView) (staged : List Literal) → StageIsReached kernel → kernel.staged ≡ Some staged → IsClause staged × IsOver kernel.variables staged
 stage_here kernel staged reached staged_is = let facts = rw staged_is at reached in (facts.1, facts.2)
+
+-- a literal that is staged is over the variables
+pub staged_over : (kernel : KernelView) (variables : ℕ) (literal : Literal) (is_staged : Bool) → variables ≡ kernel.variables → IsSome kernel.staged → StageIsReached kernel →
+    IfSome kernel.staged (λ clause. IsTrue is_staged ↔ Contains clause literal) → is_staged ≡ true → literal.variable ≤ variables
+staged_over kernel variables literal is_staged same some reached stages holds = by kernel.staged some reached stages
+  where
+    by : (staged : Option (List Literal)) → IsSome staged →
+        IfSome staged (λ clause. Reaches (clauses_of kernel) kernel.chain clause × IsClause clause × IsOver kernel.variables clause) →
+        IfSome staged (λ clause. IsTrue is_staged ↔ Contains clause literal) → literal.variable ≤ variables
+    by None some reached stages = absurd cc
+    by (Some clause) some reached stages = let over = member_over kernel.variables clause reached.2 literal (stages.0 holds) in omega (arith, over.1)
 
 -- there is one where a clause clashes with it
 pub some_staged : (kernel : KernelView) (pivot id : ℕ) → ClashesWith kernel pivot id → IsSome kernel.staged

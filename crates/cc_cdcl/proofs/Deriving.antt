@@ -1,7 +1,8 @@
 -- Conflict analysis: how the staged clause is resolved back along the trail, and what is derived in the end.
-use Rattle.std.proofs.Common.{◌≡◌, ◌≢◌, ◌∙◌, ℕ, ◌+◌, ◌-◌, ◌<◌, ◌≤◌, zero, suc, inl, inr, Bool, true, false, List, [], ◌∷◌, ◌++◌, length, map, take, drop, get_or, Option, Some, option_and_then, refl, sym, subst, ap, arith, length-append}
+use Rattle.std.proofs.Common.{◌≡◌, ◌≢◌, ◌∙◌, ℕ, ◌+◌, ◌-◌, ◌<◌, ◌≤◌, zero, suc, inl, inr, Bool, true, false, List, [], ◌∷◌, ◌++◌, length, map, take, drop, get_or, Option, Some, option_and_then, refl, sym, subst, ap, arith, length-append, append-nil}
 use Rattle.std.specs.Prelude.{◌⊎◌, Contains, slice_get, IfSome, OnErr, OnOk, Result, Ok, Err}
 use Rattle.std.specs.Bool.{MatchBool}
+use Rattle.std.specs.List.{AllByRecursion}
 use Rattle.std.proofs.lemmas.List.{length-map}
 use Rattle.cc_defs.specs.Assignments.{IsFailed}
 use Rattle.cc_defs.specs.Clauses.{Literal, Clash, IsClause, IsIn, IsLiteralOver, IsNumbered, IsOver, IsResolvent, Reaches, opposite}
@@ -10,7 +11,7 @@ use Rattle.cc_kernel.specs.Kernels.{Entry, KernelView, ClashesWith, IsFinished, 
 use Rattle.cc_trail.specs.declared.entries.Step.{Step}
 use Rattle.cc_trail.specs.EntryParts.{literal_of_step}
 use Rattle.cc_trail.specs.Steps.{AreApart, AreSteps, step_of, steps_to, values_of}
-use Rattle.cc_trail.specs.Trails.{TrailView, Fits, FitsClauses, IsAttached, IsFailedClause, IsMild, IsSettled, back_at, reason_of_step}
+use Rattle.cc_trail.specs.Trails.{TrailView, Fits, FitsClauses, IsAttached, IsAttachedOver, IsFailedClause, IsMild, IsPropagatedAt, IsSettled, back_at, reason_of_step}
 use Rattle.cc_trail.specs.Watches.{AreReasoned, IsFalseBy}
 use Rattle.cc_cdcl.specs.Analysis.{IsFinal, IsLearned, IsUnfinished, IsWalking, MayResolve, OpenLevels, highest_but, level_count_in}
 use Rattle.cc_cdcl.specs.Derivations.{IsBackOver, IsDerived, IsDeriving, Learns}
@@ -409,15 +410,27 @@ module _ (trail : TrailView) (old staged new : KernelView) (are : AreSteps trail
 
 -- ---- going back, and attaching
 
+pub attached_alone : (old new : TrailView) → IsAttached old new → IsAttachedOver old new
+attached_alone old new attached = record {
+  more = [];
+  steps = attached.steps ∙ sym (append-nil old.steps);
+  each = tt;
+  variables = attached.variables;
+  level_count = attached.level_count;
+  attached = attached.attached;
+}
+
 pub attached_back : (law : AddingKeepsSettled) (old back new : TrailView) (before after : KernelView) (clause : List Literal) (level : ℕ) → level ≤ old.level_count →
     back ≡ back_at old level → old.attached ≡ length before.entries → (length after.entries ≡ length before.entries + 1) → clauses_of after ≡ clauses_of before ++ clause ∷ [] →
-    IsMild (steps_to level old.steps) level clause → IsSettled back before → IsAttached back new → Fits new after →
+    IsMild (steps_to level old.steps) level clause → IsSettled back before → IsAttachedOver back new → Fits new after →
     ((other : KernelView) → IsSettled back other → IsSettled new other) → IsBackOver old new after
-attached_back law old back new before after clause level low back_is all more clauses_are mild settled attached fits keeps = record {
+attached_back law old back new before after clause level low back_is all longer clauses_are mild settled attached fits keeps = record {
   back = level;
   low = low;
+  more = attached.more;
   variables = attached.variables ∙ ap (λ (t : TrailView). t.variables) back_is;
-  steps = attached.steps ∙ ap (λ (t : TrailView). t.steps) back_is;
+  steps = attached.steps ∙ ap (λ (t : TrailView). t.steps ++ attached.more) back_is;
+  each = subst (λ (t : TrailView). AllByRecursion (IsPropagatedAt t.level_count) attached.more) back_is attached.each;
   level_count = attached.level_count ∙ ap (λ (t : TrailView). t.level_count) back_is;
   all = let one = attached.attached in let same = ap (λ (t : TrailView). t.attached) back_is in omega arith;
   fits = fits;

@@ -24,7 +24,7 @@ opens_more level steps (step ∷ more) each opened =
     subst OpenLevels (append_assoc steps (step ∷ []) more)
     (opens_more level (steps ++ step ∷ []) more each.1 (opens_push [] steps step opened (λ none. absurd (no_decision level step each.0 none))))
 
-chosen_more : (sizes : List ℕ) (level : ℕ) (steps more : List Step) → AllByRecursion (IsPropagatedAt level) more → AreChosen sizes steps → AreChosen sizes (steps ++ more)
+pub chosen_more : (sizes : List ℕ) (level : ℕ) (steps more : List Step) → AllByRecursion (IsPropagatedAt level) more → AreChosen sizes steps → AreChosen sizes (steps ++ more)
 chosen_more sizes level steps [] each chosen = subst (AreChosen sizes) (sym (append-nil steps)) chosen
 chosen_more sizes level steps (step ∷ more) each chosen =
     subst (AreChosen sizes) (append_assoc steps (step ∷ []) more)

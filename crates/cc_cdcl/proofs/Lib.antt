@@ -22,7 +22,7 @@ mod Standing
 mod News
 mod OpenExist
 mod Brought
-mod Shortening
+mod Shorter
 mod Reasons
 mod Probing
 mod Staged

@@ -1,6 +1,6 @@
 -- The clauses of a search: what is true of them at the start, as one more is added, and how few derived ones there are.
-use Rattle.std.proofs.Common.{◌≡◌, ◌≢◌, ◌∙◌, ℕ, ◌+◌, ◌^◌, ◌<◌, ◌≤◌, zero, suc, true, false, List, [], ◌∷◌, ◌++◌, map, take, filter, Some, refl, sym, subst, ap, arith, append_assoc, append-nil}
-use Rattle.std.specs.Prelude.{Contains, slice_get, is_some}
+use Rattle.std.proofs.Common.{◌≡◌, ◌≢◌, ◌∙◌, ℕ, ◌+◌, ◌^◌, ◌<◌, ◌≤◌, zero, suc, true, false, List, [], ◌∷◌, ◌++◌, map, filter, refl, sym, subst, ap, arith, append_assoc, append-nil}
+use Rattle.std.specs.Prelude.{Contains, is_some}
 use Rattle.std.specs.List.{AllByRecursion, sum}
 use Rattle.std.proofs.lemmas.List.{map-append}
 use Rattle.std.proofs.lemmas.List.Elements.{Contains-append_left, Contains-append_right}

@@ -123,7 +123,7 @@ phase_back phase sizes before after old new cursors is are back = record {
     fits = back.fits;
     all = back.all;
     settled = back.settled;
-    opened = subst OpenLevels (sym back.steps) (opened_to back.back old are is.of_kernel.opened);
+    opened = subst OpenLevels (sym back.steps) (opens_more back.back (steps_to back.back old.steps) back.more back.each (opened_to back.back old are is.of_kernel.opened));
   };
   room = is.room ∙ ap (λ (n : ℕ). n + 1) (sym back.variables);
   searching = λ e. searching_back sizes before after old new cursors (is.searching e) are back;

@@ -34,10 +34,11 @@ use Rattle.cc_cdcl.specs.Solvers.{AddsDerived, Failed, Found, IsStuck, Ready, Re
 use Rattle.cc_cdcl.proofs.Closed.{full_met}
 use Rattle.cc_cdcl.proofs.Denials.{denial_failed, denial_is_clause, denial_over}
 use Rattle.cc_cdcl.proofs.Deriving.{clauses_added, contains_numbered}
+use Rattle.cc_cdcl.proofs.Descending.{chosen_more, opens_more}
 use Rattle.cc_cdcl.proofs.Exactly.{has_row}
 use Rattle.cc_cdcl.proofs.Leasts.{chosen_front}
 use Rattle.cc_cdcl.proofs.Listing.{all_over, section_added, sum_within}
-use Rattle.cc_cdcl.proofs.Placing.{cursors_back}
+use Rattle.cc_cdcl.proofs.Placing.{cursors_back, cursors_grow}
 use Rattle.cc_cdcl.proofs.Resolving.{opens_front}
 use Rattle.cc_cdcl.proofs.Stepping.{back_front}
 
@@ -89,9 +90,12 @@ searching_back sizes before after old new cursors is are back =
       fits = back.fits;
       all = back.all;
       settled = back.settled;
-      opened = subst OpenLevels (sym back.steps) (opens_front [] (steps_to back.back old.steps) gone (subst OpenLevels front is.opened));
-      chosen = subst (AreChosen sizes) (sym back.steps) (chosen_front sizes [] (steps_to back.back old.steps) gone (subst (AreChosen sizes) front is.chosen));
-      cursors = rw (back.variables, back.steps, back.level_count) (cursors_back sizes old.variables old.steps old.level_count cursors is.cursors back.back back.low);
+      opened = subst OpenLevels (sym back.steps) (opens_more back.back (steps_to back.back old.steps) back.more back.each
+          (opens_front [] (steps_to back.back old.steps) gone (subst OpenLevels front is.opened)));
+      chosen = subst (AreChosen sizes) (sym back.steps) (chosen_more sizes back.back (steps_to back.back old.steps) back.more back.each
+          (chosen_front sizes [] (steps_to back.back old.steps) gone (subst (AreChosen sizes) front is.chosen)));
+      cursors = rw (back.variables, back.steps, back.level_count) (cursors_grow sizes old.variables (steps_to back.back old.steps) back.back cursors
+          (cursors_back sizes old.variables old.steps old.level_count cursors is.cursors back.back back.low) back.more);
     }
 
 derived_origin : origins.Derived ≡ origins.Axiom → ⊥

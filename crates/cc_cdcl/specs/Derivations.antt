@@ -1,10 +1,12 @@
 -- What the parts of conflict analysis do to a kernel and a trail.
-use Rattle.std.specs.Prelude.{◌≡◌, ◌≢◌, ℕ, ◌+◌, ◌*◌, ◌≤◌, List, [], length, Some}
+use Rattle.std.specs.Prelude.{◌≡◌, ◌≢◌, ℕ, ◌+◌, ◌*◌, ◌≤◌, List, [], ◌++◌, length, Some}
+use Rattle.std.specs.List.{AllByRecursion}
 use Rattle.cc_defs.specs.Assignments.{IsEarned, IsFailed}
 use Rattle.cc_defs.specs.Clauses.{Literal, IsClause, IsOver}
 use Rattle.cc_kernel.specs.Kernels.{KernelView, clauses_of}
+use Rattle.cc_trail.specs.declared.entries.Step.{Step}
 use Rattle.cc_trail.specs.Steps.{steps_to, values_of}
-use Rattle.cc_trail.specs.Trails.{TrailView, Fits, IsSettled}
+use Rattle.cc_trail.specs.Trails.{TrailView, Fits, IsPropagatedAt, IsSettled}
 use Rattle.cc_cdcl.specs.Analysis.{IsFinal, IsWalking}
 use Rattle.cc_cdcl.specs.Solvers.{AddsDerived}
 
@@ -30,12 +32,14 @@ pub record IsDerived (kernel : KernelView) (trail : TrailView) : Type 0 where
   pub place : ℕ
   pub derivation : IsShortening kernel trail place
 
--- a trail went back to a level, and all clauses of a kernel are attached to it
+-- A trail went back to a level, steps that have a reason may have followed there, and all clauses of a kernel are attached to it.
 pub record IsBackOver (old new : TrailView) (kernel : KernelView) : Type 0 where
   pub back : ℕ
   pub low : back ≤ old.level_count
+  pub more : List Step
   pub variables : new.variables ≡ old.variables
-  pub steps : new.steps ≡ steps_to back old.steps
+  pub steps : new.steps ≡ steps_to back old.steps ++ more
+  pub each : AllByRecursion (IsPropagatedAt back) more
   pub level_count : new.level_count ≡ back
   pub all : new.attached ≡ length kernel.entries
   pub fits : Fits new kernel

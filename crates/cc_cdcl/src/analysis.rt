@@ -15,6 +15,7 @@ ghost use Rattle.cc_cdcl.specs.Solvers.{AddsBlock, AddsDerived};
 use crate::laws::learned_is_earned;
 use crate::probe::Probe;
 use crate::redundancy::{DEEPEST, Mark, is_redundant};
+use crate::shortening::Shortening;
 use cc_defs::{Lit, OutOfMemory};
 use cc_kernel::{Kernel, Origin};
 use cc_trail::Trail;
@@ -316,7 +317,7 @@ fn shortening_reason(trail: &Trail, kernel: &Kernel, marks: &mut [Mark], lit: Li
 fn shorten(
     trail: &Trail,
     kernel: &mut Kernel,
-    marks: &mut [Mark],
+    shortening: &mut Shortening,
     start: usize,
 ) -> Result<(), OutOfMemory>
     requires fits { Fits trail.now kernel.old }
@@ -326,10 +327,17 @@ fn shorten(
     ensures kept { KeepsEntries kernel.old kernel.new }
 {
     let entries = trail.entries();
-    for place in (0..start).rev() {
+    shortening.begin();
+    shortening.take_in(trail, kernel)?;
+    let mut place = start;
+    while let Some(next) = shortening.next(place) {
+        place = next;
         let lit = entries[place];
-        match shortening_reason(trail, kernel, marks, lit) {
-            Some(id) => kernel.step(lit.variable(), id)?,
+        match shortening_reason(trail, kernel, &mut shortening.marks, lit) {
+            Some(id) => {
+                kernel.step(lit.variable(), id)?;
+                shortening.take_in(trail, kernel)?;
+            },
             None => {},
         }
     }
@@ -356,7 +364,7 @@ fn derive_first(trail: &Trail, kernel: &mut Kernel, id: u32) -> Result<usize, Ou
 fn derive(
     trail: &Trail,
     kernel: &mut Kernel,
-    marks: &mut [Mark],
+    shortening: &mut Shortening,
     probe: &mut Probe,
     id: u32,
 ) -> Result<(), OutOfMemory>
@@ -369,8 +377,8 @@ fn derive(
     ensures phase { probe.new.phase ≡ probe.old.phase }
 {
     let place = derive_first(trail, kernel, id)?;
-    probe.note_met(trail, kernel, place);
-    shorten(trail, kernel, marks, place)
+    probe.note_met(trail, kernel);
+    shorten(trail, kernel, shortening, place)
 }
 
 /// Derives the empty clause from a clause that is false where no level was opened.
@@ -395,7 +403,7 @@ pub fn refute(trail: &Trail, kernel: &mut Kernel, id: u32) -> Result<(), OutOfMe
 pub fn learn(
     trail: &mut Trail,
     kernel: &mut Kernel,
-    marks: &mut [Mark],
+    shortening: &mut Shortening,
     probe: &mut Probe,
     id: u32,
 ) -> Result<(), OutOfMemory>
@@ -415,7 +423,7 @@ pub fn learn(
     learned_is_earned();
     adding_keeps_fit();
     adding_keeps_settled();
-    derive(trail, kernel, marks, probe, id)?;
+    derive(trail, kernel, shortening, probe, id)?;
     let level = trail.level_count();
     let number = kernel.finish()?;
     let back = highest_but(trail, level, kernel.clause(number));

@@ -8,6 +8,7 @@ mod order;
 mod probe;
 mod redundancy;
 mod search;
+mod shortening;
 mod solver;
 
 pub use solver::{Solver, Step};

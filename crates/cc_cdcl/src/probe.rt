@@ -6,6 +6,7 @@ ghost use Rattle.std.specs.Prelude.{◌≡◌, ◌<◌, ◌≤◌, None, IsTrue,
 ghost use Rattle.cc_defs.specs.Clauses.{IsLiteralOver};
 ghost use Rattle.cc_defs.specs.Limits.{most_variables};
 ghost use Rattle.cc_trail.specs.Steps.{step_of, values_of};
+ghost use Rattle.cc_trail.specs.Trails.{Fits};
 ghost use Rattle.cc_cdcl.specs.Searches.{is_probing};
 ghost use Rattle.cc_cdcl.specs.Sets.{IsFull};
 
@@ -17,7 +18,10 @@ use cc_trail::Trail;
 use std::alloc::Global;
 
 /// After so many lines all decisions are taken back, then after twice, three times as many, and so on.
-const RUN: u32 = 100;
+const RUN: u32 = 60;
+
+/// After so many lines it is seen whether they are wide.
+const TRIAL: u32 = 50;
 
 /// What is done with a section.
 #[derive(Clone, Copy)]
@@ -203,36 +207,30 @@ impl Probe {
         }
     }
 
-    // Makes the variables above level 0 more active that are in front of a place of the trail and have a staged literal.
-    fn note_staged(&mut self, trail: &Trail, kernel: &Kernel, end: usize)
+    // Makes the variables above level 0 more active that have a staged literal.
+    fn note_staged(&mut self, trail: &Trail, kernel: &Kernel)
+        requires fits { Fits trail.now kernel.now }
         requires staged { IsSome kernel.now.staged }
-        requires within { end ≤ length trail.now.steps }
         ensures { self.new.phase ≡ self.old.phase }
     {
-        let entries = trail.entries();
-        for place in (0..end).rev() {
-            let lit = entries[place];
-            if !is_above(trail, 0, lit.variable()) {
-                return;
-            }
-            if kernel.stages(lit.opposite()) {
+        for lit in kernel.touched() {
+            if kernel.stages(*lit) && is_above(trail, 0, lit.variable()) {
                 self.order.bump(lit.variable());
             }
         }
     }
 
-    /// Makes the variables above level 0 more active that were met on the way from a false clause to the staged one, which is false in
-    /// front of a place of the trail.
-    pub fn note_met(&mut self, trail: &Trail, kernel: &Kernel, place: usize)
+    /// Makes the variables above level 0 more active that were met on the way from a false clause to the staged one.
+    pub fn note_met(&mut self, trail: &Trail, kernel: &Kernel)
+        requires fits { Fits trail.now kernel.now }
         requires staged { IsSome kernel.now.staged }
-        requires within { place ≤ length trail.now.steps }
         ensures { self.new.phase ≡ self.old.phase }
     {
         if !self.is_on() {
             return;
         }
         self.note_pivots(kernel.chain());
-        self.note_staged(trail, kernel, place);
+        self.note_staged(trail, kernel);
         self.order.grow();
     }
 
@@ -277,8 +275,8 @@ impl Probe {
         self.literals / 3 > self.steps / 4
     }
 
-    /// Counts a line. The probe is over where there were as many as it was begun for, or where the first half of its first run
-    /// brought wide lines.
+    /// Counts a line. The probe is over where there were as many as it was begun for, or where the first ones of its first run are
+    /// wide.
     pub fn count_line(&mut self) -> After
         ensures { self.new.phase ≡ self.old.phase }
     {
@@ -287,7 +285,7 @@ impl Probe {
             return After::End;
         }
         self.left = self.left.saturating_sub(1);
-        if self.run == RUN && self.left == RUN / 2 && self.is_wide() {
+        if self.run == RUN && self.left == RUN - TRIAL && self.is_wide() {
             return After::End;
         }
         if self.left > 0 {

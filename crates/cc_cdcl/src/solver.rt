@@ -14,8 +14,8 @@ use crate::analysis::{block, learn, refute};
 use crate::choice::{Cursor, true_value};
 use crate::laws::{earned_lines_are_few, least_row_is_found};
 use crate::probe::Probe;
-use crate::redundancy::Mark;
 use crate::search::{begin, count_line, search_on};
+use crate::shortening::Shortening;
 use cc_defs::{Lit, OutOfMemory};
 use cc_kernel::{Kernel, Origin};
 use cc_trail::Trail;
@@ -52,9 +52,8 @@ pub struct Solver {
     trail: Trail,
     // By level: where the choice behind it is looked for.
     cursors: Vec<Cursor>,
-    // By variable: what was found of its literal; none once a row was denied, since a line that comes from a denial would take
-    // a step more for each literal that it loses.
-    marks: Vec<Mark>,
+    // What shortening a line needs.
+    shortening: Shortening,
     // What is decided first, and whether that is over.
     probe: Probe,
     // The row that was found; its room is taken at once.
@@ -119,7 +118,7 @@ impl Solver {
         let trail = Trail::new(alloc, &kernel)?;
         let count = kernel.variables() as usize + 1;
         let cursors = vec![in alloc; Cursor::start(); count]?;
-        let marks = vec![in alloc; Mark::none(); count]?;
+        let shortening = Shortening::new(alloc, kernel.variables())?;
         let own_sizes = Vec::from_slice(alloc, sizes)?;
         let row = vec![in alloc; 0u32; sizes.len()]?;
         Ok(Solver {
@@ -127,7 +126,7 @@ impl Solver {
             kernel,
             trail,
             cursors,
-            marks,
+            shortening,
             probe: Probe::new(alloc),
             row,
             denial: Vec::new(alloc),
@@ -180,7 +179,7 @@ impl Solver {
                 learn(
                     &mut self.trail,
                     &mut self.kernel,
-                    &mut self.marks,
+                    &mut self.shortening,
                     &mut self.probe,
                     id,
                 )?;
@@ -218,7 +217,7 @@ impl Solver {
         let _variables = self.kernel.variables();
         write_denial(&self.sizes, &self.row, &mut self.denial)?;
         let number = block(&mut self.trail, &mut self.kernel, &self.denial)?;
-        self.marks.clear();
+        self.shortening.marks.clear();
         self.state = State::Ready;
         Ok(number)
     }

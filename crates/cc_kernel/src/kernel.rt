@@ -1,6 +1,6 @@
 //! A kernel of clauses: axioms and blocks are given, and a derived clause is only ever the resolvent of a chain.
 ghost use Rattle.std.specs.Prelude.{◌≡◌, ℕ, ◌+◌, ◌<◌, ◌≤◌, ◌++◌, ◌∷◌, [], length, All, Contains, Some, None, IfOk, IfSome, OnOk, OnErr, IsTrue, IsSome, ◌↔◌, Ok};
-ghost use Rattle.cc_defs.specs.Clauses.{Literal, Clash, IsClause, IsOver, IsNumbered, IsResolvent, Reaches};
+ghost use Rattle.cc_defs.specs.Clauses.{Literal, Clash, IsClause, IsIn, IsOver, IsNumbered, IsResolvent, Reaches};
 ghost use Rattle.cc_defs.specs.Limits.{most_variables};
 ghost use Rattle.cc_kernel.specs.Kernels.{KernelView, Entry, clauses_of, added, axioms_of, AreClauses, IsThere, AreAxioms, IsStarted, ClashesWith, IsStepped, IsFinished, first_empty, DerivedFollow, empty_after, StageIsReached};
 ghost use Rattle.cc_kernel.specs.Parts.{entries_of};
@@ -293,6 +293,15 @@ impl Kernel {
         ensures { IfSome self.now.staged (λ clause. IsTrue result ↔ Contains clause lit) }
     {
         self.stage.has(lit)
+    }
+
+    /// The literals of the staged clause, and perhaps others. Those that a step brought stand behind those that were there before.
+    pub fn touched(&self) -> &[Lit]
+        ensures touched { IfSome self.now.staged (λ clause. (literal : Literal) →
+            Contains clause literal → IsIn result.now literal) }
+        ensures reached { StageIsReached self.now }
+    {
+        self.stage.touched()
     }
 
     /// The chain of the staged clause, or else of the last one that was finished: the number of the clause that it

@@ -86,13 +86,13 @@ fresh_left c given begun fresh = λ i. record {
 abbrev pub Comes : Files → List Text → Left → Result Status Stop → Type 0
 Comes files words left r = MatchResult r (λ status. Ended files words status left) (λ _. GaveSoFar files words left)
 
-comes_over : (words : List Text) (before c : Contents) (given : Given) (begun : Bool) (r : Result Status Stop) → IsFresh c → c.files ≡ before.files →
-    Comes before.files words (left given begun) r → Leaves words before (adding given c) begun r
-comes_over words before c given begun r fresh files how = record {
-  files = files;
+comes_over : (words : List Text) (c : Contents) (given : Given) (begun : Bool) (r : Result Status Stop) → IsFresh c → Comes c.files words (left given begun) r →
+    Leaves words c (adding given c) begun r
+comes_over words c given begun r fresh how = record {
+  files = refl;
   log = given.log;
   logged = ap (λ (log : List ℕ). kept_behind c.keeps log given.log) fresh.log;
-  how = subst (λ l. Comes before.files words l r) (sym (fresh_left c given begun fresh)) how;
+  how = subst (λ l. Comes c.files words l r) (sym (fresh_left c given begun fresh)) how;
 }
 
 told_given : (words : List Text) (given : Given) (old new : Option Contents) (was begun : Bool) (r : Result Status Stop) → new ≡ option_map (adding given) old →
@@ -100,7 +100,7 @@ told_given : (words : List Text) (given : Given) (old new : Option Contents) (wa
     IfSome old (λ before. IsFresh before → was ≡ false → IsSomeAnd new (λ after. Leaves words before after begun r))
 told_given words given None new was begun r told how = tt
 told_given words given (Some c) new was begun r told how = λ fresh none.
-    subst (λ (n : Option Contents). IsSomeAnd n (λ after. Leaves words c after begun r)) (sym told) (comes_over words c c given begun r fresh refl (how none))
+    subst (λ (n : Option Contents). IsSomeAnd n (λ after. Leaves words c after begun r)) (sym told) (comes_over words c given begun r fresh (how none))
 
 -- what is known of a moment holds of all that follows from it
 pub known : (o : Option Contents) (P Q : Contents → Type 0) → ((c : Contents) → P c → Q c) → IfSome o P → IfSome o Q
@@ -327,7 +327,7 @@ leaves_nothing : (words : List Text) (before c : Contents) (begun : Bool) (stop 
 leaves_nothing words before c begun stop files fresh none = record {
   files = files;
   log = [];
-  logged = fresh.log ∙ sym (kept-nothing c.keeps []);
+  logged = fresh.log ∙ sym (kept-nothing before.keeps []);
   how = inl (fresh_nothing c fresh, none);
 }
 
@@ -521,7 +521,7 @@ pub told_search : (words : List Text) (given : Given) (old mid new : Option Cont
 told_search words given None mid new was begun r told moves how = tt
 told_search words given (Some c) mid new was begun r told moves how = λ fresh none.
     subst (λ (n : Option Contents). IsSomeAnd n (λ after. Leaves words c after begun r)) (sym (moves ∙ ap (option_map (adding given)) (told fresh)))
-    (comes_over words c c given begun r fresh refl (how none))
+    (comes_over words c given begun r fresh (how none))
 
 search_may : (words : List Text) (begins : Bool) (names : List Text) (manner : Manner) (task : Task) (x : Moment) (run : Run) (whole : Whole) (r : Result Status Stop) →
     IsForSearch words begins names manner task x → IsTold manner task run whole → IfOk r (λ status. whole.ends ≡ Some status) → IfOk r (MayEndWith (request_of words))

@@ -128,14 +128,14 @@ Answers files words statuses.OutOfMemory counts left = CutShortBy files words st
 abbrev pub left_in : Contents → List ℕ → Bool → Left
 left_in contents log begun = record { given = record { out = contents.out; err = contents.err; log = log }; begun = begun }
 
--- this was given to Log, where it keeps what is given to it; where it drops that, Log is empty
-abbrev pub IsLogOf : Contents → List ℕ → Type 0
-IsLogOf contents log = contents.log ≡ kept_behind contents.keeps [] log
+-- what this leaves in Log, where it was empty before: the same where Log keeps what is given to it, and nothing where it drops that
+abbrev pub LeavesLog : Contents → Contents → List ℕ → Type 0
+LeavesLog before after log = after.log ≡ kept_behind before.keeps [] log
 
 -- What a run leaves on a desk that tells its contents: the files are as before, and the three outputs, whether a log was begun,
 -- and the status are the answer to the words.
 pub record Answered (before after : Contents) (begun : Bool) (words : List Text) (status : Status) (counts : Counts) : Type 0 where
   pub files : after.files ≡ before.files
   pub log : List ℕ
-  pub logged : IsLogOf after log
+  pub logged : LeavesLog before after log
   pub answer : Answers before.files words status counts (left_in after log begun)

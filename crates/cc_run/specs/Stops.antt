@@ -4,7 +4,7 @@ use Rattle.cc_defs.specs.Runs.{Run}
 use Rattle.cc_describe.specs.Describing.{AreFirstNames}
 use Rattle.cc_ports.specs.Contents.{Contents, Rose}
 use Rattle.cc_ports.specs.Moments.{Moment}
-use Rattle.cc_run.specs.Answers.{Ended, GaveSoFar, IsLogOf, left_in}
+use Rattle.cc_run.specs.Answers.{Ended, GaveSoFar, LeavesLog, left_in}
 use Rattle.cc_run.specs.Names.{AreAsked, IsAnswer, MayEndWith, log_asked}
 use Rattle.cc_run.specs.Searching.{IsTold}
 use Rattle.cc_run.specs.Tasks.{Task, request_of}
@@ -35,7 +35,7 @@ pub record Searches (manner : Manner) (task : Task) (before : Given) (old new : 
 pub record Leaves (words : List (List ℕ)) (before after : Contents) (begun : Bool) (result : Result Status Stop) : Type 0 where
   pub files : after.files ≡ before.files
   pub log : List ℕ
-  pub logged : IsLogOf after log
+  pub logged : LeavesLog before after log
   pub how : MatchResult result (λ status. Ended before.files words status (left_in after log begun)) (λ _. GaveSoFar before.files words (left_in after log begun))
 
 -- the status of a run that ended or stopped

@@ -1,6 +1,6 @@
 //! A clause that is being derived.
 ghost use Rattle.std.specs.Prelude.{◌≡◌, ◌<◌, ◌≤◌, ◌↔◌, [], IsTrue, OnOk, OnErr, Contains};
-ghost use Rattle.cc_defs.specs.Clauses.{Literal, Clash, IsClause, IsResolvent};
+ghost use Rattle.cc_defs.specs.Clauses.{Literal, Clash, IsClause, IsIn, IsResolvent};
 ghost use Rattle.cc_defs.specs.Limits.{most_variables};
 ghost use Rattle.cc_stage.specs.Marks.{IsCovered, clause_of};
 
@@ -90,6 +90,14 @@ impl Stage {
         ensures { IsTrue result ↔ Contains self.now literal }
     {
         has(&self.marks, literal)
+    }
+
+    /// The literals of the clause, and perhaps others. Those that a step brought stand behind those that were there before.
+    pub fn touched(&self) -> &[Lit]
+        ensures { (literal : Literal) →
+            Contains self.now literal → IsIn result.now literal }
+    {
+        &self.touched
     }
 
     /// Whether the clause and another one have a resolvent on a variable, the pivot. The other one is read only where this

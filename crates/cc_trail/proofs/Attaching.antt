@@ -9,7 +9,7 @@ use Rattle.cc_kernel.specs.Kernels.{KernelView, Entry, clauses_of, IsThere}
 use Rattle.cc_trail.specs.declared.entries.Step.{Step}
 use Rattle.cc_trail.specs.Links.{no_literal, watched_at}
 use Rattle.cc_trail.specs.Pairs.{PairsView, IsPair, IsPaired, ArePaired, AreFollowed, other_in}
-use Rattle.cc_trail.specs.Watches.{IsWatched, Watches, partner}
+use Rattle.cc_trail.specs.Watches.{IsTrueBy, IsWatched, Watches, partner}
 use Rattle.cc_trail.specs.Trails.{TrailView, Fits, IsTrail, IsCovered, IsLong, IsPairLong, number_of}
 use Rattle.cc_trail.proofs.StepLists.{in_left, in_right, in_push}
 
@@ -22,7 +22,7 @@ all_over variables [] over = All-nil (λ (literal : Literal). IsLiteralOver vari
 all_over variables (literal ∷ clause) over =
     All-cons (λ (literal : Literal). IsLiteralOver variables literal) literal clause (over.0, over.1) (all_over variables clause over.2)
 
-different : (a b : Literal) → IsBefore a b → a ≡ b → ⊥
+pub different : (a b : Literal) → IsBefore a b → a ≡ b → ⊥
 different a b (inl lower) same = let variable : a.variable ≡ b.variable = ap (λ (l : Literal). l.variable) same in absurd (omega (arith, lower))
 different a b (inr (variable, negative, positive)) same =
     let sign : a.positive ≡ b.positive = ap (λ (l : Literal). l.positive) same in true_is_false (sym negative ∙ sign ∙ positive)
@@ -39,7 +39,7 @@ first_two (a ∷ b ∷ clause) one two d e is long one_is two_is same = differen
 
 module _ (old new : TrailView) (kernel : KernelView) (fits : Fits old kernel) (number : ℕ) (next : number ≡ old.attached + 1) (there : IsThere kernel number)
     (clause : List Literal) (numbered : IsNumbered (clauses_of kernel) number clause) where
-  within : number ≤ length (clauses_of kernel)
+  pub within : number ≤ length (clauses_of kernel)
   within =
       let most : number ≤ length kernel.entries = there.1 in
       let count : length (clauses_of kernel) ≡ length kernel.entries = length-map kernel.entries (λ (entry : Entry). entry.clause) in
@@ -107,22 +107,19 @@ followed_fewer : (pairs : PairsView) (fewer visited : ℕ) (steps : List Step) �
 followed_fewer pairs fewer visited steps few followed literal other there step here =
     followed literal other there step (take_fewer_in fewer visited steps step few here)
 
-module _ (old new : TrailView) (kernel : KernelView) (fits : Fits old kernel) (trail : IsTrail old) (number : ℕ) (next : number ≡ old.attached + 1) (there : IsThere kernel number)
-    (clause : List Literal) (numbered : IsNumbered (clauses_of kernel) number clause) (first second : Literal)
-    (first_in : Contains clause first) (second_in : Contains clause second) (apart : first ≢ second) (long : IsLong old new number first second) where
-  half : ℕ
-  half = length old.longs
-
+-- what has nodes, where one long clause more has them
+module _ (old new : TrailView) (trail : IsTrail old) (number : ℕ) (first second : Literal) (longs_are : new.longs ≡ old.longs ++ number ∷ [])
+    (watched_are : new.watched ≡ old.watched ++ first ∷ second ∷ []) where
   nodes_then : length new.watched ≡ 2 * length old.longs + 2
-  nodes_then = let before = trail.nodes in omega (arith, ap length long.watched, length-append old.watched (first ∷ second ∷ []))
+  nodes_then = let before = trail.nodes in omega (arith, ap length watched_are, length-append old.watched (first ∷ second ∷ []))
 
   old_at : (node : ℕ) → node < length old.watched → watched_at new.watched node ≡ watched_at old.watched node
-  old_at node low = rw long.watched (get_or_append_left old.watched (first ∷ second ∷ []) no_literal node low)
+  old_at node low = rw watched_are (get_or_append_left old.watched (first ∷ second ∷ []) no_literal node low)
 
   old_number : (node : ℕ) → node < length old.watched → number_of new.longs node ≡ number_of old.longs node
   old_number node low =
       let before = trail.nodes in
-      rw long.longs (get_or_append_left old.longs (number ∷ []) 0 (node / 2) (half_below node (length old.longs) (omega arith)))
+      rw longs_are (get_or_append_left old.longs (number ∷ []) 0 (node / 2) (half_below node (length old.longs) (omega arith)))
 
   old_partner : (node : ℕ) → node < length old.watched → partner node < length old.watched
   old_partner node low =
@@ -134,18 +131,18 @@ module _ (old new : TrailView) (kernel : KernelView) (fits : Fits old kernel) (t
   first_at =
       let before = trail.nodes in
       let place : length old.watched + 0 ≡ 2 * length old.longs = omega arith in
-      rw (long.watched, ← place) (get_or-append-add old.watched (first ∷ second ∷ []) 0 no_literal)
+      rw (watched_are, ← place) (get_or-append-add old.watched (first ∷ second ∷ []) 0 no_literal)
 
   second_at : watched_at new.watched (2 * length old.longs + 1) ≡ second
   second_at =
       let before = trail.nodes in
       let place : length old.watched + 1 ≡ 2 * length old.longs + 1 = omega arith in
-      rw (long.watched, ← place) (get_or-append-add old.watched (first ∷ second ∷ []) 1 no_literal)
+      rw (watched_are, ← place) (get_or-append-add old.watched (first ∷ second ∷ []) 1 no_literal)
 
   number_at : get_or new.longs (length old.longs) 0 ≡ number
   number_at =
       let place : length old.longs + 0 ≡ length old.longs = omega arith in
-      rw long.longs (subst (λ (k : ℕ). get_or (old.longs ++ number ∷ []) k 0 ≡ number) place (get_or-append-add old.longs (number ∷ []) 0 0))
+      rw longs_are (subst (λ (k : ℕ). get_or (old.longs ++ number ∷ []) k 0 ≡ number) place (get_or-append-add old.longs (number ∷ []) 0 0))
 
   -- a node is an old one, or one of the two
   which : (node : ℕ) → node < length new.watched → (node < length old.watched) ⊎ ((node ≡ 2 * length old.longs) ⊎ (node ≡ 2 * length old.longs + 1))
@@ -160,16 +157,18 @@ module _ (old new : TrailView) (kernel : KernelView) (fits : Fits old kernel) (t
         ]
       ]
 
-  longs_then : (node : ℕ) → node < length new.watched → Watches (clauses_of kernel) new.steps (number_of new.longs node) new.watched node
-  longs_then node low = elim (which node low) [
+  pub longs_then : (clauses : List (List Literal)) (clause : List Literal) → IsNumbered clauses number clause → Contains clause first → Contains clause second → first ≢ second →
+      ((node : ℕ) → node < length old.watched → Watches clauses new.steps (number_of old.longs node) old.watched node) →
+      (node : ℕ) → node < length new.watched → Watches clauses new.steps (number_of new.longs node) new.watched node
+  longs_then clauses clause numbered first_in second_in apart longs node low = elim (which node low) [
     | inl before ↦
-        let watches = fits.clauses.longs node before in
+        let watches = longs node before in
         record {
           clause = watches.clause;
           numbered = rw (old_number node before) watches.numbered;
           here = rw (old_at node before) watches.here;
           there = rw (old_at (partner node) (old_partner node before)) watches.there;
-          apart = rw (old_at node before, old_at (partner node) (old_partner node before), long.steps) watches.apart;
+          apart = rw (old_at node before, old_at (partner node) (old_partner node before)) watches.apart;
         }
     | inr one_of ↦ elim one_of [
       | inl is ↦ rw is (record {
@@ -189,20 +188,41 @@ module _ (old new : TrailView) (kernel : KernelView) (fits : Fits old kernel) (t
     ]
   ]
 
-  watches_then : (node : ℕ) → node < length new.watched → IsWatched (take new.visited new.steps) new.steps new.watched node
-  watches_then node low = elim (which node low) [
+  pub watches_then : (visited : List Step) → ((node : ℕ) → node < length old.watched → IsWatched visited new.steps old.watched node) →
+      ((step : Step) → IsIn visited step → step.lit ≡ opposite first → IsTrueBy new.steps second step.level) →
+      ((step : Step) → IsIn visited step → step.lit ≡ opposite second → IsTrueBy new.steps first step.level) →
+      (node : ℕ) → node < length new.watched → IsWatched visited new.steps new.watched node
+  watches_then visited watches at_first at_second node low = elim (which node low) [
     | inl before ↦ λ step here is.
-        rw (old_at (partner node) (old_partner node before), long.steps)
-        (fits.clauses.watches node before step
-        (take_fewer_in new.visited old.visited old.steps step long.fewer (subst (λ (ss : List Step). IsIn (take new.visited ss) step) long.steps here))
-        (is ∙ ap opposite (old_at node before)))
+        rw (old_at (partner node) (old_partner node before)) (watches node before step here (is ∙ ap opposite (old_at node before)))
     | inr one_of ↦ elim one_of [
-      | inl at_first ↦ λ step here is.
-          absurd (long.first_open step here (ap (λ (l : Literal). l.variable) is ∙ ap (λ (k : ℕ). (watched_at new.watched k).variable) at_first ∙ ap (λ (l : Literal). l.variable) first_at))
-      | inr at_second ↦ λ step here is.
-          absurd (long.second_open step here (ap (λ (l : Literal). l.variable) is ∙ ap (λ (k : ℕ). (watched_at new.watched k).variable) at_second ∙ ap (λ (l : Literal). l.variable) second_at))
+      | inl same ↦ rw same (λ step here is. rw (partner_first (length old.longs), second_at) (at_first step here (is ∙ ap opposite first_at)))
+      | inr same ↦ rw same (λ step here is. rw (partner_second (length old.longs), first_at) (at_second step here (is ∙ ap opposite second_at)))
     ]
   ]
+
+module _ (old new : TrailView) (kernel : KernelView) (fits : Fits old kernel) (number : ℕ) (next : number ≡ old.attached + 1) (there : IsThere kernel number)
+    (clause : List Literal) (numbered : IsNumbered (clauses_of kernel) number clause) where
+  -- each clause is attached, where one more is among the long ones
+  pub each_long : (k : ℕ) → 0 < k → k ≤ number →
+      IsIn old.shorts k ⊎ (IsIn (old.longs ++ number ∷ []) k ⊎ (IsPaired old.pairs k ⊎ IsCovered (clauses_of kernel) k))
+  each_long k some most = elim (each_or old new kernel fits number next there clause numbered k some most) [
+    | inl before ↦ elim before [
+      | inl left ↦ inl left
+      | inr rest ↦ elim rest [
+        | inl right ↦ inr (inl (in_left old.longs (number ∷ []) k right))
+        | inr others ↦ inr (inr others)
+      ]
+    ]
+    | inr last ↦ inr (inl (in_right old.longs (number ∷ []) k (inl (sym last))))
+  ]
+
+module _ (old new : TrailView) (kernel : KernelView) (fits : Fits old kernel) (trail : IsTrail old) (number : ℕ) (next : number ≡ old.attached + 1) (there : IsThere kernel number)
+    (clause : List Literal) (numbered : IsNumbered (clauses_of kernel) number clause) (first second : Literal)
+    (first_in : Contains clause first) (second_in : Contains clause second) (apart : first ≢ second) (long : IsLong old new number first second) where
+  before_in : (step : Step) → IsIn (take new.visited new.steps) step → IsIn (take old.visited old.steps) step
+  before_in step here =
+      take_fewer_in new.visited old.visited old.steps step long.fewer (subst (λ (ss : List Step). IsIn (take new.visited ss) step) long.steps here)
 
   pub fits_long : Fits new kernel
   fits_long = record {
@@ -213,19 +233,13 @@ module _ (old new : TrailView) (kernel : KernelView) (fits : Fits old kernel) (t
       shorts = rw long.shorts fits.clauses.shorts;
       met_few = rw (long.met, long.shorts) fits.clauses.met_few;
       met = rw (long.met, long.shorts, long.steps) fits.clauses.met;
-      longs = longs_then;
+      longs = longs_then old new trail number first second long.longs long.watched (clauses_of kernel) clause numbered first_in second_in apart (rw long.steps fits.clauses.longs);
       pairs = rw long.pairs fits.clauses.pairs;
-      each = rw (long.attached, long.shorts, long.longs, long.pairs) (λ k some most. elim (each_or old new kernel fits number next there clause numbered k some most) [
-        | inl before ↦ elim before [
-          | inl left ↦ inl left
-          | inr rest ↦ elim rest [
-            | inl right ↦ inr (inl (in_left old.longs (number ∷ []) k right))
-            | inr others ↦ inr (inr others)
-          ]
-        ]
-        | inr last ↦ inr (inl (in_right old.longs (number ∷ []) k (inl (sym last))))
-      ]);
-      watches = watches_then;
+      each = rw (long.attached, long.shorts, long.longs, long.pairs) (each_long old new kernel fits number next there clause numbered);
+      watches = watches_then old new trail number first second long.longs long.watched (take new.visited new.steps)
+          (λ node low step here is. rw long.steps (fits.clauses.watches node low step (before_in step here) is))
+          (λ step here is. absurd (long.first_open step here (ap (λ (l : Literal). l.variable) is)))
+          (λ step here is. absurd (long.second_open step here (ap (λ (l : Literal). l.variable) is)));
       followed = rw (long.pairs, long.steps) (followed_fewer old.pairs new.visited old.visited old.steps long.fewer fits.clauses.followed);
     };
   }

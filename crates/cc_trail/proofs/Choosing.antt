@@ -1,7 +1,7 @@
 -- What a look-up of a literal tells, and which literal of a clause is best to watch.
-use Rattle.std.proofs.Common.{◌≡◌, ◌≢◌, ◌∙◌, ℕ, ◌+◌, ◌<◌, ◌≤◌, zero, suc, inl, inr, eqb, leb, Bool, true, false, not, List, [], ◌∷◌, length, get_or, take, None, refl, sym, subst, ap, arith}
+use Rattle.std.proofs.Common.{◌≡◌, ◌≢◌, ◌∙◌, ℕ, ◌+◌, ◌<◌, ◌≤◌, zero, suc, inl, inr, eqb, Bool, true, false, not, List, [], ◌∷◌, length, get_or, take, None, refl, sym, subst, ap, arith}
 use Rattle.std.specs.Prelude.{All, Contains}
-use Rattle.std.proofs.lemmas.Bool.Decides.{eqb_tells, leb_tells}
+use Rattle.std.proofs.lemmas.Bool.Decides.{eqb_tells}
 use Rattle.std.proofs.lemmas.List.Elements.{All-nil, All-cons, All-weaker, All-more}
 use Rattle.cc_defs.specs.Clauses.{Literal, opposite, IsIn}
 use Rattle.cc_trail.specs.declared.entries.Step.{Step}
@@ -124,9 +124,3 @@ best_of_two steps (a ∷ b ∷ []) start except level few there other apart fall
     two (suc (suc k), within, is) (j, other_within, other_is) = absurd (omega (arith, within))
     two (k, within, is) (suc (suc j), other_within, other_is) = absurd (omega (arith, other_within))
 best_of_two steps (a ∷ b ∷ c ∷ clause) start except level few there other apart fallen = absurd (omega arith)
-
-pub low_enough : (a b : ℕ) → leb a b ≡ true → a ≤ b
-low_enough a b holds = elim (leb_tells a b) [
-  | inl is ↦ is.1
-  | inr fails ↦ absurd (false_true (sym (fails.0) ∙ holds))
-]

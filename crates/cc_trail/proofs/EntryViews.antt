@@ -1,6 +1,8 @@
 -- What the holder of entries sees after its parts have changed.
 use Rattle.std.proofs.Common.{◌≡◌, ◌≢◌, ◌∙◌, ℕ, ◌+◌, ◌-◌, ◌<◌, ◌≤◌, zero, suc, List, [], ◌∷◌, ◌++◌, length, get_or, set, take, Some, None, refl, sym, subst, ap, arith}
-use Rattle.std.specs.Prelude.{◌⊎◌}
+use Rattle.std.specs.Prelude.{◌⊎◌, IfSome, IfNone, slice_get}
+use Rattle.std.proofs.lemmas.List.{get_or-take}
+use Rattle.std.proofs.lemmas.Option.{slice_get-get_or}
 use Rattle.cc_defs.specs.Clauses.{Literal, IsIn, IsLiteralOver}
 use Rattle.cc_trail.specs.declared.entries.Step.{Step}
 use Rattle.cc_trail.specs.declared.entries.Entries.TheInside.{Inside}
@@ -54,6 +56,19 @@ module _ (inside : Inside) (old : EntriesView) (is : view_of inside ≡ old) (ke
 
     pub place_here : (k : ℕ) → (1 ≤ value) × (k ≡ value - 1) → (k < length inside.steps.items) × ((step : Step) → IsIn (take k old.steps) step → step.lit.variable ≢ variable) × (k ≤ length old.steps)
     place_here k value_then = let there = found_here k no_step value_then in (there.1, there.3, there.4)
+
+    pub step_here : (k : ℕ) → (1 ≤ value) × (k ≡ value - 1) → IfSome (step_of old.steps variable) (λ step. slice_get old.steps k ≡ Some step)
+    step_here k value_then =
+        let there = found_here k no_step value_then in
+        let low : k < inside.count = there.0 in
+        let front : length (take inside.count inside.steps.items) ≡ inside.count =
+        front_length inside.variables inside.count inside.steps.items inside.literals.items inside.places.items inside.level_count kept in
+        rw (there.2) (subst (λ (v : EntriesView). slice_get v.steps k ≡ Some (get_or inside.steps.items k no_step)) is
+        (slice_get-get_or (take inside.count inside.steps.items) k no_step (omega arith) ∙
+        ap (λ (s : Step). Some s) (get_or-take inside.count inside.steps.items k no_step low)))
+
+    pub no_end_here : (k n : ℕ) → (1 ≤ value) × (k ≡ value - 1) → IfNone (step_of old.steps variable) (k ≡ n)
+    no_end_here k n value_then = let there = found_here k no_step value_then in rw (there.2) tt
 
     pub not_found_here : (1 ≤ value → ⊥) → step_of old.steps variable ≡ None
     not_found_here none =

@@ -11,6 +11,8 @@ mod Adding
 mod Values
 mod TrailViews
 mod Attaching
+mod AttachingTrue
+mod Ranking
 mod Starting
 mod Growing
 mod Pairing

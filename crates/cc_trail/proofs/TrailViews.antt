@@ -1,10 +1,11 @@
 -- What the holder of a trail sees after its parts have changed.
-use Rattle.std.proofs.Common.{◌≡◌, ◌∙◌, ℕ, ◌+◌, ◌≤◌, inr, List, [], ◌∷◌, ◌++◌, length, min, None, refl, sym, subst, ap, arith, length-append}
+use Rattle.std.proofs.Common.{◌≡◌, ◌∙◌, ℕ, ◌+◌, ◌≤◌, inl, inr, List, [], ◌∷◌, ◌++◌, length, min, Some, None, refl, sym, subst, ap, arith, length-append}
 use Rattle.cc_defs.specs.Clauses.{Literal, IsIn, IsLiteralOver}
 use Rattle.cc_defs.specs.Assignments.{IsClosed}
 use Rattle.cc_kernel.specs.Kernels.{KernelView, clauses_of}
 use Rattle.cc_trail.specs.declared.entries.Step.{Step}
 use Rattle.cc_trail.specs.declared.trail.Trail.TheInside.{Inside}
+use Rattle.cc_trail.specs.Links.{LinksView}
 use Rattle.cc_trail.specs.Steps.{EntriesView, AreSteps, step_of, steps_to, values_of}
 use Rattle.cc_trail.specs.EntrySteps.{IsBack}
 use Rattle.cc_trail.specs.Trails.{TrailView, IsTrail, Fits, IsSettled, decided, back_at}
@@ -88,3 +89,27 @@ module _ (inside : Inside) (old : TrailView) (is : view_of inside ≡ old) (part
         IsSettled (record (view_of inside) { variables = entries.variables; steps = entries.steps; level_count = entries.level_count; visited = visited }) kernel
     settled_went kernel settled = subst (λ (v : TrailView). IsSettled v kernel) (sym view_back)
         (settled_back old.steps (steps_to level old.steps) back.gone old.level_count level (clauses_of kernel) front back.high low settled)
+
+-- one more step at the last level, and two more nodes
+pub parts_true : (inside : Inside) (old : TrailView) → view_of inside ≡ old → AreParts inside → (id : ℕ) (longs : List ℕ) (literal other : Literal) (entries : EntriesView) (links : LinksView) →
+    entries ≡ record inside.entries { steps = inside.entries.steps ++ (record { lit = literal; level = inside.entries.level_count; reason = Some id }) ∷ [] } →
+    links ≡ record inside.links { watched = inside.links.watched ++ literal ∷ other ∷ [] } → longs ≡ inside.longs.items ++ id ∷ [] →
+    IsLiteralOver old.variables literal → step_of old.steps literal.variable ≡ None →
+    IsTrail (record (view_of inside) { variables = entries.variables; steps = entries.steps; level_count = entries.level_count; attached = id; longs = longs; watched = links.watched }) ×
+    (links.variables ≡ entries.variables) × (inside.pairs.variables ≡ entries.variables) × (links.ahead ≡ [])
+parts_true inside old is parts id longs literal other entries links entries_are links_are longs_are over open_yet = rw (entries_are, links_are) (
+  (record {
+    are_steps = steps_push inside.entries.variables inside.entries.level_count inside.entries.steps (record { lit = literal; level = inside.entries.level_count; reason = Some id })
+        parts.trail_is.are_steps (subst (λ (v : TrailView). IsLiteralOver v.variables literal) (sym is) over)
+        (subst (λ (v : TrailView). step_of v.steps literal.variable ≡ None) (sym is) open_yet) (inl refl);
+    visited =
+        let before = parts.trail_is.visited in
+        omega (arith, length-append inside.entries.steps ((record { lit = literal; level = inside.entries.level_count; reason = Some id }) ∷ []));
+    nodes =
+        let before = parts.trail_is.nodes in
+        omega (arith, length-append inside.links.watched (literal ∷ other ∷ []), ap length longs_are, length-append inside.longs.items (id ∷ []));
+  }),
+  parts.variables,
+  parts.pairs_variables,
+  parts.ahead,
+)

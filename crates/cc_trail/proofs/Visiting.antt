@@ -5,7 +5,7 @@ use Rattle.std.proofs.lemmas.Bool.Decides.{eqb_tells, leb_tells, nat_tests}
 use Rattle.std.proofs.lemmas.List.{length-set, length-map, get_or-set_other, get_or-set_same}
 use Rattle.std.proofs.lemmas.List.Elements.{All-contains}
 use Rattle.std.proofs.lemmas.Option.{slice_get_within}
-use Rattle.cc_defs.specs.Clauses.{Literal, opposite, IsNumbered, IsIn, IsLiteralOver}
+use Rattle.cc_defs.specs.Clauses.{Literal, opposite, IsNumbered, IsIn}
 use Rattle.cc_defs.specs.Assignments.{IsClosed, IsFalseIn}
 use Rattle.cc_kernel.specs.Kernels.{KernelView, Entry, clauses_of, IsThere}
 use Rattle.cc_trail.specs.declared.entries.Step.{Step}
@@ -190,9 +190,6 @@ module _ (kernel : KernelView) (longs : List ℕ) (place : ℕ) (step : Step) (e
   are : AreSteps entries.variables entries.steps entries.level_count
   are = visiting.sound.are_steps
 
-  pub fallen_over : IsLiteralOver links.variables (opposite step.lit)
-  fallen_over = rw (visiting.watched.variables ∙ sym visiting.sound.variables) (are.over step step_in)
-
   pub fallen_at : IsFalseAt entries.steps (opposite step.lit) step.level
   fallen_at = (step, step_in, sym (opposite_twice step.lit), refl)
 
@@ -229,9 +226,6 @@ module _ (kernel : KernelView) (longs : List ℕ) (place : ℕ) (step : Step) (e
 
     pub other_in : Contains clause (watched_at links.watched (partner node))
     other_in = subst (λ (c : List Literal). Contains c (watched_at links.watched (partner node))) clause_is watching.there
-
-  pub fallen_mine : Contains watching.clause (opposite step.lit)
-  fallen_mine = subst (λ (l : Literal). Contains watching.clause l) (mine.1) watching.here
 
   pub fallen_apart : opposite step.lit ≢ watched_at links.watched (partner node)
   fallen_apart e = really_apart (mine.1 ∙ e)
@@ -339,11 +333,44 @@ module _ (kernel : KernelView) (longs : List ℕ) (place : ℕ) (step : Step) (e
 
   -- the literals that it may watch
 
-  pub kept_right : IsTrueBy entries.steps (watched_at links.watched (partner node)) step.level →
+  kept_right : IsTrueBy entries.steps (watched_at links.watched (partner node)) step.level →
       (s : Step) → IsIn (take (suc place) entries.steps) s → s.lit ≡ opposite (opposite step.lit) → IsTrueBy entries.steps (watched_at links.watched (partner node)) s.level
   kept_right is s here lit_is =
       let same = same_step entries.steps are.apart s step (in_take (suc place) entries.steps s here) step_in (ap (λ (l : Literal). l.variable) lit_is) in
       subst (λ (t : Step). IsTrueBy entries.steps (watched_at links.watched (partner node)) t.level) (sym same) is
+
+  -- the node goes on to watch the false one, where the other one is true
+  module _ (other : Literal) (other_is : other ≡ watched_at links.watched (partner node)) (true_is : IsTrueBy entries.steps other step.level) where
+    passed_right : IsWatched (take (suc place) entries.steps) entries.steps links.watched node
+    passed_right s here lit_is =
+        kept_right (subst (λ (l : Literal). IsTrueBy entries.steps l step.level) other_is true_is) s here (lit_is ∙ ap opposite (mine.1))
+
+    behind : drop 1 links.ahead ≡ begins.0
+    behind = rw (begins.1) refl
+
+    done_passed : (k : ℕ) → k < length links.watched → IsIn (drop 1 links.ahead) k ⊎ IsWatched (take (suc place) entries.steps) entries.steps links.watched k
+    done_passed k within = elim (visiting.done k within) [
+      | inr is ↦ inr is
+      | inl here ↦ elim (subst (λ (ks : List ℕ). IsIn ks k) (begins.1) here) [
+        | inl same ↦ inr (subst (λ (j : ℕ). IsWatched (take (suc place) entries.steps) entries.steps links.watched j) same passed_right)
+        | inr rest ↦ inl (subst (λ (ks : List ℕ). IsIn ks k) (sym behind) rest)
+      ]
+    ]
+
+    pub passed_then : (new : LinksView) → ◌≡◌ {A = LinksView} new (record links { ahead = drop 1 links.ahead }) → IsVisiting kernel longs place step entries new
+    passed_then new new_is = rw new_is (record {
+      sound = visiting.sound;
+      watched = record {
+        variables = visiting.watched.variables;
+        within = visiting.watched.within;
+        nodes = visiting.watched.nodes;
+        watching = visiting.watched.watching;
+        watches = visiting.watched.watches;
+      };
+      here = visiting.here;
+      ahead = λ k here. visiting.ahead k (rw (begins.1) (inr (subst (λ (ks : List ℕ). IsIn ks k) behind here)));
+      done = done_passed;
+    })
 
   pub fallen_right : (literal : Literal) (level : ℕ) → IsFalseAt entries.steps literal level → IsTrueBy entries.steps (watched_at links.watched (partner node)) level →
       (s : Step) → IsIn (take (suc place) entries.steps) s → s.lit ≡ opposite literal → IsTrueBy entries.steps (watched_at links.watched (partner node)) s.level
@@ -383,10 +410,6 @@ module _ (kernel : KernelView) (longs : List ℕ) (place : ℕ) (step : Step) (e
 
   module _ (once : IsIn (drop 1 links.ahead) node → ⊥) (other : Literal) (other_is : other ≡ watched_at links.watched (partner node)) (literal : Literal) (new : LinksView)
       (new_is : ◌≡◌ {A = LinksView} new (record links { watched = set links.watched node literal; ahead = drop 1 links.ahead })) where
-    pub kept_then : literal ≡ opposite step.lit → IsTrueBy entries.steps other step.level → IsVisiting kernel longs place step entries new
-    kept_then is true_is = rw (new_is, is)
-        (moved once (opposite step.lit) fallen_mine (inl fallen_apart) (kept_right (subst (λ (l : Literal). IsTrueBy entries.steps l step.level) other_is true_is)))
-
     -- both watch the other one from now on, which is true at level 0
     pub gone_then : literal ≡ other → IsTrueBy entries.steps other 0 → IsVisiting kernel longs place step entries new
     gone_then is true_is =

@@ -122,6 +122,19 @@ pub record IsLong (old new : TrailView) (number : ℕ) (first second : Literal) 
   pub first_open : (step : Step) → IsIn (take new.visited new.steps) step → step.lit.variable ≢ first.variable
   pub second_open : (step : Step) → IsIn (take new.visited new.steps) step → step.lit.variable ≢ second.variable
 
+-- a clause of two or more literals is attached, which watches these two, and the first of which is true by it at the last level
+pub record IsLongTrue (old new : TrailView) (number : ℕ) (first second : Literal) : Type 0 where
+  pub variables : new.variables ≡ old.variables
+  pub steps : new.steps ≡ old.steps ++ (record { lit = first; level = old.level_count; reason = Some number }) ∷ []
+  pub level_count : new.level_count ≡ old.level_count
+  pub attached : new.attached ≡ number
+  pub shorts : new.shorts ≡ old.shorts
+  pub longs : new.longs ≡ old.longs ++ number ∷ []
+  pub met : new.met ≡ old.met
+  pub pairs : new.pairs ≡ old.pairs
+  pub watched : new.watched ≡ old.watched ++ first ∷ second ∷ []
+  pub visited : new.visited ≡ old.visited
+
 -- a clause of two literals is attached, which stand beside one another, and no visited step is of their variables
 pub record IsPairLong (old new : TrailView) (number : ℕ) (first second : Literal) : Type 0 where
   pub variables : new.variables ≡ old.variables
@@ -196,6 +209,16 @@ pub record IsPropagated (old new : TrailView) : Type 0 where
   pub variables : new.variables ≡ old.variables
   pub level_count : new.level_count ≡ old.level_count
   pub attached : new.attached ≡ old.attached
+
+-- One clause more is attached. The steps before are a front of those after, each new one has a reason and the last level, and the
+-- levels are as before.
+pub record IsAttachedOver (old new : TrailView) : Type 0 where
+  pub more : List Step
+  pub steps : new.steps ≡ old.steps ++ more
+  pub each : AllByRecursion (IsPropagatedAt old.level_count) more
+  pub variables : new.variables ≡ old.variables
+  pub level_count : new.level_count ≡ old.level_count
+  pub attached : new.attached ≡ old.attached + 1
 
 -- the clause of this number is false
 abbrev pub IsFailedClause : List (List Literal) → List Step → ℕ → Type 0

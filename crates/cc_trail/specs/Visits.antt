@@ -1,11 +1,11 @@
 -- What a visit of watches keeps, and what it looks for.
-use Rattle.std.specs.Prelude.{◌≡◌, ℕ, ◌*◌, ◌<◌, ◌≤◌, ◌⊎◌, suc, Bool, true, false, List, ◌++◌, length, take, slice_get, All, Contains, Some}
+use Rattle.std.specs.Prelude.{◌≡◌, ℕ, ◌*◌, ◌<◌, ◌≤◌, ◌⊎◌, suc, Bool, true, false, List, ◌++◌, length, take, slice_get, All, Contains, Some, None}
 use Rattle.std.specs.List.{AllByRecursion}
 use Rattle.cc_defs.specs.Clauses.{Literal, opposite, IsNumbered, IsIn}
 use Rattle.cc_kernel.specs.Kernels.{KernelView, clauses_of}
 use Rattle.cc_trail.specs.declared.entries.Step.{Step}
 use Rattle.cc_trail.specs.Links.{LinksView, watched_at}
-use Rattle.cc_trail.specs.Steps.{EntriesView, AreSteps}
+use Rattle.cc_trail.specs.Steps.{EntriesView, AreSteps, step_of}
 use Rattle.cc_trail.specs.Watches.{IsTrueBy, IsFalseBy, IsWatched, Watches, AreReasoned}
 use Rattle.cc_trail.specs.Trails.{IsPropagatedAt, IsSettledOver, number_of}
 
@@ -25,6 +25,14 @@ IsFalseBut steps except level literal = (literal ≡ except) ⊎ IsFalseTo steps
 abbrev pub IsBest : List Step → List Literal → Literal → Literal → ℕ → Bool → Type 0
 IsBest steps clause except literal level false = IsFalseBy steps literal → ⊥
 IsBest steps clause except literal level true = IsFalseAt steps literal level × All (IsFalseBut steps except level) clause
+
+-- Of a clause the first of two literals has no value, and all others are false, of which the second became so at this level.
+pub record IsLeft (steps : List Step) (level : ℕ) (clause : List Literal) (first second : Literal) : Type 0 where
+  pub first_in : Contains clause first
+  pub second_in : Contains clause second
+  pub open_yet : step_of steps first.variable ≡ None
+  pub fallen : IsFalseAt steps second level
+  pub others : (literal : Literal) → Contains clause literal → (literal ≡ first) ⊎ IsFalseBy steps literal
 
 -- whether a literal is true, or else false
 abbrev pub IsValue : List Step → ℕ → Literal → Bool → Type 0

@@ -54,3 +54,7 @@ IsShort clauses number = (clause : List Literal) × IsNumbered clauses number cl
 abbrev pub IsMetForGood : List (List Literal) → List Step → ℕ → Type 0
 IsMetForGood clauses steps number =
     (clause : List Literal) × IsNumbered clauses number clause × (literal : Literal) × Contains clause literal × IsTrueBy steps literal 0
+
+-- two different literals of a clause
+abbrev pub AreTwoOf : List Literal → Literal → Literal → Type 0
+AreTwoOf clause first second = Contains clause first × Contains clause second × (first ≢ second)

@@ -1,5 +1,5 @@
 //! The entries of a trail: the literals that became true, in order, each with its level and its reason.
-ghost use Rattle.std.specs.Prelude.{◌≡◌, ◌≢◌, ℕ, ◌+◌, ◌*◌, ◌<◌, if◌then◌else◌, ◌≤◌, ◌++◌, [], ◌∷◌, length, map, take, Some, None, IfOk, option_map, slice_get};
+ghost use Rattle.std.specs.Prelude.{◌≡◌, ◌≢◌, ℕ, ◌+◌, ◌*◌, ◌<◌, if◌then◌else◌, ◌≤◌, ◌++◌, [], ◌∷◌, length, map, take, Some, None, IfOk, IfSome, IfNone, option_map, slice_get};
 ghost use Rattle.cc_defs.specs.Clauses.{IsIn, IsLiteralOver};
 ghost use Rattle.cc_defs.specs.Limits.{most_variables};
 ghost use Rattle.cc_trail.specs.Steps.{EntriesView, AreSteps, step_of, level_after};
@@ -204,9 +204,13 @@ impl Entries {
         Some(is_true(mark, lit.is_positive()))
     }
 
-    /// A place before which no step is one of the variable: that of its step, or the end.
+    /// The place of a variable's step; where it has no value, the end. No step before it is one of the variable.
     pub fn place(&self, variable: u32) -> usize
         requires { variable ≤ self.now.variables }
+        ensures some { IfSome (step_of self.now.steps variable)
+            (λ step. slice_get self.now.steps result ≡ Some step) }
+        ensures none { IfNone (step_of self.now.steps variable)
+            (result ≡ length self.now.steps) }
         ensures within { result ≤ length self.now.steps }
         ensures before { (step : Step) →
             IsIn (take result self.now.steps) step → step.lit.variable ≢ variable }

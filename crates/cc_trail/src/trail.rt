@@ -1,16 +1,18 @@
 //! A trail: what is true and false, by levels of decisions, and propagation over the clauses of a kernel.
-ghost use Rattle.std.specs.Prelude.{◌≡◌, ◌≢◌, ℕ, ◌+◌, ◌*◌, ◌<◌, ◌≤◌, false, [], ◌∷◌, ◌++◌, length, map, None, IsTrue, Contains, IfOk, IfSome, IfNone, OnOk, OnErr, option_map, option_and_then};
+ghost use Rattle.std.specs.Prelude.{◌≡◌, ◌≢◌, ℕ, ◌+◌, ◌*◌, ◌<◌, ◌≤◌, false, [], ◌∷◌, ◌++◌, length, map, Some, None, IsTrue, All, Contains, IfOk, IfSome, IfNone, OnOk, OnErr, option_map, option_and_then, slice_get};
 ghost use Rattle.cc_defs.specs.Assignments.{IsClosed};
 ghost use Rattle.cc_kernel.specs.Kernels.{KernelView, clauses_of, IsThere};
 ghost use Rattle.cc_trail.specs.EntryParts.{literal_of_step};
 ghost use Rattle.cc_defs.specs.Clauses.{Literal, IsLiteralOver};
+ghost use Rattle.cc_trail.specs.Visits.{IsFalseAt, IsLeft};
 ghost use Rattle.cc_trail.specs.Steps.{AreSteps, step_of, values_of};
-ghost use Rattle.cc_trail.specs.Trails.{TrailView, Fits, IsSettled, IsNew, IsEmptyOver, IsAttached, IsLong, IsPairLong, IsLastCovered, IsDropped, IsPropagated, IsFailedClause, value_of, level_of_step, reason_of_step, decided, back_at, without_last};
+ghost use Rattle.cc_trail.specs.Trails.{TrailView, IsTrail, Fits, IsSettled, IsNew, IsEmptyOver, IsAttached, IsAttachedOver, IsLong, IsLongTrue, IsPairLong, IsLastCovered, IsDropped, IsPropagated, IsFailedClause, value_of, level_of_step, reason_of_step, decided, back_at, without_last};
 
 use crate::entries::Entries;
 use crate::links::Links;
 use crate::pairs::Pairs;
 use crate::propagation::{make_shorts, met_for_good, visit_steps};
+use crate::visits::best_beside;
 use crate::watches::{Pair, best_two};
 use cc_defs::{Lit, OutOfMemory};
 use cc_kernel::Kernel;
@@ -31,6 +33,47 @@ fn is_part(part: &[Lit], clause: &[Lit]) -> bool
         }
     }
     true
+}
+
+// A literal of a clause that has no value.
+fn open_in(entries: &Entries, clause: &[Lit]) -> Option<Lit>
+    requires { All (λ literal. IsLiteralOver entries.now.variables literal) clause.now }
+    ensures member { IfSome result (λ lit. Contains clause.now lit) }
+    ensures open { IfSome result (λ lit. step_of entries.now.steps lit.variable ≡ None) }
+{
+    for lit in clause {
+        if entries.standing(*lit).is_none() {
+            return Some(*lit);
+        }
+    }
+    None
+}
+
+// Whether a literal became false at a level.
+fn is_false_at(entries: &Entries, lit: Lit, level: u32) -> bool
+    requires { lit.variable ≤ entries.now.variables }
+    ensures { IsTrue result → IsFalseAt entries.now.steps lit level }
+{
+    match entries.standing(lit) {
+        Some(standing) => !standing.is_true && standing.level == level,
+        None => false,
+    }
+}
+
+// The last literal of a clause that became false at the last level.
+fn fallen_in(entries: &Entries, clause: &[Lit]) -> Option<Lit>
+    requires { All (λ literal. IsLiteralOver entries.now.variables literal) clause.now }
+    ensures member { IfSome result (λ lit. Contains clause.now lit) }
+    ensures fallen { IfSome result (λ lit.
+        IsFalseAt entries.now.steps lit entries.now.level_count) }
+{
+    let level = entries.level_count();
+    for index in (0..clause.len()).rev() {
+        if is_false_at(entries, clause[index], level) {
+            return Some(clause[index]);
+        }
+    }
+    None
 }
 
 /// What is true and false, in the order in which it became so, and the watch links of the attached clauses.
@@ -215,18 +258,64 @@ impl Trail {
         }
     }
 
-    /// Attaches the next clause of a kernel, which stands for the last ones that contain it from then on.
+    // A literal of a clause that has no value, and one that became false at the last level, where there are both and all others
+    // are false.
+    fn left_by(&self, clause: &[Lit]) -> Option<Pair>
+        requires { All (λ literal. IsLiteralOver self.now.variables literal) clause.now }
+        ensures { IfSome result (λ pair.
+            IsLeft self.now.steps self.now.level_count clause.now pair.first pair.second) }
+    {
+        match (
+            open_in(&self.entries, clause),
+            fallen_in(&self.entries, clause),
+        ) {
+            (Some(first), Some(second)) => {
+                let level = self.entries.level_count();
+                if best_beside(&self.entries, clause, second, level, first).is_false {
+                    Some(Pair { first, second })
+                } else {
+                    None
+                }
+            },
+            _ => None,
+        }
+    }
+
+    // Attaches a clause of two or more literals that leaves the first one of a pair, which is true by it then.
+    fn attach_true(&mut self, id: u32, pair: Pair) -> Result<(), OutOfMemory>
+        requires next { id ≡ self.old.attached + 1 }
+        requires first { IsLiteralOver self.old.variables pair.first }
+        requires second { IsLiteralOver self.old.variables pair.second }
+        requires apart { pair.first ≢ pair.second }
+        requires open { step_of self.old.steps pair.first.variable ≡ None }
+        ensures attached { OnOk result
+            (IsLongTrue self.old self.new id pair.first pair.second) }
+        ensures trail { IsTrail self.old }
+    {
+        self.longs.reserve(1)?;
+        self.links.add_two(pair.first, pair.second)?;
+        self.longs.push(id)?;
+        self.entries.push(pair.first, Some(id));
+        self.attached = id;
+        Ok(())
+    }
+
+    /// Attaches the next clause of a kernel, which stands for the last ones that contain it from then on. Where it leaves one literal
+    /// at the last level, that is true by it then, and no step has to be visited again.
     pub fn attach_over(&mut self, kernel: &Kernel, id: u32) -> Result<(), OutOfMemory>
         requires fits { Fits self.old kernel.now }
         requires next { id ≡ self.old.attached + 1 }
         requires there { IsThere kernel.now id }
-        ensures attached { OnOk result (IsAttached self.old self.new) }
+        ensures attached { OnOk result (IsAttachedOver self.old self.new) }
         ensures fits { OnOk result (Fits self.new kernel.now) }
         ensures settled { OnOk result ((other : KernelView) →
             IsSettled self.old other → IsSettled self.new other) }
     {
         self.drop_covered(kernel, id);
-        self.attach(kernel, id)
+        match self.left_by(kernel.clause(id)) {
+            Some(pair) => self.attach_true(id, pair),
+            None => self.attach(kernel, id),
+        }
     }
 
     /// Opens a level, and makes a literal true at it.
@@ -315,6 +404,17 @@ impl Trail {
             variable ≤ self.now.variables → values_of self.now.steps variable ≢ None }
     {
         self.entries.count() == self.entries.variables() as usize
+    }
+
+    /// The place of a variable's step among the entries; where it has no value, their end.
+    pub fn place(&self, variable: u32) -> usize
+        requires { variable ≤ self.now.variables }
+        ensures some { IfSome (step_of self.now.steps variable)
+            (λ step. slice_get self.now.steps result ≡ Some step) }
+        ensures none { IfNone (step_of self.now.steps variable)
+            (result ≡ length self.now.steps) }
+    {
+        self.entries.place(variable)
     }
 
     /// How many levels were opened.

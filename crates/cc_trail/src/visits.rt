@@ -29,14 +29,34 @@ fn partner_of(node: u32) -> u32
     if node % 2 == 1 { node - 1 } else { node + 1 }
 }
 
-// Whether a literal became true at a level not above this one.
-fn is_true_to(entries: &Entries, lit: Lit, level: u32) -> bool
+// Whether the other watched literal of a clause meets it where a step is visited.
+enum Met {
+    // It is true at level 0.
+    ForGood,
+    // It became true at a level not above that of the step.
+    Here,
+    // As far as is known it does not.
+    No,
+}
+
+// Whether a literal meets the clauses that it is in where a step of this level is visited.
+#[inline(always)]
+fn met_by(entries: &Entries, lit: Lit, level: u32) -> Met
     requires { lit.variable ≤ entries.now.variables }
-    ensures { IsTrue result → IsTrueBy entries.now.steps lit level }
+    ensures good { result ≡ Met.ForGood → IsTrueBy entries.now.steps lit 0 }
+    ensures here { result ≡ Met.Here → IsTrueBy entries.now.steps lit level }
 {
     match entries.standing(lit) {
-        Some(standing) => standing.is_true && standing.level <= level,
-        None => false,
+        Some(standing) => if !standing.is_true {
+            Met::No
+        } else if standing.level == 0 {
+            Met::ForGood
+        } else if standing.level <= level {
+            Met::Here
+        } else {
+            Met::No
+        },
+        None => Met::No,
     }
 }
 
@@ -104,9 +124,9 @@ fn better(entries: &Entries, clause: &[Lit], index: usize, found: Watch, except:
     }
 }
 
-// The literal of a clause that is best to watch beside `except`. It begins with one that became false at this level. In a clause
-// of two there is no other, and it is not read.
-fn best_beside(entries: &Entries, clause: &[Lit], start: Lit, level: u32, except: Lit) -> Watch
+/// The literal of a clause that is best to watch beside `except`. It begins with one that became false at this level. In a clause
+/// of two there is no other, and it is not read.
+pub fn best_beside(entries: &Entries, clause: &[Lit], start: Lit, level: u32, except: Lit) -> Watch
     requires over { All (λ literal. IsLiteralOver entries.now.variables literal) clause.now }
     requires member { Contains clause.now start }
     requires there { Contains clause.now except }
@@ -166,13 +186,16 @@ fn visit(
 {
     let fallen = step.lit.opposite();
     let other = links.watched(partner_of(node));
-    if is_true_to(entries, other, 0) {
-        links.put(node, other);
-        return None;
-    }
-    if is_true_to(entries, other, step.level) && !is_due(longs.len(), node) {
-        links.put(node, fallen);
-        return None;
+    match met_by(entries, other, step.level) {
+        Met::ForGood => {
+            links.put(node, other);
+            return None;
+        },
+        Met::Here => if !is_due(longs.len(), node) {
+            links.pass(node);
+            return None;
+        },
+        Met::No => {},
     }
     let number = longs[node as usize / 2];
     let watch = best_beside(entries, kernel.clause(number), fallen, step.level, other);

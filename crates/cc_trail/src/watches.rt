@@ -1,6 +1,7 @@
 //! Which literals of a clause are watched.
-ghost use Rattle.std.specs.Prelude.{◌≡◌, ◌≢◌, ℕ, ◌<◌, ◌≤◌, All, Contains, length};
+ghost use Rattle.std.specs.Prelude.{◌≡◌, ℕ, ◌+◌, ◌<◌, ◌≤◌, All, length, take};
 ghost use Rattle.cc_defs.specs.Clauses.{IsClause, IsLiteralOver};
+ghost use Rattle.cc_trail.specs.Watches.{AreTwoOf};
 
 use crate::entries::Entries;
 use cc_defs::Lit;
@@ -35,42 +36,57 @@ fn rank_of(entries: &Entries, lit: Lit) -> Ranked
     Ranked { lit, rank }
 }
 
-// A literal of a clause other than `except` that is best to watch.
-fn best(entries: &Entries, clause: &[Lit], start: Lit, except: Lit) -> Lit
-    requires over { All (λ literal. IsLiteralOver entries.now.variables literal) clause.now }
-    requires member { Contains clause.now start }
-    requires apart { start ≢ except }
-    ensures member { Contains clause.now result }
-    ensures apart { result ≢ except }
-{
-    let mut found = rank_of(entries, start);
-    for index in 0..clause.len() {
-        if found.rank == usize::MAX {
-            return found.lit;
-        }
-        found = better(entries, clause, index, found, except);
-    }
-    found.lit
+// The best two of some literals, the better one first.
+#[derive(Clone, Copy)]
+struct Best {
+    first: Ranked,
+    second: Ranked,
 }
 
-// The literal at an index, where it may be watched and is better than what was found.
-fn better(entries: &Entries, clause: &[Lit], index: usize, found: Ranked, except: Lit) -> Ranked
+// The first two literals of a clause.
+fn first_two(entries: &Entries, clause: &[Lit]) -> Best
     requires over { All (λ literal. IsLiteralOver entries.now.variables literal) clause.now }
-    requires within { index < length clause.now }
-    requires member { Contains clause.now found.lit }
-    requires apart { found.lit ≢ except }
-    ensures member { Contains clause.now result.lit }
-    ensures apart { result.lit ≢ except }
+    requires clause { IsClause clause.now }
+    requires long { 2 ≤ length clause.now }
+    ensures { AreTwoOf (take 2 clause.now) result.first.lit result.second.lit }
 {
-    let lit = clause[index];
-    if lit == except {
-        return found;
-    }
-    let other = rank_of(entries, lit);
-    if found.rank < other.rank {
-        other
+    let one = rank_of(entries, clause[0]);
+    let two = rank_of(entries, clause[1]);
+    if one.rank < two.rank {
+        Best {
+            first: two,
+            second: one,
+        }
     } else {
-        found
+        Best {
+            first: one,
+            second: two,
+        }
+    }
+}
+
+// The best two of those before an index, and of the literal there.
+#[inline(always)]
+fn best_with(entries: &Entries, clause: &[Lit], index: usize, best: Best) -> Best
+    requires over { All (λ literal. IsLiteralOver entries.now.variables literal) clause.now }
+    requires clause { IsClause clause.now }
+    requires within { index < length clause.now }
+    requires two { AreTwoOf (take index clause.now) best.first.lit best.second.lit }
+    ensures { AreTwoOf (take (index + 1) clause.now) result.first.lit result.second.lit }
+{
+    let other = rank_of(entries, clause[index]);
+    if best.first.rank < other.rank {
+        Best {
+            first: other,
+            second: best.first,
+        }
+    } else if best.second.rank < other.rank {
+        Best {
+            first: best.first,
+            second: other,
+        }
+    } else {
+        best
     }
 }
 
@@ -79,12 +95,17 @@ pub fn best_two(entries: &Entries, clause: &[Lit]) -> Pair
     requires over { All (λ literal. IsLiteralOver entries.now.variables literal) clause.now }
     requires clause { IsClause clause.now }
     requires long { 2 ≤ length clause.now }
-    ensures first { Contains clause.now result.first }
-    ensures second { Contains clause.now result.second }
-    ensures apart { result.first ≢ result.second }
+    ensures { AreTwoOf clause.now result.first result.second }
 {
-    // The best one but the first, and then the best one but that.
-    let second = best(entries, clause, clause[1], clause[0]);
-    let first = best(entries, clause, clause[0], second);
-    Pair { first, second }
+    let mut best = first_two(entries, clause);
+    for index in 2..clause.len() {
+        if best.second.rank == usize::MAX {
+            break;
+        }
+        best = best_with(entries, clause, index, best);
+    }
+    Pair {
+        first: best.first.lit,
+        second: best.second.lit,
+    }
 }

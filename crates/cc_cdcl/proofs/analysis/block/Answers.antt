@@ -1,7 +1,7 @@
 use Rattle.std.proofs.Common.{◌∙◌, length, length-append, ap}
 use Rattle.cc_kernel.specs.declared.kernel.Origin.TheVariants as origins
 use Rattle.cc_kernel.specs.Kernels.{KernelView}
-use Rattle.cc_cdcl.proofs.Deriving.{attached_back, clauses_added}
+use Rattle.cc_cdcl.proofs.Deriving.{attached_alone, attached_back, clauses_added}
 use Rattle.cc_cdcl.proofs.analysis.block.Goals as goal
 
 pub attach-requires-clause-fits : goal.attach-requires-clause-fits
@@ -20,4 +20,4 @@ returns-clause-back c =
     (clauses_added c.args.kernel.now c.block.new.self.entries (record { clause = c.args.clause.now; origin = origins.Block })
     (ap (λ (k : KernelView). k.entries) c.in_ok-number.ensures.added))
     c.block_level-back.ensures.mild
-    (c.back_to.ensures.settled c.args.kernel.now c.requires.settled) c.in_ok-attach.ensures.attached c.in_ok-attach.ensures.fits c.in_ok-attach.ensures.settled
+    (c.back_to.ensures.settled c.args.kernel.now c.requires.settled) (attached_alone c.back_to.new.self c.attach.new.self c.in_ok-attach.ensures.attached) c.in_ok-attach.ensures.fits c.in_ok-attach.ensures.settled

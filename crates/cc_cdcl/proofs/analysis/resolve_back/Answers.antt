@@ -2,7 +2,7 @@ use Rattle.std.proofs.Common.{List, subst}
 use Rattle.cc_defs.specs.Clauses.{Literal}
 use Rattle.cc_cdcl.specs.Analysis.{IsUnfinished}
 use Rattle.cc_cdcl.proofs.Deriving.{some_same, when_false, when_true}
-use Rattle.cc_cdcl.proofs.Shortening.{shortening_begins}
+use Rattle.cc_cdcl.proofs.Shorter.{shortening_begins}
 use Rattle.cc_cdcl.proofs.analysis.resolve_back.Goals as goal
 
 pub returns-clause-derived : goal.returns-clause-derived

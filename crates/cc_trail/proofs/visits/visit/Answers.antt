@@ -7,7 +7,7 @@ use Rattle.cc_trail.specs.Visits.{IsFalseAt}
 use Rattle.cc_trail.proofs.Attaching.{all_over}
 use Rattle.cc_trail.proofs.Growing.{grown_at}
 use Rattle.cc_trail.proofs.Choosing.{not_true, not_false, best_open, best_false, value_true, value_false}
-use Rattle.cc_trail.proofs.Visiting.{low, partner_low, there, fallen_over, fallen_at, visiting_then, others_then, failed_here, gone_then, kept_then, open_then, fallen_then, fallen_apart, other_in}
+use Rattle.cc_trail.proofs.Visiting.{low, partner_low, there, fallen_at, visiting_then, others_then, failed_here, gone_then, passed_then, open_then, fallen_then, fallen_apart, other_in}
 use Rattle.cc_trail.proofs.visits.visit.Goals as goal
 
 pub watched-other-requires : goal.watched-other-requires
@@ -16,25 +16,17 @@ watched-other-requires c =
     (partner_low c.args.kernel.now c.args.longs.now c.args.place c.args.step.now c.args.entries.now c.args.links.now c.requires.visiting c.args.node c.requires.first c.args.node
     (low c.args.kernel.now c.args.longs.now c.args.place c.args.step.now c.args.entries.now c.args.links.now c.requires.visiting c.args.node c.requires.first))
 
-pub put-requires-clause-over : goal.put-requires-clause-over
-put-requires-clause-over c = c.watched-other.ensures.over
-
-pub returns-then-is_true_to-clause-visiting : goal.returns-then-is_true_to-clause-visiting
-returns-then-is_true_to-clause-visiting c =
+pub returns-in-ForGood-clause-visiting : goal.returns-in-ForGood-clause-visiting
+returns-in-ForGood-clause-visiting c =
     gone_then c.args.kernel.now c.args.longs.now c.args.place c.args.step.now c.args.entries.now c.args.links.now c.requires.visiting c.args.node c.requires.first c.requires.once
     c.watched-other.result (c.watched-other.ensures.watched ∙ ap (λ (n : ℕ). watched_at c.args.links.now.watched n) c.partner_of.ensures) c.watched-other.result c.put.new.self
-    c.put.ensures refl (c.is_true_to.ensures c.if-is_true_to.true)
-
-pub put-requires-then-not-is_due-clause-over : goal.put-requires-then-not-is_due-clause-over
-put-requires-then-not-is_due-clause-over c =
-    subst (λ (l : Literal). IsLiteralOver c.args.links.now.variables l) (sym c.opposite-fallen.ensures)
-    (fallen_over c.args.kernel.now c.args.longs.now c.args.place c.args.step.now c.args.entries.now c.args.links.now c.requires.visiting c.args.node c.requires.first)
+    c.put.ensures refl (c.in-ForGood.ensures.good refl)
 
 pub returns-then-not-is_due-clause-visiting : goal.returns-then-not-is_due-clause-visiting
 returns-then-not-is_due-clause-visiting c =
-    kept_then c.args.kernel.now c.args.longs.now c.args.place c.args.step.now c.args.entries.now c.args.links.now c.requires.visiting c.args.node c.requires.first c.requires.once
-    c.watched-other.result (c.watched-other.ensures.watched ∙ ap (λ (n : ℕ). watched_at c.args.links.now.watched n) c.partner_of.ensures) c.opposite-fallen.result c.put-then-not-is_due.new.self
-    c.put-then-not-is_due.ensures c.opposite-fallen.ensures (c.is_true_to-2.ensures c.if-is_true_to-2.true)
+    passed_then c.args.kernel.now c.args.longs.now c.args.place c.args.step.now c.args.entries.now c.args.links.now c.requires.visiting c.args.node c.requires.first
+    c.watched-other.result (c.watched-other.ensures.watched ∙ ap (λ (n : ℕ). watched_at c.args.links.now.watched n) c.partner_of.ensures)
+    (c.in-Here.ensures.here refl) c.pass.new.self c.pass.ensures
 
 pub best_beside-watch-requires-clause-there : goal.best_beside-watch-requires-clause-there
 best_beside-watch-requires-clause-there c =

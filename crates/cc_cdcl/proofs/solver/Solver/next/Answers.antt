@@ -172,7 +172,7 @@ invariant_of-self-in-Some c =
             c.count_line.new.probe.phase c.count_line.new.trail c.count_line.new.cursors
             (c.count_line.ensures c.self.inside.sizes.items c.learn.new.kernel
             (subst (λ (cs : List Cursor). IsInPhase c.learn.new.probe.phase c.self.inside.sizes.items c.learn.new.kernel c.learn.new.trail cs)
-            (sym c.deref_mut-in-Some-2.ensures.value) noted));
+            (sym c.deref_mut-in-Some.ensures.value) noted));
       };
     }
 

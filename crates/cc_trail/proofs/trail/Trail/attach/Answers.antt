@@ -38,7 +38,7 @@ attach_long-requires-clause-first c =
       | else-clause-eq2-via-else-clause-eq2 w ↦ w.self-is
     ] in
     rw (ap (λ (v : TrailView). v.variables) same ∙ c.requires.fits.variables) (All-contains (λ (l : Literal). IsLiteralOver c.args.kernel.now.variables l) c.clause-clause.result.now c.best_two-pair.result.first
-    (all_over c.args.kernel.now.variables c.clause-clause.result.now c.clause-clause.ensures.over) c.best_two-pair.ensures.first)
+    (all_over c.args.kernel.now.variables c.clause-clause.result.now c.clause-clause.ensures.over) (c.best_two-pair.ensures.0))
 
 pub attach_long-requires-clause-second : goal.attach_long-requires-clause-second
 attach_long-requires-clause-second c =
@@ -47,7 +47,7 @@ attach_long-requires-clause-second c =
       | else-clause-eq2-via-else-clause-eq2 w ↦ w.self-is
     ] in
     rw (ap (λ (v : TrailView). v.variables) same ∙ c.requires.fits.variables) (All-contains (λ (l : Literal). IsLiteralOver c.args.kernel.now.variables l) c.clause-clause.result.now c.best_two-pair.result.second
-    (all_over c.args.kernel.now.variables c.clause-clause.result.now c.clause-clause.ensures.over) c.best_two-pair.ensures.second)
+    (all_over c.args.kernel.now.variables c.clause-clause.result.now c.clause-clause.ensures.over) (c.best_two-pair.ensures.1))
 
 pub returns-clause-fits : goal.returns-clause-fits
 returns-clause-fits c =
@@ -58,5 +58,5 @@ returns-clause-fits c =
     on_ok c.attach_long.result
     (fits_long c.else-clause-eq2.self c.attach_long.new.self c.args.kernel.now (subst (λ (v : TrailView). Fits v c.args.kernel.now) (sym same) c.requires.fits)
     (subst (λ (v : TrailView). IsTrail v) c.self.view_is c.self.invariant.trail_is) c.args.id (c.requires.next ∙ ap (λ (v : TrailView). v.attached + 1) (sym same)) c.requires.there c.clause-clause.result.now
-    c.clause-clause.ensures.clause c.best_two-pair.result.first c.best_two-pair.result.second c.best_two-pair.ensures.first c.best_two-pair.ensures.second
-    c.best_two-pair.ensures.apart) c.attach_long.ensures.attached
+    c.clause-clause.ensures.clause c.best_two-pair.result.first c.best_two-pair.result.second c.best_two-pair.ensures.0 c.best_two-pair.ensures.1
+    c.best_two-pair.ensures.2) c.attach_long.ensures.attached

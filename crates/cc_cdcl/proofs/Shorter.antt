@@ -1,6 +1,6 @@
 -- Behind the implication point: a step on a literal of a level below the last one leaves a clause that is false, and its one literal of
 -- the last level.
-use Rattle.std.proofs.Common.{◌≡◌, ◌≢◌, ◌∙◌, ℕ, ◌-◌, ◌<◌, ◌≤◌, suc, inl, inr, Bool, not, true, false, List, [], ◌∷◌, ◌++◌, length, map, take, drop, get_or, Option, Some, option_and_then, refl, sym, subst, ap, arith, length-append, eq-eqb}
+use Rattle.std.proofs.Common.{◌≡◌, ◌≢◌, ◌∙◌, ℕ, ◌<◌, ◌≤◌, suc, inl, inr, Bool, not, true, false, List, [], ◌∷◌, ◌++◌, length, map, take, drop, get_or, Option, Some, option_and_then, refl, sym, subst, ap, arith, length-append, eq-eqb}
 use Rattle.std.specs.Prelude.{◌⊎◌, Contains}
 use Rattle.std.proofs.lemmas.Bool.{cases_lt, ltb-true}
 use Rattle.cc_defs.specs.Assignments.{IsFailed}
@@ -122,48 +122,38 @@ shortening_begins trail kernel place are derivation final = record {
   short = derivation.short;
 }
 
-pub shortening_passes : (trail : TrailView) (kernel : KernelView) (start place : ℕ) → place ≡ start - 1 → IsShortening kernel trail start → IsShortening kernel trail place
-shortening_passes trail kernel start place place_is derivation = record {
-  clause = derivation.clause;
-  staged = derivation.staged;
-  failed = derivation.failed;
-  final = derivation.final;
-  within = let within = derivation.within in omega arith;
-  short = let short = derivation.short in omega arith;
-}
-
-module _ (trail : TrailView) (kernel : KernelView) (start : ℕ) (are : AreSteps trail.variables trail.steps trail.level_count) (fits : Fits trail kernel)
-    (opened : OpenLevels trail.steps) (derivation : IsShortening kernel trail start) (some : 0 < start) where
-  low : start - 1 < length trail.steps
+module _ (trail : TrailView) (kernel : KernelView) (start next : ℕ) (are : AreSteps trail.variables trail.steps trail.level_count) (fits : Fits trail kernel)
+    (opened : OpenLevels trail.steps) (derivation : IsShortening kernel trail start) (before : next < start) where
+  low : next < length trail.steps
   low = let within = derivation.within in omega arith
 
-  pub step_before : (last : Step) × IsPlace trail.steps (start - 1) last
-  step_before = step_at trail.steps (start - 1) low
+  pub step_before : (last : Step) × IsPlace trail.steps next last
+  step_before = step_at trail.steps next low
 
-  pub literal_before : (entries : List Literal) (literal : Literal) → entries ≡ map literal_of_step trail.steps → literal ≡ get_or entries (start - 1) literal →
+  pub literal_before : (entries : List Literal) (literal : Literal) → entries ≡ map literal_of_step trail.steps → literal ≡ get_or entries next literal →
       literal ≡ step_before.0.lit
   literal_before entries literal entries_are literal_is =
-      literal_is ∙ ap (λ (es : List Literal). get_or es (start - 1) literal) entries_are ∙ step_before.1.literal literal
+      literal_is ∙ ap (λ (es : List Literal). get_or es next literal) entries_are ∙ step_before.1.literal literal
 
   module _ (literal : Literal) (literal_is : literal ≡ step_before.0.lit) where
     pub before_over : (1 ≤ literal.variable) × (literal.variable ≤ trail.variables)
     before_over =
-        let over = place_over trail.variables trail.steps trail.level_count are (clauses_of kernel) opened fits.clauses.reasons (start - 1) step_before.0 step_before.1 in
+        let over = place_over trail.variables trail.steps trail.level_count are (clauses_of kernel) opened fits.clauses.reasons next step_before.0 step_before.1 in
         let same = ap (λ (l : Literal). l.variable) literal_is in (omega (arith, over.0), omega (arith, over.1))
 
-    reason_before : (id : ℕ) → option_and_then reason_of_step (step_of trail.steps literal.variable) ≡ Some id → HasReason (clauses_of kernel) (take (start - 1) trail.steps) step_before.0.lit id
+    reason_before : (id : ℕ) → option_and_then reason_of_step (step_of trail.steps literal.variable) ≡ Some id → HasReason (clauses_of kernel) (take next trail.steps) step_before.0.lit id
     reason_before id at =
-        reasoned_at (clauses_of kernel) [] (take (start - 1) trail.steps) step_before.0 (drop (suc (start - 1)) trail.steps)
+        reasoned_at (clauses_of kernel) [] (take next trail.steps) step_before.0 (drop (suc next) trail.steps)
         (subst (λ (ss : List Step). AreReasoned (clauses_of kernel) ss) step_before.1.split fits.clauses.reasons) id
-        (reason_last trail.variables trail.steps trail.level_count are (clauses_of kernel) opened fits.clauses.reasons (start - 1) step_before.0 step_before.1 (Some id)
+        (reason_last trail.variables trail.steps trail.level_count are (clauses_of kernel) opened fits.clauses.reasons next step_before.0 step_before.1 (Some id)
         (ap (λ (l : Literal). option_and_then reason_of_step (step_of trail.steps l.variable)) (sym literal_is) ∙ at))
 
     pub reason_there_before : (id : ℕ) → option_and_then reason_of_step (step_of trail.steps literal.variable) ≡ Some id → IsThere kernel id
     reason_there_before id at = let (clause, numbered, there, others) = reason_before id at in numbered_there kernel id clause numbered
 
     module _ (id : ℕ) (clause : List Literal) (at : option_and_then reason_of_step (step_of trail.steps literal.variable) ≡ Some id) (staged : kernel.staged ≡ Some clause) where
-      not_before : (other : Literal) → other.variable ≡ step_before.0.lit.variable → IsFalseBy (take (start - 1) trail.steps) other → ⊥
-      not_before other same (step, inside, is) = fresh_before (take (start - 1) trail.steps) (drop (suc (start - 1)) trail.steps) step_before.0
+      not_before : (other : Literal) → other.variable ≡ step_before.0.lit.variable → IsFalseBy (take next trail.steps) other → ⊥
+      not_before other same (step, inside, is) = fresh_before (take next trail.steps) (drop (suc next) trail.steps) step_before.0
           (subst AreApart step_before.1.split are.apart) step inside (ap (λ (l : Literal). l.variable) is ∙ same)
 
       -- a false clause does not have both signs
@@ -186,7 +176,7 @@ module _ (trail : TrailView) (kernel : KernelView) (start : ℕ) (are : AreSteps
           not_itself true e = cc
           not_itself false e = cc
 
-          by : HasReason (clauses_of kernel) (take (start - 1) trail.steps) step_before.0.lit id → ClashesWith kernel literal.variable id
+          by : HasReason (clauses_of kernel) (take next trail.steps) step_before.0.lit id → ClashesWith kernel literal.variable id
           by (reason, numbered, there, others) = (
             derivation.clause,
             reason,
@@ -199,14 +189,14 @@ module _ (trail : TrailView) (kernel : KernelView) (start : ℕ) (are : AreSteps
                 subst (λ (l : Literal). Contains reason l) (sym (opposite_twice step_before.0.lit)) there,
                 (λ other. elim (others (opposite (opposite (opposite step_before.0.lit))) other) [
                   | inl same ↦ not_itself step_before.0.lit.positive (ap (λ (l : Literal). l.positive) same)
-                  | inr before ↦ not_before (opposite (opposite (opposite step_before.0.lit))) refl before
+                  | inr fallen ↦ not_before (opposite (opposite (opposite step_before.0.lit))) refl fallen
                 ]),
               ),
             ),
           )
 
     pub shortens : (new : KernelView) (id : ℕ) → option_and_then reason_of_step (step_of trail.steps literal.variable) ≡ Some id →
-        is_level_below trail.level_count (level_of trail.steps literal.variable) ≡ true → IsStepped kernel new literal.variable id → IsShortening new trail (start - 1) × KeepsEntries kernel new
+        is_level_below trail.level_count (level_of trail.steps literal.variable) ≡ true → IsStepped kernel new literal.variable id → IsShortening new trail next × KeepsEntries kernel new
     shortens new id at is_below (staged, other, resolvent, staged_is, numbered, resolved, new_is) = by (reason_before id at)
       where
         staged_same : staged ≡ derivation.clause
@@ -214,7 +204,7 @@ module _ (trail : TrailView) (kernel : KernelView) (start : ℕ) (are : AreSteps
 
         last_at : level_of trail.steps step_before.0.lit.variable ≡ Some step_before.0.level
         last_at = level_is trail.steps step_before.0.lit.variable step_before.0
-            (found_last trail.variables trail.steps trail.level_count are (clauses_of kernel) opened fits.clauses.reasons (start - 1) step_before.0 step_before.1)
+            (found_last trail.variables trail.steps trail.level_count are (clauses_of kernel) opened fits.clauses.reasons next step_before.0 step_before.1)
 
         last_low : step_before.0.level < trail.level_count
         last_low = level_there (level_of trail.steps step_before.0.lit.variable) trail.level_count step_before.0.level
@@ -225,18 +215,18 @@ module _ (trail : TrailView) (kernel : KernelView) (start : ℕ) (are : AreSteps
             (subst (λ (c : List Literal). IsResolvent derivation.clause c literal.variable resolvent) same
             (subst (λ (c : List Literal). IsResolvent c other literal.variable resolvent) staged_same resolved))
 
-        by : HasReason (clauses_of kernel) (take (start - 1) trail.steps) step_before.0.lit id → IsShortening new trail (start - 1) × KeepsEntries kernel new
+        by : HasReason (clauses_of kernel) (take next trail.steps) step_before.0.lit id → IsShortening new trail next × KeepsEntries kernel new
         by (reason, reason_is, there, others) = (
           record {
             clause = resolvent;
             staged = ap (λ (k : KernelView). k.staged) new_is;
-            failed = failed_still trail.variables trail.steps trail.level_count are (start - 1) step_before.0 step_before.1 (clauses_of kernel) derivation.clause reason resolvent
+            failed = failed_still trail.variables trail.steps trail.level_count are next step_before.0 step_before.1 (clauses_of kernel) derivation.clause reason resolvent
                 derivation.failed others here;
             final = elim derivation.final [
               | inl (none, empty) ↦ let lower = last_low in absurd (omega arith)
               | inr (levels, one) ↦ inr (
                 levels,
-                one_stays trail.variables trail.steps trail.level_count are (start - 1) step_before.0 step_before.1 (clauses_of kernel)
+                one_stays trail.variables trail.steps trail.level_count are next step_before.0 step_before.1 (clauses_of kernel)
                     derivation.clause reason resolvent derivation.failed others here trail.level_count last_low last_at one,
               )
             ];
@@ -244,7 +234,7 @@ module _ (trail : TrailView) (kernel : KernelView) (start : ℕ) (are : AreSteps
             short =
                 let chain : length new.chain ≡ length (kernel.chain ++ literal.variable ∷ id ∷ []) = ap (λ (k : KernelView). length k.chain) new_is in
                 let long = length-append kernel.chain (literal.variable ∷ id ∷ []) in
-                let short = derivation.short in let more = some in omega arith;
+                let short = derivation.short in let more = before in omega arith;
           },
           record { variables = ap (λ (k : KernelView). k.variables) new_is; entries = ap (λ (k : KernelView). k.entries) new_is },
         )
