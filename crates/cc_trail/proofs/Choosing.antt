@@ -23,12 +23,6 @@ codes_same a b r is holds = elim (eqb_tells (code_of a) (code_of b)) [
   | inr other ↦ absurd (false_true (sym (other.0) ∙ sym is ∙ holds))
 ]
 
-pub codes_differ : (a b : Literal) (r : Bool) → r ≡ eqb (code_of a) (code_of b) → r ≡ false → a ≢ b
-codes_differ a b r is fails same = elim (eqb_tells (code_of a) (code_of b)) [
-  | inl holds ↦ false_true (sym fails ∙ is ∙ holds.0)
-  | inr other ↦ other.1 (ap code_of same)
-]
-
 pub not_true : (b : Bool) → not b ≡ true → b ≡ false
 not_true true e = cc
 not_true false e = refl

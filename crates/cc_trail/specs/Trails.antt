@@ -107,6 +107,10 @@ pub record IsAttached (old new : TrailView) : Type 0 where
   pub level_count : new.level_count ≡ old.level_count
   pub attached : new.attached ≡ old.attached + 1
 
+-- none of these steps is of the literal's variable
+abbrev pub HasNoStepOf : List Step → Literal → Type 0
+HasNoStepOf steps literal = (step : Step) → IsIn steps step → step.lit.variable ≢ literal.variable
+
 -- a clause of two or more literals is attached, which watches these two, and no visited step is of their variables
 pub record IsLong (old new : TrailView) (number : ℕ) (first second : Literal) : Type 0 where
   pub variables : new.variables ≡ old.variables
@@ -119,8 +123,8 @@ pub record IsLong (old new : TrailView) (number : ℕ) (first second : Literal) 
   pub pairs : new.pairs ≡ old.pairs
   pub watched : new.watched ≡ old.watched ++ first ∷ second ∷ []
   pub fewer : new.visited ≤ old.visited
-  pub first_open : (step : Step) → IsIn (take new.visited new.steps) step → step.lit.variable ≢ first.variable
-  pub second_open : (step : Step) → IsIn (take new.visited new.steps) step → step.lit.variable ≢ second.variable
+  pub first_open : HasNoStepOf (take new.visited new.steps) first
+  pub second_open : HasNoStepOf (take new.visited new.steps) second
 
 -- a clause of two or more literals is attached, which watches these two, and the first of which is true by it at the last level
 pub record IsLongTrue (old new : TrailView) (number : ℕ) (first second : Literal) : Type 0 where
@@ -147,8 +151,8 @@ pub record IsPairLong (old new : TrailView) (number : ℕ) (first second : Liter
   pub watched : new.watched ≡ old.watched
   pub pairs : AddsPair old.pairs new.pairs first second number
   pub fewer : new.visited ≤ old.visited
-  pub first_open : (step : Step) → IsIn (take new.visited new.steps) step → step.lit.variable ≢ first.variable
-  pub second_open : (step : Step) → IsIn (take new.visited new.steps) step → step.lit.variable ≢ second.variable
+  pub first_open : HasNoStepOf (take new.visited new.steps) first
+  pub second_open : HasNoStepOf (take new.visited new.steps) second
 
 -- a later clause is a part of the last long one
 pub record IsLastCovered (clauses : List (List Literal)) (trail : TrailView) : Type 0 where

@@ -1,12 +1,12 @@
 //! A trail: what is true and false, by levels of decisions, and propagation over the clauses of a kernel.
-ghost use Rattle.std.specs.Prelude.{◌≡◌, ◌≢◌, ℕ, ◌+◌, ◌*◌, ◌<◌, ◌≤◌, false, [], ◌∷◌, ◌++◌, length, map, Some, None, IsTrue, All, Contains, IfOk, IfSome, IfNone, OnOk, OnErr, option_map, option_and_then, slice_get};
+ghost use Rattle.std.specs.Prelude.{◌≡◌, ◌≢◌, ℕ, ◌+◌, ◌*◌, ◌<◌, ◌≤◌, false, [], ◌∷◌, ◌++◌, length, map, take, Some, None, IsTrue, All, Contains, IfOk, IfSome, IfNone, OnOk, OnErr, option_map, option_and_then, slice_get};
 ghost use Rattle.cc_defs.specs.Assignments.{IsClosed};
 ghost use Rattle.cc_kernel.specs.Kernels.{KernelView, clauses_of, IsThere};
 ghost use Rattle.cc_trail.specs.EntryParts.{literal_of_step};
 ghost use Rattle.cc_defs.specs.Clauses.{Literal, IsLiteralOver};
 ghost use Rattle.cc_trail.specs.Visits.{IsFalseAt, IsLeft};
 ghost use Rattle.cc_trail.specs.Steps.{AreSteps, step_of, values_of};
-ghost use Rattle.cc_trail.specs.Trails.{TrailView, IsTrail, Fits, IsSettled, IsNew, IsEmptyOver, IsAttached, IsAttachedOver, IsLong, IsLongTrue, IsPairLong, IsLastCovered, IsDropped, IsPropagated, IsFailedClause, value_of, level_of_step, reason_of_step, decided, back_at, without_last};
+ghost use Rattle.cc_trail.specs.Trails.{TrailView, IsTrail, Fits, IsSettled, IsNew, IsEmptyOver, IsAttached, IsAttachedOver, IsLong, IsLongTrue, IsPairLong, IsLastCovered, IsDropped, IsPropagated, IsFailedClause, HasNoStepOf, value_of, level_of_step, reason_of_step, decided, back_at, without_last};
 
 use crate::entries::Entries;
 use crate::links::Links;
@@ -74,6 +74,21 @@ fn fallen_in(entries: &Entries, clause: &[Lit]) -> Option<Lit>
         }
     }
     None
+}
+
+// How many of so many first entries come before those of the variables of two literals.
+fn entries_before(entries: &Entries, most: usize, one: Lit, two: Lit) -> usize
+    requires one { one.variable ≤ entries.now.variables }
+    requires two { two.variable ≤ entries.now.variables }
+    ensures fewer { result ≤ most }
+    ensures one { HasNoStepOf (take result entries.now.steps) one }
+    ensures two { HasNoStepOf (take result entries.now.steps) two }
+{
+    if most == 0 {
+        return 0;
+    }
+    most.min(entries.place(one.variable()))
+        .min(entries.place(two.variable()))
 }
 
 /// What is true and false, in the order in which it became so, and the watch links of the attached clauses.
@@ -161,10 +176,7 @@ impl Trail {
         if !self.pairs.add(first, second, id) {
             return false;
         }
-        self.visited = self
-            .visited
-            .min(self.entries.place(first.variable()))
-            .min(self.entries.place(second.variable()));
+        self.visited = entries_before(&self.entries, self.visited, first, second);
         self.attached = id;
         true
     }
@@ -181,10 +193,7 @@ impl Trail {
         self.longs.reserve(1)?;
         self.links.add_two(pair.first, pair.second)?;
         self.longs.push(id)?;
-        self.visited = self
-            .visited
-            .min(self.entries.place(pair.first.variable()))
-            .min(self.entries.place(pair.second.variable()));
+        self.visited = entries_before(&self.entries, self.visited, pair.first, pair.second);
         self.attached = id;
         Ok(())
     }

@@ -1,8 +1,7 @@
-use Rattle.std.proofs.Common.{◌≡◌, ◌∙◌, ℕ, List, ◌∷◌, ◌++◌, [], refl, sym, subst, ap, arith}
+use Rattle.std.proofs.Common.{◌≡◌, ◌∙◌, ℕ, List, ◌∷◌, ◌++◌, [], refl, subst, ap}
 use Rattle.cc_trail.specs.Links.{LinksView}
 use Rattle.cc_trail.specs.Trails.{TrailView, IsLong}
 use Rattle.cc_trail.specs.TrailParts.{view_of}
-use Rattle.cc_trail.proofs.Attaching.{take_fewer_in}
 use Rattle.cc_trail.proofs.trail.Trail.attach_long.Goals as goal
 
 pub returns-clause-attached : goal.returns-clause-attached
@@ -11,13 +10,11 @@ returns-clause-attached c =
     c.in_ok-push.ensures.items ∙ ap (λ (ns : List ℕ). ns ++ c.args.id ∷ []) c.reserve.ensures.items in
     let watched : c.add_two.new.self.watched ≡ c.self.inside.links.watched ++ c.args.pair.first ∷ c.args.pair.second ∷ [] =
     ap (λ (v : LinksView). v.watched) c.in_ok-add_two.ensures.added in
-    let one = c.min.ensures in
-    let two = c.min-self-inside.ensures in
     let long : IsLong (view_of c.self.inside) (record (view_of c.self.inside) {
       attached = c.args.id;
       longs = c.push.new.self.items;
       watched = c.add_two.new.self.watched;
-      visited = c.min-self-inside.result;
+      visited = c.entries_before-self-inside.result;
     }) c.args.id c.args.pair.first c.args.pair.second = record {
       variables = refl;
       steps = refl;
@@ -28,15 +25,13 @@ returns-clause-attached c =
       met = refl;
       pairs = refl;
       watched = watched;
-      fewer = omega arith;
-      first_open = λ step here e.
-          c.place.ensures.before step (take_fewer_in c.min-self-inside.result c.place.result c.self.inside.entries.steps step (omega arith) here) (e ∙ sym c.variable.ensures);
-      second_open = λ step here e.
-          c.place-2.ensures.before step (take_fewer_in c.min-self-inside.result c.place-2.result c.self.inside.entries.steps step (omega arith) here) (e ∙ sym c.variable-2.ensures);
+      fewer = c.entries_before-self-inside.ensures.fewer;
+      first_open = c.entries_before-self-inside.ensures.one;
+      second_open = c.entries_before-self-inside.ensures.two;
     } in
     subst (λ (v : TrailView). IsLong v (record (view_of c.self.inside) {
       attached = c.args.id;
       longs = c.push.new.self.items;
       watched = c.add_two.new.self.watched;
-      visited = c.min-self-inside.result;
+      visited = c.entries_before-self-inside.result;
     }) c.args.id c.args.pair.first c.args.pair.second) c.self.view_is long
