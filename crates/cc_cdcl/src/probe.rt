@@ -49,8 +49,10 @@ pub enum After {
 pub struct Probe {
     /// What is done with the section.
     pub phase: Phase,
-    // The variables to decide on, and perhaps others.
+    // The active ones of the variables to decide on, and perhaps others.
     order: Order,
+    // Of the variables that are not active those below this one have a value.
+    idle: u32,
     // By variable: the sign that it had last, at first the negative one.
     signs: Vec<bool>,
     // How many lines it has left, how many until all decisions are taken back, and how many were to come then.
@@ -90,6 +92,7 @@ impl Probe {
         Probe {
             phase: Phase::New,
             order: Order::new(alloc),
+            idle: 1,
             signs: Vec::new(alloc),
             lines: 0,
             left: RUN,
@@ -99,32 +102,15 @@ impl Probe {
         }
     }
 
-    // Takes in the variables that have no value.
-    fn put_open(&mut self, trail: &Trail, variables: u32)
-        requires variables { variables ≡ trail.now.variables }
-        requires few { trail.now.variables ≤ most_variables }
-        ensures { self.new.phase ≡ self.old.phase }
-    {
-        for index in 0..variables {
-            if is_open(trail, variables, index + 1) {
-                self.order.insert(index + 1);
-            }
-        }
-    }
-
-    /// Begins, over those of the variables 1, .., `variables` that have no value, and for so many lines. Where these are as many
-    /// as there are clauses, the lines come to no more than these, and looking at all of them takes twice as long at most.
-    pub fn begin(&mut self, trail: &Trail, variables: u32, lines: u32) -> Result<(), OutOfMemory>
-        requires variables { variables ≡ trail.now.variables }
-        requires few { trail.now.variables ≤ most_variables }
-    {
+    /// Begins, over the variables 1, .., `variables`, and for so many lines. Where these are as many as there are clauses, the lines
+    /// come to no more than these, and looking at all of them takes twice as long at most.
+    pub fn begin(&mut self, variables: u32, lines: u32) -> Result<(), OutOfMemory> {
         self.order.fill(variables)?;
         self.signs.reserve(variables as usize)?;
         for _ in 0..variables {
             self.signs.push(false)?;
         }
         self.signs.push(false)?;
-        self.put_open(trail, variables);
         self.lines = lines;
         self.phase = Phase::Probing;
         Ok(())
@@ -160,6 +146,24 @@ impl Probe {
         None
     }
 
+    // The first variable that has no value and is not active. Those up to it are passed.
+    fn first_idle(&mut self, trail: &Trail, variables: u32) -> Option<u32>
+        requires variables { variables ≡ trail.now.variables }
+        requires few { trail.now.variables ≤ most_variables }
+        ensures open { IfSome result (λ variable.
+            (0 < variable) × (variable ≤ variables) × (values_of trail.now.steps variable ≡ None)) }
+        ensures phase { self.new.phase ≡ self.old.phase }
+    {
+        for variable in self.idle..variables + 1 {
+            if is_open(trail, variables, variable) {
+                self.idle = variable + 1;
+                return Some(variable);
+            }
+        }
+        self.idle = variables + 1;
+        None
+    }
+
     // The literal of a variable, with the sign that it had last.
     fn signed(&self, variable: u32) -> Lit
         requires some { 0 < variable }
@@ -176,7 +180,8 @@ impl Probe {
         }
     }
 
-    /// What to decide: the most active variable that has no value, with the sign that it had last. None where each has a value.
+    /// What to decide: the most active variable that has no value, of equally active ones the lowest, with the sign that it had last.
+    /// None where each has a value.
     pub fn choose(&mut self, trail: &Trail, variables: u32) -> Option<Lit>
         requires variables { variables ≡ trail.now.variables }
         requires few { trail.now.variables ≤ most_variables }
@@ -186,6 +191,10 @@ impl Probe {
         ensures phase { self.new.phase ≡ self.old.phase }
     {
         match self.first(trail, variables) {
+            Some(variable) => return Some(self.signed(variable)),
+            None => {},
+        }
+        match self.first_idle(trail, variables) {
             Some(variable) => return Some(self.signed(variable)),
             None => {},
         }
@@ -242,7 +251,11 @@ impl Probe {
         if index < self.signs.len() {
             self.signs[index] = lit.is_positive();
         }
-        self.order.insert(lit.variable());
+        if self.order.is_active(lit.variable()) {
+            self.order.insert(lit.variable());
+        } else {
+            self.idle = self.idle.min(lit.variable());
+        }
     }
 
     /// Takes in what will have no value when a trail goes back to a level.

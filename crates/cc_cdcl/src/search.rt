@@ -161,7 +161,7 @@ pub fn begin(trail: &mut Trail, probe: &mut Probe, kernel: &Kernel) -> Result<()
     match probe.phase {
         Phase::New => {
             if leaves_open(trail, kernel) {
-                return probe.begin(trail, kernel.variables(), kernel.count());
+                return probe.begin(kernel.variables(), kernel.count());
             }
             probe.phase = Phase::Listing;
             Ok(())
