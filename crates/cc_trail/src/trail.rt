@@ -19,20 +19,18 @@ use cc_kernel::Kernel;
 use std::alloc::Global;
 use std::marker::Model;
 
-// Whether a clause has all literals of another one.
+// Whether a clause has all literals of another one. Both are in order, so one walk meets them all.
 fn is_part(part: &[Lit], clause: &[Lit]) -> bool
     ensures { IsTrue result → (literal : Literal) →
         Contains part.now literal → Contains clause.now literal }
 {
-    if part.len() > clause.len() {
-        return false;
-    }
-    for lit in part {
-        if clause.binary_search(lit).is_err() {
-            return false;
+    let mut met = 0;
+    for lit in clause {
+        if met < part.len() && part[met] == *lit {
+            met += 1;
         }
     }
-    true
+    met == part.len()
 }
 
 // A literal of a clause that has no value.
