@@ -18,7 +18,7 @@ use Rattle.cc_trail.specs.Steps.{AreSteps, steps_to, values_of, values_to}
 use Rattle.cc_trail.specs.Trails.{TrailView, Fits, IsFailedClause, IsNew, IsSettled}
 use Rattle.cc_cdcl.specs.declared.choice.Cursor.{Cursor}
 use Rattle.cc_cdcl.specs.declared.probe.Phase.{Phase}
-use Rattle.cc_cdcl.specs.declared.solver.Solver.TheInside.{Inside}
+use Rattle.cc_cdcl.specs.declared.solver.Parts.TheInside.{Inside}
 use Rattle.cc_cdcl.specs.declared.solver.State.{State}
 use Rattle.cc_cdcl.specs.declared.solver.State.TheVariants as states
 use Rattle.cc_cdcl.specs.Analysis.{OpenLevels}

@@ -4,7 +4,7 @@ use Rattle.cc_defs.specs.Rows.{IsRow}
 use Rattle.cc_clauses.specs.RowsOf.{HasRow}
 use Rattle.cc_kernel.specs.Kernels.{derived_count}
 use Rattle.cc_trail.specs.Steps.{values_of}
-use Rattle.cc_cdcl.specs.declared.solver.Solver.TheInside.{Inside}
+use Rattle.cc_cdcl.specs.declared.solver.Parts.TheInside.{Inside}
 use Rattle.cc_cdcl.specs.declared.solver.State.{State}
 use Rattle.cc_cdcl.specs.declared.solver.State.TheVariants as states
 use Rattle.cc_cdcl.specs.Searches.{IsInPhase, IsSection}

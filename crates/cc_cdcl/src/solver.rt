@@ -44,9 +44,9 @@ enum State {
     Failed,
 }
 
-/// A search for rows of positions, by derived clauses, over a kernel of its own.
+// A search by its parts.
 #[derive(Drop)]
-pub struct Solver {
+struct Parts {
     sizes: Vec<u32>,
     kernel: Kernel,
     trail: Trail,
@@ -65,7 +65,7 @@ pub struct Solver {
     state: State,
 }
 
-impl Model for Solver {
+impl Model for Parts {
     ghost use Rattle.cc_cdcl.specs.Solvers.{SolverView};
 
     ghost Value = { SolverView };
@@ -75,6 +75,21 @@ impl Model for Solver {
     ghost view = { view_of };
 
     ghost invariant = { IsSolver };
+}
+
+/// A search for rows of positions, by derived clauses, over a kernel of its own.
+#[derive(Drop)]
+pub struct Solver {
+    // They are large; in a box, a search that is moved is no more than an address.
+    parts: Box<Parts>,
+}
+
+impl Model for Solver {
+    ghost use Rattle.cc_cdcl.specs.Solvers.{SolverView};
+
+    ghost Value = { SolverView };
+
+    ghost view = { λ solver. solver.parts.value };
 }
 
 // Writes the first true value of each position.
@@ -106,14 +121,13 @@ fn write_denial(sizes: &[u32], row: &[u32], clause: &mut Vec<Lit>) -> Result<(),
     Ok(())
 }
 
-impl Solver {
-    /// A search over a kernel of axioms, for rows of positions with these sizes. The variables of the positions are the first
-    /// ones, position by position, and that each has exactly one value is among the axioms.
-    pub fn new(alloc: Global, kernel: Kernel, sizes: &[u32]) -> Result<Solver, OutOfMemory>
+impl Parts {
+    // The parts of a search that begins.
+    fn new(alloc: Global, kernel: Kernel, sizes: &[u32]) -> Result<Parts, OutOfMemory>
         requires axioms { AreAxioms kernel.entries }
         requires positions { HasPositions sizes.now kernel }
-        ensures { IfOk result (λ solver.
-            solver ≡ record { sizes = sizes.now; kernel = kernel; standing = Ready }) }
+        ensures { IfOk result (λ parts.
+            parts ≡ record { sizes = sizes.now; kernel = kernel; standing = Ready }) }
     {
         let trail = Trail::new(alloc, &kernel)?;
         let count = kernel.variables() as usize + 1;
@@ -121,7 +135,7 @@ impl Solver {
         let shortening = Shortening::new(alloc, kernel.variables())?;
         let own_sizes = Vec::from_slice(alloc, sizes)?;
         let row = vec![in alloc; 0u32; sizes.len()]?;
-        Ok(Solver {
+        Ok(Parts {
             sizes: own_sizes,
             kernel,
             trail,
@@ -135,8 +149,8 @@ impl Solver {
         })
     }
 
-    /// Searches on, up to the next derived clause or row. At most `budget` clauses are derived in all.
-    pub fn next(&mut self, budget: u32) -> Result<Step, OutOfMemory>
+    // Searches on, up to the next derived clause or row.
+    fn next(&mut self, budget: u32) -> Result<Step, OutOfMemory>
         requires ready { self.old.standing ≡ Ready }
         requires budget { derived_count self.old.kernel.entries ≤ budget }
         requires few { length self.old.kernel.entries < 4000000000 }
@@ -191,8 +205,8 @@ impl Solver {
         }
     }
 
-    /// The row that was found: a value index for each position.
-    pub fn row(&self) -> &[u32]
+    // The row that was found.
+    fn row(&self) -> &[u32]
         requires found { (row : List ℕ) × (self.now.standing ≡ Found row) }
         ensures { self.now.standing ≡ Found result.now }
     {
@@ -200,8 +214,8 @@ impl Solver {
         &self.row
     }
 
-    /// Denies the row that was found, and returns the number of the clause that does.
-    pub fn block_row(&mut self) -> Result<u32, OutOfMemory>
+    // Denies the row that was found.
+    fn block_row(&mut self) -> Result<u32, OutOfMemory>
         requires found { (row : List ℕ) × (self.old.standing ≡ Found row) }
         requires few { length self.old.kernel.entries < 4000000000 }
         ensures number { IfOk result (λ number. number ≡ length self.old.kernel.entries + 1) }
@@ -222,11 +236,70 @@ impl Solver {
         Ok(number)
     }
 
+    // The kernel, with all clauses so far.
+    fn kernel(&self) -> &Kernel
+        ensures kernel { result.now ≡ self.now.kernel }
+        ensures earned { AreEarned self.now.kernel }
+    {
+        &self.kernel
+    }
+}
+
+impl Solver {
+    /// A search over a kernel of axioms, for rows of positions with these sizes. The variables of the positions are the first
+    /// ones, position by position, and that each has exactly one value is among the axioms.
+    pub fn new(alloc: Global, kernel: Kernel, sizes: &[u32]) -> Result<Solver, OutOfMemory>
+        requires axioms { AreAxioms kernel.entries }
+        requires positions { HasPositions sizes.now kernel }
+        ensures { IfOk result (λ solver.
+            solver ≡ record { sizes = sizes.now; kernel = kernel; standing = Ready }) }
+    {
+        let parts = Box::new(alloc, Parts::new(alloc, kernel, sizes)?)?;
+        Ok(Solver { parts })
+    }
+
+    /// Searches on, up to the next derived clause or row. At most `budget` clauses are derived in all.
+    pub fn next(&mut self, budget: u32) -> Result<Step, OutOfMemory>
+        requires ready { self.old.standing ≡ Ready }
+        requires budget { derived_count self.old.kernel.entries ≤ budget }
+        requires few { length self.old.kernel.entries < 4000000000 }
+        ensures step { IfOk result (λ step. IsStep budget self.old self.new step) }
+        ensures enough { IfOk result (λ step. (opens : ℕ) → HasOpen self.old.kernel.variables
+            (axiom_clauses self.old.kernel) opens → 3 ^ opens ≤ budget → step ≢ Step.Spent) }
+        ensures broken { OnErr result (IsBroken self.old self.new) }
+    {
+        self.parts.next(budget)
+    }
+
+    /// The row that was found: a value index for each position.
+    pub fn row(&self) -> &[u32]
+        requires found { (row : List ℕ) × (self.now.standing ≡ Found row) }
+        ensures { self.now.standing ≡ Found result.now }
+    {
+        self.parts.row()
+    }
+
+    /// Denies the row that was found, and returns the number of the clause that does.
+    pub fn block_row(&mut self) -> Result<u32, OutOfMemory>
+        requires found { (row : List ℕ) × (self.old.standing ≡ Found row) }
+        requires few { length self.old.kernel.entries < 4000000000 }
+        ensures number { IfOk result (λ number. number ≡ length self.old.kernel.entries + 1) }
+        ensures blocked { OnOk result ((row : List ℕ) → self.old.standing ≡ Found row →
+            self.new ≡ record self.old {
+              kernel = added self.old.kernel
+                  (row_denial self.old.sizes row) Origin.Block;
+              standing = Ready;
+            }) }
+        ensures broken { OnErr result (IsBrokenBlock self.old self.new) }
+    {
+        self.parts.block_row()
+    }
+
     /// The kernel, with all clauses so far.
     pub fn kernel(&self) -> &Kernel
         ensures kernel { result.now ≡ self.now.kernel }
         ensures earned { AreEarned self.now.kernel }
     {
-        &self.kernel
+        self.parts.kernel()
     }
 }

@@ -16,7 +16,7 @@ use Rattle.cc_cdcl.proofs.Deriving.{on_err}
 use Rattle.cc_cdcl.proofs.Listing.{count_derived, empty_not_there, empty_there, few_derived, section_kept}
 use Rattle.cc_cdcl.proofs.Probing.{phase_back}
 use Rattle.cc_cdcl.proofs.Standing.{begun, counted_on, empty_added, kernel_is, least_there, row_room, row_there, row_written, running, section_learned, section_refuted, sizes_is, sizes_within, stuck, view_found, view_ready, went_on}
-use Rattle.cc_cdcl.proofs.solver.Solver.next.Goals as goal
+use Rattle.cc_cdcl.proofs.solver.Parts.next.Goals as goal
 
 pub returns-then-is_some-clause-step : goal.returns-then-is_some-clause-step
 returns-then-is_some-clause-step c = (

@@ -4,7 +4,7 @@ use Rattle.cc_kernel.specs.Kernels.{KernelView, derived_count}
 use Rattle.cc_cdcl.proofs.Listing.{count_block, section_kept}
 use Rattle.cc_cdcl.proofs.Probing.{phase_back}
 use Rattle.cc_cdcl.proofs.Standing.{denial_is, denial_is_over, denial_is_failed, of_found, section_blocked, sizes_within}
-use Rattle.cc_cdcl.proofs.solver.Solver.block_row.Goals as goal
+use Rattle.cc_cdcl.proofs.solver.Parts.block_row.Goals as goal
 
 pub write_denial-requires-clause-sizes : goal.write_denial-requires-clause-sizes
 write_denial-requires-clause-sizes c =

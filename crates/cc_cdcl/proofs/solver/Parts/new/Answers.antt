@@ -4,7 +4,7 @@ use Rattle.cc_cdcl.specs.Searches.{IsSection}
 use Rattle.cc_cdcl.proofs.Listing.{none_derived, section_new}
 use Rattle.cc_cdcl.proofs.Probing.{phase_of}
 use Rattle.cc_cdcl.proofs.Standing.{first_of, searching_new}
-use Rattle.cc_cdcl.proofs.solver.Solver.new.Goals as goal
+use Rattle.cc_cdcl.proofs.solver.Parts.new.Goals as goal
 
 pub invariant_of-result : goal.invariant_of-result
 invariant_of-result c =
