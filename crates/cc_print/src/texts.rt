@@ -14,9 +14,21 @@ pub fn key_text(alloc: Global, horizon: u32, row: &[u32]) -> Result<Text, OutOfM
     ensures { IfOk result (λ text. text ≡ texts.key_text horizon row.now) }
 {
     let mut text = String::with_capacity(alloc, row.len().saturating_mul(2).saturating_add(12))?;
-    push_number(&mut text, horizon)?;
-    text.push(':')?;
-    push_row(&mut text, row)?;
+    push_key(&mut text, horizon, row)?;
+    Ok(Text::of(text))
+}
+
+/// The line of a key behind some words, its line feed included.
+pub fn key_line(alloc: Global, before: &str, horizon: u32, row: &[u32]) -> Result<Text, OutOfMemory>
+    ensures { IfOk result (λ text.
+        text ≡ before.now ++ texts.key_text horizon row.now ++ 10 ∷ []) }
+{
+    let indexes = row.len().saturating_mul(2);
+    let room = indexes.saturating_add(before.len()).saturating_add(13);
+    let mut text = String::with_capacity(alloc, room)?;
+    text.push_str(before)?;
+    push_key(&mut text, horizon, row)?;
+    text.push('\n')?;
     Ok(Text::of(text))
 }
 
@@ -51,7 +63,12 @@ fn history_line(alloc: Global, horizon: u32, number: u32) -> Result<Text, OutOfM
     ensures { IfOk result (λ text.
         text ≡ events.of_horizon horizon (codes "history " ++ decimal number)) }
 {
-    let text = format!(in alloc; "horizon {horizon}: history {number}\n")?;
+    let mut text = String::with_capacity(alloc, 40)?;
+    text.push_str("horizon ")?;
+    push_number(&mut text, horizon)?;
+    text.push_str(": history ")?;
+    push_number(&mut text, number)?;
+    text.push('\n')?;
     Ok(Text::of(text))
 }
 
@@ -104,6 +121,16 @@ pub fn refusal_text(alloc: Global, refusal: &Refusal, file: &str) -> Result<Text
     push_limit(&mut text, refusal.limit)?;
     text.push_str("\n")?;
     Ok(Text::of(text))
+}
+
+/// Writes a key: the horizon, `:`, and the indexes of the row with `,` between them.
+fn push_key(text: &mut String, horizon: u32, row: &[u32]) -> Result<(), OutOfMemory>
+    ensures { OnOk result
+        (string_bytes text.new ≡ string_bytes text.old ++ texts.key_text horizon row.now) }
+{
+    push_number(text, horizon)?;
+    text.push(':')?;
+    push_row(text, row)
 }
 
 /// Writes the indexes of a row with `,` between them.
