@@ -22,18 +22,18 @@ before_trans a b c (inr (same, f, t)) (inr (equal, g, u)) = absurd (signs b.posi
     signs : (p : Bool) → p ≡ true → p ≡ false → ⊥
     signs p e f = cc
 
-not_before_itself : (a : Literal) → IsBefore a a → ⊥
+pub not_before_itself : (a : Literal) → IsBefore a a → ⊥
 not_before_itself a (inl low) = omega arith
 not_before_itself a (inr (same, f, t)) = signs a.positive t f
   where
     signs : (p : Bool) → p ≡ true → p ≡ false → ⊥
     signs p e f = cc
 
-rest_is : (a : Literal) (clause : List Literal) → IsClause (a ∷ clause) → IsClause clause
+pub rest_is : (a : Literal) (clause : List Literal) → IsClause (a ∷ clause) → IsClause clause
 rest_is a [] is = tt
 rest_is a (b ∷ clause) is = is.1
 
-head_before : (a : Literal) (clause : List Literal) → IsClause (a ∷ clause) → (literal : Literal) → Contains clause literal → IsBefore a literal
+pub head_before : (a : Literal) (clause : List Literal) → IsClause (a ∷ clause) → (literal : Literal) → Contains clause literal → IsBefore a literal
 head_before a [] is literal (k, low, same) = absurd (omega arith)
 head_before a (b ∷ clause) is literal (zero, low, same) = subst (λ (l : Literal). IsBefore a l) same is.0
 head_before a (b ∷ clause) is literal (suc k, low, same) = before_trans a b literal is.0 (head_before b clause is.1 literal (k, omega arith, same))
@@ -158,7 +158,7 @@ module _ (steps : List Step) (level : ℕ) where
     | inr high ↦ let more : b < a = high.1 in inl (omega arith)
   ]
 
-  pub highest_reached : (clause : List Literal) → Reached (highest_but steps level clause) clause
+  highest_reached : (clause : List Literal) → Reached (highest_but steps level clause) clause
   highest_reached [] = inl refl
   highest_reached (first ∷ clause) = by (one_of_two (level_but level (level_of steps first.variable)) (highest_but steps level clause)) (highest_reached clause)
     where
@@ -215,15 +215,3 @@ learned_from steps top clause failed up_to some one = by (one_of steps top claus
       lower = lower reached;
       reached = reaches reached;
     }
-
--- the highest of the levels, where none is above a number
-pub up_to_highest : (steps : List Step) (most : ℕ) (clause : List Literal) → AreUpTo steps most clause → AreUpTo steps (highest_but steps (suc most) clause) clause
-up_to_highest steps most clause up_to literal here =
-    let (level, low, at) = up_to literal here in
-    (level, below_highest steps (suc most) clause literal level here at (ap (is_level (suc most)) at ∙ apart level low), at)
-  where
-    apart : (level : ℕ) → level ≤ most → eqb level (suc most) ≡ false
-    apart level low = elim (eqb_tells level (suc most)) [
-      | inl same ↦ let is : level ≡ suc most = same.1 in absurd (omega arith)
-      | inr other ↦ other.0
-    ]

@@ -52,11 +52,7 @@ module _ (variables : ℕ) (steps : List Step) (level_count : ℕ) (are : AreSte
 -- ---- clauses that keep a trail settled, once the levels above one are gone
 
 module _ (steps : List Step) (apart : AreApart steps) (top : ℕ) (clause : List Literal) where
-  pub two_mild : HasTwoOf steps top clause → IsMild (steps_to top steps) top clause
-  two_mild (one, other, differ, one_in, other_in, one_at, other_at) level low =
-      inr (one, other, differ, one_in, other_in, none_back level top top steps one.variable apart one_at low, none_back level top top steps other.variable apart other_at low)
-
-  pub learned_mild : (back : ℕ) → IsLearned steps top clause back → IsMild (steps_to back steps) back clause
+  learned_mild : (back : ℕ) → IsLearned steps top clause back → IsMild (steps_to back steps) back clause
   learned_mild back is level low = elim (is.reached) [
     | inl zero_is ↦ absurd (omega arith)
     | inr (other, inside, at) ↦ inr (

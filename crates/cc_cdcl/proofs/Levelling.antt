@@ -1,17 +1,19 @@
 -- Judging a clause by the levels of its literals: when analysis is done, and to which level a block goes back.
-use Rattle.std.proofs.Common.{◌≡◌, ◌≢◌, ◌∙◌, ℕ, ◌+◌, ◌<◌, ◌≤◌, zero, suc, inl, inr, eqb, true, false, List, [], ◌∷◌, length, get_or, Some, refl, sym, subst, ap, arith}
-use Rattle.std.specs.Prelude.{◌⊎◌}
+use Rattle.std.proofs.Common.{◌≡◌, ◌≢◌, ◌∙◌, ℕ, ◌<◌, ◌≤◌, min, zero, suc, inl, inr, eqb, true, false, List, [], ◌∷◌, length, get_or, Option, Some, None, refl, sym, subst, ap, arith}
+use Rattle.std.specs.Prelude.{◌⊎◌, Contains, unwrap_or}
 use Rattle.std.specs.Bool.{MatchBool}
-use Rattle.std.proofs.lemmas.Bool.Decides.{eqb_tells}
+use Rattle.std.proofs.lemmas.Bool.Decides.{eqb_tells, leb_tells}
 use Rattle.cc_defs.specs.Assignments.{IsFailed}
-use Rattle.cc_defs.specs.Clauses.{Literal, IsClause, IsOver}
+use Rattle.cc_defs.specs.Clauses.{Literal, IsBefore, IsClause, IsOver}
 use Rattle.cc_trail.specs.declared.entries.Step.{Step}
-use Rattle.cc_trail.specs.Steps.{AreSteps, steps_to, values_of}
+use Rattle.cc_trail.specs.Steps.{AreApart, AreSteps, steps_to, values_of, values_to}
 use Rattle.cc_trail.specs.Trails.{IsMild}
-use Rattle.cc_cdcl.specs.Analysis.{HasOneOf, IsFinal, IsLearned, IsUnfinished, highest_but, is_level, level_count_in, level_of}
-use Rattle.cc_cdcl.proofs.Counts.{AreUpTo, Reached, at_level, highest_reached, learned_from, none_of, two_of, up_to_highest, up_to_last}
+use Rattle.cc_cdcl.specs.Analysis.{HasOneOf, IsFinal, IsUnfinished, first_level, is_level, level_count_in, level_of, level_or_zero, second_level}
+use Rattle.cc_cdcl.proofs.Counts.{at_level, head_before, none_of, not_before_itself, rest_is, two_of, up_to_last}
 use Rattle.cc_cdcl.proofs.Denials.{eqb_itself}
-use Rattle.cc_cdcl.proofs.Learning.{learned_mild, one_level, two_mild}
+use Rattle.cc_cdcl.proofs.Learning.{one_level}
+use Rattle.cc_cdcl.proofs.Levels.{none_back}
+use Rattle.cc_cdcl.proofs.Picking.{in_more}
 
 pub over_at : (variables : ℕ) (clause : List Literal) (index : ℕ) (literal : Literal) → IsOver variables clause → index < length clause →
     literal ≡ get_or clause index literal → (0 < literal.variable) × (literal.variable ≤ variables)
@@ -50,60 +52,71 @@ empty_or_not variables steps level (first ∷ clause) are failed zero_is count c
         let same : other ≡ level = omega arith in
         count_some steps level (first ∷ clause) (first, (0, omega arith, refl), at ∙ ap (λ (n : ℕ). Some n) same) (sym count_is ∙ none)
 
-none_below : (steps : List Step) (back : ℕ) (clause : List Literal) → back ≡ 0 → IsMild (steps_to back steps) back clause
-none_below steps back clause zero_is level low = absurd (omega arith)
+-- ---- the highest level but one
 
-module _ (variables : ℕ) (steps : List Step) (level_count : ℕ) (clause : List Literal) (are : AreSteps variables steps level_count) (is : IsClause clause)
-    (failed : IsFailed (values_of steps) clause) (highest : ℕ) (highest_is : highest ≡ highest_but steps (level_count + 1) clause) where
-  upto : AreUpTo steps highest clause
-  upto = subst (λ (n : ℕ). AreUpTo steps n clause) (sym (highest_is ∙ ap (λ (n : ℕ). highest_but steps n clause) (omega arith)))
-      (up_to_highest steps level_count clause (up_to_last variables steps level_count clause are failed))
+-- a literal's level is this one or a higher one
+abbrev IsUp : List Step → ℕ → Literal → Type 0
+IsUp steps least literal = (level : ℕ) × (least ≤ level) × (level_of steps literal.variable ≡ Some level)
 
-  reached : (highest ≡ 0) ⊎ HasOneOf steps highest clause
-  reached = by (subst (λ (n : ℕ). Reached steps (level_count + 1) n clause) (sym highest_is) (highest_reached steps (level_count + 1) clause))
-    where
-      by : Reached steps (level_count + 1) highest clause → (highest ≡ 0) ⊎ HasOneOf steps highest clause
-      by (inl zero_is) = inl zero_is
-      by (inr (there, other)) = inr there
+abbrev HasOneUp : List Step → ℕ → List Literal → Type 0
+HasOneUp steps least clause = (literal : Literal) × Contains clause literal × IsUp steps least literal
 
-  pub highest_low : highest ≤ level_count
-  highest_low = elim reached [
-    | inl zero_is ↦ omega (arith, zero_is)
-    | inr (literal, here, at) ↦
-        let (level, low, level_at) = up_to_last variables steps level_count clause are failed literal here in
-        let same = one_level highest level (level_of steps literal.variable) at level_at in omega arith
+abbrev HasTwoUp : List Step → ℕ → List Literal → Type 0
+HasTwoUp steps least clause =
+    (one : Literal) × (two : Literal) × (one ≢ two) × Contains clause one × Contains clause two × IsUp steps least one × IsUp steps least two
+
+level_there : (least : ℕ) (value : Option ℕ) → 0 < least → least ≤ unwrap_or value 0 → (level : ℕ) × (least ≤ level) × (value ≡ Some level)
+level_there least None some low = absurd (omega arith)
+level_there least (Some level) some low = (level, low, refl)
+
+module _ (steps : List Step) (least : ℕ) (some : 0 < least) where
+  one_up : (clause : List Literal) → least ≤ first_level steps clause → HasOneUp steps least clause
+  one_up [] low = absurd (omega arith)
+  one_up (first ∷ clause) low = elim (leb_tells least (level_or_zero steps first.variable)) [
+    | inl up ↦ (first, (0, omega arith, refl), level_there least (level_of steps first.variable) some (up.1))
+    | inr below ↦
+        let lower : level_or_zero steps first.variable < least = below.1 in
+        let (literal, here, up) = one_up clause (omega arith) in (literal, in_more first clause literal here, up)
   ]
 
-  module _ (count : ℕ) (count_is : count ≡ level_count_in steps highest clause) where
-    -- one literal stands alone at the highest level
-    module _ (one : count ≡ 1) (back : ℕ) (back_is : back ≡ highest_but steps highest clause) where
-      learned_one : 0 < highest → IsLearned steps highest clause back
-      learned_one some = subst (λ (n : ℕ). IsLearned steps highest clause n) (sym back_is) (learned_from steps highest clause failed upto some (sym count_is ∙ one))
+  two_up : (clause : List Literal) → IsClause clause → least ≤ second_level steps clause → HasTwoUp steps least clause
+  two_up [] is low = absurd (omega arith)
+  two_up (first ∷ clause) is low = elim (leb_tells least (min (level_or_zero steps first.variable) (first_level steps clause))) [
+    | inl up ↦
+        let both : least ≤ min (level_or_zero steps first.variable) (first_level steps clause) = up.1 in
+        let (literal, here, literal_up) = one_up clause (omega arith) in (
+          first,
+          literal,
+          (λ e. not_before_itself literal (subst (λ (l : Literal). IsBefore l literal) e (head_before first clause is literal here))),
+          (0, omega arith, refl),
+          in_more first clause literal here,
+          level_there least (level_of steps first.variable) some (omega arith),
+          literal_up,
+        )
+    | inr below ↦
+        let lower : min (level_or_zero steps first.variable) (first_level steps clause) < least = below.1 in
+        let (one, two, apart, one_in, two_in, one_up, two_up) = two_up clause (rest_is first clause is) (omega arith) in
+        (one, two, apart, in_more first clause one one_in, in_more first clause two two_in, one_up, two_up)
+  ]
 
-      all_zero : highest ≡ 0 → back ≡ 0
-      all_zero zero_is = by (subst (λ (n : ℕ). Reached steps highest n clause) (sym back_is) (highest_reached steps highest clause))
-        where
-          by : Reached steps highest back clause → back ≡ 0
-          by (inl is_zero) = is_zero
-          by (inr ((literal, here, at), other)) =
-              let (level, low, level_at) = upto literal here in
-              let same = one_level back level (level_of steps literal.variable) at level_at in omega arith
+pub second_low : (variables : ℕ) (steps : List Step) (level_count : ℕ) (clause : List Literal) → AreSteps variables steps level_count → IsClause clause →
+    IsFailed (values_of steps) clause → (back : ℕ) → back ≡ second_level steps clause → back ≤ level_count
+second_low variables steps level_count clause are is failed back back_is = elim (eqb_tells back 0) [
+  | inl none ↦ omega (arith, none.1)
+  | inr other ↦ let some : back ≢ 0 = other.1 in by (two_up steps back (omega arith) clause is (omega arith))
+]
+  where
+    by : HasTwoUp steps back clause → back ≤ level_count
+    by (one, two, apart, one_in, two_in, (level, high, at), two_up) =
+        let (other, low, other_at) = up_to_last variables steps level_count clause are failed one one_in in
+        let same = one_level level other (level_of steps one.variable) at other_at in omega arith
 
-      pub one_low : back ≤ level_count
-      one_low = elim (eqb_tells highest 0) [
-        | inl zero_is ↦ let none = all_zero (zero_is.1) in omega (arith, none)
-        | inr some ↦ let apart : highest ≢ 0 = some.1 in let lower = (learned_one (omega arith)).lower in let low = highest_low in omega arith
-      ]
-
-      pub one_mild : IsMild (steps_to back steps) back clause
-      one_mild = elim (eqb_tells highest 0) [
-        | inl zero_is ↦ none_below steps back clause (all_zero (zero_is.1))
-        | inr some ↦ let apart : highest ≢ 0 = some.1 in learned_mild steps are.apart highest clause back (learned_one (omega arith))
-      ]
-
-    pub others_mild : count ≢ 1 → IsMild (steps_to highest steps) highest clause
-    others_mild other = elim reached [
-      | inl zero_is ↦ none_below steps highest clause zero_is
-      | inr one_of ↦ two_mild steps are.apart highest clause (two_of steps highest clause is
-          (let many : level_count_in steps highest clause ≢ 0 = count_some steps highest clause one_of in omega arith))
-    ]
+-- it leaves two literals without a value up to each level below
+pub second_mild : (steps : List Step) → AreApart steps → (clause : List Literal) → IsClause clause → (back : ℕ) → back ≡ second_level steps clause →
+    IsMild (steps_to back steps) back clause
+second_mild steps apart clause is back back_is level low =
+    let (one, two, differ, one_in, two_in, one_up, two_up) = two_up steps (suc level) (omega arith) clause is (omega arith) in
+    inr (one, two, differ, one_in, two_in, open_at one one_up, open_at two two_up)
+  where
+    open_at : (literal : Literal) → IsUp steps (suc level) literal → values_to level (steps_to back steps) literal.variable ≡ None
+    open_at literal (k, high, at) = none_back level back k steps literal.variable apart at (omega arith)

@@ -1,5 +1,5 @@
 -- Conflict analysis: clauses that are false by the steps of a trail, and the clause that is learned from one.
-use Rattle.std.specs.Prelude.{◌≡◌, ◌≢◌, ℕ, ◌+◌, ◌<◌, ◌≤◌, ◌⊎◌, ◌==◌, nat_lt, max, Bool, false, if◌then◌else◌, List, [], ◌∷◌, ◌++◌, Contains, take, Option, Some, None, option_map}
+use Rattle.std.specs.Prelude.{◌≡◌, ◌≢◌, ℕ, ◌+◌, ◌<◌, ◌≤◌, ◌⊎◌, ◌==◌, nat_lt, max, min, Bool, false, if◌then◌else◌, List, [], ◌∷◌, ◌++◌, Contains, take, Option, Some, None, option_map, unwrap_or}
 use Rattle.cc_defs.specs.Assignments.{IsFailed}
 use Rattle.cc_defs.specs.Clauses.{Literal}
 use Rattle.cc_trail.specs.declared.entries.Step.{Step}
@@ -42,6 +42,21 @@ level_but level (Some other) = if other == level then 0 else other
 abbrev pub highest_but : List Step → ℕ → List Literal → ℕ
 highest_but steps level [] = 0
 highest_but steps level (literal ∷ literals) = max (level_but level (level_of steps literal.variable)) (highest_but steps level literals)
+
+-- the level of a variable, or 0
+abbrev pub level_or_zero : List Step → ℕ → ℕ
+level_or_zero steps variable = unwrap_or (level_of steps variable) 0
+
+-- the highest level of the clause's literals, or 0
+abbrev pub first_level : List Step → List Literal → ℕ
+first_level steps [] = 0
+first_level steps (literal ∷ literals) = max (level_or_zero steps literal.variable) (first_level steps literals)
+
+-- the highest level but one of the clause's literals, where each literal counts, or 0
+abbrev pub second_level : List Step → List Literal → ℕ
+second_level steps [] = 0
+second_level steps (literal ∷ literals) =
+    max (min (level_or_zero steps literal.variable) (first_level steps literals)) (second_level steps literals)
 
 -- two literals of the clause are of the level
 abbrev pub HasTwoOf : List Step → ℕ → List Literal → Type 0

@@ -6,7 +6,7 @@ ghost use Rattle.cc_defs.specs.Clauses.{Literal, IsClause, IsOver, opposite};
 ghost use Rattle.cc_kernel.specs.Kernels.{ClashesWith, IsStepped, IsThere, added, clauses_of};
 ghost use Rattle.cc_trail.specs.Steps.{AreSteps, step_of, steps_to, values_of};
 ghost use Rattle.cc_trail.specs.Trails.{Fits, IsFailedClause, IsMild, IsSettled, reason_of_step};
-ghost use Rattle.cc_cdcl.specs.Analysis.{IsFinal, IsUnfinished, IsWalking, OpenLevels, highest_but, is_level, is_level_below, level_but, level_count_in, level_of};
+ghost use Rattle.cc_cdcl.specs.Analysis.{IsFinal, IsUnfinished, IsWalking, OpenLevels, highest_but, is_level, is_level_below, level_but, level_count_in, level_of, level_or_zero, second_level};
 ghost use Rattle.cc_cdcl.specs.Brought.{IsCounted, fresh_of, has_literal, is_fresh};
 ghost use Rattle.cc_cdcl.specs.Derivations.{IsBackOver, IsDerived, IsDeriving, IsShortening, Learns};
 ghost use Rattle.cc_cdcl.specs.Searches.{KeepsEntries};
@@ -67,6 +67,29 @@ fn highest_but(trail: &Trail, level: u32, clause: &[Lit]) -> u32
         highest = level_except(trail, level, lit.variable()).max(highest);
     }
     highest
+}
+
+// The level of a variable, or 0 where it has no value.
+fn level_or_zero(trail: &Trail, variable: u32) -> u32
+    requires { variable ≤ trail.now.variables }
+    ensures { result ≡ level_or_zero trail.now.steps variable }
+{
+    trail.level_of(variable).unwrap_or(0)
+}
+
+// The highest level but one of a clause's literals, where each literal counts, or 0.
+fn second_level(trail: &Trail, clause: &[Lit]) -> u32
+    requires { IsOver trail.now.variables clause.now }
+    ensures { result ≡ second_level trail.now.steps clause.now }
+{
+    let mut first = 0;
+    let mut second = 0;
+    for lit in clause {
+        let level = level_or_zero(trail, lit.variable());
+        second = level.min(first).max(second);
+        first = level.max(first);
+    }
+    second
 }
 
 // Whether a literal is staged.
@@ -444,12 +467,8 @@ fn block_level(trail: &Trail, clause: &[Lit]) -> u32
     ensures steps { AreSteps trail.now.variables trail.now.steps trail.now.level_count }
     ensures mild { IsMild (steps_to result trail.now.steps) result clause.now }
 {
-    let level = trail.level_count();
-    let highest = highest_but(trail, level + 1, clause);
-    if level_count_in(trail, highest, clause) == 1 {
-        return highest_but(trail, highest, clause);
-    }
-    highest
+    let _level = trail.level_count();
+    second_level(trail, clause)
 }
 
 /// Adds a false clause as a block, and goes back to a level at which search goes on from it.
