@@ -1,5 +1,5 @@
 //! Tells the events of a run over candidates, each line of an output by one call of the desk.
-ghost use Rattle.std.specs.Prelude.{◌≡◌, ◌∷◌, ◌++◌, [], IfOk, None, Some, string_bytes};
+ghost use Rattle.std.specs.Prelude.{◌≡◌, ◌∷◌, ◌++◌, [], IfOk, None, Some};
 ghost use Rattle.std.specs.List.{AllByRecursion};
 ghost use Rattle.cc_defs.specs.Description.{Description};
 ghost use Rattle.cc_defs.specs.Events.{out_text};
@@ -21,31 +21,27 @@ use crate::certain::{horizon_line, tell_lines};
 use crate::refusing::give;
 use crate::status::{Status, Stop, status_of};
 use crate::telling::{tell_event, tell_history};
-use cc_defs::{Ending, Event, LogLine, OutOfMemory, Row, Sig};
+use cc_defs::{Ending, Event, LogLine, OutOfMemory, Row, Sig, Text};
 use cc_general::GeneralEvent;
 use cc_ports::{Desk, To};
-use cc_print::key_text;
+use cc_print::key_line;
 use cc_sorts::Table;
 use std::alloc::Global;
 
 /// The heading of the search for a rival of a row.
-fn rivals_line(alloc: Global, horizon: u32, row: &[u32]) -> Result<String, OutOfMemory>
-    ensures { IfOk result (λ line. string_bytes line ≡ rivals_heading horizon row.now) }
+fn rivals_line(alloc: Global, horizon: u32, row: &[u32]) -> Result<Text, OutOfMemory>
+    ensures { IfOk result (λ line. line ≡ rivals_heading horizon row.now) }
 {
-    let key = key_text(alloc, horizon, row)?;
-    let mut line = String::from_str(alloc, "u ")?;
-    line.push_str(key.text())?;
-    line.push_str("\n")?;
-    Ok(line)
+    key_line(alloc, "u ", horizon, row)
 }
 
 /// The heading of a search: that for a rival of a row, or that among the candidates of a horizon.
-fn heading_text(alloc: Global, horizon: u32, row: &Option<Row>) -> Result<String, OutOfMemory>
-    ensures { IfOk result (λ text. string_bytes text ≡ heading_for horizon row.now) }
+fn heading_text(alloc: Global, horizon: u32, row: &Option<Row>) -> Result<Text, OutOfMemory>
+    ensures { IfOk result (λ text. text ≡ heading_for horizon row.now) }
 {
     match row {
         Some(row) => rivals_line(alloc, horizon, row.items()),
-        None => horizon_line(alloc, horizon),
+        None => Ok(Text::of(horizon_line(alloc, horizon)?)),
     }
 }
 
@@ -91,7 +87,7 @@ fn tell_shown<D: Desk>(
         (D.seen desk.new) result }
 {
     let heading = rivals_line(alloc, horizon, row)?;
-    tell_section(alloc, desk, &heading, lines)?;
+    tell_section(alloc, desk, heading.text(), lines)?;
     let event = Event::History { horizon, number };
     tell_history(alloc, desk, table, sig, &event, horizon, row)
 }
@@ -111,7 +107,7 @@ fn tell_spent<D: Desk>(
         (D.seen desk.old) (D.seen desk.new) result }
 {
     let heading = heading_text(alloc, horizon, rivals_of)?;
-    tell_section(alloc, desk, &heading, lines)?;
+    tell_section(alloc, desk, heading.text(), lines)?;
     let ending = Ending::Spent { horizon, listed };
     tell_alone(alloc, desk, &Event::Ended(ending))
 }

@@ -1,5 +1,5 @@
 //! Tells the events of a search, each line of an output by one call of the desk.
-ghost use Rattle.std.specs.Prelude.{◌≡◌, ◌≤◌, ℕ, Bool, List, ◌∷◌, ◌++◌, [], IfOk, IsNone, OnOk, string_bytes};
+ghost use Rattle.std.specs.Prelude.{◌≡◌, ◌≤◌, ℕ, Bool, List, ◌∷◌, ◌++◌, [], IfOk, IsNone, OnOk};
 ghost use Rattle.cc_defs.specs.Conditions.{IsSignatureOfDescription};
 ghost use Rattle.cc_defs.specs.Description.{Description, sizes_at};
 ghost use Rattle.cc_defs.specs.declared.event.Told.{Told as ToldEvent};
@@ -25,9 +25,9 @@ use crate::refusing::give;
 use crate::status::Stop;
 use crate::summing::sum;
 use cc_check::{put_binary, put_line};
-use cc_defs::{Event, LogLine, OutOfMemory, Sig, Told, Version};
+use cc_defs::{Event, LogLine, Sig, Told, Version};
 use cc_ports::{Desk, To};
-use cc_print::{event_text, history_text, key_text};
+use cc_print::{event_text, history_text, key_line};
 use cc_sorts::Table;
 use std::alloc::Global;
 
@@ -72,18 +72,6 @@ pub fn give_lines<D: Desk>(desk: &mut D, text: &str) -> Result<(), Stop>
     Ok(())
 }
 
-/// The line of a key.
-fn key_line(alloc: Global, horizon: u32, row: &[u32]) -> Result<String, OutOfMemory>
-    ensures { IfOk result (λ line. string_bytes line ≡ texts.key_line horizon row.now) }
-{
-    let key = key_text(alloc, horizon, row)?;
-    let mut line = String::with_capacity(alloc, key.text().len().saturating_add(5))?;
-    line.push_str("key ")?;
-    line.push_str(key.text())?;
-    line.push('\n')?;
-    Ok(line)
-}
-
 /// Gives a history and its key to Out.
 pub(crate) fn tell_row<D: Desk>(
     alloc: Global,
@@ -110,8 +98,8 @@ fn tell_key<D: Desk>(alloc: Global, desk: &mut D, horizon: u32, row: &[u32]) -> 
     ensures { Step (given_to outputs.Out (texts.key_line horizon row.now)) (D.seen desk.old)
         (D.seen desk.new) result }
 {
-    let line = key_line(alloc, horizon, row)?;
-    give(desk, To::Out, line.as_bytes())
+    let line = key_line(alloc, "key ", horizon, row)?;
+    give(desk, To::Out, line.text().as_bytes())
 }
 
 /// Gives the line of an event to Out.

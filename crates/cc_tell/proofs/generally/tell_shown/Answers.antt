@@ -13,7 +13,7 @@ pub returns-in_err-tell_section : goal.returns-in_err-tell_section
 returns-in_err-tell_section g c = λ d is.
     log_cut _ (heading_for c.args.horizon (Some c.args.row.now) ++ lines_text c.args.lines.now) _ _ c.tell_section.result c.in_err-tell_section.field-0.0
     c.from_residual-in_err-tell_section.result
-    (one_as outputs.Log _ _ _ _ c.tell_section.result (ap (λ h. h ++ lines_text c.args.lines.now) (c.deref.ensures ∙ c.in_ok-heading.ensures)) c.tell_section.ensures)
+    (one_as outputs.Log _ _ _ _ c.tell_section.result (ap (λ h. h ++ lines_text c.args.lines.now) (c.text.ensures ∙ c.in_ok-heading.ensures)) c.tell_section.ensures)
     c.in_err-tell_section.was c.from_residual-in_err-tell_section.ensures.1
 
 pub tell_history-requires-clause-row : goal.tell_history-requires-clause-row
@@ -22,5 +22,5 @@ tell_history-requires-clause-row g c = λ d of. (row_in d c.args.sig.now of c.ar
 pub returns : goal.returns
 returns g c = λ d is.
     log_then _ (heading_for c.args.horizon (Some c.args.row.now) ++ lines_text c.args.lines.now) _ _ _ c.tell_section.result c.in_ok-tell_section.field-0 c.tell_history.result
-    (one_as outputs.Log _ _ _ _ c.tell_section.result (ap (λ h. h ++ lines_text c.args.lines.now) (c.deref.ensures ∙ c.in_ok-heading.ensures)) c.tell_section.ensures)
+    (one_as outputs.Log _ _ _ _ c.tell_section.result (ap (λ h. h ++ lines_text c.args.lines.now) (c.text.ensures ∙ c.in_ok-heading.ensures)) c.tell_section.ensures)
     c.in_ok-tell_section.was (one_as outputs.Out _ _ _ _ c.tell_history.result (sym (append-nil _)) (c.tell_history.ensures d is))

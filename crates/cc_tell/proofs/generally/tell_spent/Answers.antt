@@ -12,11 +12,11 @@ pub returns-in_err-tell_section : goal.returns-in_err-tell_section
 returns-in_err-tell_section g c = λ d.
     log_cut _ (heading_for c.args.horizon c.args.rivals_of.now ++ lines_text c.args.lines.now) _ _ c.tell_section.result c.in_err-tell_section.field-0.0
     c.from_residual-in_err-tell_section.result
-    (one_as outputs.Log _ _ _ _ c.tell_section.result (ap (λ h. h ++ lines_text c.args.lines.now) (c.deref.ensures ∙ c.in_ok-heading.ensures)) c.tell_section.ensures)
+    (one_as outputs.Log _ _ _ _ c.tell_section.result (ap (λ h. h ++ lines_text c.args.lines.now) (c.text.ensures ∙ c.in_ok-heading.ensures)) c.tell_section.ensures)
     c.in_err-tell_section.was c.from_residual-in_err-tell_section.ensures.1
 
 pub returns : goal.returns
 returns g c = λ d.
     log_then _ (heading_for c.args.horizon c.args.rivals_of.now ++ lines_text c.args.lines.now) _ _ _ c.tell_section.result c.in_ok-tell_section.field-0 c.tell_alone.result
-    (one_as outputs.Log _ _ _ _ c.tell_section.result (ap (λ h. h ++ lines_text c.args.lines.now) (c.deref.ensures ∙ c.in_ok-heading.ensures)) c.tell_section.ensures)
+    (one_as outputs.Log _ _ _ _ c.tell_section.result (ap (λ h. h ++ lines_text c.args.lines.now) (c.text.ensures ∙ c.in_ok-heading.ensures)) c.tell_section.ensures)
     c.in_ok-tell_section.was (c.tell_alone.ensures d)
