@@ -351,7 +351,7 @@ fn shorten(
 {
     let entries = trail.entries();
     shortening.begin();
-    shortening.take_in(trail, kernel)?;
+    shortening.take_in(trail, kernel);
     let mut place = start;
     while let Some(next) = shortening.next(place) {
         place = next;
@@ -359,7 +359,7 @@ fn shorten(
         match shortening_reason(trail, kernel, &mut shortening.marks, lit) {
             Some(id) => {
                 kernel.step(lit.variable(), id)?;
-                shortening.take_in(trail, kernel)?;
+                shortening.take_in(trail, kernel);
             },
             None => {},
         }

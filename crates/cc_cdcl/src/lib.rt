@@ -5,6 +5,7 @@ mod analysis;
 mod choice;
 pub mod laws;
 mod order;
+mod places;
 mod probe;
 mod redundancy;
 mod search;

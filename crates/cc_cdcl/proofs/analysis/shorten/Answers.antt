@@ -31,8 +31,8 @@ shortening_reason-requires-clause-clash c =
 pub step-requires : goal.step-requires
 step-requires c = subst (λ (n : ℕ). ClashesWith c.loop-next.kernel n c.in-Some-shortening_reason.id) (sym c.variable.ensures) c.in-Some-shortening_reason.ensures.clash
 
-pub loop-next-preserved-in-Continue-branch-3 : goal.loop-next-preserved-in-Continue-branch-3
-loop-next-preserved-in-Continue-branch-3 c =
+pub loop-next-preserved-in-Some-shortening_reason : goal.loop-next-preserved-in-Some-shortening_reason
+loop-next-preserved-in-Some-shortening_reason c =
     let on = shortens c.args.trail.now c.loop-next.kernel c.loop-next.place c.in-Some.next c.entries-entries.ensures.steps
     (fits_kept c.args.trail.now c.args.kernel.now c.loop-next.kernel c.loop-next.invariant.kept c.requires.fits) c.requires.opened c.loop-next.invariant.derivation c.in-Some.ensures
     c.index-entries-place.result (literal_before c.args.trail.now c.loop-next.kernel c.loop-next.place c.in-Some.next c.entries-entries.ensures.steps
