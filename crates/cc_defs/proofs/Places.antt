@@ -1,5 +1,6 @@
 -- A constant is found by halves where constants are in order.
 use Rattle.std.proofs.Common.{◌≡◌, ℕ, zero, suc, ◌+◌, ◌-◌, ◌<◌, ◌≤◌, Bool, true, false, ◌&&◌, cond, eqb, List, [], ◌∷◌, ◌++◌, length, map, get_or, Some, None, option_map, refl, sym, ap, subst, ◌∙◌, arith, inl, inr, ◌⊎◌}
+use Rattle.std.specs.Bool.{◌==◌}
 use Rattle.std.specs.Ordering.{nat_cmp, ordering_index, ordering_reverse, is_eq}
 use Rattle.std.specs.declared.cmp.Ordering.{Ordering}
 use Rattle.std.specs.declared.cmp.Ordering.TheVariants.{Less, Equal, Greater}
@@ -127,6 +128,37 @@ none cs symbol args d not_equal =
     no_match symbol args (get_or cs k d) (order (place (get_or cs k d)) (symbol ∷ args)) refl (not_equal k within) in
     let is : position_or_len (matches symbol args) cs ≡ length cs = position_or_len_is (matches symbol args) cs (length cs) d (omega arith) all (λ less. absurd (omega arith)) in
     rw (is, le-ltb (length cs) (length cs) (omega arith)) refl
+
+-- a constant that was met, and constants of which the last one stands before
+pub first_met : (cs : List Const) (i : ℕ) (symbol : ℕ) (args : List ℕ) (c : Const) → AreOrdered cs → i < length cs → c ≡ get_or cs i c →
+    order (place c) (symbol ∷ args) ≡ Equal → ground_number cs symbol args ≡ Some i
+first_met cs i symbol args c o within is found =
+    first cs i symbol args c o within (ap (λ (x : Const). order (place x) (symbol ∷ args)) (sym is) ∙ found)
+
+index_less : (r : Ordering) → ordering_index r ≤ 0 → r ≡ Equal → ⊥
+index_less Less low e = absurd cc
+index_less Equal low e = absurd (omega arith)
+index_less Greater low e = absurd cc
+
+pub all_before : (cs : List Const) (symbol : ℕ) (args : List ℕ) (c : Const) → AreOrdered cs → 0 < length cs → c ≡ get_or cs (length cs - 1) c →
+    order (place c) (symbol ∷ args) ≡ Less → ground_number cs symbol args ≡ None
+all_before cs symbol args c o some is less =
+    let key = symbol ∷ args in
+    let last = length cs - 1 in
+    let at : order (place (get_or cs last c)) key ≡ Less = ap (λ (x : Const). order (place x) key) (sym is) ∙ less in
+    none cs symbol args c (λ k inside equal. index_less (order (place (get_or cs k c)) key)
+    (subst (λ (r : Ordering). ordering_index (order (place (get_or cs k c)) key) ≤ ordering_index r) at
+    (searchable cs key o k last c (omega arith) (omega arith))) equal)
+
+pub tells_equal : (r : Ordering) → (ordering_index r == 1) ≡ true → r ≡ Equal
+tells_equal Less e = absurd cc
+tells_equal Equal e = refl
+tells_equal Greater e = absurd cc
+
+pub tells_less : (r : Ordering) → (ordering_index r == 0) ≡ true → r ≡ Less
+tells_less Less e = refl
+tells_less Equal e = absurd cc
+tells_less Greater e = absurd cc
 
 -- ---- two lists, one behind the other
 

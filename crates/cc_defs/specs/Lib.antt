@@ -12,6 +12,7 @@ pub mod Forms
 pub mod Grammar
 pub mod GroundLaws
 pub mod Histories
+pub mod Indexes
 pub mod Judged
 pub mod Laws
 pub mod Limits

@@ -6,6 +6,7 @@
 mod digits;
 mod event;
 mod formula;
+mod index;
 mod law;
 pub mod laws;
 mod list;

@@ -1,12 +1,11 @@
 //! The ground constants of a description.
-ghost use Rattle.std.specs.Prelude.{◌≡◌, ◌+◌, ◌<◌, ◌∷◌, ◌++◌, ◌%◌, length, slice_get, option_map, Some, true};
-ghost use Rattle.std.specs.Ordering.{nat_cmp};
-ghost use Rattle.std.specs.declared.cmp.Ordering.TheVariants.{Less};
-ghost use Rattle.std.specs.Cmp.Lexicographic.{slice_cmp};
-ghost use Rattle.cc_defs.specs.Signatures.{Signature, IsSignature, AreOrdered, place, ground_constants, ground_number, position_count, number_at};
+ghost use Rattle.std.specs.Prelude.{◌≡◌, ◌<◌, ◌++◌, ◌%◌, IfOk, length, slice_get, option_map, Some};
+ghost use Rattle.cc_defs.specs.Signatures.{Signature, IsSignature, ground_constants, ground_number, position_count, number_at};
+ghost use Rattle.cc_defs.specs.Indexes.{IsIndexOf};
 
-use crate::Const;
-use std::cmp::Ordering;
+use crate::index::Index;
+use crate::{Const, OutOfMemory};
+use std::alloc::Global;
 use std::marker::Model;
 
 /// The ground constants of a description by number: the fluents in order, then the actions. At a horizon m they stand
@@ -18,14 +17,13 @@ pub struct Sig {
     actions: Vec<Const>,
     // The number that each object is, where it is one.
     numbers: Vec<Option<u32>>,
-    // Whether the constants of a kind stand in the order of their symbols and arguments; then one is found by halves.
-    fluents_ordered: bool,
-    actions_ordered: bool,
+    fluents_index: Index,
+    actions_index: Index,
 }
 
 impl Model for Sig {
-    ghost use Rattle.std.specs.Prelude.{◌≡◌, true};
-    ghost use Rattle.cc_defs.specs.Signatures.{Signature, IsSignature, AreOrdered};
+    ghost use Rattle.cc_defs.specs.Signatures.{Signature, IsSignature};
+    ghost use Rattle.cc_defs.specs.Indexes.{IsIndexOf};
 
     ghost Value = { Signature };
 
@@ -40,27 +38,32 @@ impl Model for Sig {
           fluents = sig.fluents.items;
           actions = sig.actions.items;
           numbers = sig.numbers.items;
-        }) × (sig.fluents_ordered ≡ true → AreOrdered sig.fluents.items)
-        × (sig.actions_ordered ≡ true → AreOrdered sig.actions.items) };
+        }) × IsIndexOf sig.fluents.items sig.fluents_index
+        × IsIndexOf sig.actions.items sig.actions_index };
 }
 
 impl Sig {
-    /// The signature of these fluents and actions, and of objects that are these numbers. It takes no memory.
-    pub fn of(fluents: Vec<Const>, actions: Vec<Const>, numbers: Vec<Option<u32>>) -> Sig
+    /// The signature of these fluents and actions, and of objects that are these numbers.
+    pub fn of(
+        alloc: Global,
+        fluents: Vec<Const>,
+        actions: Vec<Const>,
+        numbers: Vec<Option<u32>>,
+    ) -> Result<Sig, OutOfMemory>
         requires { IsSignature
             (record { fluents = fluents.items; actions = actions.items; numbers = numbers.items }) }
-        ensures { result
-            ≡ record { fluents = fluents.items; actions = actions.items; numbers = numbers.items } }
+        ensures { IfOk result (λ sig. sig ≡
+            record { fluents = fluents.items; actions = actions.items; numbers = numbers.items }) }
     {
-        let fluents_ordered = are_ordered(&fluents);
-        let actions_ordered = are_ordered(&actions);
-        Sig {
+        let fluents_index = Index::of(alloc, &fluents)?;
+        let actions_index = Index::of(alloc, &actions)?;
+        Ok(Sig {
             fluents,
             actions,
             numbers,
-            fluents_ordered,
-            actions_ordered,
-        }
+            fluents_index,
+            actions_index,
+        })
     }
 
     /// The number that an object is; none where it is no number.
@@ -123,15 +126,15 @@ impl Sig {
     }
 
     /// The number of the ground constant of this symbol with these arguments, if there is one. Where the constants of its kind are in
-    /// order it is searched for by halves, and else in turn.
+    /// order it is looked for where it stands among all arguments of its symbol, then by halves; else in turn.
     pub fn ground_number(&self, symbol: u32, args: &[u32]) -> Option<u32>
         ensures { result ≡ ground_number (ground_constants self.now) symbol args.now }
     {
         match place_of(
             &self.fluents,
-            self.fluents_ordered,
+            &self.fluents_index,
             &self.actions,
-            self.actions_ordered,
+            &self.actions_index,
             symbol,
             args,
         ) {
@@ -144,78 +147,21 @@ impl Sig {
 /// Where the constant of this symbol with these arguments stands, where the actions stand behind the fluents.
 fn place_of(
     fluents: &[Const],
-    fluents_ordered: bool,
+    fluents_index: &Index,
     actions: &[Const],
-    actions_ordered: bool,
+    actions_index: &Index,
     symbol: u32,
     args: &[u32],
 ) -> Option<usize>
-    requires fluents { fluents_ordered ≡ true → AreOrdered fluents.now }
-    requires actions { actions_ordered ≡ true → AreOrdered actions.now }
+    requires fluents { IsIndexOf fluents.now fluents_index.now }
+    requires actions { IsIndexOf actions.now actions_index.now }
     ensures { result ≡ ground_number (fluents.now ++ actions.now) symbol args.now }
 {
-    match find(fluents, fluents_ordered, symbol, args) {
+    match fluents_index.find(fluents, symbol, args) {
         Some(number) => Some(number),
-        None => match find(actions, actions_ordered, symbol, args) {
+        None => match actions_index.find(actions, symbol, args) {
             Some(number) => Some(fluents.len() + number),
             None => None,
         },
     }
-}
-
-/// Whether constants stand in the order of their symbols and arguments.
-fn are_ordered(constants: &[Const]) -> bool
-    ensures { result ≡ true → AreOrdered constants.now }
-{
-    for i in 1..constants.len() {
-        if !is_before(&constants[i - 1], &constants[i]) {
-            return false;
-        }
-    }
-    true
-}
-
-/// Whether a constant stands before another.
-fn is_before(constant: &Const, other: &Const) -> bool
-    ensures { result ≡ true → slice_cmp nat_cmp (place constant.now) (place other.now) ≡ Less }
-{
-    compare(constant, other.symbol, other.args.items()) == Ordering::Less
-}
-
-/// The place of the constant of this symbol with these arguments among constants, which may be in order.
-fn find(constants: &[Const], ordered: bool, symbol: u32, args: &[u32]) -> Option<usize>
-    requires { ordered ≡ true → AreOrdered constants.now }
-    ensures { result ≡ ground_number constants.now symbol args.now }
-{
-    if ordered {
-        find_by_halves(constants, symbol, args)
-    } else {
-        find_in_turn(constants, symbol, args)
-    }
-}
-
-fn find_by_halves(constants: &[Const], symbol: u32, args: &[u32]) -> Option<usize>
-    requires { AreOrdered constants.now }
-    ensures { result ≡ ground_number constants.now symbol args.now }
-{
-    match constants.binary_search_by(|constant| compare(constant, symbol, args)) {
-        Ok(number) => Some(number),
-        Err(_) => None,
-    }
-}
-
-fn find_in_turn(constants: &[Const], symbol: u32, args: &[u32]) -> Option<usize>
-    ensures { result ≡ ground_number constants.now symbol args.now }
-{
-    constants.iter().position(|constant| constant.symbol == symbol && constant.args.items() == args)
-}
-
-/// Where a constant stands to one with this symbol and these arguments.
-fn compare(constant: &Const, symbol: u32, args: &[u32]) -> Ordering
-    ensures { result ≡ slice_cmp nat_cmp (place constant.now) (symbol ∷ args.now) }
-{
-    constant
-        .symbol
-        .cmp(&symbol)
-        .then_with(|| constant.args.items().cmp(args))
 }

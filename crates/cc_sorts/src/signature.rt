@@ -342,6 +342,7 @@ impl Register {
         let fluents = self.instances(alloc, false)?;
         let actions = self.instances(alloc, true)?;
         let numbers = Vec::from_slice(alloc, self.objects.numbers())?;
-        Ok(Sig::of(fluents, actions, numbers))
+        let sig = Sig::of(alloc, fluents, actions, numbers)?;
+        Ok(sig)
     }
 }

@@ -116,10 +116,11 @@ fn logs_are_misread(rt: HostRuntime) {
 }
 
 // That of a description without constants.
-pub(crate) fn no_signature(alloc: Global) -> Sig
-    ensures { result ≡ record { fluents = []; actions = []; numbers = [] } }
+pub(crate) fn no_signature(alloc: Global) -> Result<Sig, OutOfMemory>
+    ensures { IfOk result (λ sig.
+        sig ≡ record { fluents = []; actions = []; numbers = [] }) }
 {
-    Sig::of(Vec::new(alloc), Vec::new(alloc), Vec::new(alloc))
+    Sig::of(alloc, Vec::new(alloc), Vec::new(alloc), Vec::new(alloc))
 }
 
 pub(crate) fn no_laws<'a>(alloc: Global) -> Laws<'a>
@@ -158,7 +159,7 @@ fn clauses_at_start(
 
 // There is no clause, and the only row is empty.
 pub(crate) fn no_clauses(alloc: Global) -> Result<Form, Fault> {
-    let sig = no_signature(alloc);
+    let sig = no_signature(alloc)?;
     let laws = no_laws(alloc);
     let query = no_query(alloc);
     clauses_at_start(alloc, &sig, &laws, &query)

@@ -67,7 +67,7 @@ pub(crate) fn clauses_behind(alloc: Global) -> Result<Form, Fault>
     ensures made { IfOk result (λ form. form ≡ axioms_behind) }
     ensures refused { IfErr result (IsRefusedBy None) }
 {
-    let sig = no_signature(alloc);
+    let sig = no_signature(alloc)?;
     let laws = no_laws(alloc);
     let query = no_query(alloc);
     let key = only_key(alloc);

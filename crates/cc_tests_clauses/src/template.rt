@@ -48,7 +48,7 @@ fn agree_at(
 fn agree(alloc: Global, horizon: u32) -> Result<bool, Fault>
     requires { horizon ≤ most_steps }
 {
-    let sig = no_signature(alloc);
+    let sig = no_signature(alloc)?;
     let laws = no_laws(alloc);
     let query = no_query(alloc);
     agree_at(alloc, &sig, &laws, &query, horizon)

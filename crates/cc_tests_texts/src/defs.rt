@@ -152,10 +152,11 @@ fn place_and_go(alloc: Global) -> Result<Sig, OutOfMemory>
     let place = constant(alloc, 0, Kind::Simple, [5, 6, 7].as_slice())?;
     let go = constant(alloc, 1, Kind::Action, [0, 1].as_slice())?;
     let sig = Sig::of(
+        alloc,
         vec![in alloc; place]?,
         vec![in alloc; go]?,
         vec![in alloc; None, Some(7)]?,
-    );
+    )?;
     Ok(sig)
 }
 

@@ -14,5 +14,5 @@ of-requires c =
 
 pub returns-clause-made : goal.returns-clause-made
 returns-clause-made c = λ left is.
-    made_of (shown c.args.self.now) c.of.result c.in_ok-fluents.fluents.items c.in_ok-actions.actions.items c.in_ok-numbers.numbers.items (sym c.refusal.ensures ∙ c.in_default.is) c.of.ensures
+    made_of (shown c.args.self.now) c.in_ok-sig.sig c.in_ok-fluents.fluents.items c.in_ok-actions.actions.items c.in_ok-numbers.numbers.items (sym c.refusal.ensures ∙ c.in_default.is) c.in_ok-sig.ensures
     (c.in_ok-numbers.ensures.items ∙ c.numbers.ensures ∙ ap (λ table. table.numbers) c.self.view_is) c.in_ok-fluents.ensures.made c.in_ok-actions.ensures.made c.instances.ensures.numbered left (shown_is c.args.self.now left is)

@@ -1,6 +1,6 @@
 use Rattle.std.proofs.Common.{arith}
 use Rattle.cc_defs.proofs.Places.{from_neighbours, neighbours_more}
-use Rattle.cc_defs.proofs.sig.are_ordered.Goals as goal
+use Rattle.cc_defs.proofs.index.are_ordered.Goals as goal
 
 pub loop-i-preserved : goal.loop-i-preserved
 loop-i-preserved c = neighbours_more c.args.constants.now c.loop-i.i c.index-constants-i.result c.index-constants-i-in-loop-i.result

@@ -8,7 +8,7 @@ use Rattle.cc_defs.specs.declared.signature.Const.{Const}
 use Rattle.cc_defs.specs.declared.signature.Kind.TheVariants.{Simple}
 use Rattle.cc_defs.specs.Signatures.{place}
 use Rattle.cc_defs.proofs.Places.{searchable, first, none}
-use Rattle.cc_defs.proofs.sig.find_by_halves.Goals as goal
+use Rattle.cc_defs.proofs.index.find_by_halves.Goals as goal
 
 below_or_from : (k i : ℕ) → (k < i) ⊎ (i ≤ k)
 below_or_from k zero = inr (omega arith)
