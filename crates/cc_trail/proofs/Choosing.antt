@@ -10,7 +10,7 @@ use Rattle.cc_trail.specs.Steps.{AreApart, AreSteps, step_of}
 use Rattle.cc_trail.specs.Watches.{IsTrueBy, IsFalseBy}
 use Rattle.cc_trail.specs.EntrySteps.{IsValued}
 use Rattle.cc_trail.specs.Visits.{IsFalseAt, IsFalseBut, IsBest, IsValue}
-use Rattle.cc_trail.proofs.Linked.{code_injective}
+use Rattle.cc_trail.proofs.Codes.{code_injective}
 use Rattle.cc_trail.proofs.StepLists.{levels_most, same_step, none_of}
 use Rattle.cc_trail.proofs.Growing.{not_opposite}
 

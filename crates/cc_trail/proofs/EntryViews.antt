@@ -10,7 +10,7 @@ use Rattle.cc_trail.specs.Links.{no_literal}
 use Rattle.cc_trail.specs.Steps.{EntriesView, AreApart, step_of, level_after, AreSteps}
 use Rattle.cc_trail.specs.EntryParts.{view_of, mark_of, AreMarked, IsKeptIn, IsKept}
 use Rattle.cc_trail.specs.EntrySteps.{IsPopped}
-use Rattle.cc_trail.proofs.Linked.{read_at}
+use Rattle.cc_trail.proofs.Codes.{read_at}
 use Rattle.cc_trail.proofs.Marked.{marked_push, marked_pop}
 use Rattle.cc_trail.proofs.StepLists.{level_count_few}
 use Rattle.cc_trail.proofs.Kept.{found, not_found, place_at, front_length, push_within, pushed, kept_push, popped, last_over, last_level_then, level_falls, kept_pop}

@@ -1,6 +1,6 @@
-mod Chains
-mod LinkViews
-mod NodeViews
+mod Codes
+mod ListViews
+mod Listed
 mod Linked
 mod StepLists
 mod Kept

@@ -9,7 +9,7 @@ use Rattle.cc_trail.specs.Steps.{step_of, AreApart}
 use Rattle.cc_trail.specs.EntryParts.{mark_of, AreMarked}
 use Rattle.cc_trail.specs.Trails.{level_of_step}
 use Rattle.cc_trail.specs.EntrySteps.{is_true_by, IsValued}
-use Rattle.cc_trail.proofs.Linked.{same_literal}
+use Rattle.cc_trail.proofs.Codes.{same_literal}
 use Rattle.cc_trail.proofs.StepLists.{step_found, none_of, of_none, apart_pop}
 
 step_other : (steps : List Step) (last : Step) (variable : ℕ) → last.lit.variable ≢ variable → step_of (steps ++ last ∷ []) variable ≡ step_of steps variable

@@ -2,7 +2,7 @@ pub mod EntryParts
 pub mod EntrySteps
 pub mod LinkParts
 pub mod Links
-pub mod NodeParts
+pub mod Lists
 pub mod PairParts
 pub mod Pairs
 pub mod Steps

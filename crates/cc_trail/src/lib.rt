@@ -4,7 +4,7 @@
 mod entries;
 pub mod laws;
 mod links;
-mod nodes;
+mod lists;
 mod pairs;
 mod propagation;
 mod trail;

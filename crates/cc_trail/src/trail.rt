@@ -352,20 +352,20 @@ impl Trail {
     /// Unit propagation: makes literals true at the last level, each by a clause whose other literals are false, for as
     /// long as there is such a clause. None where no clause is false and none is left with one literal that has no value
     /// and all others false; else the number of a clause that is false.
-    pub fn propagate(&mut self, kernel: &Kernel) -> Option<u32>
+    pub fn propagate(&mut self, kernel: &Kernel) -> Result<Option<u32>, OutOfMemory>
         requires fits { Fits self.old kernel.now }
         requires all { self.old.attached ≡ length kernel.now.entries }
         requires settled { IsSettled self.old kernel.now }
         ensures propagated { IsPropagated self.old self.new }
         ensures fits { Fits self.new kernel.now }
         ensures settled { IsSettled self.new kernel.now }
-        ensures failed { IfSome result (λ id.
-            IsFailedClause (clauses_of kernel.now) self.new.steps id) }
-        ensures closed { IfNone result
-            (IsClosed (values_of self.new.steps) (clauses_of kernel.now)) }
+        ensures failed { IfOk result (λ found. IfSome found (λ id.
+            IsFailedClause (clauses_of kernel.now) self.new.steps id)) }
+        ensures closed { IfOk result (λ found. IfNone found
+            (IsClosed (values_of self.new.steps) (clauses_of kernel.now))) }
     {
         if let Some(number) = make_shorts(kernel, &self.shorts, self.met, &mut self.entries) {
-            return Some(number);
+            return Ok(Some(number));
         }
         self.met = met_for_good(&self.entries, self.met, self.shorts.len());
         visit_steps(

@@ -5,15 +5,15 @@ use Rattle.cc_tests_clauses.proofs.silent.clauses_behind.Goals as goal
 
 pub clauses_after-requires-clause-for_laws : goal.clauses_after-requires-clause-for_laws
 clauses_after-requires-clause-for_laws c =
-    laws_for c.no_signature-sig.result c.no_laws-laws.result c.no_signature-sig.ensures c.no_laws-laws.ensures
+    laws_for c.in_ok-sig.sig c.no_laws-laws.result c.in_ok-sig.ensures c.no_laws-laws.ensures
 
 pub clauses_after-requires-clause-of_laws : goal.clauses_after-requires-clause-of_laws
 clauses_after-requires-clause-of_laws c =
-    laws_of c.no_signature-sig.result c.no_laws-laws.result c.no_signature-sig.ensures c.no_laws-laws.ensures
+    laws_of c.in_ok-sig.sig c.no_laws-laws.result c.in_ok-sig.ensures c.no_laws-laws.ensures
 
 pub clauses_after-requires-clause-query : goal.clauses_after-requires-clause-query
 clauses_after-requires-clause-query c =
-    query_at c.no_signature-sig.result (plain_ground_query c.no_query-query.result) c.no_query-query.ensures.conditions c.no_query-query.ensures.claim
+    query_at c.in_ok-sig.sig (plain_ground_query c.no_query-query.result) c.no_query-query.ensures.conditions c.no_query-query.ensures.claim
 
 pub clauses_after-requires-clause-stands : goal.clauses_after-requires-clause-stands
 clauses_after-requires-clause-stands c =
@@ -21,4 +21,4 @@ clauses_after-requires-clause-stands c =
     c.no_query-query.ensures.conditions c.no_query-query.ensures.claim
 
 pub clauses_after-requires-clause-fits : goal.clauses_after-requires-clause-fits
-clauses_after-requires-clause-fits c = key_at c.no_signature-sig.result c.only_key-key.result c.no_signature-sig.ensures c.only_key-key.ensures
+clauses_after-requires-clause-fits c = key_at c.in_ok-sig.sig c.only_key-key.result c.in_ok-sig.ensures c.only_key-key.ensures

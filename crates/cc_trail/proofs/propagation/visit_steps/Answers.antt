@@ -1,9 +1,16 @@
-use Rattle.std.proofs.Common.{◌+◌}
+use Rattle.std.proofs.Common.{ℕ, ◌+◌, Option, subst}
+use Rattle.std.specs.Prelude.{IfNone}
+use Rattle.cc_trail.specs.Visits.{AreWatched}
 use Rattle.cc_trail.proofs.Growing.{grown_then, watched_grown, followed_grown}
 use Rattle.cc_trail.proofs.propagation.visit_steps.Goals as goal
 
 pub returns-in-Some-clause-followed : goal.returns-in-Some-clause-followed
 returns-in-Some-clause-followed c =
+    followed_grown c.args.pairs.now c.loop-visited.visited c.loop-visited.entries c.visit_step.new.entries c.visit_step.ensures.grown (c.loop-visited.invariant.2).within
+    (c.loop-visited.invariant.4)
+
+pub returns-in_err-number-clause-followed : goal.returns-in_err-number-clause-followed
+returns-in_err-number-clause-followed c =
     followed_grown c.args.pairs.now c.loop-visited.visited c.loop-visited.entries c.visit_step.new.entries c.visit_step.ensures.grown (c.loop-visited.invariant.2).within
     (c.loop-visited.invariant.4)
 
@@ -23,7 +30,8 @@ loop-visited-preserved c = (
   grown_then c.args.entries.now c.loop-visited.entries c.visit_pairs.new.entries (c.loop-visited.invariant.1)
       (grown_then c.loop-visited.entries c.visit_step.new.entries c.visit_pairs.new.entries c.visit_step.ensures.grown c.visit_pairs.ensures.grown),
   watched_grown c.args.kernel.now c.args.longs.now (c.loop-visited.visited + 1) c.visit_step.new.entries c.visit_pairs.new.entries c.visit_step.new.links c.visit_pairs.ensures.grown
-      c.in_default.ensures.next,
+      (subst (λ (found : Option ℕ). IfNone found (AreWatched c.args.kernel.now c.args.longs.now (c.loop-visited.visited + 1) c.visit_step.new.entries c.visit_step.new.links))
+      c.in_default.is c.in_ok-number.ensures.next),
   c.visit_step.ensures.none,
   c.in_default-visit_pairs.ensures.next,
 )

@@ -2,8 +2,8 @@ use Rattle.std.proofs.Common.{◌∙◌, ℕ, ◌<◌, length, refl, sym, subst,
 use Rattle.std.specs.Prelude.{Contains}
 use Rattle.std.proofs.lemmas.List.Elements.{All-contains}
 use Rattle.cc_defs.specs.Clauses.{Literal, IsLiteralOver}
-use Rattle.cc_trail.specs.Links.{watched_at}
-use Rattle.cc_trail.specs.Visits.{IsFalseAt}
+use Rattle.cc_trail.specs.Links.{LinksView, watched_at}
+use Rattle.cc_trail.specs.Visits.{IsFalseAt, IsVisiting}
 use Rattle.cc_trail.proofs.Attaching.{all_over}
 use Rattle.cc_trail.proofs.Growing.{grown_at}
 use Rattle.cc_trail.proofs.Choosing.{not_true, not_false, best_open, best_false, value_true, value_false}
@@ -20,7 +20,7 @@ pub returns-in-ForGood-clause-visiting : goal.returns-in-ForGood-clause-visiting
 returns-in-ForGood-clause-visiting c =
     gone_then c.args.kernel.now c.args.longs.now c.args.place c.args.step.now c.args.entries.now c.args.links.now c.requires.visiting c.args.node c.requires.first c.requires.once
     c.watched-other.result (c.watched-other.ensures.watched ∙ ap (λ (n : ℕ). watched_at c.args.links.now.watched n) c.partner_of.ensures) c.watched-other.result c.put.new.self
-    c.put.ensures refl (c.in-ForGood.ensures.good refl)
+    c.in_ok-put-in-ForGood.ensures.put refl (c.in-ForGood.ensures.good refl)
 
 pub returns-then-not-is_due-clause-visiting : goal.returns-then-not-is_due-clause-visiting
 returns-then-not-is_due-clause-visiting c =
@@ -62,7 +62,7 @@ pub returns-then-not-watch-clause-visiting : goal.returns-then-not-watch-clause-
 returns-then-not-watch-clause-visiting c =
     open_then c.args.kernel.now c.args.longs.now c.args.place c.args.step.now c.args.entries.now c.args.links.now c.requires.visiting c.args.node c.requires.first c.requires.once
     c.watched-other.result (c.watched-other.ensures.watched ∙ ap (λ (n : ℕ). watched_at c.args.links.now.watched n) c.partner_of.ensures) c.best_beside-watch.result.lit
-    c.put-then-not-watch.new.self c.put-then-not-watch.ensures c.clause.result.now c.clause.ensures.clause c.best_beside-watch.ensures.member c.best_beside-watch.ensures.apart
+    c.put-then-not-watch.new.self c.in_ok-put.ensures.put c.clause.result.now c.clause.ensures.clause c.best_beside-watch.ensures.member c.best_beside-watch.ensures.apart
     (best_open c.args.entries.now.steps c.clause.result.now c.watched-other.result c.best_beside-watch.result.lit c.best_beside-watch.result.level
     c.best_beside-watch.result.is_false (not_true c.best_beside-watch.result.is_false c.if-not-watch.true) c.best_beside-watch.ensures.best)
 
@@ -76,13 +76,22 @@ returns-then-make_true-clause-visiting c =
     c.best_beside-watch.result.level (best.1) c.make_true.new.entries c.make_true.ensures.grown (c.make_true.ensures.sound c.args.kernel.now))
     c.args.node c.requires.first c.requires.once c.watched-other.result
     (c.watched-other.ensures.watched ∙ ap (λ (n : ℕ). watched_at c.args.links.now.watched n) c.partner_of.ensures) c.best_beside-watch.result.lit
-    c.put-then-make_true.new.self c.put-then-make_true.ensures c.clause.result.now c.clause.ensures.clause c.best_beside-watch.ensures.member c.best_beside-watch.ensures.apart
+    c.put-then-make_true.new.self c.in_ok-put-2.ensures.put c.clause.result.now c.clause.ensures.clause c.best_beside-watch.ensures.member c.best_beside-watch.ensures.apart
     c.best_beside-watch.result.level
     (grown_at c.args.entries.now c.make_true.new.entries c.make_true.ensures.grown c.best_beside-watch.result.lit c.best_beside-watch.result.level (best.0))
     (others_then c.args.kernel.now c.args.longs.now c.args.place c.args.step.now c.args.entries.now c.args.links.now c.requires.visiting c.args.node c.requires.first
     c.watched-other.result (c.watched-other.ensures.watched ∙ ap (λ (n : ℕ). watched_at c.args.links.now.watched n) c.partner_of.ensures) c.clause.result.now c.clause.ensures.clause
     c.best_beside-watch.result.level (best.1) c.make_true.new.entries c.make_true.ensures.grown (c.make_true.ensures.sound c.args.kernel.now))
     (value_true c.make_true.new.entries.steps c.make_true.new.entries.level_count c.watched-other.result c.make_true.result c.if-make_true.true c.make_true.ensures.value)
+
+pub returns-in_err-put-2-clause-visiting : goal.returns-in_err-put-2-clause-visiting
+returns-in_err-put-2-clause-visiting c =
+    let best = best_false c.args.entries.now.steps c.clause.result.now c.watched-other.result c.best_beside-watch.result.lit c.best_beside-watch.result.level
+    c.best_beside-watch.result.is_false (not_false c.best_beside-watch.result.is_false c.if-not-watch.false) c.best_beside-watch.ensures.best in
+    subst (λ (v : LinksView). IsVisiting c.args.kernel.now c.args.longs.now c.args.place c.args.step.now c.make_true.new.entries v) (sym c.in_err-put-2.ensures.kept)
+    (visiting_then c.args.kernel.now c.args.longs.now c.args.place c.args.step.now c.args.entries.now c.args.links.now c.requires.visiting c.args.node c.requires.first
+    c.watched-other.result (c.watched-other.ensures.watched ∙ ap (λ (n : ℕ). watched_at c.args.links.now.watched n) c.partner_of.ensures) c.clause.result.now c.clause.ensures.clause
+    c.best_beside-watch.result.level (best.1) c.make_true.new.entries c.make_true.ensures.grown (c.make_true.ensures.sound c.args.kernel.now))
 
 pub returns-clause-visiting : goal.returns-clause-visiting
 returns-clause-visiting c =

@@ -1,18 +1,18 @@
-use Rattle.std.proofs.Common.{ap}
-use Rattle.cc_trail.specs.Links.{NodesView}
-use Rattle.cc_trail.proofs.LinkViews.{links_then_added, view_added}
+use Rattle.std.proofs.Common.{◌≡◌, ◌∙◌, ◌+◌, List, [], ◌∷◌, ◌++◌, length, sym, subst, ap, arith}
+use Rattle.cc_defs.specs.Clauses.{Literal, IsLiteralOver}
+use Rattle.cc_trail.specs.Links.{LinksView}
+use Rattle.cc_trail.proofs.Linked.{links_added}
 use Rattle.cc_trail.proofs.links.Links.add_two.Goals as goal
 
 pub invariant_of-self-2 : goal.invariant_of-self-2
 invariant_of-self-2 c =
-    links_then_added c.self.inside c.args.self.now c.self.view_is c.self.invariant c.requires.none c.args.a c.args.b c.requires.a_over c.requires.b_over c.requires.apart
-    c.count-count.result c.if-count-ge-MOST_NODES.false c.count-count.ensures c.code-first.result c.code-second.result
-    c.code-first.ensures c.code-second.ensures c.index-one.result.now c.index-two.result.now c.index-one.ensures c.index-two.ensures
-    c.add_two.new.self.next c.add_two.new.self.watched (ap (λ (v : NodesView). v.next) c.in_ok-add_two.ensures.added) (ap (λ (v : NodesView). v.watched) c.in_ok-add_two.ensures.added)
-
-pub returns-clause-added : goal.returns-clause-added
-returns-clause-added c =
-    view_added c.self.inside c.args.self.now c.self.view_is c.self.invariant c.requires.none c.args.a c.args.b c.requires.a_over c.requires.b_over c.requires.apart
-    c.count-count.result c.if-count-ge-MOST_NODES.false c.count-count.ensures c.code-first.result c.code-second.result
-    c.code-first.ensures c.code-second.ensures c.index-one.result.now c.index-two.result.now c.index-one.ensures c.index-two.ensures
-    c.add_two.new.self.next c.add_two.new.self.watched (ap (λ (v : NodesView). v.next) c.in_ok-add_two.ensures.added) (ap (λ (v : NodesView). v.watched) c.in_ok-add_two.ensures.added)
+    let inside = c.self.inside in
+    let one_is : c.len-count.result ≡ length inside.watched.items = omega (arith, c.len-count.ensures, inside.watched.ok.0) in
+    let watched_is = c.in_ok-push-2.ensures.items ∙ ap (λ (literals : List Literal). literals ++ c.args.b ∷ [])
+    (c.in_ok-push.ensures.items ∙ ap (λ (literals : List Literal). literals ++ c.args.a ∷ []) c.reserve.ensures.items) in
+    rw (c.in_ok-push_two.ensures.pushed, watched_is)
+    (links_added inside.variables inside.lists inside.watched.items inside.walked inside.ahead c.self.invariant c.args.a c.args.b
+    (subst (λ (v : LinksView). IsLiteralOver v.variables c.args.a) (sym c.self.view_is) c.requires.a_over)
+    (subst (λ (v : LinksView). IsLiteralOver v.variables c.args.b) (sym c.self.view_is) c.requires.b_over)
+    c.requires.apart c.len-count.result (c.len-count.result + 1) c.code.result c.code-2.result one_is (omega arith) (omega (arith, c.if-count-ge-MOST_NODES.false))
+    c.code.ensures c.code-2.ensures)

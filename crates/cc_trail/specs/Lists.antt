@@ -1,0 +1,18 @@
+-- Lists of numbers by number.
+use Rattle.std.specs.Prelude.{ℕ, ◌-◌, List, [], length, map, set, take, get_or}
+use Rattle.cc_trail.specs.declared.lists.Lists.TheInside.{Inside}
+
+abbrev pub view_of : Inside → List (List ℕ)
+view_of lists = map (λ numbers. numbers.items) lists.lists.items
+
+-- the list of a number; none past the end
+abbrev pub list_at : List (List ℕ) → ℕ → List ℕ
+list_at lists list = get_or lists list []
+
+-- all but the last number
+abbrev pub without_last : List ℕ → List ℕ
+without_last numbers = take (length numbers - 1) numbers
+
+-- all but the number at a place, where the last one stands then
+abbrev pub without_place : List ℕ → ℕ → List ℕ
+without_place numbers place = without_last (set numbers place (get_or numbers (length numbers - 1) 0))
