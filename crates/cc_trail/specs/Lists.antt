@@ -1,9 +1,5 @@
 -- Lists of numbers by number.
-use Rattle.std.specs.Prelude.{ℕ, ◌-◌, List, [], length, map, set, take, get_or}
-use Rattle.cc_trail.specs.declared.lists.Lists.TheInside.{Inside}
-
-abbrev pub view_of : Inside → List (List ℕ)
-view_of lists = map (λ numbers. numbers.items) lists.lists.items
+use Rattle.std.specs.Prelude.{ℕ, ◌-◌, List, [], length, set, take, get_or}
 
 -- the list of a number; none past the end
 abbrev pub list_at : List (List ℕ) → ℕ → List ℕ

@@ -1,4 +1,5 @@
-//! Lists of numbers by number, each of which grows at its end, and from which a number is taken out by the last one.
+//! Lists of numbers by number, each of which grows at its end, and from which a number is taken out by the last one. A list that
+//! never had a number takes four bytes.
 ghost use Rattle.std.specs.Prelude.{◌≡◌, ◌≢◌, ◌<◌, ◌++◌, [], ◌∷◌, length, set, replicate, get_or, IfOk, OnOk, OnErr};
 ghost use Rattle.cc_trail.specs.Lists.{list_at, without_last, without_place};
 
@@ -9,7 +10,10 @@ use std::marker::Model;
 /// Lists of numbers by number.
 #[derive(Drop)]
 pub struct Lists {
-    lists: Vec<Vec<u32>>,
+    // By the number of a list: one more than its place among those that are kept; 0 where it never had a number.
+    places: Vec<u32>,
+    kept: Vec<Vec<u32>>,
+    alloc: Global,
 }
 
 impl Model for Lists {
@@ -17,9 +21,11 @@ impl Model for Lists {
 
     ghost Value = { List (List ℕ) };
 
-    ghost use Rattle.cc_trail.specs.Lists.{view_of};
+    ghost use Rattle.cc_trail.specs.ListParts.{view_of, AreKept};
 
     ghost view = { view_of };
+
+    ghost invariant = { AreKept };
 }
 
 impl Lists {
@@ -27,11 +33,11 @@ impl Lists {
     pub fn new(alloc: Global, count: usize) -> Result<Lists, OutOfMemory>
         ensures { IfOk result (λ lists. lists ≡ replicate count []) }
     {
-        let mut lists = Vec::with_capacity(alloc, count)?;
-        for _ in 0..count {
-            lists.push(Vec::new(alloc))?;
-        }
-        Ok(Lists { lists })
+        Ok(Lists {
+            places: vec![in alloc; 0u32; count]?,
+            kept: Vec::new(alloc),
+            alloc,
+        })
     }
 
     /// How many numbers a list has.
@@ -39,7 +45,10 @@ impl Lists {
         requires { list < length self.now }
         ensures { result ≡ length (list_at self.now list) }
     {
-        self.lists[list].len()
+        match self.places[list].checked_sub(1) {
+            Some(place) => self.kept[place as usize].len(),
+            None => 0,
+        }
     }
 
     /// The number at a place of a list.
@@ -48,7 +57,26 @@ impl Lists {
         requires place { place < length (list_at self.now list) }
         ensures { result ≡ get_or (list_at self.now list) place 0 }
     {
-        self.lists[list][place]
+        match self.places[list].checked_sub(1) {
+            Some(kept) => self.kept[kept as usize][place],
+            None => 0,
+        }
+    }
+
+    // Keeps a list from now on, which had no number.
+    fn keep(&mut self, list: usize) -> Result<(), OutOfMemory>
+        requires { list < length self.old }
+        ensures { self.new ≡ self.old }
+    {
+        if self.places[list] > 0 {
+            return Ok(());
+        }
+        let Ok(place) = u32::try_from(self.kept.len() + 1) else {
+            return Err(OutOfMemory);
+        };
+        self.kept.push(Vec::new(self.alloc))?;
+        self.places[list] = place;
+        Ok(())
     }
 
     /// Puts a number behind those of a list.
@@ -58,7 +86,11 @@ impl Lists {
             (self.new ≡ set self.old list (list_at self.old list ++ number ∷ [])) }
         ensures kept { OnErr result (self.new ≡ self.old) }
     {
-        self.lists[list].push(number)?;
+        self.keep(list)?;
+        match self.places[list].checked_sub(1) {
+            Some(place) => self.kept[place as usize].push(number)?,
+            None => return Err(OutOfMemory),
+        }
         Ok(())
     }
 
@@ -67,7 +99,9 @@ impl Lists {
         requires { list < length self.old }
         ensures { self.new ≡ set self.old list (without_last (list_at self.old list)) }
     {
-        let _ = self.lists[list].pop();
+        if let Some(place) = self.places[list].checked_sub(1) {
+            let _ = self.kept[place as usize].pop();
+        }
     }
 
     /// Puts a number behind those of a list, and one behind those of another.
@@ -103,9 +137,11 @@ impl Lists {
         ensures { self.new
             ≡ set self.old list (without_place (list_at self.old list) place) }
     {
-        let numbers = &mut self.lists[list];
-        let last = numbers[numbers.len() - 1];
-        numbers[place] = last;
-        let _ = numbers.pop();
+        if let Some(kept) = self.places[list].checked_sub(1) {
+            let numbers = &mut self.kept[kept as usize];
+            let last = numbers[numbers.len() - 1];
+            numbers[place] = last;
+            let _ = numbers.pop();
+        }
     }
 }
