@@ -13,7 +13,7 @@ use std::alloc::Global;
 /// What is kept for the lines of a search. Nothing is claimed of it but that places come from in front of where they are wanted.
 #[derive(Drop)]
 pub struct Shortening {
-    // The places of staged literals that have a reason and were not looked at.
+    // The places of staged literals that were not looked at.
     places: Places,
     // So many of the literals that the kernel touched were taken in.
     seen: usize,
@@ -38,13 +38,13 @@ impl Shortening {
         self.seen = 0;
     }
 
-    // Takes in the place of a literal, where that is staged and has a reason.
+    // Takes in the place of a literal, where that is staged.
     fn put(&mut self, trail: &Trail, kernel: &Kernel, lit: Lit)
         requires fits { Fits trail.now kernel.now }
         requires staged { IsSome kernel.now.staged }
     {
         let _variables = kernel.variables();
-        if kernel.stages(lit) && trail.reason(lit.variable()).is_some() {
+        if kernel.stages(lit) {
             self.places.put(trail.place(lit.variable()));
         }
     }

@@ -1,5 +1,5 @@
 -- The clauses between the places of an arena: reading one, and adding one.
-use Rattle.std.proofs.Common.{◌≡◌, ℕ, ◌+◌, ◌<◌, ◌≤◌, zero, suc, List, [], ◌∷◌, ◌++◌, length, get_or, Some, refl, ap, arith, length-append}
+use Rattle.std.proofs.Common.{◌≡◌, ℕ, ◌+◌, ◌<◌, ◌≤◌, zero, suc, List, [], ◌∷◌, ◌++◌, length, get_or, Some, refl, ap, sym, ◌∙◌, arith, length-append}
 use Rattle.std.specs.Prelude.{slice_get, slice_range, sum_by}
 use Rattle.std.proofs.lemmas.List.Sums.{sum_by-cons}
 use Rattle.std.proofs.lemmas.Grind.{common_steps}
@@ -59,11 +59,14 @@ clause_between all start (end ∷ ends) zero d below = refl
 clause_between all start (end ∷ ends) (suc k) d below = clause_between all end ends k d (omega arith)
 
 module _ (all clause now : List Literal) (ends ends_now : List ℕ) (end : ℕ) (inside : AreEnds 0 ends (length all)) (now_is : now ≡ all ++ clause)
-    (ends_are : ends_now ≡ ends ++ end ∷ []) (end_is : end ≡ length now) where
+    (ends_are : ends_now ≡ ends ++ end ∷ []) (end_is : end ≡ length all + length clause) where
+  ends_there : end ≡ length now
+  ends_there = end_is ∙ sym (ap length now_is ∙ length-append all clause)
+
   pub pushed_ends : AreEnds 0 ends_now (length now)
   pushed_ends =
       let longer : length all ≤ length now = omega (arith, ap length now_is, length-append all clause) in
-      rw (ends_are, end_is) (ends_push 0 ends (length all) (length now) inside longer)
+      rw (ends_are, ends_there) (ends_push 0 ends (length all) (length now) inside longer)
 
   pub pushed_clauses : clauses_between now 0 ends_now ≡ clauses_between all 0 ends ++ clause ∷ []
-  pushed_clauses = rw (ends_are, end_is, now_is) (clauses_push all clause 0 ends inside)
+  pushed_clauses = rw (ends_are, ends_there, now_is) (clauses_push all clause 0 ends inside)

@@ -1,18 +1,19 @@
 //! A list of clauses, kept in one list of literals.
-ghost use Rattle.std.specs.Prelude.{◌≡◌, ℕ, ◌+◌, ◌<◌, ◌≤◌, ◌++◌, [], ◌∷◌, length, sum_by, Some, OnOk, OnErr, slice_get, slice_index, slice_range};
+ghost use Rattle.std.specs.Prelude.{◌≡◌, ℕ, ◌+◌, ◌<◌, ◌≤◌, ◌++◌, [], ◌∷◌, length, sum_by, Some, OnOk, OnErr, IfSome, IfNone, slice_get, slice_index, slice_range};
 ghost use Rattle.cc_clauses.specs.Parts.{AreEnds, clauses_between};
 
 use cc_defs::{Lit, OutOfMemory};
 use std::alloc::Global;
 use std::marker::Model;
 
-/// A list of clauses, each a list of literals. It takes eight bytes a clause and four bytes a literal.
+/// A list of clauses, each a list of literals. It takes four bytes a clause and four bytes a literal, and has fewer than 2^32 literals
+/// together: memory is wanting for more.
 #[derive(Drop)]
 pub struct ClauseArena {
     // The clauses, one after another.
     all: Vec<Lit>,
     // Where each clause ends among the literals.
-    ends: Vec<usize>,
+    ends: Vec<u32>,
 }
 
 impl Model for ClauseArena {
@@ -38,25 +39,34 @@ fn part(all: &[Lit], start: usize, end: usize) -> &[Lit]
 }
 
 // Where the clause of an index begins: at the end of the one before it.
-fn start_of(ends: &[usize], index: usize) -> usize
+fn start_of(ends: &[u32], index: usize) -> usize
     requires { index ≤ length ends.now }
     ensures { result ≡ slice_index (0 ∷ ends.now) index }
 {
     match index.checked_sub(1) {
-        Some(before) => ends[before],
+        Some(before) => ends[before] as usize,
         None => 0,
     }
 }
 
 // The clause of an index.
-fn clause_at<'a>(all: &'a [Lit], ends: &[usize], index: usize) -> &'a [Lit]
+fn clause_at<'a>(all: &'a [Lit], ends: &[u32], index: usize) -> &'a [Lit]
     requires ends { AreEnds 0 ends.now (length all.now) }
     requires within { index < length ends.now }
     ensures { slice_get (clauses_between all.now 0 ends.now) index ≡ Some result.now }
 {
     let start = start_of(ends, index);
-    let end = ends[index];
+    let end = ends[index] as usize;
     part(all, start, end)
+}
+
+// Where a clause ends behind so many literals, where four bytes hold it.
+fn end_behind(before: usize, clause: &[Lit]) -> Option<u32>
+    ensures end { IfSome result (λ end. end ≡ before + length clause.now) }
+    ensures none { IfNone result (4294967295 < before + length clause.now) }
+{
+    let end = before.checked_add(clause.len())?;
+    u32::try_from(end).ok()
 }
 
 impl ClauseArena {
@@ -107,9 +117,12 @@ impl ClauseArena {
         ensures pushed { OnOk result (self.new ≡ self.old ++ clause.now ∷ []) }
         ensures kept { OnErr result (self.new ≡ self.old) }
     {
+        let Some(end) = end_behind(self.all.len(), clause) else {
+            return Err(OutOfMemory);
+        };
         self.ends.reserve(1)?;
         self.all.extend_from_slice(clause)?;
-        self.ends.push(self.all.len())?;
+        self.ends.push(end)?;
         Ok(())
     }
 }

@@ -1,10 +1,11 @@
 //! Terms under an environment, and the sides of equations.
-ghost use Rattle.std.specs.Prelude.{◌≡◌, IfOk, length, map, nat_lt, option_and_then, option_map};
-ghost use Rattle.cc_defs.specs.Signatures.{ground_constants};
+ghost use Rattle.std.specs.Prelude.{◌≡◌, IfOk, Some, [], length, map, nat_lt, option_and_then, option_map};
+ghost use Rattle.cc_defs.specs.Signatures.{ground_constants, ground_number};
 ghost use Rattle.cc_defs.specs.Resolved.{plain_term, terms_of};
 ghost use Rattle.cc_defs.specs.Resolved as resolved;
 ghost use Rattle.cc_defs.specs.Nodes.{side as side_of, numbered_side as numbered, value_side as side_with};
 ghost use Rattle.cc_sorts.specs.Tables.{TableView};
+ghost use Rattle.cc_defs.specs.Satisfaction.{cons_both};
 ghost use Rattle.cc_defs.specs.Satisfaction as words;
 ghost use Rattle.cc_ground.specs.Bindings.{environment_of};
 ghost use Rattle.cc_ground.specs.Views.{bare_universe, universe_of, plain_side};
@@ -63,7 +64,18 @@ fn arguments(
     Ok(Some(args))
 }
 
-/// The number of the ground constant that a constant with its arguments stands for.
+/// The number of the ground constant of a symbol with one argument, where that is there.
+fn meant_at(sig: &Sig, symbol: u32, arg: Option<u32>) -> Option<u32>
+    ensures { result ≡ option_and_then (ground_number (ground_constants sig.now) symbol)
+        (cons_both arg (Some [])) }
+{
+    match arg {
+        Some(object) => sig.ground_number(symbol, &[object]),
+        None => None,
+    }
+}
+
+/// The number of the ground constant that a constant with its arguments stands for. One argument takes no memory.
 #[tactic(auto, using(crate::proofs::Bare::arguments_same))]
 pub(crate) fn constant_meant(
     alloc: Global,
@@ -76,9 +88,12 @@ pub(crate) fn constant_meant(
     ensures { IfOk result (λ found. found ≡ words.constant_meant (universe_of table.now sig.now)
         (environment_of env.now) symbol (terms_of (map plain_term terms.now))) }
 {
-    match arguments(alloc, table, env, terms)? {
-        Some(args) => Ok(sig.ground_number(symbol, &args)),
-        None => Ok(None),
+    match terms {
+        [term] => Ok(meant_at(sig, symbol, argument(table, env, term)?)),
+        _ => match arguments(alloc, table, env, terms)? {
+            Some(args) => Ok(sig.ground_number(symbol, &args)),
+            None => Ok(None),
+        },
     }
 }
 
