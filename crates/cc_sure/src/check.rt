@@ -16,6 +16,7 @@ ghost use Rattle.cc_sure.specs.SureLogs.{IsAtomHeading, RefutesAtoms, sure_subje
 ghost use Rattle.cc_sure.specs.SureParts.{HasAtom, HasNoPart, IsLastPart, IsPart};
 ghost use Rattle.cc_theory.specs.Theories.{AreLawsFor, AreLawsOf};
 
+use crate::sure::size_at;
 use cc_arena::{GroundQuery, Laws};
 use cc_check::laws::silent_sections_have_no_rows;
 use cc_check::{Silent, SilentVerdict, judge_silent, number_at};
@@ -167,9 +168,9 @@ fn form_with(alloc: Global, form: Form, position: u32, value: u32) -> Result<For
     ensures refused { HasAtom form position value →
         IfErr result (IsRefusedBy (count_refusal (with_atom form position value).clauses)) }
 {
-    match form.sizes().get(position as usize) {
+    match size_at(&form, u64::from(position)) {
         Some(size) => {
-            if value < *size {
+            if value < size {
                 return form.with_atom(alloc, u64::from(position), value);
             }
             Ok(form)

@@ -82,7 +82,7 @@ impl<'a> Model for Sure<'a> {
 }
 
 /// How many values a position has, where the axioms have it.
-fn size_at(form: &Form, position: u64) -> Option<u32>
+pub(crate) fn size_at(form: &Form, position: u64) -> Option<u32>
     ensures { result ≡ slice_get form.now.sizes position }
 {
     form.sizes().get(position as usize).copied()
