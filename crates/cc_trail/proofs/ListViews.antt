@@ -1,112 +1,273 @@
--- What the holder of lists sees after a vector of theirs has changed.
-use Rattle.std.proofs.Common.{◌≡◌, ◌≢◌, ◌∙◌, ℕ, ◌-◌, ◌<◌, zero, suc, List, [], ◌∷◌, ◌++◌, length, map, get_or, set, take, replicate, Result, Ok, Err, Vec, Global, refl, sym, ap, arith}
-use Rattle.std.specs.Prelude.{OnErr}
-use Rattle.std.proofs.lemmas.List.{get_or-map, map-set, length-set, length_push, get_or-set_same, set-set, set-get_or, take_at}
-use Rattle.std.proofs.Math.Seq.{map-set_same, get_or-set_other}
+-- What the holder of lists sees after a room of theirs, or what stands in one, has changed.
+use Rattle.std.proofs.Common.{◌≡◌, ◌≢◌, ◌∙◌, ℕ, ◌+◌, ◌-◌, ◌<◌, ◌≤◌, zero, suc, inl, inr, List, [], ◌∷◌, ◌++◌, length, map, get_or, set, take, drop, replicate, refl, sym, subst, ap, arith}
+use Rattle.std.specs.Prelude.{◌⊎◌}
+use Rattle.std.proofs.lemmas.Bool.Decides.{eqb_tells}
+use Rattle.std.proofs.lemmas.List.{drop-set-add, drop-set-lt, drop-take, get_or-drop, get_or-map, get_or-take, get_or-set_other, get_or-set_same, length-drop, length-set, length-take-le, length_push, map-set, set-get_or, set-set, take-set-le, take_all, take_at, take_more_set}
 use Rattle.std.proofs.Math.ListN.{length-map}
+use Rattle.std.proofs.Math.Seq.{take-set-lt}
 use Rattle.cc_trail.specs.Lists.{list_at, without_last, without_place}
-use Rattle.cc_trail.specs.ListParts.{list_behind, view_of, AreKept}
+use Rattle.cc_trail.specs.ListParts.{numbers_in, no_room, view_of, IsIn, AreApart, AreRooms, HasRoomFor}
 use Rattle.cc_trail.specs.declared.lists.Lists.TheInside.{Inside}
+use Rattle.cc_trail.specs.declared.lists.Room.{Room}
 use Rattle.cc_trail.proofs.Codes.{read_at}
 
-abbrev items_of : Vec ℕ Global → List ℕ
-items_of vector = vector.items
+take_short : (n m : ℕ) (xs : List ℕ) → n ≤ m → take n (take m xs) ≡ take n xs
+take_short zero m xs low = refl
+take_short (suc n) zero xs low = absurd (omega arith)
+take_short (suc n) (suc m) [] low = refl
+take_short (suc n) (suc m) (x ∷ xs) low = λ i. x ∷ take_short n m xs (omega arith) i
 
--- where a kept list changes, what stands behind other places is as before
-module _ (kept : List (List ℕ)) (k : ℕ) (new : List ℕ) where
-  elsewhere : (place : ℕ) → place ≢ suc k → list_behind (set kept k new) place ≡ list_behind kept place
-  elsewhere zero other = refl
-  elsewhere (suc place) other = get_or-set_other kept k place new [] (λ e. other (ap suc e))
-
-  all_elsewhere : (places : List ℕ) → ((list : ℕ) → list < length places → get_or places list 0 ≢ suc k) →
-      map (list_behind (set kept k new)) places ≡ map (list_behind kept) places
-  all_elsewhere [] others = refl
-  all_elsewhere (place ∷ places) others =
-      λ i. elsewhere place (others 0 (omega arith)) i ∷ all_elsewhere places (λ list within. others (suc list) (omega (arith, within))) i
-
-  changed_at : k < length kept → (places : List ℕ) (list : ℕ) → list < length places → suc k ≡ get_or places list 0 →
-      ((other : ℕ) → other < length places → get_or places other 0 ≡ suc k → list ≡ other) →
-      map (list_behind (set kept k new)) places ≡ set (map (list_behind kept) places) list new
-  changed_at there [] list within at apart = absurd (omega (arith, within))
-  changed_at there (place ∷ places) zero within at apart =
-      λ i. (ap (list_behind (set kept k new)) (sym at) ∙ get_or-set_same kept k new [] there) i
-      ∷ all_elsewhere places (λ other g e. omega (arith, apart (suc other) (omega (arith, g)) e)) i
-  changed_at there (place ∷ places) (suc list) within at apart =
-      λ i. elsewhere place (λ e. omega (arith, apart 0 (omega arith) e)) i
-      ∷ changed_at there places list (omega (arith, within)) at (λ other g e. omega (arith, apart (suc other) (omega (arith, g)) e)) i
-
-module _ (inside : Inside) (old : List (List ℕ)) (is : view_of inside ≡ old) (kept : AreKept inside) (list : ℕ) (within : list < length old)
-    (now : ℕ) (read : now ≡ get_or inside.places.items list now) (place : ℕ) (behind : suc place ≡ now)
-    (before : Vec ℕ Global) (found : before ≡ get_or inside.kept.items place before) where
-  listed : list < length inside.places.items
-  listed = omega (arith, within, ap length is, length-map inside.places.items (list_behind (map items_of inside.kept.items)))
-
-  at : suc place ≡ get_or inside.places.items list 0
-  at = behind ∙ read_at inside.places.items list now 0 listed read
-
-  there : place < length inside.kept.items
-  there = omega (arith, at, kept.within list listed)
-
-  pub list_here : before.items ≡ list_at old list
-  list_here =
-      ap items_of found
-      ∙ sym (get_or-map items_of inside.kept.items place before [] there)
-      ∙ ap (list_behind (map items_of inside.kept.items)) at
-      ∙ sym (get_or-map (list_behind (map items_of inside.kept.items)) inside.places.items list 0 [] listed)
-      ∙ ap (λ (lists : List (List ℕ)). list_at lists list) is
-
-  pub list_changed : (new : Vec ℕ Global) (change : List ℕ → List ℕ) → new.items ≡ change before.items →
-      map (list_behind (map items_of (set inside.kept.items place new))) inside.places.items ≡ set old list (change (list_at old list))
-  list_changed new change e =
-      ap (λ (ks : List (List ℕ)). map (list_behind ks) inside.places.items) (map-set items_of inside.kept.items place new)
-      ∙ changed_at (map items_of inside.kept.items) place new.items (omega (arith, there, length-map inside.kept.items items_of)) inside.places.items list listed at
-      (λ other g same. kept.apart list other listed g (omega (arith, at)) (sym at ∙ sym same))
-      ∙ (λ i. set (is i) list ((e ∙ ap change list_here) i))
-
-  pub list_kept : (new : Vec ℕ Global) → new.items ≡ before.items → map (list_behind (map items_of (set inside.kept.items place new))) inside.places.items ≡ old
-  list_kept new e =
-      ap (λ (ks : List (List ℕ)). map (list_behind ks) inside.places.items) (map-set_same items_of inside.kept.items place new before (e ∙ ap items_of found)) ∙ is
-
-pub none_yet : (kept : List (List ℕ)) (places : List ℕ) (count : ℕ) → places ≡ replicate count 0 → map (list_behind kept) places ≡ replicate count []
-none_yet kept places count e = ap (map (list_behind kept)) e ∙ none count
+pub none_yet : (numbers : List ℕ) (rooms : List Room) (count : ℕ) → rooms ≡ replicate count no_room → map (numbers_in numbers) rooms ≡ replicate count []
+none_yet numbers rooms count e = ap (map (numbers_in numbers)) e ∙ none count
   where
-    none : (count : ℕ) → map (list_behind kept) (replicate count 0) ≡ replicate count []
+    none : (count : ℕ) → map (numbers_in numbers) (replicate count no_room) ≡ replicate count []
     none zero = refl
     none (suc count) = λ i. [] ∷ none count i
 
--- a list of no number that is kept from now on
-pub keeps_view : (inside : Inside) (old : List (List ℕ)) (is : view_of inside ≡ old) (list place now : ℕ) (kept : List (Vec ℕ Global)) (new : Vec ℕ Global) →
-    now ≡ get_or inside.places.items list now → now ≡ 0 → kept ≡ inside.kept.items ++ new ∷ [] → new.items ≡ [] → place ≡ suc (length inside.kept.items) →
-    map (list_behind (map items_of kept)) (set inside.places.items list place) ≡ old
-keeps_view inside old is list place now kept new read none more empty next =
-    ap (λ (ks : List (Vec ℕ Global)). map (list_behind (map items_of ks)) (set inside.places.items list place)) more
-    ∙ ap (λ (f : ℕ → List ℕ). map f (set inside.places.items list place)) (λ i q. behind inside.kept.items q i)
-    ∙ map-set_same (list_behind (map items_of inside.kept.items)) inside.places.items list place now
-    (ap (list_behind (map items_of inside.kept.items)) next ∙ past inside.kept.items ∙ ap (list_behind (map items_of inside.kept.items)) (sym none ∙ read))
-    ∙ is
+-- ---- one room
+
+pub counted : (numbers : List ℕ) (room : Room) → IsIn numbers room → length (numbers_in numbers room) ≡ room.count
+counted numbers room is_in =
+    length-take-le room.count (drop room.start numbers) (omega (arith, is_in.counted, is_in.within, length-drop room.start numbers))
+
+-- a number is written elsewhere, and what there was at first stays
+elsewhere : (old new : List ℕ) (room : Room) (k x : ℕ) → take (length old) new ≡ old → IsIn old room → (k < room.start) ⊎ (room.start + room.count ≤ k) →
+    numbers_in (set new k x) room ≡ numbers_in old room
+elsewhere old new room k x front is_in away = written away ∙ kept
   where
-    past : (ks : List (Vec ℕ Global)) → get_or (map items_of ks) (length ks) [] ≡ []
-    past [] = refl
-    past (k ∷ ks) = past ks
+    written : (k < room.start) ⊎ (room.start + room.count ≤ k) → numbers_in (set new k x) room ≡ numbers_in new room
+    written (inl low) = ap (take room.count) (drop-set-lt room.start new k x low)
+    written (inr high) =
+        let at : k ≡ room.start + (k - room.start) = omega (arith, high) in
+        ap (λ (n : ℕ). take room.count (drop room.start (set new n x))) at
+        ∙ ap (take room.count) (drop-set-add room.start new (k - room.start) x)
+        ∙ take-set-le room.count (drop room.start new) (k - room.start) x (omega (arith, high))
 
-    pushed : (ks : List (Vec ℕ Global)) (q : ℕ) → get_or (map items_of (ks ++ new ∷ [])) q [] ≡ get_or (map items_of ks) q []
-    pushed [] zero = empty
-    pushed [] (suc q) = refl
-    pushed (k ∷ ks) zero = refl
-    pushed (k ∷ ks) (suc q) = pushed ks q
+    kept : numbers_in new room ≡ numbers_in old room
+    kept =
+        sym (drop-take room.start room.count new)
+        ∙ ap (drop room.start) (sym (take_short (room.start + room.count) (length old) new (omega (arith, is_in.counted, is_in.within))))
+        ∙ ap (λ (ns : List ℕ). drop room.start (take (room.start + room.count) ns)) front
+        ∙ drop-take room.start room.count old
 
-    behind : (ks : List (Vec ℕ Global)) (q : ℕ) → list_behind (map items_of (ks ++ new ∷ [])) q ≡ list_behind (map items_of ks) q
-    behind ks zero = refl
-    behind ks (suc q) = pushed ks q
+-- one more number in a room
+one_more : (numbers : List ℕ) (room : Room) (x : ℕ) → room.count < room.most → room.start + room.most ≤ length numbers →
+    take (room.count + 1) (drop room.start (set numbers (room.start + room.count) x)) ≡ numbers_in numbers room ++ x ∷ []
+one_more numbers room x low within =
+    ap (take (room.count + 1)) (drop-set-add room.start numbers room.count x)
+    ∙ take_more_set (drop room.start numbers) room.count x (omega (arith, low, within, length-drop room.start numbers))
 
-pub taken_out : (numbers after : List ℕ) (place last count : ℕ) → place < length numbers → count ≡ length numbers → last ≡ get_or numbers (count - 1) last →
-    after ≡ take (count - 1) (set numbers place last) → after ≡ without_place numbers place
-taken_out numbers after place last count within count_is last_is e =
-    let same : count - 1 ≡ length (set numbers place last) - 1 = omega (arith, count_is, length-set numbers place last) in
-    let from : count - 1 ≡ length numbers - 1 = omega (arith, count_is) in
-    e
-    ∙ ap (λ (n : ℕ). take n (set numbers place last)) same
-    ∙ ap (λ (x : ℕ). without_last (set numbers place x)) (read_at numbers (count - 1) last 0 (omega arith) last_is ∙ ap (λ (n : ℕ). get_or numbers n 0) from)
+-- ---- one room among others
+
+same_elsewhere : (f g : Room → List ℕ) (rooms : List Room) (list : ℕ) (ys : List ℕ) →
+    ((other : ℕ) → other < length rooms → other ≢ list → g (get_or rooms other no_room) ≡ f (get_or rooms other no_room)) →
+    set (map g rooms) list ys ≡ set (map f rooms) list ys
+same_elsewhere f g [] list ys others = refl
+same_elsewhere f g (room ∷ rooms) zero ys others = λ i. ys ∷ all rooms (λ other low. others (suc other) (omega (arith, low)) (λ e. omega (arith, e))) i
+  where
+    all : (rooms : List Room) → ((other : ℕ) → other < length rooms → g (get_or rooms other no_room) ≡ f (get_or rooms other no_room)) → map g rooms ≡ map f rooms
+    all [] same = refl
+    all (room ∷ rooms) same = λ i. same 0 (omega arith) i ∷ all rooms (λ other low. same (suc other) (omega (arith, low))) i
+same_elsewhere f g (room ∷ rooms) (suc list) ys others =
+    λ i. others 0 (omega arith) (λ e. omega (arith, e)) i
+    ∷ same_elsewhere f g rooms list ys (λ other low apart. others (suc other) (omega (arith, low)) (λ e. apart (omega (arith, e)))) i
+
+module _ (inside : Inside) (old : List (List ℕ)) (is : view_of inside ≡ old) (rooms : AreRooms inside) (list : ℕ) (within : list < length old)
+    (room : Room) (read : room ≡ get_or inside.rooms.items list room) where
+  listed : list < length inside.rooms.items
+  listed = omega (arith, within, ap length is, length-map inside.rooms.items (numbers_in inside.numbers.items))
+
+  room_is : room ≡ get_or inside.rooms.items list no_room
+  room_is = read_at inside.rooms.items list room no_room listed read
+
+  pub room_in : IsIn inside.numbers.items room
+  room_in = subst (IsIn inside.numbers.items) (sym room_is) (rooms.inside list listed)
+
+  pub list_here : list_at old list ≡ numbers_in inside.numbers.items room
+  list_here =
+      ap (λ (lists : List (List ℕ)). list_at lists list) (sym is)
+      ∙ get_or-map (numbers_in inside.numbers.items) inside.rooms.items list no_room [] listed
+      ∙ ap (numbers_in inside.numbers.items) (sym room_is)
+
+  room_apart : (other : ℕ) → other < length inside.rooms.items → other ≢ list → AreApart (get_or inside.rooms.items other no_room) room
+  room_apart other low apart = subst (AreApart (get_or inside.rooms.items other no_room)) (sym room_is) (rooms.apart other list low listed apart)
+
+  -- the last number is let go
+  pub last_gone : (count : ℕ) → count ≡ room.count - 1 →
+      map (numbers_in inside.numbers.items) (set inside.rooms.items list (record room { count = count })) ≡ set old list (without_last (list_at old list))
+  last_gone count count_is =
+      map-set (numbers_in inside.numbers.items) inside.rooms.items list (record room { count = count })
+      ∙ (λ i. set (is i) list (shorter i))
+    where
+      shorter : take count (drop room.start inside.numbers.items) ≡ without_last (list_at old list)
+      shorter =
+          sym (take_short count room.count (drop room.start inside.numbers.items) (omega (arith, count_is)))
+          ∙ ap (λ (n : ℕ). take n (numbers_in inside.numbers.items room)) same
+          ∙ ap without_last (sym list_here)
+        where
+          same : count ≡ length (numbers_in inside.numbers.items room) - 1
+          same = omega (arith, count_is, counted inside.numbers.items room room_in)
+
+  -- the last number of the list
+  pub last_here : (x : ℕ) → 0 < room.count → x ≡ get_or inside.numbers.items (room.start + room.count - 1) x → x ≡ get_or (list_at old list) (length (list_at old list) - 1) 0
+  last_here x some x_is =
+      read_at inside.numbers.items (room.start + room.count - 1) x 0 (omega (arith, some, room_in.counted, room_in.within)) x_is
+      ∙ ap (λ (n : ℕ). get_or inside.numbers.items n 0) at
+      ∙ sym (get_or-drop room.start inside.numbers.items (room.count - 1) 0)
+      ∙ sym (get_or-take room.count (drop room.start inside.numbers.items) (room.count - 1) 0 (omega (arith, some)))
+      ∙ ap (λ (n : ℕ). get_or (numbers_in inside.numbers.items room) n 0) same
+      ∙ ap (λ (ns : List ℕ). get_or ns (length ns - 1) 0) (sym list_here)
+    where
+      at : room.start + room.count - 1 ≡ room.start + (room.count - 1)
+      at = omega (arith, some)
+
+      same : room.count - 1 ≡ length (numbers_in inside.numbers.items room) - 1
+      same = omega (arith, counted inside.numbers.items room room_in)
+
+  -- how many numbers the list has
+  pub length_here : length (list_at old list) ≡ room.count
+  length_here = ap length list_here ∙ counted inside.numbers.items room room_in
+
+  -- a number is written over another one of the list
+  pub written_over : (place x : ℕ) → place < room.count →
+      map (numbers_in (set inside.numbers.items (room.start + place) x)) inside.rooms.items ≡ set old list (set (list_at old list) place x)
+  written_over place x low =
+      sym (set-get_or (map (numbers_in (set inside.numbers.items (room.start + place) x)) inside.rooms.items) list [])
+      ∙ ap (set (map (numbers_in (set inside.numbers.items (room.start + place) x)) inside.rooms.items) list) here
+      ∙ same_elsewhere (numbers_in inside.numbers.items) (numbers_in (set inside.numbers.items (room.start + place) x)) inside.rooms.items list (set (list_at old list) place x) others
+      ∙ ap (λ (lists : List (List ℕ)). set lists list (set (list_at old list) place x)) is
+    where
+      here : get_or (map (numbers_in (set inside.numbers.items (room.start + place) x)) inside.rooms.items) list [] ≡ set (list_at old list) place x
+      here =
+          get_or-map (numbers_in (set inside.numbers.items (room.start + place) x)) inside.rooms.items list no_room [] listed
+          ∙ ap (numbers_in (set inside.numbers.items (room.start + place) x)) (sym room_is)
+          ∙ ap (take room.count) (drop-set-add room.start inside.numbers.items place x)
+          ∙ take-set-lt room.count (drop room.start inside.numbers.items) place x low
+          ∙ ap (λ (ns : List ℕ). set ns place x) (sym list_here)
+
+      others : (other : ℕ) → other < length inside.rooms.items → other ≢ list →
+          numbers_in (set inside.numbers.items (room.start + place) x) (get_or inside.rooms.items other no_room) ≡ numbers_in inside.numbers.items (get_or inside.rooms.items other no_room)
+      others other within_other apart =
+          let one = rooms.inside other within_other in
+          elsewhere inside.numbers.items inside.numbers.items (get_or inside.rooms.items other no_room) (room.start + place) x (take_all (length inside.numbers.items) inside.numbers.items (omega arith)) one
+          (elim (room_apart other within_other apart) [
+            | inl before ↦ inr (omega (arith, before, one.counted))
+            | inr behind ↦ inl (omega (arith, behind, low, room_in.counted))
+          ])
+
+  -- ---- one number more, in a room that has room for it
+
+  module _ (new : List ℕ) (found : Room) (has : HasRoomFor inside.numbers.items new room found) where
+    pub more : found.count < found.most
+    more = elim has [ inl unchanged ↦ omega (arith, ap (λ (r : Room). r.count) unchanged.0, ap (λ (r : Room). r.most) unchanged.0, unchanged.1) | inr wide ↦ wide.more ]
+
+    pub fits : found.start + found.most ≤ length new
+    fits = elim has [
+      | inl unchanged ↦ omega (arith, ap (λ (r : Room). r.start) unchanged.0, ap (λ (r : Room). r.most) unchanged.0, ap length unchanged.2, room_in.within)
+      | inr wide ↦ wide.within
+    ]
+
+    few : length new ≤ 4294967295
+    few = elim has [ inl unchanged ↦ omega (arith, ap length unchanged.2, rooms.few) | inr wide ↦ wide.few ]
+
+    front : take (length inside.numbers.items) new ≡ inside.numbers.items
+    front = elim has [
+      | inl unchanged ↦ ap (take (length inside.numbers.items)) unchanged.2 ∙ take_all (length inside.numbers.items) inside.numbers.items (omega arith)
+      | inr wide ↦ wide.front
+    ]
+
+    longer : length inside.numbers.items ≤ length new
+    longer = elim has [ inl unchanged ↦ omega (arith, ap length unchanged.2) | inr wide ↦ omega (arith, wide.start, wide.within) ]
+
+    same : numbers_in new found ≡ numbers_in inside.numbers.items room
+    same = elim has [ inl unchanged ↦ (λ i. numbers_in (unchanged.2 i) (unchanged.0 i)) | inr wide ↦ wide.same ]
+
+    found_apart : (other : ℕ) → other < length inside.rooms.items → other ≢ list → AreApart (get_or inside.rooms.items other no_room) found
+    found_apart other within_other apart = elim has [
+      | inl unchanged ↦ subst (AreApart (get_or inside.rooms.items other no_room)) (sym unchanged.0) (room_apart other within_other apart)
+      | inr wide ↦ inl (omega (arith, wide.start, (rooms.inside other within_other).within))
+    ]
+
+    pub one_put : (x : ℕ) →
+        map (numbers_in (set new (found.start + found.count) x)) (set inside.rooms.items list (record found { count = found.count + 1 })) ≡ set old list (list_at old list ++ x ∷ [])
+    one_put x =
+        map-set (numbers_in (set new (found.start + found.count) x)) inside.rooms.items list (record found { count = found.count + 1 })
+        ∙ ap (set (map (numbers_in (set new (found.start + found.count) x)) inside.rooms.items) list) here
+        ∙ same_elsewhere (numbers_in inside.numbers.items) (numbers_in (set new (found.start + found.count) x)) inside.rooms.items list (list_at old list ++ x ∷ []) others
+        ∙ ap (λ (lists : List (List ℕ)). set lists list (list_at old list ++ x ∷ [])) is
+      where
+        here : take (found.count + 1) (drop found.start (set new (found.start + found.count) x)) ≡ list_at old list ++ x ∷ []
+        here = one_more new found x more fits ∙ ap (λ (ns : List ℕ). ns ++ x ∷ []) (same ∙ sym list_here)
+
+        others : (other : ℕ) → other < length inside.rooms.items → other ≢ list →
+            numbers_in (set new (found.start + found.count) x) (get_or inside.rooms.items other no_room) ≡ numbers_in inside.numbers.items (get_or inside.rooms.items other no_room)
+        others other within_other apart =
+            let one = rooms.inside other within_other in
+            elsewhere inside.numbers.items new (get_or inside.rooms.items other no_room) (found.start + found.count) x front one
+            (elim (found_apart other within_other apart) [
+              | inl before ↦ inr (omega (arith, before, one.counted))
+              | inr behind ↦ inl (omega (arith, behind, more))
+            ])
+
+    abbrev pub put_room : Room
+    put_room = record found { count = found.count + 1 }
+
+    -- what is true of two rooms one of which is the found one is true of all, where it was so before
+    pub inside_put : (x other : ℕ) → other < length (set inside.rooms.items list put_room) → IsIn (set new (found.start + found.count) x) (get_or (set inside.rooms.items list put_room) other no_room)
+    inside_put x other low = elim (eqb_tells other list) [
+      | inl here ↦ subst (IsIn (set new (found.start + found.count) x)) (sym (ap (λ (n : ℕ). get_or (set inside.rooms.items list put_room) n no_room) here.1 ∙ get_or-set_same inside.rooms.items list put_room no_room listed)) (record {
+        counted = omega (arith, more);
+        within = omega (arith, fits, length-set new (found.start + found.count) x);
+      })
+      | inr there ↦ subst (IsIn (set new (found.start + found.count) x)) (sym (get_or-set_other inside.rooms.items list other put_room no_room there.1)) (
+          let one = rooms.inside other (omega (arith, low, length-set inside.rooms.items list put_room)) in record {
+            counted = one.counted;
+            within = omega (arith, one.within, longer, length-set new (found.start + found.count) x);
+          })
+    ]
+
+    put_here : get_or (set inside.rooms.items list put_room) list no_room ≡ put_room
+    put_here = get_or-set_same inside.rooms.items list put_room no_room listed
+
+    put_there : (other : ℕ) → other ≢ list → get_or (set inside.rooms.items list put_room) other no_room ≡ get_or inside.rooms.items other no_room
+    put_there other apart = get_or-set_other inside.rooms.items list other put_room no_room apart
+
+    turned : (one two : Room) → AreApart one two → AreApart two one
+    turned one two (inl before) = inr before
+    turned one two (inr behind) = inl behind
+
+    pub apart_put : (one two : ℕ) → one < length (set inside.rooms.items list put_room) → two < length (set inside.rooms.items list put_room) → one ≢ two →
+        AreApart (get_or (set inside.rooms.items list put_room) one no_room) (get_or (set inside.rooms.items list put_room) two no_room)
+    apart_put one two one_low two_low other =
+        let count = length-set inside.rooms.items list put_room in
+        elim (eqb_tells one list) [
+          | inl here ↦
+              let away : two ≢ list = λ e. other (here.1 ∙ sym e) in
+              subst (λ (r : Room). AreApart r (get_or (set inside.rooms.items list put_room) two no_room)) (sym (ap (λ (n : ℕ). get_or (set inside.rooms.items list put_room) n no_room) here.1 ∙ put_here))
+              (subst (AreApart put_room) (sym (put_there two away)) (turned (get_or inside.rooms.items two no_room) put_room (found_apart two (omega (arith, two_low, count)) away)))
+          | inr there ↦ elim (eqb_tells two list) [
+            | inl here ↦
+                subst (AreApart (get_or (set inside.rooms.items list put_room) one no_room)) (sym (ap (λ (n : ℕ). get_or (set inside.rooms.items list put_room) n no_room) here.1 ∙ put_here))
+                (subst (λ (r : Room). AreApart r put_room) (sym (put_there one there.1)) (found_apart one (omega (arith, one_low, count)) there.1))
+            | inr away ↦
+                subst (AreApart (get_or (set inside.rooms.items list put_room) one no_room)) (sym (put_there two away.1))
+                (subst (λ (r : Room). AreApart r (get_or inside.rooms.items two no_room)) (sym (put_there one there.1))
+                (rooms.apart one two (omega (arith, one_low, count)) (omega (arith, two_low, count)) other))
+          ]
+        ]
+
+    pub few_put : (x : ℕ) → length (set new (found.start + found.count) x) ≤ 4294967295
+    few_put x = omega (arith, few, length-set new (found.start + found.count) x)
+
+-- the last number is written over the one at a place, and let go
+pub taken_out : (old put after : List (List ℕ)) (list place x : ℕ) → list < length old → x ≡ get_or (list_at old list) (length (list_at old list) - 1) 0 →
+    put ≡ set old list (set (list_at old list) place x) → after ≡ set put list (without_last (list_at put list)) → after ≡ set old list (without_place (list_at old list) place)
+taken_out old put after list place x within x_is put_is after_is =
+    after_is
+    ∙ ap (λ (lists : List (List ℕ)). set lists list (without_last (list_at lists list))) put_is
+    ∙ set-set old list (set (list_at old list) place x) (without_last (list_at (set old list (set (list_at old list) place x)) list))
+    ∙ ap (λ (ns : List ℕ). set old list (without_last ns)) (get_or-set_same old list (set (list_at old list) place x) [] within)
+    ∙ ap (λ (n : ℕ). set old list (without_last (set (list_at old list) place n))) x_is
 
 -- what was put behind a list is taken away again
 pub put_and_taken : (old put after : List (List ℕ)) (list number : ℕ) → list < length old → put ≡ set old list (list_at old list ++ number ∷ []) →
@@ -121,7 +282,3 @@ put_and_taken old put after list number within put_is after_is =
   where
     front : (numbers : List ℕ) → without_last (numbers ++ number ∷ []) ≡ numbers
     front numbers = take_at numbers (number ∷ []) (length (numbers ++ number ∷ []) - 1) (omega (arith, length_push numbers number))
-
-pub always_on_err : {T E P : Type 0} (r : Result T E) → P → OnErr r P
-always_on_err (Ok x) p = tt
-always_on_err (Err e) p = p

@@ -1,19 +1,31 @@
-//! Lists of numbers by number, each of which grows at its end, and from which a number is taken out by the last one. A list that
-//! never had a number takes four bytes.
-ghost use Rattle.std.specs.Prelude.{◌≡◌, ◌≢◌, ◌<◌, ◌++◌, [], ◌∷◌, length, set, replicate, get_or, IfOk, OnOk, OnErr};
+//! Lists of numbers by number, each of which grows at its end, and from which a number is taken out by the last one. They stand in one
+//! vector, each in a room of its own, so that a walk along a list waits for little.
+ghost use Rattle.std.specs.Prelude.{◌≡◌, ◌≢◌, ◌+◌, ◌<◌, ◌≤◌, ◌++◌, [], ◌∷◌, length, set, replicate, get_or, IfOk, OnOk, OnErr};
 ghost use Rattle.cc_trail.specs.Lists.{list_at, without_last, without_place};
+ghost use Rattle.cc_trail.specs.ListParts.{IsIn, HasRoomFor, IsWider};
 
 use cc_defs::OutOfMemory;
 use std::alloc::Global;
 use std::marker::Model;
 
+// No number stands from this place on, so that each place fits.
+const MOST_PLACES: usize = 4294967295;
+
+/// Where the numbers of a list begin, how many there are, and for how many there is room.
+#[derive(Clone, Copy)]
+struct Room {
+    start: u32,
+    count: u32,
+    most: u32,
+}
+
 /// Lists of numbers by number.
 #[derive(Drop)]
 pub struct Lists {
-    // By the number of a list: one more than its place among those that are kept; 0 where it never had a number.
-    places: Vec<u32>,
-    kept: Vec<Vec<u32>>,
-    alloc: Global,
+    // By the number of a list.
+    rooms: Vec<Room>,
+    // What stands in a room behind its numbers means nothing, nor does what stands in a room that was left.
+    numbers: Vec<u32>,
 }
 
 impl Model for Lists {
@@ -21,11 +33,49 @@ impl Model for Lists {
 
     ghost Value = { List (List ℕ) };
 
-    ghost use Rattle.cc_trail.specs.ListParts.{view_of, AreKept};
+    ghost use Rattle.cc_trail.specs.ListParts.{view_of, AreRooms};
 
     ghost view = { view_of };
 
-    ghost invariant = { AreKept };
+    ghost invariant = { AreRooms };
+}
+
+// A room behind all numbers for twice as many as another one has room for, and for two at least, in which those stand that stood there.
+fn wider(numbers: &mut Vec<u32>, room: Room) -> Result<Room, OutOfMemory>
+    requires { IsIn numbers.old.items room }
+    ensures wider { IfOk result (λ new. IsWider numbers.old.items numbers.new.items room new) }
+    ensures kept { OnErr result (numbers.new.items ≡ numbers.old.items) }
+{
+    let Some(most) = room.most.max(1).checked_mul(2) else {
+        return Err(OutOfMemory);
+    };
+    let start = numbers.len();
+    let Some(end) = start.checked_add(most as usize) else {
+        return Err(OutOfMemory);
+    };
+    if end > MOST_PLACES {
+        return Err(OutOfMemory);
+    }
+    numbers.resize(end, 0)?;
+    let from = room.start as usize;
+    numbers.copy_within(from..from + room.count as usize, start);
+    Ok(Room {
+        start: start as u32,
+        count: room.count,
+        most,
+    })
+}
+
+// A room for one number more: the same one, where it is not full, else a wider one.
+fn room_for_one(numbers: &mut Vec<u32>, room: Room) -> Result<Room, OutOfMemory>
+    requires { IsIn numbers.old.items room }
+    ensures room { IfOk result (λ new. HasRoomFor numbers.old.items numbers.new.items room new) }
+    ensures kept { OnErr result (numbers.new.items ≡ numbers.old.items) }
+{
+    if room.count < room.most {
+        return Ok(room);
+    }
+    wider(numbers, room)
 }
 
 impl Lists {
@@ -33,50 +83,34 @@ impl Lists {
     pub fn new(alloc: Global, count: usize) -> Result<Lists, OutOfMemory>
         ensures { IfOk result (λ lists. lists ≡ replicate count []) }
     {
+        let room = Room {
+            start: 0,
+            count: 0,
+            most: 0,
+        };
         Ok(Lists {
-            places: vec![in alloc; 0u32; count]?,
-            kept: Vec::new(alloc),
-            alloc,
+            rooms: vec![in alloc; room; count]?,
+            numbers: Vec::new(alloc),
         })
     }
 
     /// How many numbers a list has.
+    #[inline(always)]
     pub fn len(&self, list: usize) -> usize
         requires { list < length self.now }
         ensures { result ≡ length (list_at self.now list) }
     {
-        match self.places[list].checked_sub(1) {
-            Some(place) => self.kept[place as usize].len(),
-            None => 0,
-        }
+        self.rooms[list].count as usize
     }
 
     /// The number at a place of a list.
+    #[inline(always)]
     pub fn number(&self, list: usize, place: usize) -> u32
         requires list { list < length self.now }
         requires place { place < length (list_at self.now list) }
         ensures { result ≡ get_or (list_at self.now list) place 0 }
     {
-        match self.places[list].checked_sub(1) {
-            Some(kept) => self.kept[kept as usize][place],
-            None => 0,
-        }
-    }
-
-    // Keeps a list from now on, which had no number.
-    fn keep(&mut self, list: usize) -> Result<(), OutOfMemory>
-        requires { list < length self.old }
-        ensures { self.new ≡ self.old }
-    {
-        if self.places[list] > 0 {
-            return Ok(());
-        }
-        let Ok(place) = u32::try_from(self.kept.len() + 1) else {
-            return Err(OutOfMemory);
-        };
-        self.kept.push(Vec::new(self.alloc))?;
-        self.places[list] = place;
-        Ok(())
+        self.numbers[self.rooms[list].start as usize + place]
     }
 
     /// Puts a number behind those of a list.
@@ -86,11 +120,13 @@ impl Lists {
             (self.new ≡ set self.old list (list_at self.old list ++ number ∷ [])) }
         ensures kept { OnErr result (self.new ≡ self.old) }
     {
-        self.keep(list)?;
-        match self.places[list].checked_sub(1) {
-            Some(place) => self.kept[place as usize].push(number)?,
-            None => return Err(OutOfMemory),
-        }
+        let room = room_for_one(&mut self.numbers, self.rooms[list])?;
+        self.numbers[(room.start + room.count) as usize] = number;
+        self.rooms[list] = Room {
+            start: room.start,
+            count: room.count + 1,
+            most: room.most,
+        };
         Ok(())
     }
 
@@ -99,9 +135,12 @@ impl Lists {
         requires { list < length self.old }
         ensures { self.new ≡ set self.old list (without_last (list_at self.old list)) }
     {
-        if let Some(place) = self.places[list].checked_sub(1) {
-            let _ = self.kept[place as usize].pop();
-        }
+        let room = self.rooms[list];
+        self.rooms[list] = Room {
+            start: room.start,
+            count: room.count.saturating_sub(1),
+            most: room.most,
+        };
     }
 
     /// Puts a number behind those of a list, and one behind those of another.
@@ -137,11 +176,10 @@ impl Lists {
         ensures { self.new
             ≡ set self.old list (without_place (list_at self.old list) place) }
     {
-        if let Some(kept) = self.places[list].checked_sub(1) {
-            let numbers = &mut self.kept[kept as usize];
-            let last = numbers[numbers.len() - 1];
-            numbers[place] = last;
-            let _ = numbers.pop();
-        }
+        let room = self.rooms[list];
+        let last = room.start as usize + room.count as usize - 1;
+        let number = self.numbers[last];
+        self.numbers[room.start as usize + place] = number;
+        self.pop(list);
     }
 }

@@ -1,14 +1,20 @@
-use Rattle.std.proofs.Common.{◌∙◌, ℕ, List, [], ◌∷◌, ◌++◌, arith}
-use Rattle.cc_trail.proofs.ListViews.{list_changed, list_kept, always_on_err}
+use Rattle.std.proofs.Common.{arith}
+use Rattle.cc_trail.proofs.ListViews.{apart_put, few_put, fits, inside_put, more, one_put}
 use Rattle.cc_trail.proofs.lists.Lists.push.Goals as goal
 
-pub returns-in_err-push-in-Some-clause-kept : goal.returns-in_err-push-in-Some-clause-kept
-returns-in_err-push-in-Some-clause-kept c =
-    always_on_err c.from_residual-in_err-push-in-Some.result
-    (list_kept c.self.inside c.args.self.now (c.self.view_is ∙ c.keep.ensures) c.self.invariant c.args.list c.requires c.index.result.now c.index.ensures c.in-Some.place (omega (arith, c.in-Some.ensures))
-    c.index_mut.result.now c.index_mut.ensures.value c.push.new.self c.in_err-push-in-Some.ensures.items)
+pub index_mut-requires : goal.index_mut-requires
+index_mut-requires c =
+    let low = more c.self.inside c.args.self.now c.self.view_is c.self.invariant c.args.list c.requires c.index.result.now c.index.ensures c.room_for_one.new.numbers.items c.in_ok-room.room c.in_ok-room.ensures.room in
+    let within = fits c.self.inside c.args.self.now c.self.view_is c.self.invariant c.args.list c.requires c.index.result.now c.index.ensures c.room_for_one.new.numbers.items c.in_ok-room.room c.in_ok-room.ensures.room in
+    omega (arith, low, within, c.room_for_one.new.numbers.ok.0)
+
+pub invariant_of-self-2 : goal.invariant_of-self-2
+invariant_of-self-2 c = record {
+  inside = inside_put c.self.inside c.args.self.now c.self.view_is c.self.invariant c.args.list c.requires c.index.result.now c.index.ensures c.room_for_one.new.numbers.items c.in_ok-room.room c.in_ok-room.ensures.room c.args.number;
+  apart = apart_put c.self.inside c.args.self.now c.self.view_is c.self.invariant c.args.list c.requires c.index.result.now c.index.ensures c.room_for_one.new.numbers.items c.in_ok-room.room c.in_ok-room.ensures.room;
+  few = few_put c.self.inside c.args.self.now c.self.view_is c.self.invariant c.args.list c.requires c.index.result.now c.index.ensures c.room_for_one.new.numbers.items c.in_ok-room.room c.in_ok-room.ensures.room c.args.number;
+}
 
 pub returns-clause-pushed : goal.returns-clause-pushed
 returns-clause-pushed c =
-    list_changed c.self.inside c.args.self.now (c.self.view_is ∙ c.keep.ensures) c.self.invariant c.args.list c.requires c.index.result.now c.index.ensures c.in-Some.place (omega (arith, c.in-Some.ensures))
-    c.index_mut.result.now c.index_mut.ensures.value c.push.new.self (λ (numbers : List ℕ). numbers ++ c.args.number ∷ []) c.in_ok-push-in-Some.ensures.items
+    one_put c.self.inside c.args.self.now c.self.view_is c.self.invariant c.args.list c.requires c.index.result.now c.index.ensures c.room_for_one.new.numbers.items c.in_ok-room.room c.in_ok-room.ensures.room c.args.number
