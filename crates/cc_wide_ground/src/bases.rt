@@ -6,9 +6,9 @@ ghost use Rattle.cc_defs.specs.Resolved.{plain_base_law, plain_formula, plain_he
 ghost use Rattle.cc_defs.specs.Resolved as resolved;
 ghost use Rattle.cc_wide.specs.WideLaws.{plain_wide_base, plain_wide_law};
 ghost use Rattle.cc_wide.specs.WideLaws as words;
-ghost use Rattle.cc_wide_ground.specs.Shares.{base_by, law_by, law_of_parts};
+ghost use Rattle.cc_wide_ground.specs.Shares.{base_by, law_by};
 
-use crate::copies::{copy_formula, copy_part, copy_term, copy_terms};
+use crate::copies::{boxed, copy_formula, copy_part, copy_term, copy_terms, put_made};
 use cc_defs::{BaseLaw, BaseLaws, Formula, Head, Law, List, OutOfMemory, Term};
 use cc_wide::{WideBase, WideLaw};
 use std::alloc::Global;
@@ -94,47 +94,51 @@ fn atom_head(alloc: Global, head: &Formula) -> Result<Head, OutOfMemory>
     }
 }
 
-/// A law with the same instances as another, of these parts.
-fn law_with(
-    alloc: Global,
-    law: &WideLaw,
-    head: Head,
-    body: Formula,
-    after: Option<Formula>,
-) -> Result<Law, OutOfMemory>
-    ensures { IfOk result (λ made. plain_law made ≡ law_of_parts (plain_wide_law law.now)
-        (plain_head head) (plain_formula body) (option_map plain_formula after)) }
+/// What stands in the `if` part of the law by which a share of a law is grounded.
+fn body_of_share(share: Share, law: &WideLaw) -> &Formula
+    ensures { plain_formula result.now ≡ (law_by share (plain_wide_law law.now)).body }
 {
+    match share {
+        Share::Parts => &law.body,
+        Share::Head => &law.head,
+    }
+}
+
+/// A copy of its `after` part.
+fn after_of_share(
+    alloc: Global,
+    share: Share,
+    law: &WideLaw,
+) -> Result<Option<Formula>, OutOfMemory>
+    ensures { IfOk result (λ after.
+        option_map plain_formula after ≡ (law_by share (plain_wide_law law.now)).after) }
+{
+    match share {
+        Share::Parts => copy_part(alloc, &law.after),
+        Share::Head => Ok(None),
+    }
+}
+
+/// The law by which a share of a law is grounded. Its parts are kept in boxes until all are there, so that letting them go is one
+/// call each.
+fn law_of_share(alloc: Global, share: Share, law: &WideLaw) -> Result<Law, OutOfMemory>
+    ensures { IfOk result (λ made. plain_law made ≡ law_by share (plain_wide_law law.now)) }
+{
+    let head = boxed(alloc, atom_head(alloc, &law.head))?;
+    let body = boxed(alloc, copy_formula(alloc, body_of_share(share, law)))?;
+    let after = boxed(alloc, after_of_share(alloc, share, law))?;
+    let test = boxed(alloc, copy_formula(alloc, &law.test))?;
     let ranges = Vec::from_slice(alloc, law.ranges.items())?;
-    let test = copy_formula(alloc, &law.test)?;
     Ok(Law {
         ranges: List::of(ranges),
-        head,
-        body,
-        after,
-        test,
+        head: Box::into_inner(head),
+        body: Box::into_inner(body),
+        after: Box::into_inner(after),
+        test: Box::into_inner(test),
         kind: law.kind,
         file: law.file,
         line: law.line,
     })
-}
-
-/// The law by which a share of a law is grounded.
-fn law_of_share(alloc: Global, share: Share, law: &WideLaw) -> Result<Law, OutOfMemory>
-    ensures { IfOk result (λ made. plain_law made ≡ law_by share (plain_wide_law law.now)) }
-{
-    let head = atom_head(alloc, &law.head)?;
-    match share {
-        Share::Parts => {
-            let body = copy_formula(alloc, &law.body)?;
-            let after = copy_part(alloc, &law.after)?;
-            law_with(alloc, law, head, body, after)
-        }
-        Share::Head => {
-            let body = copy_formula(alloc, &law.head)?;
-            law_with(alloc, law, head, body, None)
-        }
-    }
 }
 
 /// The base law by which a share of a law is grounded.
@@ -161,7 +165,7 @@ pub(crate) fn bases_of_share(
 {
     let mut made = Vec::with_capacity(alloc, laws.len())?;
     for law in laws {
-        made.push(base_of_share(alloc, share, law)?)?;
+        put_made(&mut made, base_of_share(alloc, share, law))?;
     }
     Ok(List::of(made))
 }

@@ -1,10 +1,51 @@
 //! Copies of terms and formulas.
-ghost use Rattle.std.specs.Prelude.{◌≡◌, map, IfOk};
+ghost use Rattle.std.specs.Prelude.{◌≡◌, ◌++◌, [], ◌∷◌, map, Ok, IfOk, IsErr, OnOk};
 ghost use Rattle.std.specs.Option.{option_map};
+ghost use Rattle.std.specs.Result.{MatchResult};
 ghost use Rattle.cc_defs.specs.Resolved.{plain_formula, plain_term};
 
 use cc_defs::{Formula, OutOfMemory, Term};
 use std::alloc::Global;
+
+/// What was made, in a box. It is of any type here and below, so that its drop is one call.
+pub(crate) fn boxed<T: Drop>(
+    alloc: Global,
+    made: Result<T, OutOfMemory>,
+) -> Result<Box<T>, OutOfMemory>
+    ensures { MatchResult made (λ value. IfOk result (λ place. place.value ≡ value))
+        (λ error. IsErr result) }
+{
+    let value = made?;
+    let place = Box::new(alloc, value)?;
+    Ok(place)
+}
+
+/// Two things that were made.
+fn both<T: Drop>(
+    first: Result<T, OutOfMemory>,
+    second: Result<T, OutOfMemory>,
+) -> Result<(T, T), OutOfMemory>
+    ensures { MatchResult first (λ one. MatchResult second
+        (λ two. result ≡ Ok (one, two)) (λ error. IsErr result)) (λ error. IsErr result) }
+{
+    let first = first?;
+    let second = second?;
+    Ok((first, second))
+}
+
+/// Puts what was made behind the others.
+pub(crate) fn put_made<T: Drop>(
+    list: &mut Vec<T>,
+    made: Result<T, OutOfMemory>,
+) -> Result<(), OutOfMemory>
+    ensures { MatchResult made
+        (λ item. OnOk result (list.new.items ≡ list.old.items ++ item ∷ []))
+        (λ error. IsErr result) }
+{
+    let item = made?;
+    list.push(item)?;
+    Ok(())
+}
 
 /// The same term.
 pub(crate) fn copy_term(alloc: Global, term: &Term) -> Result<Term, OutOfMemory>
@@ -14,7 +55,7 @@ pub(crate) fn copy_term(alloc: Global, term: &Term) -> Result<Term, OutOfMemory>
         Term::Constant { symbol, args } => {
             let mut copies = Vec::with_capacity(alloc, args.len())?;
             for argument in args {
-                copies.push(copy_term(alloc, argument)?)?;
+                put_made(&mut copies, copy_term(alloc, argument))?;
             }
             Ok(Term::Constant {
                 symbol: *symbol,
@@ -26,13 +67,15 @@ pub(crate) fn copy_term(alloc: Global, term: &Term) -> Result<Term, OutOfMemory>
         Term::Nothing => Ok(Term::Nothing),
         Term::Number(number) => Ok(Term::Number(*number)),
         Term::Plus(first, second) => {
-            let first = Box::new(alloc, copy_term(alloc, first)?)?;
-            let second = Box::new(alloc, copy_term(alloc, second)?)?;
+            let first = boxed(alloc, copy_term(alloc, first));
+            let second = boxed(alloc, copy_term(alloc, second));
+            let (first, second) = both(first, second)?;
             Ok(Term::Plus(first, second))
         }
         Term::Minus(first, second) => {
-            let first = Box::new(alloc, copy_term(alloc, first)?)?;
-            let second = Box::new(alloc, copy_term(alloc, second)?)?;
+            let first = boxed(alloc, copy_term(alloc, first));
+            let second = boxed(alloc, copy_term(alloc, second));
+            let (first, second) = both(first, second)?;
             Ok(Term::Minus(first, second))
         }
     }
@@ -44,7 +87,7 @@ pub(crate) fn copy_terms(alloc: Global, terms: &[Term]) -> Result<Vec<Term>, Out
 {
     let mut copies = Vec::with_capacity(alloc, terms.len())?;
     for term in terms {
-        copies.push(copy_term(alloc, term)?)?;
+        put_made(&mut copies, copy_term(alloc, term))?;
     }
     Ok(copies)
 }
@@ -57,50 +100,51 @@ pub(crate) fn copy_formula(alloc: Global, formula: &Formula) -> Result<Formula, 
         Formula::True => Ok(Formula::True),
         Formula::False => Ok(Formula::False),
         Formula::Equal(left, right) => {
-            let left = copy_term(alloc, left)?;
-            let right = copy_term(alloc, right)?;
+            let (left, right) = both(copy_term(alloc, left), copy_term(alloc, right))?;
             Ok(Formula::Equal(left, right))
         }
         Formula::Less(left, right) => {
-            let left = copy_term(alloc, left)?;
-            let right = copy_term(alloc, right)?;
+            let (left, right) = both(copy_term(alloc, left), copy_term(alloc, right))?;
             Ok(Formula::Less(left, right))
         }
         Formula::AtMost(left, right) => {
-            let left = copy_term(alloc, left)?;
-            let right = copy_term(alloc, right)?;
+            let (left, right) = both(copy_term(alloc, left), copy_term(alloc, right))?;
             Ok(Formula::AtMost(left, right))
         }
         Formula::Not(inner) => {
-            let inner = Box::new(alloc, copy_formula(alloc, inner)?)?;
+            let inner = boxed(alloc, copy_formula(alloc, inner))?;
             Ok(Formula::Not(inner))
         }
         Formula::Both(left, right) => {
-            let left = Box::new(alloc, copy_formula(alloc, left)?)?;
-            let right = Box::new(alloc, copy_formula(alloc, right)?)?;
+            let left = boxed(alloc, copy_formula(alloc, left));
+            let right = boxed(alloc, copy_formula(alloc, right));
+            let (left, right) = both(left, right)?;
             Ok(Formula::Both(left, right))
         }
         Formula::Either(left, right) => {
-            let left = Box::new(alloc, copy_formula(alloc, left)?)?;
-            let right = Box::new(alloc, copy_formula(alloc, right)?)?;
+            let left = boxed(alloc, copy_formula(alloc, left));
+            let right = boxed(alloc, copy_formula(alloc, right));
+            let (left, right) = both(left, right)?;
             Ok(Formula::Either(left, right))
         }
         Formula::Implies(left, right) => {
-            let left = Box::new(alloc, copy_formula(alloc, left)?)?;
-            let right = Box::new(alloc, copy_formula(alloc, right)?)?;
+            let left = boxed(alloc, copy_formula(alloc, left));
+            let right = boxed(alloc, copy_formula(alloc, right));
+            let (left, right) = both(left, right)?;
             Ok(Formula::Implies(left, right))
         }
         Formula::Same(left, right) => {
-            let left = Box::new(alloc, copy_formula(alloc, left)?)?;
-            let right = Box::new(alloc, copy_formula(alloc, right)?)?;
+            let left = boxed(alloc, copy_formula(alloc, left));
+            let right = boxed(alloc, copy_formula(alloc, right));
+            let (left, right) = both(left, right)?;
             Ok(Formula::Same(left, right))
         }
         Formula::ForAll(variable, sort, inner) => {
-            let inner = Box::new(alloc, copy_formula(alloc, inner)?)?;
+            let inner = boxed(alloc, copy_formula(alloc, inner))?;
             Ok(Formula::ForAll(*variable, *sort, inner))
         }
         Formula::Exists(variable, sort, inner) => {
-            let inner = Box::new(alloc, copy_formula(alloc, inner)?)?;
+            let inner = boxed(alloc, copy_formula(alloc, inner))?;
             Ok(Formula::Exists(*variable, *sort, inner))
         }
     }
