@@ -33,3 +33,4 @@ pub mod Valued
 pub mod Verdicts
 pub mod Vocabularies
 pub mod Widened
+pub mod WithMade

@@ -18,6 +18,7 @@ ghost use Rattle.cc_sorts.specs.Tables.{IsTable};
 use crate::checks::{check, law_variables};
 use crate::forms::{has, is_fluent_formula};
 use crate::head_parts::heads_of;
+use crate::made::{boxed, put_made, some_or};
 use crate::meaning::{Meaning, meaning_of};
 use crate::mention::Property;
 use crate::names::{Names, names_of};
@@ -76,10 +77,7 @@ pub(crate) fn written(
     ensures next { OnOk result
         (names.new.next ≡ names.old.next + words.part_brackets (plain_piece piece.entry)) }
 {
-    match resolve_piece(alloc, table, names, piece)? {
-        Some(formula) => Ok(formula),
-        None => Ok(Formula::True),
-    }
+    some_or(resolve_piece(alloc, table, names, piece), Formula::True)
 }
 
 /// What the base laws of a law have in common.
@@ -93,10 +91,11 @@ pub(crate) fn law_frame(
 {
     let ranges = sort_ranges(alloc, table, source.variables)?;
     let mut names = names_of(alloc, source.variables)?;
-    let test = written(alloc, table, &mut names, Piece::Maybe(source.test))?;
+    let test = written(alloc, table, &mut names, Piece::Maybe(source.test));
+    let test = boxed(alloc, test)?;
     Ok(Frame {
         ranges,
-        test: Box::new(alloc, test)?,
+        test,
         names,
         file: source.file,
         line: source.line,
@@ -150,15 +149,18 @@ fn law_parts(
         (scope_of names.old) (names.old.next + words.part_brackets (plain_caused law.entry).body))
         (plain_caused law.entry).after)) }
 {
-    let body = written(alloc, table, names, law.body)?;
+    let body = boxed(alloc, written(alloc, table, names, law.body))?;
     if denied {
         return Ok(Parts {
             body: Formula::True,
-            after: Some(body),
+            after: Some(Box::into_inner(body)),
         });
     }
-    let after = resolve_piece(alloc, table, names, law.after)?;
-    Ok(Parts { body, after })
+    let after = boxed(alloc, resolve_piece(alloc, table, names, law.after))?;
+    Ok(Parts {
+        body: Box::into_inner(body),
+        after: Box::into_inner(after),
+    })
 }
 
 /// The base law of a part of a head.
@@ -195,7 +197,7 @@ fn head_parts(
     match head {
         HeadPiece::Falsity => {
             let mut found = Vec::new(alloc);
-            found.push(Head::Falsity)?;
+            put_made(&mut found, Ok(Head::Falsity))?;
             Ok(found)
         }
         HeadPiece::One(formula) => {
@@ -220,7 +222,7 @@ fn split(
     let denying = denies(table, law);
     let mut made = Vec::with_capacity(alloc, heads.len())?;
     for head in heads {
-        made.push(law_for(alloc, table, source, law, denying, head)?)?;
+        put_made(&mut made, law_for(alloc, table, source, law, denying, head))?;
     }
     Ok(made)
 }
@@ -230,7 +232,7 @@ fn only(alloc: Global, law: BaseLaw) -> Result<Vec<BaseLaw>, OutOfMemory>
     ensures { IfOk result (λ made. map plain_base_law made.items ≡ plain_base_law law ∷ []) }
 {
     let mut made = Vec::new(alloc);
-    made.push(law)?;
+    put_made(&mut made, Ok(law))?;
     Ok(made)
 }
 
@@ -365,6 +367,7 @@ fn shape_frame(alloc: Global, file: u32, line: u32, sorts: &[u32]) -> Result<Fra
     requires { length sorts.now < 4000000000 }
     ensures { IfOk result (λ made. frame_of made ≡ words.shape_frame file line sorts.now) }
 {
+    let test = boxed(alloc, Ok(Formula::True))?;
     let mut ranges = Vec::with_capacity(alloc, sorts.len())?;
     for sort in sorts {
         ranges.push(Range::Sort(*sort))?;
@@ -375,7 +378,7 @@ fn shape_frame(alloc: Global, file: u32, line: u32, sorts: &[u32]) -> Result<Fra
     };
     Ok(Frame {
         ranges,
-        test: Box::new(alloc, Formula::True)?,
+        test,
         names,
         file,
         line,
@@ -425,8 +428,8 @@ fn denied_attribute(
         (resolved.Not (alone (resolved.Constant action (words.places 0 sorts.now)))))) }
 {
     let done = equation(alloc, action, sorts, Term::Object(1))?;
-    let denied = Box::new(alloc, negated(alloc, done)?)?;
-    let none = Box::new(alloc, equation(alloc, number, sorts, Term::Nothing)?)?;
+    let denied = boxed(alloc, negated(alloc, done))?;
+    let none = boxed(alloc, equation(alloc, number, sorts, Term::Nothing))?;
     negated(alloc, Formula::Same(none, denied))
 }
 
@@ -514,7 +517,8 @@ fn attribute_laws(
         sorts,
     )?;
     let mut made = only(alloc, law)?;
-    made.push(attribute_law(alloc, file, table, line, number, action, sorts)?)?;
+    let other = attribute_law(alloc, file, table, line, number, action, sorts);
+    put_made(&mut made, other)?;
     Ok(made)
 }
 

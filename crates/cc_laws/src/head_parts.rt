@@ -9,6 +9,7 @@ ghost use Rattle.cc_laws.specs.Views.{scope_of};
 ghost use Rattle.cc_laws.specs.Vocabulary.{vocabulary_of};
 
 use crate::heads::{constant_beside, is_boolean_term, is_falsity_term, truth_beside};
+use crate::made::put_made;
 use crate::meaning::{Meaning, meaning_of_term};
 use crate::names::Names;
 use crate::resolving::{resolve_sum, resolve_term};
@@ -67,7 +68,7 @@ fn add_bare(
         (vocabulary_of table.now) (scope_of names.now) (bare (plain_term term.now)))) }
 {
     if is_falsity_term(table, term) {
-        found.push(Head::Falsity)?;
+        put_made(found, Ok(Head::Falsity))?;
         return Ok(true);
     }
     if is_boolean_term(table, term) {

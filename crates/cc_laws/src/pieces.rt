@@ -8,6 +8,7 @@ ghost use Rattle.cc_laws.specs.Resolving as resolving;
 ghost use Rattle.cc_laws.specs.Views.{head_piece, plain_caused, plain_piece, scope_of};
 ghost use Rattle.cc_laws.specs.Vocabulary.{vocabulary_of};
 
+use crate::made::some;
 use crate::names::Names;
 use crate::resolving::{Joint, resolve, resolve_not, resolve_two};
 use cc_defs::{Formula, OutOfMemory, Tree};
@@ -111,11 +112,9 @@ pub(crate) fn resolve_piece(
     match piece {
         Piece::Missing | Piece::Maybe(None) => Ok(None),
         Piece::One(formula) | Piece::Maybe(Some(formula)) => {
-            Ok(Some(resolve(alloc, table, names, formula)?))
+            some(resolve(alloc, table, names, formula))
         }
-        Piece::Denied(formula) => Ok(Some(resolve_not(alloc, table, names, formula)?)),
-        Piece::Both(first, second) => {
-            Ok(Some(resolve_both(alloc, table, names, first, second)?))
-        }
+        Piece::Denied(formula) => some(resolve_not(alloc, table, names, formula)),
+        Piece::Both(first, second) => some(resolve_both(alloc, table, names, first, second)),
     }
 }

@@ -15,6 +15,7 @@ ghost use Rattle.cc_laws.specs.Vocabulary.{vocabulary, vocabulary_of};
 ghost use Rattle.cc_sorts.specs.Tables.{IsTable};
 
 use crate::checks::refused;
+use crate::made::{boxed, put_made, some};
 use crate::mention::Property;
 use crate::names::Names;
 use crate::resolving::resolve;
@@ -228,8 +229,8 @@ fn and_next(
     ensures next { OnOk result
         (names.new.next ≡ names.old.next + resolving.brackets (plain_tree formula.now)) }
 {
-    let made = Box::new(alloc, made)?;
-    let next = Box::new(alloc, resolve(alloc, table, names, formula)?)?;
+    let made = boxed(alloc, Ok(made))?;
+    let next = boxed(alloc, resolve(alloc, table, names, formula))?;
     Ok(Formula::Both(made, next))
 }
 
@@ -301,7 +302,10 @@ fn conditions_of(
             parts,
         } = item
         {
-            made.push(condition(alloc, table, names, *at, parts.items())?)?;
+            put_made(
+                &mut made,
+                condition(alloc, table, names, *at, parts.items()),
+            )?;
         }
     }
     Ok(made)
@@ -326,7 +330,7 @@ fn claim_of(
             parts,
         } = item
         {
-            return Ok(Some(condition(alloc, table, names, *at, parts.items())?));
+            return some(condition(alloc, table, names, *at, parts.items()));
         }
     }
     Ok(None)

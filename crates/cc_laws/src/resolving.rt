@@ -8,8 +8,10 @@ ghost use Rattle.cc_laws.specs.Views.{bracket_over, comparison_of, joined_by, pl
 ghost use Rattle.cc_laws.specs.Vocabulary as vocabulary;
 ghost use Rattle.cc_laws.specs.Vocabulary.{vocabulary_of};
 
+use crate::made::{both, boxed, gone, put_made};
 use crate::meaning::{Meaning, meaning_of};
 use crate::names::{Binding, Names};
+use crate::outermost::{Outermost, outermost_of};
 use crate::sums::Comparison;
 use cc_defs::{Formula, OutOfMemory, Piece, SumTree, Term, TermTree, Tree};
 use cc_sorts::Table;
@@ -33,17 +35,15 @@ fn term_meant(names: &Names, means: Meaning<'_>, args: Vec<Term>) -> Term
 }
 
 /// A term with another that is added, or taken away.
-fn joined(alloc: Global, made: Term, minus: bool, piece: Term) -> Result<Term, OutOfMemory>
-    ensures { IfOk result (λ sum.
-        resolved_term sum ≡ words.joined minus (resolved_term made) (resolved_term piece)) }
+fn joined(made: Box<Term>, minus: bool, piece: Box<Term>) -> Term
+    ensures { resolved_term result
+        ≡ words.joined minus (resolved_term made.value) (resolved_term piece.value) }
 {
-    let made = Box::new(alloc, made)?;
-    let piece = Box::new(alloc, piece)?;
-    Ok(if minus {
+    if minus {
         Term::Minus(made, piece)
     } else {
         Term::Plus(made, piece)
-    })
+    }
 }
 
 /// The term with numbers in place of names.
@@ -59,7 +59,7 @@ pub(crate) fn resolve_term(
 {
     let mut args = Vec::with_capacity(alloc, term.args.len())?;
     for argument in &term.args {
-        args.push(resolve_sum(alloc, table, names, argument)?)?;
+        put_made(&mut args, resolve_sum(alloc, table, names, argument))?;
     }
     Ok(term_meant(names, meaning_of(table, term.name), args))
 }
@@ -77,12 +77,9 @@ pub(crate) fn resolve_sum(
 {
     let mut made = resolve_piece(alloc, table, names, &sum.first)?;
     for addend in &sum.rest {
-        made = joined(
-            alloc,
-            made,
-            addend.minus,
-            resolve_piece(alloc, table, names, &addend.piece)?,
-        )?;
+        let piece = resolve_piece(alloc, table, names, &addend.piece);
+        let (first, second) = both(boxed(alloc, Ok(made)), boxed(alloc, piece))?;
+        made = joined(first, addend.minus, second);
     }
     Ok(made)
 }
@@ -132,26 +129,19 @@ pub(crate) enum Joint {
 
 /// Whether a bracket is over all objects or over some.
 #[derive(Clone, Copy)]
-enum Bracket {
+pub(crate) enum Bracket {
     ForAll,
     Exists,
 }
 
-fn bracket_of(
-    alloc: Global,
-    bracket: Bracket,
-    variable: u32,
-    sort: u32,
-    inside: Formula,
-) -> Result<Formula, OutOfMemory>
-    ensures { IfOk result (λ made.
-        plain_formula made ≡ bracket_over bracket variable sort (plain_formula inside)) }
+fn bracket_of(bracket: Bracket, variable: u32, sort: u32, inside: Box<Formula>) -> Formula
+    ensures { plain_formula result
+        ≡ bracket_over bracket variable sort (plain_formula inside.value) }
 {
-    let inside = Box::new(alloc, inside)?;
-    Ok(match bracket {
+    match bracket {
         Bracket::ForAll => Formula::ForAll(variable, sort, inside),
         Bracket::Exists => Formula::Exists(variable, sort, inside),
-    })
+    }
 }
 
 /// Two terms with a sign between them: an order is said by the two that are less, or not greater.
@@ -187,8 +177,9 @@ fn resolve_compared(
         (words.resolve_sum (vocabulary_of table.now) (scope_of names.now) (plain_sum left.now))
         (words.resolve_sum (vocabulary_of table.now) (scope_of names.now) (plain_sum right.now))) }
 {
-    let left = resolve_sum(alloc, table, names, left)?;
-    let right = resolve_sum(alloc, table, names, right)?;
+    let left = resolve_sum(alloc, table, names, left);
+    let right = resolve_sum(alloc, table, names, right);
+    let (left, right) = both(left, right)?;
     compared(alloc, comparison, left, right)
 }
 
@@ -218,8 +209,8 @@ pub(crate) fn resolve_not(
     ensures next { OnOk result
         (names.new.next ≡ names.old.next + words.brackets (plain_tree inner.now)) }
 {
-    let inner = resolve(alloc, table, names, inner)?;
-    negated(alloc, inner)
+    let inner = boxed(alloc, resolve(alloc, table, names, inner))?;
+    Ok(Formula::Not(inner))
 }
 
 /// Two formulas, joined. The first is put into its box before the second is made.
@@ -241,8 +232,8 @@ pub(crate) fn resolve_two(
     ensures next { OnOk result (names.new.next ≡ names.old.next + (words.brackets
         (plain_tree first.now) + words.brackets (plain_tree second.now))) }
 {
-    let first = Box::new(alloc, resolve(alloc, table, names, first)?)?;
-    let second = Box::new(alloc, resolve(alloc, table, names, second)?)?;
+    let first = boxed(alloc, resolve(alloc, table, names, first))?;
+    let second = boxed(alloc, resolve(alloc, table, names, second))?;
     Ok(match joint {
         Joint::Both => Formula::Both(first, second),
         Joint::Either => Formula::Either(first, second),
@@ -259,15 +250,16 @@ fn resolve_inside(
     names: &mut Names,
     binding: Binding,
     inner: &Tree<'_>,
-) -> Result<Formula, OutOfMemory>
-    ensures made { IfOk result (λ made. plain_formula made ≡ words.resolve (vocabulary_of table.now)
+) -> Result<Box<Formula>, OutOfMemory>
+    ensures made { IfOk result (λ made. plain_formula made.value
+        ≡ words.resolve (vocabulary_of table.now)
         (plain_binding binding ∷ scope_of names.old) names.old.next (plain_tree inner.now)) }
     ensures kept { OnOk result (names.new.bindings.items ≡ names.old.bindings.items) }
     ensures next { OnOk result
         (names.new.next ≡ names.old.next + words.brackets (plain_tree inner.now)) }
 {
     names.bindings.push(binding)?;
-    let made = resolve(alloc, table, names, inner)?;
+    let made = boxed(alloc, resolve(alloc, table, names, inner))?;
     names.bindings.pop();
     Ok(made)
 }
@@ -296,10 +288,10 @@ fn resolve_bracket(
     match meaning_of(table, name) {
         Meaning::Variable(variable, sort) => {
             let inner = resolve_inside(alloc, table, names, Binding { variable, number }, inner)?;
-            bracket_of(alloc, bracket, number, sort, inner)
+            Ok(bracket_of(bracket, number, sort, inner))
         }
         _ => {
-            drop(resolve(alloc, table, names, inner)?);
+            gone(resolve(alloc, table, names, inner))?;
             Ok(Formula::False)
         }
     }
@@ -320,45 +312,18 @@ pub(crate) fn resolve(
     ensures next { OnOk result
         (names.new.next ≡ names.old.next + words.brackets (plain_tree formula.now)) }
 {
-    match formula {
-        Tree::Bare(term) => resolve_alone(alloc, table, names, term),
-        Tree::Equal(left, right) => {
-            resolve_compared(alloc, table, names, Comparison::Equal, left, right)
+    match outermost_of(formula) {
+        Outermost::Alone(term) => resolve_alone(alloc, table, names, term),
+        Outermost::Compared(comparison, left, right) => {
+            resolve_compared(alloc, table, names, comparison, left, right)
         }
-        Tree::Differ(left, right) => {
-            resolve_compared(alloc, table, names, Comparison::Differs, left, right)
+        Outermost::Inner(inner) => resolve(alloc, table, names, inner),
+        Outermost::Not(inner) => resolve_not(alloc, table, names, inner),
+        Outermost::Two(joint, first, second) => {
+            resolve_two(alloc, table, names, joint, first, second)
         }
-        Tree::Less(left, right) => {
-            resolve_compared(alloc, table, names, Comparison::Less, left, right)
-        }
-        Tree::AtMost(left, right) => {
-            resolve_compared(alloc, table, names, Comparison::AtMost, left, right)
-        }
-        Tree::More(left, right) => {
-            resolve_compared(alloc, table, names, Comparison::More, left, right)
-        }
-        Tree::AtLeast(left, right) => {
-            resolve_compared(alloc, table, names, Comparison::AtLeast, left, right)
-        }
-        Tree::Paren(inner) => resolve(alloc, table, names, inner),
-        Tree::Not(inner) => resolve_not(alloc, table, names, inner),
-        Tree::Both(first, second) => {
-            resolve_two(alloc, table, names, Joint::Both, first, second)
-        }
-        Tree::Either(first, second) => {
-            resolve_two(alloc, table, names, Joint::Either, first, second)
-        }
-        Tree::Implies(first, second) => {
-            resolve_two(alloc, table, names, Joint::Implies, first, second)
-        }
-        Tree::Same(first, second) => {
-            resolve_two(alloc, table, names, Joint::Same, first, second)
-        }
-        Tree::ForAll(name, inner) => {
-            resolve_bracket(alloc, table, names, Bracket::ForAll, name, inner)
-        }
-        Tree::Exists(name, inner) => {
-            resolve_bracket(alloc, table, names, Bracket::Exists, name, inner)
+        Outermost::Over(bracket, name, inner) => {
+            resolve_bracket(alloc, table, names, bracket, name, inner)
         }
     }
 }

@@ -9,6 +9,7 @@ ghost use Rattle.cc_laws.specs.Views.{frame_of, persistence_of, row_terms};
 ghost use Rattle.cc_laws.specs.Vocabulary.{vocabulary_of};
 
 use crate::classes::class;
+use crate::made::{both, boxed, put_made};
 use crate::names::Names;
 use cc_defs::{BaseLaw, Formula, Head, Law, List, OutOfMemory, Range, Term};
 use cc_sorts::Table;
@@ -68,7 +69,7 @@ pub(crate) fn copy_term(alloc: Global, term: &Term) -> Result<Term, OutOfMemory>
         Term::Constant { symbol, args } => {
             let mut copies = Vec::with_capacity(alloc, args.len())?;
             for argument in args {
-                copies.push(copy_term(alloc, argument)?)?;
+                put_made(&mut copies, copy_term(alloc, argument))?;
             }
             Ok(Term::Constant {
                 symbol: *symbol,
@@ -80,13 +81,15 @@ pub(crate) fn copy_term(alloc: Global, term: &Term) -> Result<Term, OutOfMemory>
         Term::Nothing => Ok(Term::Nothing),
         Term::Number(number) => Ok(Term::Number(*number)),
         Term::Plus(first, second) => {
-            let first = Box::new(alloc, copy_term(alloc, first)?)?;
-            let second = Box::new(alloc, copy_term(alloc, second)?)?;
+            let first = boxed(alloc, copy_term(alloc, first));
+            let second = boxed(alloc, copy_term(alloc, second));
+            let (first, second) = both(first, second)?;
             Ok(Term::Plus(first, second))
         }
         Term::Minus(first, second) => {
-            let first = Box::new(alloc, copy_term(alloc, first)?)?;
-            let second = Box::new(alloc, copy_term(alloc, second)?)?;
+            let first = boxed(alloc, copy_term(alloc, first));
+            let second = boxed(alloc, copy_term(alloc, second));
+            let (first, second) = both(first, second)?;
             Ok(Term::Minus(first, second))
         }
     }
@@ -98,7 +101,7 @@ pub(crate) fn copy_terms(alloc: Global, terms: &[Term]) -> Result<Vec<Term>, Out
 {
     let mut copies = Vec::with_capacity(alloc, terms.len())?;
     for term in terms {
-        copies.push(copy_term(alloc, term)?)?;
+        put_made(&mut copies, copy_term(alloc, term))?;
     }
     Ok(copies)
 }

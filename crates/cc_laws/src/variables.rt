@@ -7,6 +7,7 @@ ghost use Rattle.cc_laws.specs.Vocabulary as vocabulary;
 ghost use Rattle.cc_laws.specs.Vocabulary.{vocabulary_of};
 
 use crate::meaning::{Meaning, meaning_of};
+use crate::outermost::{Outermost, outermost_of};
 use cc_defs::{OutOfMemory, Piece, SumTree, TermTree, Tree};
 use cc_sorts::Table;
 use std::alloc::Global;
@@ -133,33 +134,23 @@ pub(crate) fn add_free(
         ++ words.free (vocabulary_of table.now) bound.old.items (plain_tree formula.now)) }
     ensures closed { OnOk result (bound.new.items ≡ bound.old.items) }
 {
-    match formula {
-        Tree::Bare(term) => add_unbound(table, bound, term, found),
-        Tree::Equal(left, right)
-        | Tree::Differ(left, right)
-        | Tree::Less(left, right)
-        | Tree::AtMost(left, right)
-        | Tree::More(left, right)
-        | Tree::AtLeast(left, right) => add_unbound_sides(table, bound, left, right, found),
-        Tree::Paren(inner) | Tree::Not(inner) => add_free(table, bound, inner, found),
-        Tree::Both(first, second)
-        | Tree::Either(first, second)
-        | Tree::Implies(first, second)
-        | Tree::Same(first, second) => {
+    match outermost_of(formula) {
+        Outermost::Alone(term) => add_unbound(table, bound, term, found),
+        Outermost::Compared(_, left, right) => add_unbound_sides(table, bound, left, right, found),
+        Outermost::Inner(inner) | Outermost::Not(inner) => add_free(table, bound, inner, found),
+        Outermost::Two(_, first, second) => {
             add_free(table, bound, first, found)?;
             add_free(table, bound, second, found)
         }
-        Tree::ForAll(name, inner) | Tree::Exists(name, inner) => {
-            match variable(table, name) {
-                Some(number) => {
-                    bound.push(number)?;
-                    add_free(table, bound, inner, found)?;
-                    bound.pop();
-                    Ok(())
-                }
-                None => add_free(table, bound, inner, found),
+        Outermost::Over(_, name, inner) => match variable(table, name) {
+            Some(number) => {
+                bound.push(number)?;
+                add_free(table, bound, inner, found)?;
+                bound.pop();
+                Ok(())
             }
-        }
+            None => add_free(table, bound, inner, found),
+        },
     }
 }
 

@@ -18,6 +18,7 @@ ghost use Rattle.cc_wide.specs.WideLaws.{plain_wide_base};
 use crate::checks::{check_wide, law_variables};
 use crate::expansion::{Source, base_laws, is_missing, law_frame, short_for, written};
 use crate::forms::{has, has_indefinite_head};
+use crate::made::put_made;
 use crate::mention::Property;
 use crate::pieces::{Caused, HeadPiece, Piece, resolve_piece};
 use crate::resolving::resolve;
@@ -69,7 +70,7 @@ fn all_widened(alloc: Global, laws: Vec<BaseLaw>) -> Result<Vec<WideBase>, OutOf
 {
     let mut made = Vec::with_capacity(alloc, laws.len())?;
     for law in laws {
-        made.push(widened(law))?;
+        put_made(&mut made, Ok(widened(law)))?;
     }
     Ok(made)
 }
@@ -132,7 +133,7 @@ fn whole_laws(
     let mut made = Vec::new(alloc);
     if let Some(short) = short_for(table, law) {
         if let HeadPiece::One(head) = short.head {
-            made.push(whole_law(alloc, table, source, short, head)?)?;
+            put_made(&mut made, whole_law(alloc, table, source, short, head))?;
         }
     }
     Ok(made)

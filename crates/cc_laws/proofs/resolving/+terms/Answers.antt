@@ -1,16 +1,20 @@
-use Rattle.std.proofs.Common.{List, ap, ◌∙◌}
+use Rattle.std.proofs.Common.{◌≡◌, ◌∙◌, ◌++◌, ◌∷◌, [], List, ap}
 use Rattle.cc_defs.specs.declared.tree.SumTree.{SumTree}
 use Rattle.cc_defs.specs.Resolved.{plain_term}
-use Rattle.cc_laws.specs.Resolving.{resolve_sums}
+use Rattle.cc_defs.specs.Trees.{plain_sum}
+use Rattle.cc_laws.specs.Resolving.{resolve_sum, resolve_sums}
 use Rattle.cc_laws.specs.Views.{plain_sums, scope_of}
 use Rattle.cc_laws.specs.Vocabulary.{vocabulary_of}
+use Rattle.cc_laws.proofs.WithMade.{with_made}
 use Rattle.cc_laws.proofs.TermRows.{resolved_more, resolved_all, term_resolved, sum_begun}
 use Rattle.cc_laws.proofs.resolving.+terms.Goals as goal
 
 pub resolve_term-loop-argument-preserved : goal.resolve_term-loop-argument-preserved
 resolve_term-loop-argument-preserved t c =
-    resolved_more (vocabulary_of c.args.table.now) (scope_of c.args.names.now) _ _ c.argument-item.result _ _ c.in_ok-resolve_sum.field-0 _
-    c.loop-argument-test.true c.argument-item.is c.in_ok-push.ensures.items c.in_ok-resolve_sum.ensures c.loop-argument.invariant
+    let v = vocabulary_of c.args.table.now in
+    let scope = (scope_of c.args.names.now) in
+    with_made c.resolve_sum.result (λ one. plain_term one ≡ resolve_sum v scope (plain_sum c.argument-item.result)) (λ one. c.put_made.new.list.items ≡ c.loop-argument.args.items ++ one ∷ []) c.in_ok-put_made.ensures c.resolve_sum.ensures
+    (λ one is put. resolved_more v scope _ _ c.argument-item.result _ _ one _ c.loop-argument-test.true c.argument-item.is put is c.loop-argument.invariant)
 
 pub resolve_term-returns : goal.resolve_term-returns
 resolve_term-returns t c =
