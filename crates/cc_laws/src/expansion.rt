@@ -112,9 +112,9 @@ pub(crate) fn is_missing(piece: Piece<'_, '_>) -> bool
 }
 
 /// Whether a law denies a step where a part of its head is `false`. It goes through the whole head: asked once for a law.
-fn denies(table: &Table, law: Caused<'_, '_>) -> bool
-    ensures { result ≡ is_none (plain_caused law.entry).after
-        && words.part_acts (vocabulary_of table.now) (plain_caused law.entry).head }
+fn denies(table: &Table, law: &Caused<'_, '_>) -> bool
+    ensures { result ≡ is_none (plain_caused law.now).after
+        && words.part_acts (vocabulary_of table.now) (plain_caused law.now).head }
 {
     match law.head {
         HeadPiece::Falsity => false,
@@ -137,17 +137,17 @@ fn law_parts(
     alloc: Global,
     table: &Table,
     names: &mut Names,
-    law: Caused<'_, '_>,
+    law: &Caused<'_, '_>,
     denied: bool,
 ) -> Result<Parts, OutOfMemory>
     ensures body { IfOk result (λ made. plain_formula made.body
         ≡ (if denied then resolved.Truth else words.part (vocabulary_of table.now)
-        (scope_of names.old) names.old.next (plain_caused law.entry).body)) }
+        (scope_of names.old) names.old.next (plain_caused law.now).body)) }
     ensures after { IfOk result (λ made. option_map plain_formula made.after ≡ (if denied then Some
         (words.part (vocabulary_of table.now) (scope_of names.old) names.old.next
-        (plain_caused law.entry).body) else option_map (resolve (vocabulary_of table.now)
-        (scope_of names.old) (names.old.next + words.part_brackets (plain_caused law.entry).body))
-        (plain_caused law.entry).after)) }
+        (plain_caused law.now).body) else option_map (resolve (vocabulary_of table.now)
+        (scope_of names.old) (names.old.next + words.part_brackets (plain_caused law.now).body))
+        (plain_caused law.now).after)) }
 {
     let body = boxed(alloc, written(alloc, table, names, law.body))?;
     if denied {
@@ -168,15 +168,15 @@ fn law_for(
     alloc: Global,
     table: &Table,
     source: Source<'_, '_>,
-    law: Caused<'_, '_>,
+    law: &Caused<'_, '_>,
     denying: bool,
     head: Head,
 ) -> Result<BaseLaw, OutOfMemory>
-    requires { denying ≡ is_none (plain_caused law).after
-        && words.part_acts (vocabulary_of table.now) (plain_caused law).head }
+    requires { denying ≡ is_none (plain_caused law.now).after
+        && words.part_acts (vocabulary_of table.now) (plain_caused law.now).head }
     ensures { IfOk result (λ made.
         plain_base_law made ≡ words.law_for (vocabulary_of table.now) (frame_from
-        (vocabulary_of table.now) source.entry) (plain_caused law.entry) (plain_head head)) }
+        (vocabulary_of table.now) source.entry) (plain_caused law.now) (plain_head head)) }
 {
     let denied = denies_step(denying, &head);
     let mut frame = law_frame(alloc, table, source)?;
@@ -212,11 +212,11 @@ fn split(
     alloc: Global,
     table: &Table,
     source: Source<'_, '_>,
-    law: Caused<'_, '_>,
+    law: &Caused<'_, '_>,
 ) -> Result<Vec<BaseLaw>, OutOfMemory>
     ensures { IfOk result (λ made.
         map plain_base_law made.items ≡ words.split (vocabulary_of table.now)
-        (frame_from (vocabulary_of table.now) source.entry) (plain_caused law.entry)) }
+        (frame_from (vocabulary_of table.now) source.entry) (plain_caused law.now)) }
 {
     let heads = head_parts(alloc, table, source.variables, law.head)?;
     let denying = denies(table, law);
@@ -323,7 +323,7 @@ fn laws_with(
         (frame_from (vocabulary_of table.now) source.entry) (plain_law law.now)) }
 {
     match short_for(table, law) {
-        Some(short) => split(alloc, table, source, short),
+        Some(short) => split(alloc, table, source, &short),
         None => other_laws(alloc, table, source, law),
     }
 }
