@@ -7,7 +7,7 @@ use Rattle.cc_syntax.specs.declared.frames.Frame.{Frame}
 use Rattle.cc_syntax.specs.Formulas.{plain_frame, stack, ends_before}
 use Rattle.cc_syntax.specs.Turns.{Popped}
 
-stack-pushed : (frames pushed : List Frame) (frame : Frame) → pushed ≡ frames ++ frame ∷ [] → stack pushed ≡ plain_frame frame ∷ stack frames
+pub stack-pushed : (frames pushed : List Frame) (frame : Frame) → pushed ≡ frames ++ frame ∷ [] → stack pushed ≡ plain_frame frame ∷ stack frames
 stack-pushed frames pushed frame e =
     ap stack e ∙ ap reverse (map-append plain_frame frames (frame ∷ [])) ∙ reverse-append (map plain_frame frames) (plain_frame frame ∷ [])
 

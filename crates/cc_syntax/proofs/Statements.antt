@@ -32,18 +32,18 @@ pub statement-ended : (tokens rest : List Terminal) (part : PlainPart) (ends : O
     given (given (sign_at marks.Dot rest) None (λ left. Some (part, left))) None nothing_left ≡ ends → statement_at tokens ≡ ends
 statement-ended tokens rest part ends is_part is_ends = rw is_part is_ends
 
--- the part of a statement, where it is the whole of it
-abbrev pub IsWhole : List Terminal → Result Part Stop → Type 0
-IsWhole tokens result = (IfOk result (λ part. statement_at tokens ≡ Some (plain_part part))) × (result ≡ Err stops.NoTree → statement_at tokens ≡ None)
+-- the part of a statement, where it is the whole of it; the part may be in a box
+abbrev pub IsWhole : {K : Type 0} → (K → PlainPart) → List Terminal → Result K Stop → Type 0
+IsWhole view tokens result = (IfOk result (λ part. statement_at tokens ≡ Some (view part))) × (result ≡ Err stops.NoTree → statement_at tokens ≡ None)
 
-pub whole-ended : (tokens rest : List Terminal) (part : Part) (ends : Bool) (ended : Option Part) (result : Result Part Stop) →
-    part_at tokens ≡ Some (plain_part part, rest) →
-    given (given (sign_at marks.Dot rest) None (λ left. Some (plain_part part, left))) None nothing_left ≡ then_some ends (plain_part part) →
-    ended ≡ then_some ends part → result ≡ ok_or ended stops.NoTree → IsWhole tokens result
-whole-ended tokens rest part true ended result is_part is_end is_ended is_result =
-    subst (λ w. IsWhole tokens w) (sym (is_result ∙ ap (λ o. ok_or o stops.NoTree) is_ended)) (statement-ended tokens rest (plain_part part) _ is_part is_end, λ e. cc)
-whole-ended tokens rest part false ended result is_part is_end is_ended is_result =
-    subst (λ w. IsWhole tokens w) (sym (is_result ∙ ap (λ o. ok_or o stops.NoTree) is_ended)) (tt, λ e. statement-ended tokens rest (plain_part part) _ is_part is_end)
+pub whole-ended : {K : Type 0} (view : K → PlainPart) (tokens rest : List Terminal) (part : K) (ends : Bool) (ended : Option K) (result : Result K Stop) →
+    part_at tokens ≡ Some (view part, rest) →
+    given (given (sign_at marks.Dot rest) None (λ left. Some (view part, left))) None nothing_left ≡ then_some ends (view part) →
+    ended ≡ then_some ends part → result ≡ ok_or ended stops.NoTree → IsWhole view tokens result
+whole-ended view tokens rest part true ended result is_part is_end is_ended is_result =
+    subst (λ w. IsWhole view tokens w) (sym (is_result ∙ ap (λ o. ok_or o stops.NoTree) is_ended)) (statement-ended tokens rest (view part) _ is_part is_end, λ e. cc)
+whole-ended view tokens rest part false ended result is_part is_end is_ended is_result =
+    subst (λ w. IsWhole view tokens w) (sym (is_result ∙ ap (λ o. ok_or o stops.NoTree) is_ended)) (tt, λ e. statement-ended tokens rest (view part) _ is_part is_end)
 
 -- ---- what `parse` answers
 

@@ -2,7 +2,6 @@
 use Rattle.std.proofs.Common.{◌≡◌, ◌≢◌, ℕ, zero, suc, ◌-◌, ◌<◌, List, Some, None, refl, ap, sym, ◌∙◌, arith}
 use Rattle.std.proofs.lemmas.Option.{same_Some}
 use Rattle.cc_defs.specs.declared.token.Token.{Token}
-use Rattle.cc_defs.specs.declared.tree.Tree.{Tree}
 use Rattle.cc_syntax.specs.declared.formulas.Turn.{Turn}
 use Rattle.cc_syntax.specs.declared.formulas.Turn.TheVariants as turns
 use Rattle.cc_syntax.specs.Formulas.{PlainFrame, Wants, Has, Ends, Held, run_from}
@@ -31,7 +30,7 @@ turned_out (suc n) (frames, Has tree here) some e = rw e refl
 turned_out (suc n) (frames, Ends tree rest) some e = absurd cc
 
 -- no turn is left, and the formula does not end
-pub turns-spent : (tokens : List Token) (frames : List PlainFrame) (turn : Turn) (left : ℕ) → left ≡ 0 → ((tree : Tree) (at : ℕ) → turn ≢ turns.Ends tree at)
+pub turns-spent : (tokens : List Token) (frames : List PlainFrame) (turn : Turn) (left : ℕ) → left ≡ 0 → ((tree : _) (at : ℕ) → turn ≢ turns.Ends tree at)
     → run_from left (frames, plain_turn tokens turn) ≡ None
 unfolding run_from
 turns-spent tokens frames turn (suc left) e none = absurd (omega arith)

@@ -25,7 +25,7 @@ plain_frame frames.Not = Not
 plain_frame frames.Paren = Paren
 plain_frame (frames.ForAll variable) = ForAll variable.now
 plain_frame (frames.Exists variable) = Exists variable.now
-plain_frame (frames.Left operator tree) = Left operator (plain_tree tree)
+plain_frame (frames.Left operator tree) = Left operator (plain_tree tree.value)
 
 -- the frames, the innermost first; the code holds it last
 abbrev pub stack : List Frame → List PlainFrame

@@ -23,8 +23,8 @@ Popped bound frames None rest = (frames ≡ rest) × IsTrue (goes_on bound frame
 -- where the reading is, with what is left of the tokens
 abbrev pub plain_turn : List Token → Turn → PlainTurn
 plain_turn tokens (turns.Wants at) = Wants (drop at (seen tokens))
-plain_turn tokens (turns.Has tree at) = Has (plain_tree tree) (drop at (seen tokens))
-plain_turn tokens (turns.Ends tree at) = Ends (plain_tree tree) (drop at (seen tokens))
+plain_turn tokens (turns.Has tree at) = Has (plain_tree tree.value) (drop at (seen tokens))
+plain_turn tokens (turns.Ends tree at) = Ends (plain_tree tree.value) (drop at (seen tokens))
 
 -- a turn leaves these frames and the place where the reading is, as the definition has it; it answers nothing only where
 -- the definition has nothing, or where memory was wanting

@@ -1,5 +1,5 @@
 //! Readers of laws.
-ghost use Rattle.std.specs.Prelude.{◌≡◌, Err, drop, codes, IfOk, None, Option};
+ghost use Rattle.std.specs.Prelude.{◌≡◌, Err, drop, codes, IfOk, None, Option, Some};
 ghost use Rattle.std.specs.Option.{option_map};
 ghost use Rattle.std.specs.Result.{MatchResult};
 ghost use Rattle.cc_defs.specs.Tokens.{AreTokens};
@@ -10,10 +10,11 @@ ghost use Rattle.cc_syntax.specs.Laws.{caused_at, effect_at, worded_at, acting_a
 ghost use Rattle.cc_syntax.specs.Readers.{given, word_at, optional_at};
 ghost use Rattle.cc_syntax.specs.Terms.{term_at};
 ghost use Rattle.cc_syntax.specs.Views.{seen, Reads, Passes};
+ghost use Rattle.cc_syntax.specs.declared.stop.Stop.TheVariants as stops;
 ghost use Rattle.cc_text.specs.Views.{token_views};
 
 use crate::formulas::formula;
-use crate::reading::{made, placed};
+use crate::reading::{boxed_read, made_boxed, placed};
 use crate::stop::Stop;
 use crate::terms::term;
 use crate::tokens::{token_at, word};
@@ -21,11 +22,18 @@ use crate::words::{is_reserved_word, is_word_of_value};
 use cc_defs::{LawTree, Mark, Part, TermTree, Token, TokenKind, Tree};
 use std::alloc::Global;
 
-/// `F if G`
-type Effect<'s> = (Tree<'s>, Option<Tree<'s>>);
+/// `F if G`. What is read is kept in boxes until the law is made of it, so that its drop is one call.
+type Effect<'s> = (Box<Tree<'s>>, Box<Option<Tree<'s>>>);
 
 /// `F if G after H`
-type Caused<'s> = (Effect<'s>, Option<Tree<'s>>);
+type Caused<'s> = (Effect<'s>, Box<Option<Tree<'s>>>);
+
+/// A formula that is there.
+fn some_formula<'s>(formula: Box<Tree<'s>>) -> Option<Tree<'s>>
+    ensures { option_map plain_tree result ≡ Some (plain_tree formula.entry.value) }
+{
+    Some(Box::into_inner(formula))
+}
 
 /// A formula behind the word, if the word is there.
 fn optional<'s>(
@@ -33,16 +41,15 @@ fn optional<'s>(
     tokens: &[Token<'s>],
     at: usize,
     text: &str,
-) -> Result<(Option<Tree<'s>>, usize), Stop>
+) -> Result<(Box<Option<Tree<'s>>>, usize), Stop>
     requires { AreTokens (token_views tokens.now) }
-    ensures { Reads (λ read. option_map plain_tree read) tokens.now result
+    ensures { Reads (λ read. option_map plain_tree read.value) tokens.now result
         (optional_at formula_at text.now (drop at (seen tokens.now))) }
 {
     let Ok(next) = word(tokens, at, text) else {
-        return Ok((None, at));
+        return boxed_read(alloc, placed(None, at));
     };
-    let (read, next) = formula(alloc, tokens, next)?;
-    Ok((Some(read), next))
+    made_boxed(alloc, formula(alloc, tokens, next), some_formula)
 }
 
 /// What was read, and a formula behind the word, if the word is there. What was read is of any type, so that its drop is one
@@ -52,10 +59,10 @@ fn optional_behind<'s, K: Drop>(
     tokens: &[Token<'s>],
     read: Result<(K, usize), Stop>,
     text: &str,
-) -> Result<((K, Option<Tree<'s>>), usize), Stop>
+) -> Result<((K, Box<Option<Tree<'s>>>), usize), Stop>
     requires { AreTokens (token_views tokens.now) }
     ensures { MatchResult read (λ r. IfOk result (λ both. both.0.0 ≡ r.0)
-        × Reads (λ both. option_map plain_tree both.1) tokens.now result (optional_at
+        × Reads (λ both. option_map plain_tree both.1.value) tokens.now result (optional_at
         formula_at text.now (drop r.1 (seen tokens.now)))) (λ stop. result ≡ Err stop) }
 {
     let (kept, next) = read?;
@@ -68,8 +75,8 @@ fn optional_behind<'s, K: Drop>(
 fn effect<'s>(alloc: Global, tokens: &[Token<'s>], at: usize) -> Result<(Effect<'s>, usize), Stop>
     requires { AreTokens (token_views tokens.now) }
     ensures { (make : PlainTree → Option PlainTree → PlainLaw) →
-        Reads (λ read. make (plain_tree read.0) (option_map plain_tree read.1)) tokens.now result
-        (effect_at make (drop at (seen tokens.now))) }
+        Reads (λ read. make (plain_tree read.0.value) (option_map plain_tree read.1.value))
+        tokens.now result (effect_at make (drop at (seen tokens.now))) }
 {
     optional_behind(alloc, tokens, formula(alloc, tokens, at), "if")
 }
@@ -79,8 +86,8 @@ fn effect<'s>(alloc: Global, tokens: &[Token<'s>], at: usize) -> Result<(Effect<
 fn caused<'s>(alloc: Global, tokens: &[Token<'s>], at: usize) -> Result<(Caused<'s>, usize), Stop>
     requires { AreTokens (token_views tokens.now) }
     ensures { (make : PlainTree → Option PlainTree → Option PlainTree → PlainLaw) → Reads (λ read.
-        make (plain_tree read.0.0) (option_map plain_tree read.0.1) (option_map plain_tree read.1))
-        tokens.now result (caused_at make (drop at (seen tokens.now))) }
+        make (plain_tree read.0.0.value) (option_map plain_tree read.0.1.value)
+        (option_map plain_tree read.1.value)) tokens.now result (caused_at make (drop at (seen tokens.now))) }
 {
     let formula = formula(alloc, tokens, at);
     let effect = optional_behind(alloc, tokens, formula, "if");
@@ -89,29 +96,51 @@ fn caused<'s>(alloc: Global, tokens: &[Token<'s>], at: usize) -> Result<(Caused<
 
 /// `caused`, with what is behind it.
 fn caused_tree<'s>(parts: Caused<'s>) -> LawTree<'s>
-    ensures { plain_law result ≡ trees.Caused (plain_tree parts.entry.0.0)
-        (option_map plain_tree parts.entry.0.1) (option_map plain_tree parts.entry.1) }
+    ensures { plain_law result ≡ trees.Caused (plain_tree parts.entry.0.0.value)
+        (option_map plain_tree parts.entry.0.1.value) (option_map plain_tree parts.entry.1.value) }
 {
-    let ((formula, condition), before) = parts;
-    LawTree::Caused(formula, condition, before)
+    let ((formula, condition), after) = parts;
+    LawTree::Caused(
+        Box::into_inner(formula),
+        Box::into_inner(condition),
+        Box::into_inner(after),
+    )
 }
 
 /// `default`, with what is behind it.
 fn default_tree<'s>(parts: Caused<'s>) -> LawTree<'s>
-    ensures { plain_law result ≡ trees.Default (plain_tree parts.entry.0.0)
-        (option_map plain_tree parts.entry.0.1) (option_map plain_tree parts.entry.1) }
+    ensures { plain_law result ≡ trees.Default (plain_tree parts.entry.0.0.value)
+        (option_map plain_tree parts.entry.0.1.value) (option_map plain_tree parts.entry.1.value) }
 {
     let ((formula, condition), before) = parts;
-    LawTree::Default(formula, condition, before)
+    LawTree::Default(
+        Box::into_inner(formula),
+        Box::into_inner(condition),
+        Box::into_inner(before),
+    )
+}
+
+/// `constraint`, with what is behind it.
+fn constraint_tree<'s>(formula: Box<Tree<'s>>) -> LawTree<'s>
+    ensures { plain_law result ≡ trees.Constraint (plain_tree formula.entry.value) }
+{
+    LawTree::Constraint(Box::into_inner(formula))
+}
+
+/// `always`, with what is behind it.
+fn always_tree<'s>(formula: Box<Tree<'s>>) -> LawTree<'s>
+    ensures { plain_law result ≡ trees.Always (plain_tree formula.entry.value) }
+{
+    LawTree::Always(Box::into_inner(formula))
 }
 
 /// `nonexecutable`, with what is behind it.
 fn nonexecutable_tree<'s>(parts: Effect<'s>) -> LawTree<'s>
-    ensures { plain_law result
-        ≡ trees.Nonexecutable (plain_tree parts.entry.0) (option_map plain_tree parts.entry.1) }
+    ensures { plain_law result ≡ trees.Nonexecutable (plain_tree parts.entry.0.value)
+        (option_map plain_tree parts.entry.1.value) }
 {
     let (formula, condition) = parts;
-    LawTree::Nonexecutable(formula, condition)
+    LawTree::Nonexecutable(Box::into_inner(formula), Box::into_inner(condition))
 }
 
 /// `inertial`, and the constant behind it.
@@ -130,29 +159,33 @@ fn inertial<'s>(
 
 /// A law that begins with its word.
 #[tactic(auto, unfolding(crate::specs::Laws::worded_at, crate::specs::Laws::alone_at, crate::specs::Laws::of_term_at))]
-fn worded<'s>(alloc: Global, tokens: &[Token<'s>], at: usize) -> Result<(LawTree<'s>, usize), Stop>
+fn worded<'s>(
+    alloc: Global,
+    tokens: &[Token<'s>],
+    at: usize,
+) -> Result<(Box<LawTree<'s>>, usize), Stop>
     requires { AreTokens (token_views tokens.now) }
-    ensures { Reads plain_law tokens.now result (worded_at (drop at (seen tokens.now))) }
+    ensures { Reads (λ law. plain_law law.value) tokens.now result (worded_at (drop at (seen tokens.now))) }
 {
     if let Ok(next) = word(tokens, at, "caused") {
-        return made(caused(alloc, tokens, next), caused_tree);
+        return made_boxed(alloc, caused(alloc, tokens, next), caused_tree);
     }
     if let Ok(next) = word(tokens, at, "constraint") {
-        return made(formula(alloc, tokens, next), LawTree::Constraint);
+        return made_boxed(alloc, formula(alloc, tokens, next), constraint_tree);
     }
     if let Ok(next) = word(tokens, at, "always") {
-        return made(formula(alloc, tokens, next), LawTree::Always);
+        return made_boxed(alloc, formula(alloc, tokens, next), always_tree);
     }
     if let Ok(next) = word(tokens, at, "nonexecutable") {
-        return made(effect(alloc, tokens, next), nonexecutable_tree);
+        return made_boxed(alloc, effect(alloc, tokens, next), nonexecutable_tree);
     }
     if let Ok(next) = word(tokens, at, "default") {
-        return made(caused(alloc, tokens, next), default_tree);
+        return made_boxed(alloc, caused(alloc, tokens, next), default_tree);
     }
     if let Ok(next) = word(tokens, at, "exogenous") {
-        return made(term(alloc, tokens, next), LawTree::Exogenous);
+        return made_boxed(alloc, term(alloc, tokens, next), LawTree::Exogenous);
     }
-    made(inertial(alloc, tokens, at), LawTree::Inertial)
+    made_boxed(alloc, inertial(alloc, tokens, at), LawTree::Inertial)
 }
 
 /// `F if G`, while something else is kept.
@@ -165,7 +198,7 @@ fn effect_behind<'s, K: Drop>(
     requires { AreTokens (token_views tokens.now) }
     ensures kept { IfOk result (λ read. read.0.0 ≡ kept) }
     ensures read { (make : PlainTree → Option PlainTree → PlainLaw) →
-        Reads (λ read. make (plain_tree read.1.0) (option_map plain_tree read.1.1))
+        Reads (λ read. make (plain_tree read.1.0.value) (option_map plain_tree read.1.1.value))
         tokens.now result (effect_at make (drop at (seen tokens.now))) }
 {
     let (parts, next) = effect(alloc, tokens, at)?;
@@ -173,21 +206,29 @@ fn effect_behind<'s, K: Drop>(
 }
 
 /// `causes`, between an action and its effect.
-fn causes_tree<'s>(read: (Tree<'s>, Effect<'s>)) -> LawTree<'s>
-    ensures { plain_law result ≡ trees.Causes (plain_tree read.entry.0)
-        (plain_tree read.entry.1.0) (option_map plain_tree read.entry.1.1) }
+fn causes_tree<'s>(read: (Box<Tree<'s>>, Effect<'s>)) -> LawTree<'s>
+    ensures { plain_law result ≡ trees.Causes (plain_tree read.entry.0.value)
+        (plain_tree read.entry.1.0.value) (option_map plain_tree read.entry.1.1.value) }
 {
     let (action, (formula, condition)) = read;
-    LawTree::Causes(action, formula, condition)
+    LawTree::Causes(
+        Box::into_inner(action),
+        Box::into_inner(formula),
+        Box::into_inner(condition),
+    )
 }
 
 /// `may cause`, between an action and its effect.
-fn may_cause_tree<'s>(read: (Tree<'s>, Effect<'s>)) -> LawTree<'s>
-    ensures { plain_law result ≡ trees.MayCause (plain_tree read.entry.0)
-        (plain_tree read.entry.1.0) (option_map plain_tree read.entry.1.1) }
+fn may_cause_tree<'s>(read: (Box<Tree<'s>>, Effect<'s>)) -> LawTree<'s>
+    ensures { plain_law result ≡ trees.MayCause (plain_tree read.entry.0.value)
+        (plain_tree read.entry.1.0.value) (option_map plain_tree read.entry.1.1.value) }
 {
     let (action, (formula, condition)) = read;
-    LawTree::MayCause(action, formula, condition)
+    LawTree::MayCause(
+        Box::into_inner(action),
+        Box::into_inner(formula),
+        Box::into_inner(condition),
+    )
 }
 
 /// `may cause`
@@ -201,16 +242,28 @@ fn may_cause_words(tokens: &[Token], at: usize) -> Result<usize, Stop>
 
 /// A law that begins with a formula.
 #[tactic(auto, unfolding(crate::specs::Laws::acting_at))]
-fn acting<'s>(alloc: Global, tokens: &[Token<'s>], at: usize) -> Result<(LawTree<'s>, usize), Stop>
+fn acting<'s>(
+    alloc: Global,
+    tokens: &[Token<'s>],
+    at: usize,
+) -> Result<(Box<LawTree<'s>>, usize), Stop>
     requires { AreTokens (token_views tokens.now) }
-    ensures { Reads plain_law tokens.now result (acting_at (drop at (seen tokens.now))) }
+    ensures { Reads (λ law. plain_law law.value) tokens.now result (acting_at (drop at (seen tokens.now))) }
 {
     let (action, next) = formula(alloc, tokens, at)?;
     if let Ok(next) = word(tokens, next, "causes") {
-        return made(effect_behind(alloc, tokens, next, action), causes_tree);
+        return made_boxed(
+            alloc,
+            effect_behind(alloc, tokens, next, action),
+            causes_tree,
+        );
     }
     if let Ok(next) = may_cause_words(tokens, next) {
-        return made(effect_behind(alloc, tokens, next, action), may_cause_tree);
+        return made_boxed(
+            alloc,
+            effect_behind(alloc, tokens, next, action),
+            may_cause_tree,
+        );
     }
     Err(Stop::NoTree)
 }
@@ -231,9 +284,13 @@ fn opens_formula(tokens: &[Token], at: usize) -> bool
 }
 
 /// A law, apart from its test; not `noconcurrency`.
-fn law<'s>(alloc: Global, tokens: &[Token<'s>], at: usize) -> Result<(LawTree<'s>, usize), Stop>
+fn law<'s>(
+    alloc: Global,
+    tokens: &[Token<'s>],
+    at: usize,
+) -> Result<(Box<LawTree<'s>>, usize), Stop>
     requires { AreTokens (token_views tokens.now) }
-    ensures { Reads plain_law tokens.now result (law_at (drop at (seen tokens.now))) }
+    ensures { Reads (λ law. plain_law law.value) tokens.now result (law_at (drop at (seen tokens.now))) }
 {
     if opens_formula(tokens, at) {
         return acting(alloc, tokens, at);
@@ -241,20 +298,22 @@ fn law<'s>(alloc: Global, tokens: &[Token<'s>], at: usize) -> Result<(LawTree<'s
     worded(alloc, tokens, at)
 }
 
-/// A law that may run beside no other.
-fn no_concurrency<'s>() -> Part<'s>
-    ensures { plain_part result ≡ trees.Law trees.NoConcurrency None }
+/// A law that may run beside no other, before the place.
+fn no_concurrency<'s>(alloc: Global, next: usize) -> Result<(Box<Part<'s>>, usize), Stop>
+    ensures { MatchResult result
+        (λ read. (plain_part read.0.value ≡ trees.Law trees.NoConcurrency None) × (read.1 ≡ next))
+        (λ stop. stop ≡ stops.OutOfMemory) }
 {
-    Part::Law(LawTree::NoConcurrency, None)
+    boxed_read(alloc, placed(Part::Law(LawTree::NoConcurrency, None), next))
 }
 
 /// A law and its test.
-fn law_part<'s>(read: (LawTree<'s>, Option<Tree<'s>>)) -> Part<'s>
+fn law_part<'s>(read: (Box<LawTree<'s>>, Box<Option<Tree<'s>>>)) -> Part<'s>
     ensures { plain_part result
-        ≡ trees.Law (plain_law read.entry.0) (option_map plain_tree read.entry.1) }
+        ≡ trees.Law (plain_law read.entry.0.value) (option_map plain_tree read.entry.1.value) }
 {
     let (law, test) = read;
-    Part::Law(law, test)
+    Part::Law(Box::into_inner(law), Box::into_inner(test))
 }
 
 /// A law with its test.
@@ -263,13 +322,15 @@ pub(crate) fn tested_law<'s>(
     alloc: Global,
     tokens: &[Token<'s>],
     at: usize,
-) -> Result<(Part<'s>, usize), Stop>
+) -> Result<(Box<Part<'s>>, usize), Stop>
     requires { AreTokens (token_views tokens.now) }
-    ensures { Reads plain_part tokens.now result (tested_law_at (drop at (seen tokens.now))) }
+    ensures { Reads (λ part. plain_part part.value) tokens.now result
+        (tested_law_at (drop at (seen tokens.now))) }
 {
     if let Ok(next) = word(tokens, at, "noconcurrency") {
-        return placed(no_concurrency(), next);
+        return no_concurrency(alloc, next);
     }
     let law = law(alloc, tokens, at);
-    made(optional_behind(alloc, tokens, law, "where"), law_part)
+    let tested = optional_behind(alloc, tokens, law, "where");
+    made_boxed(alloc, tested, law_part)
 }

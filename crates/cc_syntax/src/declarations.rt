@@ -9,6 +9,7 @@ ghost use Rattle.cc_syntax.specs.Readers.{name_at, listed_at};
 ghost use Rattle.cc_syntax.specs.Views.{seen, Reads};
 ghost use Rattle.cc_text.specs.Views.{token_views};
 
+use crate::reading::put_last;
 use crate::stop::Stop;
 use crate::tokens::{name, numeral, sign, word};
 use cc_defs::{
@@ -102,7 +103,7 @@ fn members<'s>(
     let mut next = at;
     for _ in at..tokens.len() {
         let (item, after) = member(tokens, next)?;
-        members.push(item)?;
+        put_last(&mut members, item)?;
         match sign(tokens, after, Mark::Comma) {
             Ok(behind) => next = behind,
             Err(_) => return Ok((members, after)),
@@ -197,7 +198,7 @@ fn shapes<'s>(
     let mut next = at;
     for _ in at..tokens.len() {
         let (item, after) = shape(alloc, tokens, next)?;
-        shapes.push(item)?;
+        put_last(&mut shapes, item)?;
         match sign(tokens, after, Mark::Comma) {
             Ok(behind) => next = behind,
             Err(_) => return Ok((shapes, after)),
@@ -309,7 +310,7 @@ pub(crate) fn sort_items<'s>(
     let mut next = at;
     for _ in at..tokens.len() {
         let (item, after) = sort_item(alloc, tokens, next)?;
-        items.push(item)?;
+        put_last(&mut items, item)?;
         match sign(tokens, after, Mark::Semicolon) {
             Ok(behind) => next = behind,
             Err(_) => return Ok((items, after)),
@@ -333,7 +334,7 @@ pub(crate) fn obj_items<'s>(
     let mut next = at;
     for _ in at..tokens.len() {
         let (item, after) = obj_item(alloc, tokens, next)?;
-        items.push(item)?;
+        put_last(&mut items, item)?;
         match sign(tokens, after, Mark::Semicolon) {
             Ok(behind) => next = behind,
             Err(_) => return Ok((items, after)),
@@ -356,7 +357,7 @@ pub(crate) fn list_items<'s>(
     let mut next = at;
     for _ in at..tokens.len() {
         let (item, after) = list_item(alloc, tokens, next)?;
-        items.push(item)?;
+        put_last(&mut items, item)?;
         match sign(tokens, after, Mark::Semicolon) {
             Ok(behind) => next = behind,
             Err(_) => return Ok((items, after)),
@@ -379,7 +380,7 @@ pub(crate) fn const_items<'s>(
     let mut next = at;
     for _ in at..tokens.len() {
         let (item, after) = const_item(alloc, tokens, next)?;
-        items.push(item)?;
+        put_last(&mut items, item)?;
         match sign(tokens, after, Mark::Semicolon) {
             Ok(behind) => next = behind,
             Err(_) => return Ok((items, after)),

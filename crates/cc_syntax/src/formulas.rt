@@ -15,7 +15,7 @@ ghost use Rattle.cc_text.specs.Views.{token_views};
 
 use crate::frames::{Frame, Frames, close};
 use crate::operators::{Comparing, next_comparison, next_operator};
-use crate::reading::made;
+use crate::reading::{boxed_read, made, placed};
 use crate::stop::Stop;
 use crate::terms::{Parts, parts, sum, sum_of};
 use crate::tokens::{name, sign, sign_behind};
@@ -32,9 +32,9 @@ enum Turn<'s> {
     /// An operand is wanted at the place.
     Wants(usize),
     /// An operand was read up to the place.
-    Has(Tree<'s>, usize),
+    Has(Box<Tree<'s>>, usize),
     /// The formula was read up to the place.
-    Ends(Tree<'s>, usize),
+    Ends(Box<Tree<'s>>, usize),
 }
 
 /// A variable and the bar behind it.
@@ -52,19 +52,17 @@ fn opening<'s>(tokens: &[Token<'s>], at: usize) -> Result<(Frame<'s>, usize), St
     ensures { Reads plain_frame tokens.now result (frame_at (drop at (seen tokens.now))) }
 {
     if let Ok(next) = sign(tokens, at, Mark::Minus) {
-        return Ok((Frame::Not, next));
+        return placed(Frame::Not, next);
     }
     if let Ok(next) = sign(tokens, at, Mark::LeftParen) {
-        return Ok((Frame::Paren, next));
+        return placed(Frame::Paren, next);
     }
     let next = sign(tokens, at, Mark::LeftBracket)?;
     if let Ok(next) = sign(tokens, next, Mark::AllSign) {
-        let (variable, next) = variable(tokens, next)?;
-        return Ok((Frame::ForAll(variable), next));
+        return made(variable(tokens, next), Frame::ForAll);
     }
     let next = sign(tokens, next, Mark::AnySign)?;
-    let (variable, next) = variable(tokens, next)?;
-    Ok((Frame::Exists(variable), next))
+    made(variable(tokens, next), Frame::Exists)
 }
 
 /// Whether a sum has pieces behind its first.
@@ -186,7 +184,7 @@ fn begin<'s>(
             Ok(Turn::Wants(next))
         }
         Err(Stop::NoTree) => {
-            let (tree, next) = atom(alloc, tokens, at)?;
+            let (tree, next) = boxed_read(alloc, atom(alloc, tokens, at))?;
             Ok(Turn::Has(tree, next))
         }
         Err(Stop::OutOfMemory) => Err(Stop::OutOfMemory),
@@ -198,13 +196,13 @@ fn shut_frame<'s>(
     alloc: Global,
     tokens: &[Token<'s>],
     frame: Frame<'s>,
-    tree: Tree<'s>,
+    tree: Box<Tree<'s>>,
     at: usize,
 ) -> Result<Turn<'s>, Stop>
     ensures { (frames : List Frame) → Turns tokens.now frames result (shut (
       plain_frame frame.entry
           ∷ stack frames,
-      plain_tree tree.entry,
+      plain_tree tree.entry.value,
     ) (drop at (seen tokens.now))) }
 {
     let mark = frame.closing();
@@ -217,11 +215,11 @@ fn shut_innermost<'s>(
     alloc: Global,
     tokens: &[Token<'s>],
     frames: &mut Frames<'s>,
-    tree: Tree<'s>,
+    tree: Box<Tree<'s>>,
     at: usize,
 ) -> Result<Turn<'s>, Stop>
     ensures { Turns tokens.now frames.new.items result
-        (shut (stack frames.old.items, plain_tree tree.entry) (drop at (seen tokens.now))) }
+        (shut (stack frames.old.items, plain_tree tree.entry.value) (drop at (seen tokens.now))) }
 {
     match frames.pop() {
         None => Ok(Turn::Ends(tree, at)),
@@ -235,11 +233,11 @@ fn go_on<'s>(
     alloc: Global,
     tokens: &[Token<'s>],
     frames: &mut Frames<'s>,
-    tree: Tree<'s>,
+    tree: Box<Tree<'s>>,
     at: usize,
 ) -> Result<Turn<'s>, Stop>
     ensures { Turns tokens.now frames.new.items result
-        (gone_on (stack frames.old.items) (plain_tree tree.entry) (drop at (seen tokens.now))) }
+        (gone_on (stack frames.old.items) (plain_tree tree.entry.value) (drop at (seen tokens.now))) }
 {
     match next_operator(tokens, at) {
         Some((operator, next)) => {
@@ -279,9 +277,9 @@ fn run<'s>(
     tokens: &[Token<'s>],
     frames: &mut Frames<'s>,
     at: usize,
-) -> Result<(Tree<'s>, usize), Stop>
+) -> Result<(Box<Tree<'s>>, usize), Stop>
     requires { AreTokens (token_views tokens.now) }
-    ensures { Reads plain_tree tokens.now result
+    ensures { Reads (λ tree. plain_tree tree.value) tokens.now result
         (run_from (suc (length (drop at (seen tokens.now))))
         (stack frames.old.items, Wants (drop at (seen tokens.now)))) }
 {
@@ -300,14 +298,15 @@ fn run<'s>(
     }
 }
 
-/// A formula.
+/// A formula, in a box.
 pub(crate) fn formula<'s>(
     alloc: Global,
     tokens: &[Token<'s>],
     at: usize,
-) -> Result<(Tree<'s>, usize), Stop>
+) -> Result<(Box<Tree<'s>>, usize), Stop>
     requires { AreTokens (token_views tokens.now) }
-    ensures { Reads plain_tree tokens.now result (formula_at (drop at (seen tokens.now))) }
+    ensures { Reads (λ tree. plain_tree tree.value) tokens.now result
+        (formula_at (drop at (seen tokens.now))) }
 {
     let mut frames = SmallVec::new(alloc);
     run(alloc, tokens, &mut frames, at)

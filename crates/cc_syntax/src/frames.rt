@@ -22,7 +22,7 @@ pub(crate) enum Frame<'s> {
     ForAll(&'s str),
     /// `[\/X |`
     Exists(&'s str),
-    Left(Operator, Tree<'s>),
+    Left(Operator, Box<Tree<'s>>),
 }
 
 /// What is open, the innermost last. Few formulas are nested deeper than fits without an allocation.
@@ -30,18 +30,29 @@ pub(crate) type Frames<'s> = SmallVec<Frame<'s>, 8>;
 
 impl<'s> Frame<'s> {
     /// The frame with its operand.
-    pub(crate) fn filled(self, alloc: Global, tree: Tree<'s>) -> Result<Tree<'s>, AllocError>
-        ensures { IfOk result (λ whole.
-            plain_tree whole ≡ filled (plain_frame self.entry) (plain_tree tree.entry)) }
+    fn whole(self, tree: Box<Tree<'s>>) -> Tree<'s>
+        ensures { plain_tree result
+            ≡ filled (plain_frame self.entry) (plain_tree tree.entry.value) }
     {
-        let (tree, frame) = boxed(alloc, tree, self)?;
-        match frame {
-            Frame::Not => Ok(Tree::Not(tree)),
-            Frame::Paren => Ok(Tree::Paren(tree)),
-            Frame::ForAll(variable) => Ok(Tree::ForAll(variable, tree)),
-            Frame::Exists(variable) => Ok(Tree::Exists(variable, tree)),
-            Frame::Left(operator, left) => operator.joined(alloc, left, tree),
+        match self {
+            Frame::Not => Tree::Not(tree),
+            Frame::Paren => Tree::Paren(tree),
+            Frame::ForAll(variable) => Tree::ForAll(variable, tree),
+            Frame::Exists(variable) => Tree::Exists(variable, tree),
+            Frame::Left(operator, left) => operator.joined(left, tree),
         }
+    }
+
+    /// The frame with its operand, in a box.
+    pub(crate) fn filled(
+        self,
+        alloc: Global,
+        tree: Box<Tree<'s>>,
+    ) -> Result<Box<Tree<'s>>, AllocError>
+        ensures { IfOk result (λ whole.
+            plain_tree whole.value ≡ filled (plain_frame self.entry) (plain_tree tree.entry.value)) }
+    {
+        boxed(alloc, self.whole(tree))
     }
 
     /// Whether its operand ends before an operator whose left operand has at most the strength.
@@ -80,11 +91,12 @@ fn pop_ending<'s>(frames: &mut Frames<'s>, bound: u8) -> Option<Frame<'s>>
 pub(crate) fn close<'s>(
     alloc: Global,
     frames: &mut Frames<'s>,
-    tree: Tree<'s>,
+    tree: Box<Tree<'s>>,
     bound: u8,
-) -> Result<Tree<'s>, AllocError>
-    ensures { IfOk result (λ whole. closed bound (stack frames.old.items) (plain_tree tree.entry)
-        ≡ (stack frames.new.items, plain_tree whole)) }
+) -> Result<Box<Tree<'s>>, AllocError>
+    ensures { IfOk result (λ whole.
+        closed bound (stack frames.old.items) (plain_tree tree.entry.value)
+        ≡ (stack frames.new.items, plain_tree whole.value)) }
 {
     let mut whole = tree;
     while let Some(frame) = pop_ending(frames, bound) {

@@ -47,35 +47,25 @@ impl Operator {
     }
 
     /// The formula that it makes of its operands.
-    pub(crate) fn joined<'s>(
-        self,
-        alloc: Global,
-        left: Tree<'s>,
-        right: Box<Tree<'s>>,
-    ) -> Result<Tree<'s>, AllocError>
-        ensures { IfOk result (λ whole.
-            plain_tree whole ≡ joined self (plain_tree left.entry) (plain_tree right.entry.value)) }
+    pub(crate) fn joined<'s>(self, left: Box<Tree<'s>>, right: Box<Tree<'s>>) -> Tree<'s>
+        ensures { plain_tree result
+            ≡ joined self (plain_tree left.entry.value) (plain_tree right.entry.value) }
     {
-        let (left, right) = boxed(alloc, left, right)?;
-        Ok(match self {
+        match self {
             Operator::Both => Tree::Both(left, right),
             Operator::Either => Tree::Either(left, right),
             Operator::Implies => Tree::Implies(left, right),
             Operator::Same => Tree::Same(left, right),
-        })
+        }
     }
 }
 
-/// A formula in a box, while something else is kept: of any type, so that its drop is one call.
-pub(crate) fn boxed<'s, K: Drop>(
-    alloc: Global,
-    tree: Tree<'s>,
-    kept: K,
-) -> Result<(Box<Tree<'s>>, K), AllocError>
-    ensures { IfOk result (λ made. (made.0.value ≡ tree.entry) × (made.1 ≡ kept)) }
+/// Something in a box. It is of any type, so that its drop is one call.
+pub(crate) fn boxed<T: Drop>(alloc: Global, made: T) -> Result<Box<T>, AllocError>
+    ensures { IfOk result (λ place. place.value ≡ made) }
 {
-    let tree = Box::new(alloc, tree)?;
-    Ok((tree, kept))
+    let place = Box::new(alloc, made)?;
+    Ok(place)
 }
 
 /// The operator at the place, and the place behind it.

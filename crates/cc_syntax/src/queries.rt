@@ -10,6 +10,7 @@ ghost use Rattle.cc_syntax.specs.Views.{seen, Reads};
 ghost use Rattle.cc_text.specs.Views.{token_views};
 
 use crate::formulas::formula;
+use crate::reading::{put_boxed, put_last};
 use crate::stop::Stop;
 use crate::tokens::{label, numeral, sign, word};
 use cc_defs::{At, List, Mark, QueryItem, Token, Tree};
@@ -30,7 +31,7 @@ fn formulas<'s>(
     let mut next = at;
     for _ in at..tokens.len() {
         let (item, after) = formula(alloc, tokens, next)?;
-        formulas.push(item)?;
+        put_boxed(&mut formulas, item)?;
         match sign(tokens, after, Mark::Comma) {
             Ok(behind) => next = behind,
             Err(_) => return Ok((formulas, after)),
@@ -163,7 +164,7 @@ pub(crate) fn query_items<'s>(
     let mut next = at;
     for _ in at..tokens.len() {
         let (item, after) = query_item(alloc, tokens, next)?;
-        items.push(item)?;
+        put_last(&mut items, item)?;
         match sign(tokens, after, Mark::Semicolon) {
             Ok(behind) => next = behind,
             Err(_) => return Ok((items, after)),

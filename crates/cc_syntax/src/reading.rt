@@ -1,9 +1,11 @@
 //! What is made of what was read.
 ghost use Rattle.std.specs.Prelude.{◌≡◌, ◌++◌, ◌∷◌, [], Ok, Err, IsOk, IfOk, OnOk};
 ghost use Rattle.std.specs.Result.{MatchResult};
+ghost use Rattle.cc_syntax.specs.declared.stop.Stop.TheVariants as stops;
 
 use crate::stop::Stop;
 use cc_defs::OutOfMemory;
+use std::alloc::Global;
 
 /// What is made of a value that was read, with the place behind it.
 pub(crate) fn made<T: Drop, U: Drop, F: FnOnce(T) -> U>(
@@ -20,6 +22,36 @@ pub(crate) fn made<T: Drop, U: Drop, F: FnOnce(T) -> U>(
     }
 }
 
+/// What was read, in a box, with the place behind it. It is of any type, so that its drop is one call.
+pub(crate) fn boxed_read<T: Drop>(
+    alloc: Global,
+    read: Result<(T, usize), Stop>,
+) -> Result<(Box<T>, usize), Stop>
+    ensures { MatchResult read (λ r. MatchResult result
+        (λ w. (w.0.value ≡ r.0) × (w.1 ≡ r.1)) (λ stop. stop ≡ stops.OutOfMemory))
+        (λ stop. result ≡ Err stop) }
+{
+    let (value, next) = read?;
+    let place = Box::new(alloc, value)?;
+    Ok((place, next))
+}
+
+/// What is made of a value that was read, in a box, with the place behind it.
+pub(crate) fn made_boxed<T: Drop, U: Drop, F: FnOnce(T) -> U>(
+    alloc: Global,
+    read: Result<(T, usize), Stop>,
+    make: F,
+) -> Result<(Box<U>, usize), Stop>
+    requires { F.IsAlwaysCallable make }
+    ensures { MatchResult read (λ r. MatchResult result
+        (λ w. F.post make r.0 w.0.value × (w.1 ≡ r.1)) (λ stop. stop ≡ stops.OutOfMemory))
+        (λ stop. result ≡ Err stop) }
+{
+    let (value, next) = read?;
+    let place = Box::new(alloc, make(value))?;
+    Ok((place, next))
+}
+
 /// A value, and the place behind it.
 pub(crate) fn placed<T: Drop>(value: T, next: usize) -> Result<(T, usize), Stop>
     ensures { result ≡ Ok (value, next) }
@@ -33,4 +65,11 @@ pub(crate) fn put_last<X: Drop>(list: &mut Vec<X>, item: X) -> Result<(), OutOfM
 {
     list.push(item)?;
     Ok(())
+}
+
+/// The same of an item in a box.
+pub(crate) fn put_boxed<X: Drop>(list: &mut Vec<X>, item: Box<X>) -> Result<(), OutOfMemory>
+    ensures { OnOk result (list.new.items ≡ list.old.items ++ item.value ∷ []) }
+{
+    put_last(list, Box::into_inner(item))
 }

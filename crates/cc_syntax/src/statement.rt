@@ -18,7 +18,7 @@ ghost use Rattle.cc_text.specs.Views.{token_views};
 use crate::causal_laws::tested_law;
 use crate::declarations::{const_items, list_items, obj_items, sort_items};
 use crate::queries::query_items;
-use crate::reading::made;
+use crate::reading::made_boxed;
 use crate::stop::Stop;
 use crate::tokens::{quoted, sign, token_at, word};
 use cc_defs::{
@@ -74,33 +74,37 @@ fn include<'s>(tokens: &[Token<'s>], at: usize) -> Result<(&'s str, usize), Stop
 
 /// What a directive says, behind its `:-`.
 #[tactic(auto, unfolding(crate::specs::Parsing::directive_at))]
-fn directive<'s>(alloc: Global, tokens: &[Token<'s>], at: usize) -> Result<(Part<'s>, usize), Stop>
+fn directive<'s>(
+    alloc: Global,
+    tokens: &[Token<'s>],
+    at: usize,
+) -> Result<(Box<Part<'s>>, usize), Stop>
     requires { AreTokens (token_views tokens.now) }
-    ensures { Reads plain_part tokens.now result (directive_at (drop at (seen tokens.now))) }
+    ensures { Reads (λ part. plain_part part.value) tokens.now result (directive_at (drop at (seen tokens.now))) }
 {
     if let Ok(next) = word(tokens, at, "sorts") {
-        return made(sort_items(alloc, tokens, next), sorts_part);
+        return made_boxed(alloc, sort_items(alloc, tokens, next), sorts_part);
     }
     if let Ok(next) = word(tokens, at, "objects") {
-        return made(obj_items(alloc, tokens, next), objects_part);
+        return made_boxed(alloc, obj_items(alloc, tokens, next), objects_part);
     }
     if let Ok(next) = word(tokens, at, "variables") {
-        return made(list_items(alloc, tokens, next), variables_part);
+        return made_boxed(alloc, list_items(alloc, tokens, next), variables_part);
     }
     if let Ok(next) = word(tokens, at, "constants") {
-        return made(const_items(alloc, tokens, next), constants_part);
+        return made_boxed(alloc, const_items(alloc, tokens, next), constants_part);
     }
     if let Ok(next) = word(tokens, at, "query") {
-        return made(query_items(alloc, tokens, next), query_part);
+        return made_boxed(alloc, query_items(alloc, tokens, next), query_part);
     }
-    made(include(tokens, at), Part::Include)
+    made_boxed(alloc, include(tokens, at), Part::Include)
 }
 
 /// What a statement says, before its dot.
 #[tactic(auto, unfolding(crate::specs::Parsing::part_at))]
-fn part<'s>(alloc: Global, tokens: &[Token<'s>], at: usize) -> Result<(Part<'s>, usize), Stop>
+fn part<'s>(alloc: Global, tokens: &[Token<'s>], at: usize) -> Result<(Box<Part<'s>>, usize), Stop>
     requires { AreTokens (token_views tokens.now) }
-    ensures { Reads plain_part tokens.now result (part_at (drop at (seen tokens.now))) }
+    ensures { Reads (λ part. plain_part part.value) tokens.now result (part_at (drop at (seen tokens.now))) }
 {
     if let Ok(next) = sign(tokens, at, Mark::Turn) {
         return directive(alloc, tokens, next);
@@ -120,9 +124,10 @@ fn ends(tokens: &[Token], at: usize) -> bool
 }
 
 /// What a whole statement says.
-fn whole<'s>(alloc: Global, tokens: &[Token<'s>]) -> Result<Part<'s>, Stop>
+fn whole<'s>(alloc: Global, tokens: &[Token<'s>]) -> Result<Box<Part<'s>>, Stop>
     requires { AreTokens (token_views tokens.now) }
-    ensures read { IfOk result (λ part. statement_at (seen tokens.now) ≡ Some (plain_part part)) }
+    ensures read { IfOk result (λ part.
+        statement_at (seen tokens.now) ≡ Some (plain_part part.value)) }
     ensures none { result ≡ Err stops.NoTree → statement_at (seen tokens.now) ≡ None }
 {
     let (part, next) = part(alloc, tokens, 0)?;
@@ -189,7 +194,10 @@ pub fn parse<'s>(alloc: Global, file: u32, tokens: &[Token<'s>]) -> Result<State
     }
     let line = tokens[0].line;
     match whole(alloc, tokens) {
-        Ok(part) => Ok(Statement { part, line }),
+        Ok(part) => Ok(Statement {
+            part: Box::into_inner(part),
+            line,
+        }),
         Err(Stop::NoTree) => Err(refusal(3, file, tokens)),
         Err(Stop::OutOfMemory) => Err(Fault::OutOfMemory),
     }
