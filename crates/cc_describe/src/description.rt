@@ -106,7 +106,11 @@ pub fn describe<D: Desk>(
         LimitAt::IncludeDepth.number(),
     ) {
         Ok(()) => finish(alloc, progress),
-        Err(halt) => Err(stop_of(alloc, &progress.names, halt)),
+        Err(halt) => {
+            let stop = stop_of(alloc, &progress.names, halt);
+            drop(progress);
+            Err(stop)
+        }
     }
 }
 
@@ -137,6 +141,27 @@ fn stop_of(alloc: Global, names: &[Name], halt: Halt) -> DescribeStop
     }
 }
 
+/// What was read, with its signature.
+fn said_by(progress: Progress, sig: Sig) -> Described
+    ensures { result ≡ record {
+      table = progress.table;
+      sig = sig;
+      laws = progress.laws.items;
+      wide = progress.wide.items;
+      queries = progress.queries.items;
+      files = progress.names.items;
+    } }
+{
+    Described {
+        table: progress.table,
+        sig,
+        laws: List::of(progress.laws),
+        wide: List::of(progress.wide),
+        queries: List::of(progress.queries),
+        files: List::of(progress.names),
+    }
+}
+
 /// What all statements say together.
 fn finish(alloc: Global, progress: Progress) -> Result<Described, DescribeStop>
     ensures described { (which : Which) (places : Items Place) →
@@ -146,16 +171,12 @@ fn finish(alloc: Global, progress: Progress) -> Result<Described, DescribeStop>
         IsProgress which progress places → IfErr result (IsRefusedWhole places) }
     ensures no_read_fault { IfErr result (λ stop. stop ≢ DescribeStop.ReadFault) }
 {
-    let sig = match progress.table.signature(alloc) {
-        Ok(sig) => sig,
-        Err(fault) => return Err(stop_of(alloc, &progress.names, Halt::from(fault))),
-    };
-    Ok(Described {
-        table: progress.table,
-        sig,
-        laws: List::of(progress.laws),
-        wide: List::of(progress.wide),
-        queries: List::of(progress.queries),
-        files: List::of(progress.names),
-    })
+    match progress.table.signature(alloc) {
+        Ok(sig) => Ok(said_by(progress, sig)),
+        Err(fault) => {
+            let stop = stop_of(alloc, &progress.names, Halt::from(fault));
+            drop(progress);
+            Err(stop)
+        }
+    }
 }

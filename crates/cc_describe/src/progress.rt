@@ -77,6 +77,14 @@ fn gives_taken_label(labels: &Labels, items: &[QueryItem<'_>]) -> bool
     items.iter().any(|item| has_taken_label(labels, item))
 }
 
+/// Puts an item behind the others of a list. It is of any type, so that its drop is one call.
+fn put_last<X: Drop>(list: &mut Vec<X>, item: X) -> Result<(), OutOfMemory>
+    ensures { OnOk result (list.new.items ≡ list.old.items ++ item ∷ []) }
+{
+    list.push(item)?;
+    Ok(())
+}
+
 impl Progress {
     /// Nothing was read.
     pub(crate) fn new(alloc: Global, heads: Heads) -> Result<Progress, OutOfMemory>
@@ -162,6 +170,18 @@ impl Progress {
         self.expand(alloc, file, statement)
     }
 
+    /// Keeps a label, if there is one and it is not kept.
+    fn label(&mut self, alloc: Global, label: &Option<Name>) -> Result<(), OutOfMemory>
+        ensures labelled { IfSome label.now (λ label. is_among self.old.labels label ≡ false) →
+            OnOk result (self.new.labels ≡ self.old.labels ++ optional label.now) }
+        ensures rest { self.new ≡ record self.old { labels = self.new.labels } }
+    {
+        match label {
+            Some(label) => self.labels.add(alloc, label.text()),
+            None => Ok(()),
+        }
+    }
+
     /// Keeps a query, and its label if that is not there.
     fn keep(&mut self, alloc: Global, query: Query) -> Result<(), OutOfMemory>
         ensures kept { OnOk result (map plain_query self.new.queries.items
@@ -171,11 +191,13 @@ impl Progress {
         ensures rest { self.new
             ≡ record self.old { queries = self.new.queries; labels = self.new.labels } }
     {
-        if let Some(label) = &query.label {
-            self.labels.add(alloc, label.text())?;
+        match self.label(alloc, &query.label) {
+            Ok(()) => put_last(&mut self.queries, query),
+            Err(OutOfMemory) => {
+                drop(query);
+                Err(OutOfMemory)
+            }
         }
-        self.queries.push(query)?;
-        Ok(())
     }
 
     /// Takes up a query.

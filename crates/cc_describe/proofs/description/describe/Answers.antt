@@ -22,12 +22,12 @@ returns-in-Ok-read_file-clause-refused g c =
 
 pub returns-in-Err-read_file-clause-refused : goal.returns-in-Err-read_file-clause-refused
 returns-in-Err-read_file-clause-refused g c =
-    is_refused c.number.result (g.D.Desk.seen c.args.desk.now).told c.args.name.now c.deref.result.now c.in-Ok.progress c.read_file.new.progress c.in-Err-read_file.halt c.stop_of.result
-    c.number.ensures c.in-Ok.ensures.begun c.in-Ok.ensures.outside c.in-Err-read_file.ensures.gone c.in-Err-read_file.ensures.there c.deref.ensures.value c.stop_of.ensures
+    is_refused c.number.result (g.D.Desk.seen c.args.desk.now).told c.args.name.now c.deref.result.now c.in-Ok.progress c.read_file.new.progress c.in-Err-read_file.halt c.stop_of-stop.result
+    c.number.ensures c.in-Ok.ensures.begun c.in-Ok.ensures.outside c.in-Err-read_file.ensures.gone c.in-Err-read_file.ensures.there c.deref.ensures.value c.stop_of-stop.ensures
 
 pub returns-in-Err-read_file-clause-failed : goal.returns-in-Err-read_file-clause-failed
 returns-in-Err-read_file-clause-failed g c is =
-    c.in-Err-read_file.ensures.failed (ap Err (fault_told c.deref.result.now c.in-Err-read_file.halt c.stop_of.result c.stop_of.ensures is))
+    c.in-Err-read_file.ensures.failed (ap Err (fault_told c.deref.result.now c.in-Err-read_file.halt c.stop_of-stop.result c.stop_of-stop.ensures is))
 
 pub returns-in-Ok-read_file-clause-whole : goal.returns-in-Ok-read_file-clause-whole
 returns-in-Ok-read_file-clause-whole g c =
@@ -54,7 +54,7 @@ returns-in-Ok-read_file-clause-formulas g c =
 
 pub returns-in-Err-read_file-clause-stopped : goal.returns-in-Err-read_file-clause-stopped
 returns-in-Err-read_file-clause-stopped g c =
-    of_some c.args.heads c.deref.result.now c.read_file.new.progress c.in-Err-read_file.halt c.stop_of.result (c.in-Err-read_file.ensures.kept _ [] c.in-Ok.ensures.begun) c.deref.ensures.value c.stop_of.ensures
+    of_some c.args.heads c.deref.result.now c.read_file.new.progress c.in-Err-read_file.halt c.stop_of-stop.result (c.in-Err-read_file.ensures.kept _ [] c.in-Ok.ensures.begun) c.deref.ensures.value c.stop_of-stop.ensures
 
 pub returns-in-Err-clause-calls : goal.returns-in-Err-clause-calls
 returns-in-Err-clause-calls g c =
@@ -68,13 +68,13 @@ returns-in-Ok-read_file-clause-calls g c =
 
 pub returns-in-Err-read_file-clause-calls : goal.returns-in-Err-read_file-clause-calls
 returns-in-Err-read_file-clause-calls g c =
-    as_called c.args.heads (g.D.Desk.seen c.args.desk.now).told c.args.name.now (Err c.stop_of.result) c.in-Ok.ensures.begun.names c.in-Err-read_file.ensures.calls
-    (opens_stopped c.number.result (g.D.Desk.seen c.args.desk.now).told c.args.name.now c.deref.result.now c.in-Ok.progress c.read_file.new.progress c.in-Err-read_file.halt c.stop_of.result
-    c.number.ensures c.in-Ok.ensures.begun c.in-Ok.ensures.outside c.in-Err-read_file.ensures.gone c.stop_of.ensures)
+    as_called c.args.heads (g.D.Desk.seen c.args.desk.now).told c.args.name.now (Err c.stop_of-stop.result) c.in-Ok.ensures.begun.names c.in-Err-read_file.ensures.calls
+    (opens_stopped c.number.result (g.D.Desk.seen c.args.desk.now).told c.args.name.now c.deref.result.now c.in-Ok.progress c.read_file.new.progress c.in-Err-read_file.halt c.stop_of-stop.result
+    c.number.ensures c.in-Ok.ensures.begun c.in-Ok.ensures.outside c.in-Err-read_file.ensures.gone c.stop_of-stop.ensures)
 
 pub returns-in-Ok-read_file-clause-calm : goal.returns-in-Ok-read_file-clause-calm
 returns-in-Ok-read_file-clause-calm g c other = c.in-Ok-read_file.ensures.calm (λ fault. absurd cc)
 
 pub returns-in-Err-read_file-clause-calm : goal.returns-in-Err-read_file-clause-calm
 returns-in-Err-read_file-clause-calm g c other =
-    c.in-Err-read_file.ensures.calm (λ fault. other (fault_comes c.deref.result.now c.in-Err-read_file.halt c.stop_of.result c.stop_of.ensures fault))
+    c.in-Err-read_file.ensures.calm (λ fault. other (fault_comes c.deref.result.now c.in-Err-read_file.halt c.stop_of-stop.result c.stop_of-stop.ensures fault))

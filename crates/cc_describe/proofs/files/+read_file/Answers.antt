@@ -3,11 +3,11 @@ use Rattle.std.specs.Option.{option_copied}
 use Rattle.cc_ports.specs.Contents.{with_rest}
 use Rattle.cc_text.specs.Views.{token_views, cut_at}
 use Rattle.cc_describe.specs.declared.heads.Heads.{Heads}
-use Rattle.cc_describe.specs.Places.{AreThere, Place}
+use Rattle.cc_describe.specs.Places.{AreThere, Opened, Place, content}
 use Rattle.cc_describe.specs.ProgressViews.{IsProgress, halt_of}
 use Rattle.cc_describe.proofs.CallsKept.{keeps_as, keeps_more}
 use Rattle.cc_describe.proofs.SomePlaces.{Gone, barred_goes, opened_goes, opening_goes, refused_goes, said_goes, then_goes}
-use Rattle.cc_describe.proofs.Walk.{AreInside, Midway, done_no_fault, later_are_tokens, up_to, progress_left, opening_stops, text_stops, told_as, no_fault, finds, finds_as, has_read, taken_as, refused_as, touched_again, tells_still, midway_begins, midway_goes, midway_ends, midway_stops, statement_refused, statement_alone, statement_reads, statement_ends}
+use Rattle.cc_describe.proofs.Walk.{AreInside, Midway, done_no_fault, later_are_tokens, progress_left, opening_stops, text_stops, told_as, no_fault, finds, finds_as, has_read, taken_as, refused_as, touched_again, tells_still, midway_begins, midway_goes, midway_ends, midway_stops, statement_refused, statement_alone, statement_reads, statement_ends}
 use Rattle.cc_describe.proofs.files.+read_file.Goals.{in-Some+then-deep-gt0+in_ok-read_file-in-Some, in-Some+else-deep-gt0, in-None}
 use Rattle.cc_describe.proofs.files.+read_file.Goals as goal
 
@@ -47,7 +47,7 @@ returns-in_err-included-clause-gone g t c contents which before told was =
     let around = c.args.progress.now.around.items ++ name ∷ [] in
     let statements = cut_at 0 c.tokens.inside.ends.items (token_views c.tokens.inside.tokens.items) in
     let tokens = slice_index_or statements c.loop-i.i [] in
-    let mid = up_to m in
+    let mid = (before ++ Opened name (content contents.files name) ∷ []) ++ m.done in
     let within : c.loop-i.i < length statements = omega (arith, c.count-i-end.ensures, ap length c.tokens.view_is) in
     told_as which _ before c.from_residual-in_err-included.result _ _ c.from_residual-in_err-included.ensures.1
     (midway_stops c.cut_or_stop.ensures c.statements_are_tokens.ensures c.tree_or_refusal.ensures c.args.progress.now.around.items c.take.new.self _ within (has_read _ _ _ _ _ c.items.ensures opened.0 c.tokens.view_is c.in-Ok.ensures.read) m
@@ -79,7 +79,7 @@ returns-in_err-read_file-in-Some-clause-gone g t c contents which before told wa
     let around = c.args.progress.now.around.items ++ name ∷ [] in
     let statements = cut_at 0 c.tokens.inside.ends.items (token_views c.tokens.inside.tokens.items) in
     let tokens = slice_index_or statements c.loop-i.i [] in
-    let mid = up_to m in
+    let mid = (before ++ Opened name (content contents.files name) ∷ []) ++ m.done in
     let within : c.loop-i.i < length statements = omega (arith, c.count-i-end.ensures, ap length c.tokens.view_is) in
     let after = c.loop-i.invariant.told in
     told_as which _ before c.from_residual-in_err-read_file-in-Some.result _ _ c.from_residual-in_err-read_file-in-Some.ensures.1
@@ -112,7 +112,7 @@ loop-i-preserved g t c =
             around = ap (λ p. p.around.items) w.progress-is ∙ read.around ∙ taken_around;
             gone = λ contents which before told was.
                 let m = c.loop-i.invariant.gone contents which before told was in
-                let mid = up_to m in
+                let mid = (before ++ Opened name (content contents.files name) ∷ []) ++ m.done in
                 subst (Midway which c.args.deep contents.files before name file around statements (c.loop-i.i + 1)) (sym w.progress-is)
                 (midway_goes w.read_file.new.progress tt within m
                 (statement_reads c.args.deep contents.files around _ file mid tokens w.in-Some.included.now (Ok tt) c.take.new.self w.read_file.new.progress
@@ -140,7 +140,7 @@ loop-i-preserved g t c =
             around = ap (λ p. p.around.items) w.progress-is ∙ taken_around;
             gone = λ contents which before told was.
                 let m = c.loop-i.invariant.gone contents which before told was in
-                let mid = up_to m in
+                let mid = (before ++ Opened name (content contents.files name) ∷ []) ++ m.done in
                 subst (Midway which c.args.deep contents.files before name file around statements (c.loop-i.i + 1)) (sym w.progress-is)
                 (midway_goes c.take.new.self tt within m
                 (statement_ends c.args.deep contents.files around file mid tokens w.in-Some.included.now tt c.take.new.self (omega arith)
@@ -163,7 +163,7 @@ loop-i-preserved g t c =
             around = ap (λ p. p.around.items) w.progress-is ∙ taken_around;
             gone = λ contents which before told was.
                 let m = c.loop-i.invariant.gone contents which before told was in
-                let mid = up_to m in
+                let mid = (before ++ Opened name (content contents.files name) ∷ []) ++ m.done in
                 subst (Midway which c.args.deep contents.files before name file around statements (c.loop-i.i + 1)) (sym w.progress-is)
                 (midway_goes c.take.new.self tt within m
                 (statement_alone (AreInside c.args.deep contents.files around) around file mid tokens tt c.take.new.self
