@@ -52,7 +52,11 @@ fn tell_next<D: Desk>(
     ensures same { IsSame general.old general.new }
 {
     match general.next() {
-        Ok(event) => tell_general(alloc, desk, &described.table, &described.sig, &event),
+        Ok(event) => {
+            let told = tell_general(alloc, desk, &described.table, &described.sig, &event);
+            drop(event);
+            told
+        }
         Err(Fault::Refused(refusal)) => tell_limit(alloc, desk, &refusal),
         Err(Fault::OutOfMemory) => Err(Stop::OutOfMemory),
     }
@@ -76,9 +80,16 @@ fn tell_all<D: Desk>(
         (D.seen desk.old) (D.seen desk.new) result }
 {
     loop {
-        match tell_next(alloc, desk, described, &mut general)? {
-            Some(status) => return Ok(status),
-            None => {}
+        match tell_next(alloc, desk, described, &mut general) {
+            Ok(Some(status)) => {
+                drop(general);
+                return Ok(status);
+            }
+            Ok(None) => {}
+            Err(stop) => {
+                drop(general);
+                return Err(stop);
+            }
         }
     }
 }
@@ -110,8 +121,13 @@ fn tell_run<D: Desk>(
         count,
         budget,
     );
-    give(desk, To::Log, b"ccalc general 1\n")?;
-    tell_all(alloc, desk, described, general)
+    match give(desk, To::Log, b"ccalc general 1\n") {
+        Ok(()) => tell_all(alloc, desk, described, general),
+        Err(stop) => {
+            drop(general);
+            Err(stop)
+        }
+    }
 }
 
 /// Begins the log where one is named, and tells all events of a run.

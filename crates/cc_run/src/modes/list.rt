@@ -52,16 +52,23 @@ pub(crate) fn list<D: Desk>(
         })) → Prints words
         (is_some listing.log) [] (D.seen desk.old) (D.seen desk.new) result }
 {
-    begin_log(desk, asked.log)?;
-    let Prepared { laws, query, key } = prepared;
-    let ask = Ask {
-        count: asked.count,
-        budget: asked.budget,
-        after: key,
-    };
-    let teller = Teller::OneByOne {
-        version: asked.form,
-        own: 1,
-    };
-    search(alloc, desk, described, &laws, query, ask, teller)
+    match begin_log(desk, asked.log) {
+        Ok(()) => {
+            let Prepared { laws, query, key } = prepared;
+            let ask = Ask {
+                count: asked.count,
+                budget: asked.budget,
+                after: key,
+            };
+            let teller = Teller::OneByOne {
+                version: asked.form,
+                own: 1,
+            };
+            search(alloc, desk, described, &laws, query, ask, teller)
+        }
+        Err(stop) => {
+            drop(prepared);
+            Err(stop)
+        }
+    }
 }

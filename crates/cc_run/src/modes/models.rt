@@ -70,9 +70,16 @@ fn tell_finds<D: Desk>(
         (D.seen desk.old) (D.seen desk.new) result }
 {
     loop {
-        match tell_find(alloc, desk, &mut lister, &mut search)? {
-            Some(status) => return Ok(status),
-            None => {}
+        match tell_find(alloc, desk, &mut lister, &mut search) {
+            Ok(Some(status)) => {
+                drop(search);
+                return Ok(status);
+            }
+            Ok(None) => {}
+            Err(stop) => {
+                drop(search);
+                return Err(stop);
+            }
         }
     }
 }
@@ -92,13 +99,20 @@ fn tell_section<D: Desk>(
         TellsListing axioms version count budget nothing (D.seen desk.old) (D.seen desk.new)
         result }
 {
-    give_heading(alloc, desk, version)?;
-    let lister = Lister {
-        version,
-        own: search.axioms() + 1,
-        listed: 0,
-    };
-    tell_finds(alloc, desk, lister, search)
+    match give_heading(alloc, desk, version) {
+        Ok(()) => {
+            let lister = Lister {
+                version,
+                own: search.axioms() + 1,
+                listed: 0,
+            };
+            tell_finds(alloc, desk, lister, search)
+        }
+        Err(stop) => {
+            drop(search);
+            Err(stop)
+        }
+    }
 }
 
 /// Begins the log where one is named, and lists the models.
@@ -118,8 +132,13 @@ fn list_models<D: Desk>(
         Prints words (is_some modelling.log) [] (D.seen desk.old) (D.seen desk.new) result }
 {
     let search = Search::of(alloc, form, asked.count, asked.budget)?;
-    begin_log(desk, asked.log)?;
-    tell_section(alloc, desk, asked.form, search)
+    match begin_log(desk, asked.log) {
+        Ok(()) => tell_section(alloc, desk, asked.form, search),
+        Err(stop) => {
+            drop(search);
+            Err(stop)
+        }
+    }
 }
 
 /// Reads the CNF, begins the log where one is named, and lists the models.

@@ -54,14 +54,18 @@ fn tell_next<D: Desk>(
 {
     positions_have_sizes();
     match sure.next() {
-        Ok(event) => tell_sure(
-            alloc,
-            desk,
-            &described.table,
-            &described.sig,
-            sure.horizon(),
-            &event,
-        ),
+        Ok(event) => {
+            let told = tell_sure(
+                alloc,
+                desk,
+                &described.table,
+                &described.sig,
+                sure.horizon(),
+                &event,
+            );
+            drop(event);
+            told
+        }
         Err(Fault::Refused(refusal)) => tell_limit(alloc, desk, &refusal),
         Err(Fault::OutOfMemory) => Err(Stop::OutOfMemory),
     }
@@ -84,9 +88,16 @@ fn tell_all<D: Desk>(
         result }
 {
     loop {
-        match tell_next(alloc, desk, described, &mut sure)? {
-            Some(status) => return Ok(status),
-            None => {}
+        match tell_next(alloc, desk, described, &mut sure) {
+            Ok(Some(status)) => {
+                drop(sure);
+                return Ok(status);
+            }
+            Ok(None) => {}
+            Err(stop) => {
+                drop(sure);
+                return Err(stop);
+            }
         }
     }
 }
@@ -116,8 +127,13 @@ fn tell_run<D: Desk>(
         &prepared.query,
         budget,
     );
-    give(desk, To::Log, b"ccalc sure 1\n")?;
-    tell_all(alloc, desk, described, sure)
+    match give(desk, To::Log, b"ccalc sure 1\n") {
+        Ok(()) => tell_all(alloc, desk, described, sure),
+        Err(stop) => {
+            drop(sure);
+            Err(stop)
+        }
+    }
 }
 
 /// Begins the log where one is named, and tells all events of a run.

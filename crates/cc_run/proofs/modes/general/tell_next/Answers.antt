@@ -5,18 +5,18 @@ use Rattle.cc_run.proofs.GeneralFinds.{event_told, goes_next, limit_told, memory
 use Rattle.cc_wide.specs.WideLaws.{frame}
 use Rattle.cc_run.proofs.modes.general.tell_next.Goals as goal
 
-pub tell_general-requires-clause-writable : goal.tell_general-requires-clause-writable
-tell_general-requires-clause-writable g c = subst (λ s. IsWritable s c.in-Ok.event) (sym c.requires.same) c.in-Ok.ensures.writable
+pub tell_general-told-requires-clause-writable : goal.tell_general-told-requires-clause-writable
+tell_general-told-requires-clause-writable g c = subst (λ s. IsWritable s c.in-Ok.event) (sym c.requires.same) c.in-Ok.ensures.writable
 
 pub returns-in-Ok-clause-tells : goal.returns-in-Ok-clause-tells
 returns-in-Ok-clause-tells g c = λ w q run is general stands.
-    event_told w q run c.args.general.now c.next.new.self stands c.in-Ok.event _ _ c.tell_general.result (c.in-Ok.ensures.tells w q run general stands) c.next.ensures.same
+    event_told w q run c.args.general.now c.next.new.self stands c.in-Ok.event _ _ c.tell_general-told.result (c.in-Ok.ensures.tells w q run general stands) c.next.ensures.same
     c.in-Ok.ensures.writable (c.in-Ok.ensures.good w q general)
-    (c.tell_general.ensures.told (frame w) (framed_names c.args.described.now w is)) c.tell_general.ensures.status
+    (c.tell_general-told.ensures.told (frame w) (framed_names c.args.described.now w is)) c.tell_general-told.ensures.status
 
 pub returns-in-Ok-clause-next : goal.returns-in-Ok-clause-next
 returns-in-Ok-clause-next g c =
-    goes_next c.args.general.now c.next.new.self c.in-Ok.event c.tell_general.result c.in-Ok.ensures.goes c.in-Ok.ensures.less c.tell_general.ensures.status
+    goes_next c.args.general.now c.next.new.self c.in-Ok.event c.tell_general-told.result c.in-Ok.ensures.goes c.in-Ok.ensures.less c.tell_general-told.ensures.status
 
 pub returns-in-Err-Refused-clause-tells : goal.returns-in-Err-Refused-clause-tells
 returns-in-Err-Refused-clause-tells g c = λ w q run is general stands.

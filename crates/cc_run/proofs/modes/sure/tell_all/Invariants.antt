@@ -2,11 +2,11 @@ use Rattle.cc_run.proofs.SureFinds.{IsTelling}
 use Rattle.cc_sure.specs.Sures.{left_of}
 use Rattle.cc_run.proofs.modes.sure.tell_all.Given as goal
 
-abbrev pub invariant-loop-sure : goal.invariant-loop-sure
-invariant-loop-sure g l =
+abbrev pub invariant-loop-status : goal.invariant-loop-status
+invariant-loop-status g l =
     let desk = g.D.Desk in
     IsTelling l.described l.initial.sure l.sure
     (desk.seen l.initial.desk) (desk.seen l.desk)
 
-abbrev pub decreases-loop-sure : goal.decreases-loop-sure
-decreases-loop-sure g l = left_of l.sure
+abbrev pub decreases-loop-status : goal.decreases-loop-status
+decreases-loop-status g l = left_of l.sure

@@ -6,8 +6,8 @@ use Rattle.cc_run.proofs.SureFinds.{event_told, goes_next, limit_told, memory_to
 use Rattle.cc_run.proofs.SureTexts.{event_printable}
 use Rattle.cc_run.proofs.modes.sure.tell_next.Goals as goal
 
-pub tell_sure-requires-clause-printable : goal.tell_sure-requires-clause-printable
-tell_sure-requires-clause-printable g c =
+pub tell_sure-told-requires-clause-printable : goal.tell_sure-told-requires-clause-printable
+tell_sure-told-requires-clause-printable g c =
     let (d, q, run, is, sure, stands) = c.requires.of in
     let (after, told, event, all, next) = c.in-Ok.ensures.tells d q run sure stands in
     event_printable c.positions_have_sizes.ensures d q c.next.new.self.budget c.args.described.now.sig (signature_of c.args.described.now d is) _ after _ c.in-Ok.event told next.fair
@@ -15,12 +15,12 @@ tell_sure-requires-clause-printable g c =
 
 pub returns-in-Ok-clause-tells : goal.returns-in-Ok-clause-tells
 returns-in-Ok-clause-tells g c = λ d q run is sure stands.
-    event_told d q run c.args.sure.now c.next.new.self c.requires.more stands c.in-Ok.event c.horizon.result _ _ c.tell_sure.result (c.in-Ok.ensures.tells d q run sure stands)
-    c.next.ensures.same c.in-Ok.ensures.goes c.in-Ok.ensures.short c.in-Ok.ensures.few (c.in-Ok.ensures.good d q sure) c.horizon.ensures (c.tell_sure.ensures.told d (names_of c.args.described.now d is)) c.tell_sure.ensures.status
+    event_told d q run c.args.sure.now c.next.new.self c.requires.more stands c.in-Ok.event c.horizon.result _ _ c.tell_sure-told.result (c.in-Ok.ensures.tells d q run sure stands)
+    c.next.ensures.same c.in-Ok.ensures.goes c.in-Ok.ensures.short c.in-Ok.ensures.few (c.in-Ok.ensures.good d q sure) c.horizon.ensures (c.tell_sure-told.ensures.told d (names_of c.args.described.now d is)) c.tell_sure-told.ensures.status
 
 pub returns-in-Ok-clause-next : goal.returns-in-Ok-clause-next
 returns-in-Ok-clause-next g c =
-    goes_next c.args.sure.now c.next.new.self c.in-Ok.event c.tell_sure.result c.in-Ok.ensures.goes c.in-Ok.ensures.less c.tell_sure.ensures.status
+    goes_next c.args.sure.now c.next.new.self c.in-Ok.event c.tell_sure-told.result c.in-Ok.ensures.goes c.in-Ok.ensures.less c.tell_sure-told.ensures.status
 
 pub returns-in-Err-Refused-clause-tells : goal.returns-in-Err-Refused-clause-tells
 returns-in-Err-Refused-clause-tells g c = λ d q run is sure stands.
