@@ -178,7 +178,11 @@ pub(crate) fn general<D: Desk>(
     let arena = Bump::new(alloc);
     let terms = Terms::new(&arena);
     match prepare_wide(alloc, described, asked.query, &terms) {
-        Ok(prepared) => list_generally(alloc, desk, described, asked, &prepared),
+        Ok(prepared) => {
+            let told = list_generally(alloc, desk, described, asked, &prepared);
+            drop(prepared);
+            told
+        }
         Err(Fault::Refused(refusal)) => {
             let file = file_named(described.files.items(), &refusal);
             refuse(alloc, desk, &refusal, file)

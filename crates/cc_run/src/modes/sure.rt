@@ -182,7 +182,11 @@ pub(crate) fn sure<D: Desk>(
     let arena = Bump::new(alloc);
     let terms = Terms::new(&arena);
     match prepare_unclaimed(alloc, described, asked.query, &terms) {
-        Ok(prepared) => be_sure(alloc, desk, described, asked, &prepared),
+        Ok(prepared) => {
+            let told = be_sure(alloc, desk, described, asked, &prepared);
+            drop(prepared);
+            told
+        }
         Err(Fault::Refused(refusal)) => {
             let file = file_named(described.files.items(), &refusal);
             refuse(alloc, desk, &refusal, file)

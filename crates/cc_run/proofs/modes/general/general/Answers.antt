@@ -14,8 +14,8 @@ prepare_wide-requires-clause-of g c =
     let says = c.requires.says in
     (wide_in says.0, wide_description_is says.0 c.args.described.now says.2)
 
-pub list_generally-requires-clause-of : goal.list_generally-requires-clause-of
-list_generally-requires-clause-of g c =
+pub list_generally-told-requires-clause-of : goal.list_generally-told-requires-clause-of
+list_generally-told-requires-clause-of g c =
     let says = c.requires.says in
     let is = wide_description_is says.0 c.args.described.now says.2 in
     let named = c.in-Ok.ensures.named (wide_in says.0) is in
@@ -28,7 +28,7 @@ returns-in-Ok g c = λ words generally asked same describes.
     (describes_as _ (ToListGenerally by) (ToListGenerally generally) c.args.described.now same describes) in
     let is = wide_description_is of.places c.args.described.now of.said in
     let named = c.in-Ok.ensures.named (wide_in of.places) is in
-    c.list_generally.ensures words generally (wide_in of.places) named.0 asked same is named.1
+    c.list_generally-told.ensures words generally (wide_in of.places) named.0 asked same is named.1
     (named_as _ c.args.asked.now generally (generally_is c.args.asked.now generally same) (wide_in of.places) named.0
     (names_wide _ (named_generally by) c.args.described.now of named.0 named.2))
 

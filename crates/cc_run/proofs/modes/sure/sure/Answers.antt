@@ -15,8 +15,8 @@ prepare_unclaimed-requires-clause-of g c =
     let says = c.requires.says in
     (description_in says.0, description_is says.0 c.args.described.now says.2)
 
-pub be_sure-requires-clause-of : goal.be_sure-requires-clause-of
-be_sure-requires-clause-of g c =
+pub be_sure-told-requires-clause-of : goal.be_sure-told-requires-clause-of
+be_sure-told-requires-clause-of g c =
     let says = c.requires.says in
     let is = description_is says.0 c.args.described.now says.2 in
     let named = c.in-Ok.ensures.named (description_in says.0) is in
@@ -28,7 +28,7 @@ returns-in-Ok g c = λ words surely asked same describes.
     let of = is_read heads.Definite _ (λ files. files) by.file c.args.described.now c.requires.says (describes_as _ (ToBeSure by) (ToBeSure surely) c.args.described.now same describes) in
     let is = description_is of.places c.args.described.now of.said in
     let named = c.in-Ok.ensures.named (description_in of.places) is in
-    c.be_sure.ensures words surely (description_in of.places) named.0 asked same is named.1
+    c.be_sure-told.ensures words surely (description_in of.places) named.0 asked same is named.1
     (named_as _ c.args.asked.now surely (surely_is c.args.asked.now surely same) (description_in of.places) named.0
     (names_unclaimed _ (named_surely by) c.args.described.now of named.0 named.2))
 
