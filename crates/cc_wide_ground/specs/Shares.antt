@@ -1,14 +1,9 @@
 -- The base law by which a share of a law is grounded: of its parts the frame, and of its head the law that has it as its `if` part.
-use Rattle.std.specs.Prelude.{Option}
-use Rattle.cc_defs.specs.Resolved.{BaseLaw, Formula, Head, Law}
+use Rattle.cc_defs.specs.Resolved.{BaseLaw, Law}
 use Rattle.cc_wide.specs.WideLaws.{WideBase, WideLaw, frame_base, frame_law}
 use Rattle.cc_wide_ground.specs.declared.bases.Share.{Share}
 use Rattle.cc_wide_ground.specs.declared.bases.Share.TheVariants as shares
 use Rattle.cc_wide_ground.specs.WideGrounding.{head_base, head_law}
-
--- a law with the same ranges, test, kind and place
-abbrev pub law_of_parts : WideLaw → Head → Formula → Option Formula → Law
-law_of_parts law head body after = record (frame_law law) { head = head; body = body; after = after }
 
 abbrev pub law_by : Share → WideLaw → Law
 law_by shares.Parts law = frame_law law
