@@ -18,7 +18,7 @@ use cc_trail::Trail;
 use std::alloc::Global;
 
 /// After so many lines all decisions are taken back, then after twice, three times as many, and so on.
-const RUN: u32 = 70;
+const RUN: u32 = 56;
 
 /// After so many lines it is seen whether they are wide.
 const TRIAL: u32 = 50;
