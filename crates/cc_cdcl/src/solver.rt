@@ -129,12 +129,12 @@ impl Parts {
         ensures { IfOk result (λ parts.
             parts ≡ record { sizes = sizes.now; kernel = kernel; standing = Ready }) }
     {
-        let trail = Trail::new(alloc, &kernel)?;
         let count = kernel.variables() as usize + 1;
-        let cursors = vec![in alloc; Cursor::start(); count]?;
-        let shortening = Shortening::new(alloc, kernel.variables())?;
         let own_sizes = Vec::from_slice(alloc, sizes)?;
         let row = vec![in alloc; 0u32; sizes.len()]?;
+        let cursors = vec![in alloc; Cursor::start(); count]?;
+        let shortening = Shortening::new(alloc, kernel.variables())?;
+        let trail = Trail::new(alloc, &kernel)?;
         Ok(Parts {
             sizes: own_sizes,
             kernel,
