@@ -1,5 +1,5 @@
 //! The probe with which a section begins: for as many lines as it has clauses then, what is decided is what had most to do with
-//! the lines before, and not what leads to the least row. Where its first fifty lines have more than three literals to four steps,
+//! the lines before, and not what leads to the least row. Where its first fifty lines have more than two literals to three steps,
 //! it is over with them. The lines that it derives are there when the rows are listed. Nothing is claimed of what it decides but
 //! that it had no value.
 ghost use Rattle.std.specs.Prelude.{◌≡◌, ◌<◌, ◌≤◌, None, IsTrue, IsSome, IfSome, IfNone, length, OnOk};
@@ -283,9 +283,9 @@ impl Probe {
         self.steps = self.steps.saturating_add(steps);
     }
 
-    // Whether the lines have more than three literals to four steps: few are resolved away, so the lines lead nowhere.
+    // Whether the lines have more than two literals to three steps: few are resolved away, so the lines lead nowhere.
     fn is_wide(&self) -> bool {
-        self.literals / 3 > self.steps / 4
+        self.literals / 2 > self.steps / 3
     }
 
     /// Counts a line. The probe is over where there were as many as it was begun for, or where the first ones of its first run are

@@ -31,7 +31,7 @@ use cc_defs::{
 };
 use cc_laws::{expand, expand_wide, question};
 use cc_sorts::Table;
-use cc_syntax::parse;
+use cc_syntax::{discard, parse};
 use cc_wide::WideBase;
 use std::alloc::Global;
 
@@ -309,7 +309,7 @@ impl Progress {
         match parse(alloc, file, tokens) {
             Ok(statement) => {
                 let taken = self.take_tree(alloc, file, &statement);
-                drop(statement);
+                discard(statement);
                 taken
             }
             Err(fault) => Err(fault),

@@ -17,4 +17,4 @@ mod terms;
 mod tokens;
 mod words;
 
-pub use statement::parse;
+pub use statement::{discard, parse};

@@ -202,3 +202,9 @@ pub fn parse<'s>(alloc: Global, file: u32, tokens: &[Token<'s>]) -> Result<State
         Err(Stop::OutOfMemory) => Err(Fault::OutOfMemory),
     }
 }
+
+/// Lets a statement go. What that takes is proved here once, and not again by each crate that reads statements.
+pub fn discard(statement: Statement<'_>) {
+    let Statement { part, .. } = statement;
+    drop(part);
+}
