@@ -1,6 +1,6 @@
 -- Loops that copy clauses, and that make those of a part of the positions or of the rules.
 use Rattle.std.proofs.Common.{◌≡◌, ◌∙◌, ℕ, zero, suc, ◌+◌, ◌-◌, ◌<◌, ◌≤◌, List, [], ◌∷◌, ◌++◌, length, map, flat_map, take, drop, get_or, slice_get, Some, Result, Ok, Err, OnOk, refl, sym, ap, subst, arith}
-use Rattle.std.proofs.lemmas.List.{map-append}
+use Rattle.std.proofs.lemmas.List.{map-append, take-append-drop}
 use Rattle.cc_defs.specs.ClauseForms.{all_written}
 use Rattle.cc_defs.specs.ClauseLists.{Bodied, completion_from, denials_of, position_completion}
 use Rattle.cc_defs.specs.Clauses.{IsLiteralOver, IsOver, Literal}
@@ -10,7 +10,7 @@ use Rattle.cc_theory.specs.Theories.{plain_head}
 use Rattle.cc_form.specs.declared.store.Kept.{Kept}
 use Rattle.cc_form.specs.Making.{bodied}
 use Rattle.cc_form.specs.Store.{Gives}
-use Rattle.cc_form.proofs.Keeping.{gives_more}
+use Rattle.cc_form.proofs.Keeping.{gives_full, gives_more}
 use Rattle.cc_form.proofs.Spreading.{denials_two, written_two}
 use Rattle.cc_form.proofs.Stepping.{flat_last}
 
@@ -43,6 +43,12 @@ pub copied_more : (old now new : Kept) (f : List Literal → List Literal) (clau
     Gives old now (map f (take i clauses)) → Gives now new (f clause ∷ []) → Gives old new (map f (take (i + 1) clauses))
 copied_more old now new f clauses i clause at one other =
     subst (Gives old new) (sym (ap (map f) (taken_more clauses i clause at) ∙ map-append f (take i clauses) (clause ∷ []))) (gives_more old now new (map f (take i clauses)) (f clause ∷ []) one other)
+
+-- where there are more clauses than their limit already
+pub copied_full : (old now : Kept) (f : List Literal → List Literal) (clauses : List (List Literal)) (i : ℕ) → 8000000 < now.count → Gives old now (map f (take i clauses)) → Gives old now (map f clauses)
+copied_full old now f clauses i full given =
+    subst (Gives old now) (sym (map-append f (take i clauses) (drop i clauses)) ∙ ap (map f) (take-append-drop i clauses))
+    (gives_more old now now (map f (take i clauses)) (map f (drop i clauses)) given (gives_full now (map f (drop i clauses)) full))
 
 -- ---- a part of the positions
 

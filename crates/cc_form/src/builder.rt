@@ -53,8 +53,7 @@ impl Builder {
         ensures refused { IfErr result (IsRefusedBy (axioms_refusal
             (axioms_behind sizes.now (record { last = true_variable sizes.now; clauses = [] })))) }
     {
-        let mut own = Vec::new(alloc);
-        own.extend_from_slice(sizes)?;
+        let own = Vec::from_slice(alloc, sizes)?;
         let mut writer = Writer::new(alloc, own)?;
         write_first(&mut writer)?;
         writer.fits()?;

@@ -7,7 +7,7 @@ ghost use Rattle.cc_defs.specs.Clauses.{Literal};
 ghost use Rattle.cc_defs.specs.Description.{domain_sizes};
 ghost use Rattle.cc_defs.specs.Limits.{most_variables};
 ghost use Rattle.cc_defs.specs.Signatures.{ground_constants};
-ghost use Rattle.cc_theory.specs.Making.{all_initial, stride_of};
+ghost use Rattle.cc_theory.specs.Making.{all_initial, rules_for, stride_of};
 ghost use Rattle.cc_theory.specs.Theories.{AreLawsFor, plain_head, sizes_of_step};
 ghost use Rattle.cc_form.specs.Making.{IsBodyOver, bodied, made_bodies};
 ghost use Rattle.cc_form.specs.Places.{position_sizes};
@@ -252,6 +252,35 @@ fn completed(
     taken(alloc, writer)
 }
 
+/// The completion of all three steps of a theory.
+fn complete_steps(
+    alloc: Global,
+    writer: &mut Writer,
+    sig: &Sig,
+    laws: &Laws<'_>,
+    theory: &Theory<'_>,
+    literals: &[Lit],
+) -> Result<ThreeComplete, Fault>
+    requires signature { theory.now.signature ≡ sig.now }
+    requires horizon { theory.now.horizon ≡ 2 }
+    requires rules { theory.now.rules ≡ rules_for sig.now laws.now 2 }
+    requires places { writer.old.places ≡ position_sizes sig.now 2 }
+    requires literals { literals.now
+        ≡ map (λ rule. rule.body) (bodies_at sig.now laws.now 2).rules }
+    requires none { Holds writer.old.store.kept [] }
+    ensures first { IfOk result (λ three. three.first ≡ completion_of_step sig.now laws.now 2 0) }
+    ensures later { IfOk result (λ three. three.later ≡ completion_of_step sig.now laws.now 2 1) }
+    ensures last { IfOk result (λ three. three.last ≡ completion_of_step sig.now laws.now 2 2) }
+    ensures ends { OnOk result (writer.new.last ≡ writer.old.last) }
+{
+    let stride = sig.fluents() as usize + sig.actions() as usize;
+    let end = writer.places.sizes().len();
+    let first = completed(alloc, writer, theory, literals, 0, stride)?;
+    let later = completed(alloc, writer, theory, literals, stride, 2 * stride)?;
+    let last = completed(alloc, writer, theory, literals, 2 * stride, end)?;
+    Ok(ThreeComplete { first, later, last })
+}
+
 /// The completion of all three steps.
 fn three_complete(
     alloc: Global,
@@ -271,12 +300,7 @@ fn three_complete(
     ensures ends { OnOk result (writer.new.last ≡ writer.old.last) }
 {
     let theory = Theory::at(alloc, sig, laws, 2)?;
-    let stride = sig.fluents() as usize + sig.actions() as usize;
-    let end = writer.places.sizes().len();
-    let first = completed(alloc, writer, &theory, literals, 0, stride)?;
-    let later = completed(alloc, writer, &theory, literals, stride, 2 * stride)?;
-    let last = completed(alloc, writer, &theory, literals, 2 * stride, end)?;
-    Ok(ThreeComplete { first, later, last })
+    complete_steps(alloc, writer, sig, laws, &theory, literals)
 }
 
 /// The clauses of a step, put together.
@@ -292,18 +316,32 @@ fn step_of(ruled: RuledStep, completion: ClauseArena) -> Step
     }
 }
 
-/// The clauses of the steps of a horizon of two, where it passes no limit.
-pub(crate) fn steps_of(alloc: Global, sig: &Sig, laws: &Laws<'_>) -> Result<Steps, Fault>
-    requires { AreLawsFor sig.now laws.now }
+/// The clauses of the steps of a horizon of two, by a writer over its positions, where a step has so many values.
+fn steps_by(
+    alloc: Global,
+    writer: &mut Writer,
+    sig: &Sig,
+    laws: &Laws<'_>,
+    values: u32,
+) -> Result<Steps, Fault>
+    requires laws { AreLawsFor sig.now laws.now }
+    requires places { writer.old.places ≡ position_sizes sig.now 2 }
+    requires last { writer.old.last ≡ truth_at sig.now 2 }
+    requires within { writer.old.last ≤ most_variables }
+    requires none { Holds writer.old.store.kept [] }
+    requires values { values ≡ sum (domain_sizes (ground_constants sig.now)) }
     ensures { IfOk result (AreSteps sig.now laws.now) }
 {
-    let sizes = sizes_of(alloc, sig, 2)?;
-    let values = value_count_of(alloc, sig)?;
-    let mut writer = Writer::new(alloc, sizes)?;
     let atoms = writer.last - 1;
     let mut literals = Vec::new(alloc);
-    let ruled = three_ruled(alloc, &mut writer, sig, laws, &mut literals)?;
-    let completion = three_complete(alloc, &mut writer, sig, laws, &literals)?;
+    let ruled = three_ruled(alloc, writer, sig, laws, &mut literals)?;
+    let completion = match three_complete(alloc, writer, sig, laws, &literals) {
+        Ok(completion) => completion,
+        Err(fault) => {
+            drop(ruled);
+            return Err(fault);
+        }
+    };
     let ends = writer.last;
     let ThreeRuled {
         first,
@@ -320,4 +358,15 @@ pub(crate) fn steps_of(alloc: Global, sig: &Sig, laws: &Laws<'_>) -> Result<Step
         own,
         ends,
     })
+}
+
+/// The clauses of the steps of a horizon of two, where it passes no limit.
+pub(crate) fn steps_of(alloc: Global, sig: &Sig, laws: &Laws<'_>) -> Result<Steps, Fault>
+    requires { AreLawsFor sig.now laws.now }
+    ensures { IfOk result (AreSteps sig.now laws.now) }
+{
+    let values = value_count_of(alloc, sig)?;
+    let sizes = sizes_of(alloc, sig, 2)?;
+    let mut writer = Writer::new(alloc, sizes)?;
+    steps_by(alloc, &mut writer, sig, laws, values)
 }

@@ -18,6 +18,7 @@ use cc_defs::{Fault, Key, OutOfMemory, Sig};
 use cc_form::{Form, Template};
 use std::alloc::Global;
 use std::marker::Model;
+use std::mem::replace;
 
 /// What the clause lists of sections are made of: a signature, its laws, and the template of both once a section with a
 /// horizon of two steps or more opens.
@@ -58,7 +59,8 @@ impl<'a> Lists<'a> {
         ensures { self.new ≡ self.old }
     {
         if horizon >= 2 && self.template.is_none() {
-            self.template = Some(Template::new(alloc, self.sig, self.laws)?);
+            let template = Template::new(alloc, self.sig, self.laws)?;
+            drop(replace(&mut self.template, Some(template)));
         }
         Ok(())
     }

@@ -12,7 +12,7 @@ pub returns-in_err-fits-clause-refused : goal.returns-in_err-fits-clause-refused
 returns-in_err-fits-clause-refused c =
     let old = c.in_ok-writer.writer in
     let at = c.in_ok-writer.ensures.places in
-    let same : old.places ≡ c.args.sizes.now = at ∙ c.in_ok-extend_from_slice.ensures.items ∙ ap (λ (l : List ℕ). l ++ c.args.sizes.now) c.new-own.ensures.items in
+    let same : old.places ≡ c.args.sizes.now = at ∙ c.in_ok-own.ensures.items in
     let within : true_variable old.places ≤ 4000000 = subst (λ (p : List ℕ). true_variable p ≤ 4000000) (sym at) c.in_ok-writer.ensures.within in
     let begun : IsDraft old.places c.write_first.new.writer (record { last = true_variable old.places; clauses = [] }) =
     begun_form old c.write_first.new.writer (c.in_ok-writer.ensures.last ∙ ap true_variable (sym at)) within c.in_ok-writer.ensures.clauses c.write_first.ensures.places c.write_first.ensures.last c.in_ok-write_first.ensures.clauses in
