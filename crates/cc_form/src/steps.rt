@@ -7,7 +7,7 @@ ghost use Rattle.cc_defs.specs.Clauses.{Literal};
 ghost use Rattle.cc_defs.specs.Description.{domain_sizes};
 ghost use Rattle.cc_defs.specs.Limits.{most_variables};
 ghost use Rattle.cc_defs.specs.Signatures.{ground_constants};
-ghost use Rattle.cc_theory.specs.Making.{all_initial, rules_for, stride_of};
+ghost use Rattle.cc_theory.specs.Making.{all_initial, stride_of};
 ghost use Rattle.cc_theory.specs.Theories.{AreLawsFor, plain_head, sizes_of_step};
 ghost use Rattle.cc_form.specs.Making.{IsBodyOver, bodied, made_bodies};
 ghost use Rattle.cc_form.specs.Places.{position_sizes};
@@ -252,35 +252,6 @@ fn completed(
     taken(alloc, writer)
 }
 
-/// The completion of all three steps of a theory.
-fn complete_steps(
-    alloc: Global,
-    writer: &mut Writer,
-    sig: &Sig,
-    laws: &Laws<'_>,
-    theory: &Theory<'_>,
-    literals: &[Lit],
-) -> Result<ThreeComplete, Fault>
-    requires signature { theory.now.signature ≡ sig.now }
-    requires horizon { theory.now.horizon ≡ 2 }
-    requires rules { theory.now.rules ≡ rules_for sig.now laws.now 2 }
-    requires places { writer.old.places ≡ position_sizes sig.now 2 }
-    requires literals { literals.now
-        ≡ map (λ rule. rule.body) (bodies_at sig.now laws.now 2).rules }
-    requires none { Holds writer.old.store.kept [] }
-    ensures first { IfOk result (λ three. three.first ≡ completion_of_step sig.now laws.now 2 0) }
-    ensures later { IfOk result (λ three. three.later ≡ completion_of_step sig.now laws.now 2 1) }
-    ensures last { IfOk result (λ three. three.last ≡ completion_of_step sig.now laws.now 2 2) }
-    ensures ends { OnOk result (writer.new.last ≡ writer.old.last) }
-{
-    let stride = sig.fluents() as usize + sig.actions() as usize;
-    let end = writer.places.sizes().len();
-    let first = completed(alloc, writer, theory, literals, 0, stride)?;
-    let later = completed(alloc, writer, theory, literals, stride, 2 * stride)?;
-    let last = completed(alloc, writer, theory, literals, 2 * stride, end)?;
-    Ok(ThreeComplete { first, later, last })
-}
-
 /// The completion of all three steps.
 fn three_complete(
     alloc: Global,
@@ -300,7 +271,12 @@ fn three_complete(
     ensures ends { OnOk result (writer.new.last ≡ writer.old.last) }
 {
     let theory = Theory::at(alloc, sig, laws, 2)?;
-    complete_steps(alloc, writer, sig, laws, &theory, literals)
+    let stride = sig.fluents() as usize + sig.actions() as usize;
+    let end = writer.places.sizes().len();
+    let first = completed(alloc, writer, &theory, literals, 0, stride)?;
+    let later = completed(alloc, writer, &theory, literals, stride, 2 * stride)?;
+    let last = completed(alloc, writer, &theory, literals, 2 * stride, end)?;
+    Ok(ThreeComplete { first, later, last })
 }
 
 /// The clauses of a step, put together.
