@@ -6,7 +6,7 @@ use cc_defs::{
     Addend, At, ConstItem, Fault, KindTree, KindWord, LawTree, List, ListItem, Member, ObjItem,
     OutOfMemory, Part, Piece, QueryItem, Shape, SortItem, Statement, SumTree, TermTree, Tree,
 };
-use cc_syntax::parse;
+use cc_syntax::{discard, parse};
 use cc_text::Tokens;
 use std::alloc::Global;
 use std::fmt::Write;
@@ -388,7 +388,7 @@ fn show_numbered(
     match parse(alloc, 0, tokens.statement(number)) {
         Ok(statement) => {
             let shown = show_whole(alloc, out, &statement);
-            drop(statement);
+            discard(statement);
             shown.map(|()| true)
         }
         Err(Fault::Refused(_)) => Ok(false),
