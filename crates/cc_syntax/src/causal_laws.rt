@@ -315,8 +315,7 @@ fn law_part<'s>(read: (Box<LawTree<'s>>, Box<Option<Tree<'s>>>)) -> Part<'s>
         ≡ trees.Law (plain_law read.entry.0.value) (option_map plain_tree read.entry.1.value) }
 {
     let (law, test) = read;
-    let test = Box::into_inner(test);
-    Part::Law(Box::into_inner(law), test)
+    Part::Law(Box::into_inner(law), Box::into_inner(test))
 }
 
 /// A law with its test.

@@ -176,43 +176,6 @@ fn too_long(limit: LimitAt, file: u32, tokens: &[Token]) -> Fault
     Fault::Refused(Refusal::past_at(limit, file, tokens[0].line))
 }
 
-/// The part of a statement and the line of its first token, or why it is refused: `parse`. The part is in a box while there
-/// may be a refusal instead.
-fn part_and_line<'s>(
-    alloc: Global,
-    file: u32,
-    tokens: &[Token<'s>],
-) -> Result<(Box<Part<'s>>, u32), Fault>
-    requires some { 0 < length tokens.now }
-    requires are { AreTokens (token_views tokens.now) }
-    ensures parsed { IfOk result (λ read. IsParsed (token_views tokens.now)
-        (record { part = plain_part read.0.value; line = read.1 })) }
-    ensures refused { IfErr result (HasRefused file (token_views tokens.now)) }
-{
-    let limit = token_limit(tokens);
-    if tokens.len() > limit.number() as usize {
-        return Err(too_long(limit, file, tokens));
-    }
-    let line = tokens[0].line;
-    match whole(alloc, tokens) {
-        Ok(part) => Ok((part, line)),
-        Err(Stop::NoTree) => Err(refusal(3, file, tokens)),
-        Err(Stop::OutOfMemory) => Err(Fault::OutOfMemory),
-    }
-}
-
-/// The statement with the part and the line.
-fn statement<'s>(read: (Box<Part<'s>>, u32)) -> Statement<'s>
-    ensures { plain_statement result
-        ≡ record { part = plain_part read.entry.0.value; line = read.entry.1 } }
-{
-    let (part, line) = read;
-    Statement {
-        part: Box::into_inner(part),
-        line,
-    }
-}
-
 /// The one tree that spells the tokens of a statement, its dot among them; its names are slices of the source. Refuses, at
 /// the statement's first line and in this order, what has too many tokens (14, with the limit declaration tokens or
 /// statement tokens), and what no tree spells (3). `file` is the number of the file in refusals.
@@ -225,5 +188,17 @@ pub fn parse<'s>(alloc: Global, file: u32, tokens: &[Token<'s>]) -> Result<State
         Spells other (token_views tokens.now) → IfOk result (λ tree. plain_statement tree ≡ other) }
     ensures refused { IfErr result (HasRefused file (token_views tokens.now)) }
 {
-    part_and_line(alloc, file, tokens).map(statement)
+    let limit = token_limit(tokens);
+    if tokens.len() > limit.number() as usize {
+        return Err(too_long(limit, file, tokens));
+    }
+    let line = tokens[0].line;
+    match whole(alloc, tokens) {
+        Ok(part) => Ok(Statement {
+            part: Box::into_inner(part),
+            line,
+        }),
+        Err(Stop::NoTree) => Err(refusal(3, file, tokens)),
+        Err(Stop::OutOfMemory) => Err(Fault::OutOfMemory),
+    }
 }
