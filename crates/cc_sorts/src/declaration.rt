@@ -1,5 +1,5 @@
 //! The single declarations of a statement.
-ghost use Rattle.std.specs.Prelude.{◌≡◌, ℕ, IfOk, OnOk, map, flat_map, ◌++◌, ◌∷◌, []};
+ghost use Rattle.std.specs.Prelude.{◌≡◌, ℕ, OnOk, map, flat_map, ◌++◌, ◌∷◌, []};
 ghost use Rattle.cc_defs.specs.Declarations.{declarations_of, chain_behind, sort_declarations, member_declarations, object_declarations, variable_declarations, constant_declarations, Sort, Link, Subsort, Object, Variable, Constant};
 ghost use Rattle.cc_defs.specs.Trees.{plain_statement, plain_sort_item, plain_member, plain_obj_item, plain_list_item, plain_const_item, plain_shape, plain_kind, Chain};
 ghost use Rattle.cc_sorts.specs.Declaring.{plain_declarations};
@@ -9,7 +9,6 @@ use cc_defs::{
     ConstItem, KindTree, List, ListItem, Member, ObjItem, OutOfMemory, Part, Shape, SortItem,
     Statement,
 };
-use std::alloc::Global;
 
 /// One declaration, in the order of the text. The kind of constants stands behind their shapes.
 #[derive(Clone, Copy)]
@@ -30,20 +29,8 @@ pub(crate) enum Declaration<'t, 's> {
     Kinds(&'t List<Shape<'s>>, &'t KindTree<'s>),
 }
 
-/// The declarations of a statement, in the order of its text; none of a query, an include or a law.
-pub(crate) fn declarations<'t, 's>(
-    alloc: Global,
-    statement: &'t Statement<'s>,
-) -> Result<Vec<Declaration<'t, 's>>, OutOfMemory>
-    ensures { (file : ℕ) → IfOk result (λ found. plain_declarations file
-        statement.now.line found.items ≡ declarations_of file (plain_statement statement.now)) }
-{
-    let mut found = Vec::new(alloc);
-    add_declarations(&mut found, statement)?;
-    Ok(found)
-}
-
-fn add_declarations<'t, 's>(
+/// Adds the declarations of a statement, in the order of its text; none of a query, an include or a law.
+pub(crate) fn add_declarations<'t, 's>(
     found: &mut Vec<Declaration<'t, 's>>,
     statement: &'t Statement<'s>,
 ) -> Result<(), OutOfMemory>

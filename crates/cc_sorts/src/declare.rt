@@ -10,7 +10,7 @@ ghost use Rattle.cc_sorts.specs.Entered.{IsEntered, Enters, IsRefusedFor};
 ghost use Rattle.cc_sorts.specs.Steps.{IsFrontOf, behind_all, put_sort as sort_put, put_pair as pair_put, put_object as object_put, put_variable as variable_put, put_symbol as symbol_put, new_put, new_object, placed_in, action_in, judged_refusal};
 ghost use Rattle.cc_sorts.specs.Tables.{symbol_names};
 
-use crate::declaration::{Declaration, declarations};
+use crate::declaration::{Declaration, add_declarations};
 use crate::fault::least_fault;
 use crate::register::Register;
 use crate::shown::{add_pair, add_put, add_sort};
@@ -431,12 +431,17 @@ impl Register {
         ensures refused { (left : Items Declared) → IsEntered self.old left → IfErr result
             (IsRefusedFor file left (plain_statement statement.now) self.old self.new) }
     {
-        let new = match declarations(alloc, statement) {
-            Ok(new) => new,
-            Err(error) => return Err(Fault::from(error)),
-        };
-        let declared = self.declare_all(alloc, file, statement.line, &new);
-        drop(new);
-        declared
+        let mut new = Vec::new(alloc);
+        match add_declarations(&mut new, statement) {
+            Ok(()) => {
+                let declared = self.declare_all(alloc, file, statement.line, &new);
+                drop(new);
+                declared
+            }
+            Err(error) => {
+                drop(new);
+                Err(Fault::from(error))
+            }
+        }
     }
 }

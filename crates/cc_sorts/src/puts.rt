@@ -1,5 +1,5 @@
 //! Adding to lists, sets and maps. Of a failure only the want of memory is told, and not what was to be added.
-ghost use Rattle.std.specs.Prelude.{◌≡◌, ◌<◌, ◌++◌, ◌∷◌, [], true, Some, IsOk, OnOk, OnErr};
+ghost use Rattle.std.specs.Prelude.{◌≡◌, ◌<◌, ◌++◌, ◌∷◌, [], true, Some, Ok, IsOk, IfOk, OnOk, OnErr};
 ghost use Rattle.std.specs.Vec.{vec_len, vec_capacity};
 ghost use Rattle.indexmap.specs.IndexMap.{insert_entry, IsUnchanged, Updates as UpdatesEntry};
 ghost use Rattle.indexmap.specs.IndexSet.{insert_key, spare, Updates as UpdatesKey};
@@ -39,4 +39,24 @@ pub(crate) fn put_entry<K: Eq + Hash + Drop, V: Drop>(
 {
     map.insert(key, value)?;
     Ok(())
+}
+
+/// Two values that were made. They are of any type, so that the drop of the one where the other fails is one call.
+pub(crate) fn both<X: Drop, Y: Drop>(
+    first: Result<X, OutOfMemory>,
+    second: Result<Y, OutOfMemory>,
+) -> Result<(X, Y), OutOfMemory>
+    ensures { IfOk result (λ made. (first ≡ Ok made.0) × (second ≡ Ok made.1)) }
+{
+    let first = first?;
+    let second = second?;
+    Ok((first, second))
+}
+
+/// What was filled, if memory was there for it. It is of any type, so that its drop is one call.
+pub(crate) fn filled<X: Drop>(value: X, filling: Result<(), OutOfMemory>) -> Result<X, OutOfMemory>
+    ensures { IfOk result (λ it. (it ≡ value) × (filling ≡ Ok tt)) }
+{
+    filling?;
+    Ok(value)
 }

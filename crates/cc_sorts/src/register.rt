@@ -13,7 +13,7 @@ ghost use Rattle.cc_sorts.specs.Tables.{first_table, symbol_names};
 
 use crate::dictionary::Dictionary;
 use crate::objects::Objects;
-use crate::puts::put_last;
+use crate::puts::{both, filled, put_last};
 use crate::shown::{has_put_from, is_put_as};
 use crate::sorts::Sorts;
 use crate::table::{Placed, PutAt};
@@ -89,9 +89,11 @@ fn first_objects(alloc: Global) -> Result<Objects, OutOfMemory>
     ensures numbers { IfOk result (λ objects. objects.numbers ≡ first_table.numbers) }
 {
     let mut objects = Objects::new(alloc);
-    objects.push(alloc, "false", 0, None)?;
-    objects.push(alloc, "true", 0, None)?;
-    Ok(objects)
+    let added = match objects.push(alloc, "false", 0, None) {
+        Ok(()) => objects.push(alloc, "true", 0, None),
+        Err(error) => Err(error),
+    };
+    filled(objects, added)
 }
 
 impl Register {
@@ -100,10 +102,9 @@ impl Register {
         ensures first { IfOk result (λ register. register ≡ first_table) }
         ensures nothing { IfOk result (λ register. IsEntered register []) }
     {
-        let sorts = Sorts::new(alloc)?;
         let puts = first_puts(alloc)?;
         let lists = first_lists(alloc)?;
-        let objects = first_objects(alloc)?;
+        let (sorts, objects) = both(Sorts::new(alloc), first_objects(alloc))?;
         Ok(Register {
             sorts,
             puts,

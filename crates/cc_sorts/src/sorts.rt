@@ -13,7 +13,7 @@ ghost use Rattle.cc_sorts.specs.SortViews.{SortsView, no_sorts, first_sorts, nam
 use crate::dictionary::Dictionary;
 use crate::lists::{Moves, make_room, put_lists, unite_each};
 use crate::numbers::has;
-use crate::puts::{put_key, put_last};
+use crate::puts::{filled, put_key, put_last};
 use cc_defs::OutOfMemory;
 use indexmap::IndexSet;
 use std::alloc::Global;
@@ -114,8 +114,8 @@ impl Sorts {
         ensures { IfOk result (λ sorts. sorts ≡ first_sorts) }
     {
         let mut sorts = Sorts::empty(alloc);
-        sorts.add_boolean(alloc)?;
-        Ok(sorts)
+        let added = sorts.add_boolean(alloc);
+        filled(sorts, added)
     }
 
     fn add_boolean(&mut self, alloc: Global) -> Result<(), OutOfMemory>

@@ -14,6 +14,7 @@ ghost use Rattle.cc_syntax.specs.declared.stop.Stop.TheVariants as stops;
 ghost use Rattle.cc_text.specs.Views.{token_views};
 
 use crate::formulas::formula;
+use crate::operators::boxed;
 use crate::reading::{boxed_read, made_boxed, placed};
 use crate::stop::Stop;
 use crate::terms::term;
@@ -304,7 +305,8 @@ fn no_concurrency<'s>(alloc: Global, next: usize) -> Result<(Box<Part<'s>>, usiz
         (λ read. (plain_part read.0.value ≡ trees.Law trees.NoConcurrency None) × (read.1 ≡ next))
         (λ stop. stop ≡ stops.OutOfMemory) }
 {
-    boxed_read(alloc, placed(Part::Law(LawTree::NoConcurrency, None), next))
+    let part = boxed(alloc, Part::Law(LawTree::NoConcurrency, None))?;
+    Ok((part, next))
 }
 
 /// A law and its test.

@@ -1,15 +1,15 @@
 //! Readers of declarations.
-ghost use Rattle.std.specs.Prelude.{◌≡◌, drop, map};
+ghost use Rattle.std.specs.Prelude.{◌≡◌, ℕ, ⊤, List as Items, drop, map};
 ghost use Rattle.std.specs.Option.{option_map};
 ghost use Rattle.cc_defs.specs.declared.token.Mark.TheVariants as marks;
 ghost use Rattle.cc_defs.specs.Tokens.{AreTokens};
-ghost use Rattle.cc_defs.specs.Trees.{plain_shape, plain_sort_item, plain_member, plain_obj_item, plain_list_item, plain_kind, plain_const_item};
+ghost use Rattle.cc_defs.specs.Trees.{PlainShape, PlainSortItem, PlainMember, PlainObjItem, PlainListItem, PlainConstItem, plain_shape, plain_sort_item, plain_member, plain_obj_item, plain_list_item, plain_kind, plain_const_item};
 ghost use Rattle.cc_syntax.specs.Declarations.{names_at, sort_item_at, numbers_at, member_at, obj_item_at, list_item_at, sorts_at, shape_at, kind_word_at, sort_at, attribute_at, kind_at, const_item_at};
 ghost use Rattle.cc_syntax.specs.Readers.{name_at, listed_at};
 ghost use Rattle.cc_syntax.specs.Views.{seen, Reads};
 ghost use Rattle.cc_text.specs.Views.{token_views};
 
-use crate::reading::put_last;
+use crate::items::{Item, listed};
 use crate::stop::Stop;
 use crate::tokens::{name, numeral, sign, word};
 use cc_defs::{
@@ -17,8 +17,22 @@ use cc_defs::{
 };
 use std::alloc::Global;
 
+/// A name.
+impl<'s> Item<'s> for &'s str {
+    ghost Plain = { Items ℕ };
+
+    ghost plain = { λ text. text.now };
+
+    ghost item_at = { name_at };
+
+    ghost IsReadOf = { λ tokens. ⊤ };
+
+    fn read(_: Global, tokens: &[Token<'s>], at: usize) -> Result<(Self, usize), Stop> {
+        name(tokens, at)
+    }
+}
+
 /// Names with the mark between them.
-#[tactic(auto, using(crate::proofs::Lists::listed_steps))]
 pub(crate) fn names<'s>(
     alloc: Global,
     tokens: &[Token<'s>],
@@ -28,36 +42,30 @@ pub(crate) fn names<'s>(
     ensures { Reads (λ names. map (λ text. text.now) names.items) tokens.now result
         (listed_at name_at mark (drop at (seen tokens.now))) }
 {
-    let mut names = Vec::new(alloc);
-    let mut next = at;
-    for _ in at..tokens.len() {
-        let (text, after) = name(tokens, next)?;
-        names.push(text)?;
-        match sign(tokens, after, mark) {
-            Ok(behind) => next = behind,
-            Err(_) => return Ok((names, after)),
-        }
-    }
-    Err(Stop::NoTree)
+    listed(alloc, tokens, at, mark)
 }
 
 /// Sorts beside each other, or each above the next.
-#[tactic(auto, unfolding(crate::specs::Declarations::sort_item_at))]
-pub(crate) fn sort_item<'s>(
-    alloc: Global,
-    tokens: &[Token<'s>],
-    at: usize,
-) -> Result<(SortItem<'s>, usize), Stop>
-    ensures { Reads plain_sort_item tokens.now result (sort_item_at (drop at (seen tokens.now))) }
-{
-    let (first, next) = name(tokens, at)?;
-    if let Ok(behind) = sign(tokens, next, Mark::Above) {
-        let (mut names, next) = names(alloc, tokens, behind, Mark::Above)?;
-        names.insert(0, first)?;
-        return Ok((SortItem::Chain(List::of(names)), next));
+impl<'s> Item<'s> for SortItem<'s> {
+    ghost Plain = { PlainSortItem };
+
+    ghost plain = { plain_sort_item };
+
+    ghost item_at = { sort_item_at };
+
+    ghost IsReadOf = { λ tokens. ⊤ };
+
+    #[tactic(auto, unfolding(crate::specs::Declarations::sort_item_at))]
+    fn read(alloc: Global, tokens: &[Token<'s>], at: usize) -> Result<(Self, usize), Stop> {
+        let (first, next) = name(tokens, at)?;
+        if let Ok(behind) = sign(tokens, next, Mark::Above) {
+            let (mut names, next) = names(alloc, tokens, behind, Mark::Above)?;
+            names.insert(0, first)?;
+            return Ok((SortItem::Chain(List::of(names)), next));
+        }
+        let (names, next) = names(alloc, tokens, at, Mark::Comma)?;
+        Ok((SortItem::Names(List::of(names)), next))
     }
-    let (names, next) = names(alloc, tokens, at, Mark::Comma)?;
-    Ok((SortItem::Names(List::of(names)), next))
 }
 
 /// The numbers from one that was read to another, or that one alone.
@@ -73,23 +81,29 @@ fn numbers<'s>(tokens: &[Token<'s>], at: usize, low: u32) -> Result<(Member<'s>,
 }
 
 /// An object by its name, or numbers.
-#[tactic(auto, unfolding(crate::specs::Declarations::member_at))]
-fn member<'s>(tokens: &[Token<'s>], at: usize) -> Result<(Member<'s>, usize), Stop>
-    requires { AreTokens (token_views tokens.now) }
-    ensures { Reads plain_member tokens.now result (member_at (drop at (seen tokens.now))) }
-{
-    match numeral(tokens, at) {
-        Ok((low, next)) => numbers(tokens, next, low),
-        Err(Stop::NoTree) => {
-            let (text, next) = name(tokens, at)?;
-            Ok((Member::Name(text), next))
+impl<'s> Item<'s> for Member<'s> {
+    ghost Plain = { PlainMember };
+
+    ghost plain = { plain_member };
+
+    ghost item_at = { member_at };
+
+    ghost IsReadOf = { λ tokens. AreTokens (token_views tokens) };
+
+    #[tactic(auto, unfolding(crate::specs::Declarations::member_at))]
+    fn read(_: Global, tokens: &[Token<'s>], at: usize) -> Result<(Self, usize), Stop> {
+        match numeral(tokens, at) {
+            Ok((low, next)) => numbers(tokens, next, low),
+            Err(Stop::NoTree) => {
+                let (text, next) = name(tokens, at)?;
+                Ok((Member::Name(text), next))
+            }
+            Err(Stop::OutOfMemory) => Err(Stop::OutOfMemory),
         }
-        Err(Stop::OutOfMemory) => Err(Stop::OutOfMemory),
     }
 }
 
 /// Members with commas between them.
-#[tactic(auto, using(crate::proofs::Lists::listed_steps))]
 fn members<'s>(
     alloc: Global,
     tokens: &[Token<'s>],
@@ -99,60 +113,57 @@ fn members<'s>(
     ensures { Reads (λ members. map plain_member members.items) tokens.now result
         (listed_at member_at marks.Comma (drop at (seen tokens.now))) }
 {
-    let mut members = Vec::new(alloc);
-    let mut next = at;
-    for _ in at..tokens.len() {
-        let (item, after) = member(tokens, next)?;
-        put_last(&mut members, item)?;
-        match sign(tokens, after, Mark::Comma) {
-            Ok(behind) => next = behind,
-            Err(_) => return Ok((members, after)),
-        }
-    }
-    Err(Stop::NoTree)
+    listed(alloc, tokens, at, Mark::Comma)
 }
 
 /// Objects of a sort.
-#[tactic(auto, unfolding(crate::specs::Declarations::obj_item_at))]
-fn obj_item<'s>(
-    alloc: Global,
-    tokens: &[Token<'s>],
-    at: usize,
-) -> Result<(ObjItem<'s>, usize), Stop>
-    requires { AreTokens (token_views tokens.now) }
-    ensures { Reads plain_obj_item tokens.now result (obj_item_at (drop at (seen tokens.now))) }
-{
-    let (members, next) = members(alloc, tokens, at)?;
-    let next = sign(tokens, next, Mark::DoubleColon)?;
-    let (sort, next) = name(tokens, next)?;
-    Ok((
-        ObjItem {
-            members: List::of(members),
-            sort,
-        },
-        next,
-    ))
+impl<'s> Item<'s> for ObjItem<'s> {
+    ghost Plain = { PlainObjItem };
+
+    ghost plain = { plain_obj_item };
+
+    ghost item_at = { obj_item_at };
+
+    ghost IsReadOf = { λ tokens. AreTokens (token_views tokens) };
+
+    #[tactic(auto, unfolding(crate::specs::Declarations::obj_item_at))]
+    fn read(alloc: Global, tokens: &[Token<'s>], at: usize) -> Result<(Self, usize), Stop> {
+        let (members, next) = members(alloc, tokens, at)?;
+        let next = sign(tokens, next, Mark::DoubleColon)?;
+        let (sort, next) = name(tokens, next)?;
+        Ok((
+            ObjItem {
+                members: List::of(members),
+                sort,
+            },
+            next,
+        ))
+    }
 }
 
 /// Variables of a sort.
-#[tactic(auto, unfolding(crate::specs::Declarations::list_item_at))]
-pub(crate) fn list_item<'s>(
-    alloc: Global,
-    tokens: &[Token<'s>],
-    at: usize,
-) -> Result<(ListItem<'s>, usize), Stop>
-    ensures { Reads plain_list_item tokens.now result (list_item_at (drop at (seen tokens.now))) }
-{
-    let (names, next) = names(alloc, tokens, at, Mark::Comma)?;
-    let next = sign(tokens, next, Mark::DoubleColon)?;
-    let (sort, next) = name(tokens, next)?;
-    Ok((
-        ListItem {
-            names: List::of(names),
-            sort,
-        },
-        next,
-    ))
+impl<'s> Item<'s> for ListItem<'s> {
+    ghost Plain = { PlainListItem };
+
+    ghost plain = { plain_list_item };
+
+    ghost item_at = { list_item_at };
+
+    ghost IsReadOf = { λ tokens. ⊤ };
+
+    #[tactic(auto, unfolding(crate::specs::Declarations::list_item_at))]
+    fn read(alloc: Global, tokens: &[Token<'s>], at: usize) -> Result<(Self, usize), Stop> {
+        let (names, next) = names(alloc, tokens, at, Mark::Comma)?;
+        let next = sign(tokens, next, Mark::DoubleColon)?;
+        let (sort, next) = name(tokens, next)?;
+        Ok((
+            ListItem {
+                names: List::of(names),
+                sort,
+            },
+            next,
+        ))
+    }
 }
 
 /// The sorts of a shape's arguments, none without a bracket.
@@ -169,23 +180,30 @@ fn sorts<'s>(alloc: Global, tokens: &[Token<'s>], at: usize) -> Result<(Vec<&'s 
 }
 
 /// A constant's name and the sorts of its arguments.
-#[tactic(auto, unfolding(crate::specs::Declarations::shape_at))]
-fn shape<'s>(alloc: Global, tokens: &[Token<'s>], at: usize) -> Result<(Shape<'s>, usize), Stop>
-    ensures { Reads plain_shape tokens.now result (shape_at (drop at (seen tokens.now))) }
-{
-    let (name, next) = name(tokens, at)?;
-    let (sorts, next) = sorts(alloc, tokens, next)?;
-    Ok((
-        Shape {
-            name,
-            sorts: List::of(sorts),
-        },
-        next,
-    ))
+impl<'s> Item<'s> for Shape<'s> {
+    ghost Plain = { PlainShape };
+
+    ghost plain = { plain_shape };
+
+    ghost item_at = { shape_at };
+
+    ghost IsReadOf = { λ tokens. ⊤ };
+
+    #[tactic(auto, unfolding(crate::specs::Declarations::shape_at))]
+    fn read(alloc: Global, tokens: &[Token<'s>], at: usize) -> Result<(Self, usize), Stop> {
+        let (name, next) = name(tokens, at)?;
+        let (sorts, next) = sorts(alloc, tokens, next)?;
+        Ok((
+            Shape {
+                name,
+                sorts: List::of(sorts),
+            },
+            next,
+        ))
+    }
 }
 
 /// Shapes with commas between them.
-#[tactic(auto, using(crate::proofs::Lists::listed_steps))]
 fn shapes<'s>(
     alloc: Global,
     tokens: &[Token<'s>],
@@ -194,17 +212,7 @@ fn shapes<'s>(
     ensures { Reads (λ shapes. map plain_shape shapes.items) tokens.now result
         (listed_at shape_at marks.Comma (drop at (seen tokens.now))) }
 {
-    let mut shapes = Vec::new(alloc);
-    let mut next = at;
-    for _ in at..tokens.len() {
-        let (item, after) = shape(alloc, tokens, next)?;
-        put_last(&mut shapes, item)?;
-        match sign(tokens, after, Mark::Comma) {
-            Ok(behind) => next = behind,
-            Err(_) => return Ok((shapes, after)),
-        }
-    }
-    Err(Stop::NoTree)
+    listed(alloc, tokens, at, Mark::Comma)
 }
 
 /// A word for a kind.
@@ -258,7 +266,7 @@ fn attribute<'s>(
     let (sort, next) = name(tokens, next)?;
     let next = sign(tokens, next, Mark::RightParen)?;
     let next = word(tokens, next, "of")?;
-    let (action, next) = shape(alloc, tokens, next)?;
+    let (action, next) = Shape::read(alloc, tokens, next)?;
     Ok((KindTree::Attribute(sort, action), next))
 }
 
@@ -276,28 +284,31 @@ fn kind<'s>(alloc: Global, tokens: &[Token<'s>], at: usize) -> Result<(KindTree<
 }
 
 /// Constants of a kind.
-#[tactic(auto, unfolding(crate::specs::Declarations::const_item_at))]
-pub(crate) fn const_item<'s>(
-    alloc: Global,
-    tokens: &[Token<'s>],
-    at: usize,
-) -> Result<(ConstItem<'s>, usize), Stop>
-    ensures { Reads plain_const_item tokens.now result (const_item_at (drop at (seen tokens.now))) }
-{
-    let (shapes, next) = shapes(alloc, tokens, at)?;
-    let next = sign(tokens, next, Mark::DoubleColon)?;
-    let (kind, next) = kind(alloc, tokens, next)?;
-    Ok((
-        ConstItem {
-            shapes: List::of(shapes),
-            kind,
-        },
-        next,
-    ))
+impl<'s> Item<'s> for ConstItem<'s> {
+    ghost Plain = { PlainConstItem };
+
+    ghost plain = { plain_const_item };
+
+    ghost item_at = { const_item_at };
+
+    ghost IsReadOf = { λ tokens. ⊤ };
+
+    #[tactic(auto, unfolding(crate::specs::Declarations::const_item_at))]
+    fn read(alloc: Global, tokens: &[Token<'s>], at: usize) -> Result<(Self, usize), Stop> {
+        let (shapes, next) = shapes(alloc, tokens, at)?;
+        let next = sign(tokens, next, Mark::DoubleColon)?;
+        let (kind, next) = kind(alloc, tokens, next)?;
+        Ok((
+            ConstItem {
+                shapes: List::of(shapes),
+                kind,
+            },
+            next,
+        ))
+    }
 }
 
 /// Sorts with semicolons between the items.
-#[tactic(auto, using(crate::proofs::Lists::listed_steps))]
 pub(crate) fn sort_items<'s>(
     alloc: Global,
     tokens: &[Token<'s>],
@@ -306,21 +317,10 @@ pub(crate) fn sort_items<'s>(
     ensures { Reads (λ items. map plain_sort_item items.items) tokens.now result
         (listed_at sort_item_at marks.Semicolon (drop at (seen tokens.now))) }
 {
-    let mut items = Vec::new(alloc);
-    let mut next = at;
-    for _ in at..tokens.len() {
-        let (item, after) = sort_item(alloc, tokens, next)?;
-        put_last(&mut items, item)?;
-        match sign(tokens, after, Mark::Semicolon) {
-            Ok(behind) => next = behind,
-            Err(_) => return Ok((items, after)),
-        }
-    }
-    Err(Stop::NoTree)
+    listed(alloc, tokens, at, Mark::Semicolon)
 }
 
 /// Objects with semicolons between the items.
-#[tactic(auto, using(crate::proofs::Lists::listed_steps))]
 pub(crate) fn obj_items<'s>(
     alloc: Global,
     tokens: &[Token<'s>],
@@ -330,21 +330,10 @@ pub(crate) fn obj_items<'s>(
     ensures { Reads (λ items. map plain_obj_item items.items) tokens.now result
         (listed_at obj_item_at marks.Semicolon (drop at (seen tokens.now))) }
 {
-    let mut items = Vec::new(alloc);
-    let mut next = at;
-    for _ in at..tokens.len() {
-        let (item, after) = obj_item(alloc, tokens, next)?;
-        put_last(&mut items, item)?;
-        match sign(tokens, after, Mark::Semicolon) {
-            Ok(behind) => next = behind,
-            Err(_) => return Ok((items, after)),
-        }
-    }
-    Err(Stop::NoTree)
+    listed(alloc, tokens, at, Mark::Semicolon)
 }
 
 /// Variables with semicolons between the items.
-#[tactic(auto, using(crate::proofs::Lists::listed_steps))]
 pub(crate) fn list_items<'s>(
     alloc: Global,
     tokens: &[Token<'s>],
@@ -353,21 +342,10 @@ pub(crate) fn list_items<'s>(
     ensures { Reads (λ items. map plain_list_item items.items) tokens.now result
         (listed_at list_item_at marks.Semicolon (drop at (seen tokens.now))) }
 {
-    let mut items = Vec::new(alloc);
-    let mut next = at;
-    for _ in at..tokens.len() {
-        let (item, after) = list_item(alloc, tokens, next)?;
-        put_last(&mut items, item)?;
-        match sign(tokens, after, Mark::Semicolon) {
-            Ok(behind) => next = behind,
-            Err(_) => return Ok((items, after)),
-        }
-    }
-    Err(Stop::NoTree)
+    listed(alloc, tokens, at, Mark::Semicolon)
 }
 
 /// Constants with semicolons between the items.
-#[tactic(auto, using(crate::proofs::Lists::listed_steps))]
 pub(crate) fn const_items<'s>(
     alloc: Global,
     tokens: &[Token<'s>],
@@ -376,15 +354,5 @@ pub(crate) fn const_items<'s>(
     ensures { Reads (λ items. map plain_const_item items.items) tokens.now result
         (listed_at const_item_at marks.Semicolon (drop at (seen tokens.now))) }
 {
-    let mut items = Vec::new(alloc);
-    let mut next = at;
-    for _ in at..tokens.len() {
-        let (item, after) = const_item(alloc, tokens, next)?;
-        put_last(&mut items, item)?;
-        match sign(tokens, after, Mark::Semicolon) {
-            Ok(behind) => next = behind,
-            Err(_) => return Ok((items, after)),
-        }
-    }
-    Err(Stop::NoTree)
+    listed(alloc, tokens, at, Mark::Semicolon)
 }

@@ -7,6 +7,7 @@ mod causal_laws;
 mod declarations;
 mod formulas;
 mod frames;
+mod items;
 pub mod laws;
 mod operators;
 mod queries;

@@ -2,7 +2,7 @@
 ghost use Rattle.std.specs.Prelude.{◌≡◌, drop, map};
 ghost use Rattle.cc_defs.specs.declared.token.Mark.TheVariants as marks;
 ghost use Rattle.cc_defs.specs.Tokens.{AreTokens};
-ghost use Rattle.cc_defs.specs.Trees.{plain_tree, plain_query_item};
+ghost use Rattle.cc_defs.specs.Trees.{PlainQueryItem, plain_tree, plain_query_item};
 ghost use Rattle.cc_syntax.specs.Formulas.{formula_at};
 ghost use Rattle.cc_syntax.specs.Queries.{condition_at, step_at, stepped_at, range_at, last_at, labelled_at, query_item_at};
 ghost use Rattle.cc_syntax.specs.Readers.{listed_at};
@@ -10,7 +10,8 @@ ghost use Rattle.cc_syntax.specs.Views.{seen, Reads};
 ghost use Rattle.cc_text.specs.Views.{token_views};
 
 use crate::formulas::formula;
-use crate::reading::{put_boxed, put_last};
+use crate::items::{Item, listed};
+use crate::reading::put_boxed;
 use crate::stop::Stop;
 use crate::tokens::{label, numeral, sign, word};
 use cc_defs::{At, List, Mark, QueryItem, Token, Tree};
@@ -127,30 +128,32 @@ fn labelled<'s>(tokens: &[Token<'s>], at: usize) -> Result<(QueryItem<'s>, usize
 }
 
 /// A part of a query.
-#[tactic(auto, unfolding(crate::specs::Queries::query_item_at))]
-fn query_item<'s>(
-    alloc: Global,
-    tokens: &[Token<'s>],
-    at: usize,
-) -> Result<(QueryItem<'s>, usize), Stop>
-    requires { AreTokens (token_views tokens.now) }
-    ensures { Reads plain_query_item tokens.now result (query_item_at (drop at (seen tokens.now))) }
-{
-    if let Ok(next) = word(tokens, at, "label") {
-        return labelled(tokens, next);
+impl<'s> Item<'s> for QueryItem<'s> {
+    ghost Plain = { PlainQueryItem };
+
+    ghost plain = { plain_query_item };
+
+    ghost item_at = { query_item_at };
+
+    ghost IsReadOf = { λ tokens. AreTokens (token_views tokens) };
+
+    #[tactic(auto, unfolding(crate::specs::Queries::query_item_at))]
+    fn read(alloc: Global, tokens: &[Token<'s>], at: usize) -> Result<(Self, usize), Stop> {
+        if let Ok(next) = word(tokens, at, "label") {
+            return labelled(tokens, next);
+        }
+        if let Ok(next) = word(tokens, at, "claim") {
+            let next = sign(tokens, next, Mark::DoubleColon)?;
+            return stepped(alloc, tokens, next, true);
+        }
+        if let Ok(next) = word(tokens, at, "maxstep") {
+            return last(alloc, tokens, next);
+        }
+        stepped(alloc, tokens, at, false)
     }
-    if let Ok(next) = word(tokens, at, "claim") {
-        let next = sign(tokens, next, Mark::DoubleColon)?;
-        return stepped(alloc, tokens, next, true);
-    }
-    if let Ok(next) = word(tokens, at, "maxstep") {
-        return last(alloc, tokens, next);
-    }
-    stepped(alloc, tokens, at, false)
 }
 
 /// The parts of a query, with semicolons between them.
-#[tactic(auto, using(crate::proofs::Lists::listed_steps))]
 pub(crate) fn query_items<'s>(
     alloc: Global,
     tokens: &[Token<'s>],
@@ -160,15 +163,5 @@ pub(crate) fn query_items<'s>(
     ensures { Reads (λ items. map plain_query_item items.items) tokens.now result
         (listed_at query_item_at marks.Semicolon (drop at (seen tokens.now))) }
 {
-    let mut items = Vec::new(alloc);
-    let mut next = at;
-    for _ in at..tokens.len() {
-        let (item, after) = query_item(alloc, tokens, next)?;
-        put_last(&mut items, item)?;
-        match sign(tokens, after, Mark::Semicolon) {
-            Ok(behind) => next = behind,
-            Err(_) => return Ok((items, after)),
-        }
-    }
-    Err(Stop::NoTree)
+    listed(alloc, tokens, at, Mark::Semicolon)
 }

@@ -10,12 +10,7 @@ returns-in-Err-clause-refused c = λ left is.
     subst (IsRefusedFor c.args.file left (plain_statement c.args.statement.now) c.args.self.now c.args.self.now) (sym c.from.ensures)
     (front_none c.args.file left (plain_statement c.args.statement.now) c.args.self.now is)
 
-pub returns-clause-declared : goal.returns-clause-declared
-returns-clause-declared c = λ left is.
-    c.declare_all-declared.ensures.declared left (plain_statement c.args.statement.now).part is
-    (ap (plain_declarations c.args.file c.args.statement.now.line) c.deref.ensures.value ∙ c.in-Ok.ensures c.args.file)
-
-pub returns-clause-refused : goal.returns-clause-refused
-returns-clause-refused c = λ left is.
+pub returns-in-Ok-clause-refused : goal.returns-in-Ok-clause-refused
+returns-in-Ok-clause-refused c = λ left is.
     c.declare_all-declared.ensures.refused left (plain_statement c.args.statement.now).part is
-    (ap (plain_declarations c.args.file c.args.statement.now.line) c.deref.ensures.value ∙ c.in-Ok.ensures c.args.file)
+    (ap (plain_declarations c.args.file c.args.statement.now.line) c.deref.ensures.value ∙ rw (c.new-new.ensures.items) at (c.in-Ok.ensures c.args.file))

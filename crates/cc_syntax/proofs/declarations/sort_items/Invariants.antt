@@ -1,9 +1,0 @@
-use Rattle.std.proofs.Common.{◌-◌}
-use Rattle.cc_defs.specs.declared.token.Mark.TheVariants as marks
-use Rattle.cc_defs.specs.Trees.{plain_sort_item}
-use Rattle.cc_syntax.specs.Declarations.{sort_item_at}
-use Rattle.cc_syntax.proofs.Lists.{IsListedFrom}
-use Rattle.cc_syntax.proofs.declarations.sort_items.Given as goal
-
-abbrev pub invariant-loop : goal.invariant-loop
-invariant-loop l = IsListedFrom plain_sort_item sort_item_at marks.Semicolon l.tokens l.at (l.end - l.counter) l.items.items l.next
