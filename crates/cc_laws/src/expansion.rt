@@ -22,7 +22,7 @@ use crate::made::{boxed, put_made, some_or};
 use crate::meaning::{Meaning, meaning_of};
 use crate::mention::Property;
 use crate::names::{Names, names_of};
-use crate::pieces::{Caused, HeadPiece, Piece, effect, law_of, resolve_piece};
+use crate::pieces::{Caused, HeadPiece, Piece, resolve_piece};
 use crate::resolving::{negated, resolve_term};
 use crate::values::{Frame, Parts, Persistence, base_law, equation_of, value_law};
 use cc_defs::{
@@ -264,23 +264,46 @@ pub(crate) fn short_for<'t, 's>(table: &Table, law: &'t LawTree<'s>) -> Option<C
         ≡ law_short_for (vocabulary_of table.now) (plain_law law.now) }
 {
     match law {
-        LawTree::Caused(f, g, h) => {
-            Some(law_of(HeadPiece::One(f), Piece::Maybe(g), Piece::Maybe(h)))
-        }
-        LawTree::Constraint(f) => {
-            Some(law_of(HeadPiece::Falsity, Piece::Denied(f), Piece::Missing))
-        }
-        LawTree::Always(f) => { Some(law_of(HeadPiece::Falsity, Piece::Missing, Piece::Denied(f))) }
-        LawTree::Nonexecutable(f, g) => {
-            Some(law_of(HeadPiece::Falsity, Piece::Missing, Piece::Both(f, g)))
-        }
-        LawTree::Default(f, g, h) => {
-            Some(law_of(HeadPiece::One(f), Piece::Both(f, g), Piece::Maybe(h)))
-        }
-        LawTree::Causes(a, f, g) => Some(effect(is_fluent_formula(table, f), a, f, g)),
-        LawTree::MayCause(a, f, g) => {
-            Some(law_of(HeadPiece::One(f), Piece::One(f), Piece::Both(a, g)))
-        }
+        LawTree::Caused(f, g, h) => Some(Caused {
+            head: HeadPiece::One(f),
+            body: Piece::Maybe(g),
+            after: Piece::Maybe(h),
+        }),
+        LawTree::Constraint(f) => Some(Caused {
+            head: HeadPiece::Falsity,
+            body: Piece::Denied(f),
+            after: Piece::Missing,
+        }),
+        LawTree::Always(f) => Some(Caused {
+            head: HeadPiece::Falsity,
+            body: Piece::Missing,
+            after: Piece::Denied(f),
+        }),
+        LawTree::Nonexecutable(f, g) => Some(Caused {
+            head: HeadPiece::Falsity,
+            body: Piece::Missing,
+            after: Piece::Both(f, g),
+        }),
+        LawTree::Default(f, g, h) => Some(Caused {
+            head: HeadPiece::One(f),
+            body: Piece::Both(f, g),
+            after: Piece::Maybe(h),
+        }),
+        LawTree::Causes(a, f, g) if is_fluent_formula(table, f) => Some(Caused {
+            head: HeadPiece::One(f),
+            body: Piece::Missing,
+            after: Piece::Both(a, g),
+        }),
+        LawTree::Causes(a, f, g) => Some(Caused {
+            head: HeadPiece::One(f),
+            body: Piece::Both(a, g),
+            after: Piece::Missing,
+        }),
+        LawTree::MayCause(a, f, g) => Some(Caused {
+            head: HeadPiece::One(f),
+            body: Piece::One(f),
+            after: Piece::Both(a, g),
+        }),
         _ => None,
     }
 }

@@ -5,7 +5,7 @@ ghost use Rattle.cc_defs.specs.Resolved.{plain_formula};
 ghost use Rattle.cc_defs.specs.Trees.{plain_tree};
 ghost use Rattle.cc_laws.specs.Expansion as words;
 ghost use Rattle.cc_laws.specs.Resolving as resolving;
-ghost use Rattle.cc_laws.specs.Views.{head_piece, plain_caused, plain_piece, scope_of};
+ghost use Rattle.cc_laws.specs.Views.{plain_piece, scope_of};
 ghost use Rattle.cc_laws.specs.Vocabulary.{vocabulary_of};
 
 use crate::made::some;
@@ -42,36 +42,6 @@ pub(crate) struct Caused<'t, 's> {
     pub(crate) head: HeadPiece<'t, 's>,
     pub(crate) body: Piece<'t, 's>,
     pub(crate) after: Piece<'t, 's>,
-}
-
-/// `caused head if body after after`
-pub(crate) fn law_of<'t, 's>(
-    head: HeadPiece<'t, 's>,
-    body: Piece<'t, 's>,
-    after: Piece<'t, 's>,
-) -> Caused<'t, 's>
-    ensures { plain_caused result
-        ≡ words.caused (head_piece head.entry) (plain_piece body.entry) (plain_piece after.entry) }
-{
-    Caused { head, body, after }
-}
-
-/// The effect of actions: on fluents one step later, on actions at once.
-pub(crate) fn effect<'t, 's>(
-    fluent: bool,
-    actions: &'t Tree<'s>,
-    head: &'t Tree<'s>,
-    body: &'t Option<Tree<'s>>,
-) -> Caused<'t, 's>
-    ensures { plain_caused result ≡ words.effect fluent
-        (plain_tree actions.now) (plain_tree head.now) (option_map plain_tree body.now) }
-{
-    let cause = Piece::Both(actions, body);
-    let head = HeadPiece::One(head);
-    if fluent {
-        return law_of(head, Piece::Missing, cause);
-    }
-    law_of(head, cause, Piece::Missing)
 }
 
 /// `F & G`, where G may be missing, with numbers in place of names.
