@@ -84,10 +84,10 @@ pub(crate) fn written(
 pub(crate) fn law_frame(
     alloc: Global,
     table: &Table,
-    source: Source<'_, '_>,
+    source: &Source<'_, '_>,
 ) -> Result<Frame, OutOfMemory>
     ensures { IfOk result (λ made.
-        frame_of made ≡ frame_from (vocabulary_of table.now) source.entry) }
+        frame_of made ≡ frame_from (vocabulary_of table.now) source.now) }
 {
     let ranges = sort_ranges(alloc, table, source.variables)?;
     let mut names = names_of(alloc, source.variables)?;
@@ -167,7 +167,7 @@ fn law_parts(
 fn law_for(
     alloc: Global,
     table: &Table,
-    source: Source<'_, '_>,
+    source: &Source<'_, '_>,
     law: &Caused<'_, '_>,
     denying: bool,
     head: Head,
@@ -176,7 +176,7 @@ fn law_for(
         && words.part_acts (vocabulary_of table.now) (plain_caused law.now).head }
     ensures { IfOk result (λ made.
         plain_base_law made ≡ words.law_for (vocabulary_of table.now) (frame_from
-        (vocabulary_of table.now) source.entry) (plain_caused law.now) (plain_head head)) }
+        (vocabulary_of table.now) source.now) (plain_caused law.now) (plain_head head)) }
 {
     let denied = denies_step(denying, &head);
     let mut frame = law_frame(alloc, table, source)?;
@@ -211,12 +211,12 @@ fn head_parts(
 fn split(
     alloc: Global,
     table: &Table,
-    source: Source<'_, '_>,
+    source: &Source<'_, '_>,
     law: &Caused<'_, '_>,
 ) -> Result<Vec<BaseLaw>, OutOfMemory>
     ensures { IfOk result (λ made.
         map plain_base_law made.items ≡ words.split (vocabulary_of table.now)
-        (frame_from (vocabulary_of table.now) source.entry) (plain_caused law.now)) }
+        (frame_from (vocabulary_of table.now) source.now) (plain_caused law.now)) }
 {
     let heads = head_parts(alloc, table, source.variables, law.head)?;
     let denying = denies(table, law);
@@ -240,12 +240,12 @@ fn only(alloc: Global, law: BaseLaw) -> Result<Vec<BaseLaw>, OutOfMemory>
 fn subject_laws(
     alloc: Global,
     table: &Table,
-    source: Source<'_, '_>,
+    source: &Source<'_, '_>,
     persistence: Persistence,
     constant: &TermTree<'_>,
 ) -> Result<Vec<BaseLaw>, OutOfMemory>
     ensures { IfOk result (λ made. map plain_base_law made.items ≡ words.subject_laws
-        (vocabulary_of table.now) (frame_from (vocabulary_of table.now) source.entry)
+        (vocabulary_of table.now) (frame_from (vocabulary_of table.now) source.now)
         (persistence_of persistence) (plain_term constant.now)) }
 {
     let frame = law_frame(alloc, table, source)?;
@@ -312,12 +312,12 @@ pub(crate) fn short_for<'t, 's>(table: &Table, law: &'t LawTree<'s>) -> Option<C
 fn other_laws(
     alloc: Global,
     table: &Table,
-    source: Source<'_, '_>,
+    source: &Source<'_, '_>,
     law: &LawTree<'_>,
 ) -> Result<Vec<BaseLaw>, OutOfMemory>
     ensures { IfOk result (λ made.
         map plain_base_law made.items ≡ laws_of_others (vocabulary_of table.now)
-        (frame_from (vocabulary_of table.now) source.entry) (plain_law law.now)) }
+        (frame_from (vocabulary_of table.now) source.now) (plain_law law.now)) }
 {
     match law {
         LawTree::Exogenous(constant) => {
@@ -338,12 +338,12 @@ fn other_laws(
 fn laws_with(
     alloc: Global,
     table: &Table,
-    source: Source<'_, '_>,
+    source: &Source<'_, '_>,
     law: &LawTree<'_>,
 ) -> Result<Vec<BaseLaw>, OutOfMemory>
     ensures { IfOk result (λ made.
         map plain_base_law made.items ≡ words.laws_with (vocabulary_of table.now)
-        (frame_from (vocabulary_of table.now) source.entry) (plain_law law.now)) }
+        (frame_from (vocabulary_of table.now) source.now) (plain_law law.now)) }
 {
     match short_for(table, law) {
         Some(short) => split(alloc, table, source, &short),
@@ -370,7 +370,7 @@ fn laws_in(
         variables: &variables,
         test,
     };
-    laws_with(alloc, table, source, law)
+    laws_with(alloc, table, &source, law)
 }
 
 /// Variables by their places from 0 on, one for each sort.

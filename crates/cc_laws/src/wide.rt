@@ -130,12 +130,12 @@ fn whole_parts(
 fn whole_law(
     alloc: Global,
     table: &Table,
-    source: Source<'_, '_>,
+    source: &Source<'_, '_>,
     law: &Caused<'_, '_>,
     head: &Tree<'_>,
 ) -> Result<WideBase, OutOfMemory>
     ensures { IfOk result (λ made. plain_wide_base made ≡ words.whole_law (vocabulary_of table.now)
-        (frame_from (vocabulary_of table.now) source.entry) (plain_caused law.now)
+        (frame_from (vocabulary_of table.now) source.now) (plain_caused law.now)
         (plain_tree head.now)) }
 {
     let mut frame = law_frame(alloc, table, source)?;
@@ -156,12 +156,12 @@ fn whole_law(
 fn whole_laws(
     alloc: Global,
     table: &Table,
-    source: Source<'_, '_>,
+    source: &Source<'_, '_>,
     law: &LawTree<'_>,
 ) -> Result<Vec<WideBase>, OutOfMemory>
     ensures { IfOk result (λ made.
         map plain_wide_base made.items ≡ words.whole_short (vocabulary_of table.now)
-        (frame_from (vocabulary_of table.now) source.entry)
+        (frame_from (vocabulary_of table.now) source.now)
         (law_short_for (vocabulary_of table.now) (plain_law law.now))) }
 {
     let mut made = Vec::new(alloc);
@@ -195,7 +195,7 @@ fn whole_in(
         variables: &variables,
         test,
     };
-    whole_laws(alloc, table, source, law)
+    whole_laws(alloc, table, &source, law)
 }
 
 /// Whether the head of a part is not definite.
