@@ -69,13 +69,13 @@ pub(crate) fn written(
     alloc: Global,
     table: &Table,
     names: &mut Names,
-    piece: Piece<'_, '_>,
+    piece: &Piece<'_, '_>,
 ) -> Result<Formula, OutOfMemory>
     ensures made { IfOk result (λ made. plain_formula made ≡ words.part
-        (vocabulary_of table.now) (scope_of names.old) names.old.next (plain_piece piece.entry)) }
+        (vocabulary_of table.now) (scope_of names.old) names.old.next (plain_piece piece.now)) }
     ensures kept { OnOk result (names.new.bindings.items ≡ names.old.bindings.items) }
     ensures next { OnOk result
-        (names.new.next ≡ names.old.next + words.part_brackets (plain_piece piece.entry)) }
+        (names.new.next ≡ names.old.next + words.part_brackets (plain_piece piece.now)) }
 {
     some_or(resolve_piece(alloc, table, names, piece), Formula::True)
 }
@@ -91,7 +91,7 @@ pub(crate) fn law_frame(
 {
     let ranges = sort_ranges(alloc, table, source.variables)?;
     let mut names = names_of(alloc, source.variables)?;
-    let test = written(alloc, table, &mut names, Piece::Maybe(source.test));
+    let test = written(alloc, table, &mut names, &Piece::Maybe(source.test));
     let test = boxed(alloc, test)?;
     Ok(Frame {
         ranges,
@@ -102,12 +102,12 @@ pub(crate) fn law_frame(
     })
 }
 
-pub(crate) fn is_missing(piece: Piece<'_, '_>) -> bool
-    ensures { result ≡ is_none (plain_piece piece.entry) }
+pub(crate) fn is_missing(piece: &Piece<'_, '_>) -> bool
+    ensures { result ≡ is_none (plain_piece piece.now) }
 {
     match piece {
         Piece::Missing | Piece::Maybe(None) => true,
-        Piece::One(_) | Piece::Maybe(Some(_)) | Piece::Denied(_) | Piece::Both(..) => false,
+        _ => false,
     }
 }
 
@@ -118,7 +118,7 @@ fn denies(table: &Table, law: &Caused<'_, '_>) -> bool
 {
     match law.head {
         HeadPiece::Falsity => false,
-        HeadPiece::One(formula) => is_missing(law.after) && has(table, Property::Action, formula),
+        HeadPiece::One(formula) => is_missing(&law.after) && has(table, Property::Action, formula),
     }
 }
 
@@ -149,14 +149,14 @@ fn law_parts(
         (scope_of names.old) (names.old.next + words.part_brackets (plain_caused law.now).body))
         (plain_caused law.now).after)) }
 {
-    let body = boxed(alloc, written(alloc, table, names, law.body))?;
+    let body = boxed(alloc, written(alloc, table, names, &law.body))?;
     if denied {
         return Ok(Parts {
             body: Formula::True,
             after: Some(Box::into_inner(body)),
         });
     }
-    let after = boxed(alloc, resolve_piece(alloc, table, names, law.after))?;
+    let after = boxed(alloc, resolve_piece(alloc, table, names, &law.after))?;
     Ok(Parts {
         body: Box::into_inner(body),
         after: Box::into_inner(after),

@@ -70,16 +70,16 @@ pub(crate) fn resolve_piece(
     alloc: Global,
     table: &Table,
     names: &mut Names,
-    piece: Piece<'_, '_>,
+    piece: &Piece<'_, '_>,
 ) -> Result<Option<Formula>, OutOfMemory>
     ensures made { IfOk result (λ made.
         option_map plain_formula made ≡ option_map (resolving.resolve
-        (vocabulary_of table.now) (scope_of names.old) names.old.next) (plain_piece piece.entry)) }
+        (vocabulary_of table.now) (scope_of names.old) names.old.next) (plain_piece piece.now)) }
     ensures kept { OnOk result (names.new.bindings.items ≡ names.old.bindings.items) }
     ensures next { OnOk result
-        (names.new.next ≡ names.old.next + words.part_brackets (plain_piece piece.entry)) }
+        (names.new.next ≡ names.old.next + words.part_brackets (plain_piece piece.now)) }
 {
-    match piece {
+    match *piece {
         Piece::Missing | Piece::Maybe(None) => Ok(None),
         Piece::One(formula) | Piece::Maybe(Some(formula)) => {
             some(resolve(alloc, table, names, formula))

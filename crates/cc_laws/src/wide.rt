@@ -79,9 +79,9 @@ fn all_widened(alloc: Global, laws: Vec<BaseLaw>) -> Result<Vec<WideBase>, OutOf
 }
 
 /// The class of a law with this `after` part and this head.
-fn class_of(table: &Table, after: Piece<'_, '_>, head: &Tree<'_>) -> LawKind
+fn class_of(table: &Table, after: &Piece<'_, '_>, head: &Tree<'_>) -> LawKind
     ensures { result ≡ words.wide_class (vocabulary_of table.now)
-        (plain_piece after.entry) (plain_tree head.now) }
+        (plain_piece after.now) (plain_tree head.now) }
 {
     if !is_missing(after) {
         return LawKind::FluentDynamic;
@@ -120,8 +120,8 @@ fn whole_parts(
         (names.old.next + words_of.part_brackets (plain_caused law.now).body
         + words_of.part_brackets (plain_caused law.now).after) (plain_tree head.now)) }
 {
-    let body = boxed(alloc, written(alloc, table, names, law.body))?;
-    let after = boxed(alloc, resolve_piece(alloc, table, names, law.after))?;
+    let body = boxed(alloc, written(alloc, table, names, &law.body))?;
+    let after = boxed(alloc, resolve_piece(alloc, table, names, &law.after))?;
     let head = boxed(alloc, resolve(alloc, table, names, head))?;
     Ok(WholeParts { head, body, after })
 }
@@ -146,7 +146,7 @@ fn whole_law(
         body: Box::into_inner(parts.body),
         after: Box::into_inner(parts.after),
         test: Box::into_inner(frame.test),
-        kind: class_of(table, law.after, head),
+        kind: class_of(table, &law.after, head),
         file: frame.file,
         line: frame.line,
     }))
