@@ -60,16 +60,6 @@ fn formulas_fail(table: &Table, check: Check, law: &LawTree<'_>) -> bool
     }
 }
 
-/// What is exogenous or inertial.
-fn subject<'t, 's>(law: &'t LawTree<'s>) -> Option<&'t TermTree<'s>>
-    ensures { option_map (λ term. plain_term term.now) result ≡ faults.subject (plain_law law.now) }
-{
-    match law {
-        LawTree::Exogenous(constant) | LawTree::Inertial(constant) => Some(constant),
-        _ => None,
-    }
-}
-
 /// Whether a formula of a law or its test fails the check.
 fn law_fails(table: &Table, check: Check, law: &LawTree<'_>, test: &Option<Tree<'_>>) -> bool
     ensures { result ≡ list_any (fails (vocabulary_of table.now) check)
@@ -83,9 +73,11 @@ fn subject_has(table: &Table, property: Property, law: &LawTree<'_>) -> bool
     ensures { result ≡ faults.subject_satisfies
         (term_has (vocabulary_of table.now) (asks property)) (faults.subject (plain_law law.now)) }
 {
-    match subject(law) {
-        Some(constant) => has(table, property, constant),
-        None => false,
+    match law {
+        LawTree::Exogenous(constant) | LawTree::Inertial(constant) => {
+            has(table, property, constant)
+        }
+        _ => false,
     }
 }
 
@@ -105,11 +97,24 @@ fn law_has_miscounted(table: &Table, law: &LawTree<'_>, test: &Option<Tree<'_>>)
         || subject_has(table, Property::Miscounted, law)
 }
 
-/// Whether what is exogenous or inertial is no constant, or has an argument that does not fit.
-fn subject_misfits(table: &Table, constant: &TermTree<'_>) -> bool
+/// Whether a term is no constant, or has an argument that does not fit.
+fn constant_misfits(table: &Table, constant: &TermTree<'_>) -> bool
     ensures { result ≡ faults.subject_misfits (vocabulary_of table.now) (plain_term constant.now) }
 {
     !meaning_of_term(table, constant).is_constant() || term_misfits(table, constant)
+}
+
+/// Whether what is exogenous or inertial is no constant, or has an argument that does not fit.
+fn subject_misfits(table: &Table, law: &LawTree<'_>) -> bool
+    ensures { result ≡ faults.subject_satisfies
+        (faults.subject_misfits (vocabulary_of table.now)) (faults.subject (plain_law law.now)) }
+{
+    match law {
+        LawTree::Exogenous(constant) | LawTree::Inertial(constant) => {
+            constant_misfits(table, constant)
+        }
+        _ => false,
+    }
 }
 
 /// Whether something in a law or its test does not fit.
@@ -117,11 +122,7 @@ fn law_misfits(table: &Table, law: &LawTree<'_>, test: &Option<Tree<'_>>) -> boo
     ensures { result ≡ faults.law_misfits
         (vocabulary_of table.now) (plain_law law.now) (optional (option_map plain_tree test.now)) }
 {
-    let in_subject = match subject(law) {
-        Some(constant) => subject_misfits(table, constant),
-        None => false,
-    };
-    (law_fails(table, Check::Misfits, law, test) || in_subject)
+    (law_fails(table, Check::Misfits, law, test) || subject_misfits(table, law))
         || part_fails(table, Check::Mentions(Property::Constant), test)
 }
 

@@ -22,7 +22,7 @@ use crate::made::{boxed, put_made, some_or};
 use crate::meaning::{Meaning, meaning_of};
 use crate::mention::Property;
 use crate::names::{Names, names_of};
-use crate::pieces::{Caused, HeadPiece, Piece, effect, law_of, resolve_piece};
+use crate::pieces::{Caused, HeadPiece, Piece, resolve_piece};
 use crate::resolving::{negated, resolve_term};
 use crate::values::{Frame, Parts, Persistence, base_law, equation_of, value_law};
 use cc_defs::{
@@ -69,13 +69,13 @@ pub(crate) fn written(
     alloc: Global,
     table: &Table,
     names: &mut Names,
-    piece: Piece<'_, '_>,
+    piece: &Piece<'_, '_>,
 ) -> Result<Formula, OutOfMemory>
     ensures made { IfOk result (λ made. plain_formula made ≡ words.part
-        (vocabulary_of table.now) (scope_of names.old) names.old.next (plain_piece piece.entry)) }
+        (vocabulary_of table.now) (scope_of names.old) names.old.next (plain_piece piece.now)) }
     ensures kept { OnOk result (names.new.bindings.items ≡ names.old.bindings.items) }
     ensures next { OnOk result
-        (names.new.next ≡ names.old.next + words.part_brackets (plain_piece piece.entry)) }
+        (names.new.next ≡ names.old.next + words.part_brackets (plain_piece piece.now)) }
 {
     some_or(resolve_piece(alloc, table, names, piece), Formula::True)
 }
@@ -84,14 +84,14 @@ pub(crate) fn written(
 pub(crate) fn law_frame(
     alloc: Global,
     table: &Table,
-    source: Source<'_, '_>,
+    source: &Source<'_, '_>,
 ) -> Result<Frame, OutOfMemory>
     ensures { IfOk result (λ made.
-        frame_of made ≡ frame_from (vocabulary_of table.now) source.entry) }
+        frame_of made ≡ frame_from (vocabulary_of table.now) source.now) }
 {
     let ranges = sort_ranges(alloc, table, source.variables)?;
     let mut names = names_of(alloc, source.variables)?;
-    let test = written(alloc, table, &mut names, Piece::Maybe(source.test));
+    let test = written(alloc, table, &mut names, &Piece::Maybe(source.test));
     let test = boxed(alloc, test)?;
     Ok(Frame {
         ranges,
@@ -102,12 +102,12 @@ pub(crate) fn law_frame(
     })
 }
 
-pub(crate) fn is_missing(piece: Piece<'_, '_>) -> bool
-    ensures { result ≡ is_none (plain_piece piece.entry) }
+pub(crate) fn is_missing(piece: &Piece<'_, '_>) -> bool
+    ensures { result ≡ is_none (plain_piece piece.now) }
 {
     match piece {
         Piece::Missing | Piece::Maybe(None) => true,
-        Piece::One(_) | Piece::Maybe(Some(_)) | Piece::Denied(_) | Piece::Both(..) => false,
+        _ => false,
     }
 }
 
@@ -118,7 +118,7 @@ fn denies(table: &Table, law: &Caused<'_, '_>) -> bool
 {
     match law.head {
         HeadPiece::Falsity => false,
-        HeadPiece::One(formula) => is_missing(law.after) && has(table, Property::Action, formula),
+        HeadPiece::One(formula) => is_missing(&law.after) && has(table, Property::Action, formula),
     }
 }
 
@@ -149,14 +149,14 @@ fn law_parts(
         (scope_of names.old) (names.old.next + words.part_brackets (plain_caused law.now).body))
         (plain_caused law.now).after)) }
 {
-    let body = boxed(alloc, written(alloc, table, names, law.body))?;
+    let body = boxed(alloc, written(alloc, table, names, &law.body))?;
     if denied {
         return Ok(Parts {
             body: Formula::True,
             after: Some(Box::into_inner(body)),
         });
     }
-    let after = boxed(alloc, resolve_piece(alloc, table, names, law.after))?;
+    let after = boxed(alloc, resolve_piece(alloc, table, names, &law.after))?;
     Ok(Parts {
         body: Box::into_inner(body),
         after: Box::into_inner(after),
@@ -167,7 +167,7 @@ fn law_parts(
 fn law_for(
     alloc: Global,
     table: &Table,
-    source: Source<'_, '_>,
+    source: &Source<'_, '_>,
     law: &Caused<'_, '_>,
     denying: bool,
     head: Head,
@@ -176,7 +176,7 @@ fn law_for(
         && words.part_acts (vocabulary_of table.now) (plain_caused law.now).head }
     ensures { IfOk result (λ made.
         plain_base_law made ≡ words.law_for (vocabulary_of table.now) (frame_from
-        (vocabulary_of table.now) source.entry) (plain_caused law.now) (plain_head head)) }
+        (vocabulary_of table.now) source.now) (plain_caused law.now) (plain_head head)) }
 {
     let denied = denies_step(denying, &head);
     let mut frame = law_frame(alloc, table, source)?;
@@ -211,12 +211,12 @@ fn head_parts(
 fn split(
     alloc: Global,
     table: &Table,
-    source: Source<'_, '_>,
+    source: &Source<'_, '_>,
     law: &Caused<'_, '_>,
 ) -> Result<Vec<BaseLaw>, OutOfMemory>
     ensures { IfOk result (λ made.
         map plain_base_law made.items ≡ words.split (vocabulary_of table.now)
-        (frame_from (vocabulary_of table.now) source.entry) (plain_caused law.now)) }
+        (frame_from (vocabulary_of table.now) source.now) (plain_caused law.now)) }
 {
     let heads = head_parts(alloc, table, source.variables, law.head)?;
     let denying = denies(table, law);
@@ -240,12 +240,12 @@ fn only(alloc: Global, law: BaseLaw) -> Result<Vec<BaseLaw>, OutOfMemory>
 fn subject_laws(
     alloc: Global,
     table: &Table,
-    source: Source<'_, '_>,
+    source: &Source<'_, '_>,
     persistence: Persistence,
     constant: &TermTree<'_>,
 ) -> Result<Vec<BaseLaw>, OutOfMemory>
     ensures { IfOk result (λ made. map plain_base_law made.items ≡ words.subject_laws
-        (vocabulary_of table.now) (frame_from (vocabulary_of table.now) source.entry)
+        (vocabulary_of table.now) (frame_from (vocabulary_of table.now) source.now)
         (persistence_of persistence) (plain_term constant.now)) }
 {
     let frame = law_frame(alloc, table, source)?;
@@ -264,23 +264,46 @@ pub(crate) fn short_for<'t, 's>(table: &Table, law: &'t LawTree<'s>) -> Option<C
         ≡ law_short_for (vocabulary_of table.now) (plain_law law.now) }
 {
     match law {
-        LawTree::Caused(f, g, h) => {
-            Some(law_of(HeadPiece::One(f), Piece::Maybe(g), Piece::Maybe(h)))
-        }
-        LawTree::Constraint(f) => {
-            Some(law_of(HeadPiece::Falsity, Piece::Denied(f), Piece::Missing))
-        }
-        LawTree::Always(f) => { Some(law_of(HeadPiece::Falsity, Piece::Missing, Piece::Denied(f))) }
-        LawTree::Nonexecutable(f, g) => {
-            Some(law_of(HeadPiece::Falsity, Piece::Missing, Piece::Both(f, g)))
-        }
-        LawTree::Default(f, g, h) => {
-            Some(law_of(HeadPiece::One(f), Piece::Both(f, g), Piece::Maybe(h)))
-        }
-        LawTree::Causes(a, f, g) => Some(effect(is_fluent_formula(table, f), a, f, g)),
-        LawTree::MayCause(a, f, g) => {
-            Some(law_of(HeadPiece::One(f), Piece::One(f), Piece::Both(a, g)))
-        }
+        LawTree::Caused(f, g, h) => Some(Caused {
+            head: HeadPiece::One(f),
+            body: Piece::Maybe(g),
+            after: Piece::Maybe(h),
+        }),
+        LawTree::Constraint(f) => Some(Caused {
+            head: HeadPiece::Falsity,
+            body: Piece::Denied(f),
+            after: Piece::Missing,
+        }),
+        LawTree::Always(f) => Some(Caused {
+            head: HeadPiece::Falsity,
+            body: Piece::Missing,
+            after: Piece::Denied(f),
+        }),
+        LawTree::Nonexecutable(f, g) => Some(Caused {
+            head: HeadPiece::Falsity,
+            body: Piece::Missing,
+            after: Piece::Both(f, g),
+        }),
+        LawTree::Default(f, g, h) => Some(Caused {
+            head: HeadPiece::One(f),
+            body: Piece::Both(f, g),
+            after: Piece::Maybe(h),
+        }),
+        LawTree::Causes(a, f, g) if is_fluent_formula(table, f) => Some(Caused {
+            head: HeadPiece::One(f),
+            body: Piece::Missing,
+            after: Piece::Both(a, g),
+        }),
+        LawTree::Causes(a, f, g) => Some(Caused {
+            head: HeadPiece::One(f),
+            body: Piece::Both(a, g),
+            after: Piece::Missing,
+        }),
+        LawTree::MayCause(a, f, g) => Some(Caused {
+            head: HeadPiece::One(f),
+            body: Piece::One(f),
+            after: Piece::Both(a, g),
+        }),
         _ => None,
     }
 }
@@ -289,12 +312,12 @@ pub(crate) fn short_for<'t, 's>(table: &Table, law: &'t LawTree<'s>) -> Option<C
 fn other_laws(
     alloc: Global,
     table: &Table,
-    source: Source<'_, '_>,
+    source: &Source<'_, '_>,
     law: &LawTree<'_>,
 ) -> Result<Vec<BaseLaw>, OutOfMemory>
     ensures { IfOk result (λ made.
         map plain_base_law made.items ≡ laws_of_others (vocabulary_of table.now)
-        (frame_from (vocabulary_of table.now) source.entry) (plain_law law.now)) }
+        (frame_from (vocabulary_of table.now) source.now) (plain_law law.now)) }
 {
     match law {
         LawTree::Exogenous(constant) => {
@@ -315,12 +338,12 @@ fn other_laws(
 fn laws_with(
     alloc: Global,
     table: &Table,
-    source: Source<'_, '_>,
+    source: &Source<'_, '_>,
     law: &LawTree<'_>,
 ) -> Result<Vec<BaseLaw>, OutOfMemory>
     ensures { IfOk result (λ made.
         map plain_base_law made.items ≡ words.laws_with (vocabulary_of table.now)
-        (frame_from (vocabulary_of table.now) source.entry) (plain_law law.now)) }
+        (frame_from (vocabulary_of table.now) source.now) (plain_law law.now)) }
 {
     match short_for(table, law) {
         Some(short) => split(alloc, table, source, &short),
@@ -347,7 +370,7 @@ fn laws_in(
         variables: &variables,
         test,
     };
-    laws_with(alloc, table, source, law)
+    laws_with(alloc, table, &source, law)
 }
 
 /// Variables by their places from 0 on, one for each sort.

@@ -2,18 +2,18 @@
 ghost use Rattle.std.specs.Prelude.{◌≡◌};
 ghost use Rattle.std.specs.List.{list_all};
 ghost use Rattle.std.specs.Option.{option_map};
-ghost use Rattle.cc_defs.specs.Trees.{plain_tree, plain_law};
+ghost use Rattle.cc_defs.specs.Trees.{plain_law, plain_term, plain_tree};
 ghost use Rattle.cc_laws.specs.FormulaFaults as formulas;
 ghost use Rattle.cc_laws.specs.LawFaults as faults;
 ghost use Rattle.cc_laws.specs.FreeVariables.{optional};
 ghost use Rattle.cc_laws.specs.Views.{asks};
-ghost use Rattle.cc_laws.specs.Vocabulary.{vocabulary_of};
+ghost use Rattle.cc_laws.specs.Vocabulary.{is_action_constant, vocabulary_of};
 
 use crate::heads::is_definite;
 use crate::meaning::meaning_of_term;
 use crate::mention::Property;
 use crate::walk::{Check, formula_fails};
-use cc_defs::{LawTree, Tree};
+use cc_defs::{LawTree, TermTree, Tree};
 use cc_sorts::Table;
 
 pub(crate) fn has(table: &Table, property: Property, formula: &Tree<'_>) -> bool
@@ -65,6 +65,14 @@ fn has_form(
     }
 }
 
+/// Whether a term is an action constant.
+fn is_action_term(table: &Table, term: &TermTree<'_>) -> bool
+    ensures { result
+        ≡ is_action_constant (formulas.term_meaning (vocabulary_of table.now) (plain_term term.now)) }
+{
+    meaning_of_term(table, term).is_action_constant()
+}
+
 /// Whether a law has none of the three forms, or a part of an abbreviation is of the wrong kind.
 pub(crate) fn lacks_form(table: &Table, law: &LawTree<'_>) -> bool
     ensures { result ≡ faults.lacks_form (vocabulary_of table.now) (plain_law law.now) }
@@ -74,7 +82,7 @@ pub(crate) fn lacks_form(table: &Table, law: &LawTree<'_>) -> bool
         LawTree::Constraint(formula) => has(table, Property::Action, formula),
         LawTree::Nonexecutable(actions, _) => !is_action_formula(table, actions),
         LawTree::Default(head, body, after) => !has_form(table, head, body, after),
-        LawTree::Inertial(constant) => meaning_of_term(table, constant).is_action_constant(),
+        LawTree::Inertial(constant) => is_action_term(table, constant),
         LawTree::Causes(actions, head, _) => {
             !is_action_formula(table, actions)
                 || !(is_fluent_formula(table, head) || is_action_formula(table, head))

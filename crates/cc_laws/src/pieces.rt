@@ -5,7 +5,7 @@ ghost use Rattle.cc_defs.specs.Resolved.{plain_formula};
 ghost use Rattle.cc_defs.specs.Trees.{plain_tree};
 ghost use Rattle.cc_laws.specs.Expansion as words;
 ghost use Rattle.cc_laws.specs.Resolving as resolving;
-ghost use Rattle.cc_laws.specs.Views.{head_piece, plain_caused, plain_piece, scope_of};
+ghost use Rattle.cc_laws.specs.Views.{plain_piece, scope_of};
 ghost use Rattle.cc_laws.specs.Vocabulary.{vocabulary_of};
 
 use crate::made::some;
@@ -44,36 +44,6 @@ pub(crate) struct Caused<'t, 's> {
     pub(crate) after: Piece<'t, 's>,
 }
 
-/// `caused head if body after after`
-pub(crate) fn law_of<'t, 's>(
-    head: HeadPiece<'t, 's>,
-    body: Piece<'t, 's>,
-    after: Piece<'t, 's>,
-) -> Caused<'t, 's>
-    ensures { plain_caused result
-        ≡ words.caused (head_piece head.entry) (plain_piece body.entry) (plain_piece after.entry) }
-{
-    Caused { head, body, after }
-}
-
-/// The effect of actions: on fluents one step later, on actions at once.
-pub(crate) fn effect<'t, 's>(
-    fluent: bool,
-    actions: &'t Tree<'s>,
-    head: &'t Tree<'s>,
-    body: &'t Option<Tree<'s>>,
-) -> Caused<'t, 's>
-    ensures { plain_caused result ≡ words.effect fluent
-        (plain_tree actions.now) (plain_tree head.now) (option_map plain_tree body.now) }
-{
-    let cause = Piece::Both(actions, body);
-    let head = HeadPiece::One(head);
-    if fluent {
-        return law_of(head, Piece::Missing, cause);
-    }
-    law_of(head, cause, Piece::Missing)
-}
-
 /// `F & G`, where G may be missing, with numbers in place of names.
 fn resolve_both(
     alloc: Global,
@@ -100,16 +70,16 @@ pub(crate) fn resolve_piece(
     alloc: Global,
     table: &Table,
     names: &mut Names,
-    piece: Piece<'_, '_>,
+    piece: &Piece<'_, '_>,
 ) -> Result<Option<Formula>, OutOfMemory>
     ensures made { IfOk result (λ made.
         option_map plain_formula made ≡ option_map (resolving.resolve
-        (vocabulary_of table.now) (scope_of names.old) names.old.next) (plain_piece piece.entry)) }
+        (vocabulary_of table.now) (scope_of names.old) names.old.next) (plain_piece piece.now)) }
     ensures kept { OnOk result (names.new.bindings.items ≡ names.old.bindings.items) }
     ensures next { OnOk result
-        (names.new.next ≡ names.old.next + words.part_brackets (plain_piece piece.entry)) }
+        (names.new.next ≡ names.old.next + words.part_brackets (plain_piece piece.now)) }
 {
-    match piece {
+    match *piece {
         Piece::Missing | Piece::Maybe(None) => Ok(None),
         Piece::One(formula) | Piece::Maybe(Some(formula)) => {
             some(resolve(alloc, table, names, formula))

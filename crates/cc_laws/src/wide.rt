@@ -1,14 +1,16 @@
 //! The laws that a statement stands for where heads may be formulas of any form.
-ghost use Rattle.std.specs.Prelude.{◌≡◌, ◌∷◌, List as Items, [], map, IfOk, IfErr};
+ghost use Rattle.std.specs.Prelude.{◌≡◌, ◌+◌, ◌∷◌, List as Items, [], map, IfOk, IfErr};
 ghost use Rattle.std.specs.Option.{option_map};
 ghost use Rattle.cc_defs.specs.Declarations.{Declaration as Declared};
 ghost use Rattle.cc_defs.specs.Refusals.{IsRefusedBy};
 ghost use Rattle.cc_defs.specs.Resolved.{plain_base_law, plain_formula, plain_head};
 ghost use Rattle.cc_defs.specs.Trees.{plain_law, plain_part, plain_statement, plain_tree};
 ghost use Rattle.cc_laws.specs.Expansion.{law_frame as law_frame_of};
+ghost use Rattle.cc_laws.specs.Expansion as words_of;
 ghost use Rattle.cc_laws.specs.LawFaults.{law_variables as law_variables_of};
+ghost use Rattle.cc_laws.specs.Resolving.{resolve as resolve_of};
 ghost use Rattle.cc_laws.specs.Shortened.{law_short_for};
-ghost use Rattle.cc_laws.specs.Views.{frame_from, plain_caused, plain_piece};
+ghost use Rattle.cc_laws.specs.Views.{frame_from, plain_caused, plain_piece, scope_of};
 ghost use Rattle.cc_laws.specs.Vocabulary.{vocabulary, vocabulary_of};
 ghost use Rattle.cc_laws.specs.Widening as words;
 ghost use Rattle.cc_laws.specs.Widening.{ExpandsWide, wide_refusal};
@@ -18,8 +20,9 @@ ghost use Rattle.cc_wide.specs.WideLaws.{plain_wide_base};
 use crate::checks::{check_wide, law_variables};
 use crate::expansion::{Source, base_laws, is_missing, law_frame, short_for, written};
 use crate::forms::{has, has_indefinite_head};
-use crate::made::put_made;
+use crate::made::{boxed, put_made};
 use crate::mention::Property;
+use crate::names::Names;
 use crate::pieces::{Caused, HeadPiece, Piece, resolve_piece};
 use crate::resolving::resolve;
 use crate::values::equation_of;
@@ -76,9 +79,9 @@ fn all_widened(alloc: Global, laws: Vec<BaseLaw>) -> Result<Vec<WideBase>, OutOf
 }
 
 /// The class of a law with this `after` part and this head.
-fn class_of(table: &Table, after: Piece<'_, '_>, head: &Tree<'_>) -> LawKind
+fn class_of(table: &Table, after: &Piece<'_, '_>, head: &Tree<'_>) -> LawKind
     ensures { result ≡ words.wide_class (vocabulary_of table.now)
-        (plain_piece after.entry) (plain_tree head.now) }
+        (plain_piece after.now) (plain_tree head.now) }
 {
     if !is_missing(after) {
         return LawKind::FluentDynamic;
@@ -90,29 +93,60 @@ fn class_of(table: &Table, after: Piece<'_, '_>, head: &Tree<'_>) -> LawKind
     }
 }
 
+/// The parts of a law whose head is kept whole.
+#[derive(Drop)]
+struct WholeParts {
+    head: Box<Formula>,
+    body: Box<Formula>,
+    after: Box<Option<Formula>>,
+}
+
+/// The parts of a law whose head is kept whole. The brackets of the head have their numbers last.
+fn whole_parts(
+    alloc: Global,
+    table: &Table,
+    names: &mut Names,
+    law: &Caused<'_, '_>,
+    head: &Tree<'_>,
+) -> Result<WholeParts, OutOfMemory>
+    ensures body { IfOk result (λ made. plain_formula made.body.value ≡ words_of.part
+        (vocabulary_of table.now) (scope_of names.old) names.old.next (plain_caused law.now).body) }
+    ensures after { IfOk result (λ made. option_map plain_formula made.after.value
+        ≡ option_map (resolve_of (vocabulary_of table.now) (scope_of names.old)
+        (names.old.next + words_of.part_brackets (plain_caused law.now).body))
+        (plain_caused law.now).after) }
+    ensures head { IfOk result (λ made. plain_formula made.head.value
+        ≡ resolve_of (vocabulary_of table.now) (scope_of names.old)
+        (names.old.next + words_of.part_brackets (plain_caused law.now).body
+        + words_of.part_brackets (plain_caused law.now).after) (plain_tree head.now)) }
+{
+    let body = boxed(alloc, written(alloc, table, names, &law.body))?;
+    let after = boxed(alloc, resolve_piece(alloc, table, names, &law.after))?;
+    let head = boxed(alloc, resolve(alloc, table, names, head))?;
+    Ok(WholeParts { head, body, after })
+}
+
 /// The law whose head is kept whole.
 fn whole_law(
     alloc: Global,
     table: &Table,
-    source: Source<'_, '_>,
-    law: Caused<'_, '_>,
+    source: &Source<'_, '_>,
+    law: &Caused<'_, '_>,
     head: &Tree<'_>,
 ) -> Result<WideBase, OutOfMemory>
     ensures { IfOk result (λ made. plain_wide_base made ≡ words.whole_law (vocabulary_of table.now)
-        (frame_from (vocabulary_of table.now) source.entry) (plain_caused law.entry)
+        (frame_from (vocabulary_of table.now) source.now) (plain_caused law.now)
         (plain_tree head.now)) }
 {
     let mut frame = law_frame(alloc, table, source)?;
-    let body = written(alloc, table, &mut frame.names, law.body)?;
-    let after = resolve_piece(alloc, table, &mut frame.names, law.after)?;
-    let whole = resolve(alloc, table, &mut frame.names, head)?;
+    let parts = whole_parts(alloc, table, &mut frame.names, law, head)?;
     Ok(WideBase::One(WideLaw {
         ranges: List::of(frame.ranges),
-        head: whole,
-        body,
-        after,
+        head: Box::into_inner(parts.head),
+        body: Box::into_inner(parts.body),
+        after: Box::into_inner(parts.after),
         test: Box::into_inner(frame.test),
-        kind: class_of(table, law.after, head),
+        kind: class_of(table, &law.after, head),
         file: frame.file,
         line: frame.line,
     }))
@@ -122,18 +156,18 @@ fn whole_law(
 fn whole_laws(
     alloc: Global,
     table: &Table,
-    source: Source<'_, '_>,
+    source: &Source<'_, '_>,
     law: &LawTree<'_>,
 ) -> Result<Vec<WideBase>, OutOfMemory>
     ensures { IfOk result (λ made.
         map plain_wide_base made.items ≡ words.whole_short (vocabulary_of table.now)
-        (frame_from (vocabulary_of table.now) source.entry)
+        (frame_from (vocabulary_of table.now) source.now)
         (law_short_for (vocabulary_of table.now) (plain_law law.now))) }
 {
     let mut made = Vec::new(alloc);
     if let Some(short) = short_for(table, law) {
         if let HeadPiece::One(head) = short.head {
-            put_made(&mut made, whole_law(alloc, table, source, short, head))?;
+            put_made(&mut made, whole_law(alloc, table, source, &short, head))?;
         }
     }
     Ok(made)
@@ -161,7 +195,7 @@ fn whole_in(
         variables: &variables,
         test,
     };
-    whole_laws(alloc, table, source, law)
+    whole_laws(alloc, table, &source, law)
 }
 
 /// Whether the head of a part is not definite.

@@ -10,13 +10,13 @@ use Rattle.cc_laws.proofs.expansion.laws_with.Goals as goal
 pub returns-in-Some : goal.returns-in-Some
 returns-in-Some c =
     let v = vocabulary_of c.args.table.now in
-    let frame = frame_from v c.args.source in
+    let frame = frame_from v c.args.source.now in
     let law = plain_law c.args.law.now in
     subst (λ w. IfOk c.split.result (λ made. map plain_base_law made.items ≡ w)) (ap (by_short v frame law) c.in-Some.ensures ∙ shortened v frame law) c.split.ensures
 
 pub returns-in-None : goal.returns-in-None
 returns-in-None c =
     let v = vocabulary_of c.args.table.now in
-    let frame = frame_from v c.args.source in
+    let frame = frame_from v c.args.source.now in
     let law = plain_law c.args.law.now in
     subst (λ w. IfOk c.other_laws.result (λ made. map plain_base_law made.items ≡ w)) (ap (by_short v frame law) c.in-None.ensures ∙ shortened v frame law) c.other_laws.ensures
