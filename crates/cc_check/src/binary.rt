@@ -35,11 +35,11 @@ fn push_entry(bytes: &mut Vec<u8>, line: &LogLine, own: u32) -> Result<(), OutOf
         LogLine::Section {
             conditions: true,
             horizon,
-        } => push_heading(bytes, 2, *horizon),
+        } => push_kind(bytes, 2, *horizon),
         LogLine::Section {
             conditions: false,
             horizon,
-        } => push_heading(bytes, 1, *horizon),
+        } => push_kind(bytes, 1, *horizon),
         LogLine::Derived { clause, chain } => push_derived(
             bytes,
             clause.items(),
@@ -51,11 +51,12 @@ fn push_entry(bytes: &mut Vec<u8>, line: &LogLine, own: u32) -> Result<(), OutOf
     }
 }
 
-fn push_heading(bytes: &mut Vec<u8>, kind: u8, horizon: u32) -> Result<(), OutOfMemory>
-    ensures { OnOk result (bytes.new.items ≡ bytes.old.items ++ (kind ∷ number_bytes horizon)) }
+// Writes the byte of a kind of line, and the number behind it.
+fn push_kind(bytes: &mut Vec<u8>, kind: u8, number: u32) -> Result<(), OutOfMemory>
+    ensures { OnOk result (bytes.new.items ≡ bytes.old.items ++ (kind ∷ number_bytes number)) }
 {
     bytes.push(kind)?;
-    push_number(bytes, horizon)
+    push_number(bytes, number)
 }
 
 fn push_derived(
@@ -71,8 +72,7 @@ fn push_derived(
     ensures { OnOk result (bytes.new.items
         ≡ bytes.old.items ++ entry_bytes (lines.Derived clause.now (chain_behind own chain.now))) }
 {
-    bytes.push(3)?;
-    push_number(bytes, clause.len() as u32)?;
+    push_kind(bytes, 3, clause.len() as u32)?;
     push_literals(bytes, clause)?;
     push_number(bytes, (chain.len() / 2) as u32)?;
     push_chain(bytes, chain, own)
@@ -82,8 +82,7 @@ fn push_block(bytes: &mut Vec<u8>, row: &[u32]) -> Result<(), OutOfMemory>
     requires { IsShort (length row.now) }
     ensures { OnOk result (bytes.new.items ≡ bytes.old.items ++ entry_bytes (lines.Block row.now)) }
 {
-    bytes.push(4)?;
-    push_number(bytes, row.len() as u32)?;
+    push_kind(bytes, 4, row.len() as u32)?;
     push_numbers(bytes, row)
 }
 

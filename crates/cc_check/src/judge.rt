@@ -159,6 +159,7 @@ impl Checker {
         ensures own { OnOk result
             (self.new.own ≡ self.old.own ++ self.old.stage.clause.items ∷ []) }
         ensures counted { self.new.blocks ≡ self.old.blocks }
+        ensures grown { OnOk result (length self.new.own ≡ length self.old.own + 1) }
         ensures sound { OnOk result (AreSound form.now self.new.own self.new.refuted) }
     {
         let _ = form;
@@ -296,6 +297,42 @@ impl Checker {
         Ok((pass, rest))
     }
 
+    // Goes through lines, of which the first has this number, where nothing was read yet.
+    fn find(
+        &mut self,
+        form: &Form,
+        version: Version,
+        may: bool,
+        first: u32,
+        bytes: &[u8],
+    ) -> Result<Finding, OutOfMemory>
+        requires own { self.old.own ≡ [] }
+        requires counted { self.old.blocks ≡ 0 }
+        requires sound { AreSound form.now self.old.own self.old.refuted }
+        requires few { length bytes.now ≤ most_log_bytes }
+        requires line { first ≤ most_log_bytes + 2 }
+        ensures found { IfOk result (λ finding. IsFoundInBytes
+            (reading_as version may) form.now first bytes.now (plain_finding finding)) }
+        ensures few { IfOk result (λ finding. HasLineBehind finding) }
+    {
+        let mut rest = bytes;
+        let mut line = first;
+        while !rest.is_empty() {
+            let (pass, behind) = self.pass(form, version, may, rest)?;
+            match pass {
+                Pass::Goes => {}
+                Pass::Ends(word) => return Ok(self.behind_end(version, word, line, behind)),
+                Pass::Wrong(cause) => return Ok(Finding::Wrong { line, cause }),
+            }
+            rest = behind;
+            line += 1;
+        }
+        Ok(Finding::Wrong {
+            line,
+            cause: Cause::Section,
+        })
+    }
+
     // What stands behind the end of a section, whose line is given.
     fn behind_end(&self, version: Version, word: EndWord, line: u32, rest: &[u8]) -> Finding
         requires { line ≤ 4000000000 }
@@ -342,22 +379,7 @@ pub(crate) fn find_lines(
     ensures few { IfOk result (λ finding. HasLineBehind finding) }
 {
     let mut checker = Checker::new(alloc, form);
-    let mut rest = bytes;
-    let mut line = first;
-    while !rest.is_empty() {
-        let (pass, behind) = checker.pass(form, version, may, rest)?;
-        match pass {
-            Pass::Goes => {}
-            Pass::Ends(word) => return Ok(checker.behind_end(version, word, line, behind)),
-            Pass::Wrong(cause) => return Ok(Finding::Wrong { line, cause }),
-        }
-        rest = behind;
-        line += 1;
-    }
-    Ok(Finding::Wrong {
-        line,
-        cause: Cause::Section,
-    })
+    checker.find(form, version, may, first, bytes)
 }
 
 // What is found of the lines of a section, where a row may be blocked or not.

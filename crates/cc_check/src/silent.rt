@@ -1,10 +1,11 @@
 //! Logs of sections without blocks, each ended by `empty`, under headings of any form.
-ghost use Rattle.std.specs.Prelude.{◌≡◌, ◌↔◌, ℕ, ◌+◌, ◌≤◌, ◌∷◌, length, IfErr, IfOk, IsTrue, List, MatchOption, None, OnOk};
+ghost use Rattle.std.specs.Prelude.{◌≡◌, ◌↔◌, ℕ, ◌+◌, ◌≤◌, ◌∷◌, false, length, IfErr, IfOk, IsTrue, List, MatchOption, None, OnOk};
 ghost use Rattle.std.specs.Bool.{MatchBool};
 ghost use Rattle.cc_check.specs.declared.silent.SilentVerdict.TheVariants as verdicts;
-ghost use Rattle.cc_check.specs.Clauses.{HasLineBehind, plain_finding};
+ghost use Rattle.cc_check.specs.Clauses.{HasLineBehind, IsFoundInBytes, plain_finding, reading_as};
 ghost use Rattle.cc_check.specs.Silent.{IsSilentFault, IsSilentVerdict, IsSilentVerdictBehind, IsSilentVerdictWithin, IsUnread, PassesNoLimit, SilentSubject, refused_for};
 ghost use Rattle.cc_check.specs.SilentParts.{IsBehindFault, IsPassFault, IsPassedFrom, IsShorter, IsSilentInside};
+ghost use Rattle.cc_defs.specs.declared.log.Version.TheVariants as versions;
 ghost use Rattle.cc_defs.specs.Limits.{most_log_bytes};
 ghost use Rattle.cc_defs.specs.LogTexts.{lines_in};
 ghost use Rattle.cc_defs.specs.Refusals.{IsRefusedBy};
@@ -159,6 +160,65 @@ fn refusal_of(finding: Finding) -> Option<SilentVerdict>
     }
 }
 
+// What the lines of a section are found to be, of which the first has this number, over the axioms under its heading.
+fn find_under<S: Silent>(
+    alloc: Global,
+    kind: &S,
+    heading: &S::Heading,
+    first: u32,
+    bytes: &[u8],
+) -> Result<Finding, Fault>
+    requires few { length bytes.now ≤ most_log_bytes }
+    requires line { first ≤ most_log_bytes + 2 }
+    requires can { S.can_form kind.now heading.now }
+    requires right { (of : S.Of) → S.Is kind.now of → (S.subject of).Right heading.now }
+    ensures found { (of : S.Of) → S.Is kind.now of → IfOk result (λ finding.
+        IsFoundInBytes (reading_as versions.First false) ((S.subject of).axioms heading.now) first
+        bytes.now (plain_finding finding)) }
+    ensures few { IfOk result (λ finding. HasLineBehind finding) }
+    ensures within { (of : S.Of) →
+        S.Is kind.now of → OnOk result ((S.subject of).limit heading.now ≡ None) }
+    ensures refused { (of : S.Of) →
+        S.Is kind.now of → IfErr result (IsRefusedBy ((S.subject of).limit heading.now)) }
+{
+    let form = kind.form(alloc, heading)?;
+    let finding = find_lines(alloc, &form, Version::First, false, first, bytes);
+    drop(form);
+    Ok(finding?)
+}
+
+// The section under the heading at a line: a right one is passed.
+fn pass_under<'b, S: Silent>(
+    alloc: Global,
+    kind: &S,
+    heading: &S::Heading,
+    line: u32,
+    behind: &'b [u8],
+) -> Result<Passed<'b>, Fault>
+    requires few { length behind.now ≤ most_log_bytes }
+    requires line { line ≤ most_log_bytes + 1 }
+    ensures passed { (of : S.Of) (text : List ℕ) → S.Is kind.now of →
+        (S.subject of).Reads text heading.now →
+        IfOk result (IsPassedFrom (S.subject of) line (text ∷ lines_in behind.now)) }
+    ensures shorter { IfOk result (IsShorter (length behind.now)) }
+    ensures refused { (of : S.Of) (text : List ℕ) → S.Is kind.now of →
+        (S.subject of).Reads text heading.now →
+        IfErr result (IsPassFault (S.subject of) line (text ∷ lines_in behind.now)) }
+{
+    let inside = inside_of(alloc, kind, behind)?;
+    if !kind.is_right(heading) {
+        return Ok(Passed::Stops(refused(line, Cause::Section)));
+    }
+    let finding = find_under(alloc, kind, heading, line + 1, inside.bytes)?;
+    match refusal_of(finding) {
+        Some(verdict) => Ok(Passed::Stops(verdict)),
+        None => Ok(Passed::Goes {
+            count: inside.count,
+            rest: inside.rest,
+        }),
+    }
+}
+
 // The section whose heading is the text at a line: a right one is passed.
 fn pass_section<'b, S: Silent>(
     alloc: Global,
@@ -179,19 +239,7 @@ fn pass_section<'b, S: Silent>(
         let cause = second_cause(text);
         return Ok(Passed::Stops(refused(line, cause)));
     };
-    let inside = inside_of(alloc, kind, behind)?;
-    if !kind.is_right(&heading) {
-        return Ok(Passed::Stops(refused(line, Cause::Section)));
-    }
-    let form = kind.form(alloc, &heading)?;
-    let finding = find_lines(alloc, &form, Version::First, false, line + 1, inside.bytes)?;
-    match refusal_of(finding) {
-        Some(verdict) => Ok(Passed::Stops(verdict)),
-        None => Ok(Passed::Goes {
-            count: inside.count,
-            rest: inside.rest,
-        }),
-    }
+    pass_under(alloc, kind, &heading, line, behind)
 }
 
 // The verdict of the sections behind the header.
