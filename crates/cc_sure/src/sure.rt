@@ -26,6 +26,7 @@ use cc_arena::{GroundQuery, Laws};
 use cc_defs::{Fault, List, LogLine, OutOfMemory, Row, Sig};
 use cc_form::Form;
 use cc_query::{Outcome, form_at, search_one};
+use cc_results::{filled, put_last};
 use std::alloc::Global;
 use std::marker::Model;
 use std::mem;
@@ -170,16 +171,17 @@ impl<'a> Sure<'a> {
         )
     }
 
-    // Adds an example.
-    fn add_example(&mut self, row: Row) -> Result<(), OutOfMemory>
+    // Adds an example, and returns a copy of it.
+    fn add_example(&mut self, row: Row) -> Result<Row, OutOfMemory>
         requires over { IsOver self.old }
+        ensures copied { IfOk result (λ copy. copy ≡ row) }
         ensures added { OnOk result
             (self.new ≡ record self.old { examples = self.old.examples ++ row ∷ [] }) }
         ensures over { IsOver self.new }
         ensures same { IsSame self.old self.new }
     {
-        self.examples.push(row)?;
-        Ok(())
+        let copy = row.copy(self.alloc)?;
+        filled(copy, put_last(&mut self.examples, row))
     }
 
     // Notes of the value that is next whether no history has it.
@@ -233,13 +235,16 @@ impl<'a> Sure<'a> {
         ensures same { IsSame self.old self.new }
     {
         let _last = form.variables();
-        let shown = row.copy(self.alloc)?;
-        self.add_example(row)?;
-        self.stand(Phase::Asking(form));
-        Ok(SureEvent::Example {
-            number: 1,
-            row: shown,
-        })
+        match self.add_example(row) {
+            Ok(row) => {
+                self.stand(Phase::Asking(form));
+                Ok(SureEvent::Example { number: 1, row })
+            }
+            Err(error) => {
+                drop(form);
+                Err(error)
+            }
+        }
     }
 
     // The horizon has no history.
@@ -276,6 +281,15 @@ impl<'a> Sure<'a> {
         }
     }
 
+    // Searches for the least history by the axioms.
+    fn search(&self, form: &Form) -> Result<Outcome, Fault>
+        ensures outcome { IfOk result (IsOutcome form.now self.now.budget) }
+        ensures fault { IfErr result (λ fault. fault ≡ faults.OutOfMemory) }
+    {
+        let searched = form.copy(self.alloc)?;
+        search_one(self.alloc, searched, self.budget)
+    }
+
     // Looks for a history of the horizon.
     fn look_at(&mut self) -> Result<SureEvent, Fault>
         requires over { IsOver self.old }
@@ -287,9 +301,13 @@ impl<'a> Sure<'a> {
         ensures same { IsSame self.old self.new }
     {
         let form = self.form()?;
-        let searched = form.copy(self.alloc)?;
-        let outcome = search_one(self.alloc, searched, self.budget)?;
-        Ok(self.looked(form, outcome)?)
+        match self.search(&form) {
+            Ok(outcome) => Ok(self.looked(form, outcome)?),
+            Err(fault) => {
+                drop(form);
+                Err(fault)
+            }
+        }
     }
 
     // Looks for a history, where there is one more horizon.
@@ -336,6 +354,21 @@ impl<'a> Sure<'a> {
         Ok(())
     }
 
+    // Adds an example, which has the value that is next, and returns a copy of it.
+    fn add_found(&mut self, row: Row) -> Result<Row, OutOfMemory>
+        requires over { IsOver self.old }
+        ensures copied { IfOk result (λ copy. copy ≡ row) }
+        ensures added { OnOk result (self.new ≡ record self.old {
+          examples = self.old.examples ++ row ∷ [];
+          never = self.old.never ++ false ∷ [];
+        }) }
+        ensures over { IsOver self.new }
+        ensures same { IsSame self.old self.new }
+    {
+        self.add_tried(false)?;
+        self.add_example(row)
+    }
+
     // A further example, which has the value that is next.
     fn add(&mut self, form: Form, row: Row) -> Result<SureEvent, OutOfMemory>
         requires over { IsOver self.old }
@@ -352,12 +385,17 @@ impl<'a> Sure<'a> {
         ensures over { OnErr result (IsOver self.new) }
         ensures same { IsSame self.old self.new }
     {
-        let shown = row.copy(self.alloc)?;
-        self.add_tried(false)?;
-        self.add_example(row)?;
-        let number = self.count();
-        self.stand(Phase::Asking(form));
-        Ok(SureEvent::Example { number, row: shown })
+        match self.add_found(row) {
+            Ok(row) => {
+                let number = self.count();
+                self.stand(Phase::Asking(form));
+                Ok(SureEvent::Example { number, row })
+            }
+            Err(error) => {
+                drop(form);
+                Err(error)
+            }
+        }
     }
 
     // No history has the value that is next.
@@ -377,13 +415,21 @@ impl<'a> Sure<'a> {
         ensures same { IsSame self.old self.new }
     {
         let (position, value) = self.atom();
-        self.add_tried(true)?;
-        self.stand(Phase::Asking(form));
-        Ok(SureEvent::Impossible {
-            position,
-            value,
-            lines,
-        })
+        match self.add_tried(true) {
+            Ok(()) => {
+                self.stand(Phase::Asking(form));
+                Ok(SureEvent::Impossible {
+                    position,
+                    value,
+                    lines,
+                })
+            }
+            Err(error) => {
+                drop(lines);
+                drop(form);
+                Err(error)
+            }
+        }
     }
 
     // What is told of the search for a history that has the value that is next.
@@ -413,6 +459,21 @@ impl<'a> Sure<'a> {
         }
     }
 
+    // Searches for the least history that has an atom.
+    fn search_with(&self, form: &Form, position: u64, value: u32) -> Result<Outcome, Fault>
+        requires { (size : ℕ)
+            × (slice_get form.now.sizes position ≡ Some size) × (value < size) }
+        ensures outcome { IfOk result
+            (IsOutcome (with_atom form.now position value) self.now.budget) }
+        ensures within { OnOk result
+            (count_refusal (with_atom form.now position value).clauses ≡ None) }
+        ensures refused { IfErr result
+            (IsRefusedBy (count_refusal (with_atom form.now position value).clauses)) }
+    {
+        let searched = form.with_atom(self.alloc, position, value)?;
+        search_one(self.alloc, searched, self.budget)
+    }
+
     // Looks for a history that has the value that is next.
     fn try_value(&mut self, form: Form) -> Result<SureEvent, Fault>
         requires over { IsOver self.old }
@@ -428,9 +489,13 @@ impl<'a> Sure<'a> {
         ensures same { IsSame self.old self.new }
     {
         let (position, value) = self.atom();
-        let searched = form.with_atom(self.alloc, position, value)?;
-        let outcome = search_one(self.alloc, searched, self.budget)?;
-        Ok(self.tried(form, outcome)?)
+        match self.search_with(&form, position, value) {
+            Ok(outcome) => Ok(self.tried(form, outcome)?),
+            Err(fault) => {
+                drop(form);
+                Err(fault)
+            }
+        }
     }
 
     // What is answered of each value of the position.
@@ -456,10 +521,17 @@ impl<'a> Sure<'a> {
         ensures same { IsSame self.old self.new }
     {
         let (position, _) = self.atom();
-        let answers = self.settled()?;
-        self.pass_position();
-        self.stand(Phase::Asking(form));
-        Ok(SureEvent::Answers { position, answers })
+        match self.settled() {
+            Ok(answers) => {
+                self.pass_position();
+                self.stand(Phase::Asking(form));
+                Ok(SureEvent::Answers { position, answers })
+            }
+            Err(error) => {
+                drop(form);
+                Err(error)
+            }
+        }
     }
 
     // The next value, or the answers of the position.
@@ -495,8 +567,13 @@ impl<'a> Sure<'a> {
         ensures over { OnErr result (IsOver self.new) }
         ensures same { IsSame self.old self.new }
     {
-        self.skip(&form, size)?;
-        self.ask_at(form, size)
+        match self.skip(&form, size) {
+            Ok(()) => self.ask_at(form, size),
+            Err(error) => {
+                drop(form);
+                Err(error.into())
+            }
+        }
     }
 
     // What is told next of the positions.
