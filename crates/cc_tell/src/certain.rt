@@ -1,5 +1,5 @@
 //! Tells the events of a run on certain and possible atoms, each line of an output by one call of the desk.
-ghost use Rattle.std.specs.Prelude.{◌≡◌, ◌∷◌, ◌++◌, ◌<◌, ◌≤◌, ℕ, [], IfOk, OnOk, Some, false, codes, decimal, flat_map, length, string_bytes};
+ghost use Rattle.std.specs.Prelude.{◌≡◌, ◌∷◌, ◌++◌, ◌<◌, ◌≤◌, ℕ, [], IfOk, Some, false, codes, decimal, flat_map, length};
 ghost use Rattle.std.specs.List.{AllByRecursion};
 ghost use Rattle.cc_defs.specs.Conditions.{IsSignatureOfDescription};
 ghost use Rattle.cc_defs.specs.Description.{Description, sizes_at};
@@ -20,11 +20,10 @@ ghost use Rattle.cc_tell.specs.Steps.{Step};
 ghost use Rattle.cc_tell.specs.Givens.{given_to};
 ghost use Rattle.cc_tell.specs.SureTexts as sures;
 
-use crate::causes::push_number;
-use crate::refusing::give;
+use crate::refusing::{give, give_made};
 use crate::status::{Status, Stop};
 use crate::telling::{tell_event, tell_line, tell_row};
-use cc_defs::{Event, LogLine, OutOfMemory, Sig};
+use cc_defs::{Event, LogLine, OutOfMemory, Sig, Text};
 use cc_ports::{Desk, To};
 use cc_print::atom_text;
 use cc_sorts::Table;
@@ -32,12 +31,12 @@ use cc_sure::{Answer, SureEvent};
 use std::alloc::Global;
 
 /// The line before an example.
-fn example_line(alloc: Global, horizon: u32, number: u32) -> Result<String, OutOfMemory>
+fn example_line(alloc: Global, horizon: u32, number: u32) -> Result<Text, OutOfMemory>
     ensures { IfOk result (λ line.
-        string_bytes line ≡ of_horizon horizon (codes "example " ++ decimal number)) }
+        line ≡ of_horizon horizon (codes "example " ++ decimal number)) }
 {
     let line = format!(in alloc; "horizon {horizon}: example {number}\n")?;
-    Ok(line)
+    Ok(Text::of(line))
 }
 
 /// Gives an example and its key to Out, behind the line with its number.
@@ -58,36 +57,35 @@ fn tell_example<D: Desk>(
         ++ (history_text d horizon row.now ++ key_line horizon row.now))) (D.seen desk.old)
         (D.seen desk.new) result }
 {
-    let line = example_line(alloc, horizon, number)?;
-    give(desk, To::Out, line.as_bytes())?;
+    give_made(desk, To::Out, example_line(alloc, horizon, number))?;
     tell_row(alloc, desk, table, sig, horizon, row)
 }
 
-/// Writes words.
-fn push_words(text: &mut String, words: &str) -> Result<(), OutOfMemory>
-    ensures { OnOk result (string_bytes text.new ≡ string_bytes text.old ++ words.now) }
+/// The line of an atom, and these words behind it.
+fn said_of(alloc: Global, atom: &str, said: &str) -> Result<Text, OutOfMemory>
+    ensures { IfOk result (λ line. line ≡ atom.now ++ said.now ++ 10 ∷ []) }
 {
-    text.push_str(words)?;
-    Ok(())
+    let line = format!(in alloc; "{atom}{said}\n")?;
+    Ok(Text::of(line))
 }
 
-/// Writes that an atom is possible, as this example shows.
-fn push_possible(text: &mut String, example: u32) -> Result<(), OutOfMemory>
-    ensures { OnOk result (string_bytes text.new
-        ≡ string_bytes text.old ++ (codes " possible, example " ++ decimal example)) }
+/// The line of an atom that is possible, as this example shows.
+fn possible_line(alloc: Global, atom: &str, example: u32) -> Result<Text, OutOfMemory>
+    ensures { IfOk result (λ line.
+        line ≡ atom.now ++ (codes " possible, example " ++ decimal example) ++ 10 ∷ []) }
 {
-    text.push_str(" possible, example ")?;
-    push_number(text, example)
+    let line = format!(in alloc; "{atom} possible, example {example}\n")?;
+    Ok(Text::of(line))
 }
 
-/// Writes what is answered of an atom.
-fn push_answer(text: &mut String, answer: Answer) -> Result<(), OutOfMemory>
-    ensures { OnOk result (string_bytes text.new ≡ string_bytes text.old ++ answer_words answer) }
+/// The line of an atom, and what is answered of it.
+fn answered(alloc: Global, atom: &str, answer: Answer) -> Result<Text, OutOfMemory>
+    ensures { IfOk result (λ line. line ≡ atom.now ++ answer_words answer ++ 10 ∷ []) }
 {
     match answer {
-        Answer::Certain => push_words(text, " certain"),
-        Answer::Possible { example } => push_possible(text, example),
-        Answer::Impossible => push_words(text, " impossible"),
+        Answer::Certain => said_of(alloc, atom, " certain"),
+        Answer::Possible { example } => possible_line(alloc, atom, example),
+        Answer::Impossible => said_of(alloc, atom, " impossible"),
     }
 }
 
@@ -99,17 +97,14 @@ fn answer_line(
     position: u64,
     value: u32,
     answer: Answer,
-) -> Result<String, OutOfMemory>
+) -> Result<Text, OutOfMemory>
     requires signature { IsSignatureFor table.now sig.now }
     requires atom { IsAtomOf sig.now position value }
     ensures { (d : Description) → AreNamesOf table.now sig.now d → IfOk result (λ line.
-        string_bytes line ≡ atoms.atom_text d position value ++ answer_words answer ++ 10 ∷ []) }
+        line ≡ atoms.atom_text d position value ++ answer_words answer ++ 10 ∷ []) }
 {
     let atom = atom_text(alloc, table, sig, position, value)?;
-    let mut line = String::from_str(alloc, atom.text())?;
-    push_answer(&mut line, answer)?;
-    line.push_str("\n")?;
-    Ok(line)
+    answered(alloc, atom.text(), answer)
 }
 
 /// Gives the line of an answer to Out.
@@ -128,8 +123,8 @@ fn tell_answer<D: Desk>(
         Step (given_to outputs.Out (atoms.atom_text d position value ++ answer_words answer
         ++ 10 ∷ [])) (D.seen desk.old) (D.seen desk.new) result }
 {
-    let line = answer_line(alloc, table, sig, position, value, answer)?;
-    give(desk, To::Out, line.as_bytes())
+    let line = answer_line(alloc, table, sig, position, value, answer);
+    give_made(desk, To::Out, line)
 }
 
 /// Gives what is answered of each value of a position to Out, a line each.
@@ -164,28 +159,24 @@ fn tell_answers<D: Desk>(
 }
 
 /// The heading of the search for an atom at a horizon.
-fn atom_line(alloc: Global, horizon: u32, position: u64, value: u32) -> Result<String, OutOfMemory>
-    ensures { IfOk result (λ line. string_bytes line ≡ atom_heading horizon position value) }
+fn atom_line(alloc: Global, horizon: u32, position: u64, value: u32) -> Result<Text, OutOfMemory>
+    ensures { IfOk result (λ line. line ≡ atom_heading horizon position value) }
 {
     let line = format!(in alloc; "a {horizon} {position} {value}\n")?;
-    Ok(line)
+    Ok(Text::of(line))
 }
 
 /// The heading of the search for a history of a horizon.
-pub(crate) fn horizon_line(alloc: Global, horizon: u32) -> Result<String, OutOfMemory>
-    ensures { IfOk result (λ line. string_bytes line ≡ line_text (lines.Section false horizon)) }
+pub(crate) fn horizon_line(alloc: Global, horizon: u32) -> Result<Text, OutOfMemory>
+    ensures { IfOk result (λ line. line ≡ line_text (lines.Section false horizon)) }
 {
     let line = format!(in alloc; "h {horizon}\n")?;
-    Ok(line)
+    Ok(Text::of(line))
 }
 
 /// The heading of a search: of an atom at a horizon, or of a horizon.
-fn heading_text(
-    alloc: Global,
-    horizon: u32,
-    atom: Option<(u64, u32)>,
-) -> Result<String, OutOfMemory>
-    ensures { IfOk result (λ text. string_bytes text ≡ heading_of horizon atom) }
+fn heading_text(alloc: Global, horizon: u32, atom: Option<(u64, u32)>) -> Result<Text, OutOfMemory>
+    ensures { IfOk result (λ text. text ≡ heading_of horizon atom) }
 {
     match atom {
         Some(at) => atom_line(alloc, horizon, at.0, at.1),
@@ -203,8 +194,7 @@ fn tell_heading<D: Desk>(
     ensures { Step (given_to outputs.Log (heading_of horizon atom)) (D.seen desk.old)
         (D.seen desk.new) result }
 {
-    let text = heading_text(alloc, horizon, atom)?;
-    give(desk, To::Log, text.as_bytes())
+    give_made(desk, To::Log, heading_text(alloc, horizon, atom))
 }
 
 /// Gives lines to Log.

@@ -1,5 +1,5 @@
 //! Tells the events of a run over candidates, each line of an output by one call of the desk.
-ghost use Rattle.std.specs.Prelude.{◌≡◌, ◌∷◌, ◌++◌, [], IfOk, None, Some};
+ghost use Rattle.std.specs.Prelude.{◌≡◌, ◌∷◌, ◌++◌, [], ℕ, List, IfOk, None, Some};
 ghost use Rattle.std.specs.List.{AllByRecursion};
 ghost use Rattle.cc_defs.specs.Description.{Description};
 ghost use Rattle.cc_defs.specs.Events.{out_text};
@@ -18,7 +18,7 @@ ghost use Rattle.cc_tell.specs.Steps.{Step};
 ghost use Rattle.cc_tell.specs.Givens.{given_to};
 
 use crate::certain::{horizon_line, tell_lines};
-use crate::refusing::give;
+use crate::refusing::give_made;
 use crate::status::{Status, Stop, status_of};
 use crate::telling::{tell_event, tell_history};
 use cc_defs::{Ending, Event, LogLine, OutOfMemory, Row, Sig, Text};
@@ -41,22 +41,23 @@ fn heading_text(alloc: Global, horizon: u32, row: &Option<Row>) -> Result<Text, 
 {
     match row {
         Some(row) => rivals_line(alloc, horizon, row.items()),
-        None => Ok(Text::of(horizon_line(alloc, horizon)?)),
+        None => horizon_line(alloc, horizon),
     }
 }
 
-/// Gives the lines of a section to Log, behind its heading.
+/// Gives the lines of a section to Log, behind its heading, which was made.
 fn tell_section<D: Desk>(
     alloc: Global,
     desk: &mut D,
-    heading: &str,
+    heading: Result<Text, OutOfMemory>,
     lines: &[LogLine],
 ) -> Result<(), Stop>
     requires formed { AllByRecursion IsFormed lines.now }
-    ensures { Step (given_to outputs.Log (heading.now ++ lines_text lines.now)) (D.seen desk.old)
+    ensures { (text : List ℕ) → IfOk heading (λ given. given ≡ text) →
+        Step (given_to outputs.Log (text ++ lines_text lines.now)) (D.seen desk.old)
         (D.seen desk.new) result }
 {
-    give(desk, To::Log, heading.as_bytes())?;
+    give_made(desk, To::Log, heading)?;
     tell_lines(alloc, desk, lines)
 }
 
@@ -86,8 +87,7 @@ fn tell_shown<D: Desk>(
         Step (given_generally d (events.History horizon number row.now lines.now)) (D.seen desk.old)
         (D.seen desk.new) result }
 {
-    let heading = rivals_line(alloc, horizon, row)?;
-    tell_section(alloc, desk, heading.text(), lines)?;
+    tell_section(alloc, desk, rivals_line(alloc, horizon, row), lines)?;
     let event = Event::History { horizon, number };
     tell_history(alloc, desk, table, sig, &event, horizon, row)
 }
@@ -106,8 +106,7 @@ fn tell_spent<D: Desk>(
         Step (given_generally d (events.Spent horizon listed rivals_of.now lines.now))
         (D.seen desk.old) (D.seen desk.new) result }
 {
-    let heading = heading_text(alloc, horizon, rivals_of)?;
-    tell_section(alloc, desk, heading.text(), lines)?;
+    tell_section(alloc, desk, heading_text(alloc, horizon, rivals_of), lines)?;
     let ending = Ending::Spent { horizon, listed };
     tell_alone(alloc, desk, &Event::Ended(ending))
 }

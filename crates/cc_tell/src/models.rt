@@ -10,7 +10,7 @@ ghost use Rattle.cc_tell.specs.ModelTexts.{models_end, models_status};
 ghost use Rattle.cc_tell.specs.Steps.{Step};
 ghost use Rattle.cc_tell.specs.Tellers.{IsWritable};
 
-use crate::refusing::give;
+use crate::refusing::{give, give_made};
 use crate::status::{Status, Stop};
 use crate::telling::tell_line_in;
 use cc_defs::{EndWord, LogLine, OutOfMemory, Version};
@@ -127,8 +127,7 @@ pub fn tell_model<D: Desk>(
     ensures goes_on { IfOk result (λ status. status ≡ None) }
 {
     let number = lister.listed + 1;
-    let text = model_text(alloc, number, row)?;
-    give(desk, To::Out, text.text().as_bytes())?;
+    give_made(desk, To::Out, model_text(alloc, number, row))?;
     lister.listed = number;
     Ok(None)
 }

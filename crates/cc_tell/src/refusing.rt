@@ -1,5 +1,5 @@
 //! The lines of Err, each given by one call: refusals, and why a run stops.
-ghost use Rattle.std.specs.Prelude.{◌≡◌, [], IfOk, Some, if◌then◌else◌, ◌==◌, slice_index_or};
+ghost use Rattle.std.specs.Prelude.{◌≡◌, [], ℕ, List, IfOk, Some, if◌then◌else◌, ◌==◌, slice_index_or};
 ghost use Rattle.cc_ports.specs.declared.desk.To.TheVariants as outputs;
 ghost use Rattle.cc_print.specs.Refusals.{refusal_line};
 ghost use Rattle.cc_tell.specs.ErrLines.{refusal_text as whole_refusal_text, usage_line};
@@ -8,7 +8,7 @@ ghost use Rattle.cc_tell.specs.Steps.{Step};
 ghost use Rattle.cc_tell.specs.StopLines.{TellsStop, stop_line, stop_status, cut_status as status_when_cut};
 
 use crate::status::{Status, Stop};
-use cc_defs::{Name, Refusal};
+use cc_defs::{Name, OutOfMemory, Refusal, Text};
 use cc_ports::{Desk, To, give_all};
 use cc_print::refusal_text;
 use std::alloc::Global;
@@ -24,6 +24,21 @@ pub fn give<D: Desk>(desk: &mut D, to: To, bytes: &[u8]) -> Result<(), Stop>
     match give_all(desk, to, bytes) {
         Ok(()) => Ok(()),
         Err(_) => Err(Stop::WriteFault),
+    }
+}
+
+/// Gives a text that was made to an output.
+pub(crate) fn give_made<D: Desk>(
+    desk: &mut D,
+    to: To,
+    made: Result<Text, OutOfMemory>,
+) -> Result<(), Stop>
+    ensures { (text : List ℕ) → IfOk made (λ given. given ≡ text) →
+        Step (given_to to text) (D.seen desk.old) (D.seen desk.new) result }
+{
+    match made {
+        Ok(given) => give(desk, to, given.text().as_bytes()),
+        Err(OutOfMemory) => Err(Stop::OutOfMemory),
     }
 }
 
@@ -66,8 +81,7 @@ fn tell_refusal<D: Desk>(
     ensures { Step (given_to outputs.Err (refusal_line refusal.now file.now)) (D.seen desk.old)
         (D.seen desk.new) result }
 {
-    let text = refusal_text(alloc, refusal, file)?;
-    give(desk, To::Err, text.text().as_bytes())
+    give_made(desk, To::Err, refusal_text(alloc, refusal, file))
 }
 
 /// Tells how the words are to be, where they were refused.

@@ -21,11 +21,11 @@ ghost use Rattle.cc_tell.specs.Givens.{given_to};
 ghost use Rattle.cc_tell.specs.Tellers.{IsCounted, IsWritable, IsWritableBy, IsWritableEvent, KeepsUp, manner_of};
 ghost use Rattle.cc_tell.specs.Statuses.{status_told};
 
-use crate::refusing::give;
+use crate::refusing::{give, give_made};
 use crate::status::Stop;
 use crate::summing::sum;
 use cc_check::{put_binary, put_line};
-use cc_defs::{Event, LogLine, Sig, Told, Version};
+use cc_defs::{Event, LogLine, OutOfMemory, Sig, Text, Told, Version};
 use cc_ports::{Desk, To};
 use cc_print::{event_text, history_text, key_line};
 use cc_sorts::Table;
@@ -72,6 +72,20 @@ pub fn give_lines<D: Desk>(desk: &mut D, text: &str) -> Result<(), Stop>
     Ok(())
 }
 
+/// Gives the lines of a text that was made to Out, one after another.
+pub(crate) fn give_made_lines<D: Desk>(
+    desk: &mut D,
+    made: Result<Text, OutOfMemory>,
+) -> Result<(), Stop>
+    ensures { (text : List ℕ) → IfOk made (λ given. given ≡ text) →
+        Step (given_to outputs.Out text) (D.seen desk.old) (D.seen desk.new) result }
+{
+    match made {
+        Ok(given) => give_lines(desk, given.text()),
+        Err(OutOfMemory) => Err(Stop::OutOfMemory),
+    }
+}
+
 /// Gives a history and its key to Out.
 pub(crate) fn tell_row<D: Desk>(
     alloc: Global,
@@ -88,8 +102,8 @@ pub(crate) fn tell_row<D: Desk>(
         Step (given_to outputs.Out (texts.history_text d horizon row.now
         ++ texts.key_line horizon row.now)) (D.seen desk.old) (D.seen desk.new) result }
 {
-    let history = history_text(alloc, table, sig, horizon, row)?;
-    give_lines(desk, history.text())?;
+    let history = history_text(alloc, table, sig, horizon, row);
+    give_made_lines(desk, history)?;
     tell_key(alloc, desk, horizon, row)
 }
 
@@ -98,8 +112,7 @@ fn tell_key<D: Desk>(alloc: Global, desk: &mut D, horizon: u32, row: &[u32]) -> 
     ensures { Step (given_to outputs.Out (texts.key_line horizon row.now)) (D.seen desk.old)
         (D.seen desk.new) result }
 {
-    let line = key_line(alloc, "key ", horizon, row)?;
-    give(desk, To::Out, line.text().as_bytes())
+    give_made(desk, To::Out, key_line(alloc, "key ", horizon, row))
 }
 
 /// Gives the line of an event to Out.
@@ -107,8 +120,7 @@ pub(crate) fn tell_event<D: Desk>(alloc: Global, desk: &mut D, event: &Event) ->
     ensures { Step (given_to outputs.Out (event_line event.now)) (D.seen desk.old) (D.seen desk.new)
         result }
 {
-    let text = event_text(alloc, event)?;
-    give(desk, To::Out, text.text().as_bytes())
+    give_made(desk, To::Out, event_text(alloc, event))
 }
 
 /// Gives a line of the log to Log; where it would be dropped, it is not made.
@@ -120,8 +132,7 @@ pub(crate) fn tell_line<D: Desk>(alloc: Global, desk: &mut D, line: &LogLine) ->
     if desk.drops_log() {
         return Ok(());
     }
-    let text = put_line(alloc, line)?;
-    give(desk, To::Log, text.text().as_bytes())
+    give_made(desk, To::Log, put_line(alloc, line))
 }
 
 /// The same in version 2, where the line's own clause has this number.

@@ -1,5 +1,4 @@
-use Rattle.cc_tell.proofs.GivenSteps.{step_nothing}
 use Rattle.cc_tell.proofs.certain.tell_answer.Goals as goal
 
-pub returns-in_err-line : goal.returns-in_err-line
-returns-in_err-line g c = λ d of. step_nothing _ _ c.from_residual.result c.from_residual.ensures.1
+pub returns : goal.returns
+returns g c = λ d of. c.give_made.ensures _ (c.answer_line-line.ensures d of)

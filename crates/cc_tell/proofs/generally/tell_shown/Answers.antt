@@ -1,20 +1,15 @@
-use Rattle.std.proofs.Common.{◌∙◌, ◌++◌, Some, ap, append-nil, sym}
+use Rattle.std.proofs.Common.{◌++◌, Some, append-nil, sym}
 use Rattle.cc_ports.specs.declared.desk.To.TheVariants as outputs
 use Rattle.cc_query.proofs.Positions.{row_in}
 use Rattle.cc_tell.specs.GeneralTexts.{heading_for, lines_text}
-use Rattle.cc_tell.proofs.GivenSteps.{one_as, step_nothing}
+use Rattle.cc_tell.proofs.GivenSteps.{one_as}
 use Rattle.cc_tell.proofs.SureLines.{log_cut, log_then}
 use Rattle.cc_tell.proofs.generally.tell_shown.Goals as goal
-
-pub returns-in_err-heading : goal.returns-in_err-heading
-returns-in_err-heading g c = λ d is. step_nothing _ _ c.from_residual.result c.from_residual.ensures.1
 
 pub returns-in_err-tell_section : goal.returns-in_err-tell_section
 returns-in_err-tell_section g c = λ d is.
     log_cut _ (heading_for c.args.horizon (Some c.args.row.now) ++ lines_text c.args.lines.now) _ _ c.tell_section.result c.in_err-tell_section.field-0.0
-    c.from_residual-in_err-tell_section.result
-    (one_as outputs.Log _ _ _ _ c.tell_section.result (ap (λ h. h ++ lines_text c.args.lines.now) (c.text.ensures ∙ c.in_ok-heading.ensures)) c.tell_section.ensures)
-    c.in_err-tell_section.was c.from_residual-in_err-tell_section.ensures.1
+    c.from_residual.result (c.tell_section.ensures _ c.rivals_line.ensures) c.in_err-tell_section.was c.from_residual.ensures.1
 
 pub tell_history-requires-clause-row : goal.tell_history-requires-clause-row
 tell_history-requires-clause-row g c = λ d of. (row_in d c.args.sig.now of c.args.horizon c.args.row.now).0 c.requires.row
@@ -22,5 +17,4 @@ tell_history-requires-clause-row g c = λ d of. (row_in d c.args.sig.now of c.ar
 pub returns : goal.returns
 returns g c = λ d is.
     log_then _ (heading_for c.args.horizon (Some c.args.row.now) ++ lines_text c.args.lines.now) _ _ _ c.tell_section.result c.in_ok-tell_section.field-0 c.tell_history.result
-    (one_as outputs.Log _ _ _ _ c.tell_section.result (ap (λ h. h ++ lines_text c.args.lines.now) (c.text.ensures ∙ c.in_ok-heading.ensures)) c.tell_section.ensures)
-    c.in_ok-tell_section.was (one_as outputs.Out _ _ _ _ c.tell_history.result (sym (append-nil _)) (c.tell_history.ensures d is))
+    (c.tell_section.ensures _ c.rivals_line.ensures) c.in_ok-tell_section.was (one_as outputs.Out _ _ _ _ c.tell_history.result (sym (append-nil _)) (c.tell_history.ensures d is))

@@ -1,5 +1,4 @@
-use Rattle.cc_tell.proofs.GivenSteps.{step_nothing}
 use Rattle.cc_tell.proofs.telling.tell_key.Goals as goal
 
-pub returns-in_err-line : goal.returns-in_err-line
-returns-in_err-line g c = step_nothing _ _ c.from_residual.result c.from_residual.ensures.1
+pub returns : goal.returns
+returns g c = c.give_made.ensures _ c.key_line.ensures
