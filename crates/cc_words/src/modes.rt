@@ -63,32 +63,20 @@ impl Mode {
     pub(crate) fn named(name: &str) -> Option<Mode>
         ensures { result ≡ mode_named name.now }
     {
-        if name == "list" {
-            Some(Mode::List)
-        } else if name == "check" {
-            Some(Mode::Check)
-        } else if name == "make" {
-            Some(Mode::Make)
-        } else if name == "why" {
-            Some(Mode::Why)
-        } else if name == "convert" {
-            Some(Mode::Convert)
-        } else if name == "export" {
-            Some(Mode::Export)
-        } else if name == "models" {
-            Some(Mode::Models)
-        } else if name == "modelscheck" {
-            Some(Mode::CheckModels)
-        } else if name == "sure" {
-            Some(Mode::Sure)
-        } else if name == "surecheck" {
-            Some(Mode::CheckSure)
-        } else if name == "general" {
-            Some(Mode::General)
-        } else if name == "generalcheck" {
-            Some(Mode::CheckGeneral)
-        } else {
-            None
+        match name {
+            "list" => Some(Mode::List),
+            "check" => Some(Mode::Check),
+            "make" => Some(Mode::Make),
+            "why" => Some(Mode::Why),
+            "convert" => Some(Mode::Convert),
+            "export" => Some(Mode::Export),
+            "models" => Some(Mode::Models),
+            "modelscheck" => Some(Mode::CheckModels),
+            "sure" => Some(Mode::Sure),
+            "surecheck" => Some(Mode::CheckSure),
+            "general" => Some(Mode::General),
+            "generalcheck" => Some(Mode::CheckGeneral),
+            _ => None,
         }
     }
 

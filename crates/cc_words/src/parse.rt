@@ -1,7 +1,7 @@
 //! The words, read by a command of clap.
 ghost use Rattle.std.specs.Prelude.{◌≡◌, ◌≢◌, false, IfOk, map, option_map, string_bytes};
 ghost use Rattle.clap.specs.Matches.{found_of};
-ghost use Rattle.clap.specs.Simple.{app_of};
+ghost use Rattle.clap.specs.Simple.{app_of, on_top};
 ghost use Rattle.clap.specs.Values.{kind_of};
 ghost use Rattle.clap.specs.Walk.{first_of, rows_of, rule_of};
 ghost use Rattle.cc_words.specs.Readings.{bare_command, given_in, option_rule, reading};
@@ -31,23 +31,27 @@ fn bare<'a>(alloc: Global) -> Command<'a>
         .disable_help_flag(true)
 }
 
+/// A command that takes an option of each name.
+fn with_options<'a>(alloc: Global, names: &[&'a str]) -> Result<Command<'a>, OutOfMemory>
+    ensures { IfOk result (λ command. app_of command ≡ on_top (λ shape. record shape {
+      rules = map (λ name. option_rule name.now) names.now;
+    }) bare_command) }
+{
+    let mut command = bare(alloc);
+    for name in names {
+        command = command.arg(option(alloc, name))?;
+    }
+    Ok(command)
+}
+
 /// The eleven options, and the file.
 fn command<'a>(alloc: Global) -> Result<Command<'a>, OutOfMemory>
     ensures { IfOk result (λ command. app_of command ≡ readings.command) }
 {
-    let command = bare(alloc)
-        .arg(option(alloc, "mode"))?
-        .arg(option(alloc, "query"))?
-        .arg(option(alloc, "count"))?
-        .arg(option(alloc, "budget"))?
-        .arg(option(alloc, "after"))?
-        .arg(option(alloc, "log"))?
-        .arg(option(alloc, "form"))?
-        .arg(option(alloc, "to"))?
-        .arg(option(alloc, "key"))?
-        .arg(option(alloc, "horizon"))?
-        .arg(option(alloc, "size"))?
-        .arg(Arg::new(alloc, "FILE"))?;
+    let names = [
+        "mode", "query", "count", "budget", "after", "log", "form", "to", "key", "horizon", "size",
+    ];
+    let command = with_options(alloc, &names)?.arg(Arg::new(alloc, "FILE"))?;
     Ok(command)
 }
 
