@@ -11,6 +11,7 @@ mod Extending
 mod Joining
 mod Keeping
 mod Keys
+mod Leaving
 mod Finishing
 mod Gathering
 mod Good

@@ -1,5 +1,5 @@
 -- The machine over the nodes of a term makes its literal.
-use Rattle.std.proofs.Common.{Result, Ok, Err, IfErr, IsErrAnd, ◌≡◌, ◌∙◌, ℕ, zero, suc, ◌+◌, ◌-◌, ◌<◌, ◌≤◌, List, [], ◌∷◌, ◌++◌, length, map, take, drop, get_or, refl, sym, ap, subst, arith, append_assoc, append-nil, length-append}
+use Rattle.std.proofs.Common.{Result, Ok, Err, IfErr, OnOk, IsErrAnd, ◌≡◌, ◌∙◌, ℕ, zero, suc, ◌+◌, ◌-◌, ◌<◌, ◌≤◌, List, [], ◌∷◌, ◌++◌, length, map, take, drop, get_or, refl, sym, ap, subst, arith, append_assoc, append-nil, length-append}
 use Rattle.std.specs.List.{AllByRecursion}
 use Rattle.cc_arena.specs.Walks.{arity}
 use Rattle.cc_defs.specs.declared.node.Node.{Node}
@@ -7,11 +7,12 @@ use Rattle.cc_defs.specs.declared.node.Node.TheVariants as nodes
 use Rattle.cc_defs.specs.declared.refusal.Fault.{Fault}
 use Rattle.cc_defs.specs.declared.refusal.Fault.TheVariants as faults
 use Rattle.cc_defs.specs.ClauseForms.{Made, MadeAll, positive, true_variable, made_all, made_any, made_of, made_operands}
+use Rattle.cc_defs.specs.ClauseLists.{Asserted}
 use Rattle.cc_defs.specs.Clauses.{Literal, opposite}
 use Rattle.cc_defs.specs.Terms.{Ground, Operands, Fits, IsTermOver, nothing, and_then, operand_count, postfix, postfixes}
 use Rattle.cc_defs.specs.Terms as terms
 use Rattle.cc_form.specs.declared.writer.Writer.{Writer}
-use Rattle.cc_form.specs.Machine.{Ran, IsPast, IsRan, IsReady, behind, first_of, made_node, made_nodes, moved_node, run, stepped}
+use Rattle.cc_form.specs.Machine.{Adds, Ran, IsBuilt, IsPast, IsRan, IsReady, behind, first_of, made_node, made_nodes, moved_node, run, stepped}
 use Rattle.cc_form.specs.Store.{Gives}
 use Rattle.cc_form.proofs.Keeping.{gives_more, gives_none}
 
@@ -301,3 +302,13 @@ none_left f (x ∷ xs) (suc i) less = none_left f xs i (omega arith)
 pub err_past : {T : Type 0} (result : Result T Fault) (last : ℕ) (fault : Fault) → IsErrAnd result (λ given. given ≡ fault) → IsPast last fault → IfErr result (IsPast last)
 err_past (Ok x) last fault is past = tt
 err_past (Err given) last fault is past = subst (IsPast last) (sym is) past
+
+-- where clauses are added, or not
+
+pub adds_then : {P : Type 0} (old new : Writer) (made : Asserted) (result : Result (Unit {0}) Fault) → Adds old new result made → (IsBuilt old new made.last made.clauses → P) → OnOk result P
+adds_then old new made (Ok done) built then = then built
+adds_then old new made (Err fault) past then = tt
+
+pub adds_past : (Q : Fault → Type 0) (old new : Writer) (made : Asserted) (result : Result (Unit {0}) Fault) → Adds old new result made → ((fault : Fault) → IsPast made.last fault → Q fault) → IfErr result Q
+adds_past Q old new made (Ok done) built then = tt
+adds_past Q old new made (Err fault) past then = then fault past

@@ -73,7 +73,7 @@ nodes_extend old f term is same over truth =
     subst (λ (m : Made). Extends old (record { sizes = old.sizes; variables = m.last; clauses = old.clauses ++ m.clauses }) m.literal (λ row. holds row f)) (sym (nodes_made old.sizes old.variables f term same))
     (term_extends old is truth f (subst (AllByRecursion (Fits old.sizes)) (sym same) over.fits))
 
-new_axioms : (old new : Writer) (term : List Node) → IsWhole old → IsBuilt old new (made_nodes old.places old.last term).last (made_nodes old.places old.last term).clauses → KeepsAll new → axioms_of new ≡ nodes_behind (axioms_of old) term
+pub new_axioms : (old new : Writer) (term : List Node) → IsWhole old → IsBuilt old new (made_nodes old.places old.last term).last (made_nodes old.places old.last term).clauses → KeepsAll new → axioms_of new ≡ nodes_behind (axioms_of old) term
 new_axioms old new term is built keeps =
     let m = made_nodes old.places old.last term in
     ap (λ (p : List ℕ). let x : Axioms = record { sizes = p; variables = new.last; clauses = new.store.kept.arena } in x) built.places

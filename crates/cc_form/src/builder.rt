@@ -1,22 +1,22 @@
 //! Clauses over positions, one after another, that are always within their limits.
-ghost use Rattle.std.specs.Prelude.{◌≡◌, ◌≤◌, ℕ, List, [], ◌∷◌, Contains, IfOk, IfErr, OnOk, None, slice_index};
+ghost use Rattle.std.specs.Prelude.{◌≡◌, ◌≤◌, ℕ, List, [], ◌∷◌, Contains, IsOk, IfOk, IfErr, OnOk, None, slice_index};
 ghost use Rattle.std.specs.List.{AllByRecursion};
 ghost use Rattle.cc_defs.specs.ClauseForms.{positive, true_variable};
 ghost use Rattle.cc_defs.specs.Clauses.{IsLiteralOver};
 ghost use Rattle.cc_defs.specs.Refusals.{IsRefusedBy};
+ghost use Rattle.cc_defs.specs.declared.refusal.Fault.TheVariants as faults;
 ghost use Rattle.cc_defs.specs.Terms.{Ground, IsTermOver, postfix, truth};
 ghost use Rattle.cc_form.specs.Drafts.{Extends, axioms_refusal, clause_behind, nodes_behind};
 ghost use Rattle.cc_form.specs.Machine.{made_nodes, moved_nodes};
 ghost use Rattle.cc_form.specs.Parts.{axioms_behind};
 
 use crate::defining::write_all;
-use crate::draft::write_first;
+use crate::draft::{emptied, write_first};
 use crate::form::{Form, form_of_whole};
 use crate::writer::Writer;
-use cc_defs::{Fault, Lit, Node};
+use cc_defs::{Fault, Lit, Node, OutOfMemory};
 use std::alloc::Global;
 use std::marker::Model;
-use std::mem::replace;
 
 /// A clause list over positions that grows and is within its limits after each call: that a variable is true, that each
 /// position has exactly one value, and then what its calls put behind. After an `Err` it is one of no positions and without
@@ -40,6 +40,15 @@ impl Model for Builder {
     } };
 
     ghost invariant = { λ builder. IsWhole builder.writer };
+}
+
+/// What was written; else the fault that memory was wanting.
+fn fault_of(written: Result<(), OutOfMemory>) -> Result<(), Fault>
+    ensures written { OnOk result (IsOk written) }
+    ensures fault { IfErr result (λ fault. fault ≡ faults.OutOfMemory) }
+{
+    written?;
+    Ok(())
 }
 
 impl Builder {
@@ -80,11 +89,9 @@ impl Builder {
         ensures refused { IfErr result
             (IsRefusedBy (axioms_refusal (nodes_behind self.old (moved_nodes first nodes.now)))) }
     {
-        let mut writer = replace(&mut self.writer, Writer::none(self.alloc));
-        let literal = writer.literal(nodes, first)?;
-        writer.fits()?;
-        self.writer = writer;
-        Ok(literal)
+        let made = self.writer.literal(nodes, first);
+        let fits = self.writer.within(made);
+        emptied(&mut self.writer, self.alloc, fits)
     }
 
     /// Puts a clause behind the others: each literal once, ascending; one with a variable in both signs is left out.
@@ -95,11 +102,9 @@ impl Builder {
         ensures refused { IfErr result
             (IsRefusedBy (axioms_refusal (clause_behind self.old literals.now))) }
     {
-        let mut writer = replace(&mut self.writer, Writer::none(self.alloc));
-        write_all(&mut writer.store, literals)?;
-        writer.fits()?;
-        self.writer = writer;
-        Ok(())
+        let written = fault_of(write_all(&mut self.writer.store, literals));
+        let fits = self.writer.within(written);
+        emptied(&mut self.writer, self.alloc, fits)
     }
 
     /// The clause list.

@@ -6,7 +6,8 @@ ghost use Rattle.cc_defs.specs.Refusals.{IsRefusedBy};
 ghost use Rattle.cc_form.specs.Building.{count_refusal};
 
 use cc_clauses::ClauseArena;
-use cc_defs::{Fault, LimitAt, OutOfMemory, Refusal};
+use cc_defs::{Fault, LimitAt, Lit, OutOfMemory, Refusal};
+use cc_results::filled;
 use std::alloc::Global;
 
 /// The same clauses.
@@ -19,6 +20,19 @@ pub(crate) fn copy_of(alloc: Global, clauses: &ClauseArena) -> Result<ClauseAren
         copy.push(clauses.clause(index))?;
     }
     Ok(copy)
+}
+
+/// The same clauses, and one behind them.
+pub(crate) fn copy_with(
+    alloc: Global,
+    clauses: &ClauseArena,
+    more: &[Lit],
+) -> Result<ClauseArena, OutOfMemory>
+    ensures { IfOk result (λ copy. copy ≡ clauses.now ++ more.now ∷ []) }
+{
+    let mut copy = copy_of(alloc, clauses)?;
+    let put = copy.push(more);
+    filled(copy, put)
 }
 
 /// Whether one clause of one literal more keeps the clauses and their literals within their limits.

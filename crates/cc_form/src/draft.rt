@@ -1,5 +1,5 @@
 //! Clauses over positions, one after another, whose limits are looked at in the end.
-ghost use Rattle.std.specs.Prelude.{◌≡◌, ◌≤◌, ℕ, List, [], sum, IfOk, IfErr, OnOk, None};
+ghost use Rattle.std.specs.Prelude.{◌≡◌, ◌≤◌, ℕ, List, [], sum, IfOk, IfErr, OnOk, OnErr, None};
 ghost use Rattle.std.specs.List.{AllByRecursion};
 ghost use Rattle.cc_defs.specs.ClauseForms.{true_variable};
 ghost use Rattle.cc_defs.specs.ClauseLists.{Asserted};
@@ -8,7 +8,7 @@ ghost use Rattle.cc_defs.specs.Limits.{most_variables};
 ghost use Rattle.cc_defs.specs.Refusals.{IsRefusedBy};
 ghost use Rattle.cc_defs.specs.Terms.{IsTermOver};
 ghost use Rattle.cc_form.specs.Building.{IsBuiltForm, count_refusal};
-ghost use Rattle.cc_form.specs.Drafts.{IsDraft, with_clause, with_nodes};
+ghost use Rattle.cc_form.specs.Drafts.{IsDraft, IsWhole, with_clause, with_nodes};
 ghost use Rattle.cc_form.specs.Machine.{IsPast, made_nodes, moved_nodes};
 ghost use Rattle.cc_form.specs.Parts.{axioms_behind, first_clauses};
 ghost use Rattle.cc_form.specs.Store.{Gives};
@@ -55,6 +55,23 @@ pub(crate) fn write_first(writer: &mut Writer) -> Result<(), OutOfMemory>
     positions(&mut writer.store, writer.places.sizes())
 }
 
+/// After an error a writer is one of no positions and with no clauses.
+pub(crate) fn emptied<X: Drop, E: Drop>(
+    writer: &mut Writer,
+    alloc: Global,
+    made: Result<X, E>,
+) -> Result<X, E>
+    ensures made { result ≡ made }
+    ensures kept { OnOk made (writer.new ≡ writer.old) }
+    ensures form { OnErr made (IsBuiltForm writer.new) }
+    ensures whole { OnErr made (IsWhole writer.new) }
+{
+    if made.is_err() {
+        drop(replace(writer, Writer::none(alloc)));
+    }
+    made
+}
+
 impl Draft {
     /// A draft over positions with so many values each. Refuses more than 4,000,000 variables (14).
     pub fn new(alloc: Global, sizes: Vec<u32>) -> Result<Draft, Fault>
@@ -85,10 +102,8 @@ impl Draft {
         ensures refused { (sizes : List ℕ) (made : Asserted) → IsDraft sizes self.old made →
             IfErr result (IsPast (made_nodes sizes made.last (moved_nodes first nodes.now)).last) }
     {
-        let mut writer = replace(&mut self.writer, Writer::none(self.alloc));
-        let literal = writer.literal(nodes, first)?;
-        self.writer = writer;
-        Ok(literal)
+        let made = self.writer.literal(nodes, first);
+        emptied(&mut self.writer, self.alloc, made)
     }
 
     /// Puts a clause behind the others: each literal once, ascending; one with a variable in both signs is left out.
@@ -99,10 +114,8 @@ impl Draft {
         ensures last { OnOk result (self.new.last ≡ self.old.last) }
         ensures places { OnOk result (self.new.places ≡ self.old.places) }
     {
-        let mut writer = replace(&mut self.writer, Writer::none(self.alloc));
-        write_all(&mut writer.store, literals)?;
-        self.writer = writer;
-        Ok(())
+        let written = write_all(&mut self.writer.store, literals);
+        emptied(&mut self.writer, self.alloc, written)
     }
 
     /// The clause list. Refuses, in this order, more than 8,000,000 clauses and 40,000,000 literals (14, with the limit).

@@ -1,5 +1,5 @@
 //! The clause list of a section.
-ghost use Rattle.std.specs.Prelude.{◌≡◌, map, ℕ, ◌+◌, ◌≤◌, ◌<◌, ◌↔◌, List, Bool, Some, None, IfOk, IfErr, IfSome, OnOk, IsTrue, All, Contains, length, slice_get, sum};
+ghost use Rattle.std.specs.Prelude.{◌≡◌, [], map, ℕ, ◌+◌, ◌≤◌, ◌<◌, ◌↔◌, List, Bool, Some, None, IfOk, IfErr, IfSome, OnOk, IsTrue, All, Contains, length, slice_get, sum};
 ghost use Rattle.std.specs.Option.{option_map};
 ghost use Rattle.cc_arena.specs.GroundViews.{plain_ground_condition, plain_ground_query};
 ghost use Rattle.cc_defs.specs.ClauseForms.{atom_variable, positive, true_variable};
@@ -24,11 +24,11 @@ ghost use Rattle.cc_form.specs.Building.{IsBuiltForm, IsSection, count_refusal};
 ghost use Rattle.cc_form.specs.Store.{AreFew, Holds};
 ghost use Rattle.std.specs.List.{AllByRecursion};
 
-use crate::copies::{copy_of, fits_one};
+use crate::copies::{copy_of, copy_with, fits_one};
 use crate::draft::write_first;
 use crate::groups::{complete, deny_falsity};
 use crate::laws::clauses_tell_rows;
-use crate::places::{Places, sizes_of};
+use crate::places::Places;
 use crate::rules::bodies_within;
 use crate::section::{assert_all, deny, follow};
 use crate::writer::Writer;
@@ -36,6 +36,7 @@ use cc_arena::laws::terms_mean_formulas;
 use cc_arena::{GroundCondition, GroundQuery, one_formula};
 use cc_clauses::ClauseArena;
 use cc_defs::{Fault, Key, Lit, OutOfMemory};
+use cc_results::{both, filled};
 use cc_theory::Theory;
 use cc_theory::laws::{models_are_paths, models_meet_completion};
 use std::alloc::Global;
@@ -121,12 +122,11 @@ impl Form {
     pub fn copy(&self, alloc: Global) -> Result<Form, OutOfMemory>
         ensures { IfOk result (λ copy. copy ≡ self.now) }
     {
-        let places = self.places.copy(alloc)?;
-        let clauses = copy_of(alloc, &self.clauses)?;
+        let copies = both(self.places.copy(alloc), copy_of(alloc, &self.clauses))?;
         Ok(Form {
-            places,
+            places: copies.0,
             variables: self.variables,
-            clauses,
+            clauses: copies.1,
         })
     }
 
@@ -142,13 +142,12 @@ impl Form {
             (IsRefusedBy (count_refusal (with_atom self.now position value).clauses)) }
     {
         fits_one(&self.clauses)?;
-        let places = self.places.copy(alloc)?;
-        let mut clauses = copy_of(alloc, &self.clauses)?;
-        clauses.push(&[self.places.atom(position, value)])?;
+        let clauses = copy_with(alloc, &self.clauses, &[self.places.atom(position, value)]);
+        let copies = both(self.places.copy(alloc), clauses)?;
         Ok(Form {
-            places,
+            places: copies.0,
             variables: self.variables,
-            clauses,
+            clauses: copies.1,
         })
     }
 
@@ -289,6 +288,40 @@ pub(crate) fn close(writer: Writer) -> Result<Form, Fault>
     Ok(form_of_whole(writer))
 }
 
+/// The clauses of a section, written by a writer over its positions.
+fn fill(
+    alloc: Global,
+    writer: &mut Writer,
+    theory: &Theory<'_>,
+    query: &GroundQuery<'_>,
+    with_claim: bool,
+    after: Option<&Key>,
+) -> Result<(), Fault>
+    requires query { IsQueryAt theory.now.signature theory.now.horizon
+        (plain_ground_query query.now) }
+    requires key { IfSome after (λ key. IsKeyAt theory.now.signature theory.now.horizon key.now) }
+    requires places { writer.old.places ≡ position_sizes theory.now.signature theory.now.horizon }
+    requires last { writer.old.last ≡ true_variable writer.old.places }
+    requires within { writer.old.last ≤ most_variables }
+    requires none { Holds writer.old.store.kept [] }
+    ensures built { OnOk result (IsSection
+        (position_sizes theory.now.signature theory.now.horizon) (section_list theory.now
+        (plain_ground_query query.now) with_claim (option_map (λ key. key.now) after.entry))
+        writer.new) }
+    ensures refused { IfErr result (IsPast (section_list theory.now (plain_ground_query query.now)
+        with_claim (option_map (λ key. key.now) after.entry)).variables) }
+    ensures ready { OnOk result (IsBuiltForm writer.new) }
+    ensures horizon { theory.now.horizon ≤ most_steps }
+    ensures rules { AreRulesAt theory.now.signature theory.now.horizon theory.now.rules }
+{
+    let horizon = theory.horizon();
+    let _rules = theory.rules();
+    let sig = theory.sig();
+    let stride = u64::from(sig.fluents()) + u64::from(sig.actions());
+    add_rules(alloc, writer, stride, theory)?;
+    add_query(writer, stride, horizon, query, with_claim, after)
+}
+
 /// The clauses of a section, built.
 fn build(
     alloc: Global,
@@ -309,15 +342,10 @@ fn build(
     ensures horizon { theory.now.horizon ≤ most_steps }
     ensures rules { AreRulesAt theory.now.signature theory.now.horizon theory.now.rules }
 {
-    let horizon = theory.horizon();
     let _rules = theory.rules();
-    let sig = theory.sig();
-    let stride = u64::from(sig.fluents()) + u64::from(sig.actions());
-    let sizes = sizes_of(alloc, sig, horizon)?;
-    let mut writer = Writer::new(alloc, sizes)?;
-    add_rules(alloc, &mut writer, stride, theory)?;
-    add_query(&mut writer, stride, horizon, query, with_claim, after)?;
-    Ok(writer)
+    let mut writer = Writer::over(alloc, theory.sig(), theory.horizon())?;
+    let filling = fill(alloc, &mut writer, theory, query, with_claim, after);
+    filled(writer, filling)
 }
 
 /// The clause list of a section: the axioms of the search for the histories of a query at the horizon of a theory. In order:

@@ -11,6 +11,7 @@ ghost use Rattle.cc_form.specs.Machine.{IsPast};
 ghost use Rattle.cc_form.specs.Places.{firsts as firsts_from, position_sizes};
 
 use cc_defs::{Fault, LimitAt, Lit, OutOfMemory, Refusal, Sig};
+use cc_results::both;
 use std::alloc::Global;
 use std::marker::Model;
 
@@ -137,11 +138,12 @@ impl Places {
     pub(crate) fn copy(&self, alloc: Global) -> Result<Places, OutOfMemory>
         ensures { IfOk result (λ copy. copy ≡ self.now) }
     {
-        let sizes = Vec::from_slice(alloc, self.sizes.as_slice())?;
-        let firsts = Vec::from_slice(alloc, self.firsts.as_slice())?;
+        let sizes = Vec::from_slice(alloc, self.sizes.as_slice());
+        let firsts = Vec::from_slice(alloc, self.firsts.as_slice());
+        let copies = both(sizes, firsts)?;
         Ok(Places {
-            sizes,
-            firsts,
+            sizes: copies.0,
+            firsts: copies.1,
             truth: self.truth,
         })
     }

@@ -15,13 +15,14 @@ ghost use Rattle.cc_form.specs.Steps.{AreSteps, IsRuled, bodies_at, bodies_of_st
 ghost use Rattle.cc_form.specs.Store.{Gives, Holds};
 
 use crate::groups::{complete_between, deny_each};
-use crate::places::{sizes_of, value_count_of};
+use crate::places::value_count_of;
 use crate::rules::bodies;
 use crate::store::Store;
 use crate::writer::Writer;
 use cc_arena::Laws;
 use cc_clauses::ClauseArena;
 use cc_defs::{Fault, Lit, Sig};
+use cc_results::both;
 use cc_theory::laws::laws_give_rules;
 use cc_theory::{Theory, TimedRule, initial_rules, step_rules};
 use std::alloc::Global;
@@ -77,12 +78,31 @@ fn taken(alloc: Global, writer: &mut Writer) -> Result<ClauseArena, Fault>
     ensures arena { (clauses : List (List Literal)) →
         Holds writer.old.store.kept clauses → IfOk result (λ arena. arena ≡ clauses) }
     ensures none { OnOk result (Holds writer.new.store.kept []) }
-    ensures places { OnOk result (writer.new.places ≡ writer.old.places) }
-    ensures last { OnOk result (writer.new.last ≡ writer.old.last) }
+    ensures places { writer.new.places ≡ writer.old.places }
+    ensures last { writer.new.last ≡ writer.old.last }
 {
     writer.fits()?;
     let store = replace(&mut writer.store, Store::new(alloc));
     Ok(store.close())
+}
+
+/// The denials of rules, behind the clauses that are there.
+fn denied(
+    alloc: Global,
+    writer: &mut Writer,
+    rules: &[TimedRule<'_>],
+    bodies: &[Lit],
+) -> Result<ClauseArena, Fault>
+    requires { length bodies.now ≡ length rules.now }
+    ensures denials { (clauses : List (List Literal)) → Holds writer.old.store.kept clauses →
+        IfOk result (λ arena.
+        arena ≡ clauses ++ all_written (denials_of (bodied rules.now bodies.now))) }
+    ensures none { OnOk result (Holds writer.new.store.kept []) }
+    ensures places { writer.new.places ≡ writer.old.places }
+    ensures last { writer.new.last ≡ writer.old.last }
+{
+    deny_each(&mut writer.store, rules, bodies)?;
+    taken(alloc, writer)
 }
 
 /// The clauses of rules, and the literals of their bodies behind those of others.
@@ -110,11 +130,15 @@ fn ruled(
     ensures empty { OnOk result (Holds writer.new.store.kept []) }
 {
     let made = bodies(alloc, writer, stride, rules)?;
-    let bodies = taken(alloc, writer)?;
-    deny_each(&mut writer.store, rules, &made)?;
-    let denials = taken(alloc, writer)?;
     literals.extend_from_slice(&made)?;
-    Ok(RuledStep { bodies, denials })
+    let bodies = taken(alloc, writer);
+    let denials = denied(alloc, writer, rules, &made);
+    drop(made);
+    let groups = both(bodies, denials)?;
+    Ok(RuledStep {
+        bodies: groups.0,
+        denials: groups.1,
+    })
 }
 
 /// The literals of the bodies of initial rules.
@@ -218,7 +242,7 @@ fn three_ruled(
     })
 }
 
-/// The completion of the positions from one to before another.
+/// The completion of the positions from one to before another, behind the clauses that are there.
 fn completed(
     alloc: Global,
     writer: &mut Writer,
@@ -231,12 +255,12 @@ fn completed(
     requires literals { length literals.now ≡ length theory.now.rules }
     requires ordered { start ≤ end }
     requires within { end ≤ length writer.old.places }
-    requires none { Holds writer.old.store.kept [] }
-    ensures completion { IfOk result (λ arena. arena
-        ≡ all_written (completion_from writer.old.places (bodied theory.now.rules literals.now)
+    ensures completion { (clauses : List (List Literal)) → Holds writer.old.store.kept clauses →
+        IfOk result (λ arena. arena ≡ clauses
+        ++ all_written (completion_from writer.old.places (bodied theory.now.rules literals.now)
         start (take (end - start) (drop start writer.old.places)))) }
-    ensures last { OnOk result (writer.new.last ≡ writer.old.last) }
-    ensures places { OnOk result (writer.new.places ≡ writer.old.places) }
+    ensures last { writer.new.last ≡ writer.old.last }
+    ensures places { writer.new.places ≡ writer.old.places }
     ensures empty { OnOk result (Holds writer.new.store.kept []) }
 {
     let mut causes = Vec::new(alloc);
@@ -249,6 +273,7 @@ fn completed(
         start,
         end,
     )?;
+    drop(causes);
     taken(alloc, writer)
 }
 
@@ -273,10 +298,17 @@ fn three_complete(
     let theory = Theory::at(alloc, sig, laws, 2)?;
     let stride = sig.fluents() as usize + sig.actions() as usize;
     let end = writer.places.sizes().len();
-    let first = completed(alloc, writer, &theory, literals, 0, stride)?;
-    let later = completed(alloc, writer, &theory, literals, stride, 2 * stride)?;
-    let last = completed(alloc, writer, &theory, literals, 2 * stride, end)?;
-    Ok(ThreeComplete { first, later, last })
+    let first = completed(alloc, writer, &theory, literals, 0, stride);
+    let later = completed(alloc, writer, &theory, literals, stride, 2 * stride);
+    let last = completed(alloc, writer, &theory, literals, 2 * stride, end);
+    drop(theory);
+    let two = both(first, later);
+    let three = both(two, last)?;
+    Ok(ThreeComplete {
+        first: three.0.0,
+        later: three.0.1,
+        last: three.1,
+    })
 }
 
 /// The clauses of a step, put together.
@@ -342,7 +374,6 @@ pub(crate) fn steps_of(alloc: Global, sig: &Sig, laws: &Laws<'_>) -> Result<Step
     ensures { IfOk result (AreSteps sig.now laws.now) }
 {
     let values = value_count_of(alloc, sig)?;
-    let sizes = sizes_of(alloc, sig, 2)?;
-    let mut writer = Writer::new(alloc, sizes)?;
+    let mut writer = Writer::over(alloc, sig, 2)?;
     steps_by(alloc, &mut writer, sig, laws, values)
 }

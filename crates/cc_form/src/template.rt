@@ -1,5 +1,5 @@
 //! Clause lists put together from the clauses of the steps of a horizon of two.
-ghost use Rattle.std.specs.Prelude.{◌≡◌, ℕ, ◌+◌, ◌-◌, ◌*◌, ◌≤◌, Bool, IfOk, IfErr, IfSome, OnOk, None, length};
+ghost use Rattle.std.specs.Prelude.{◌≡◌, ℕ, ◌+◌, ◌-◌, ◌*◌, ◌≤◌, Bool, IfOk, IfErr, IfSome, OnOk, None, [], length};
 ghost use Rattle.std.specs.Option.{option_map};
 ghost use Rattle.cc_arena.specs.GroundViews.{plain_ground_query};
 ghost use Rattle.cc_defs.specs.ClauseForms.{true_variable};
@@ -16,20 +16,20 @@ ghost use Rattle.cc_form.specs.Machine.{Adds, IsPast};
 ghost use Rattle.cc_form.specs.Making.{rules_list};
 ghost use Rattle.cc_form.specs.Places.{position_sizes};
 ghost use Rattle.cc_form.specs.Queries.{IsKeyAt, IsQueryAt, section_list};
-ghost use Rattle.cc_form.specs.Store.{Gives};
+ghost use Rattle.cc_form.specs.Store.{Gives, Holds};
 ghost use Rattle.cc_form.specs.Steps.{AreOverSteps, AreSteps, CanPlace, IsFormAt, placed_steps};
 
 use crate::draft::write_first;
 use crate::form::{Form, add_query, clauses, close};
 use crate::laws::clauses_tell_rows;
 use crate::moving::{Way, place};
-use crate::places::sizes_of;
 use crate::steps::{Steps, steps_of};
 use crate::store::Store;
 use crate::writer::Writer;
 use cc_arena::laws::terms_mean_formulas;
 use cc_arena::{GroundQuery, Laws, one_formula};
 use cc_defs::{Fault, Key, LimitAt, OutOfMemory, Refusal, Sig};
+use cc_results::filled;
 use cc_theory::laws::{laws_give_rules, models_are_paths, models_meet_completion};
 use cc_theory::{Theory, are_rules_few};
 use std::alloc::Global;
@@ -191,6 +191,46 @@ fn place_groups(
     )
 }
 
+/// The clauses of a section, put together by a writer over its positions.
+fn fill(
+    writer: &mut Writer,
+    sig: &Sig,
+    laws: &Laws<'_>,
+    steps: &Steps,
+    horizon: u32,
+    query: &GroundQuery<'_>,
+    with_claim: bool,
+    after: Option<&Key>,
+) -> Result<(), Fault>
+    requires laws { AreLawsFor sig.now laws.now }
+    requires steps { AreSteps sig.now laws.now steps.now }
+    requires some { 2 ≤ horizon }
+    requires most { horizon ≤ most_steps }
+    requires query { IsQueryAt sig.now horizon (plain_ground_query query.now) }
+    requires key { IfSome after (λ key. IsKeyAt sig.now horizon key.now) }
+    requires places { writer.old.places ≡ position_sizes sig.now horizon }
+    requires last { writer.old.last ≡ true_variable writer.old.places }
+    requires within { writer.old.last ≤ most_variables }
+    requires none { Holds writer.old.store.kept [] }
+    ensures built { OnOk result (IsSection (position_sizes sig.now horizon) (section_list (record
+        { signature = sig.now; horizon = horizon; rules = rules_for sig.now laws.now horizon })
+        (plain_ground_query query.now) with_claim (option_map (λ key. key.now) after.entry))
+        writer.new) }
+    ensures refused { IfErr result (IsPast (section_list (record {
+      signature = sig.now;
+      horizon
+          = horizon;
+      rules = rules_for sig.now laws.now horizon;
+    }) (plain_ground_query query.now)
+        with_claim (option_map (λ key. key.now) after.entry)).variables) }
+    ensures ready { OnOk result (IsBuiltForm writer.new) }
+{
+    laws_give_rules();
+    let stride = u64::from(sig.fluents()) + u64::from(sig.actions());
+    place_steps(writer, sig, laws, steps, horizon)?;
+    add_query(writer, stride, horizon, query, with_claim, after)
+}
+
 /// The clauses of a section, put together.
 fn build(
     alloc: Global,
@@ -220,13 +260,18 @@ fn build(
         with_claim (option_map (λ key. key.now) after.entry)).variables) }
     ensures ready { IfOk result IsBuiltForm }
 {
-    laws_give_rules();
-    let stride = u64::from(sig.fluents()) + u64::from(sig.actions());
-    let sizes = sizes_of(alloc, sig, horizon)?;
-    let mut writer = Writer::new(alloc, sizes)?;
-    place_steps(&mut writer, sig, laws, steps, horizon)?;
-    add_query(&mut writer, stride, horizon, query, with_claim, after)?;
-    Ok(writer)
+    let mut writer = Writer::over(alloc, sig, horizon)?;
+    let filling = fill(
+        &mut writer,
+        sig,
+        laws,
+        steps,
+        horizon,
+        query,
+        with_claim,
+        after,
+    );
+    filled(writer, filling)
 }
 
 /// The clause list of a section, put together.

@@ -1,5 +1,5 @@
 //! Clauses over the positions of a horizon: the literals of terms, and clauses of literals.
-ghost use Rattle.std.specs.Prelude.{◌≡◌, ◌+◌, ◌≤◌, ◌<◌, ◌++◌, [], ◌∷◌, List, length, IfOk, IfErr, OnOk};
+ghost use Rattle.std.specs.Prelude.{◌≡◌, ◌+◌, ◌≤◌, ◌<◌, ◌++◌, ◌⊎◌, [], ◌∷◌, List, length, Ok, Err, IsOk, IfOk, IfErr, OnOk};
 ghost use Rattle.std.specs.List.{AllByRecursion};
 ghost use Rattle.cc_arena.specs.Walks.{arity as arity_of};
 ghost use Rattle.cc_defs.specs.Limits.{most_variables};
@@ -11,13 +11,15 @@ ghost use Rattle.cc_defs.specs.Terms.{Fits, IsTermOver};
 ghost use Rattle.cc_form.specs.Building.{IsBuiltForm, count_refusal};
 ghost use Rattle.cc_form.specs.Drafts.{IsWhole};
 ghost use Rattle.cc_form.specs.Machine.{first_of, made_node, made_nodes, moved_node, moved_nodes, plain_made, run as run_of, stepped, IsBuilt, IsPast, IsRan, IsReady};
+ghost use Rattle.cc_form.specs.Places.{position_sizes};
 ghost use Rattle.cc_form.specs.Store.{AreFew, Gives, Holds};
 
 use crate::defining::{define_all, define_any, define_same};
-use crate::places::Places;
+use crate::places::{Places, sizes_of};
 use crate::store::Store;
 use cc_clauses::ClauseArena;
-use cc_defs::{Fault, LimitAt, Lit, Node, Refusal};
+use cc_defs::{Fault, LimitAt, Lit, Node, Refusal, Sig};
+use cc_results::filled;
 use std::alloc::Global;
 
 /// Makes clauses over the positions of a horizon. Each conjunction, disjunction and equivalence gets a variable of its own
@@ -178,6 +180,21 @@ impl Writer {
         })
     }
 
+    /// One over the positions of a horizon, with no clauses.
+    pub(crate) fn over(alloc: Global, sig: &Sig, horizon: u32) -> Result<Writer, Fault>
+        ensures places { IfOk result (λ writer.
+            writer.places ≡ position_sizes sig.now horizon) }
+        ensures last { IfOk result (λ writer.
+            writer.last ≡ true_variable (position_sizes sig.now horizon)) }
+        ensures within { OnOk result
+            (true_variable (position_sizes sig.now horizon) ≤ most_variables) }
+        ensures clauses { IfOk result (λ writer. Holds writer.store.kept []) }
+        ensures refused { IfErr result (IsPast (true_variable (position_sizes sig.now horizon))) }
+    {
+        let sizes = sizes_of(alloc, sig, horizon)?;
+        Writer::new(alloc, sizes)
+    }
+
     /// One of no positions and with no clauses.
     pub(crate) fn none(alloc: Global) -> Writer
         ensures form { IsBuiltForm result }
@@ -299,6 +316,23 @@ impl Writer {
             return Err(Fault::Refused(Refusal::past(LimitAt::AxiomLiterals)));
         }
         Ok(())
+    }
+
+    /// What was made, where the clauses and literals are within their limits.
+    pub(crate) fn within<X: Drop>(&self, made: Result<X, Fault>) -> Result<X, Fault>
+        ensures made { IfOk result (λ it. made ≡ Ok it) }
+        ensures kept { (clauses : List (List Literal)) →
+            Holds self.now.store.kept clauses → OnOk result (self.now.store.kept.arena ≡ clauses) }
+        ensures few { (clauses : List (List Literal)) →
+            Holds self.now.store.kept clauses → OnOk result (AreFew clauses) }
+        ensures refused { IfErr result (λ fault. (made ≡ Err fault)
+            ⊎ (IsOk made × ((clauses : List (List Literal)) → Holds self.now.store.kept clauses →
+            IsRefusedBy (count_refusal clauses) fault))) }
+    {
+        match made {
+            Ok(it) => filled(it, self.fits()),
+            Err(fault) => Err(fault),
+        }
     }
 
     /// The positions, the number of the last variable, and the clauses.

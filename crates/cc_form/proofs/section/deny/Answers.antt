@@ -1,8 +1,18 @@
-use Rattle.std.proofs.Common.{◌∙◌, [], ◌∷◌, ap, subst}
+use Rattle.std.proofs.Common.{◌∙◌, [], ◌∷◌, Some, ap, subst}
+use Rattle.cc_arena.specs.GroundViews.{plain_ground_condition}
 use Rattle.cc_defs.specs.Clauses.{Literal, opposite}
+use Rattle.cc_form.specs.Making.{denied_nodes}
+use Rattle.cc_form.specs.Queries.{condition_nodes}
 use Rattle.cc_form.specs.Store.{Gives}
 use Rattle.cc_form.proofs.Keeping.{gives_more}
+use Rattle.cc_form.proofs.Parts.{adds_err}
 use Rattle.cc_form.proofs.section.deny.Goals as goal
+
+pub returns-in_err-literal : goal.returns-in_err-literal
+returns-in_err-literal c =
+    let b = c.args.writer.now in
+    adds_err b c.literal_at.new.writer c.from_residual.result (denied_nodes b.places b.last (Some (condition_nodes c.args.stride c.args.horizon (plain_ground_condition c.args.claim)))) c.in_err-literal.field-0.0
+    c.from_residual.ensures.1 c.in_err-literal.ensures
 
 pub returns : goal.returns
 returns c =

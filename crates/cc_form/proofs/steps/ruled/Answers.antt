@@ -1,16 +1,31 @@
-use Rattle.std.proofs.Common.{◌∙◌, [], List, ap, length}
+use Rattle.std.proofs.Common.{◌≡◌, ◌∙◌, [], List, ap, length}
 use Rattle.cc_defs.specs.ClauseForms.{all_written}
 use Rattle.cc_defs.specs.ClauseLists.{Bodied, denials_of}
 use Rattle.cc_defs.specs.Clauses.{Literal}
-use Rattle.cc_form.specs.Making.{bodied}
+use Rattle.cc_form.specs.Making.{bodied, made_bodies}
+use Rattle.cc_form.specs.Store.{Holds}
 use Rattle.cc_form.proofs.Finishing.{bodied_is, bodies_long}
+use Rattle.cc_form.proofs.Leaving.{at_ok}
 use Rattle.cc_form.proofs.steps.ruled.Goals as goal
 
-pub deny_each-requires : goal.deny_each-requires
-deny_each-requires c = ap length (c.deref.ensures.value ∙ c.in_ok-made.ensures.literals) ∙ bodies_long c.args.writer.now.places c.args.stride c.args.writer.now.last c.args.rules.now
+pub denied-denials-requires : goal.denied-denials-requires
+denied-denials-requires c = ap length (c.deref-2.ensures.value ∙ c.in_ok-made.ensures.literals) ∙ bodies_long c.args.writer.now.places c.args.stride c.args.writer.now.last c.args.rules.now
+
+pub returns-clause-bodies : goal.returns-clause-bodies
+returns-clause-bodies c =
+    let made = made_bodies c.args.writer.now.places c.args.stride c.args.writer.now.last c.args.rules.now in
+    at_ok (λ (arena : List (List Literal)). arena ≡ made.clauses) c.taken-bodies.result c.in_ok-groups.groups.0
+    (c.taken-bodies.ensures.arena made.clauses (c.in_ok-made.ensures.built.gives.each [] c.requires.none)) c.in_ok-groups.ensures.made.0
 
 pub returns-clause-denials : goal.returns-clause-denials
 returns-clause-denials c =
-    c.in_ok-denials.ensures.arena (all_written (denials_of (bodied c.args.rules.now c.deref.result.now))) (c.in_ok-deny_each.ensures.each [] c.in_ok-bodies.ensures.none)
-    ∙ ap (λ (l : List Literal). all_written (denials_of (bodied c.args.rules.now l))) (c.deref.ensures.value ∙ c.in_ok-made.ensures.literals)
+    let groups = c.in_ok-groups in
+    let none = at_ok (λ (arena : List (List Literal)). Holds c.taken-bodies.new.writer.store.kept []) c.taken-bodies.result groups.groups.0 c.taken-bodies.ensures.none groups.ensures.made.0 in
+    at_ok (λ (arena : List (List Literal)). arena ≡ all_written (denials_of (bodied c.args.rules.now c.deref-2.result.now))) c.denied-denials.result groups.groups.1
+    (c.denied-denials.ensures.denials [] none) groups.ensures.made.1
+    ∙ ap (λ (l : List Literal). all_written (denials_of (bodied c.args.rules.now l))) (c.deref-2.ensures.value ∙ c.in_ok-made.ensures.literals)
     ∙ ap (λ (r : List Bodied). all_written (denials_of r)) (bodied_is c.args.writer.now.places c.args.stride c.args.writer.now.last c.args.rules.now)
+
+pub returns-clause-empty : goal.returns-clause-empty
+returns-clause-empty c =
+    at_ok (λ (arena : List (List Literal)). Holds c.denied-denials.new.writer.store.kept []) c.denied-denials.result c.in_ok-groups.groups.1 c.denied-denials.ensures.none c.in_ok-groups.ensures.made.1

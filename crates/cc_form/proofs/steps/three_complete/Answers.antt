@@ -1,23 +1,26 @@
-use Rattle.std.proofs.Common.{◌∙◌, ◌≡◌, ◌+◌, ◌*◌, ℕ, sym, ap, length, arith}
+use Rattle.std.proofs.Common.{◌∙◌, ◌≡◌, ◌+◌, ◌*◌, ℕ, [], List, Ok, sym, ap, length, arith}
 use Rattle.cc_theory.specs.Making.{rules_for, stride_of}
+use Rattle.cc_defs.specs.Clauses.{Literal}
 use Rattle.cc_form.specs.Places.{position_sizes}
 use Rattle.cc_form.specs.Steps.{truth_at}
+use Rattle.cc_form.specs.Store.{Holds}
 use Rattle.cc_form.proofs.Finishing.{bodies_long}
 use Rattle.cc_form.proofs.Gathering.{completion_part, first_part, last_part, later_part}
+use Rattle.cc_form.proofs.Leaving.{at_ok}
 use Rattle.cc_form.proofs.steps.three_complete.Goals as goal
 
-pub completed-requires-clause-literals : goal.completed-requires-clause-literals
-completed-requires-clause-literals c =
+pub completed-first-requires-clause-literals : goal.completed-first-requires-clause-literals
+completed-first-requires-clause-literals c =
     let s = c.args.sig.now in
     ap length c.requires.literals ∙ bodies_long (position_sizes s 2) (stride_of s) (truth_at s 2) (rules_for s c.args.laws.now 2) ∙ ap length (sym c.in_ok-theory.ensures.pinned)
 
-pub completed-requires-2-clause-literals : goal.completed-requires-2-clause-literals
-completed-requires-2-clause-literals c =
+pub completed-later-requires-clause-literals : goal.completed-later-requires-clause-literals
+completed-later-requires-clause-literals c =
     let s = c.args.sig.now in
     ap length c.requires.literals ∙ bodies_long (position_sizes s 2) (stride_of s) (truth_at s 2) (rules_for s c.args.laws.now 2) ∙ ap length (sym c.in_ok-theory.ensures.pinned)
 
-pub completed-requires-3-clause-literals : goal.completed-requires-3-clause-literals
-completed-requires-3-clause-literals c =
+pub completed-last-requires-clause-literals : goal.completed-last-requires-clause-literals
+completed-last-requires-clause-literals c =
     let s = c.args.sig.now in
     ap length c.requires.literals ∙ bodies_long (position_sizes s 2) (stride_of s) (truth_at s 2) (rules_for s c.args.laws.now 2) ∙ ap length (sym c.in_ok-theory.ensures.pinned)
 
@@ -26,7 +29,9 @@ returns-clause-first c =
     let s = c.args.sig.now in
     let S = c.fluents.result + c.actions.result in
     let stride : S ≡ stride_of s = (let f = c.fluents.ensures in let a = c.actions.ensures in omega arith) in
-    c.in_ok-first.ensures.completion
+    let three = c.in_ok-three in
+    let two = at_ok (λ (made : List (List Literal) × List (List Literal)). (c.completed-first.result ≡ Ok made.0) × (c.completed-later.result ≡ Ok made.1)) c.both-two.result three.three.0 c.both-two.ensures.made three.ensures.made.0 in
+    at_ok (λ (arena : List (List Literal)). arena ≡ _) c.completed-first.result three.three.0.0 (c.completed-first.ensures.completion [] c.requires.none) two.0
     ∙ completion_part s c.args.laws.now 0 c.args.writer.now.places c.in_ok-theory.theory.rules c.args.literals.now 0 S c.requires.places c.in_ok-theory.ensures.pinned c.requires.literals
     (let e : 0 ≡ 0 * stride_of s = omega arith in e) (first_part s S stride)
 
@@ -35,8 +40,11 @@ returns-clause-later c =
     let s = c.args.sig.now in
     let S = c.fluents.result + c.actions.result in
     let stride : S ≡ stride_of s = (let f = c.fluents.ensures in let a = c.actions.ensures in omega arith) in
-    c.in_ok-later.ensures.completion
-    ∙ completion_part s c.args.laws.now 1 c.completed.new.writer.places c.in_ok-theory.theory.rules c.args.literals.now S (2 * S) (c.in_ok-first.ensures.places ∙ c.requires.places) c.in_ok-theory.ensures.pinned
+    let three = c.in_ok-three in
+    let two = at_ok (λ (made : List (List Literal) × List (List Literal)). (c.completed-first.result ≡ Ok made.0) × (c.completed-later.result ≡ Ok made.1)) c.both-two.result three.three.0 c.both-two.ensures.made three.ensures.made.0 in
+    let none = at_ok (λ (arena : List (List Literal)). Holds c.completed-first.new.writer.store.kept []) c.completed-first.result three.three.0.0 c.completed-first.ensures.empty two.0 in
+    at_ok (λ (arena : List (List Literal)). arena ≡ _) c.completed-later.result three.three.0.1 (c.completed-later.ensures.completion [] none) two.1
+    ∙ completion_part s c.args.laws.now 1 c.completed-first.new.writer.places c.in_ok-theory.theory.rules c.args.literals.now S (2 * S) (c.completed-first.ensures.places ∙ c.requires.places) c.in_ok-theory.ensures.pinned
     c.requires.literals (let e : S ≡ 1 * stride_of s = omega arith in e) (later_part s S (2 * S) stride (ap (λ (n : ℕ). 2 * n) stride))
 
 pub returns-clause-last : goal.returns-clause-last
@@ -44,7 +52,10 @@ returns-clause-last c =
     let s = c.args.sig.now in
     let S = c.fluents.result + c.actions.result in
     let stride : S ≡ stride_of s = (let f = c.fluents.ensures in let a = c.actions.ensures in omega arith) in
-    c.in_ok-last.ensures.completion
-    ∙ completion_part s c.args.laws.now 2 c.completed-2.new.writer.places c.in_ok-theory.theory.rules c.args.literals.now (2 * S) (length c.sizes-end.result.now)
-    (c.in_ok-later.ensures.places ∙ c.in_ok-first.ensures.places ∙ c.requires.places) c.in_ok-theory.ensures.pinned
+    let three = c.in_ok-three in
+    let two = at_ok (λ (made : List (List Literal) × List (List Literal)). (c.completed-first.result ≡ Ok made.0) × (c.completed-later.result ≡ Ok made.1)) c.both-two.result three.three.0 c.both-two.ensures.made three.ensures.made.0 in
+    let none = at_ok (λ (arena : List (List Literal)). Holds c.completed-later.new.writer.store.kept []) c.completed-later.result three.three.0.1 c.completed-later.ensures.empty two.1 in
+    at_ok (λ (arena : List (List Literal)). arena ≡ _) c.completed-last.result three.three.1 (c.completed-last.ensures.completion [] none) three.ensures.made.1
+    ∙ completion_part s c.args.laws.now 2 c.completed-later.new.writer.places c.in_ok-theory.theory.rules c.args.literals.now (2 * S) (length c.sizes-end.result.now)
+    (c.completed-later.ensures.places ∙ c.completed-first.ensures.places ∙ c.requires.places) c.in_ok-theory.ensures.pinned
     c.requires.literals (ap (λ (n : ℕ). 2 * n) stride) (last_part s (2 * S) (length c.sizes-end.result.now) (ap (λ (n : ℕ). 2 * n) stride) (ap length (c.sizes-end.ensures ∙ c.requires.places)))

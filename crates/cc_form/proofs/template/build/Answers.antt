@@ -1,16 +1,11 @@
-use Rattle.std.proofs.Common.{Bor, ◌≡◌, ◌∙◌, ◌+◌, ℕ, List, Option, length, refl, sym, ap, subst, arith, option_map}
-use Rattle.std.specs.List.{AllByRecursion}
-use Rattle.std.specs.Prelude.{IfSome}
-use Rattle.cc_arena.specs.GroundViews.{plain_ground_condition, plain_ground_query}
+use Rattle.std.proofs.Common.{Bor, Option, refl, option_map}
+use Rattle.cc_arena.specs.GroundViews.{plain_ground_query}
 use Rattle.cc_defs.specs.declared.lists.Key.{Key}
-use Rattle.cc_defs.specs.Signatures.{Signature}
-use Rattle.cc_theory.specs.Making.{rules_for, stride_of}
+use Rattle.cc_theory.specs.Making.{rules_for}
 use Rattle.cc_theory.specs.Theories.{PlainTheory}
-use Rattle.cc_form.specs.Machine.{IsBuilt, IsPast}
-use Rattle.cc_form.specs.Making.{rules_list}
 use Rattle.cc_form.specs.Places.{position_sizes}
-use Rattle.cc_form.specs.Queries.{IsOverPlaces, section_list}
-use Rattle.cc_form.proofs.Finishing.{built_form, claim_over, conditions_over, key_fits_at, query_past, section_built, sizes_past, theory_past}
+use Rattle.cc_form.specs.Queries.{section_list}
+use Rattle.cc_form.proofs.Finishing.{sizes_past}
 use Rattle.cc_form.proofs.Running.{err_past}
 use Rattle.cc_form.proofs.template.build.Goals as goal
 
@@ -20,110 +15,5 @@ returns-in_err-writer-clause-refused c =
     let q = c.args.query.now in
     let plain = plain_ground_query q in
     let key : Option Key = option_map (λ (k : Bor Key). k.now) c.args.after in
-    let S = c.from.result + c.from-2.result in
-    let H = c.args.horizon in
-    let stride : S ≡ stride_of t.signature = (let f = c.from.ensures ∙ c.fluents.ensures in let a = c.from-2.ensures ∙ c.actions.ensures in omega arith) in
-    let horizon : H ≡ t.horizon = refl in
-    let sizes : c.in_ok-sizes.sizes.items ≡ position_sizes t.signature t.horizon = c.in_ok-sizes.ensures in
-    err_past c.from_residual-in_err-writer.result (section_list t plain c.args.with_claim key).variables c.in_err-writer.field-0.0 c.from_residual-in_err-writer.ensures.1
-    (sizes_past t plain c.args.with_claim key S H q.conditions q.claim stride horizon refl refl c.in_ok-sizes.sizes.items c.in_err-writer.field-0.0 sizes c.in_err-writer.ensures.refused)
-
-pub returns-in_err-place_steps-clause-refused : goal.returns-in_err-place_steps-clause-refused
-returns-in_err-place_steps-clause-refused c =
-    let t : PlainTheory = record { signature = c.args.sig.now; horizon = c.args.horizon; rules = rules_for c.args.sig.now c.args.laws.now c.args.horizon } in
-    let q = c.args.query.now in
-    let plain = plain_ground_query q in
-    let key : Option Key = option_map (λ (k : Bor Key). k.now) c.args.after in
-    let S = c.from.result + c.from-2.result in
-    let H = c.args.horizon in
-    let stride : S ≡ stride_of t.signature = (let f = c.from.ensures ∙ c.fluents.ensures in let a = c.from-2.ensures ∙ c.actions.ensures in omega arith) in
-    let horizon : H ≡ t.horizon = refl in
-    let sizes : c.in_ok-sizes.sizes.items ≡ position_sizes t.signature t.horizon = c.in_ok-sizes.ensures in
-    let begun = c.in_ok-writer.writer in
-    let places : begun.places ≡ position_sizes t.signature t.horizon = c.in_ok-writer.ensures.places ∙ sizes in
-    err_past c.from_residual-in_err-place_steps.result (section_list t plain c.args.with_claim key).variables c.in_err-place_steps.field-0.0 c.from_residual-in_err-place_steps.ensures.1
-    (theory_past t plain c.args.with_claim key S H q.conditions q.claim stride horizon refl refl begun c.in_err-place_steps.field-0.0 places (subst (λ (n : ℕ). IsPast (rules_list begun.places n t.rules).last c.in_err-place_steps.field-0.0) (sym stride) c.in_err-place_steps.ensures))
-
-pub add_query-requires-clause-conditions : goal.add_query-requires-clause-conditions
-add_query-requires-clause-conditions c =
-    let t : PlainTheory = record { signature = c.args.sig.now; horizon = c.args.horizon; rules = rules_for c.args.sig.now c.args.laws.now c.args.horizon } in
-    let q = c.args.query.now in
-    let plain = plain_ground_query q in
-    let key : Option Key = option_map (λ (k : Bor Key). k.now) c.args.after in
-    let S = c.from.result + c.from-2.result in
-    let H = c.args.horizon in
-    let stride : S ≡ stride_of t.signature = (let f = c.from.ensures ∙ c.fluents.ensures in let a = c.from-2.ensures ∙ c.actions.ensures in omega arith) in
-    let horizon : H ≡ t.horizon = refl in
-    let sizes : c.in_ok-sizes.sizes.items ≡ position_sizes t.signature t.horizon = c.in_ok-sizes.ensures in
-    let begun = c.in_ok-writer.writer in
-    let places : begun.places ≡ position_sizes t.signature t.horizon = c.in_ok-writer.ensures.places ∙ sizes in
-    let over = conditions_over t.signature t.horizon q.conditions c.requires.most c.requires.query.conditions in
-    subst (λ (p : List ℕ). AllByRecursion (λ condition. IsOverPlaces p S H (plain_ground_condition condition)) q.conditions) (sym (c.in_ok-place_steps.ensures.places ∙ places))
-    (subst (λ (n : ℕ). AllByRecursion (λ condition. IsOverPlaces (position_sizes t.signature t.horizon) n H (plain_ground_condition condition)) q.conditions) (sym stride)
-    (subst (λ (n : ℕ). AllByRecursion (λ condition. IsOverPlaces (position_sizes t.signature t.horizon) (stride_of t.signature) n (plain_ground_condition condition)) q.conditions) (sym horizon) over))
-
-pub add_query-requires-clause-claim : goal.add_query-requires-clause-claim
-add_query-requires-clause-claim c =
-    let t : PlainTheory = record { signature = c.args.sig.now; horizon = c.args.horizon; rules = rules_for c.args.sig.now c.args.laws.now c.args.horizon } in
-    let q = c.args.query.now in
-    let plain = plain_ground_query q in
-    let key : Option Key = option_map (λ (k : Bor Key). k.now) c.args.after in
-    let S = c.from.result + c.from-2.result in
-    let H = c.args.horizon in
-    let stride : S ≡ stride_of t.signature = (let f = c.from.ensures ∙ c.fluents.ensures in let a = c.from-2.ensures ∙ c.actions.ensures in omega arith) in
-    let horizon : H ≡ t.horizon = refl in
-    let sizes : c.in_ok-sizes.sizes.items ≡ position_sizes t.signature t.horizon = c.in_ok-sizes.ensures in
-    let begun = c.in_ok-writer.writer in
-    let places : begun.places ≡ position_sizes t.signature t.horizon = c.in_ok-writer.ensures.places ∙ sizes in
-    let over = claim_over t.signature t.horizon q.claim c.requires.most c.requires.query.claim in
-    subst (λ (p : List ℕ). IfSome q.claim (λ claim. IsOverPlaces p S H (plain_ground_condition claim))) (sym (c.in_ok-place_steps.ensures.places ∙ places))
-    (subst (λ (n : ℕ). IfSome q.claim (λ claim. IsOverPlaces (position_sizes t.signature t.horizon) n H (plain_ground_condition claim))) (sym stride)
-    (subst (λ (n : ℕ). IfSome q.claim (λ claim. IsOverPlaces (position_sizes t.signature t.horizon) (stride_of t.signature) n (plain_ground_condition claim))) (sym horizon) over))
-
-pub returns-in_err-add_query-clause-refused : goal.returns-in_err-add_query-clause-refused
-returns-in_err-add_query-clause-refused c =
-    let t : PlainTheory = record { signature = c.args.sig.now; horizon = c.args.horizon; rules = rules_for c.args.sig.now c.args.laws.now c.args.horizon } in
-    let q = c.args.query.now in
-    let plain = plain_ground_query q in
-    let key : Option Key = option_map (λ (k : Bor Key). k.now) c.args.after in
-    let S = c.from.result + c.from-2.result in
-    let H = c.args.horizon in
-    let stride : S ≡ stride_of t.signature = (let f = c.from.ensures ∙ c.fluents.ensures in let a = c.from-2.ensures ∙ c.actions.ensures in omega arith) in
-    let horizon : H ≡ t.horizon = refl in
-    let sizes : c.in_ok-sizes.sizes.items ≡ position_sizes t.signature t.horizon = c.in_ok-sizes.ensures in
-    let begun = c.in_ok-writer.writer in
-    let places : begun.places ≡ position_sizes t.signature t.horizon = c.in_ok-writer.ensures.places ∙ sizes in
-    err_past c.from_residual-in_err-add_query.result (section_list t plain c.args.with_claim key).variables c.in_err-add_query.field-0.0 c.from_residual-in_err-add_query.ensures.1
-    (query_past t plain c.args.with_claim key S H q.conditions q.claim stride horizon refl refl begun c.place_steps.new.writer c.in_err-add_query.field-0.0 places (subst (λ (n : ℕ). IsBuilt begun c.place_steps.new.writer (rules_list begun.places n t.rules).last (rules_list begun.places n t.rules).clauses) (sym stride) c.in_ok-place_steps.ensures) c.in_err-add_query.ensures)
-
-pub returns-clause-built : goal.returns-clause-built
-returns-clause-built c =
-    let t : PlainTheory = record { signature = c.args.sig.now; horizon = c.args.horizon; rules = rules_for c.args.sig.now c.args.laws.now c.args.horizon } in
-    let q = c.args.query.now in
-    let plain = plain_ground_query q in
-    let key : Option Key = option_map (λ (k : Bor Key). k.now) c.args.after in
-    let S = c.from.result + c.from-2.result in
-    let H = c.args.horizon in
-    let stride : S ≡ stride_of t.signature = (let f = c.from.ensures ∙ c.fluents.ensures in let a = c.from-2.ensures ∙ c.actions.ensures in omega arith) in
-    let horizon : H ≡ t.horizon = refl in
-    let sizes : c.in_ok-sizes.sizes.items ≡ position_sizes t.signature t.horizon = c.in_ok-sizes.ensures in
-    let begun = c.in_ok-writer.writer in
-    let places : begun.places ≡ position_sizes t.signature t.horizon = c.in_ok-writer.ensures.places ∙ sizes in
-    section_built t plain c.args.with_claim key S H q.conditions q.claim stride horizon refl refl begun c.place_steps.new.writer c.add_query.new.writer places c.in_ok-writer.ensures.clauses (subst (λ (n : ℕ). IsBuilt begun c.place_steps.new.writer (rules_list begun.places n t.rules).last (rules_list begun.places n t.rules).clauses) (sym stride) c.in_ok-place_steps.ensures) c.in_ok-add_query.ensures
-
-pub returns-clause-ready : goal.returns-clause-ready
-returns-clause-ready c =
-    let t : PlainTheory = record { signature = c.args.sig.now; horizon = c.args.horizon; rules = rules_for c.args.sig.now c.args.laws.now c.args.horizon } in
-    let q = c.args.query.now in
-    let plain = plain_ground_query q in
-    let key : Option Key = option_map (λ (k : Bor Key). k.now) c.args.after in
-    let S = c.from.result + c.from-2.result in
-    let H = c.args.horizon in
-    let stride : S ≡ stride_of t.signature = (let f = c.from.ensures ∙ c.fluents.ensures in let a = c.from-2.ensures ∙ c.actions.ensures in omega arith) in
-    let horizon : H ≡ t.horizon = refl in
-    let sizes : c.in_ok-sizes.sizes.items ≡ position_sizes t.signature t.horizon = c.in_ok-sizes.ensures in
-    let begun = c.in_ok-writer.writer in
-    let places : begun.places ≡ position_sizes t.signature t.horizon = c.in_ok-writer.ensures.places ∙ sizes in
-    built_form t plain c.args.with_claim key c.requires.most (c.laws_give_rules.ensures c.args.sig.now c.args.laws.now c.requires.laws c.args.horizon).fit
-    c.requires.query (key_fits_at t.signature t.horizon c.args.after c.requires.key) c.add_query.new.writer
-    (section_built t plain c.args.with_claim key S H q.conditions q.claim stride horizon refl refl begun c.place_steps.new.writer c.add_query.new.writer places c.in_ok-writer.ensures.clauses (subst (λ (n : ℕ). IsBuilt begun c.place_steps.new.writer (rules_list begun.places n t.rules).last (rules_list begun.places n t.rules).clauses) (sym stride) c.in_ok-place_steps.ensures) c.in_ok-add_query.ensures)
+    err_past c.from_residual.result (section_list t plain c.args.with_claim key).variables c.in_err-writer.field-0.0 c.from_residual.ensures.1
+    (sizes_past t plain c.args.with_claim key _ c.args.horizon q.conditions q.claim refl refl refl refl (position_sizes t.signature t.horizon) c.in_err-writer.field-0.0 refl c.in_err-writer.ensures.refused)
