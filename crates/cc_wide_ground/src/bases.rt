@@ -8,8 +8,9 @@ ghost use Rattle.cc_wide.specs.WideLaws.{plain_wide_base, plain_wide_law};
 ghost use Rattle.cc_wide.specs.WideLaws as words;
 ghost use Rattle.cc_wide_ground.specs.Shares.{base_by, law_by};
 
-use crate::copies::{boxed, copy_formula, copy_part, copy_term, copy_terms, put_made};
+use crate::copies::{copy_formula, copy_part, copy_term, copy_terms};
 use cc_defs::{BaseLaw, BaseLaws, Formula, Head, Law, List, OutOfMemory, Term};
+use cc_results::{boxed, put_made};
 use cc_wide::{WideBase, WideLaw};
 use std::alloc::Global;
 

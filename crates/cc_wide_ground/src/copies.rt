@@ -1,50 +1,22 @@
 //! Copies of terms and formulas.
-ghost use Rattle.std.specs.Prelude.{◌≡◌, ◌++◌, [], ◌∷◌, map, Ok, IfOk, IsErr, OnOk};
+ghost use Rattle.std.specs.Prelude.{◌≡◌, map, Ok, IfOk};
 ghost use Rattle.std.specs.Option.{option_map};
-ghost use Rattle.std.specs.Result.{MatchResult};
 ghost use Rattle.cc_defs.specs.Resolved.{plain_formula, plain_term};
 
 use cc_defs::{Formula, OutOfMemory, Term};
+use cc_results::{both, boxed, put_made};
 use std::alloc::Global;
 
-/// What was made, in a box. It is of any type here and below, so that its drop is one call.
-pub(crate) fn boxed<T: Drop>(
+/// Two things that were made, in boxes.
+fn both_boxed<T: Drop>(
     alloc: Global,
-    made: Result<T, OutOfMemory>,
-) -> Result<Box<T>, OutOfMemory>
-    ensures { MatchResult made (λ value. IfOk result (λ place. place.value ≡ value))
-        (λ error. IsErr result) }
-{
-    let value = made?;
-    let place = Box::new(alloc, value)?;
-    Ok(place)
-}
-
-/// Two things that were made.
-fn both<T: Drop>(
     first: Result<T, OutOfMemory>,
     second: Result<T, OutOfMemory>,
-) -> Result<(T, T), OutOfMemory>
-    ensures { MatchResult first (λ one. MatchResult second
-        (λ two. result ≡ Ok (one, two)) (λ error. IsErr result)) (λ error. IsErr result) }
+) -> Result<(Box<T>, Box<T>), OutOfMemory>
+    ensures { IfOk result (λ made.
+        (first ≡ Ok made.0.value) × (second ≡ Ok made.1.value)) }
 {
-    let first = first?;
-    let second = second?;
-    Ok((first, second))
-}
-
-/// Puts what was made behind the others.
-pub(crate) fn put_made<T: Drop>(
-    list: &mut Vec<T>,
-    made: Result<T, OutOfMemory>,
-) -> Result<(), OutOfMemory>
-    ensures { MatchResult made
-        (λ item. OnOk result (list.new.items ≡ list.old.items ++ item ∷ []))
-        (λ error. IsErr result) }
-{
-    let item = made?;
-    list.push(item)?;
-    Ok(())
+    both(boxed(alloc, first), boxed(alloc, second))
 }
 
 /// The same term.
@@ -67,15 +39,19 @@ pub(crate) fn copy_term(alloc: Global, term: &Term) -> Result<Term, OutOfMemory>
         Term::Nothing => Ok(Term::Nothing),
         Term::Number(number) => Ok(Term::Number(*number)),
         Term::Plus(first, second) => {
-            let first = boxed(alloc, copy_term(alloc, first));
-            let second = boxed(alloc, copy_term(alloc, second));
-            let (first, second) = both(first, second)?;
+            let (first, second) = both_boxed(
+                alloc,
+                copy_term(alloc, first),
+                copy_term(alloc, second),
+            )?;
             Ok(Term::Plus(first, second))
         }
         Term::Minus(first, second) => {
-            let first = boxed(alloc, copy_term(alloc, first));
-            let second = boxed(alloc, copy_term(alloc, second));
-            let (first, second) = both(first, second)?;
+            let (first, second) = both_boxed(
+                alloc,
+                copy_term(alloc, first),
+                copy_term(alloc, second),
+            )?;
             Ok(Term::Minus(first, second))
         }
     }
@@ -116,27 +92,35 @@ pub(crate) fn copy_formula(alloc: Global, formula: &Formula) -> Result<Formula, 
             Ok(Formula::Not(inner))
         }
         Formula::Both(left, right) => {
-            let left = boxed(alloc, copy_formula(alloc, left));
-            let right = boxed(alloc, copy_formula(alloc, right));
-            let (left, right) = both(left, right)?;
+            let (left, right) = both_boxed(
+                alloc,
+                copy_formula(alloc, left),
+                copy_formula(alloc, right),
+            )?;
             Ok(Formula::Both(left, right))
         }
         Formula::Either(left, right) => {
-            let left = boxed(alloc, copy_formula(alloc, left));
-            let right = boxed(alloc, copy_formula(alloc, right));
-            let (left, right) = both(left, right)?;
+            let (left, right) = both_boxed(
+                alloc,
+                copy_formula(alloc, left),
+                copy_formula(alloc, right),
+            )?;
             Ok(Formula::Either(left, right))
         }
         Formula::Implies(left, right) => {
-            let left = boxed(alloc, copy_formula(alloc, left));
-            let right = boxed(alloc, copy_formula(alloc, right));
-            let (left, right) = both(left, right)?;
+            let (left, right) = both_boxed(
+                alloc,
+                copy_formula(alloc, left),
+                copy_formula(alloc, right),
+            )?;
             Ok(Formula::Implies(left, right))
         }
         Formula::Same(left, right) => {
-            let left = boxed(alloc, copy_formula(alloc, left));
-            let right = boxed(alloc, copy_formula(alloc, right));
-            let (left, right) = both(left, right)?;
+            let (left, right) = both_boxed(
+                alloc,
+                copy_formula(alloc, left),
+                copy_formula(alloc, right),
+            )?;
             Ok(Formula::Same(left, right))
         }
         Formula::ForAll(variable, sort, inner) => {
