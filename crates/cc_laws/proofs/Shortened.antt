@@ -1,12 +1,57 @@
 -- The base laws of a law, by what it is short for.
-use Rattle.std.proofs.Common.{◌≡◌, List, refl}
-use Rattle.std.specs.Prelude.{Option, Some, None}
+use Rattle.std.proofs.Common.{◌≡◌, Bool, List, true, false, Option, Some, None, [], ◌∷◌, ◌∙◌, refl, sym, ap}
 use Rattle.cc_defs.specs.Resolved.{BaseLaw}
-use Rattle.cc_defs.specs.Trees.{PlainLaw}
+use Rattle.cc_defs.specs.Trees.{PlainLaw, PlainTree}
 use Rattle.cc_defs.specs.Trees as trees
-use Rattle.cc_laws.specs.Expansion.{Frame, Caused, split, laws_with}
-use Rattle.cc_laws.specs.Shortened.{law_short_for, other_laws}
+use Rattle.cc_laws.specs.Expansion.{Caused, Frame, effect, laws_with, split}
+use Rattle.cc_laws.specs.FormulaFaults.{is_fluent_formula}
+use Rattle.cc_laws.specs.Shortened.{is_later, is_short, law_short_for, other_laws, short_with}
 use Rattle.cc_laws.specs.Vocabulary.{Vocabulary}
+use Rattle.cc_laws.specs.Widening.{whole_law, whole_of, whole_short}
+
+effect_is : (later : Bool) (a f : PlainTree) (g : Option PlainTree) → short_with later (trees.Causes a f g) ≡ effect later a f g
+effect_is true a f g = refl
+effect_is false a f g = refl
+
+pub short_laws : (v : Vocabulary) (frame : Frame) (law : PlainLaw) → is_short law ≡ true → split v frame (short_with (is_later v law) law) ≡ laws_with v frame law
+short_laws v frame (trees.Caused f g h) is = refl
+short_laws v frame (trees.Constraint f) is = refl
+short_laws v frame (trees.Always f) is = refl
+short_laws v frame (trees.Nonexecutable f g) is = refl
+short_laws v frame (trees.Default f g h) is = refl
+short_laws v frame (trees.Causes a f g) is = ap (split v frame) (effect_is (is_fluent_formula v f) a f g)
+short_laws v frame (trees.MayCause a f g) is = refl
+short_laws v frame (trees.Exogenous c) is = absurd cc
+short_laws v frame (trees.Inertial c) is = absurd cc
+short_laws v frame trees.NoConcurrency is = absurd cc
+
+-- where the head is kept whole
+pub whole_shortened : (v : Vocabulary) (frame : Frame) (law : PlainLaw) →
+    whole_of v frame (short_with (is_later v law) law) (short_with (is_later v law) law).head ≡ whole_short v frame (law_short_for v law)
+whole_shortened v frame (trees.Caused f g h) = refl
+whole_shortened v frame (trees.Constraint f) = refl
+whole_shortened v frame (trees.Always f) = refl
+whole_shortened v frame (trees.Nonexecutable f g) = refl
+whole_shortened v frame (trees.Default f g h) = refl
+whole_shortened v frame (trees.Causes a f g) = ap (λ (law : Caused). whole_of v frame law law.head) (effect_is (is_fluent_formula v f) a f g)
+whole_shortened v frame (trees.MayCause a f g) = refl
+whole_shortened v frame (trees.Exogenous c) = refl
+whole_shortened v frame (trees.Inertial c) = refl
+whole_shortened v frame trees.NoConcurrency = refl
+
+pub of_others : (v : Vocabulary) (frame : Frame) (law : PlainLaw) → is_short law ≡ false → other_laws v frame law ≡ laws_with v frame law
+of_others v frame (trees.Caused f g h) is = absurd cc
+of_others v frame (trees.Constraint f) is = absurd cc
+of_others v frame (trees.Always f) is = absurd cc
+of_others v frame (trees.Nonexecutable f g) is = absurd cc
+of_others v frame (trees.Default f g h) is = absurd cc
+of_others v frame (trees.Causes a f g) is = absurd cc
+of_others v frame (trees.MayCause a f g) is = absurd cc
+of_others v frame (trees.Exogenous c) is = refl
+of_others v frame (trees.Inertial c) is = refl
+of_others v frame trees.NoConcurrency is = refl
+
+-- ---- by the law itself that a law is short for
 
 abbrev pub by_short : Vocabulary → Frame → PlainLaw → Option Caused → List BaseLaw
 by_short v frame law (Some short) = split v frame short
@@ -23,3 +68,10 @@ shortened v frame (trees.MayCause a f g) = refl
 shortened v frame (trees.Exogenous c) = refl
 shortened v frame (trees.Inertial c) = refl
 shortened v frame trees.NoConcurrency = refl
+
+pub whole_head : (v : Vocabulary) (frame : Frame) (law : PlainLaw) (later : Bool) (head : PlainTree) → later ≡ is_later v law → (short_with later law).head ≡ Some head →
+    whole_law v frame (short_with later law) head ∷ [] ≡ whole_short v frame (law_short_for v law)
+whole_head v frame law later head e q =
+    ap (whole_of v frame (short_with later law)) (sym q)
+    ∙ ap (λ (b : Bool). whole_of v frame (short_with b law) (short_with b law).head) e
+    ∙ whole_shortened v frame law

@@ -1,6 +1,21 @@
--- What is known of what was made, where it was put into a box or behind others.
-use Rattle.std.proofs.Common.{◌≡◌, true, false, Result, Ok, Err, IfOk, MatchResult}
+-- What is known of what was made, where it was put behind others.
+use Rattle.std.proofs.Common.{◌≡◌, ◌∙◌, List, [], ◌∷◌, ◌++◌, map, Result, Ok, Err, IfOk, IsOk, OnOk, ap}
+use Rattle.std.proofs.lemmas.List.{map-append}
+use Rattle.std.specs.Global.{Vec}
 
-pub with_made : {X E R : Type 0} (made : Result X E) (P Q : X → Type 0) → MatchResult made Q (λ error. false ≡ true) → IfOk made P → ((x : X) → P x → Q x → R) → R
-with_made (Ok x) P Q q p give = give x p q
-with_made (Err error) P Q wrong p give = absurd cc
+pub with_made : {X E R : Type 0} (made : Result X E) (P Q : X → Type 0) → IsOk made → IfOk made Q → IfOk made P → ((x : X) → P x → Q x → R) → R
+with_made (Ok x) P Q ok q p give = give x p q
+with_made (Err error) P Q wrong q p give = absurd cc
+
+-- by what it stands for
+pub put_behind : {X Y E F Z : Type 0} (plain : X → Z) (made : Result X E) (put : Result Y F) (old new : List X) (z : Z) →
+    OnOk put (IsOk made) → OnOk put (IfOk made (λ x. new ≡ old ++ x ∷ [])) → IfOk made (λ x. plain x ≡ z) →
+    OnOk put (map plain new ≡ map plain old ++ z ∷ [])
+put_behind plain (Ok x) (Ok done) old new z ok e q = ap (map plain) e ∙ map-append plain old (x ∷ []) ∙ ap (λ w. map plain old ++ w ∷ []) q
+put_behind plain (Err error) (Ok done) old new z ok e q = absurd cc
+put_behind plain made (Err error) old new z ok e q = tt
+
+-- alone, by what it stands for
+pub only_so : {X E Z : Type 0} (plain : X → Z) (made : Result (Vec X) E) (x : X) → IfOk made (λ list. list.items ≡ x ∷ []) → IfOk made (λ list. map plain list.items ≡ plain x ∷ [])
+only_so plain (Ok list) x e = ap (map plain) e
+only_so plain (Err error) x e = tt

@@ -5,7 +5,6 @@ pub mod Heads
 pub mod LawFaults
 pub mod Laws
 pub mod Leaves
-pub mod Outermost
 pub mod Questions
 pub mod Resolving
 pub mod Shortened

@@ -1,5 +1,5 @@
 -- The law that a law is short for, and the base laws of those that are short for none.
-use Rattle.std.specs.Prelude.{List, [], ◌∷◌, Option, Some, None}
+use Rattle.std.specs.Prelude.{Bool, true, false, if◌then◌else◌, List, [], ◌∷◌, Option, Some, None}
 use Rattle.cc_defs.specs.Resolved as resolved
 use Rattle.cc_defs.specs.Trees.{PlainLaw}
 use Rattle.cc_defs.specs.Trees as trees
@@ -22,3 +22,26 @@ other_laws v frame (trees.Exogenous c) = subject_laws v frame Exogenous c
 other_laws v frame (trees.Inertial c) = subject_laws v frame Inertial c
 other_laws v frame trees.NoConcurrency = resolved.NoConcurrency frame.file frame.line ∷ []
 other_laws v frame law = []
+
+-- ---- the same, by the law and whether the effect of its actions comes a step later
+
+abbrev pub is_short : PlainLaw → Bool
+is_short (trees.Exogenous c) = false
+is_short (trees.Inertial c) = false
+is_short trees.NoConcurrency = false
+is_short law = true
+
+abbrev pub is_later : Vocabulary → PlainLaw → Bool
+is_later v (trees.Causes a f g) = is_fluent_formula v f
+is_later v law = false
+
+abbrev pub short_with : Bool → PlainLaw → Caused
+short_with later (trees.Caused f g h) = caused (Some f) g h
+short_with later (trees.Constraint f) = caused None (Some (trees.Not f)) None
+short_with later (trees.Always f) = caused None None (Some (trees.Not f))
+short_with later (trees.Nonexecutable f g) = caused None None (Some (both f g))
+short_with later (trees.Default f g h) = caused (Some f) (Some (both f g)) h
+short_with later (trees.Causes a f g) =
+    caused (Some f) (if later then None else Some (both a g)) (if later then Some (both a g) else None)
+short_with later (trees.MayCause a f g) = caused (Some f) (Some f) (Some (both a g))
+short_with later law = caused None None None

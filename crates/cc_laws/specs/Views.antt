@@ -7,7 +7,7 @@ use Rattle.cc_defs.specs.declared.tree.Addend.{Addend}
 use Rattle.cc_defs.specs.declared.tree.SumTree.{SumTree}
 use Rattle.cc_defs.specs.Resolved.{Formula, plain_formula}
 use Rattle.cc_defs.specs.Resolved as resolved
-use Rattle.cc_defs.specs.Trees.{Comparison, PlainTerm, PlainSums, NoSums, MoreSums, PlainSum, Summed, PlainPiece, Numeral, Called, PlainAddends, NoAddends, MoreAddends, PlainTree, plain_sum, plain_tree}
+use Rattle.cc_defs.specs.Trees.{Comparison, PlainTerm, PlainSums, NoSums, MoreSums, PlainSum, Summed, PlainPiece, Numeral, Called, PlainAddends, NoAddends, MoreAddends, PlainTree, plain_law, plain_sum, plain_tree}
 use Rattle.cc_defs.specs.Trees as trees
 use Rattle.cc_laws.specs.declared.expansion.Source.{Source}
 use Rattle.cc_laws.specs.declared.meaning.Meaning.{Meaning as KeptMeaning}
@@ -16,10 +16,6 @@ use Rattle.cc_laws.specs.declared.mention.Property.{Property}
 use Rattle.cc_laws.specs.declared.mention.Property.TheVariants as properties
 use Rattle.cc_laws.specs.declared.names.Binding.{Binding as KeptBinding}
 use Rattle.cc_laws.specs.declared.names.Names.{Names}
-use Rattle.cc_laws.specs.declared.pieces.Piece.{Piece}
-use Rattle.cc_laws.specs.declared.pieces.Piece.TheVariants as pieces
-use Rattle.cc_laws.specs.declared.pieces.HeadPiece.{HeadPiece}
-use Rattle.cc_laws.specs.declared.pieces.HeadPiece.TheVariants as head_pieces
 use Rattle.cc_laws.specs.declared.pieces.Caused.{Caused as KeptCaused}
 use Rattle.cc_laws.specs.declared.resolving.Joint.{Joint}
 use Rattle.cc_laws.specs.declared.resolving.Joint.TheVariants as joints
@@ -32,12 +28,13 @@ use Rattle.cc_laws.specs.declared.sums.Comparison.{Comparison as KeptComparison}
 use Rattle.cc_laws.specs.declared.sums.Comparison.TheVariants as comparisons
 use Rattle.cc_laws.specs.declared.walk.Check.{Check}
 use Rattle.cc_laws.specs.declared.walk.Check.TheVariants as checks
-use Rattle.cc_laws.specs.Expansion.{Caused, caused, both, Persistence, Exogenous, Inertial, Rigid, Frame, law_frame}
+use Rattle.cc_laws.specs.Expansion.{Caused, Persistence, Exogenous, Inertial, Rigid, Frame, law_frame}
 use Rattle.cc_laws.specs.FormulaFaults.{NameTest, mention_has, sum_has, is_unknown_name, is_miscounted, leaf_has, bracket_unknown, leaf_misfits}
 use Rattle.cc_laws.specs.FreeVariables.{variable_meant}
 use Rattle.cc_laws.specs.Heads.{is_constant_term, is_boolean_term, is_truth_term}
 use Rattle.cc_laws.specs.Leaves.{Leaf, leaves, piece_mentions}
 use Rattle.cc_laws.specs.Resolving.{Binding}
+use Rattle.cc_laws.specs.Shortened.{short_with}
 use Rattle.cc_laws.specs.Vocabulary.{Vocabulary, Meaning, Unknown, Nothing, Object, Variable, Constant, meaning, is_constant, is_action_constant, is_fluent_constant, is_determined_constant}
 
 -- ---- lists of terms
@@ -91,6 +88,11 @@ comparison_of comparisons.AtMost = trees.IsAtMost
 comparison_of comparisons.More = trees.IsMore
 comparison_of comparisons.AtLeast = trees.IsAtLeast
 
+-- the sign between the sums of a comparison
+abbrev pub sign_in : PlainTree → Comparison
+sign_in (trees.Compared comparison s t) = comparison
+sign_in formula = trees.IsAtLeast
+
 -- whether a sum is one piece
 abbrev pub is_single : PlainSum → Bool
 is_single (Summed first NoAddends) = true
@@ -140,25 +142,26 @@ joined_by joints.Either = resolved.Either
 joined_by joints.Implies = resolved.Implies
 joined_by joints.Same = resolved.Same
 
+-- how the parts of a formula are joined
+abbrev pub joint_of : PlainTree → Joint
+joint_of (trees.Both f g) = joints.Both
+joint_of (trees.Either f g) = joints.Either
+joint_of (trees.Implies f g) = joints.Implies
+joint_of formula = joints.Same
+
+-- the bracket that a formula begins with
+abbrev pub bracket_before : PlainTree → Bracket
+bracket_before (trees.ForAll name f) = brackets.ForAll
+bracket_before formula = brackets.Exists
+
 abbrev pub bracket_over : Bracket → ℕ → ℕ → Formula → Formula
 bracket_over brackets.ForAll = resolved.ForAll
 bracket_over brackets.Exists = resolved.Exists
 
 -- ---- the law that a law is short for
 
-abbrev pub plain_piece : Piece → Option PlainTree
-plain_piece pieces.Missing = None
-plain_piece (pieces.One f) = Some (plain_tree f.now)
-plain_piece (pieces.Maybe f) = option_map plain_tree f.now
-plain_piece (pieces.Denied f) = Some (trees.Not (plain_tree f.now))
-plain_piece (pieces.Both f g) = Some (both (plain_tree f.now) (option_map plain_tree g.now))
-
-abbrev pub head_piece : HeadPiece → Option PlainTree
-head_piece head_pieces.Falsity = None
-head_piece (head_pieces.One f) = Some (plain_tree f.now)
-
 abbrev pub plain_caused : KeptCaused → Caused
-plain_caused law = caused (head_piece law.head) (plain_piece law.body) (plain_piece law.after)
+plain_caused law = short_with law.later (plain_law law.law.now)
 
 -- ---- base laws
 

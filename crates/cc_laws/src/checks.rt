@@ -24,6 +24,7 @@ use crate::misfits::term_misfits;
 use crate::variables::{add_free, add_unbound, firsts, free as free_in, some_is_new};
 use crate::walk::{Check, formula_fails};
 use cc_defs::{Fault, LawTree, OutOfMemory, Part, Refusal, Statement, TermTree, Tree};
+use cc_results::{both, filled};
 use cc_sorts::Table;
 use std::alloc::Global;
 
@@ -193,7 +194,9 @@ pub(crate) fn law_variables(
 {
     let mut found = Vec::new(alloc);
     let mut bound = Vec::new(alloc);
-    add_law(table, &mut bound, law, &mut found)?;
+    let added = add_law(table, &mut bound, law, &mut found);
+    drop(bound);
+    let found = filled(found, added)?;
     firsts(alloc, &found)
 }
 
@@ -211,8 +214,8 @@ fn has_unbound(
     let Some(test) = test else {
         return Ok(false);
     };
-    let variables = law_variables(alloc, table, law)?;
-    let used = free_in(alloc, table, test)?;
+    let variables = law_variables(alloc, table, law);
+    let (variables, used) = both(variables, free_in(alloc, table, test))?;
     Ok(some_is_new(&used, &variables))
 }
 

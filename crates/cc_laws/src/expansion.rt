@@ -1,6 +1,7 @@
 //! The base laws that a statement stands for.
 ghost use Rattle.std.specs.Prelude.{◌≡◌, ◌+◌, ◌++◌, ◌∷◌, ◌<◌, ◌&&◌, if◌then◌else◌, List as Items, [], length, map, flat_map, Some, is_none, IfOk, IfErr, OnOk};
 ghost use Rattle.std.specs.Option.{option_map};
+ghost use Rattle.cc_defs.specs.declared.law.Range.TheVariants as variants;
 ghost use Rattle.cc_defs.specs.Declarations.{Declaration as Declared};
 ghost use Rattle.cc_defs.specs.Refusals.{IsRefusedBy};
 ghost use Rattle.cc_defs.specs.Resolved.{plain_base_law, plain_formula, plain_head};
@@ -10,25 +11,29 @@ ghost use Rattle.cc_laws.specs.Expansion as words;
 ghost use Rattle.cc_laws.specs.Expansion.{Expands};
 ghost use Rattle.cc_laws.specs.LawFaults.{law_refusal};
 ghost use Rattle.cc_laws.specs.Resolving.{alone, numbered_from, resolve};
-ghost use Rattle.cc_laws.specs.Shortened.{law_short_for, other_laws as laws_of_others};
-ghost use Rattle.cc_laws.specs.Views.{frame_from, frame_of, head_piece, persistence_of, plain_caused, plain_meaning, plain_piece, row_terms, scope_of};
+ghost use Rattle.cc_laws.specs.Shortened.{other_laws as laws_of_others};
+ghost use Rattle.cc_laws.specs.Views.{frame_from, frame_of, persistence_of, plain_caused, row_terms, scope_of};
+ghost use Rattle.cc_laws.specs.Vocabulary as vocabulary_words;
 ghost use Rattle.cc_laws.specs.Vocabulary.{vocabulary, vocabulary_of};
 ghost use Rattle.cc_sorts.specs.Tables.{IsTable};
 
 use crate::checks::{check, law_variables};
-use crate::forms::{has, is_fluent_formula};
+use crate::forms::has;
 use crate::head_parts::heads_of;
-use crate::made::{boxed, put_made, some_or};
+use crate::made::{only, some_or};
 use crate::meaning::{Meaning, meaning_of};
 use crate::mention::Property;
 use crate::names::{Names, names_of};
-use crate::pieces::{Caused, HeadPiece, Piece, resolve_piece};
+use crate::pieces::{
+    Caused, is_later, is_short, lacks_after, resolve_after, resolve_body, resolve_part,
+};
 use crate::resolving::{negated, resolve_term};
 use crate::values::{Frame, Parts, Persistence, base_law, equation_of, value_law};
 use cc_defs::{
     BaseLaw, BaseLaws, ConstItem, Fault, Formula, Head, KindTree, KindWord, LawTree, List,
     OutOfMemory, Part, Range, Statement, Term, TermTree, Tree,
 };
+use cc_results::{both, boxed, put_made};
 use cc_sorts::Table;
 use std::alloc::Global;
 
@@ -64,20 +69,37 @@ fn sort_ranges(alloc: Global, table: &Table, variables: &[u32]) -> Result<Vec<Ra
     Ok(ranges)
 }
 
-/// A part of a law, true where it is missing.
-pub(crate) fn written(
+/// The test of a law, true where it is missing.
+fn written_test(
     alloc: Global,
     table: &Table,
     names: &mut Names,
-    piece: &Piece<'_, '_>,
+    test: &Option<Tree<'_>>,
+) -> Result<Formula, OutOfMemory>
+    ensures made { IfOk result (λ made.
+        plain_formula made ≡ words.part (vocabulary_of table.now)
+        (scope_of names.old) names.old.next (option_map plain_tree test.now)) }
+    ensures kept { OnOk result (names.new.bindings.items ≡ names.old.bindings.items) }
+    ensures next { OnOk result (names.new.next
+        ≡ names.old.next + words.part_brackets (option_map plain_tree test.now)) }
+{
+    some_or(resolve_part(alloc, table, names, test), Formula::True)
+}
+
+/// The `if` part of a law, true where it is missing.
+pub(crate) fn written_body(
+    alloc: Global,
+    table: &Table,
+    names: &mut Names,
+    law: &Caused<'_, '_>,
 ) -> Result<Formula, OutOfMemory>
     ensures made { IfOk result (λ made. plain_formula made ≡ words.part
-        (vocabulary_of table.now) (scope_of names.old) names.old.next (plain_piece piece.now)) }
+        (vocabulary_of table.now) (scope_of names.old) names.old.next (plain_caused law.now).body) }
     ensures kept { OnOk result (names.new.bindings.items ≡ names.old.bindings.items) }
     ensures next { OnOk result
-        (names.new.next ≡ names.old.next + words.part_brackets (plain_piece piece.now)) }
+        (names.new.next ≡ names.old.next + words.part_brackets (plain_caused law.now).body) }
 {
-    some_or(resolve_piece(alloc, table, names, piece), Formula::True)
+    some_or(resolve_body(alloc, table, names, law), Formula::True)
 }
 
 /// What the base laws of a law have in common.
@@ -89,10 +111,10 @@ pub(crate) fn law_frame(
     ensures { IfOk result (λ made.
         frame_of made ≡ frame_from (vocabulary_of table.now) source.now) }
 {
-    let ranges = sort_ranges(alloc, table, source.variables)?;
     let mut names = names_of(alloc, source.variables)?;
-    let test = written(alloc, table, &mut names, &Piece::Maybe(source.test));
-    let test = boxed(alloc, test)?;
+    let test = written_test(alloc, table, &mut names, source.test);
+    let ranges = sort_ranges(alloc, table, source.variables);
+    let (ranges, test) = both(ranges, boxed(alloc, test))?;
     Ok(Frame {
         ranges,
         test,
@@ -102,11 +124,16 @@ pub(crate) fn law_frame(
     })
 }
 
-pub(crate) fn is_missing(piece: &Piece<'_, '_>) -> bool
-    ensures { result ≡ is_none (plain_piece piece.now) }
+/// Whether the head of a law has an action.
+fn head_acts(table: &Table, law: &Caused<'_, '_>) -> bool
+    ensures { result
+        ≡ words.part_acts (vocabulary_of table.now) (plain_caused law.now).head }
 {
-    match piece {
-        Piece::Missing | Piece::Maybe(None) => true,
+    match law.law {
+        LawTree::Caused(head, _, _)
+        | LawTree::Default(head, _, _)
+        | LawTree::Causes(_, head, _)
+        | LawTree::MayCause(_, head, _) => has(table, Property::Action, head),
         _ => false,
     }
 }
@@ -116,10 +143,7 @@ fn denies(table: &Table, law: &Caused<'_, '_>) -> bool
     ensures { result ≡ is_none (plain_caused law.now).after
         && words.part_acts (vocabulary_of table.now) (plain_caused law.now).head }
 {
-    match law.head {
-        HeadPiece::Falsity => false,
-        HeadPiece::One(formula) => is_missing(&law.after) && has(table, Property::Action, formula),
-    }
+    lacks_after(law) && head_acts(table, law)
 }
 
 /// Whether a part of a head denies a step, where the law denies steps.
@@ -149,14 +173,14 @@ fn law_parts(
         (scope_of names.old) (names.old.next + words.part_brackets (plain_caused law.now).body))
         (plain_caused law.now).after)) }
 {
-    let body = boxed(alloc, written(alloc, table, names, &law.body))?;
+    let body = boxed(alloc, written_body(alloc, table, names, law))?;
     if denied {
         return Ok(Parts {
             body: Formula::True,
             after: Some(Box::into_inner(body)),
         });
     }
-    let after = boxed(alloc, resolve_piece(alloc, table, names, &law.after))?;
+    let after = boxed(alloc, resolve_after(alloc, table, names, law))?;
     Ok(Parts {
         body: Box::into_inner(body),
         after: Box::into_inner(after),
@@ -181,7 +205,7 @@ fn law_for(
     let denied = denies_step(denying, &head);
     let mut frame = law_frame(alloc, table, source)?;
     let parts = law_parts(alloc, table, &mut frame.names, law, denied)?;
-    Ok(base_law(table, frame, head, parts.body, parts.after))
+    Ok(base_law(table, frame, head, parts))
 }
 
 /// The parts of the head of a law with these variables.
@@ -189,21 +213,21 @@ fn head_parts(
     alloc: Global,
     table: &Table,
     variables: &[u32],
-    head: HeadPiece<'_, '_>,
+    law: &Caused<'_, '_>,
 ) -> Result<Vec<Head>, OutOfMemory>
-    ensures { IfOk result (λ found. map plain_head found.items ≡ words.head_parts
-        (vocabulary_of table.now) (numbered_from 0 variables.now) (head_piece head.entry)) }
+    ensures { IfOk result (λ found.
+        map plain_head found.items ≡ words.head_parts (vocabulary_of table.now)
+        (numbered_from 0 variables.now) (plain_caused law.now).head) }
 {
-    match head {
-        HeadPiece::Falsity => {
-            let mut found = Vec::new(alloc);
-            put_made(&mut found, Ok(Head::Falsity))?;
-            Ok(found)
-        }
-        HeadPiece::One(formula) => {
+    match law.law {
+        LawTree::Caused(head, _, _)
+        | LawTree::Default(head, _, _)
+        | LawTree::Causes(_, head, _)
+        | LawTree::MayCause(_, head, _) => {
             let names = names_of(alloc, variables)?;
-            heads_of(alloc, table, &names, formula)
+            heads_of(alloc, table, &names, head)
         }
+        _ => only(alloc, Head::Falsity),
     }
 }
 
@@ -218,21 +242,12 @@ fn split(
         map plain_base_law made.items ≡ words.split (vocabulary_of table.now)
         (frame_from (vocabulary_of table.now) source.now) (plain_caused law.now)) }
 {
-    let heads = head_parts(alloc, table, source.variables, law.head)?;
+    let heads = head_parts(alloc, table, source.variables, law)?;
     let denying = denies(table, law);
     let mut made = Vec::with_capacity(alloc, heads.len())?;
     for head in heads {
         put_made(&mut made, law_for(alloc, table, source, law, denying, head))?;
     }
-    Ok(made)
-}
-
-/// A base law alone.
-fn only(alloc: Global, law: BaseLaw) -> Result<Vec<BaseLaw>, OutOfMemory>
-    ensures { IfOk result (λ made. map plain_base_law made.items ≡ plain_base_law law ∷ []) }
-{
-    let mut made = Vec::new(alloc);
-    put_made(&mut made, Ok(law))?;
     Ok(made)
 }
 
@@ -255,56 +270,6 @@ fn subject_laws(
             only(alloc, law)
         }
         _ => Ok(Vec::new(alloc)),
-    }
-}
-
-/// The law `caused F if G after H` that a law is short for, if it is short for one.
-pub(crate) fn short_for<'t, 's>(table: &Table, law: &'t LawTree<'s>) -> Option<Caused<'t, 's>>
-    ensures { option_map plain_caused result
-        ≡ law_short_for (vocabulary_of table.now) (plain_law law.now) }
-{
-    match law {
-        LawTree::Caused(f, g, h) => Some(Caused {
-            head: HeadPiece::One(f),
-            body: Piece::Maybe(g),
-            after: Piece::Maybe(h),
-        }),
-        LawTree::Constraint(f) => Some(Caused {
-            head: HeadPiece::Falsity,
-            body: Piece::Denied(f),
-            after: Piece::Missing,
-        }),
-        LawTree::Always(f) => Some(Caused {
-            head: HeadPiece::Falsity,
-            body: Piece::Missing,
-            after: Piece::Denied(f),
-        }),
-        LawTree::Nonexecutable(f, g) => Some(Caused {
-            head: HeadPiece::Falsity,
-            body: Piece::Missing,
-            after: Piece::Both(f, g),
-        }),
-        LawTree::Default(f, g, h) => Some(Caused {
-            head: HeadPiece::One(f),
-            body: Piece::Both(f, g),
-            after: Piece::Maybe(h),
-        }),
-        LawTree::Causes(a, f, g) if is_fluent_formula(table, f) => Some(Caused {
-            head: HeadPiece::One(f),
-            body: Piece::Missing,
-            after: Piece::Both(a, g),
-        }),
-        LawTree::Causes(a, f, g) => Some(Caused {
-            head: HeadPiece::One(f),
-            body: Piece::Both(a, g),
-            after: Piece::Missing,
-        }),
-        LawTree::MayCause(a, f, g) => Some(Caused {
-            head: HeadPiece::One(f),
-            body: Piece::One(f),
-            after: Piece::Both(a, g),
-        }),
-        _ => None,
     }
 }
 
@@ -345,10 +310,11 @@ fn laws_with(
         map plain_base_law made.items ≡ words.laws_with (vocabulary_of table.now)
         (frame_from (vocabulary_of table.now) source.now) (plain_law law.now)) }
 {
-    match short_for(table, law) {
-        Some(short) => split(alloc, table, source, &short),
-        None => other_laws(alloc, table, source, law),
+    if is_short(law) {
+        let later = is_later(table, law);
+        return split(alloc, table, source, &Caused { law, later });
     }
+    other_laws(alloc, table, source, law)
 }
 
 /// The base laws of a law and its test.
@@ -385,16 +351,24 @@ fn places(alloc: Global, sorts: &[u32]) -> Result<Vec<Term>, OutOfMemory>
     Ok(made)
 }
 
+/// What variables go over, one for each sort.
+fn ranges_over(alloc: Global, sorts: &[u32]) -> Result<Vec<Range>, OutOfMemory>
+    ensures { IfOk result (λ ranges. ranges.items ≡ map variants.Sort sorts.now) }
+{
+    let mut ranges = Vec::with_capacity(alloc, sorts.len())?;
+    for sort in sorts {
+        ranges.push(Range::Sort(*sort))?;
+    }
+    Ok(ranges)
+}
+
 /// What the base laws of a constant have in common.
 fn shape_frame(alloc: Global, file: u32, line: u32, sorts: &[u32]) -> Result<Frame, OutOfMemory>
     requires { length sorts.now < 4000000000 }
     ensures { IfOk result (λ made. frame_of made ≡ words.shape_frame file line sorts.now) }
 {
-    let test = boxed(alloc, Ok(Formula::True))?;
-    let mut ranges = Vec::with_capacity(alloc, sorts.len())?;
-    for sort in sorts {
-        ranges.push(Range::Sort(*sort))?;
-    }
+    let test = boxed(alloc, Ok(Formula::True));
+    let (ranges, test) = both(ranges_over(alloc, sorts), test)?;
     let names = Names {
         bindings: Vec::new(alloc),
         next: sorts.len() as u32 + 1,
@@ -423,8 +397,8 @@ fn shape_law(
         ≡ words.value_law (vocabulary_of table.now) (words.shape_frame file line sorts.now)
         (persistence_of persistence) number (words.places 0 sorts.now)) }
 {
-    let args = places(alloc, sorts)?;
-    let frame = shape_frame(alloc, file, line, sorts)?;
+    let frame = shape_frame(alloc, file, line, sorts);
+    let (args, frame) = both(places(alloc, sorts), frame)?;
     value_law(alloc, table, frame, persistence, number, args)
 }
 
@@ -451,8 +425,9 @@ fn denied_attribute(
         (resolved.Not (alone (resolved.Constant action (words.places 0 sorts.now)))))) }
 {
     let done = equation(alloc, action, sorts, Term::Object(1))?;
-    let denied = boxed(alloc, negated(alloc, done))?;
-    let none = boxed(alloc, equation(alloc, number, sorts, Term::Nothing))?;
+    let denied = boxed(alloc, negated(alloc, done));
+    let none = boxed(alloc, equation(alloc, number, sorts, Term::Nothing));
+    let (none, denied) = both(none, denied)?;
     negated(alloc, Formula::Same(none, denied))
 }
 
@@ -471,9 +446,14 @@ fn attribute_law(
         plain_base_law made ≡ words.attribute_law (vocabulary_of table.now)
         (words.shape_frame file line sorts.now) number action (words.places 0 sorts.now)) }
 {
-    let frame = shape_frame(alloc, file, line, sorts)?;
-    let differ = denied_attribute(alloc, number, action, sorts)?;
-    Ok(base_law(table, frame, Head::Falsity, Formula::True, Some(differ)))
+    let frame = shape_frame(alloc, file, line, sorts);
+    let differ = denied_attribute(alloc, number, action, sorts);
+    let (frame, differ) = both(frame, differ)?;
+    let parts = Parts {
+        body: Formula::True,
+        after: Some(differ),
+    };
+    Ok(base_law(table, frame, Head::Falsity, parts))
 }
 
 /// Which law the word of a kind stands for.
@@ -488,8 +468,8 @@ fn persistence_for(word: KindWord) -> Option<Persistence>
     }
 }
 
-/// The base laws of a constant whose kind is a word.
-fn word_laws(
+/// Adds the base laws of a constant whose kind is a word.
+fn add_word_laws(
     alloc: Global,
     file: u32,
     table: &Table,
@@ -497,23 +477,24 @@ fn word_laws(
     word: KindWord,
     number: u32,
     sorts: &[u32],
-) -> Result<Vec<BaseLaw>, OutOfMemory>
+    laws: &mut Vec<BaseLaw>,
+) -> Result<(), OutOfMemory>
     requires { length sorts.now < 4000000000 }
-    ensures { IfOk result (λ made.
-        map plain_base_law made.items ≡ words.word_laws (vocabulary_of table.now)
-        (words.shape_frame file line sorts.now) word number (words.places 0 sorts.now)) }
+    ensures { OnOk result (map plain_base_law laws.new.items ≡ map plain_base_law laws.old.items
+        ++ words.word_laws (vocabulary_of table.now) (words.shape_frame file line sorts.now) word
+        number (words.places 0 sorts.now)) }
 {
     match persistence_for(word) {
-        Some(persistence) => only(
-            alloc,
-            shape_law(alloc, file, table, line, persistence, number, sorts)?,
-        ),
-        None => Ok(Vec::new(alloc)),
+        Some(persistence) => {
+            let law = shape_law(alloc, file, table, line, persistence, number, sorts);
+            put_made(laws, law)
+        }
+        None => Ok(()),
     }
 }
 
-/// The base laws of an attribute.
-fn attribute_laws(
+/// Adds the base laws of an attribute.
+fn add_attribute_laws(
     alloc: Global,
     file: u32,
     table: &Table,
@@ -521,53 +502,51 @@ fn attribute_laws(
     number: u32,
     action: Option<u32>,
     sorts: &[u32],
-) -> Result<Vec<BaseLaw>, OutOfMemory>
+    laws: &mut Vec<BaseLaw>,
+) -> Result<(), OutOfMemory>
     requires { length sorts.now < 4000000000 }
-    ensures { IfOk result (λ made.
-        map plain_base_law made.items ≡ words.attribute_laws (vocabulary_of table.now)
-        (words.shape_frame file line sorts.now) number action (words.places 0 sorts.now)) }
+    ensures { OnOk result (map plain_base_law laws.new.items ≡ map plain_base_law laws.old.items
+        ++ words.attribute_laws (vocabulary_of table.now) (words.shape_frame file line sorts.now)
+        number action (words.places 0 sorts.now)) }
 {
     let Some(action) = action else {
-        return Ok(Vec::new(alloc));
+        return Ok(());
     };
-    let law = shape_law(
-        alloc,
-        file,
-        table,
-        line,
-        Persistence::Exogenous,
-        number,
-        sorts,
-    )?;
-    let mut made = only(alloc, law)?;
-    let other = attribute_law(alloc, file, table, line, number, action, sorts);
-    put_made(&mut made, other)?;
-    Ok(made)
+    let persistence = Persistence::Exogenous;
+    let law = shape_law(alloc, file, table, line, persistence, number, sorts);
+    put_made(laws, law)?;
+    let law = attribute_law(alloc, file, table, line, number, action, sorts);
+    put_made(laws, law)
 }
 
-/// The base laws of a constant of a kind.
-fn constant_laws(
+/// Adds the base laws of a constant of a kind, by its name.
+fn add_constant_laws(
     alloc: Global,
     file: u32,
     table: &Table,
     line: u32,
     kind: &KindTree<'_>,
-    means: &Meaning<'_>,
-) -> Result<Vec<BaseLaw>, OutOfMemory>
-    ensures { IfOk result (λ made. map plain_base_law made.items ≡ words.constant_laws file
-        (vocabulary_of table.now) line (plain_kind kind.now) (plain_meaning means.now)) }
+    name: &str,
+    laws: &mut Vec<BaseLaw>,
+) -> Result<(), OutOfMemory>
+    ensures { OnOk result (map plain_base_law laws.new.items ≡ map plain_base_law laws.old.items
+        ++ words.constant_laws file (vocabulary_of table.now) line (plain_kind kind.now)
+        (vocabulary_words.meaning (vocabulary_of table.now) name.now)) }
 {
-    let Meaning::Constant(number, symbol) = means else {
-        return Ok(Vec::new(alloc));
+    let Meaning::Constant(number, symbol) = meaning_of(table, name) else {
+        return Ok(());
     };
     let sorts = symbol.sorts.items();
     if sorts.len() >= 4_000_000_000 {
         return Err(OutOfMemory);
     }
     match kind {
-        KindTree::Plain(word, _) => word_laws(alloc, file, table, line, *word, *number, sorts),
+        KindTree::Plain(word, _) => {
+            add_word_laws(alloc, file, table, line, *word, number, sorts, laws)
+        }
         KindTree::Attribute(..) => {
-            attribute_laws(alloc, file, table, line, *number, symbol.attribute, sorts)
+            let action = symbol.attribute;
+            add_attribute_laws(alloc, file, table, line, number, action, sorts, laws)
         }
     }
 }
@@ -586,9 +565,7 @@ fn add_item(
 {
     let shapes = item.shapes.items();
     for shape in shapes {
-        let means = meaning_of(table, shape.name);
-        let mut new = constant_laws(alloc, file, table, line, &item.kind, &means)?;
-        laws.append(&mut new)?;
+        add_constant_laws(alloc, file, table, line, &item.kind, shape.name, laws)?;
     }
     Ok(())
 }

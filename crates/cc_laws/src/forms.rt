@@ -7,7 +7,7 @@ ghost use Rattle.cc_laws.specs.FormulaFaults as formulas;
 ghost use Rattle.cc_laws.specs.LawFaults as faults;
 ghost use Rattle.cc_laws.specs.FreeVariables.{optional};
 ghost use Rattle.cc_laws.specs.Views.{asks};
-ghost use Rattle.cc_laws.specs.Vocabulary.{is_action_constant, vocabulary_of};
+ghost use Rattle.cc_laws.specs.Vocabulary.{is_action_constant, is_determined_constant, vocabulary_of};
 
 use crate::heads::is_definite;
 use crate::meaning::meaning_of_term;
@@ -73,15 +73,24 @@ fn is_action_term(table: &Table, term: &TermTree<'_>) -> bool
     meaning_of_term(table, term).is_action_constant()
 }
 
+/// Whether a term is a statically determined fluent.
+fn is_determined_term(table: &Table, term: &TermTree<'_>) -> bool
+    ensures { result ≡ is_determined_constant
+        (formulas.term_meaning (vocabulary_of table.now) (plain_term term.now)) }
+{
+    meaning_of_term(table, term).is_determined_constant()
+}
+
 /// Whether a law has none of the three forms, or a part of an abbreviation is of the wrong kind.
 pub(crate) fn lacks_form(table: &Table, law: &LawTree<'_>) -> bool
     ensures { result ≡ faults.lacks_form (vocabulary_of table.now) (plain_law law.now) }
 {
     match law {
-        LawTree::Caused(head, body, after) => !has_form(table, head, body, after),
+        LawTree::Caused(head, body, after) | LawTree::Default(head, body, after) => {
+            !has_form(table, head, body, after)
+        }
         LawTree::Constraint(formula) => has(table, Property::Action, formula),
         LawTree::Nonexecutable(actions, _) => !is_action_formula(table, actions),
-        LawTree::Default(head, body, after) => !has_form(table, head, body, after),
         LawTree::Inertial(constant) => is_action_term(table, constant),
         LawTree::Causes(actions, head, _) => {
             !is_action_formula(table, actions)
@@ -113,7 +122,7 @@ pub(crate) fn has_determined_head(table: &Table, law: &LawTree<'_>) -> bool
         LawTree::Caused(head, _, after) | LawTree::Default(head, _, after) => {
             has_determined_after(table, head, after)
         }
-        LawTree::Inertial(constant) => meaning_of_term(table, constant).is_determined_constant(),
+        LawTree::Inertial(constant) => is_determined_term(table, constant),
         LawTree::Causes(_, head, _) | LawTree::MayCause(_, head, _) => {
             has(table, Property::Determined, head)
         }

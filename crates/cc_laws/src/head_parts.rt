@@ -9,11 +9,11 @@ ghost use Rattle.cc_laws.specs.Views.{scope_of};
 ghost use Rattle.cc_laws.specs.Vocabulary.{vocabulary_of};
 
 use crate::heads::{constant_beside, is_boolean_term, is_falsity_term, truth_beside};
-use crate::made::put_made;
 use crate::meaning::{Meaning, meaning_of_term};
 use crate::names::Names;
 use crate::resolving::{resolve_sum, resolve_term};
 use cc_defs::{Head, List, OutOfMemory, SumTree, Term, TermTree, Tree};
+use cc_results::put_last;
 use cc_sorts::Table;
 use std::alloc::Global;
 
@@ -68,7 +68,7 @@ fn add_bare(
         (vocabulary_of table.now) (scope_of names.now) (bare (plain_term term.now)))) }
 {
     if is_falsity_term(table, term) {
-        put_made(found, Ok(Head::Falsity))?;
+        put_last(found, Head::Falsity)?;
         return Ok(true);
     }
     if is_boolean_term(table, term) {

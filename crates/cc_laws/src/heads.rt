@@ -78,15 +78,16 @@ pub(crate) fn truth_beside<'t, 's>(
         ≡ are_beside
         (vocabulary_of table.now) (alone (plain_sum constant.now)) (alone (plain_sum value.now)) }
 {
-    match (lone(constant), lone(value)) {
-        (Some(term), Some(truth)) => {
-            if is_boolean_term(table, term) && is_truth_term(table, truth) {
-                Some((term, truth))
-            } else {
-                None
-            }
-        }
-        (Some(_), None) | (None, _) => None,
+    let Some(term) = lone(constant) else {
+        return None;
+    };
+    let Some(truth) = lone(value) else {
+        return None;
+    };
+    if is_boolean_term(table, term) && is_truth_term(table, truth) {
+        Some((term, truth))
+    } else {
+        None
     }
 }
 

@@ -13,7 +13,6 @@ mod meaning;
 mod mention;
 mod misfits;
 mod names;
-mod outermost;
 mod pieces;
 mod questions;
 mod resolving;

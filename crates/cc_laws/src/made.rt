@@ -1,35 +1,10 @@
 //! What is done with what was made, or with the want of memory. All is of any type, so that its drop is one call.
-ghost use Rattle.std.specs.Prelude.{◌≡◌, ◌++◌, [], ◌∷◌, Ok, Some, unwrap_or, IfOk, IsErr, IsOk, OnOk};
+ghost use Rattle.std.specs.Prelude.{◌≡◌, ◌∷◌, [], Ok, Some, unwrap_or, IfOk, IsErr, IsOk};
 ghost use Rattle.std.specs.Result.{MatchResult};
 
 use cc_defs::OutOfMemory;
+use cc_results::{filled, put_last};
 use std::alloc::Global;
-
-/// What was made, in a box.
-pub(crate) fn boxed<T: Drop>(
-    alloc: Global,
-    made: Result<T, OutOfMemory>,
-) -> Result<Box<T>, OutOfMemory>
-    ensures { MatchResult made (λ value. IfOk result (λ place. place.value ≡ value))
-        (λ error. IsErr result) }
-{
-    let value = made?;
-    let place = Box::new(alloc, value)?;
-    Ok(place)
-}
-
-/// Two things that were made.
-pub(crate) fn both<T: Drop>(
-    first: Result<T, OutOfMemory>,
-    second: Result<T, OutOfMemory>,
-) -> Result<(T, T), OutOfMemory>
-    ensures { MatchResult first (λ one. MatchResult second
-        (λ two. result ≡ Ok (one, two)) (λ error. IsErr result)) (λ error. IsErr result) }
-{
-    let first = first?;
-    let second = second?;
-    Ok((first, second))
-}
 
 /// What was made, as a part that is there.
 pub(crate) fn some<T: Drop>(made: Result<T, OutOfMemory>) -> Result<Option<T>, OutOfMemory>
@@ -60,16 +35,11 @@ pub(crate) fn gone<T: Drop>(made: Result<T, OutOfMemory>) -> Result<(), OutOfMem
     Ok(())
 }
 
-/// Puts what was made behind the others.
-pub(crate) fn put_made<T: Drop>(
-    list: &mut Vec<T>,
-    made: Result<T, OutOfMemory>,
-) -> Result<(), OutOfMemory>
-    ensures { MatchResult made
-        (λ item. OnOk result (list.new.items ≡ list.old.items ++ item ∷ []))
-        (λ error. IsErr result) }
+/// A list of one.
+pub(crate) fn only<T: Drop>(alloc: Global, item: T) -> Result<Vec<T>, OutOfMemory>
+    ensures { IfOk result (λ list. list.items ≡ item ∷ []) }
 {
-    let item = made?;
-    list.push(item)?;
-    Ok(())
+    let mut list = Vec::new(alloc);
+    let put = put_last(&mut list, item);
+    filled(list, put)
 }

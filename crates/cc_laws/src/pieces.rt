@@ -1,47 +1,60 @@
 //! The law `caused F if G after H` that a law is short for.
-ghost use Rattle.std.specs.Prelude.{◌≡◌, ◌+◌, IfOk, OnOk};
+ghost use Rattle.std.specs.Prelude.{◌≡◌, ◌+◌, is_none, IfOk, OnOk};
 ghost use Rattle.std.specs.Option.{option_map};
 ghost use Rattle.cc_defs.specs.Resolved.{plain_formula};
-ghost use Rattle.cc_defs.specs.Trees.{plain_tree};
+ghost use Rattle.cc_defs.specs.Trees.{plain_law, plain_tree};
 ghost use Rattle.cc_laws.specs.Expansion as words;
 ghost use Rattle.cc_laws.specs.Resolving as resolving;
-ghost use Rattle.cc_laws.specs.Views.{plain_piece, scope_of};
+ghost use Rattle.cc_laws.specs.Shortened as short;
+ghost use Rattle.cc_laws.specs.Views.{plain_caused, scope_of};
 ghost use Rattle.cc_laws.specs.Vocabulary.{vocabulary_of};
 
+use crate::forms::is_fluent_formula;
 use crate::made::some;
 use crate::names::Names;
 use crate::resolving::{Joint, resolve, resolve_not, resolve_two};
-use cc_defs::{Formula, OutOfMemory, Tree};
+use cc_defs::{Formula, LawTree, OutOfMemory, Tree};
 use cc_sorts::Table;
 use std::alloc::Global;
 
-/// A part of a law that a law is short for.
-#[derive(Clone, Copy)]
-pub(crate) enum Piece<'t, 's> {
-    Missing,
-    /// `F`
-    One(&'t Tree<'s>),
-    /// A part that may be missing.
-    Maybe(&'t Option<Tree<'s>>),
-    /// `-F`
-    Denied(&'t Tree<'s>),
-    /// `F & G`, where G may be missing.
-    Both(&'t Tree<'s>, &'t Option<Tree<'s>>),
-}
-
-/// The head of a law that a law is short for.
-#[derive(Clone, Copy)]
-pub(crate) enum HeadPiece<'t, 's> {
-    Falsity,
-    One(&'t Tree<'s>),
-}
-
-/// `caused head if body after after`
+/// A law that is short for a law `caused F if G after H`, and whether the effect of its actions, where it has one, comes a
+/// step later.
 #[derive(Clone, Copy)]
 pub(crate) struct Caused<'t, 's> {
-    pub(crate) head: HeadPiece<'t, 's>,
-    pub(crate) body: Piece<'t, 's>,
-    pub(crate) after: Piece<'t, 's>,
+    pub(crate) law: &'t LawTree<'s>,
+    pub(crate) later: bool,
+}
+
+/// Whether a law is short for another one.
+pub(crate) fn is_short(law: &LawTree<'_>) -> bool
+    ensures { result ≡ short.is_short (plain_law law.now) }
+{
+    match law {
+        LawTree::Exogenous(_) | LawTree::Inertial(_) | LawTree::NoConcurrency => false,
+        _ => true,
+    }
+}
+
+/// Whether the effect of the actions of a law comes a step later.
+pub(crate) fn is_later(table: &Table, law: &LawTree<'_>) -> bool
+    ensures { result ≡ short.is_later (vocabulary_of table.now) (plain_law law.now) }
+{
+    match law {
+        LawTree::Causes(_, head, _) => is_fluent_formula(table, head),
+        _ => false,
+    }
+}
+
+/// Whether the law that a law is short for has no `after` part.
+pub(crate) fn lacks_after(law: &Caused<'_, '_>) -> bool
+    ensures { result ≡ is_none (plain_caused law.now).after }
+{
+    match law.law {
+        LawTree::Caused(_, _, after) | LawTree::Default(_, _, after) => after.is_none(),
+        LawTree::Always(_) | LawTree::Nonexecutable(..) | LawTree::MayCause(..) => false,
+        LawTree::Causes(..) => !law.later,
+        _ => true,
+    }
 }
 
 /// `F & G`, where G may be missing, with numbers in place of names.
@@ -66,25 +79,82 @@ fn resolve_both(
 }
 
 /// A part with numbers in place of names; nothing where it is missing.
-pub(crate) fn resolve_piece(
+pub(crate) fn resolve_part(
     alloc: Global,
     table: &Table,
     names: &mut Names,
-    piece: &Piece<'_, '_>,
+    part: &Option<Tree<'_>>,
 ) -> Result<Option<Formula>, OutOfMemory>
-    ensures made { IfOk result (λ made.
-        option_map plain_formula made ≡ option_map (resolving.resolve
-        (vocabulary_of table.now) (scope_of names.old) names.old.next) (plain_piece piece.now)) }
+    ensures made { IfOk result (λ made. option_map plain_formula made
+        ≡ option_map (resolving.resolve (vocabulary_of table.now) (scope_of names.old)
+        names.old.next) (option_map plain_tree part.now)) }
+    ensures kept { OnOk result (names.new.bindings.items ≡ names.old.bindings.items) }
+    ensures next { OnOk result (names.new.next
+        ≡ names.old.next + words.part_brackets (option_map plain_tree part.now)) }
+{
+    match part {
+        Some(formula) => some(resolve(alloc, table, names, formula)),
+        None => Ok(None),
+    }
+}
+
+/// The `if` part of the law that a law is short for, with numbers in place of names; nothing where it is missing.
+pub(crate) fn resolve_body(
+    alloc: Global,
+    table: &Table,
+    names: &mut Names,
+    law: &Caused<'_, '_>,
+) -> Result<Option<Formula>, OutOfMemory>
+    ensures made { IfOk result (λ made. option_map plain_formula made ≡ option_map
+        (resolving.resolve (vocabulary_of table.now) (scope_of names.old) names.old.next)
+        (plain_caused law.now).body) }
     ensures kept { OnOk result (names.new.bindings.items ≡ names.old.bindings.items) }
     ensures next { OnOk result
-        (names.new.next ≡ names.old.next + words.part_brackets (plain_piece piece.now)) }
+        (names.new.next ≡ names.old.next + words.part_brackets (plain_caused law.now).body) }
 {
-    match *piece {
-        Piece::Missing | Piece::Maybe(None) => Ok(None),
-        Piece::One(formula) | Piece::Maybe(Some(formula)) => {
-            some(resolve(alloc, table, names, formula))
+    match law.law {
+        LawTree::Caused(_, body, _) => resolve_part(alloc, table, names, body),
+        LawTree::Constraint(formula) => some(resolve_not(alloc, table, names, formula)),
+        LawTree::Default(head, body, _) => some(resolve_both(alloc, table, names, head, body)),
+        LawTree::MayCause(_, head, _) => some(resolve(alloc, table, names, head)),
+        LawTree::Causes(actions, _, body) => {
+            if law.later {
+                return Ok(None);
+            }
+            some(resolve_both(alloc, table, names, actions, body))
         }
-        Piece::Denied(formula) => some(resolve_not(alloc, table, names, formula)),
-        Piece::Both(first, second) => some(resolve_both(alloc, table, names, first, second)),
+        _ => Ok(None),
+    }
+}
+
+/// Its `after` part.
+pub(crate) fn resolve_after(
+    alloc: Global,
+    table: &Table,
+    names: &mut Names,
+    law: &Caused<'_, '_>,
+) -> Result<Option<Formula>, OutOfMemory>
+    ensures made { IfOk result (λ made. option_map plain_formula made ≡ option_map
+        (resolving.resolve (vocabulary_of table.now) (scope_of names.old) names.old.next)
+        (plain_caused law.now).after) }
+    ensures kept { OnOk result (names.new.bindings.items ≡ names.old.bindings.items) }
+    ensures next { OnOk result
+        (names.new.next ≡ names.old.next + words.part_brackets (plain_caused law.now).after) }
+{
+    match law.law {
+        LawTree::Caused(_, _, after) | LawTree::Default(_, _, after) => {
+            resolve_part(alloc, table, names, after)
+        }
+        LawTree::Always(formula) => some(resolve_not(alloc, table, names, formula)),
+        LawTree::Nonexecutable(actions, body) | LawTree::MayCause(actions, _, body) => {
+            some(resolve_both(alloc, table, names, actions, body))
+        }
+        LawTree::Causes(actions, _, body) => {
+            if !law.later {
+                return Ok(None);
+            }
+            some(resolve_both(alloc, table, names, actions, body))
+        }
+        _ => Ok(None),
     }
 }

@@ -15,7 +15,7 @@ ghost use Rattle.cc_laws.specs.Vocabulary.{vocabulary, vocabulary_of};
 ghost use Rattle.cc_sorts.specs.Tables.{IsTable};
 
 use crate::checks::refused;
-use crate::made::{boxed, put_made, some};
+use crate::made::some;
 use crate::mention::Property;
 use crate::names::Names;
 use crate::resolving::resolve;
@@ -24,6 +24,7 @@ use crate::walk::{Check, formula_fails};
 use cc_defs::{
     At, Condition, Fault, Formula, List, Name, OutOfMemory, Part, Query, QueryItem, Statement, Tree,
 };
+use cc_results::{boxed, put_made};
 use cc_sorts::Table;
 use std::alloc::Global;
 

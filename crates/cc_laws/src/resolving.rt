@@ -4,16 +4,16 @@ ghost use Rattle.cc_defs.specs.Resolved.{plain_term as resolved_term, plain_form
 ghost use Rattle.cc_defs.specs.Resolved as resolved;
 ghost use Rattle.cc_defs.specs.Trees.{plain_piece, plain_sum, plain_term, plain_tree};
 ghost use Rattle.cc_laws.specs.Resolving as words;
-ghost use Rattle.cc_laws.specs.Views.{bracket_over, comparison_of, joined_by, plain_binding, plain_meaning, row_terms, scope_of};
+ghost use Rattle.cc_laws.specs.Views.{bracket_before, bracket_over, comparison_of, joined_by, joint_of, plain_binding, plain_meaning, row_terms, scope_of};
 ghost use Rattle.cc_laws.specs.Vocabulary as vocabulary;
 ghost use Rattle.cc_laws.specs.Vocabulary.{vocabulary_of};
 
-use crate::made::{both, boxed, gone, put_made};
+use crate::made::gone;
 use crate::meaning::{Meaning, meaning_of};
 use crate::names::{Binding, Names};
-use crate::outermost::{Outermost, outermost_of};
-use crate::sums::Comparison;
+use crate::sums::{Comparison, comparison_in};
 use cc_defs::{Formula, OutOfMemory, Piece, SumTree, Term, TermTree, Tree};
+use cc_results::{both, boxed, put_made};
 use cc_sorts::Table;
 use std::alloc::Global;
 
@@ -132,6 +132,28 @@ pub(crate) enum Joint {
 pub(crate) enum Bracket {
     ForAll,
     Exists,
+}
+
+/// How the parts of a formula are joined; of one that is not joined nothing is said.
+fn joint_in(formula: &Tree<'_>) -> Joint
+    ensures { result ≡ joint_of (plain_tree formula.now) }
+{
+    match formula {
+        Tree::Both(..) => Joint::Both,
+        Tree::Either(..) => Joint::Either,
+        Tree::Implies(..) => Joint::Implies,
+        _ => Joint::Same,
+    }
+}
+
+/// Which bracket a formula begins with; of another formula nothing is said.
+fn bracket_in(formula: &Tree<'_>) -> Bracket
+    ensures { result ≡ bracket_before (plain_tree formula.now) }
+{
+    match formula {
+        Tree::ForAll(..) => Bracket::ForAll,
+        _ => Bracket::Exists,
+    }
 }
 
 fn bracket_of(bracket: Bracket, variable: u32, sort: u32, inside: Box<Formula>) -> Formula
@@ -312,18 +334,26 @@ pub(crate) fn resolve(
     ensures next { OnOk result
         (names.new.next ≡ names.old.next + words.brackets (plain_tree formula.now)) }
 {
-    match outermost_of(formula) {
-        Outermost::Alone(term) => resolve_alone(alloc, table, names, term),
-        Outermost::Compared(comparison, left, right) => {
-            resolve_compared(alloc, table, names, comparison, left, right)
+    match formula {
+        Tree::Bare(term) => resolve_alone(alloc, table, names, term),
+        Tree::Equal(left, right)
+        | Tree::Differ(left, right)
+        | Tree::Less(left, right)
+        | Tree::AtMost(left, right)
+        | Tree::More(left, right)
+        | Tree::AtLeast(left, right) => {
+            resolve_compared(alloc, table, names, comparison_in(formula), left, right)
         }
-        Outermost::Inner(inner) => resolve(alloc, table, names, inner),
-        Outermost::Not(inner) => resolve_not(alloc, table, names, inner),
-        Outermost::Two(joint, first, second) => {
-            resolve_two(alloc, table, names, joint, first, second)
+        Tree::Paren(inner) => resolve(alloc, table, names, inner),
+        Tree::Not(inner) => resolve_not(alloc, table, names, inner),
+        Tree::Both(first, second)
+        | Tree::Either(first, second)
+        | Tree::Implies(first, second)
+        | Tree::Same(first, second) => {
+            resolve_two(alloc, table, names, joint_in(formula), first, second)
         }
-        Outermost::Over(bracket, name, inner) => {
-            resolve_bracket(alloc, table, names, bracket, name, inner)
+        Tree::ForAll(name, inner) | Tree::Exists(name, inner) => {
+            resolve_bracket(alloc, table, names, bracket_in(formula), name, inner)
         }
     }
 }

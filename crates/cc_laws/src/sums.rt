@@ -1,7 +1,7 @@
 //! Sums: the signs between two of them, and those of one piece.
 ghost use Rattle.std.specs.Prelude.{◌≡◌};
 ghost use Rattle.std.specs.Option.{option_map};
-ghost use Rattle.cc_defs.specs.Trees.{plain_piece, plain_sum, plain_term};
+ghost use Rattle.cc_defs.specs.Trees.{plain_piece, plain_sum, plain_term, plain_tree};
 ghost use Rattle.cc_laws.specs.FormulaFaults as faults;
 ghost use Rattle.cc_laws.specs.Leaves as leaves;
 ghost use Rattle.cc_laws.specs.Views as views;
@@ -9,7 +9,7 @@ ghost use Rattle.cc_laws.specs.Views.{plain_meaning};
 ghost use Rattle.cc_laws.specs.Vocabulary.{vocabulary_of};
 
 use crate::meaning::{Meaning, meaning_of_term};
-use cc_defs::{Piece, SumTree, TermTree};
+use cc_defs::{Piece, SumTree, TermTree, Tree};
 use cc_sorts::Table;
 
 /// The sign between two sums.
@@ -27,6 +27,20 @@ pub(crate) enum Comparison {
     More,
     /// `>=`
     AtLeast,
+}
+
+/// The sign between the two sums that a formula is; of another formula nothing is said.
+pub(crate) fn comparison_in(formula: &Tree<'_>) -> Comparison
+    ensures { views.comparison_of result ≡ views.sign_in (plain_tree formula.now) }
+{
+    match formula {
+        Tree::Equal(..) => Comparison::Equal,
+        Tree::Differ(..) => Comparison::Differs,
+        Tree::Less(..) => Comparison::Less,
+        Tree::AtMost(..) => Comparison::AtMost,
+        Tree::More(..) => Comparison::More,
+        _ => Comparison::AtLeast,
+    }
 }
 
 /// Whether a sum is one piece alone.

@@ -9,9 +9,9 @@ ghost use Rattle.cc_laws.specs.Views.{frame_of, persistence_of, row_terms};
 ghost use Rattle.cc_laws.specs.Vocabulary.{vocabulary_of};
 
 use crate::classes::class;
-use crate::made::{both, boxed, put_made};
 use crate::names::Names;
 use cc_defs::{BaseLaw, Formula, Head, Law, List, OutOfMemory, Range, Term};
+use cc_results::{both, boxed, put_made};
 use cc_sorts::Table;
 use std::alloc::Global;
 
@@ -37,23 +37,25 @@ pub(crate) struct Frame {
     pub(crate) line: u32,
 }
 
+/// The parts `if` and `after` of a law.
+#[derive(Drop)]
+pub(crate) struct Parts {
+    pub(crate) body: Formula,
+    pub(crate) after: Option<Formula>,
+}
+
 /// A base law of its parts.
-pub(crate) fn base_law(
-    table: &Table,
-    frame: Frame,
-    head: Head,
-    body: Formula,
-    after: Option<Formula>,
-) -> BaseLaw
+pub(crate) fn base_law(table: &Table, frame: Frame, head: Head, parts: Parts) -> BaseLaw
     ensures { plain_base_law result ≡ words.base_law (vocabulary_of table.now) (frame_of frame)
-        (resolved.plain_head head) (plain_formula body) (option_map plain_formula after) }
+        (resolved.plain_head head) (plain_formula parts.body)
+        (option_map plain_formula parts.after) }
 {
-    let kind = class(table, &head, &after);
+    let kind = class(table, &head, &parts.after);
     BaseLaw::One(Law {
         ranges: List::of(frame.ranges),
         head,
-        body,
-        after,
+        body: parts.body,
+        after: parts.after,
         test: Box::into_inner(frame.test),
         kind,
         file: frame.file,
@@ -112,13 +114,6 @@ pub(crate) fn equation_of(symbol: u32, args: Vec<Term>, value: Term) -> Formula
         ≡ resolved.Equal (resolved.Constant symbol (row_terms args.items)) (resolved_term value) }
 {
     Formula::Equal(Term::Constant { symbol, args }, value)
-}
-
-/// The parts `if` and `after` of a law.
-#[derive(Drop)]
-pub(crate) struct Parts {
-    pub(crate) body: Formula,
-    pub(crate) after: Option<Formula>,
 }
 
 /// The parts of a law about a value.
@@ -189,5 +184,5 @@ pub(crate) fn value_law(
         args: List::of(args),
         value: Term::Variable(variable),
     };
-    Ok(base_law(table, frame, head, parts.body, parts.after))
+    Ok(base_law(table, frame, head, parts))
 }

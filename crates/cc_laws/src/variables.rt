@@ -7,8 +7,8 @@ ghost use Rattle.cc_laws.specs.Vocabulary as vocabulary;
 ghost use Rattle.cc_laws.specs.Vocabulary.{vocabulary_of};
 
 use crate::meaning::{Meaning, meaning_of};
-use crate::outermost::{Outermost, outermost_of};
 use cc_defs::{OutOfMemory, Piece, SumTree, TermTree, Tree};
+use cc_results::filled;
 use cc_sorts::Table;
 use std::alloc::Global;
 
@@ -123,7 +123,31 @@ fn add_unbound_sides(
     add_unbound_sum(table, bound, right, found)
 }
 
+/// Adds the free occurrences of variables in a formula inside a bracket, which binds what its name is.
+#[cycle(brackets)]
+fn add_inside(
+    table: &Table,
+    bound: &mut Vec<u32>,
+    name: &str,
+    inner: &Tree<'_>,
+    found: &mut Vec<u32>,
+) -> Result<(), OutOfMemory>
+    ensures added { OnOk result (found.new.items ≡ found.old.items
+        ++ words.free (vocabulary_of table.now) (bound.old.items ++ words.variable_meant
+        (vocabulary.meaning (vocabulary_of table.now) name.now)) (plain_tree inner.now)) }
+    ensures closed { OnOk result (bound.new.items ≡ bound.old.items) }
+{
+    let Some(number) = variable(table, name) else {
+        return add_free(table, bound, inner, found);
+    };
+    bound.push(number)?;
+    add_free(table, bound, inner, found)?;
+    bound.pop();
+    Ok(())
+}
+
 /// Adds the free occurrences of variables in a formula, in the order of its text, inside brackets with these variables.
+#[cycle(brackets)]
 pub(crate) fn add_free(
     table: &Table,
     bound: &mut Vec<u32>,
@@ -134,23 +158,25 @@ pub(crate) fn add_free(
         ++ words.free (vocabulary_of table.now) bound.old.items (plain_tree formula.now)) }
     ensures closed { OnOk result (bound.new.items ≡ bound.old.items) }
 {
-    match outermost_of(formula) {
-        Outermost::Alone(term) => add_unbound(table, bound, term, found),
-        Outermost::Compared(_, left, right) => add_unbound_sides(table, bound, left, right, found),
-        Outermost::Inner(inner) | Outermost::Not(inner) => add_free(table, bound, inner, found),
-        Outermost::Two(_, first, second) => {
+    match formula {
+        Tree::Bare(term) => add_unbound(table, bound, term, found),
+        Tree::Equal(left, right)
+        | Tree::Differ(left, right)
+        | Tree::Less(left, right)
+        | Tree::AtMost(left, right)
+        | Tree::More(left, right)
+        | Tree::AtLeast(left, right) => add_unbound_sides(table, bound, left, right, found),
+        Tree::Paren(inner) | Tree::Not(inner) => add_free(table, bound, inner, found),
+        Tree::Both(first, second)
+        | Tree::Either(first, second)
+        | Tree::Implies(first, second)
+        | Tree::Same(first, second) => {
             add_free(table, bound, first, found)?;
             add_free(table, bound, second, found)
         }
-        Outermost::Over(_, name, inner) => match variable(table, name) {
-            Some(number) => {
-                bound.push(number)?;
-                add_free(table, bound, inner, found)?;
-                bound.pop();
-                Ok(())
-            }
-            None => add_free(table, bound, inner, found),
-        },
+        Tree::ForAll(name, inner) | Tree::Exists(name, inner) => {
+            add_inside(table, bound, name, inner, found)
+        }
     }
 }
 
@@ -165,8 +191,9 @@ pub(crate) fn free(
 {
     let mut found = Vec::new(alloc);
     let mut bound = Vec::new(alloc);
-    add_free(table, &mut bound, formula, &mut found)?;
-    Ok(found)
+    let added = add_free(table, &mut bound, formula, &mut found);
+    drop(bound);
+    filled(found, added)
 }
 
 /// Each number at its first place.

@@ -9,8 +9,7 @@ ghost use Rattle.cc_laws.specs.Vocabulary.{vocabulary_of};
 use crate::meaning::meaning_of;
 use crate::mention::{Property, sum_has, term_has};
 use crate::misfits::{bare_misfits, bracket_misfits, comparison_misfits};
-use crate::outermost::{Outermost, outermost_of};
-use crate::sums::Comparison;
+use crate::sums::{Comparison, comparison_in};
 use cc_defs::{SumTree, TermTree, Tree};
 use cc_sorts::Table;
 
@@ -74,16 +73,24 @@ fn bracket_fails(table: &Table, check: Check, name: &str) -> bool
 pub(crate) fn formula_fails(table: &Table, check: Check, formula: &Tree<'_>) -> bool
     ensures { result ≡ fails (vocabulary_of table.now) check (plain_tree formula.now) }
 {
-    match outermost_of(formula) {
-        Outermost::Alone(term) => bare_fails(table, check, term),
-        Outermost::Compared(comparison, left, right) => {
-            comparison_fails(table, check, comparison, left, right)
+    match formula {
+        Tree::Bare(term) => bare_fails(table, check, term),
+        Tree::Equal(left, right)
+        | Tree::Differ(left, right)
+        | Tree::Less(left, right)
+        | Tree::AtMost(left, right)
+        | Tree::More(left, right)
+        | Tree::AtLeast(left, right) => {
+            comparison_fails(table, check, comparison_in(formula), left, right)
         }
-        Outermost::Inner(inner) | Outermost::Not(inner) => formula_fails(table, check, inner),
-        Outermost::Two(_, first, second) => {
+        Tree::Paren(inner) | Tree::Not(inner) => formula_fails(table, check, inner),
+        Tree::Both(first, second)
+        | Tree::Either(first, second)
+        | Tree::Implies(first, second)
+        | Tree::Same(first, second) => {
             formula_fails(table, check, first) || formula_fails(table, check, second)
         }
-        Outermost::Over(_, name, inner) => {
+        Tree::ForAll(name, inner) | Tree::Exists(name, inner) => {
             bracket_fails(table, check, name) || formula_fails(table, check, inner)
         }
     }

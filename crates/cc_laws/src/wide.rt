@@ -10,7 +10,7 @@ ghost use Rattle.cc_laws.specs.Expansion as words_of;
 ghost use Rattle.cc_laws.specs.LawFaults.{law_variables as law_variables_of};
 ghost use Rattle.cc_laws.specs.Resolving.{resolve as resolve_of};
 ghost use Rattle.cc_laws.specs.Shortened.{law_short_for};
-ghost use Rattle.cc_laws.specs.Views.{frame_from, plain_caused, plain_piece, scope_of};
+ghost use Rattle.cc_laws.specs.Views.{frame_from, plain_caused, scope_of};
 ghost use Rattle.cc_laws.specs.Vocabulary.{vocabulary, vocabulary_of};
 ghost use Rattle.cc_laws.specs.Widening as words;
 ghost use Rattle.cc_laws.specs.Widening.{ExpandsWide, wide_refusal};
@@ -18,17 +18,18 @@ ghost use Rattle.cc_sorts.specs.Tables.{IsTable};
 ghost use Rattle.cc_wide.specs.WideLaws.{plain_wide_base};
 
 use crate::checks::{check_wide, law_variables};
-use crate::expansion::{Source, base_laws, is_missing, law_frame, short_for, written};
+use crate::expansion::{Source, base_laws, law_frame, written_body};
 use crate::forms::{has, has_indefinite_head};
-use crate::made::{boxed, put_made};
+use crate::made::only;
 use crate::mention::Property;
 use crate::names::Names;
-use crate::pieces::{Caused, HeadPiece, Piece, resolve_piece};
+use crate::pieces::{Caused, is_later, lacks_after, resolve_after};
 use crate::resolving::resolve;
 use crate::values::equation_of;
 use cc_defs::{
     BaseLaw, Fault, Formula, Head, LawKind, LawTree, List, OutOfMemory, Part, Statement, Tree,
 };
+use cc_results::{boxed, put_last};
 use cc_sorts::Table;
 use cc_wide::{WideBase, WideLaw, WideLaws};
 use std::alloc::Global;
@@ -73,17 +74,17 @@ fn all_widened(alloc: Global, laws: Vec<BaseLaw>) -> Result<Vec<WideBase>, OutOf
 {
     let mut made = Vec::with_capacity(alloc, laws.len())?;
     for law in laws {
-        put_made(&mut made, Ok(widened(law)))?;
+        put_last(&mut made, widened(law))?;
     }
     Ok(made)
 }
 
-/// The class of a law with this `after` part and this head.
-fn class_of(table: &Table, after: &Piece<'_, '_>, head: &Tree<'_>) -> LawKind
+/// The class of a law with the `after` part of this one and this head.
+fn class_of(table: &Table, law: &Caused<'_, '_>, head: &Tree<'_>) -> LawKind
     ensures { result ≡ words.wide_class (vocabulary_of table.now)
-        (plain_piece after.now) (plain_tree head.now) }
+        (plain_caused law.now).after (plain_tree head.now) }
 {
-    if !is_missing(after) {
+    if !lacks_after(law) {
         return LawKind::FluentDynamic;
     }
     if has(table, Property::Action, head) {
@@ -120,8 +121,8 @@ fn whole_parts(
         (names.old.next + words_of.part_brackets (plain_caused law.now).body
         + words_of.part_brackets (plain_caused law.now).after) (plain_tree head.now)) }
 {
-    let body = boxed(alloc, written(alloc, table, names, &law.body))?;
-    let after = boxed(alloc, resolve_piece(alloc, table, names, &law.after))?;
+    let body = boxed(alloc, written_body(alloc, table, names, law))?;
+    let after = boxed(alloc, resolve_after(alloc, table, names, law))?;
     let head = boxed(alloc, resolve(alloc, table, names, head))?;
     Ok(WholeParts { head, body, after })
 }
@@ -146,7 +147,7 @@ fn whole_law(
         body: Box::into_inner(parts.body),
         after: Box::into_inner(parts.after),
         test: Box::into_inner(frame.test),
-        kind: class_of(table, &law.after, head),
+        kind: class_of(table, law, head),
         file: frame.file,
         line: frame.line,
     }))
@@ -164,13 +165,17 @@ fn whole_laws(
         (frame_from (vocabulary_of table.now) source.now)
         (law_short_for (vocabulary_of table.now) (plain_law law.now))) }
 {
-    let mut made = Vec::new(alloc);
-    if let Some(short) = short_for(table, law) {
-        if let HeadPiece::One(head) = short.head {
-            put_made(&mut made, whole_law(alloc, table, source, &short, head))?;
+    let later = is_later(table, law);
+    match law {
+        LawTree::Caused(head, _, _)
+        | LawTree::Default(head, _, _)
+        | LawTree::Causes(_, head, _)
+        | LawTree::MayCause(_, head, _) => {
+            let whole = whole_law(alloc, table, source, &Caused { law, later }, head)?;
+            only(alloc, whole)
         }
+        _ => Ok(Vec::new(alloc)),
     }
-    Ok(made)
 }
 
 /// The laws of a law whose head is not definite.

@@ -13,7 +13,7 @@ pub loop-head-preserved : goal.loop-head-preserved
 loop-head-preserved c =
     let v = vocabulary_of c.args.table.now in
     let f = law_for v (frame_from v c.args.source.now) (plain_caused c.args.law.now) in
-    with_made c.law_for.result (λ one. plain_base_law one ≡ f (plain_head c.in-Some.head)) (λ one. c.put_made.new.list.items ≡ c.loop-head.made.items ++ one ∷ []) c.in_ok-put_made.ensures c.law_for.ensures
+    with_made c.law_for.result (λ one. plain_base_law one ≡ f (plain_head c.in-Some.head)) (λ one. c.put_made.new.list.items ≡ c.loop-head.made.items ++ one ∷ []) c.in_ok-put_made.ensures.made c.in_ok-put_made.ensures.items c.law_for.ensures
     (λ one is put. yielded_more plain_base_law f plain_head c.loop-head.yielded c.in-Some.head c.loop-head.made.items c.put_made.new.list.items one put is c.loop-head.invariant)
 
 pub returns : goal.returns

@@ -6,6 +6,7 @@ use Rattle.cc_laws.specs.Expansion.{Frame, subject_laws}
 use Rattle.cc_laws.specs.Views.{frame_of, persistence_of}
 use Rattle.cc_laws.specs.Vocabulary.{vocabulary_of}
 use Rattle.cc_laws.proofs.Expanded.{subject_made}
+use Rattle.cc_laws.proofs.WithMade.{only_so}
 use Rattle.cc_laws.proofs.expansion.subject_laws.Goals as goal
 
 pub returns-in_ok-law-in-Constant : goal.returns-in_ok-law-in-Constant
@@ -17,4 +18,4 @@ returns-in_ok-law-in-Constant c =
     (subject_made v (frame_of c.in_ok-frame.frame) p term c.in_ok-symbol.field-0 c.in-Constant.symbol c.in-Constant.args (plain_base_law c.in_ok-law-in-Constant.law)
     c.in-Constant.is c.in_ok-symbol.ensures c.in_ok-law-in-Constant.ensures
     ∙ ap (λ (frame : Frame). subject_laws v frame p term) c.in_ok-frame.ensures)
-    c.only.ensures
+    (only_so plain_base_law c.only.result c.in_ok-law-in-Constant.law c.only.ensures)

@@ -13,7 +13,7 @@ pub resolve_term-loop-argument-preserved : goal.resolve_term-loop-argument-prese
 resolve_term-loop-argument-preserved t c =
     let v = vocabulary_of c.args.table.now in
     let scope = (scope_of c.args.names.now) in
-    with_made c.resolve_sum.result (λ one. plain_term one ≡ resolve_sum v scope (plain_sum c.argument-item.result)) (λ one. c.put_made.new.list.items ≡ c.loop-argument.args.items ++ one ∷ []) c.in_ok-put_made.ensures c.resolve_sum.ensures
+    with_made c.resolve_sum.result (λ one. plain_term one ≡ resolve_sum v scope (plain_sum c.argument-item.result)) (λ one. c.put_made.new.list.items ≡ c.loop-argument.args.items ++ one ∷ []) c.in_ok-put_made.ensures.made c.in_ok-put_made.ensures.items c.resolve_sum.ensures
     (λ one is put. resolved_more v scope _ _ c.argument-item.result _ _ one _ c.loop-argument-test.true c.argument-item.is put is c.loop-argument.invariant)
 
 pub resolve_term-returns : goal.resolve_term-returns

@@ -7,7 +7,7 @@ use Rattle.cc_laws.proofs.values.+copy_term.Goals as goal
 
 pub loop-argument-preserved : goal.loop-argument-preserved
 loop-argument-preserved t c =
-    with_made c.copy_term.result (λ one. plain_term one ≡ plain_term c.argument-item.result) (λ one. c.put_made.new.list.items ≡ c.loop-argument.copies.items ++ one ∷ []) c.in_ok-put_made-in-Constant.ensures c.copy_term.ensures
+    with_made c.copy_term.result (λ one. plain_term one ≡ plain_term c.argument-item.result) (λ one. c.put_made.new.list.items ≡ c.loop-argument.copies.items ++ one ∷ []) c.in_ok-put_made-in-Constant.ensures.made c.in_ok-put_made-in-Constant.ensures.items c.copy_term.ensures
     (λ one is put. copied_more _ _ _ _ _ one _ c.loop-argument-test.true c.argument-item.is put is c.loop-argument.invariant)
 
 pub returns-after-loop-argument : goal.returns-after-loop-argument

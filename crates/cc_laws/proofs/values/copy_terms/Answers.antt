@@ -6,7 +6,7 @@ use Rattle.cc_laws.proofs.values.copy_terms.Goals as goal
 
 pub loop-term-preserved : goal.loop-term-preserved
 loop-term-preserved c =
-    with_made c.copy_term.result (λ one. plain_term one ≡ plain_term c.term-item.result) (λ one. c.put_made.new.list.items ≡ c.loop-term.copies.items ++ one ∷ []) c.in_ok-put_made.ensures c.copy_term.ensures
+    with_made c.copy_term.result (λ one. plain_term one ≡ plain_term c.term-item.result) (λ one. c.put_made.new.list.items ≡ c.loop-term.copies.items ++ one ∷ []) c.in_ok-put_made.ensures.made c.in_ok-put_made.ensures.items c.copy_term.ensures
     (λ one is put. copied_more c.args.terms.now _ _ _ _ one _ c.loop-term-test.true c.term-item.is put is c.loop-term.invariant)
 
 pub returns : goal.returns

@@ -1,0 +1,24 @@
+use Rattle.std.proofs.Common.{◌≡◌, ◌∙◌, ◌+◌, [], List, ℕ, Bool, Some, IfOk, OnOk, ap, subst, sym}
+use Rattle.std.specs.Prelude.{if◌then◌else◌}
+use Rattle.std.specs.Option.{option_map}
+use Rattle.cc_defs.specs.Resolved.{plain_formula}
+use Rattle.cc_laws.specs.declared.names.Binding.{Binding}
+use Rattle.cc_laws.specs.Expansion.{part, part_brackets}
+use Rattle.cc_laws.specs.Resolving.{resolve}
+use Rattle.cc_laws.specs.Views.{inside, plain_caused, scope_of}
+use Rattle.cc_laws.specs.Vocabulary.{vocabulary_of}
+use Rattle.cc_laws.proofs.expansion.law_parts.Goals as goal
+
+pub returns-clause-after : goal.returns-clause-after
+returns-clause-after c =
+    let v = vocabulary_of c.args.table.now in
+    let law = plain_caused c.args.law.now in
+    let old = c.args.names.now in
+    let new = c.written_body.new.names in
+    ap (option_map plain_formula) c.into_inner-3.ensures
+    ∙ subst (λ r. IfOk r (λ made. option_map plain_formula made ≡ option_map (resolve v (scope_of new) new.next) law.after)) c.in_ok-after.ensures c.resolve_after.ensures.made
+    ∙ ap (λ (items : List Binding). option_map (resolve v (inside [] items) new.next) law.after)
+    (subst (λ r. OnOk r (new.bindings.items ≡ old.bindings.items)) c.in_ok-body.ensures c.written_body.ensures.kept)
+    ∙ ap (λ (n : ℕ). option_map (resolve v (scope_of old) n) law.after)
+    (subst (λ r. OnOk r (new.next ≡ old.next + part_brackets law.body)) c.in_ok-body.ensures c.written_body.ensures.next)
+    ∙ sym (ap (λ (b : Bool). if b then Some (part v (scope_of old) old.next law.body) else option_map (resolve v (scope_of old) (old.next + part_brackets law.body)) law.after) c.if-denied.false)
