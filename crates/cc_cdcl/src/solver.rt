@@ -23,7 +23,7 @@ use std::alloc::Global;
 use std::marker::Model;
 
 /// What a search came to.
-#[derive(Clone, Copy, Debug, PartialEq, Eq)]
+#[derive(Clone, Copy, PartialEq, Eq)]
 pub enum Step {
     /// A clause was derived that is not empty.
     Line,

@@ -25,7 +25,7 @@ use cc_form::Form;
 use std::alloc::Global;
 
 /// What the lines of a section are found to be.
-#[derive(Clone, Copy, Debug, PartialEq, Eq)]
+#[derive(Clone, Copy, PartialEq, Eq)]
 pub enum Finding {
     /// Each line is right: how the section ends, how many blocks it has, and the line of its end.
     Right {
@@ -47,7 +47,7 @@ pub enum Finding {
 }
 
 /// What a section is judged to be by itself.
-#[derive(Clone, Copy, Debug, PartialEq, Eq)]
+#[derive(Clone, Copy, PartialEq, Eq)]
 pub enum Verdict {
     /// Each line is right: how the section ends, how many blocks it has, and the line of its end.
     Right {

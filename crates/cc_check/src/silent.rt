@@ -60,7 +60,7 @@ pub trait Silent {
 }
 
 /// What a checker says of a log of silent sections.
-#[derive(Clone, Copy, Debug, PartialEq, Eq)]
+#[derive(Clone, Copy, PartialEq, Eq)]
 pub enum SilentVerdict {
     /// Each line is right, and so many sections are refuted.
     Accepted { sections: u32 },

@@ -3,7 +3,7 @@ use crate::{List, LogLine, Row};
 
 /// How a listing, or the search for a counterexample to a claim, ends. Horizons are those that it ended at; `listed` counts
 /// the histories that were told.
-#[derive(Clone, Copy, Debug, PartialEq, Eq)]
+#[derive(Clone, Copy)]
 pub enum Ending {
     /// Every history of the horizon was told.
     Complete { horizon: u32, listed: u32 },

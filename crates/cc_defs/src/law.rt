@@ -2,7 +2,7 @@
 use crate::{At, Formula, LawKind, List, Name, Term};
 
 /// What a variable of a law goes over: the objects of a sort and of those below it, or the values of a symbol.
-#[derive(Clone, Copy, Debug, PartialEq, Eq)]
+#[derive(Clone, Copy)]
 pub enum Range {
     Sort(u32),
     Domain(u32),

@@ -5,7 +5,7 @@ ghost use Rattle.cc_defs.specs.Limits.{most_variables};
 use std::marker::Model;
 
 /// A variable, from 1, or its negation. Literals ascend by variable, the negative one of a variable first.
-#[derive(Clone, Copy, Debug, PartialEq, Eq, PartialOrd, Ord)]
+#[derive(Clone, Copy, PartialEq, Eq, PartialOrd, Ord)]
 pub struct Lit {
     /// Twice the variable, and one more where the literal is positive.
     code: u32,

@@ -5,7 +5,7 @@ ghost use Rattle.cc_defs.specs.LogTexts.{cause_words};
 use crate::{Lits, Nums, Row};
 
 /// The word that ends a section of a log.
-#[derive(Clone, Copy, Debug, PartialEq, Eq)]
+#[derive(Clone, Copy, PartialEq, Eq)]
 pub enum EndWord {
     /// One of its clauses is empty: there is nothing more to be found.
     Empty,
@@ -16,7 +16,7 @@ pub enum EndWord {
 }
 
 /// How the lines of a log are written.
-#[derive(Clone, Copy, Debug, PartialEq, Eq)]
+#[derive(Clone, Copy, PartialEq, Eq)]
 pub enum Version {
     /// As text, for reading.
     First,
@@ -82,7 +82,7 @@ impl Cause {
 }
 
 /// What a checker says of a log.
-#[derive(Clone, Copy, Debug, PartialEq, Eq)]
+#[derive(Clone, Copy)]
 pub enum LogVerdict {
     /// Each line is right: the horizons from the first to the last have no history but the blocked rows, all sections
     /// together.

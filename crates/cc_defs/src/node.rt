@@ -1,7 +1,7 @@
 //! Nodes of ground terms, and the heads of ground laws.
 
 /// A node of a ground term. A term is a list of nodes in which each node stands behind its operands.
-#[derive(Clone, Copy, Debug, PartialEq, Eq)]
+#[derive(Clone, Copy, PartialEq, Eq)]
 pub enum Node {
     True,
     False,
@@ -18,7 +18,7 @@ pub enum Node {
 }
 
 /// The head of a ground law.
-#[derive(Clone, Copy, Debug, PartialEq, Eq)]
+#[derive(Clone, Copy)]
 pub enum GroundHead {
     /// The ground constant of this number has the value of this index in its domain.
     Atom { constant: u32, value: u32 },

@@ -2,7 +2,7 @@
 use crate::{Name, Nums};
 
 /// What a constant is.
-#[derive(Clone, Copy, Debug, PartialEq, Eq)]
+#[derive(Clone, Copy)]
 pub enum Kind {
     /// A simple fluent: in a first state any value of it is a cause of itself.
     Simple,
@@ -13,7 +13,7 @@ pub enum Kind {
 }
 
 /// The three forms of a causal law.
-#[derive(Clone, Copy, Debug, PartialEq, Eq)]
+#[derive(Clone, Copy, PartialEq, Eq)]
 pub enum LawKind {
     /// `caused F if G`, of fluents: at every step.
     Static,
@@ -24,7 +24,7 @@ pub enum LawKind {
 }
 
 /// The step of a condition.
-#[derive(Clone, Copy, Debug, PartialEq, Eq)]
+#[derive(Clone, Copy)]
 pub enum At {
     Number(u32),
     /// The last step, `maxstep`.

@@ -112,7 +112,7 @@ pub enum KindTree<'s> {
 }
 
 /// The words for kinds.
-#[derive(Clone, Copy, Debug, PartialEq, Eq)]
+#[derive(Clone, Copy)]
 pub enum KindWord {
     /// `simpleFluent`
     Simple,

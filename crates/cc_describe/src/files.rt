@@ -17,7 +17,7 @@ use cc_text::laws::{cut_or_stop, statements_are_tokens};
 use std::alloc::Global;
 
 /// Why the reading of a description ends before its end.
-#[derive(Clone, Copy, Debug, PartialEq, Eq)]
+#[derive(Clone, Copy)]
 pub(crate) enum Halt {
     Refused(Refusal),
     ReadFault,

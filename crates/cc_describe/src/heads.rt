@@ -1,7 +1,7 @@
 //! Which heads the causal laws of a description may have.
 
 /// Which heads the causal laws of a description may have.
-#[derive(Clone, Copy, Debug, PartialEq, Eq)]
+#[derive(Clone, Copy)]
 pub enum Heads {
     /// Conjunctions of atoms, or `false`. A law with another head is refused (11); any other is split into base laws.
     Definite,

@@ -21,7 +21,7 @@ use cc_sorts::Table;
 use std::alloc::{AllocFailed, Global};
 
 /// Why nodes are not made.
-#[derive(Clone, Copy, Debug, PartialEq, Eq)]
+#[derive(Clone, Copy)]
 pub(crate) enum Halt {
     /// There would be more of them than the limit.
     Full,

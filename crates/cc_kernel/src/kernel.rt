@@ -13,7 +13,7 @@ use std::alloc::Global;
 use std::marker::Model;
 
 /// Where a clause comes from.
-#[derive(Clone, Copy, Debug, PartialEq, Eq)]
+#[derive(Clone, Copy)]
 pub enum Origin {
     /// It is one of the clauses that the search starts from.
     Axiom,

@@ -5,7 +5,7 @@ ghost use Rattle.cc_ports.specs.Moments.{Moment};
 ghost use Rattle.cc_ports.specs.Contents.{Contents, with_rest, content_of, after_read, ReadsFrom, after_create, after_give, Rose};
 
 /// An output.
-#[derive(Clone, Copy, Debug, PartialEq, Eq)]
+#[derive(Clone, Copy)]
 pub enum To {
     Out,
     Err,
@@ -13,7 +13,7 @@ pub enum To {
 }
 
 /// A device has failed; the desk's count of such faults has risen.
-#[derive(Clone, Copy, Debug, PartialEq, Eq)]
+#[derive(Clone, Copy, PartialEq, Eq)]
 pub struct Failed;
 
 /// Files to read, two streams, and a log to write. A call that succeeds raises no count of faults.

@@ -3,7 +3,7 @@ use cc_cdcl::Solver;
 use cc_defs::EndWord;
 
 /// What a section of a horizon searches for.
-#[derive(Clone, Copy, Debug, PartialEq, Eq)]
+#[derive(Clone, Copy)]
 pub(crate) enum Part {
     /// The histories of a query without a claim.
     Histories,

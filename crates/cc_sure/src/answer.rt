@@ -2,7 +2,7 @@
 use cc_defs::{List, LogLine, Row};
 
 /// What is answered of an atom: a position of a horizon, and a value of it.
-#[derive(Clone, Copy, Debug, PartialEq, Eq)]
+#[derive(Clone, Copy)]
 pub enum Answer {
     /// Every history has it.
     Certain,

@@ -29,7 +29,7 @@ use std::alloc::Global;
 use std::marker::Model;
 
 /// The heading of a section: an atom by its horizon, its position and the index of its value.
-#[derive(Clone, Copy, Debug, PartialEq, Eq)]
+#[derive(Clone, Copy)]
 pub struct AtomHeading {
     pub horizon: u32,
     pub position: u32,

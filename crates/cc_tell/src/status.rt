@@ -7,7 +7,7 @@ use cc_defs::{Ending, OutOfMemory};
 use std::alloc::{AllocError, AllocFailed};
 
 /// How a run ends.
-#[derive(Clone, Copy, Debug, PartialEq, Eq)]
+#[derive(Clone, Copy, PartialEq, Eq)]
 pub enum Status {
     /// The listing is complete, the claim holds, a checker accepts the log, or the history is explained.
     Right,
@@ -46,7 +46,7 @@ impl Status {
 }
 
 /// Why a run stops before its end.
-#[derive(Clone, Copy, Debug, PartialEq, Eq)]
+#[derive(Clone, Copy)]
 pub enum Stop {
     /// A file is not there, or could not be read.
     ReadFault,

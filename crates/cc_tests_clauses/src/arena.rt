@@ -71,7 +71,7 @@ fn flat(alloc: Global, count: u32, odd: u32) -> Result<Vec<Node>, AllocError>
 fn flat_terms_are_evaluated(rt: HostRuntime) -> Result<(), Fail> {
     for (odd, want) in [(16_000, true), (8_000, false), (0, false), (15_998, false)] {
         let term = flat(rt.alloc(), 15_999, odd)?;
-        assert_eq!(rt; value(&term, &[1]), want, "odd at {odd}");
+        assert!(rt; value(&term, &[1]) == want, "odd at {odd}");
     }
     Ok(())
 }
@@ -99,7 +99,10 @@ fn nested_terms_are_evaluated(rt: HostRuntime) -> Result<(), Fail> {
         (2_000, false, true),
     ] {
         let term = nested(rt.alloc(), depth, negated)?;
-        assert_eq!(rt; value(&term, &[]), want, "{depth} deep, negated: {negated}");
+        assert!(rt;
+            value(&term, &[]) == want,
+            "{depth} deep, negated: {negated}"
+        );
     }
     Ok(())
 }
@@ -113,7 +116,7 @@ fn placed_terms_outlive_their_source(rt: HostRuntime) -> Result<(), Fail> {
         terms.place(&source)?
     };
     let after = terms.place(&[])?;
-    assert_eq!(rt; body, [Node::True, Node::Not].as_slice());
+    assert!(rt; body == [Node::True, Node::Not].as_slice());
     let law = GroundLaw {
         head: GroundHead::Falsity,
         body,
@@ -122,7 +125,7 @@ fn placed_terms_outlive_their_source(rt: HostRuntime) -> Result<(), Fail> {
         base: 3,
     };
     let laws = Laws::of(vec![in rt.alloc(); law]?);
-    assert_eq!(rt; laws.laws().len(), 1);
+    assert!(rt; laws.laws().len() == 1);
     let condition = GroundCondition {
         at: At::Number(2),
         nodes: body,
@@ -133,6 +136,6 @@ fn placed_terms_outlive_their_source(rt: HostRuntime) -> Result<(), Fail> {
         conditions: List::of(vec![in rt.alloc(); condition]?),
         claim: None,
     };
-    assert_eq!(rt; query.conditions.items().len(), 1);
+    assert!(rt; query.conditions.items().len() == 1);
     Ok(())
 }

@@ -222,31 +222,17 @@ fn with_one_more(
 #[test]
 fn a_clause_more_is_attached(rt: HostRuntime) -> Result<(), Fail> {
     // An empty one, a unit one that is false, and a unit one that was attached at level 1.
-    assert_eq!(rt;
-        with_one_more(rt.alloc(), &[], 0, [0, 0, 0], 0)?,
-        (Some(1), 0)
-    );
-    assert_eq!(rt;
-        with_one_more(rt.alloc(), &[[1, 0, 0]], 0, [-1, 0, 0], 0)?,
-        (Some(2), 1)
-    );
-    assert_eq!(rt;
-        with_one_more(rt.alloc(), &[[1, 2, 0]], 3, [-3, 0, 0], 0)?,
-        (None, 1)
-    );
+    assert!(rt; with_one_more(rt.alloc(), &[], 0, [0, 0, 0], 0)? == (Some(1), 0));
+    assert!(rt; with_one_more(rt.alloc(), &[[1, 0, 0]], 0, [-1, 0, 0], 0)? == (Some(2), 1));
+    assert!(rt; with_one_more(rt.alloc(), &[[1, 2, 0]], 3, [-3, 0, 0], 0)? == (None, 1));
     // One whose literals are all false, one with two literals of level 1, and one whose literal is made true by it.
-    assert_eq!(rt;
-        with_one_more(rt.alloc(), &[[-1, 0, 0], [-2, 0, 0]], 0, [1, 2, 0], 0)?,
-        (Some(3), 2)
+    assert!(rt;
+        with_one_more(rt.alloc(), &[[-1, 0, 0], [-2, 0, 0]], 0, [1, 2, 0], 0)? == (Some(3), 2)
     );
-    assert_eq!(rt;
-        with_one_more(rt.alloc(), &[[-1, 3, 0], [-2, 3, 0]], -3, [1, 2, 0], -3)?,
-        (Some(3), 3)
+    assert!(rt;
+        with_one_more(rt.alloc(), &[[-1, 3, 0], [-2, 3, 0]], -3, [1, 2, 0], -3)? == (Some(3), 3)
     );
-    assert_eq!(rt;
-        with_one_more(rt.alloc(), &[[1, 2, 0]], -1, [1, -2, 0], 2)?,
-        (None, 2)
-    );
+    assert!(rt; with_one_more(rt.alloc(), &[[1, 2, 0]], -1, [1, -2, 0], 2)? == (None, 2));
     Ok(())
 }
 
@@ -275,15 +261,15 @@ fn the_lamp_is_on(rt: HostRuntime) -> Result<(), Fail> {
     let kernel = lamp(rt.alloc())?;
     let mut trail = Trail::new(rt.alloc(), &kernel)?;
     let failed = trail.propagate(&kernel)?;
-    assert_eq!(rt; failed, None);
+    assert!(rt; failed == None);
     assert!(rt; trail.entries().len() == 11);
-    assert_eq!(rt; trail.level_count(), 0);
+    assert!(rt; trail.level_count() == 0);
     let reasons = (
         true_by(&kernel, &trail, -2),
         true_by(&kernel, &trail, 6),
         true_by(&kernel, &trail, 1),
     );
-    assert_eq!(rt; reasons, (Some((0, 26)), Some((0, 27)), Some((0, 2))));
+    assert!(rt; reasons == (Some((0, 26)), Some((0, 27)), Some((0, 2))));
     let fourth = true_by(&kernel, &trail, 4).is_some();
     assert!(rt; fourth);
     Ok(())

@@ -17,7 +17,7 @@ fn keys_are_written(rt: HostRuntime) -> Result<(), Fail> {
         (1, [0, 1, 1].as_slice(), "1:0,1,1"),
         (12, [345].as_slice(), "12:345"),
     ] {
-        assert_eq!(rt; key_text(alloc, horizon, row)?.text(), text);
+        assert!(rt; key_text(alloc, horizon, row)?.text() == text);
     }
     Ok(())
 }
@@ -49,7 +49,7 @@ fn keys_are_read(rt: HostRuntime) -> Result<(), Fail> {
         ("+1:0", ""),
         ("-1:0", ""),
     ] {
-        assert_eq!(rt; written_again(alloc, text)?.text(), written);
+        assert!(rt; written_again(alloc, text)?.text() == written);
     }
     Ok(())
 }
@@ -112,7 +112,7 @@ fn listings_are_summed_up(rt: HostRuntime) -> Result<(), Fail> {
     let alloc = rt.alloc();
     let outcome = listing(alloc)?;
     let text = "locks 12\nempty horizons 2\nhorizon 2\nhistories 4\nending complete\n";
-    assert_eq!(rt; summary_text(alloc, 12, &outcome)?.text(), text);
+    assert!(rt; summary_text(alloc, 12, &outcome)?.text() == text);
     Ok(())
 }
 
@@ -195,7 +195,7 @@ fn refusals_are_written(rt: HostRuntime) -> Result<(), Fail> {
             line,
             limit,
         };
-        assert_eq!(rt; refusal_text(alloc, &refusal, "f.cc")?.text(), text);
+        assert!(rt; refusal_text(alloc, &refusal, "f.cc")?.text() == text);
     }
     Ok(())
 }

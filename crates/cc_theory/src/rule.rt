@@ -9,7 +9,7 @@ pub struct Timed<'a> {
 }
 
 /// The head of a rule.
-#[derive(Clone, Copy, Debug, PartialEq, Eq)]
+#[derive(Clone, Copy)]
 pub enum TimedHead {
     /// The position has the value of this index in its domain.
     Atom { position: u64, value: u32 },

@@ -15,7 +15,7 @@ use crate::numbers::{from_zero, optional_up_to, optional_version, up_to};
 use cc_defs::Version;
 
 /// The value of each option that stands there, and the file.
-#[derive(Clone, Copy, Debug)]
+#[derive(Clone, Copy)]
 pub(crate) struct Given<'a> {
     pub mode: Option<&'a str>,
     pub query: Option<&'a str>,

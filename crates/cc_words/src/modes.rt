@@ -3,7 +3,7 @@ ghost use Rattle.std.specs.Prelude.{◌≡◌, option_map};
 ghost use Rattle.cc_words.specs.Requests.{bars, mode_named, needs};
 
 /// What is done.
-#[derive(Clone, Copy, Debug)]
+#[derive(Clone, Copy)]
 pub enum Mode {
     /// Histories of a query are listed.
     List,
@@ -32,7 +32,7 @@ pub enum Mode {
 }
 
 /// What may stand among the words: an option with its value, or the FILE.
-#[derive(Clone, Copy, Debug)]
+#[derive(Clone, Copy)]
 pub enum Item {
     /// `--query LABEL`.
     Query,
