@@ -84,6 +84,18 @@ kept_same a b is = record { variables = ap (λ (k : KernelView). k.variables) is
 pub started_kept : (old new : KernelView) (id : ℕ) → IsStarted old new id → KeepsEntries old new
 started_kept old new id (clause, numbered, is) = record { variables = ap (λ (k : KernelView). k.variables) is; entries = ap (λ (k : KernelView). k.entries) is }
 
+pub stepped_kept : (old new : KernelView) (pivot id : ℕ) → IsStepped old new pivot id → KeepsEntries old new
+stepped_kept old new pivot id (staged, other, r, is, numbered, resolvent, new_is) = record {
+  variables = ap (λ (k : KernelView). k.variables) new_is;
+  entries = ap (λ (k : KernelView). k.entries) new_is;
+}
+
+pub clash_there : (kernel : KernelView) (pivot id : ℕ) → ClashesWith kernel pivot id → IsThere kernel id
+clash_there kernel pivot id (staged, other, is, numbered, clash) = numbered_there kernel id other numbered
+
+pub last_there : (old : ℕ) (new : KernelView) (number : ℕ) → length new.entries ≡ old + 1 → number ≡ old + 1 → IsThere new number
+last_there old new number count is = (omega arith, omega arith)
+
 -- ---- one entry of the trail
 
 may_of : (steps : List Step) (level_count : ℕ) (clause : List Literal) → IsUnfinished steps level_count clause → MayResolve steps level_count clause
@@ -381,6 +393,9 @@ module _ (trail : TrailView) (old staged new : KernelView) (are : AreSteps trail
 
   pub count_then : length new.entries ≡ length old.entries + 1
   count_then = ap length adds.entries ∙ length-append old.entries ((record { clause = derived.derivation.clause; origin = origins.Derived }) ∷ [])
+
+  pub there_then : (number : ℕ) → number ≡ length staged.entries + 1 → IsThere new number
+  there_then number is = last_there (length staged.entries) new number (count_then ∙ ap (λ (es : List Entry). length es + 1) (sym kept.entries)) is
 
   pub fits_then : (law : AddingKeepsFit) (back : TrailView) → Fits back old → Fits back new
   fits_then law back fits = law back old new derived.derivation.clause adds.variables clauses_then fits

@@ -20,6 +20,7 @@ use Rattle.cc_cdcl.proofs.Choosing.{first_there}
 use Rattle.cc_cdcl.proofs.Closed.{member_over}
 use Rattle.cc_cdcl.proofs.Deriving.{clauses_added}
 use Rattle.cc_cdcl.proofs.Exactly.{variable_in}
+use Rattle.cc_cdcl.specs.declared.solver.Step.TheVariants as answers
 
 abbrev clause_in : Entry → List Literal
 clause_in entry = entry.clause
@@ -245,3 +246,13 @@ few_derived law sizes kernel section none opens open_are =
 
 pub none_derived : (kernel : KernelView) → AreAxioms kernel.entries → 0 ≡ derived_count kernel.entries
 none_derived kernel are = sym (axioms_count kernel.entries are)
+
+-- what was done is not that the budget is spent
+pub line_not_spent : answers.Line ≡ answers.Spent → ⊥
+line_not_spent e = cc
+
+pub refuted_not_spent : answers.Refuted ≡ answers.Spent → ⊥
+refuted_not_spent e = cc
+
+pub found_not_spent : answers.Found ≡ answers.Spent → ⊥
+found_not_spent e = cc

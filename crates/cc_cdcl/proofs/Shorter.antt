@@ -3,6 +3,7 @@
 use Rattle.std.proofs.Common.{◌≡◌, ◌≢◌, ◌∙◌, ℕ, ◌<◌, ◌≤◌, suc, inl, inr, Bool, not, true, false, List, [], ◌∷◌, ◌++◌, length, map, take, drop, get_or, Option, Some, option_and_then, refl, sym, subst, ap, arith, length-append, eq-eqb}
 use Rattle.std.specs.Prelude.{◌⊎◌, Contains}
 use Rattle.std.proofs.lemmas.Bool.{cases_lt, ltb-true}
+use Rattle.std.proofs.lemmas.List.{length-map}
 use Rattle.cc_defs.specs.Assignments.{IsFailed}
 use Rattle.cc_defs.specs.Clauses.{Literal, Clash, IsIn, IsResolvent, opposite}
 use Rattle.cc_kernel.specs.Kernels.{KernelView, ClashesWith, IsStepped, IsThere, clauses_of}
@@ -241,3 +242,17 @@ module _ (trail : TrailView) (kernel : KernelView) (start next : ℕ) (are : Are
           where
             here : IsResolvent derivation.clause reason step_before.0.lit.variable resolvent
             here = resolved_here reason (one_clause (clauses_of kernel) id other reason numbered reason_is)
+
+-- an earlier place
+pub place_within : (steps : List Step) (entries : List Literal) (next place : ℕ) → entries ≡ map literal_of_step steps → next < place → place ≤ length steps → next < length entries
+place_within steps entries next place is low within = let count = ap length is ∙ length-map steps literal_of_step in omega arith
+
+pub shortening_earlier : (kernel : KernelView) (trail : TrailView) (place next : ℕ) → next < place → IsShortening kernel trail place → IsShortening kernel trail next
+shortening_earlier kernel trail place next low it = record {
+  clause = it.clause;
+  staged = it.staged;
+  failed = it.failed;
+  final = it.final;
+  within = let within = it.within in omega arith;
+  short = let short = it.short in omega arith;
+}

@@ -1,5 +1,5 @@
 //! The search for the rows of clauses: derived clauses, and the least row that no block denies yet.
-ghost use Rattle.std.specs.Prelude.{◌≡◌, ◌≢◌, ℕ, ◌+◌, ◌<◌, ◌≤◌, ◌^◌, List, IfOk, OnOk, OnErr, length, sum};
+ghost use Rattle.std.specs.Prelude.{◌≡◌, ◌≢◌, ℕ, ◌+◌, ◌<◌, ◌≤◌, ◌^◌, List, IfOk, OnOk, OnErr, length, replicate, sum};
 ghost use Rattle.cc_defs.specs.Assignments.{HasOpen};
 ghost use Rattle.cc_defs.specs.Limits.{most_variables};
 ghost use Rattle.cc_defs.specs.Rows.{IsRow};
@@ -121,6 +121,36 @@ fn write_denial(sizes: &[u32], row: &[u32], clause: &mut Vec<Lit>) -> Result<(),
     Ok(())
 }
 
+// What a search takes at once. It is made by itself, so that there is less to let go where memory is wanting.
+#[derive(Drop)]
+struct Rooms {
+    sizes: Vec<u32>,
+    row: Vec<u32>,
+    cursors: Vec<Cursor>,
+    shortening: Shortening,
+}
+
+impl Rooms {
+    // The rooms for so many variables, and for rows of positions with these sizes.
+    fn for_search(alloc: Global, variables: u32, sizes: &[u32]) -> Result<Rooms, OutOfMemory>
+        ensures sizes { IfOk result (λ rooms. rooms.sizes.items ≡ sizes.now) }
+        ensures row { IfOk result (λ rooms. length rooms.row.items ≡ length sizes.now) }
+        ensures cursors { IfOk result (λ rooms. rooms.cursors.items
+            ≡ replicate (variables + 1) (record { position = 0; first = 1; variable = 1 })) }
+    {
+        let own_sizes = Vec::from_slice(alloc, sizes)?;
+        let row = vec![in alloc; 0u32; sizes.len()]?;
+        let cursors = vec![in alloc; Cursor::start(); variables as usize + 1]?;
+        let shortening = Shortening::new(alloc, variables)?;
+        Ok(Rooms {
+            sizes: own_sizes,
+            row,
+            cursors,
+            shortening,
+        })
+    }
+}
+
 impl Parts {
     // The parts of a search that begins.
     fn new(alloc: Global, kernel: Kernel, sizes: &[u32]) -> Result<Parts, OutOfMemory>
@@ -129,20 +159,16 @@ impl Parts {
         ensures { IfOk result (λ parts.
             parts ≡ record { sizes = sizes.now; kernel = kernel; standing = Ready }) }
     {
-        let count = kernel.variables() as usize + 1;
-        let own_sizes = Vec::from_slice(alloc, sizes)?;
-        let row = vec![in alloc; 0u32; sizes.len()]?;
-        let cursors = vec![in alloc; Cursor::start(); count]?;
-        let shortening = Shortening::new(alloc, kernel.variables())?;
+        let rooms = Rooms::for_search(alloc, kernel.variables(), sizes)?;
         let trail = Trail::new(alloc, &kernel)?;
         Ok(Parts {
-            sizes: own_sizes,
+            sizes: rooms.sizes,
             kernel,
             trail,
-            cursors,
-            shortening,
+            cursors: rooms.cursors,
+            shortening: rooms.shortening,
             probe: Probe::new(alloc),
-            row,
+            row: rooms.row,
             denial: Vec::new(alloc),
             derived: 0,
             state: State::Ready,

@@ -1,5 +1,7 @@
-use Rattle.std.proofs.Common.{inr}
-use Rattle.cc_cdcl.proofs.Deriving.{adds, attached_back, back_low, back_mild, clauses_then, count_then, fits_then, learns, on_err, read_there}
+use Rattle.std.proofs.Common.{inr, ◌+◌, ◌∙◌, ℕ, ap, length, subst, sym}
+use Rattle.cc_cdcl.proofs.Deriving.{adds, attached_back, back_low, back_mild, clauses_then, count_then, fits_then, learns, on_err, read_there, there_then}
+use Rattle.cc_defs.specs.Clauses.{IsOver}
+use Rattle.cc_trail.specs.Trails.{TrailView}
 use Rattle.cc_cdcl.proofs.analysis.learn.Goals as goal
 
 pub back_to-requires : goal.back_to-requires
@@ -53,3 +55,27 @@ returns-in_err-attach_over-clause-broken c =
     c.clause.result.now (read_there c.args.trail.now c.args.kernel.now c.derive.new.kernel c.finish.new.self c.level_count-level.ensures.steps c.requires.fits.variables c.derive.ensures.kept
     c.in_ok-derive.ensures.derived c.in_ok-number.ensures.added c.finish.ensures.reached c.requires.level _ c.clause.result.now
     c.in_ok-number.ensures.number c.clause.ensures.clause) c.clause.ensures.is_clause c.clause.ensures.over))
+
+pub clause-requires : goal.clause-requires
+clause-requires c =
+    there_then c.args.trail.now c.args.kernel.now c.derive.new.kernel c.finish.new.self c.level_count-level.ensures.steps c.requires.fits.variables c.derive.ensures.kept
+    c.in_ok-derive.ensures.derived c.in_ok-number.ensures.added c.finish.ensures.reached c.requires.level c.in_ok-number.number c.in_ok-number.ensures.number
+
+pub clause-requires-2 : goal.clause-requires-2
+clause-requires-2 c =
+    there_then c.args.trail.now c.args.kernel.now c.derive.new.kernel c.finish.new.self c.level_count-level.ensures.steps c.requires.fits.variables c.derive.ensures.kept
+    c.in_ok-derive.ensures.derived c.in_ok-number.ensures.added c.finish.ensures.reached c.requires.level c.in_ok-number.number c.in_ok-number.ensures.number
+
+pub attach_over-requires-clause-there : goal.attach_over-requires-clause-there
+attach_over-requires-clause-there c =
+    there_then c.args.trail.now c.args.kernel.now c.derive.new.kernel c.finish.new.self c.level_count-level.ensures.steps c.requires.fits.variables c.derive.ensures.kept
+    c.in_ok-derive.ensures.derived c.in_ok-number.ensures.added c.finish.ensures.reached c.requires.level c.in_ok-number.number c.in_ok-number.ensures.number
+
+pub attach_over-requires-clause-next : goal.attach_over-requires-clause-next
+attach_over-requires-clause-next c =
+    c.in_ok-number.ensures.number ∙ ap (λ (n : ℕ). n + 1) (ap length c.derive.ensures.kept.entries ∙ sym c.requires.all ∙ ap (λ (v : TrailView). v.attached) (sym c.back_to.ensures.back))
+
+pub highest_but-back-requires : goal.highest_but-back-requires
+highest_but-back-requires c =
+    subst (λ (n : ℕ). IsOver n c.clause.result.now) ((adds c.args.trail.now c.args.kernel.now c.derive.new.kernel c.finish.new.self c.level_count-level.ensures.steps c.requires.fits.variables c.derive.ensures.kept
+    c.in_ok-derive.ensures.derived c.in_ok-number.ensures.added c.finish.ensures.reached c.requires.level).variables ∙ sym c.requires.fits.variables) c.clause.ensures.over

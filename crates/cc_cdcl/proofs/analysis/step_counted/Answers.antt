@@ -3,6 +3,7 @@ use Rattle.std.specs.Prelude.{◌+◌, ◌-◌, ◌≤◌}
 use Rattle.cc_defs.specs.Limits.{most_variables}
 use Rattle.cc_cdcl.specs.Brought.{IsCounted}
 use Rattle.cc_cdcl.proofs.Brought.{counted_then, lost_few, sum_few}
+use Rattle.cc_cdcl.proofs.Deriving.{clash_there}
 use Rattle.cc_cdcl.proofs.analysis.step_counted.Goals as goal
 
 pub overflow_add-result : goal.overflow_add-result
@@ -26,3 +27,6 @@ returns-clause-counted c =
     c.weight-lost.result c.clause.result.now c.variables-variables.ensures.reached c.clause.ensures.is_clause c.clause.ensures.clause
     (subst (λ (n : ℕ). IsCounted c.args.trail.now.steps n c.args.kernel.now c.args.held) (sym c.level_count-level.ensures.level_count) c.requires.counted)
     c.brought-brought.ensures.brought c.weight-lost.ensures c.in_ok-step.ensures.resolved)
+
+pub clause-requires : goal.clause-requires
+clause-requires c = clash_there c.args.kernel.now c.args.pivot c.args.id c.requires.clash

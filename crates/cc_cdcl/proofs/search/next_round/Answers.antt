@@ -1,8 +1,10 @@
-use Rattle.std.proofs.Common.{arith}
+use Rattle.std.proofs.Common.{arith, ◌∙◌, List, ap, length, length-append}
 use Rattle.cc_cdcl.specs.Searches.{IsSearching}
 use Rattle.cc_cdcl.proofs.Descending.{searching_decided, searching_propagated}
 use Rattle.cc_cdcl.proofs.Placing.{cursor_last}
 use Rattle.cc_cdcl.proofs.Stepping.{steps_few}
+use Rattle.cc_trail.specs.declared.entries.Step.{Step}
+use Rattle.cc_trail.specs.Trails.{TrailView}
 use Rattle.cc_cdcl.proofs.search.next_round.Goals as goal
 
 pub returns-in-Some-clause-searching : goal.returns-in-Some-clause-searching
@@ -49,3 +51,15 @@ pub returns-in-None-choice-clause-searching : goal.returns-in-None-choice-clause
 returns-in-None-choice-clause-searching c =
     searching_propagated c.args.sizes.now c.args.kernel.now c.args.trail.now c.propagate.new.self c.args.cursors.now c.requires.searching
     c.propagate.ensures.propagated c.propagate.ensures.fits c.propagate.ensures.settled
+
+pub returns-in-Some-choice-clause-round : goal.returns-in-Some-choice-clause-round
+returns-in-Some-choice-clause-round c =
+    let propagated = c.propagate.ensures.propagated in
+    let count = ap (λ (steps : List Step). length steps) propagated.steps ∙ length-append c.args.trail.now.steps propagated.more in
+    let variables = ap (λ (v : TrailView). v.variables) c.decide.ensures.decided ∙ c.propagate.ensures.fits.variables in
+    let more = c.decide.ensures.more in
+    let most = c.decide.ensures.most in
+    ((omega arith), (omega arith))
+
+pub decide-requires-clause-choice : goal.decide-requires-clause-choice
+decide-requires-clause-choice c = rw c.in-Some-choice.is at c.next_choice-choice.ensures.some

@@ -16,3 +16,8 @@ negative-requires-clause-most c =
     let low = row_at c.args.sizes.now c.args.row.now c.loop-index.index c.loop-index.invariant.is_row c.loop-index-test.true in
     let most = sum_at c.args.sizes.now c.loop-index.index c.loop-index-test.true in
     let within = c.loop-index.invariant.within in omega (arith, low.1)
+
+pub overflow_add-first-in-loop-index : goal.overflow_add-first-in-loop-index
+overflow_add-first-in-loop-index c =
+    let most = sum_at c.args.sizes.now c.loop-index.index c.loop-index-test.true in
+    let within = c.loop-index.invariant.within in omega arith

@@ -1,9 +1,9 @@
-use Rattle.std.proofs.Common.{◌∙◌, ℕ, inl, inr, List, sym, ap, ap₂, arith}
+use Rattle.std.proofs.Common.{◌∙◌, ℕ, inl, inr, List, sym, ap, ap₂, arith, ◌+◌, ◌<◌, length, subst}
 use Rattle.cc_defs.specs.Sections.{row_denial}
 use Rattle.cc_kernel.specs.Kernels.{KernelView, derived_count}
 use Rattle.cc_cdcl.proofs.Listing.{count_block, section_kept}
 use Rattle.cc_cdcl.proofs.Probing.{phase_back}
-use Rattle.cc_cdcl.proofs.Standing.{denial_is, denial_is_over, denial_is_failed, of_found, section_blocked, sizes_within}
+use Rattle.cc_cdcl.proofs.Standing.{denial_is, denial_is_over, denial_is_failed, of_found, section_blocked, sizes_within, kernel_is}
 use Rattle.cc_cdcl.proofs.solver.Parts.block_row.Goals as goal
 
 pub write_denial-requires-clause-sizes : goal.write_denial-requires-clause-sizes
@@ -59,3 +59,18 @@ invariant_of-self-2 c =
             c.self.inside.cursors.items before.in_phase c.block.ensures.steps c.in_ok-number.ensures.back;
       };
     }
+
+pub block-requires-clause-fits : goal.block-requires-clause-fits
+block-requires-clause-fits c = (of_found c.self.inside c.args.self.now c.self.view_is c.self.invariant c.requires.found.0 c.requires.found.1).0.in_phase.of_kernel.fits
+
+pub block-requires-clause-settled : goal.block-requires-clause-settled
+block-requires-clause-settled c = (of_found c.self.inside c.args.self.now c.self.view_is c.self.invariant c.requires.found.0 c.requires.found.1).0.in_phase.of_kernel.settled
+
+pub block-requires-clause-all : goal.block-requires-clause-all
+block-requires-clause-all c = (of_found c.self.inside c.args.self.now c.self.view_is c.self.invariant c.requires.found.0 c.requires.found.1).0.in_phase.of_kernel.all
+
+pub block-requires-clause-few : goal.block-requires-clause-few
+block-requires-clause-few c = subst (λ (k : KernelView). length k.entries < 4000000000) (sym (kernel_is c.self.inside c.args.self.now c.self.view_is c.self.invariant)) c.requires.few
+
+pub returns-clause-number : goal.returns-clause-number
+returns-clause-number c = c.in_ok-number.ensures.number ∙ ap (λ (k : KernelView). length k.entries + 1) (kernel_is c.self.inside c.args.self.now c.self.view_is c.self.invariant)

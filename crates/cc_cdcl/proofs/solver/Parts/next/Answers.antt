@@ -1,4 +1,4 @@
-use Rattle.std.proofs.Common.{◌≡◌, ◌∙◌, ◌+◌, ℕ, inl, inr, List, [], refl, sym, subst, ap, arith}
+use Rattle.std.proofs.Common.{◌≡◌, ◌∙◌, ◌+◌, ℕ, inl, inr, List, [], refl, sym, subst, ap, arith, ◌<◌, length}
 use Rattle.std.specs.Prelude.{Contains, is_some}
 use Rattle.std.specs.Vec.{with_items}
 use Rattle.cc_defs.specs.Assignments.{HasOpen, IsEarned}
@@ -11,9 +11,9 @@ use Rattle.cc_cdcl.specs.declared.probe.Phase.{Phase}
 use Rattle.cc_cdcl.specs.LeastRows.{row_of}
 use Rattle.cc_cdcl.specs.Sets.{assignment_of}
 use Rattle.cc_cdcl.specs.Searches.{IsInPhase, IsSearching}
-use Rattle.cc_cdcl.specs.Solvers.{AddsDerived, axiom_clauses}
+use Rattle.cc_cdcl.specs.Solvers.{AddsDerived, axiom_clauses, HasPositions}
 use Rattle.cc_cdcl.proofs.Deriving.{on_err}
-use Rattle.cc_cdcl.proofs.Listing.{count_derived, empty_not_there, empty_there, few_derived, section_kept}
+use Rattle.cc_cdcl.proofs.Listing.{count_derived, empty_not_there, empty_there, few_derived, section_kept, found_not_spent, line_not_spent, refuted_not_spent}
 use Rattle.cc_cdcl.proofs.Probing.{phase_back}
 use Rattle.cc_cdcl.proofs.Standing.{begun, counted_on, empty_added, kernel_is, least_there, row_room, row_there, row_written, running, section_learned, section_refuted, sizes_is, sizes_within, stuck, view_found, view_ready, went_on}
 use Rattle.cc_cdcl.proofs.solver.Parts.next.Goals as goal
@@ -208,3 +208,72 @@ returns-in_ok-learn-in-Some-clause-step c =
       sizes_is c.self.inside c.args.self.now c.self.view_is c.self.invariant,
       refl,
     )
+
+pub learn-requires-clause-few : goal.learn-requires-clause-few
+learn-requires-clause-few c = subst (λ (k : KernelView). length k.entries < 4000000000) (sym (kernel_is c.self.inside c.args.self.now c.self.view_is c.self.invariant)) c.requires.few
+
+pub refute-requires-clause-few : goal.refute-requires-clause-few
+refute-requires-clause-few c = subst (λ (k : KernelView). length k.entries < 4000000000) (sym (kernel_is c.self.inside c.args.self.now c.self.view_is c.self.invariant)) c.requires.few
+
+pub learn-requires-clause-settled : goal.learn-requires-clause-settled
+learn-requires-clause-settled c = c.search_on.ensures.phase.of_kernel.settled
+
+pub refute-requires-clause-settled : goal.refute-requires-clause-settled
+refute-requires-clause-settled c = c.search_on.ensures.phase.of_kernel.settled
+
+pub learn-requires-clause-fits : goal.learn-requires-clause-fits
+learn-requires-clause-fits c = c.search_on.ensures.phase.of_kernel.fits
+
+pub refute-requires-clause-fits : goal.refute-requires-clause-fits
+refute-requires-clause-fits c = c.search_on.ensures.phase.of_kernel.fits
+
+pub learn-requires-clause-opened : goal.learn-requires-clause-opened
+learn-requires-clause-opened c = c.search_on.ensures.phase.of_kernel.opened
+
+pub learn-requires-clause-all : goal.learn-requires-clause-all
+learn-requires-clause-all c = c.search_on.ensures.phase.of_kernel.all
+
+pub learn-requires-clause-failed : goal.learn-requires-clause-failed
+learn-requires-clause-failed c = rw c.in-Some.is at c.in_ok-failed.ensures.failed
+
+pub refute-requires-clause-failed : goal.refute-requires-clause-failed
+refute-requires-clause-failed c = rw c.in-Some.is at c.in_ok-failed.ensures.failed
+
+pub learn-requires-clause-level : goal.learn-requires-clause-level
+learn-requires-clause-level c = let levels = c.level_count.ensures.level_count in let some = c.if-level_count-eq0.false in omega arith
+
+pub refute-requires-clause-level : goal.refute-requires-clause-level
+refute-requires-clause-level c = sym c.level_count.ensures.level_count ∙ c.if-level_count-eq0.true
+
+pub returns-in_ok-learn-in-Some-clause-enough : goal.returns-in_ok-learn-in-Some-clause-enough
+returns-in_ok-learn-in-Some-clause-enough c = λ opens open_are most. line_not_spent
+
+pub returns-then-level_count-eq0-clause-enough : goal.returns-then-level_count-eq0-clause-enough
+returns-then-level_count-eq0-clause-enough c = λ opens open_are most. refuted_not_spent
+
+pub returns-in-None-clause-enough : goal.returns-in-None-clause-enough
+returns-in-None-clause-enough c = λ opens open_are most. found_not_spent
+
+pub write_row-requires-clause-room : goal.write_row-requires-clause-room
+write_row-requires-clause-room c = ap length c.deref_mut-in-None.ensures.value ∙ c.self.invariant.room ∙ sym (ap length c.deref-in-None.ensures.value)
+
+pub begin-requires : goal.begin-requires
+begin-requires c = (running c.self.inside c.args.self.now c.self.view_is c.self.invariant c.requires.ready).in_phase.of_kernel
+
+pub count_line-requires : goal.count_line-requires
+count_line-requires c =
+    ap length c.deref_mut-in-Some.ensures.value
+    ∙ (went_on c.self.inside c.args.self.now c.self.view_is c.self.invariant c.requires.ready c.deref.result.now c.deref.ensures.value c.search_on.new.probe.phase c.search_on.new.trail c.search_on.new.cursors c.search_on.ensures.phase).room
+    ∙ ap (λ (n : ℕ). n + 1) (sym c.in_ok-learn-in-Some.ensures.back.variables)
+
+pub search_on-requires-clause-positions : goal.search_on-requires-clause-positions
+search_on-requires-clause-positions c = subst (λ (ns : List ℕ). HasPositions ns c.self.inside.kernel) (sym c.deref.ensures.value) c.self.invariant.section.positions
+
+pub overflow_add-self : goal.overflow_add-self
+overflow_add-self c =
+    let count = (running c.self.inside c.args.self.now c.self.view_is c.self.invariant c.requires.ready).derived in
+    let same = ap (λ (k : KernelView). derived_count k.entries) (kernel_is c.self.inside c.args.self.now c.self.view_is c.self.invariant) in
+    let most = c.requires.budget in
+    let apart = c.if-self-budget.false in
+    let few = c.ranges.budget.fits in
+    omega arith
