@@ -1,5 +1,5 @@
 -- Chains: the clauses that they name, and what they reach.
-use Rattle.std.proofs.Common.{◌≡◌, ℕ, ◌<◌, ◌≤◌, Bool, true, false, List, [], ◌∷◌, length, refl, sym, ap, subst, ◌∙◌}
+use Rattle.std.proofs.Common.{◌≡◌, ℕ, suc, arith, ◌<◌, ◌≤◌, Bool, true, false, List, [], ◌∷◌, length, refl, sym, ap, subst, ◌∙◌}
 use Rattle.std.proofs.lemmas.Option.{same_Some}
 use Rattle.cc_clauses.specs.Laws.{ResolventsAreUnique}
 use Rattle.cc_defs.specs.Clauses.{Literal, IsNumbered, IsResolvent, ReachesFrom, Reaches}
@@ -73,6 +73,9 @@ reached_begun clauses variables first rest chain staged is named numbered over =
 
 pub two_first : (rest others later : List ℕ) (pivot number : ℕ) → rest ≡ pivot ∷ others → others ≡ number ∷ later → rest ≡ pivot ∷ number ∷ later
 two_first rest others later pivot number is then_is = is ∙ ap (λ (t : List ℕ). pivot ∷ t) then_is
+
+pub two_shorter : (rest later : List ℕ) (pivot number : ℕ) → rest ≡ pivot ∷ number ∷ later → length later < length rest
+two_shorter rest later pivot number is = let e : length rest ≡ suc (suc (length later)) = ap length is in omega arith
 
 module _ (unique : ResolventsAreUnique) (clauses : List (List Literal)) (variables : ℕ) (chain : List ℕ) (staged : List Literal) (rest : List ℕ)
     (so_far : ReachedFrom clauses variables chain staged rest) where

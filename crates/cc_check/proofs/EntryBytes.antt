@@ -1,6 +1,7 @@
 -- Entries at the front of bytes: what stands behind their kinds, and that bytes begin with one at most.
-use Rattle.std.proofs.Common.{◌≡◌, ◌≢◌, ℕ, ◌+◌, ◌*◌, ◌/◌, Bool, true, false, cond, eqb, ltb, List, ◌∷◌, ◌++◌, Option, length, get_or, flat_map, refl, sym, ap, subst, ◌∙◌, arith, append_assoc}
+use Rattle.std.proofs.Common.{◌≡◌, ◌≢◌, ℕ, ◌+◌, ◌*◌, ◌/◌, Bool, true, false, cond, eqb, ltb, List, ◌∷◌, ◌++◌, Option, length, get_or, flat_map, refl, sym, ap, subst, ◌∙◌, arith, append_assoc, ◌-◌, ◌≤◌, ◌⊎◌, inl, inr, drop, take}
 use Rattle.std.specs.Prelude.{MatchOption}
+use Rattle.std.proofs.lemmas.List.{take_rest}
 use Rattle.std.specs.Borrow.{Bor}
 use Rattle.cc_defs.specs.declared.log.EndWord.{EndWord}
 use Rattle.cc_defs.specs.declared.log.EndWord.TheVariants as words
@@ -10,12 +11,13 @@ use Rattle.cc_defs.specs.Clauses.{Literal}
 use Rattle.cc_defs.specs.LogBytes.{IsNumber, HasNumbers, end_word_bytes, entry_bytes, number_bytes, literal_bytes}
 use Rattle.cc_defs.specs.LogTexts.{IsShortLiteral}
 use Rattle.cc_defs.specs.LogBytes.{BeginsWith, HasNoEntry}
-use Rattle.cc_check.specs.Entries.{IsNumberIn, HasNoNumberIn, AreNumbersIn, HasNoNumbersIn, AreLiteralsIn, HasNoHeading, HasNoEnd, IsEntryRead}
+use Rattle.cc_check.specs.Entries.{IsNumberIn, HasNoNumberIn, AreNumbersIn, HasNoNumbersIn, AreLiteralsIn, HasNoLiteralsIn, HasNoHeading, HasNoEnd, IsEntryRead}
 use Rattle.cc_check.specs.declared.line.LineParts.{LineParts}
 use Rattle.cc_check.specs.Readers.{literals_of, numbers_of}
 use Rattle.cc_check.specs.Laws.{OneEntry}
 use Rattle.cc_check.proofs.NumberBytes.{one_within, one_number_in, one_literal_in, cells}
 use Rattle.cc_check.proofs.ListBytes.{one_list_in}
+use Rattle.cc_check.proofs.Signed.{front}
 
 -- ---- numbers and lists, one of each at most
 
@@ -145,6 +147,12 @@ only_derived body none (lines.Derived clause chain) rest h = none clause chain r
 only_derived body none (lines.Block row) rest h = let e = class_read (3 ∷ body) (lines.Block row) rest h in omega arith
 only_derived body none (lines.End word) rest h = let e = class_read (3 ∷ body) (lines.End word) rest h in omega arith
 
+pub no_clause : (body : List ℕ) (count : ℕ) (after : List ℕ) → IsNumberIn body count after → HasNoLiteralsIn count after → HasNoEntry (3 ∷ body)
+no_clause body count after first none = only_derived body (λ clause chain rest h.
+    let counts = same_number_in body (length clause) count h.behind_count after h.count first in
+    none clause h.behind_clause
+    (subst (λ (t : List ℕ). AreLiteralsIn count t clause h.behind_clause) counts.1 (subst (λ (k : ℕ). AreLiteralsIn k h.behind_count clause h.behind_clause) counts.0 h.literals)))
+
 module _ (body : List ℕ) (count : ℕ) (after : List ℕ) (made : List Literal) (behind : List ℕ) (first : IsNumberIn body count after)
     (literals : AreLiteralsIn count after made behind) where
   pub no_pairs : HasNoNumberIn behind → HasNoEntry (3 ∷ body)
@@ -175,6 +183,28 @@ module _ (body : List ℕ) (count : ℕ) (after : List ℕ) (made : List Literal
         (second.spelled ∙ ap (λ (n : ℕ). number_bytes n ++ links) (sym half) ∙ ap (λ (t : List ℕ). number_bytes (length chain / 2) ++ t) numbers.spelled)))
         ∙ sym (derived_spelled made chain rest))
 
+-- ---- headings
+
+abbrev pub heading_byte : Bool → ℕ
+heading_byte conditions = cond conditions 2 1
+
+module _ (bytes : List ℕ) where
+  pub heading_read : 1 ≤ length bytes → (get_or bytes 0 0 ≡ 2) ⊎ (get_or bytes 0 0 ≡ 1) → (horizon : ℕ) (rest : List ℕ) →
+      IsNumberIn (take (length bytes - 1) (drop 1 bytes)) horizon rest → BeginsWith bytes (lines.Section (eqb (get_or bytes 0 0) 2) horizon) rest
+  heading_read some is horizon rest h =
+      begins bytes (lines.Section (eqb (get_or bytes 0 0) 2) horizon) rest h.formed
+      (front bytes (heading_byte (eqb (get_or bytes 0 0) 2)) some (byte_is (get_or bytes 0 0) is) ∙ ap (λ (t : List ℕ). heading_byte (eqb (get_or bytes 0 0) 2) ∷ t) h.spelled)
+    where
+      byte_is : (byte : ℕ) → (byte ≡ 2) ⊎ (byte ≡ 1) → byte ≡ heading_byte (eqb byte 2)
+      byte_is byte (inl two) = two ∙ ap (λ (n : ℕ). heading_byte (eqb n 2)) (sym two)
+      byte_is byte (inr one) = one ∙ ap (λ (n : ℕ). heading_byte (eqb n 2)) (sym one)
+
+  pub no_heading : HasNoNumberIn (take (length bytes - 1) (drop 1 bytes)) → HasNoHeading bytes
+  no_heading none conditions horizon rest h =
+      let most = h.read.formed in
+      none horizon rest
+      (record { formed = most; few = omega arith; spelled = take_rest bytes 1 ∙ ap (λ (t : List ℕ). drop 1 t) (whole bytes (lines.Section conditions horizon) rest h) })
+
 -- ---- by what was read
 
 pub read_behind : (kind : ℕ) (bytes body : List ℕ) (r : Option (LineParts × Bor (List ℕ))) → bytes ≡ kind ∷ body →
@@ -191,9 +221,6 @@ no_other bytes not_derived not_block heading end (lines.Block row) rest h = not_
 no_other bytes not_derived not_block heading end (lines.End word) rest h = end word rest h
 
 -- ---- bytes begin with one entry at most
-
-abbrev pub heading_byte : Bool → ℕ
-heading_byte conditions = cond conditions 2 1
 
 same_conditions : (c d : Bool) → heading_byte c ≡ heading_byte d → c ≡ d
 same_conditions true true is = refl

@@ -26,6 +26,9 @@ line_ends : (text : List ℕ) → lines_in text ≡ text ∷ [] → EndsLine tex
 line_ends text alone ends behind more is =
     ap (λ (ts : List (List ℕ)). text ∷ ts) is ∙ ap (λ (ts : List (List ℕ)). ts ++ lines_in behind) (sym alone) ∙ sym (ends behind)
 
+pub text_shorter : (version : Version) (bytes text rest : List ℕ) → IsFirstText version bytes text rest → length rest < length bytes
+text_shorter version bytes text rest h = let e = ap length h.parts ∙ length-append text rest in let some = h.some in omega arith
+
 pub line_text_first : (bytes text rest : List ℕ) → IsFirstLine bytes text rest → IsFirstText First bytes text rest
 line_text_first bytes text rest cut = record {
   parts = cut.parts;

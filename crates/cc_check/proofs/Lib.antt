@@ -21,6 +21,7 @@ pub mod NumberBytes
 pub mod ListBytes
 pub mod Taken
 pub mod Counted
+pub mod Behind
 pub mod WrittenBytes
 pub mod EntryBytes
 pub mod ConvertingLines

@@ -1,6 +1,7 @@
 -- Clauses, as they are tested and written literal by literal.
-use Rattle.std.proofs.Common.{◌≡◌, ◌≢◌, ℕ, zero, suc, ◌+◌, ◌<◌, ◌≤◌, Bool, true, false, List, [], ◌∷◌, ◌++◌, length, get_or, drop, Some, refl, sym, ap, subst, ◌∙◌, arith, append_assoc, append-nil, add-one, inl, inr, ◌⊎◌}
-use Rattle.std.specs.Prelude.{slice_get}
+use Rattle.std.proofs.Common.{◌≡◌, ◌≢◌, ℕ, zero, suc, ◌+◌, ◌<◌, ◌≤◌, Bool, true, false, List, [], ◌∷◌, ◌++◌, length, get_or, drop, Some, refl, sym, ap, subst, ◌∙◌, arith, append_assoc, append-nil, add-one, inl, inr, ◌⊎◌, Option, None, not, ltb}
+use Rattle.std.specs.Prelude.{slice_get, ◌↔◌}
+use Rattle.std.proofs.lemmas.Bool.{false≢true, lt-ltb, ltb-true}
 use Rattle.std.specs.List.{Contains, sum}
 use Rattle.std.proofs.lemmas.List.Sums.{sum_by-cons}
 use Rattle.std.proofs.lemmas.List.{drop_more, drop_all, nil_from_length}
@@ -9,8 +10,39 @@ use Rattle.cc_defs.specs.ClauseForms.{positive, first_variable, atom_variable}
 use Rattle.cc_defs.specs.Clauses.{Literal, IsBefore, IsClause, IsOver, IsNumbered, IsResolvent, opposite}
 use Rattle.cc_defs.specs.Rows.{IsRow}
 use Rattle.cc_defs.specs.Sections.{HasNoEmpty, denial_from, row_denial}
-use Rattle.std.specs.Bool.{MatchBool}
+use Rattle.std.specs.Bool.{MatchBool, IsTrue}
+use Rattle.std.specs.Option.{MatchOption, is_some}
 use Rattle.cc_check.specs.Clauses.{IsClauseOver, HaveNoResolvent, IsStep}
+
+-- ---- by what was tested
+
+-- that nothing is left decides it
+pub none_says : {X A : Type 0} {B : X → Type 0} (P : Type 0) (read : Option X) (none : Bool) → is_some read ≡ not none → MatchOption read A B → (A → P) →
+    ((x : X) → B x → P → ⊥) → IsTrue none ↔ P
+none_says P None true is h done more = (λ _. done h, λ _. refl)
+none_says P None false is h done more = absurd (false≢true is)
+none_says P (Some x) true is h done more = absurd (false≢true (sym is))
+none_says P (Some x) false is h done more = (λ never. absurd (false≢true never), λ p. absurd (more x h p))
+
+module _ (variable : ℕ) (positive : Bool) (other : Literal) (read : ℕ) (read_is : read ≡ other.variable) where
+  pub before_by_variable : (variable ≡ read → ⊥) → (again : ℕ) → again ≡ other.variable →
+      IsTrue (ltb variable again) ↔ IsBefore (record { variable = variable; positive = positive }) other
+  before_by_variable differs again again_is = (
+    λ e. inl (let less = ltb-true variable again e in omega arith),
+    λ h. lt-ltb variable again (elim h [ inl less ↦ omega arith | inr same ↦ absurd (differs (same.0 ∙ sym read_is)) ]),
+  )
+
+  pub before_by_sign : variable ≡ read → positive ≡ false → (sign : Bool) → sign ≡ other.positive → IsTrue sign ↔ IsBefore (record { variable = variable; positive = positive }) other
+  before_by_sign same minus sign sign_is = (
+    λ e. inr (same ∙ read_is, minus, sym sign_is ∙ e),
+    λ h. elim h [ inl less ↦ absurd (omega arith) | inr both ↦ sign_is ∙ both.2 ],
+  )
+
+  pub before_by_neither : variable ≡ read → positive ≡ true → IsTrue (not positive) ↔ IsBefore (record { variable = variable; positive = positive }) other
+  before_by_neither same plus = (
+    λ minus. absurd (false≢true (ap not (sym plus) ∙ minus)),
+    λ h. absurd (elim h [ inl less ↦ omega arith | inr both ↦ false≢true (sym both.1 ∙ plus) ]),
+  )
 
 -- ---- whether literals are a clause
 

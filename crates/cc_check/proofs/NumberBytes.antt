@@ -1,10 +1,11 @@
 -- Numbers and literals at the front of bytes.
-use Rattle.std.proofs.Common.{◌≡◌, ◌≢◌, ℕ, zero, suc, ◌+◌, ◌-◌, ◌/◌, ◌%◌, ◌<◌, ◌≤◌, Bool, true, false, List, [], ◌∷◌, ◌++◌, length, get_or, take, drop, refl, sym, ap, subst, ◌∙◌, arith, inl, inr, ◌⊎◌}
-use Rattle.std.proofs.lemmas.Bool.{cases_lt, lt-ltb, le-ltb}
+use Rattle.std.proofs.Common.{◌≡◌, ◌≢◌, ℕ, zero, suc, ◌+◌, ◌-◌, ◌*◌, ◌/◌, ◌%◌, ◌<◌, ◌≤◌, Bool, true, false, List, [], ◌∷◌, ◌++◌, length, eqb, get_or, take, drop, refl, sym, ap, subst, ◌∙◌, arith, inl, inr, ◌⊎◌}
+use Rattle.std.proofs.lemmas.Bool.{cases_lt, eqb-true, lt-ltb, le-ltb}
+use Rattle.std.proofs.lemmas.Bool.Decides.{nat_tests}
 use Rattle.cc_defs.specs.Clauses.{Literal}
 use Rattle.cc_defs.specs.LogBytes.{IsNumber, bytes_within, literal_number, number_bytes}
 use Rattle.cc_defs.specs.LogTexts.{IsShortLiteral}
-use Rattle.cc_check.specs.Entries.{IsNumberWithin, HasNoNumberWithin}
+use Rattle.cc_check.specs.Entries.{IsNumberWithin, IsLiteralIn, HasNoNumberWithin, most_within}
 use Rattle.cc_check.proofs.Signed.{front, same_literal}
 
 -- ---- the bytes of a number
@@ -112,6 +113,44 @@ within_out more bytes high rest some long large there out =
     subst (λ (m : ℕ). HasNoNumberWithin m bytes) (one_less more some)
     (out_behind (more - 1) (get_or bytes 0 0) bytes (take (length bytes - 1) (drop 1 bytes)) (front bytes (get_or bytes 0 0) long refl) large high rest there out)
 
+least_within : (more : ℕ) → 127 ≤ most_within more
+least_within zero = omega arith
+least_within (suc more) = let less = least_within more in omega arith
+
+pub within_small : (more number : ℕ) (bytes : List ℕ) → 1 ≤ length bytes → get_or bytes 0 0 < 128 → number ≡ get_or bytes 0 0 →
+    IsNumberWithin more bytes number (take (length bytes - 1) (drop 1 bytes))
+within_small more number bytes some small is =
+    let least = least_within more in
+    record {
+      formed = omega arith;
+      few = omega arith;
+      spelled = front bytes number some (sym is) ∙ ap (λ (t : List ℕ). t ++ take (length bytes - 1) (drop 1 bytes)) (sym (small_bytes more number (omega arith)));
+    }
+
+large_within : (less high low : ℕ) (bytes rest : List ℕ) → 1 ≤ length bytes → 128 ≤ get_or bytes 0 0 → get_or bytes 0 0 < 256 →
+    IsNumberWithin less (take (length bytes - 1) (drop 1 bytes)) high rest → (0 < high) × (high ≤ 15624999) → low ≡ get_or bytes 0 0 - 128 →
+    IsNumberWithin (suc less) bytes (128 * high + low) rest
+large_within less high low bytes rest some large byte there within is =
+    let least = within.0 in
+    let most = within.1 in
+    let few = there.few in
+    let front_is : get_or bytes 0 0 ≡ 128 + (128 * high + low) % 128 = omega arith in
+    let high_is : high ≡ (128 * high + low) / 128 = omega arith in
+    record {
+      formed = omega arith;
+      few = omega arith;
+      spelled = front bytes (128 + (128 * high + low) % 128) some front_is
+          ∙ ap (λ (t : List ℕ). (128 + (128 * high + low) % 128) ∷ t) (there.spelled ∙ ap (λ (n : ℕ). bytes_within less n ++ rest) high_is)
+          ∙ ap (λ (t : List ℕ). t ++ rest) (sym (large_bytes less (128 * high + low) (omega arith)));
+    }
+
+pub within_large : (more high low : ℕ) (bytes rest : List ℕ) → more ≢ 0 → 1 ≤ length bytes → 128 ≤ get_or bytes 0 0 → get_or bytes 0 0 < 256 →
+    IsNumberWithin (more - 1) (take (length bytes - 1) (drop 1 bytes)) high rest → (0 < high) × (high ≤ 15624999) → low ≡ get_or bytes 0 0 - 128 →
+    IsNumberWithin more bytes (128 * high + low) rest
+within_large more high low bytes rest other some large byte there within is =
+    subst (λ (m : ℕ). IsNumberWithin m bytes (128 * high + low) rest) (one_less more other)
+    (large_within (more - 1) high low bytes rest some large byte there within is)
+
 -- ---- literals
 
 pub literal_formed : (variable : ℕ) (positive : Bool) → IsShortLiteral (record { variable = variable; positive = positive }) →
@@ -134,3 +173,13 @@ one_literal_in a b rest other x y is =
     let h = one_number_in (literal_number a) (literal_number b) rest other (literal_formed a.variable a.positive x)
     (literal_formed b.variable b.positive y) is in
     (one_literal a b h.0, h.1)
+
+pub literal_within : (bytes : List ℕ) (number : ℕ) (rest : List ℕ) → IsNumberWithin 4 bytes number rest → 2 ≤ number →
+    IsLiteralIn bytes (record { variable = number / 2; positive = eqb (number % 2) 0 }) rest
+literal_within bytes number rest h large =
+    let formed = h.formed in
+    record { formed = (omega arith, omega arith); spelled = h.spelled ∙ ap (λ (n : ℕ). number_bytes n ++ rest) (is_of (eqb (number % 2) 0) refl) }
+  where
+    is_of : (even : Bool) → eqb (number % 2) 0 ≡ even → number ≡ literal_number (record { variable = number / 2; positive = even })
+    is_of true is = let e : number % 2 ≡ 0 = eqb-true (number % 2) 0 is in omega arith
+    is_of false is = let e : number % 2 ≡ 1 = grind (arith, nat_tests) in omega arith

@@ -1,8 +1,9 @@
 -- The number at the front of a text, read digit by digit.
-use Rattle.std.proofs.Common.{◌≡◌, ℕ, ◌+◌, ◌-◌, ◌*◌, ◌/◌, ◌%◌, ◌<◌, ◌≤◌, true, false, ◌||◌, eqb, ltb, List, [], ◌∷◌, ◌++◌, Option, Some, None, decimal, refl, sym, ap, subst, ◌∙◌, arith, append_assoc, length, get_or, inl, inr, ◌⊎◌}
+use Rattle.std.proofs.Common.{◌≡◌, ◌≢◌, ℕ, ◌+◌, ◌-◌, ◌*◌, ◌/◌, ◌%◌, ◌<◌, ◌≤◌, true, false, ◌||◌, eqb, ltb, List, [], ◌∷◌, ◌++◌, Option, Some, None, decimal, refl, sym, ap, subst, ◌∙◌, arith, append_assoc, length, get_or, drop, take, inl, inr, ◌⊎◌}
 use Rattle.std.proofs.lemmas.Bool.{cases_Bool}
 use Rattle.std.proofs.lemmas.Bool.Decides.{nat_tests}
 use Rattle.std.proofs.lemmas.Fmt.{decimal_digit, decimal_step, decimal_by_steps}
+use Rattle.std.proofs.lemmas.List.{take_rest}
 use Rattle.std.proofs.lemmas.Option.{same_Some, none-some}
 use Rattle.cc_defs.specs.Tokens.{is_digit}
 use Rattle.cc_check.specs.Readers.{number_from, number_of}
@@ -135,3 +136,22 @@ too_long text number [] so_far some digit out = absurd (omega arith)
 too_long text number (byte ∷ bytes) so_far some digit out =
     let test : (eqb number 0 || ltb 99999999 number) ≡ true = elim out [ inl h ↦ grind (arith, nat_tests) | inr h ↦ grind (arith, nat_tests) ] in
     no_number text (sym so_far ∙ rw (digit, test) refl)
+
+-- the first digit is read
+pub digit_begun : (text : List ℕ) (digit : ℕ) → 1 ≤ length text → is_digit (get_or text 0 0) ≡ true → digit ≡ get_or text 0 0 - 48 →
+    (digit ≤ 999999999) × (number_from digit (take (length text - 1) (drop 1 text)) ≡ number_of text)
+digit_begun [] digit some is same = absurd (omega arith)
+digit_begun (byte ∷ bytes) digit some is same =
+    let high = (digit_bounds byte is).1 in
+    let step : number_of (byte ∷ bytes) ≡ number_from (byte - 48) bytes = rw is refl in
+    (omega arith, ap (number_from digit) (take_rest (byte ∷ bytes) 1) ∙ ap (λ (n : ℕ). number_from n bytes) same ∙ sym step)
+
+-- one more digit is read
+pub digit_read : (text : List ℕ) (number digit : ℕ) (rest : List ℕ) → number_from number rest ≡ number_of text → 1 ≤ length rest → is_digit (get_or rest 0 0) ≡ true →
+    number ≢ 0 → number ≤ 99999999 → digit ≡ get_or rest 0 0 - 48 →
+    (10 * number + digit ≤ 999999999) × (number_from (10 * number + digit) (take (length rest - 1) (drop 1 rest)) ≡ number_of text)
+digit_read text number digit [] so_far some is other most same = absurd (omega arith)
+digit_read text number digit (byte ∷ bytes) so_far some is other most same =
+    let high = (digit_bounds byte is).1 in
+    let step : number_from number (byte ∷ bytes) ≡ number_from (10 * number + (byte - 48)) bytes = rw (is, in_range number (omega arith) most) refl in
+    (omega arith, ap (number_from (10 * number + digit)) (take_rest (byte ∷ bytes) 1) ∙ ap (λ (n : ℕ). number_from (10 * number + n) bytes) same ∙ sym step ∙ so_far)

@@ -1,5 +1,5 @@
 -- Numbers and literals one after another, each behind a space.
-use Rattle.std.proofs.Common.{◌≡◌, ◌≢◌, ℕ, suc, ◌<◌, ◌≤◌, true, List, [], ◌∷◌, ◌++◌, decimal, length, get_or, refl, sym, ap, subst, ◌∙◌, arith, append_assoc, append-nil, length-append, inl, inr, ◌⊎◌}
+use Rattle.std.proofs.Common.{◌≡◌, ◌≢◌, ℕ, suc, ◌<◌, ◌≤◌, true, List, [], ◌∷◌, ◌++◌, decimal, length, drop, get_or, refl, sym, ap, subst, ◌∙◌, arith, append_assoc, append-nil, length-append, inl, inr, ◌⊎◌}
 use Rattle.std.proofs.lemmas.Bool.{cases_Bool}
 use Rattle.std.proofs.lemmas.Fmt.{decimal_digit}
 use Rattle.cc_defs.specs.Clauses.{Literal}
@@ -28,7 +28,7 @@ first_number : (behind : List ℕ) (numbers : List ℕ) → AreNumbers (32 ∷ b
     (number : ℕ) × (others : List ℕ) × (next : List ℕ) × (numbers ≡ number ∷ others) × IsNumberAt behind number next × AreNumbers next others
 first_number behind [] h = absurd (let no = h.spelled in cc)
 first_number behind (number ∷ others) h =
-    let same : behind ≡ (decimal number ++ numbers_text others) ++ 10 ∷ [] = let whole = h.spelled in cc in (
+    let same : behind ≡ (decimal number ++ numbers_text others) ++ 10 ∷ [] = ap (λ (t : List ℕ). drop 1 t) h.spelled in (
       number,
       others,
       numbers_text others ++ 10 ∷ [],
@@ -94,10 +94,10 @@ one_list (n ∷ a) (m ∷ b) text x y =
     let (m2, b2, next, parts, here, further) = first_number ((decimal n ++ numbers_text a) ++ 10 ∷ []) (m ∷ b) (subst (λ (t : List ℕ). AreNumbers t (m ∷ b)) x.spelled y) in
     let (n2, a2, after, others, there, more) = first_number ((decimal n ++ numbers_text a) ++ 10 ∷ []) (n ∷ a) (subst (λ (t : List ℕ). AreNumbers t (n ∷ a)) x.spelled x) in
     let one = one_number ((decimal n ++ numbers_text a) ++ 10 ∷ []) n2 m2 after next there here in
-    let same : a ≡ a2 = cc in
-    let same_b : b ≡ b2 = cc in
+    let same : a ≡ a2 = ap (λ (t : List ℕ). drop 1 t) others in
+    let same_b : b ≡ b2 = ap (λ (t : List ℕ). drop 1 t) parts in
     let tails = one_list a b next (subst (λ (xs : List ℕ). AreNumbers next xs) (sym same) (subst (λ (t : List ℕ). AreNumbers t a2) one.1 more)) (subst (λ (xs : List ℕ). AreNumbers next xs) (sym same_b) further) in
-    let heads : n ≡ m = (let p : n ≡ n2 = cc in p) ∙ one.0 ∙ (let p : m2 ≡ m = cc in p) in
+    let heads : n ≡ m = ap (λ (t : List ℕ). get_or t 0 0) others ∙ one.0 ∙ sym (ap (λ (t : List ℕ). get_or t 0 0) parts) in
     ap (λ (k : ℕ). k ∷ a) heads ∙ ap (λ (xs : List ℕ). m ∷ xs) tails
 
 -- ---- literals
@@ -117,9 +117,9 @@ literals_end (literal ∷ literals) rest = refl
 first_literal : (behind : List ℕ) (literals : List Literal) (rest : List ℕ) → AreLiterals (32 ∷ behind) literals rest →
     ((literals ≡ []) × (behind ≡ 48 ∷ rest))
     ⊎ ((literal : Literal) × (others : List Literal) × (next : List ℕ) × (literals ≡ literal ∷ others) × (0 < literal.variable) × IsSignedAt behind literal next × AreLiterals next others rest)
-first_literal behind [] rest h = inl (refl, let whole = h.spelled in cc)
+first_literal behind [] rest h = inl (refl, ap (λ (t : List ℕ). drop 1 t) h.spelled)
 first_literal behind (literal ∷ others) rest h =
-    let same : behind ≡ (literal_text literal ++ literals_text others) ++ (32 ∷ 48 ∷ rest) = let whole = h.spelled in cc in
+    let same : behind ≡ (literal_text literal ++ literals_text others) ++ (32 ∷ 48 ∷ rest) = ap (λ (t : List ℕ). drop 1 t) h.spelled in
     inr (
       literal,
       others,
@@ -167,12 +167,12 @@ one_first behind n m a b text rest other is x y more = elim (first_literal behin
     | inl (nil, _) ↦ absurd (let e : m ∷ b ≡ [] = nil in cc)
     | inr (m2, b2, next, others, above_b, there, further_b) ↦
         let one = one_signed behind n2 m2 after next here there in
-        let same_a : a2 ≡ a = cc in
-        let same_b : b2 ≡ b = cc in
+        let same_a : a2 ≡ a = sym (ap (λ (t : List Literal). drop 1 t) parts) in
+        let same_b : b2 ≡ b = sym (ap (λ (t : List Literal). drop 1 t) others) in
         let left : AreLiterals next a rest = subst (λ (xs : List Literal). AreLiterals next xs rest) same_a (subst (λ (t : List ℕ). AreLiterals t a2 rest) one.1 further) in
         let right : AreLiterals next b other = subst (λ (xs : List Literal). AreLiterals next xs other) same_b further_b in
         let tails = more next rest other left right in
-        let heads : n ≡ m = (let p : n ≡ n2 = cc in p) ∙ one.0 ∙ (let p : m2 ≡ m = cc in p) in
+        let heads : n ≡ m = ap (λ (t : List Literal). get_or t 0 n) parts ∙ one.0 ∙ sym (ap (λ (t : List Literal). get_or t 0 m) others) in
         (ap (λ (k : Literal). k ∷ a) heads ∙ ap (λ (xs : List Literal). m ∷ xs) tails.0, tails.1)
   ]
 ]

@@ -1,5 +1,5 @@
 -- Logs of silent sections, one section after another.
-use Rattle.std.proofs.Common.{◌≡◌, ◌≢◌, ℕ, ◌+◌, ◌-◌, ◌≤◌, List, [], ◌∷◌, ◌++◌, Bool, true, false, length, Option, take, Some, None, refl, sym, ap, subst, ◌∙◌, arith, append-nil, length-append, inl, inr}
+use Rattle.std.proofs.Common.{◌≡◌, ◌≢◌, ℕ, ◌+◌, ◌-◌, ◌<◌, ◌≤◌, List, [], ◌∷◌, ◌++◌, Bool, true, false, length, Option, take, Some, None, refl, sym, ap, subst, ◌∙◌, arith, append-nil, length-append, inl, inr}
 use Rattle.std.specs.Borrow.{Bor}
 use Rattle.std.specs.List.{AllByRecursion}
 use Rattle.std.specs.Bool.{MatchBool}
@@ -174,6 +174,14 @@ module _ (count line : ℕ) (rest : List ℕ) (h : AreFewSoFar count line rest) 
       let l = h.least in
       (omega arith, omega arith)
 
+  pub passed_shorter : (passed : Passed) (more : ℕ) (others : Bor (List ℕ)) → passed ≡ passeds.Goes more others → IsShorter (length behind) passed →
+      length others.now < length rest
+  passed_shorter passed more others is shorter =
+      let less : more + length others.now ≤ length behind = subst (IsShorter (length behind)) is shorter in
+      let e = ap length cut.parts ∙ length-append text behind in
+      let some = cut.some in
+      omega arith
+
   pub few_more : (passed : Passed) (more : ℕ) (others : Bor (List ℕ)) → passed ≡ passeds.Goes more others → IsShorter (length behind) passed →
       AreFewSoFar (count + 1) (line + 1 + more) others.now
   few_more passed more others is shorter =
@@ -272,6 +280,13 @@ module _ {H : Type 0} (subject : SilentSubject H) where
       inr (same, (sections, line, rest, leads_weaker 2 texts sections line rest leads, stopped_weaker (length sections) line rest verdict stopped))
 
 -- ---- the answers
+
+module _ {H : Type 0} (subject : SilentSubject H) (Passes : H → Type 0) (bytes : List ℕ) (verdict : SilentVerdict) (refused : verdict ≡ verdicts.Refused 1 causes.Header) where
+  pub no_header : length bytes ≡ 0 → IsSilentVerdictOf subject Passes (lines_in bytes) verdict
+  no_header none = subst (λ (t : List ℕ). IsSilentVerdictOf subject Passes (lines_in t) verdict) (sym (nil_from_length bytes none)) refused
+
+  pub wrong_header : (text body : List ℕ) → IsFirstLine bytes text body → text ≢ subject.header → IsSilentVerdictOf subject Passes (lines_in bytes) verdict
+  wrong_header text body cut other = subst (λ (ts : List (List ℕ)). IsSilentVerdictOf subject Passes ts verdict) (sym cut.lines) (inl (other, refused))
 
 module _ {H : Type 0} (subject : SilentSubject H) (bytes text body : List ℕ) (cut : IsFirstLine bytes text body) (same : text ≡ subject.header) where
   pub ok_within : (r : Result SilentVerdict Fault) → IfOk r (IsSilentVerdictBehind subject (PassesNoLimit subject) (lines_in body)) →

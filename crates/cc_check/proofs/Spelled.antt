@@ -1,9 +1,12 @@
 -- The texts of lines, part by part.
-use Rattle.std.proofs.Common.{◌≡◌, ℕ, List, [], ◌∷◌, ◌++◌, ap, sym, refl, ◌∙◌, append-nil, map, flat_map, decimal, codes}
+use Rattle.std.proofs.Common.{◌≡◌, ◌≤◌, ◌-◌, ◌⊎◌, inl, inr, subst, length, get_or, take, drop, eqb, arith, ℕ, List, [], ◌∷◌, ◌++◌, ap, sym, refl, ◌∙◌, append-nil, map, flat_map, decimal, codes}
+use Rattle.std.proofs.lemmas.List.{take_rest}
 use Rattle.std.proofs.lemmas.List.Concat.{flat_map-append}
 use Rattle.std.specs.List.{join_with_byte}
 use Rattle.cc_defs.specs.Clauses.{Literal}
-use Rattle.cc_defs.specs.LogTexts.{literal_text}
+use Rattle.cc_defs.specs.declared.log.LogLine.TheVariants as lines
+use Rattle.cc_defs.specs.LogTexts.{IsLine, line_text, literal_text}
+use Rattle.cc_check.specs.Reading.{IsLast}
 
 -- the first, and the byte and another for each of the others
 pub join_with_byte-cons : (c : ℕ) (x : List ℕ) (xs : List (List ℕ)) → join_with_byte c (x ∷ xs) ≡ x ++ flat_map (λ y. c ∷ y) xs
@@ -31,3 +34,17 @@ derived_text clause chain =
     (flat_map-append (λ (y : List ℕ). 32 ∷ y) (map literal_text clause) (codes "0" ∷ (map decimal chain ++ codes "0" ∷ []))
     ∙ rw flat_map-map (ap (λ (rest : List ℕ). literals_text clause ++ (codes " 0" ++ rest))
     (flat_map-append (λ (y : List ℕ). 32 ∷ y) (map decimal chain) (codes "0" ∷ []) ∙ rw flat_map-map refl)))
+
+-- a heading's letter, the space behind it, and its number
+pub heading_line : (text : List ℕ) (horizon : ℕ) → 2 ≤ length text → get_or text 1 0 ≡ 32 → (get_or text 0 0 ≡ 119) ⊎ (get_or text 0 0 ≡ 104) →
+    IsLast (take (length text - 2) (drop 2 text)) horizon → IsLine text (lines.Section (eqb (get_or text 0 0) 119) horizon)
+heading_line [] horizon long space either last = absurd (omega arith)
+heading_line (byte ∷ []) horizon long space either last = absurd (omega arith)
+heading_line (byte ∷ next ∷ rest) horizon long space either last = record {
+  formed = last.0;
+  spelled = ap (λ (n : ℕ). byte ∷ n ∷ rest) space ∙ ap (λ (t : List ℕ). byte ∷ 32 ∷ t) (sym (take_rest (byte ∷ next ∷ rest) 2) ∙ last.1) ∙ by_letter either;
+}
+  where
+    by_letter : (byte ≡ 119) ⊎ (byte ≡ 104) → byte ∷ 32 ∷ (decimal horizon ++ 10 ∷ []) ≡ line_text (lines.Section (eqb byte 119) horizon)
+    by_letter (inl is) = subst (λ (n : ℕ). n ∷ 32 ∷ (decimal horizon ++ 10 ∷ []) ≡ line_text (lines.Section (eqb n 119) horizon)) (sym is) refl
+    by_letter (inr is) = subst (λ (n : ℕ). n ∷ 32 ∷ (decimal horizon ++ 10 ∷ []) ≡ line_text (lines.Section (eqb n 119) horizon)) (sym is) refl

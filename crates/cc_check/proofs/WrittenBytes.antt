@@ -1,6 +1,7 @@
 -- The bytes of lines as they are written, part by part.
-use Rattle.std.proofs.Common.{◌≡◌, ℕ, zero, suc, ◌+◌, ◌-◌, ◌/◌, ◌%◌, ◌<◌, ◌≤◌, Bool, true, not, cond, List, [], ◌∷◌, ◌++◌, flat_map, length, refl, sym, ap, ◌∙◌, arith, append_assoc}
+use Rattle.std.proofs.Common.{◌≡◌, ℕ, zero, suc, ◌+◌, ◌-◌, ◌/◌, ◌%◌, ◌<◌, ◌≤◌, Bool, true, not, cond, List, [], ◌∷◌, ◌++◌, flat_map, length, drop, get_or, refl, sym, ap, subst, ◌∙◌, arith, append_assoc}
 use Rattle.std.specs.List.{AllByRecursion}
+use Rattle.std.proofs.lemmas.List.{drop_more}
 use Rattle.cc_defs.specs.declared.log.LogLine.{LogLine}
 use Rattle.cc_defs.specs.declared.log.LogLine.TheVariants as lines
 use Rattle.cc_defs.specs.Clauses.{Literal}
@@ -52,6 +53,18 @@ pub links_before : (own : ℕ) (chain : List ℕ) → AreBefore own chain → Ar
 links_before own [] h = tt
 links_before own (number ∷ []) h = (λ _. h, tt)
 links_before own (number ∷ pivot ∷ chain) h = (λ _. h.0, (λ e. absurd cc, links_before own chain h.1))
+
+pub links_split : (names : Bool) (own : ℕ) (chain : List ℕ) (i d : ℕ) → i < length chain → AreLinks names own (drop i chain) →
+    (names ≡ true → get_or chain i d < own) × AreLinks (not names) own (drop (i + 1) chain)
+links_split names own chain i d less all = subst (AreLinks names own) (drop_more chain i d less) all
+
+pub link_next : (names : Bool) (own : ℕ) (chain : List ℕ) (i d link : ℕ) (front new whole : List ℕ) → i < length chain →
+    link ≡ cond names (own - get_or chain i d) (get_or chain i d) → new ≡ front ++ number_bytes link →
+    front ++ flat_map number_bytes (links names own (drop i chain)) ≡ whole → new ++ flat_map number_bytes (links (not names) own (drop (i + 1) chain)) ≡ whole
+link_next names own chain i d link front new whole less is made so_far =
+    let rest = flat_map number_bytes (links (not names) own (drop (i + 1) chain)) in
+    ap (λ (w : List ℕ). w ++ rest) made ∙ append_assoc front (number_bytes link) rest ∙ ap (λ (n : ℕ). front ++ (number_bytes n ++ rest)) is
+    ∙ ap (λ (w : List ℕ). front ++ flat_map number_bytes (links names own w)) (sym (drop_more chain i d less)) ∙ so_far
 
 length-chain_behind : (own : ℕ) (chain : List ℕ) → length (chain_behind own chain) ≡ length chain
 length-chain_behind own [] = refl

@@ -1,4 +1,4 @@
-use Rattle.std.proofs.Common.{inl, inr}
+use Rattle.std.proofs.Common.{inl, inr, refl}
 use Rattle.cc_check.proofs.Literals.{no_pivot}
 use Rattle.cc_check.proofs.clauses.resolve_on.Goals as goal
 use Rattle.cc_check.proofs.clauses.resolve_on.Goals.{then-pivot-eq0-via-then-pivot-eq0, then-pivot-eq0-via-else-pivot-eq0+then-pivot-variables}
@@ -10,3 +10,6 @@ returns-then-pivot-eq0 c =
       | then-pivot-eq0-via-then-pivot-eq0 w ↦ inl w.if-pivot-eq0.true
       | then-pivot-eq0-via-else-pivot-eq0+then-pivot-variables w ↦ inr w.if-pivot-variables.true
     ])
+
+pub resolve_into-requires-clause-clash : goal.resolve_into-requires-clause-clash
+resolve_into-requires-clause-clash c = c.if-not-clash_on.ensures.0 refl

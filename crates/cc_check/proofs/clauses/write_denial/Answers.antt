@@ -50,6 +50,12 @@ returns-in_default-clause-clause c =
     (row_denial c.args.form.now.sizes (numbers_of c.args.row.now)) c.in_default.ensures c.loop-i.invariant.denial in
     (rw is (denial_clause c.args.form.now.sizes (numbers_of c.args.row.now) c.requires), c.loop-i.invariant.over)
 
+pub returns-clause-denial : goal.returns-clause-denial
+returns-clause-denial c =
+    let same = ap length c.sizes-count.ensures.sizes in
+    denial_done c.args.form.now.sizes c.loop-i.i (first_variable c.args.form.now.sizes c.loop-i.i) (numbers_of c.loop-i.rest) c.loop-i.out.items
+    (row_denial c.args.form.now.sizes (numbers_of c.args.row.now)) (omega (arith, same, c.loop-i-test.false)) c.loop-i.invariant.denial
+
 pub returns-clause-clause : goal.returns-clause-clause
 returns-clause-clause c =
     let same = ap length c.sizes-count.ensures.sizes in

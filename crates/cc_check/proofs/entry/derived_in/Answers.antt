@@ -1,7 +1,10 @@
 use Rattle.cc_defs.specs.declared.log.Version.TheVariants.{Second}
 use Rattle.cc_check.specs.Readers.{literals_in, numbers_in}
-use Rattle.cc_check.proofs.EntryBytes.{no_pairs, no_chain, derived_read}
+use Rattle.cc_check.proofs.EntryBytes.{no_clause, no_pairs, no_chain, derived_read}
 use Rattle.cc_check.proofs.entry.derived_in.Goals as goal
+
+pub returns-in_default-behind_literals : goal.returns-in_default-behind_literals
+returns-in_default-behind_literals c = no_clause c.args.body.now c.in-Some.count c.in-Some.clause.now c.in-Some.ensures c.in_default-behind_literals.ensures
 
 pub returns-in_default-number_in : goal.returns-in_default-number_in
 returns-in_default-number_in c =

@@ -1,5 +1,6 @@
-use Rattle.std.proofs.Common.{ℕ, refl, subst, ◌∙◌}
+use Rattle.std.proofs.Common.{◌≡◌, ℕ, ◌++◌, refl, subst, sym, ◌∙◌}
 use Rattle.std.proofs.lemmas.Bool.{false≢true}
+use Rattle.cc_defs.specs.Clauses.{Reaches}
 use Rattle.cc_check.specs.Clauses.{IsClauseOver}
 use Rattle.cc_check.specs.Readers.{chain_of, literals_of}
 use Rattle.cc_check.proofs.Judged.{named_all, wrong_number, wrong_pivot, wrong_clause}
@@ -35,3 +36,14 @@ returns-then-not-is_same_clause c =
     c.count.result c.count-2.result (chain_of c.args.chain.now) c.count.ensures.value c.count-2.ensures (c.if-not-are_named.ensures.0 refl))
     c.reach.new.stage.clause.items (rw c.if-not-branch.false at c.in_ok-reach.ensures)
     (λ e. false≢true (c.if-not-is_same_clause.ensures.1 (c.deref.ensures.value ∙ e)))
+
+pub returns : goal.returns
+returns c =
+    let same : c.reach.new.stage.clause.items ≡ literals_of c.args.clause.now = sym c.deref.ensures.value ∙ c.if-not-is_same_clause.ensures.0 refl in (
+      record {
+        open_still = rw c.if-refuted.false at c.requires.empty;
+        clause_over = subst (λ (v : ℕ). IsClauseOver v (literals_of c.args.clause.now)) c.variables.ensures.value (c.if-not-is_clause_over.ensures.0 refl);
+        reached = subst (Reaches (c.args.form.now.clauses ++ c.args.own.now) (chain_of c.args.chain.now)) same (rw c.if-not-branch.false at c.in_ok-reach.ensures);
+      },
+      same,
+    )

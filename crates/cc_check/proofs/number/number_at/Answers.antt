@@ -1,5 +1,5 @@
 use Rattle.std.proofs.Common.{inl, inr, sym}
-use Rattle.cc_check.proofs.Numbers.{nothing_there, no_digit_there, stops, too_long}
+use Rattle.cc_check.proofs.Numbers.{digit_begun, digit_read, nothing_there, no_digit_there, stops, too_long}
 use Rattle.cc_check.proofs.number.number_at.Goals as goal
 use Rattle.cc_check.proofs.number.number_at.Goals.{in_default-rest, in-len1-up-rest+then-not-is_digit_byte-2, then-number-eq0-via-then-number-eq0, then-number-eq0-via-else-number-eq0+then-number-gt99999999}
 
@@ -17,6 +17,11 @@ returns-then-number-eq0 c =
       | then-number-eq0-via-else-number-eq0+then-number-gt99999999 w ↦ inr w.if-number-gt99999999.true
     ])
 
+pub loop-rest-preserved : goal.loop-rest-preserved
+loop-rest-preserved c =
+    digit_read c.args.bytes.now c.loop-rest.number c.from.result c.loop-rest.rest.now c.loop-rest.invariant.1 c.in-len1-up-rest.len_at_least
+    (sym c.if-not-is_digit_byte-2.ensures) c.if-number-eq0.false c.if-number-gt99999999.false c.from.ensures
+
 pub returns : goal.returns
 returns c =
     stops c.args.bytes.now c.loop-rest.number c.loop-rest.rest.now c.loop-rest.invariant.1
@@ -24,3 +29,6 @@ returns c =
       | in_default-rest w ↦ inl w.in_default-rest.len_below
       | in-len1-up-rest+then-not-is_digit_byte-2 w ↦ inr (w.in-len1-up-rest.len_at_least, sym w.if-not-is_digit_byte-2.ensures)
     ])
+
+pub loop-rest-init : goal.loop-rest-init
+loop-rest-init c = digit_begun c.args.bytes.now c.from-number.result c.in-len1-up.len_at_least (sym c.if-not-is_digit_byte.ensures) c.from-number.ensures

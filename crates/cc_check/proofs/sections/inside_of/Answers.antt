@@ -1,3 +1,4 @@
+use Rattle.cc_check.proofs.FirstTexts.{text_shorter}
 use Rattle.std.proofs.Common.{refl, rules}
 use Rattle.cc_defs.specs.Logs.{IsNoHeading}
 use Rattle.cc_check.proofs.Parted.{cut_some, inside_at, inside_begun, inside_more, inside_all}
@@ -20,3 +21,6 @@ loop-rest-preserved c =
 
 pub returns : goal.returns
 returns c = inside_all c.args.version c.args.all.now c.loop-rest.rest.now c.loop-rest.count c.loop-rest.invariant (search rules)
+
+pub loop-rest-smaller : goal.loop-rest-smaller
+loop-rest-smaller c = text_shorter _ _ _ _ c.cut_text-heading.ensures.first

@@ -1,3 +1,5 @@
+use Rattle.std.proofs.Common.{arith}
+use Rattle.cc_check.proofs.FirstTexts.{text_shorter}
 use Rattle.cc_check.proofs.Headers.{first_read, second_wrong}
 use Rattle.cc_check.proofs.sections.read_behind.Goals as goal
 
@@ -9,3 +11,6 @@ returns-in_default-clause-refused c =
 pub returns-clause-read : goal.returns-clause-read
 returns-clause-read c =
     first_read c.args.version c.args.body.now c.cut_text-heading.result.1.now c.cut_text-heading.result.0 c.cut_text-heading.ensures c.in-Some.heading c.in-Some.is
+
+pub invariant_of-result : goal.invariant_of-result
+invariant_of-result c = let less = text_shorter _ _ _ _ c.cut_text-heading.ensures.first in (omega arith, omega arith)

@@ -1,7 +1,7 @@
 use Rattle.std.proofs.Common.{rules, arith}
 use Rattle.cc_defs.specs.declared.log.Version.TheVariants.{First}
 use Rattle.cc_check.specs.Silent.{IsUnread}
-use Rattle.cc_check.proofs.FirstTexts.{line_text_first}
+use Rattle.cc_check.proofs.FirstTexts.{line_text_first, text_shorter}
 use Rattle.cc_check.proofs.Parted.{cut_some, inside_begun, inside_more}
 use Rattle.cc_check.proofs.SilentLogs.{fewer_behind, read_so, silent_all, silent_at, unread_so}
 use Rattle.cc_check.proofs.silent.inside_of.Goals as goal
@@ -27,3 +27,6 @@ loop-alloc-init g c = (omega arith, (λ of is. inside_begun First (IsUnread (g.S
 pub returns-clause-inside : goal.returns-clause-inside
 returns-clause-inside g c = λ of is.
     silent_all (g.S.Silent.subject of) c.args.all.now c.loop-alloc.rest.now c.loop-alloc.count (c.loop-alloc.invariant.1 of is) (search rules)
+
+pub loop-alloc-smaller : goal.loop-alloc-smaller
+loop-alloc-smaller g c = text_shorter _ _ _ _ (line_text_first _ _ _ c.first_line.ensures)

@@ -33,3 +33,6 @@ returns-in-None-clause-passed g c = λ of text is reads.
     reads (c.in_ok-inside.ensures.inside of is) ((c.is_right.ensures.right of is).0 c.if-not-is_right.false)
     _ refl (c.in_ok-finding.ensures.within of is) (plain_finding c.in_ok-finding.finding) (c.in_ok-finding.ensures.found of is _ refl)
     c.in_ok-inside.inside.rest refl (sym c.refusal_of.ensures ∙ c.in-None.is)
+
+pub returns-in-None-clause-shorter : goal.returns-in-None-clause-shorter
+returns-in-None-clause-shorter g c = c.in_ok-inside.ensures.fewer
