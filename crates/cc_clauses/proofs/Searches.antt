@@ -1,5 +1,5 @@
 -- What a binary search finds in a clause, and when two clauses clash.
-use Rattle.std.proofs.Common.{◌≡◌, ℕ, ◌+◌, ◌-◌, ◌<◌, ◌↔◌, inl, inr, zero, suc, Bool, true, false, not, List, [], ◌∷◌, ◌++◌, length, take, drop, get_or, Result, Ok, Err, refl, arith, add-one}
+use Rattle.std.proofs.Common.{◌≡◌, ℕ, ◌+◌, ◌-◌, ◌<◌, ◌↔◌, inl, inr, zero, suc, Bool, true, false, not, List, [], ◌∷◌, ◌++◌, length, take, drop, get_or, Result, Ok, Err, refl, sym, ◌∙◌, arith, add-one}
 use Rattle.std.specs.Prelude.{is_ok, IsTrue}
 use Rattle.std.specs.List.{Contains}
 use Rattle.std.specs.List.Sorted.{IsBinarySearchResult, IsSearchInRange, IsSortedBy, IsPartitionPoint}
@@ -59,6 +59,18 @@ merged_around_missed xs literal i h result others =
     let point = result (searchable_from_sorted nat_cmp_total code xs (code literal) (clause_sorted xs h)) in
     rw (take_rest xs i)
     (merge_missed literal xs i (λ k b. from_less _ _ (point.0 k literal (omega arith) b)) (λ k b e. from_greater _ _ (point.1 k literal b e)) others)
+
+-- a test, and behind it another one
+module _ (P Q : Type 0) (first : Bool) (h : IsTrue first ↔ P) where
+  pub both_then : (second : Bool) → first ≡ true → (IsTrue second ↔ Q) → IsTrue second ↔ (P × Q)
+  both_then second is k = ((λ e. (h.0 is, k.0 e)), (λ p. k.1 p.1))
+
+  pub both_else : first ≡ false → IsTrue first ↔ (P × Q)
+  both_else is = ((λ e. absurd (false≢true (sym is ∙ e))), (λ p. h.1 p.0))
+
+  pub alone_then : (second : Bool) → first ≡ true → (IsTrue second ↔ Q) → IsTrue (not second) ↔ (P × (Q → ⊥))
+  alone_then true is k = ((λ e. absurd (false≢true e)), (λ p. absurd (p.1 (k.0 refl))))
+  alone_then false is k = ((λ e. (h.0 is, (λ q. false≢true (k.1 q)))), (λ p. refl))
 
 module _ (a b : List Literal) (pivot : ℕ) where
   abbrev ClashesBy : Bool → Type 0

@@ -1,7 +1,13 @@
 use Rattle.std.proofs.Common.{refl}
-use Rattle.cc_clauses.proofs.Searches.{clash_first}
+use Rattle.cc_clauses.proofs.Searches.{clash_first, clash_second}
+use Rattle.std.proofs.lemmas.Bool.{false≢true}
 use Rattle.cc_clauses.proofs.resolution.clash_on.Goals as goal
 
 pub returns-then-clash_at : goal.returns-then-clash_at
 returns-then-clash_at c =
     ((λ _. clash_first c.args.a.now c.args.b.now c.args.pivot (rw c.positive.ensures at (c.if-clash_at.ensures.0 refl))), (λ _. refl))
+
+pub returns : goal.returns
+returns c =
+    clash_second c.args.a.now c.args.b.now c.args.pivot c.clash_at-2.result (λ by. absurd (false≢true ((rw c.positive.ensures at c.if-clash_at.ensures).1 by)))
+    (rw c.negative.ensures at c.clash_at-2.ensures)
