@@ -1,4 +1,5 @@
 pub mod Ascending
+pub mod Constants
 pub mod Numbers
 pub mod Places
 pub mod Positions

@@ -1,5 +1,5 @@
 -- What the digits of a number spell.
-use Rattle.std.proofs.Common.{◌≡◌, ℕ, ◌+◌, ◌-◌, ◌*◌, ◌<◌, ◌≤◌, true, IsTrue, List, [], ◌∷◌, length, fold, Result, Ok, arith, rules}
+use Rattle.std.proofs.Common.{◌≡◌, ℕ, ◌+◌, ◌-◌, ◌*◌, ◌<◌, ◌≤◌, true, IsTrue, List, [], ◌∷◌, length, fold, Result, Ok, Err, arith, rules}
 use Rattle.std.proofs.lemmas.Str.Parse.{IsNumeralModel, numerals_by_fold, parse_gives, digits_value_short}
 use Rattle.std.specs.List.{list_all}
 use Rattle.std.specs.Str.Parse.{ParsesUnsigned}
@@ -24,3 +24,10 @@ pub digits-parse : {E : Type 0} (digits : List ℕ) (read : Result ℕ E) → Pa
 digits-parse digits read parses is few =
     let p = are_digits digits is in
     parse_gives numerals 32 digits read parses p.0 p.1 (omega (arith, digits_value_short numerals digits 9 p.0 few))
+
+-- what a reading gave is what it gives
+pub read_ok : {E : Type 0} (read : Result ℕ E) (number other : ℕ) → read ≡ Ok number → read ≡ Ok other → number ≡ other
+read_ok read number other is gives = cc
+
+pub no_err : {E : Type 0} (read : Result ℕ E) (number : ℕ) (error : E) → read ≡ Err error → read ≡ Ok number → ⊥
+no_err read number error is gives = cc
