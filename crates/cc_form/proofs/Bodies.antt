@@ -1,5 +1,5 @@
 -- A loop over rules that makes the literals of their bodies.
-use Rattle.std.proofs.Common.{◌≡◌, ◌∙◌, ℕ, zero, suc, ◌+◌, ◌<◌, ◌≤◌, Bool, true, false, List, [], ◌∷◌, ◌++◌, length, map, drop, get_or, refl, ap, subst, arith, append_assoc}
+use Rattle.std.proofs.Common.{◌≡◌, ◌∙◌, ℕ, zero, suc, ◌+◌, ◌<◌, ◌≤◌, Bool, true, false, List, [], ◌∷◌, ◌++◌, length, map, drop, get_or, refl, sym, ap, subst, arith, append_assoc, append-nil}
 use Rattle.std.specs.List.{AllByRecursion}
 use Rattle.cc_defs.specs.declared.refusal.Fault.{Fault}
 use Rattle.std.specs.Prelude.{if◌then◌else◌}
@@ -51,6 +51,19 @@ bodies_step old now new stride literals more literal rule rest whole so is' buil
           ∙ append_assoc literals (m.literal ∷ []) (bodies_in (made_bodies P stride m.last rest).rules) ∙ so.bodies;
       fits = so.fits.1;
     }
+
+pub bodies_done : (old now : Writer) (stride : ℕ) (literals : List Literal) (rest whole : List TimedRule) → rest ≡ [] → BodiesSoFar old now stride literals rest whole →
+    (literals ≡ bodies_in (made_bodies old.places stride old.last whole).rules) × IsBuilt old now (made_bodies old.places stride old.last whole).last (made_bodies old.places stride old.last whole).clauses
+bodies_done old now stride literals rest whole none left =
+    let so : BodiesSoFar old now stride literals [] whole = subst (λ (r : List TimedRule). BodiesSoFar old now stride literals r whole) none left in (
+      sym (append-nil literals) ∙ so.bodies,
+      record {
+        places = so.places;
+        ends = so.ends;
+        within = subst (λ (n : ℕ). n ≤ 4000000) so.ends so.within;
+        gives = subst (Gives old.store.kept now.store.kept) (sym (append-nil so.done) ∙ so.clauses) so.gives;
+      },
+    )
 
 pub rule_rises : (sizes : List ℕ) (stride last : ℕ) (rule : TimedRule) → last ≤ (made_rule sizes stride last rule).last
 rule_rises sizes stride last rule = chosen (is_certain sizes (plain_head rule.head))

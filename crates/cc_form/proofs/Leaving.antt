@@ -1,5 +1,5 @@
 -- What is left of a writer by a call whose result is handed on.
-use Rattle.std.proofs.Common.{Result, Ok, Err, IfErr, IfOk, IsOk, OnErr, OnOk, inl, inr, ◌⊎◌, ◌≡◌, ◌≤◌, List, length, None, Some, is_ok, refl, sym, ap, subst}
+use Rattle.std.proofs.Common.{Result, Ok, Err, IfErr, IfOk, IsErr, IsOk, OnErr, OnOk, inl, inr, ◌⊎◌, ◌≡◌, ◌≤◌, List, length, None, Some, is_ok, refl, sym, ap, subst}
 use Rattle.std.proofs.lemmas.Bool.{le-ltb, lt-ltb}
 use Rattle.cc_defs.specs.declared.refusal.Fault.{Fault}
 use Rattle.cc_defs.specs.declared.refusal.Fault.TheVariants as faults
@@ -23,6 +23,15 @@ on_then (Err e) a then = tt
 pub both_then : {X E B : Type 0} {P Q : X → Type 0} (made : Result X E) → IfOk made P → OnOk made B → ((x : X) → P x → B → Q x) → IfOk made Q
 both_then (Ok x) p b then = then x p b
 both_then (Err e) p b then = tt
+
+-- an error says nothing of what was made
+pub err_on : {X E : Type 0} (P : Type 0) (made : Result X E) → IsErr made → OnOk made P
+err_on P (Err e) is = tt
+err_on P (Ok x) is = absurd cc
+
+pub err_if : {X E : Type 0} (P : X → Type 0) (made : Result X E) → IsErr made → IfOk made P
+err_if P (Err e) is = tt
+err_if P (Ok x) is = absurd cc
 
 -- a writer that is emptied after an error
 

@@ -1,5 +1,6 @@
 -- Terms of two parts, one behind the other.
-use Rattle.std.proofs.Common.{Result, Ok, Err, OnOk, IfOk, IfErr, IsErrAnd, ◌≡◌, ◌∙◌, ℕ, zero, suc, ◌+◌, ◌-◌, ◌≤◌, true, false, List, [], ◌∷◌, ◌++◌, length, map, take, drop, refl, sym, ap, subst, arith, append-nil, length-append}
+use Rattle.std.proofs.Common.{Result, Ok, Err, OnOk, IfOk, IfErr, IsErrAnd, ◌≡◌, ◌∙◌, ℕ, zero, suc, ◌+◌, ◌-◌, ◌<◌, ◌≤◌, true, false, List, [], ◌∷◌, ◌++◌, length, map, take, drop, get_or, refl, sym, ap, subst, arith, append-nil, length-append}
+use Rattle.std.proofs.lemmas.List.{take_more}
 use Rattle.cc_arena.specs.Walks.{arity}
 use Rattle.cc_defs.specs.declared.node.Node.{Node}
 use Rattle.cc_defs.specs.declared.node.Node.TheVariants as nodes
@@ -209,6 +210,9 @@ step_long sizes node stack last within =
 pub mapped_last : {A B : Type 0} (f : A → B) (xs : List A) (x : A) → map f (xs ++ x ∷ []) ≡ map f xs ++ f x ∷ []
 mapped_last f [] x = refl
 mapped_last f (y ∷ xs) x = ap (λ l. f y ∷ l) (mapped_last f xs x)
+
+pub mapped_more : {A B : Type 0} (f : A → B) (xs : List A) (i : ℕ) (d : A) → i < length xs → map f (take (i + 1) xs) ≡ map f (take i xs) ++ f (get_or xs i d) ∷ []
+mapped_more f xs i d less = ap (map f) (take_more xs i d less) ∙ mapped_last f (take i xs) (get_or xs i d)
 
 pub above_more : (position value more : ℕ) → value + 1 ≤ more → nodes_above position value (more - (value + 1)) ++ nodes.Atom position more ∷ [] ≡ nodes_above position value (more + 1 - (value + 1))
 above_more position value more least =

@@ -225,6 +225,16 @@ arity_moved by nodes.Same = refl
 
 -- ---- a loop over the nodes
 
+pub all_made : (sizes : List ℕ) (offset : ℕ) (operands : List Literal) (last : ℕ) {node : Node} {count : ℕ} {truth : Literal} → node ≡ nodes.All count → truth ≡ positive (true_variable sizes) →
+    made_all truth (record { literals = operands; last = last; clauses = [] }) operands ≡ made_node sizes (moved_node offset node) operands last
+all_made sizes offset operands last is same =
+    ap (λ (t : Literal). made_all t (record { literals = operands; last = last; clauses = [] }) operands) same ∙ sym (ap (λ (n : Node). made_node sizes (moved_node offset n) operands last) is)
+
+pub any_made : (sizes : List ℕ) (offset : ℕ) (operands : List Literal) (last : ℕ) {node : Node} {count : ℕ} {truth : Literal} → node ≡ nodes.Any count → truth ≡ positive (true_variable sizes) →
+    made_any truth (record { literals = operands; last = last; clauses = [] }) operands ≡ made_node sizes (moved_node offset node) operands last
+any_made sizes offset operands last is same =
+    ap (λ (t : Literal). made_any t (record { literals = operands; last = last; clauses = [] }) operands) same ∙ sym (ap (λ (n : Node). made_node sizes (moved_node offset n) operands last) is)
+
 pub record RunsOn (old now : Writer) (whole rest : List Node) : Type 0 where
   pub places : now.places ≡ old.places
   pub within : now.last ≤ 4000000

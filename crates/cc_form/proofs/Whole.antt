@@ -96,3 +96,13 @@ pub first_refused : {T : Type 0} (result : Result T Fault) (fault : Fault) (size
     IfErr result (IsRefusedBy (axioms_refusal (axioms_behind sizes (record { last = true_variable sizes; clauses = [] }))))
 first_refused (Ok x) fault sizes is few refused = tt
 first_refused (Err given) fault sizes is few refused = subst (IsRefusedBy (axioms_refusal (axioms_behind sizes (record { last = true_variable sizes; clauses = [] })))) (sym is) (rw (le-ltb 4000000 (true_variable sizes) few) refused)
+
+abbrev axioms_with : List ℕ → ℕ → List (List Literal) → Axioms
+axioms_with sizes variables clauses = record { sizes = sizes; variables = variables; clauses = clauses }
+
+-- the axioms of a writer that has the first clauses alone
+pub built_is : (old sizes places : List ℕ) (last : ℕ) (arena : List (List Literal)) → old ≡ sizes → places ≡ old → last ≡ true_variable old → arena ≡ first_clauses old ++ [] →
+    axioms_with places last arena ≡ axioms_behind sizes (record { last = true_variable sizes; clauses = [] })
+built_is old sizes places last arena same p l a =
+    ap (λ (s : List ℕ). axioms_with s last arena) p ∙ ap (λ (n : ℕ). axioms_with old n arena) l ∙ ap (λ (c : List (List Literal)). axioms_with old (true_variable old) c) a
+    ∙ ap (λ (s : List ℕ). axioms_with s (true_variable s) (first_clauses s ++ [])) same

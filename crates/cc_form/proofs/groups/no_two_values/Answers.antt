@@ -1,6 +1,7 @@
-use Rattle.std.proofs.Common.{◌-◌}
+use Rattle.std.proofs.Common.{◌-◌, ◌∙◌, sym}
 use Rattle.cc_defs.specs.ClauseLists.{pairs_denied, position_variables}
-use Rattle.cc_form.proofs.Choices.{done_all, done_more, done_none, no_pairs, pairs_front}
+use Rattle.cc_form.proofs.Choices.{done_all, done_more, done_none, no_pairs, pairs_front, done_full}
+use Rattle.std.proofs.lemmas.Bool.{ltb-true}
 use Rattle.cc_form.proofs.groups.no_two_values.Goals as goal
 
 pub loop-low-init : goal.loop-low-init
@@ -11,3 +12,6 @@ loop-low-preserved c = done_more c.args.store.now.kept c.loop-low.store.kept c.n
 
 pub returns : goal.returns
 returns c = done_all c.args.store.now.kept c.loop-low.store.kept _ _ (no_pairs c.loop-low.low c.args.end c.loop-low-test.false) c.loop-low.invariant
+
+pub returns-then-is_full : goal.returns-then-is_full
+returns-then-is_full c = done_full c.args.store.now.kept c.loop-low.store.kept _ _ (ltb-true 8000000 c.loop-low.store.kept.count (sym c.is_full.ensures ∙ c.if-is_full.true)) c.loop-low.invariant

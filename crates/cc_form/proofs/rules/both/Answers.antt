@@ -8,6 +8,11 @@ use Rattle.cc_form.specs.Making.{part_nodes}
 use Rattle.cc_form.proofs.Parts.{begun, begun_past, front_past, made_from, makes_err, next_past, ran_more, ready_at, run_long, step_is_run}
 use Rattle.cc_form.proofs.rules.both.Goals as goal
 
+pub run-requires-clause-fits : goal.run-requires-clause-fits
+run-requires-clause-fits c =
+    subst (λ (p : List ℕ). AllByRecursion (Fits p) (moved_nodes c.offset_of.result c.args.now.nodes.now)) (sym c.begin.ensures.places)
+    (subst (λ (n : ℕ). AllByRecursion (Fits c.args.writer.now.places) (moved_nodes n c.args.now.nodes.now)) (sym c.offset_of.ensures.value) c.requires.now.fits)
+
 pub run-requires-clause-ready : goal.run-requires-clause-ready
 run-requires-clause-ready c =
     ready_at c.args.writer.now.places (moved_nodes c.offset_of.result c.args.now.nodes.now) (length c.begin.new.self.stack.items)

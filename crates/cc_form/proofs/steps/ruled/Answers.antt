@@ -5,7 +5,7 @@ use Rattle.cc_defs.specs.Clauses.{Literal}
 use Rattle.cc_form.specs.Making.{bodied, made_bodies}
 use Rattle.cc_form.specs.Store.{Holds}
 use Rattle.cc_form.proofs.Finishing.{bodied_is, bodies_long}
-use Rattle.cc_form.proofs.Leaving.{at_ok}
+use Rattle.cc_form.proofs.Leaving.{at_ok, err_if, err_on}
 use Rattle.cc_form.proofs.steps.ruled.Goals as goal
 
 pub denied-denials-requires : goal.denied-denials-requires
@@ -29,3 +29,12 @@ returns-clause-denials c =
 pub returns-clause-empty : goal.returns-clause-empty
 returns-clause-empty c =
     at_ok (λ (arena : List (List Literal)). Holds c.denied-denials.new.writer.store.kept []) c.denied-denials.result c.in_ok-groups.groups.1 c.denied-denials.ensures.none c.in_ok-groups.ensures.made.1
+
+pub returns-in_err-made : goal.returns-in_err-made
+returns-in_err-made c = let is = c.from_residual.ensures.0 in record { bodies = err_if _ _ is; denials = err_if _ _ is; literals = err_on _ _ is; last = err_on _ _ is; most = err_on _ _ is; places = err_on _ _ is; empty = err_on _ _ is }
+
+pub returns-in_err-extend_from_slice : goal.returns-in_err-extend_from_slice
+returns-in_err-extend_from_slice c = let is = c.from_residual-in_err-extend_from_slice.ensures.0 in record { bodies = err_if _ _ is; denials = err_if _ _ is; literals = err_on _ _ is; last = err_on _ _ is; most = err_on _ _ is; places = err_on _ _ is; empty = err_on _ _ is }
+
+pub returns-in_err-groups : goal.returns-in_err-groups
+returns-in_err-groups c = let is = c.from_residual-in_err-groups.ensures.0 in record { bodies = err_if _ _ is; denials = err_if _ _ is; literals = err_on _ _ is; last = err_on _ _ is; most = err_on _ _ is; places = err_on _ _ is; empty = err_on _ _ is }

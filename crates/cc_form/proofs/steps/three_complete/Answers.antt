@@ -6,7 +6,7 @@ use Rattle.cc_form.specs.Steps.{truth_at}
 use Rattle.cc_form.specs.Store.{Holds}
 use Rattle.cc_form.proofs.Finishing.{bodies_long}
 use Rattle.cc_form.proofs.Gathering.{completion_part, first_part, last_part, later_part}
-use Rattle.cc_form.proofs.Leaving.{at_ok}
+use Rattle.cc_form.proofs.Leaving.{at_ok, err_if, err_on}
 use Rattle.cc_form.proofs.steps.three_complete.Goals as goal
 
 pub completed-first-requires-clause-literals : goal.completed-first-requires-clause-literals
@@ -59,3 +59,9 @@ returns-clause-last c =
     ∙ completion_part s c.args.laws.now 2 c.completed-later.new.writer.places c.in_ok-theory.theory.rules c.args.literals.now (2 * S) (length c.sizes-end.result.now)
     (c.completed-later.ensures.places ∙ c.completed-first.ensures.places ∙ c.requires.places) c.in_ok-theory.ensures.pinned
     c.requires.literals (ap (λ (n : ℕ). 2 * n) stride) (last_part s (2 * S) (length c.sizes-end.result.now) (ap (λ (n : ℕ). 2 * n) stride) (ap length (c.sizes-end.ensures ∙ c.requires.places)))
+
+pub returns-in_err-theory : goal.returns-in_err-theory
+returns-in_err-theory c = let is = c.from_residual.ensures.0 in record { first = err_if _ _ is; later = err_if _ _ is; last = err_if _ _ is; ends = err_on _ _ is }
+
+pub returns-in_err-three : goal.returns-in_err-three
+returns-in_err-three c = let is = c.from_residual-in_err-three.ensures.0 in record { first = err_if _ _ is; later = err_if _ _ is; last = err_if _ _ is; ends = err_on _ _ is }
