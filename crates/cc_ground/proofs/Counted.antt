@@ -204,6 +204,21 @@ laws_are u laws = sym (laws_from_is u 0 laws)
 
 -- ---- loops
 
+pub bracket_more : (u : Universe) (env here : Environment) (variable : ℕ) (formula : Formula) (objects : List ℕ) (i count now next : ℕ) → i < length objects → here ≡ bind variable (get_or objects i 0) env →
+    next ≡ min (now + choices_of u here formula) 16000001 →
+    min (now + bracket_choices u env variable formula (drop i objects)) 16000001 ≡ min (count + bracket_choices u env variable formula objects) 16000001 →
+    min (next + bracket_choices u env variable formula (drop (i + 1) objects)) 16000001 ≡ min (count + bracket_choices u env variable formula objects) 16000001
+bracket_more u env here variable formula objects i count now next less bound is so_far =
+    counts_on now (choices_of u (bind variable (get_or objects i 0) env) formula) (bracket_choices u env variable formula (drop (i + 1) objects)) next (is ∙ ap (λ (w : Environment). min (now + choices_of u w formula) 16000001) bound)
+    ∙ sym (ap (λ (k : ℕ). min (now + k) 16000001) (at_drop_more (bracket_choices u env variable formula) objects i 0 less))
+    ∙ so_far
+
+pub bracket_done : (u : Universe) (env : Environment) (variable : ℕ) (formula : Formula) (objects : List ℕ) (i count now : ℕ) → now ≤ 16000001 → length objects ≤ i →
+    min (now + bracket_choices u env variable formula (drop i objects)) 16000001 ≡ min (count + bracket_choices u env variable formula objects) 16000001 →
+    now ≡ min (count + bracket_choices u env variable formula objects) 16000001
+bracket_done u env variable formula objects i count now few past so_far =
+    let none = at_drop_all (bracket_choices u env variable formula) objects i past in omega (arith, none, so_far)
+
 pub choice_more : (u : Universe) (law : Law) (front : List ℕ) (others : List Range) (values : List ℕ) (i count now next value : ℕ) → drop i values ≡ value ∷ drop (i + 1) values →
     next ≡ min (now + choices_behind u law (front ++ value ∷ []) others) 16000001 →
     min (now + choices_with u law front others (drop i values)) 16000001 ≡ min (count + choices_with u law front others values) 16000001 →

@@ -1,11 +1,18 @@
 -- Nodes that are put behind others, and the room that is left for them.
-use Rattle.std.proofs.Common.{◌≡◌, ◌∙◌, ℕ, ◌+◌, ◌<◌, ◌≤◌, List, [], ◌∷◌, ◌++◌, length, drop, map, get_or, position, nat_eq, Option, Some, None, Result, Ok, Err, refl, sym, ap, subst, append_assoc, append-nil, length-append, arith}
-use Rattle.std.proofs.lemmas.List.{at_drop_more}
-use Rattle.std.specs.Result.{IfErr, OnOk, IsErrAnd}
+use Rattle.std.proofs.Common.{◌≡◌, ◌∙◌, ℕ, ◌+◌, ◌<◌, ◌≤◌, List, [], ◌∷◌, ◌++◌, length, drop, map, get_or, position, nat_eq, Bool, true, Option, Some, None, Result, Ok, Err, refl, sym, ap, subst, append_assoc, append-nil, length-append, arith}
+use Rattle.std.proofs.lemmas.List.{at_drop_all, at_drop_more}
+use Rattle.std.specs.Result.{IfErr, IfOk, OnOk, IsErr, IsErrAnd}
+use Rattle.std.specs.Prelude.{if◌then◌else◌}
+use Rattle.cc_ground.specs.declared.judged.Equation.{Equation}
+use Rattle.cc_ground.specs.Pieces.{atom_nodes, count_behind, holds_at, list_nodes, nodes_behind, nodes_over}
+use Rattle.std.specs.Global.{Box}
+use Rattle.cc_defs.specs.declared.formula.Formula as kept
+use Rattle.cc_defs.specs.declared.node.Node.TheVariants as nodes
+use Rattle.cc_defs.specs.Resolved as resolved
 use Rattle.cc_defs.specs.Terms.{Ground, Operands, all_of, nothing, and_then, operand_count, operands_behind, postfix, postfixes}
 use Rattle.cc_defs.specs.Terms as terms
 use Rattle.cc_defs.specs.declared.node.Node.{Node}
-use Rattle.cc_defs.specs.Resolved.{Term, Formula}
+use Rattle.cc_defs.specs.Resolved.{Term, Formula, plain_formula}
 use Rattle.cc_ground.specs.declared.maker.Halt.{Halt}
 use Rattle.cc_ground.specs.declared.maker.Halt.TheVariants as halts
 use Rattle.cc_ground.specs.declared.maker.Maker.{Maker}
@@ -56,6 +63,102 @@ lacks_behind many count halt put more lacks = lacks_more halt (λ few. omega (ar
 pub lacks_so : {T : Type 0} (count room : ℕ) (halt : Halt) (result : Result T Halt) → IsErrAnd result (λ d. d ≡ halt) → LacksRoom count room halt → IfErr result (LacksRoom count room)
 lacks_so count room halt (Err d) is lacks = subst (LacksRoom count room) (sym is) lacks
 lacks_so count room halt (Ok done) is lacks = absurd is
+
+-- ---- two parts, one behind the other
+
+pub then_put : {xs : List Node} {a b : Maker} (ys : List Node) (c : Maker) (result : Result (Unit {0}) Halt) → HasPut xs a b → OnOk result (HasPut ys b c) → OnOk result (HasPut (xs ++ ys) a c)
+then_put ys c (Ok done) f g = put_both f g
+then_put ys c (Err halt) f g = tt
+
+pub then_lacks : {xs : List Node} {a b : Maker} (ys : List Node) (result : Result (Unit {0}) Halt) → HasPut xs a b → IfErr result (LacksRoom (length ys) b.room) → IfErr result (LacksRoom (length (xs ++ ys)) a.room)
+then_lacks {xs} ys (Ok done) f g = tt
+then_lacks {xs} ys (Err halt) f g = lacks_behind _ _ halt f (omega (arith, length-append xs ys)) g
+
+pub first_lacks : {T : Type 0} (xs ys : List Node) (room : ℕ) (halt : Halt) (result : Result T Halt) → IsErrAnd result (λ d. d ≡ halt) → LacksRoom (length xs) room halt → IfErr result (LacksRoom (length (xs ++ ys)) room)
+first_lacks xs ys room halt result is lacks = lacks_so _ _ halt result is (lacks_more halt (λ few. omega (arith, length-append xs ys)) lacks)
+
+pub second_lacks : (xs ys : List Node) {a b : Maker} (halt : Halt) (result : Result ℕ Halt) → IsErrAnd result (λ d. d ≡ halt) → HasPut xs a b → LacksRoom (length ys) b.room halt → IfErr result (LacksRoom (length (xs ++ ys)) a.room)
+second_lacks xs ys halt result is put lacks = lacks_so _ _ halt result is (lacks_behind _ _ halt put (omega (arith, length-append xs ys)) lacks)
+
+-- an error says nothing of what was put
+pub err_on : {T E : Type 0} (P : Type 0) (result : Result T E) → IsErr result → OnOk result P
+err_on P (Err halt) is = tt
+err_on P (Ok done) is = absurd cc
+
+pub err_if : {T E : Type 0} (P : T → Type 0) (result : Result T E) → IsErr result → IfOk result P
+err_if P (Err halt) is = tt
+err_if P (Ok done) is = absurd cc
+
+-- atoms
+
+pub atoms_first : (constants indexes others more : List ℕ) (constant index : ℕ) → constants ≡ constant ∷ others → indexes ≡ index ∷ more → nodes.Atom constant index ∷ atom_nodes others more ≡ atom_nodes constants indexes
+atoms_first constants indexes others more constant index e f = sym (ap (λ (l : List ℕ). atom_nodes l indexes) e ∙ ap (atom_nodes (constant ∷ others)) f)
+
+pub over_some : (equation : Equation) (constants : List ℕ) → 0 < length constants → nodes_behind equation [] constants ++ nodes.Any (count_behind equation [] constants) ∷ [] ≡ nodes_over equation constants
+over_some equation [] some = absurd (omega arith)
+over_some equation (constant ∷ constants) some = refl
+
+pub atoms_counted : {count more : ℕ} {node : Node} {rest whole : List Node} → more ≡ count + 1 → count ≡ length rest → node ∷ rest ≡ whole → more ≡ length whole
+atoms_counted e f g = let long = ap length g in omega arith
+
+pub list_there : (equation : Equation) (indexes : List ℕ) → holds_at equation indexes ≡ true →
+    atom_nodes equation.constants.now indexes ++ nodes.All (length (atom_nodes equation.constants.now indexes)) ∷ [] ≡ list_nodes equation indexes
+list_there equation indexes e = sym (ap (λ (b : Bool). if b then atom_nodes equation.constants.now indexes ++ nodes.All (length (atom_nodes equation.constants.now indexes)) ∷ [] else []) e)
+
+-- the nodes of a formula for makers that are alike
+pub nodes_like : (formula : Formula) {a b : Maker} → IsLike a b → nodes_of (universe_in b) (environment_of b.env) formula ≡ nodes_of (universe_in a) (environment_of a.env) formula
+nodes_like formula {a} {b} like =
+    ap (λ (w : BindingsView). nodes_of (universe_in b) (environment_of w) formula) like.env ∙ ap (λ (u : Universe). nodes_of u (environment_of a.env) formula) (sym (same_universe a b like.table like.sig))
+
+-- the nodes of a formula whose parts are put one behind the other, the last one with the node of the whole
+pub record OfTwo (old : Maker) (front : List Node) (second : Formula) (node : Node) (whole : List Node) : Type 0 where
+  pub whole_is : front ++ (nodes_of (universe_in old) (environment_of old.env) second ++ node ∷ []) ≡ whole
+
+pub two_put : {old mid : Maker} (new : Maker) {front whole : List Node} {second : Formula} {node : Node} (result : Result (Unit {0}) Halt) → OfTwo old front second node whole → HasPut front old mid →
+    OnOk result (HasPut (nodes_of (universe_in mid) (environment_of mid.env) second ++ node ∷ []) mid new) → OnOk result (HasPut whole old new)
+two_put {old} {mid} new {front} {whole} {second} {node} result two first last =
+    subst (λ (l : List Node). OnOk result (HasPut l old new)) (ap (λ (l : List Node). front ++ (l ++ node ∷ [])) (nodes_like second first.like) ∙ two.whole_is) (then_put _ new result first last)
+
+pub two_lack : {old mid : Maker} {front whole : List Node} {second : Formula} {node : Node} (result : Result (Unit {0}) Halt) → OfTwo old front second node whole → HasPut front old mid →
+    IfErr result (LacksRoom (length (nodes_of (universe_in mid) (environment_of mid.env) second ++ node ∷ [])) mid.room) → IfErr result (LacksRoom (length whole) old.room)
+two_lack {old} {mid} {front} {whole} {second} {node} result two first last =
+    subst (λ (l : List Node). IfErr result (LacksRoom (length l) old.room)) (ap (λ (l : List Node). front ++ (l ++ node ∷ [])) (nodes_like second first.like) ∙ two.whole_is)
+    (then_lacks (nodes_of (universe_in mid) (environment_of mid.env) second ++ node ∷ []) result first last)
+
+pub one_lacks : {old : Maker} {front whole : List Node} {second : Formula} {node : Node} (halt : Halt) (result : Result (Unit {0}) Halt) → OfTwo old front second node whole → IsErrAnd result (λ d. d ≡ halt) →
+    LacksRoom (length front) old.room halt → IfErr result (LacksRoom (length whole) old.room)
+one_lacks {old} {front} {whole} {second} {node} halt result two is lacks =
+    subst (λ (l : List Node). IfErr result (LacksRoom (length l) old.room)) two.whole_is (first_lacks front (nodes_of (universe_in old) (environment_of old.env) second ++ node ∷ []) old.room halt result is lacks)
+
+abbrev pub nodes_in : Maker → Formula → List Node
+nodes_in maker formula = nodes_of (universe_in maker) (environment_of maker.env) formula
+
+pub both_nodes : (old : Maker) (whole a b : kept.Formula) (l r : Box kept.Formula) → whole ≡ kept.Both l r → a ≡ l.value → b ≡ r.value → OfTwo old (nodes_in old (plain_formula a)) (plain_formula b) (nodes.All 2) (nodes_in old (plain_formula whole))
+both_nodes old whole a b l r is e f = record {
+  whole_is = sym (append_assoc (nodes_in old (plain_formula a)) (nodes_in old (plain_formula b)) ((nodes.All 2) ∷ []))
+      ∙ sym (ap (nodes_in old) (ap plain_formula is ∙ ap (λ x. resolved.Both (plain_formula x) (plain_formula r.value)) (sym e) ∙ ap (λ x. resolved.Both (plain_formula a) (plain_formula x)) (sym f)));
+}
+
+pub either_nodes : (old : Maker) (whole a b : kept.Formula) (l r : Box kept.Formula) → whole ≡ kept.Either l r → a ≡ l.value → b ≡ r.value → OfTwo old (nodes_in old (plain_formula a)) (plain_formula b) (nodes.Any 2) (nodes_in old (plain_formula whole))
+either_nodes old whole a b l r is e f = record {
+  whole_is = sym (append_assoc (nodes_in old (plain_formula a)) (nodes_in old (plain_formula b)) ((nodes.Any 2) ∷ []))
+      ∙ sym (ap (nodes_in old) (ap plain_formula is ∙ ap (λ x. resolved.Either (plain_formula x) (plain_formula r.value)) (sym e) ∙ ap (λ x. resolved.Either (plain_formula a) (plain_formula x)) (sym f)));
+}
+
+pub same_nodes : (old : Maker) (whole a b : kept.Formula) (l r : Box kept.Formula) → whole ≡ kept.Same l r → a ≡ l.value → b ≡ r.value → OfTwo old (nodes_in old (plain_formula a)) (plain_formula b) nodes.Same (nodes_in old (plain_formula whole))
+same_nodes old whole a b l r is e f = record {
+  whole_is = sym (append_assoc (nodes_in old (plain_formula a)) (nodes_in old (plain_formula b)) (nodes.Same ∷ []))
+      ∙ sym (ap (nodes_in old) (ap plain_formula is ∙ ap (λ x. resolved.Same (plain_formula x) (plain_formula r.value)) (sym e) ∙ ap (λ x. resolved.Same (plain_formula a) (plain_formula x)) (sym f)));
+}
+
+pub implies_nodes : (old : Maker) (whole a b : kept.Formula) (l r : Box kept.Formula) → whole ≡ kept.Implies l r → a ≡ l.value → b ≡ r.value → OfTwo old (nodes_in old (plain_formula a) ++ nodes.Not ∷ []) (plain_formula b) (nodes.Any 2) (nodes_in old (plain_formula whole))
+implies_nodes old whole a b l r is e f = record {
+  whole_is = sym (append_assoc (nodes_in old (plain_formula a) ++ nodes.Not ∷ []) (nodes_in old (plain_formula b)) ((nodes.Any 2) ∷ []))
+      ∙ sym (ap (nodes_in old) (ap plain_formula is ∙ ap (λ x. resolved.Implies (plain_formula x) (plain_formula r.value)) (sym e) ∙ ap (λ x. resolved.Implies (plain_formula a) (plain_formula x)) (sym f)));
+}
+
+pub not_nodes : (old : Maker) (whole a : kept.Formula) (l : Box kept.Formula) → whole ≡ kept.Not l → a ≡ l.value → nodes_in old (plain_formula a) ++ nodes.Not ∷ [] ≡ nodes_in old (plain_formula whole)
+not_nodes old whole a l is e = sym (ap (nodes_in old) (ap plain_formula is ∙ ap (λ x. resolved.Not (plain_formula x)) (sym e)))
 
 -- ---- instances
 
@@ -216,6 +319,11 @@ commons_less {constant} {values} {other} {others} {i} so within at = record {
   few = omega (arith, so.few);
   rest = common_rest None so within at;
 }
+
+pub commons_done : {constant : ℕ} {values : List ℕ} {other : ℕ} {others : List ℕ} {i count : ℕ} {old new : Maker} → CommonsSoFar constant values other others i count old new → length values ≤ i →
+    HasPut (postfixes (commons nothing constant 0 values other others)) old new × (count ≡ operand_count (commons nothing constant 0 values other others))
+commons_done {constant} {values} {other} {others} {i} so past =
+    let e = sym (at_drop_all (λ (l : List ℕ). commons so.made constant i l other others) values i past) ∙ so.rest in (put_as (ap postfixes e) so.put, so.counted ∙ ap operand_count e)
 
 pub commons_so : {constant : ℕ} {values : List ℕ} {other : ℕ} {others : List ℕ} {i count number : ℕ} {old new there : Maker} → number ≡ count → there ≡ new →
     CommonsSoFar constant values other others i count old new → CommonsSoFar constant values other others i number old there

@@ -1,6 +1,6 @@
 -- The conditions of a query, one behind another.
-use Rattle.std.proofs.Common.{◌≡◌, ◌∙◌, ℕ, ◌+◌, ◌<◌, ◌≤◌, List, ◌∷◌, ◌++◌, length, drop, map, get_or, min, Option, Some, None, unwrap_or, sym, ap, subst, arith, rules, tests}
-use Rattle.std.proofs.lemmas.List.{at_drop_more}
+use Rattle.std.proofs.Common.{◌≡◌, ◌∙◌, ℕ, ◌+◌, ◌<◌, ◌≤◌, List, [], ◌∷◌, ◌++◌, length, drop, map, get_or, min, Option, Some, None, unwrap_or, append_assoc, append-nil, refl, sym, ap, subst, arith, rules, tests}
+use Rattle.std.proofs.lemmas.List.{at_drop_all, at_drop_more}
 use Rattle.cc_arena.specs.declared.ground_laws.GroundCondition.{GroundCondition}
 use Rattle.cc_defs.specs.declared.law.Condition.{Condition as ConditionTree}
 use Rattle.cc_defs.specs.declared.refusal.Fault.{Fault}
@@ -23,7 +23,7 @@ use Rattle.cc_defs.specs.Universe.{Universe, universe}
 use Rattle.cc_defs.specs.Refusals.{IsRefusedBy, past}
 use Rattle.cc_ground.specs.Views.{IsLike, LacksRoom, universe_in}
 use Rattle.cc_ground.proofs.FromDeclarations.{maker_universe, universe_is}
-use Rattle.cc_ground.proofs.Putting.{lacks_more, same_universe}
+use Rattle.cc_ground.proofs.Putting.{lacks_more, like_both, same_universe}
 
 -- what is made, with these that are left, is the whole
 pub record ConditionsSoFar (left whole : List PlainGroundCondition) (there : List GroundCondition) (old new : Maker) : Type 0 where
@@ -53,6 +53,32 @@ pub asked_lack : (conditions : List ConditionTree) (condition : ConditionTree) (
 asked_lack conditions condition i {there} {old} {now} halt so within is lacks =
     let e = next_condition old now conditions condition i within is so.like in
     lacks_more halt (λ few. omega (arith, so.room, ap nodes_of_conditions e)) lacks
+
+pushed_is : (xs : List GroundCondition) (x : GroundCondition) → map plain_ground_condition (xs ++ x ∷ []) ≡ map plain_ground_condition xs ++ plain_ground_condition x ∷ []
+pushed_is [] x = refl
+pushed_is (y ∷ ys) x = ap (λ l. plain_ground_condition y ∷ l) (pushed_is ys x)
+
+pub asked_more : (conditions : List ConditionTree) (condition : ConditionTree) (i : ℕ) {there : List GroundCondition} {old now : Maker} (more : List GroundCondition) (next : Maker) (made : GroundCondition) →
+    AskedSoFar conditions i there old now → i < length conditions → condition ≡ get_or conditions i condition → more ≡ there ++ made ∷ [] →
+    plain_ground_condition made ≡ ground_condition (universe_in now) (plain_condition condition) →
+    next.room + length (ground_condition (universe_in now) (plain_condition condition)).nodes ≡ now.room → IsLike now next → AskedSoFar conditions (i + 1) more old next
+asked_more conditions condition i {there} {old} {now} more next made so within is pushed same room like =
+    let e = next_condition old now conditions condition i within is so.like in
+    let rest = conditions_in old (drop (i + 1) conditions) in
+    let front = map plain_ground_condition there in
+    record {
+      made = ap (λ (l : List GroundCondition). map plain_ground_condition l ++ rest) pushed ∙ ap (λ (l : List PlainGroundCondition). l ++ rest) (pushed_is there made) ∙ append_assoc front (plain_ground_condition made ∷ []) rest
+          ∙ ap (λ (p : PlainGroundCondition). front ++ (p ∷ rest)) same ∙ ap (λ (l : List PlainGroundCondition). front ++ l) (sym e) ∙ so.made;
+      room = omega (arith, so.room, ap nodes_of_conditions e, room);
+      like = like_both so.like like;
+    }
+
+pub asked_made : (conditions : List ConditionTree) (i : ℕ) {there : List GroundCondition} {old now : Maker} → AskedSoFar conditions i there old now → length conditions ≤ i → map plain_ground_condition there ≡ conditions_in old conditions
+asked_made conditions i {there} {old} {now} so past =
+    sym (append-nil (map plain_ground_condition there)) ∙ ap (λ (l : List PlainGroundCondition). map plain_ground_condition there ++ l) (sym (at_drop_all (conditions_in old) conditions i past)) ∙ so.made
+
+pub asked_room : (conditions : List ConditionTree) (i : ℕ) {there : List GroundCondition} {old now : Maker} → AskedSoFar conditions i there old now → length conditions ≤ i → now.room + nodes_of_conditions (conditions_in old conditions) ≡ old.room
+asked_room conditions i {there} {old} {now} so past = omega (arith, so.room, ap nodes_of_conditions (at_drop_all (conditions_in old) conditions i past))
 
 -- ---- a query
 

@@ -269,6 +269,18 @@ impl<'t> Maker<'t> {
         Ok(narrow(objects.len())?)
     }
 
+    /// The nodes of a formula under the environment, and this one behind them.
+    #[cycle(formula)]
+    fn put_with(&mut self, alloc: Global, formula: &Formula, node: Node) -> Result<(), Halt>
+        ensures put { OnOk result (HasPut (nodes_of (universe_in self.old)
+            (environment_of self.old.env) (plain_formula formula.now) ++ node ∷ []) self.old self.new) }
+        ensures full { IfErr result (LacksRoom (length (nodes_of (universe_in self.old)
+            (environment_of self.old.env) (plain_formula formula.now) ++ node ∷ [])) self.old.room) }
+    {
+        self.put(alloc, formula)?;
+        self.push(node)
+    }
+
     /// The nodes of a formula under the environment, behind those that are there.
     #[cycle(formula)]
     pub(crate) fn put(&mut self, alloc: Global, formula: &Formula) -> Result<(), Halt>
@@ -283,30 +295,22 @@ impl<'t> Maker<'t> {
             Formula::Equal(left, right) => self.put_equal(alloc, left, right),
             Formula::Less(left, right) => self.put_judged(alloc, Sign::Less, left, right),
             Formula::AtMost(left, right) => self.put_judged(alloc, Sign::AtMost, left, right),
-            Formula::Not(inner) => {
-                self.put(alloc, inner)?;
-                self.push(Node::Not)
-            }
+            Formula::Not(inner) => self.put_with(alloc, inner, Node::Not),
             Formula::Both(left, right) => {
                 self.put(alloc, left)?;
-                self.put(alloc, right)?;
-                self.push(Node::All(2))
+                self.put_with(alloc, right, Node::All(2))
             }
             Formula::Either(left, right) => {
                 self.put(alloc, left)?;
-                self.put(alloc, right)?;
-                self.push(Node::Any(2))
+                self.put_with(alloc, right, Node::Any(2))
             }
             Formula::Implies(left, right) => {
-                self.put(alloc, left)?;
-                self.push(Node::Not)?;
-                self.put(alloc, right)?;
-                self.push(Node::Any(2))
+                self.put_with(alloc, left, Node::Not)?;
+                self.put_with(alloc, right, Node::Any(2))
             }
             Formula::Same(left, right) => {
                 self.put(alloc, left)?;
-                self.put(alloc, right)?;
-                self.push(Node::Same)
+                self.put_with(alloc, right, Node::Same)
             }
             Formula::ForAll(variable, sort, inner) => {
                 let count = self.put_instances(alloc, *variable, *sort, inner)?;

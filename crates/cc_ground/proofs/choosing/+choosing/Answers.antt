@@ -1,10 +1,12 @@
-use Rattle.std.proofs.Common.{◌≡◌, ◌∙◌, ◌+◌, ℕ, IfOk, min, subst, sym}
+use Rattle.std.proofs.Common.{◌≡◌, ◌∙◌, ◌+◌, ℕ, List, IfOk, min, get_or, ap, arith, subst, sym}
 use Rattle.cc_defs.specs.Judged.{choices_of}
 use Rattle.cc_defs.specs.Resolved.{Formula, plain_formula}
+use Rattle.cc_defs.specs.Satisfaction.{bind}
 use Rattle.cc_defs.specs.Universe.{objects_of}
-use Rattle.cc_ground.specs.Bindings.{environment_of}
+use Rattle.cc_ground.specs.Bindings.{BindingsView, environment_of}
+use Rattle.cc_ground.specs.Choices.{bracket_choices}
 use Rattle.cc_ground.specs.Views.{universe_of}
-use Rattle.cc_ground.proofs.Counted.{bracket_is, counts_none, no_instances}
+use Rattle.cc_ground.proofs.Counted.{bracket_done, bracket_is, bracket_more, counts_none, no_instances}
 use Rattle.cc_ground.proofs.Meant.{all_is, some_is}
 use Rattle.cc_ground.proofs.choosing.+choosing.Goals as goal
 
@@ -33,3 +35,22 @@ with_instances-returns-then-not-has_lists-clause-count t c =
     let u = universe_of c.args.table.now c.args.sig.now in
     counts_none c.args.count _ c.requires
     (no_instances u (environment_of c.args.env.now) c.args.variable (plain_formula c.args.formula.now) (objects_of u c.args.sort) (sym c.has_lists.ensures ∙ c.if-not-has_lists.true))
+
+pub with_instances-loop-object-preserved : goal.with_instances-loop-object-preserved
+with_instances-loop-object-preserved t c =
+    let objects = c.objects_of-object-items.result.now in
+    let i = c.loop-object.object-index in
+    record {
+      few = omega (arith, c.in_ok-total.ensures.count);
+      env = c.unbind.ensures _ _ c.loop-object.env (c.in_ok-total.ensures.env ∙ c.in_ok-bind.ensures.bound) ∙ c.loop-object.invariant.env;
+      rest = bracket_more (universe_of c.args.table.now c.args.sig.now) (environment_of c.args.env.now) (environment_of c.bind.new.self) c.args.variable (plain_formula c.args.formula.now) objects i c.args.count c.loop-object.total c.in_ok-total.total
+          c.loop-object-test.true (c.in_ok-bind.ensures.binds ∙ ap (λ (w : BindingsView). bind c.args.variable (get_or objects i 0) (environment_of w)) c.loop-object.invariant.env) c.in_ok-total.ensures.count c.loop-object.invariant.rest;
+    }
+
+pub with_instances-returns-clause-count : goal.with_instances-returns-clause-count
+with_instances-returns-clause-count t c =
+    let u = universe_of c.args.table.now c.args.sig.now in
+    let env = environment_of c.args.env.now in
+    let formula = plain_formula c.args.formula.now in
+    bracket_done u env c.args.variable formula c.objects_of-object-items.result.now c.loop-object.object-index c.args.count c.loop-object.total c.loop-object.invariant.few c.loop-object-test.false c.loop-object.invariant.rest
+    ∙ ap (λ (l : List ℕ). min (c.args.count + bracket_choices u env c.args.variable formula l) 16000001) c.objects_of-object-items.ensures

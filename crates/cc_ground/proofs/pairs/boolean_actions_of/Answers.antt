@@ -4,6 +4,7 @@ use Rattle.cc_defs.specs.Universe.{boolean_actions}
 use Rattle.cc_ground.specs.Views.{universe_of}
 use Rattle.cc_ground.proofs.Actions.{actions_step}
 use Rattle.cc_ground.proofs.pairs.boolean_actions_of.Goals as goal
+use Rattle.cc_ground.proofs.Putting.{err_if}
 use Rattle.cc_ground.proofs.pairs.boolean_actions_of.Goals.{then-is_boolean_action+in_ok-push, else-is_boolean_action}
 
 pub loop-number-preserved : goal.loop-number-preserved
@@ -19,3 +20,6 @@ loop-number-preserved c =
     ] in
     actions_step u number c.constant.result.now front new (boolean_actions u) c.is_boolean_action.result c.constant.ensures
     (c.is_boolean_action.ensures c.args.sig.now) made c.loop-number.invariant
+
+pub returns-in_err-push : goal.returns-in_err-push
+returns-in_err-push c = err_if _ c.from_residual-in_err-push.result c.from_residual-in_err-push.ensures.0

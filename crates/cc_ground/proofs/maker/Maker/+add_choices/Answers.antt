@@ -4,7 +4,8 @@ use Rattle.cc_ground.specs.Counting.{nodes_in}
 use Rattle.cc_defs.specs.GroundLaws.{PlainGroundLaw}
 use Rattle.cc_ground.specs.Views.{LacksRoom, universe_in}
 use Rattle.cc_ground.proofs.Ranging.{behind_range, choice_lacks, choice_more, choices_end, still_unbound}
-use Rattle.cc_ground.proofs.Putting.{lacks_so}
+use Rattle.cc_ground.specs.declared.maker.Halt.TheVariants as halts
+use Rattle.cc_ground.proofs.Putting.{err_on, lacks_so}
 use Rattle.cc_ground.proofs.maker.Maker.+add_choices.Goals as goal
 
 pub returns-in_err-add_choices-clause-full : goal.returns-in_err-add_choices-clause-full
@@ -32,3 +33,12 @@ pub add_choices-requires : goal.add_choices-requires
 add_choices-requires t c =
     let like = c.loop-index.invariant.like in
     (omega (arith, ap length c.in-Some.ensures.cases.0), still_unbound c.args.self.now c.loop-index.self _ c.give.new.self c.requires like c.in_ok-give.ensures)
+
+pub returns-in_err-give-clause-made : goal.returns-in_err-give-clause-made
+returns-in_err-give-clause-made t c = err_on _ c.from_residual.result c.from_residual.ensures.0
+
+pub returns-in_err-add_choices-clause-made : goal.returns-in_err-add_choices-clause-made
+returns-in_err-add_choices-clause-made t c = err_on _ c.from_residual-in_err-add_choices.result c.from_residual-in_err-add_choices.ensures.0
+
+pub returns-in_err-give-clause-full : goal.returns-in_err-give-clause-full
+returns-in_err-give-clause-full t c = lacks_so _ _ halts.OutOfMemory c.from_residual.result c.from_residual.ensures.1 tt

@@ -1,4 +1,4 @@
-use Rattle.cc_ground.proofs.Putting.{commons_begin, commons_more, commons_less, commons_so, commons_lack, lacks_so}
+use Rattle.cc_ground.proofs.Putting.{commons_begin, commons_done, commons_lack, commons_less, commons_more, commons_so, err_on, lacks_so}
 use Rattle.cc_ground.proofs.maker.Maker.put_commons.Goals.{in-Some+in_ok-narrow+in_ok-narrow-2+in_ok-put_both, in_default}
 use Rattle.cc_ground.proofs.maker.Maker.put_commons.Goals as goal
 
@@ -16,3 +16,9 @@ loop-index-preserved c = elim c.match-index_in.branch [
       commons_so w.count-is w.self-is (commons_more _ _ w.in-Some.place c.loop-index.invariant c.loop-index-test.true w.in-Some.ensures w.in_ok-narrow.ensures w.in_ok-narrow-2.ensures w.in_ok-put_both.ensures.put)
   | in_default w ↦ commons_so w.count-is w.self-is (commons_less c.loop-index.invariant c.loop-index-test.true w.in_default.ensures)
 ]
+
+pub returns-in_err-put_both-clause-put : goal.returns-in_err-put_both-clause-put
+returns-in_err-put_both-clause-put c = err_on _ c.from_residual-in_err-put_both.result c.from_residual-in_err-put_both.ensures.0
+
+pub returns-clause-put : goal.returns-clause-put
+returns-clause-put c = (commons_done c.loop-index.invariant c.loop-index-test.false).0

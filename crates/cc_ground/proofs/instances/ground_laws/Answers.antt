@@ -1,0 +1,25 @@
+use Rattle.std.proofs.Common.{◌∙◌, ◌++◌, List, ap, map, sym}
+use Rattle.cc_arena.specs.declared.ground_laws.GroundLaw.{GroundLaw}
+use Rattle.cc_arena.specs.GroundViews.{plain_ground_law, plain_ground_laws}
+use Rattle.cc_defs.specs.declared.law.BaseLaw.{BaseLaw}
+use Rattle.cc_defs.specs.GroundLaws.{ground_laws}
+use Rattle.cc_defs.specs.Resolved.{plain_base_law}
+use Rattle.cc_defs.specs.Signatures.{Signature}
+use Rattle.cc_defs.specs.Universe.{boolean_actions}
+use Rattle.cc_ground.specs.Views.{universe_in, universe_of}
+use Rattle.cc_sorts.specs.Tables.{TableView}
+use Rattle.cc_ground.proofs.instances.ground_laws.Goals as goal
+
+pub add_all-requires-clause-actions : goal.add_all-requires-clause-actions
+add_all-requires-clause-actions c =
+    let maker = c.new-maker in
+    c.deref-2.ensures.value ∙ c.in_ok-actions.ensures
+    ∙ ap boolean_actions (sym (ap (λ (t : TableView). universe_of t maker.result.sig.now) maker.ensures.table ∙ ap (λ (s : Signature). universe_of c.args.table.now s) maker.ensures.sig))
+
+pub returns-in-Ok-clause-made : goal.returns-in-Ok-clause-made
+returns-in-Ok-clause-made c =
+    let maker = c.new-maker in
+    let laws = map plain_base_law c.items-3.result.now in
+    ap plain_ground_laws c.of.ensures ∙ c.in-Ok.ensures.made.made ∙ ap (λ (l : List GroundLaw). map plain_ground_law l ++ ground_laws (universe_in maker.result) laws) c.new-made.ensures.items
+    ∙ ap (λ (t : TableView). ground_laws (universe_of t maker.result.sig.now) laws) maker.ensures.table ∙ ap (λ (s : Signature). ground_laws (universe_of c.args.table.now s) laws) maker.ensures.sig
+    ∙ ap (λ (l : List BaseLaw). ground_laws (universe_of c.args.table.now c.args.sig.now) (map plain_base_law l)) c.items-3.ensures
