@@ -1,5 +1,5 @@
 -- Whether a term whose names are resolved has an action in its arguments, by the list of them.
-use Rattle.std.proofs.Common.{◌≡◌, ℕ, Bool, false, ◌||◌, List, [], ◌∷◌, rules, refl, ap, ◌∙◌}
+use Rattle.std.proofs.Common.{◌≡◌, ℕ, Bool, true, false, ◌||◌, List, [], ◌∷◌, rules, refl, ap, ◌∙◌}
 use Rattle.std.specs.List.{list_any}
 use Rattle.std.proofs.lemmas.List.Folds.{list_any-append}
 use Rattle.cc_defs.specs.declared.signature.Symbol.{Symbol}
@@ -37,6 +37,9 @@ constant_names symbols symbol args =
 
 pub names_by_args : (symbols : List Symbol) (term : Term) (symbol : ℕ) (args : Vec Term) → term ≡ Constant symbol args → is_action_symbol symbols symbol ≡ false → names_action symbols term ≡ some_names_action symbols args.items
 names_by_args symbols term symbol args e h = ap (names_action symbols) e ∙ constant_names symbols symbol args ∙ ap (λ (b : Bool). b || some_names_action symbols args.items) h
+
+pub names_by_symbol : (symbols : List Symbol) (term : Term) (symbol : ℕ) (args : Vec Term) → term ≡ Constant symbol args → is_action_symbol symbols symbol ≡ true → names_action symbols term ≡ true
+names_by_symbol symbols term symbol args e h = ap (names_action symbols) e ∙ constant_names symbols symbol args ∙ ap (λ (b : Bool). b || some_names_action symbols args.items) h
 
 -- a sum names an action in one of its two parts
 pub names_in_plus : (symbols : List Symbol) (first second : resolved.Term) →

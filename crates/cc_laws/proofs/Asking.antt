@@ -1,11 +1,12 @@
 -- A query at a table, by the declarations that the table has.
-use Rattle.std.proofs.Common.{◌≡◌, ◌∙◌, ℕ, List, Option, sym, ap}
+use Rattle.std.proofs.Common.{◌≡◌, ◌∙◌, ℕ, ◌+◌, List, Option, flat_map, arith, sym, ap}
+use Rattle.std.specs.Prelude.{option_map}
 use Rattle.cc_defs.specs.Declarations.{Declaration}
 use Rattle.cc_defs.specs.Refusals.{least, refused_if}
-use Rattle.cc_defs.specs.Resolved.{Query}
+use Rattle.cc_defs.specs.Resolved.{Condition, Query}
 use Rattle.cc_defs.specs.Trees.{PlainQueryItem, PlainStatement}
 use Rattle.cc_sorts.specs.Tables.{TableView, IsTable}
-use Rattle.cc_laws.specs.Questions.{items_of, query_faults, query_refusal, query_of, query_asked}
+use Rattle.cc_laws.specs.Questions.{first, labels_in, ranges_in, claims_in, conditions_in, condition_asked, conditions_asked, brackets_asked, items_of, query_faults, query_refusal, query_of, query_asked}
 use Rattle.cc_laws.specs.Vocabulary.{Vocabulary, vocabulary, vocabulary_of}
 use Rattle.cc_laws.proofs.Vocabularies.{same_vocabulary}
 
@@ -24,3 +25,18 @@ answered file table left statement items query is p q =
     q
     ∙ ap (λ (l : List PlainQueryItem). query_of file (vocabulary_of table) statement.line l) p
     ∙ ap (λ (v : Vocabulary). query_of file v statement.line (items_of statement.part)) (same_vocabulary table left is)
+
+-- what is asked, from its parts; the brackets of the claim have their numbers behind those of the conditions
+abbrev query : ℕ → ℕ → Option (List ℕ) → Option (ℕ × ℕ) → List Condition → Option Condition → Query
+query file line label range conditions claim = record { label = label; range = range; conditions = conditions; claim = claim; file = file; line = line }
+
+pub put_together : (file line : ℕ) (v : Vocabulary) (items : List PlainQueryItem) (label : Option (List ℕ)) (range : Option (ℕ × ℕ)) (conditions : List Condition) (claim : Option Condition) (next : ℕ) →
+    label ≡ first (flat_map labels_in items) → range ≡ first (flat_map ranges_in items) → conditions ≡ conditions_asked v 0 (flat_map conditions_in items) →
+    next ≡ 0 + brackets_asked (flat_map conditions_in items) → claim ≡ option_map (condition_asked v next) (first (flat_map claims_in items)) →
+    query file line label range conditions claim ≡ query_of file v line items
+put_together file line v items label range conditions claim next e f g h i =
+    let behind : next ≡ brackets_asked (flat_map conditions_in items) = omega arith in
+    let claimed = i ∙ ap (λ (n : ℕ). option_map (condition_asked v n) (first (flat_map claims_in items))) behind in
+    ap (λ l. query file line l range conditions claim) e ∙ ap (λ r. query file line (first (flat_map labels_in items)) r conditions claim) f
+    ∙ ap (λ cs. query file line (first (flat_map labels_in items)) (first (flat_map ranges_in items)) cs claim) g
+    ∙ ap (λ c. query file line (first (flat_map labels_in items)) (first (flat_map ranges_in items)) (conditions_asked v 0 (flat_map conditions_in items)) c) claimed

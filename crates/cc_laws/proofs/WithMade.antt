@@ -1,5 +1,7 @@
 -- What is known of what was made, where it was put behind others.
-use Rattle.std.proofs.Common.{◌≡◌, ◌∙◌, List, [], ◌∷◌, ◌++◌, map, Result, Ok, Err, IfOk, IsOk, OnOk, ap}
+use Rattle.std.proofs.Common.{◌≡◌, ◌∙◌, List, [], ◌∷◌, ◌++◌, map, Option, Some, Result, Ok, Err, IfOk, IsOk, OnOk, ap, sym, subst}
+use Rattle.std.specs.Prelude.{IsErr, option_map}
+use Rattle.std.specs.Result.{MatchResult}
 use Rattle.std.proofs.lemmas.List.{map-append}
 use Rattle.std.specs.Global.{Vec}
 
@@ -19,3 +21,13 @@ put_behind plain made (Err error) old new z ok e q = tt
 pub only_so : {X E Z : Type 0} (plain : X → Z) (made : Result (Vec X) E) (x : X) → IfOk made (λ list. list.items ≡ x ∷ []) → IfOk made (λ list. map plain list.items ≡ plain x ∷ [])
 only_so plain (Ok list) x e = ap (map plain) e
 only_so plain (Err error) x e = tt
+
+no_value : {X E : Type 0} (P : X → Type 0) (result : Result X E) → IsErr result → IfOk result P
+no_value P (Ok x) wrong = absurd cc
+no_value P (Err error) wrong = tt
+
+-- as a part that is there, by what it stands for
+pub some_of : {X E Z : Type 0} (plain : X → Z) (made : Result X E) (result : Result (Option X) E) (z : Z) → MatchResult made (λ value. result ≡ Ok (Some value)) (λ error. IsErr result) →
+    IfOk made (λ x. plain x ≡ z) → IfOk result (λ part. option_map plain part ≡ Some z)
+some_of plain (Ok x) result z e q = subst (λ r. IfOk r (λ part. option_map plain part ≡ Some z)) (sym e) (ap Some q)
+some_of plain (Err error) result z e q = no_value (λ part. option_map plain part ≡ Some z) result e

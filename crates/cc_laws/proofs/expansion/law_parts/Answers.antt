@@ -1,6 +1,7 @@
 use Rattle.std.proofs.Common.{◌≡◌, ◌∙◌, ◌+◌, [], List, ℕ, Bool, Some, IfOk, OnOk, ap, subst, sym}
 use Rattle.std.specs.Prelude.{if◌then◌else◌}
 use Rattle.std.specs.Option.{option_map}
+use Rattle.cc_defs.specs.Resolved as resolved
 use Rattle.cc_defs.specs.Resolved.{plain_formula}
 use Rattle.cc_laws.specs.declared.names.Binding.{Binding}
 use Rattle.cc_laws.specs.Expansion.{part, part_brackets}
@@ -22,3 +23,10 @@ returns-clause-after c =
     ∙ ap (λ (n : ℕ). option_map (resolve v (scope_of old) n) law.after)
     (subst (λ r. OnOk r (new.next ≡ old.next + part_brackets law.body)) c.in_ok-body.ensures c.written_body.ensures.next)
     ∙ sym (ap (λ (b : Bool). if b then Some (part v (scope_of old) old.next law.body) else option_map (resolve v (scope_of old) (old.next + part_brackets law.body)) law.after) c.if-denied.false)
+
+pub returns-clause-body : goal.returns-clause-body
+returns-clause-body c =
+    let v = vocabulary_of c.args.table.now in
+    let body = part v (scope_of c.args.names.now) c.args.names.now.next (plain_caused c.args.law.now).body in
+    ap plain_formula c.into_inner-2.ensures ∙ subst (λ r. IfOk r (λ made. plain_formula made ≡ body)) c.in_ok-body.ensures c.written_body.ensures.made
+    ∙ sym (ap (λ (b : Bool). if b then resolved.Truth else body) c.if-denied.false)
