@@ -1,8 +1,9 @@
 -- The constants of a table's signature have names in the table, and are few.
-use Rattle.std.proofs.Common.{◌≡◌, ◌∙◌, ℕ, ◌+◌, ◌<◌, ◌≤◌, Bool, true, false, if◌then◌else◌, not, cond, filter, nat_lt, ◌==◌, position, slice_get, unwrap_or, List, [], ◌∷◌, ◌++◌, length, map, flat_map, Option, Some, None, inl, inr, refl, sym, ap, subst, arith, length-append}
+use Rattle.std.proofs.Common.{◌≡◌, ◌∙◌, ℕ, zero, suc, ◌+◌, ◌<◌, ◌≤◌, Bool, true, false, if◌then◌else◌, not, cond, filter, nat_lt, ◌==◌, position, slice_get, unwrap_or, List, [], ◌∷◌, ◌++◌, length, map, flat_map, Option, Some, None, inl, inr, refl, sym, ap, subst, arith, length-append}
 use Rattle.std.proofs.lemmas.Bool.{lt-ltb, cases_lt}
 use Rattle.std.proofs.lemmas.List.{length-map}
 use Rattle.std.proofs.lemmas.List.Quantifiers.{position-Some}
+use Rattle.std.proofs.lemmas.Option.{same_Some}
 use Rattle.std.specs.List.{AllByRecursion, find}
 use Rattle.cc_defs.specs.declared.refusal.Refusal.{Refusal}
 use Rattle.cc_defs.specs.declared.signature.Const.{Const}
@@ -10,7 +11,7 @@ use Rattle.cc_defs.specs.declared.signature.Kind.{Kind}
 use Rattle.cc_defs.specs.DeclarationFaults.{count_refusal, declared_ground, empty_or, is_empty, passes_domain_values}
 use Rattle.cc_defs.specs.Declarations.{Declaration, Declared, domain_of, ground_actions, ground_fluents, ground_from, ground_of, instances, is_action, kind_of_constant, members, Put, puts, first_puts, firsts, object_at, object_of, placed, objects, constants}
 use Rattle.cc_defs.specs.Grammar.{same_text}
-use Rattle.cc_defs.specs.Signatures.{Signature}
+use Rattle.cc_defs.specs.Signatures.{Signature, ground_constants}
 use Rattle.cc_defs.specs.Trees.{PlainKind}
 use Rattle.cc_defs.specs.Trees as trees
 use Rattle.cc_sorts.specs.Tables.{IsSignatureFor, IsTable, TableView}
@@ -19,6 +20,15 @@ use Rattle.cc_print.specs.Histories.{AreNamed, IsNamed, IsNamedValue}
 all_append : {X : Type 0} (P : X → Type 0) (xs ys : List X) → AllByRecursion P xs → AllByRecursion P ys → AllByRecursion P (xs ++ ys)
 all_append P [] ys a b = b
 all_append P (x ∷ xs) ys a b = (a.0, all_append P xs ys a.1 b)
+
+all_at : {X : Type 0} (P : X → Type 0) (xs : List X) (n : ℕ) (x : X) → AllByRecursion P xs → slice_get xs n ≡ Some x → P x
+all_at P [] zero x all e = absurd cc
+all_at P [] (suc n) x all e = absurd cc
+all_at P (y ∷ ys) zero x all e = subst P (same_Some y x e) all.0
+all_at P (y ∷ ys) (suc n) x all e = all_at P ys n x all.1 e
+
+pub named_there : (table : TableView) (s : Signature) → AreNamed table s → (n : ℕ) (c : Const) → Some c ≡ slice_get (ground_constants s) n → IsNamed table c
+named_there table s named n c e = all_at (IsNamed table) (ground_constants s) n c (all_append (IsNamed table) s.fluents s.actions named.fluents named.actions) (sym e)
 
 all_kept : (P : ℕ → Type 0) (test : ℕ → Bool) (xs : List ℕ) → AllByRecursion P xs → AllByRecursion P (filter test xs)
 all_kept P test [] all = tt

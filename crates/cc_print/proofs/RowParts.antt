@@ -1,8 +1,8 @@
 -- The constants of a signature between two numbers, and the parts of a row that belong to them.
-use Rattle.std.proofs.Common.{◌≡◌, ◌∙◌, ℕ, zero, suc, ◌+◌, ◌-◌, ◌*◌, ◌<◌, ◌≤◌, List, [], ◌∷◌, ◌++◌, length, take, drop, get_or, slice_get, slice_index, Some, inl, inr, refl, sym, ap, subst, arith, append_assoc, append-nil, add-one, drop-cons}
+use Rattle.std.proofs.Common.{◌≡◌, ◌∙◌, ℕ, zero, suc, ◌+◌, ◌-◌, ◌*◌, ◌<◌, ◌≤◌, List, [], ◌∷◌, ◌++◌, length, take, drop, get_or, slice_get, slice_index, Some, inl, inr, refl, sym, ap, subst, arith, append_assoc, append-nil, add-one, drop-cons, length-drop}
 use Rattle.std.proofs.Math.Seq.{take-length}
 use Rattle.std.proofs.lemmas.Bool.{cases_lt}
-use Rattle.std.proofs.lemmas.List.{drop_all, drop_at, take_at}
+use Rattle.std.proofs.lemmas.List.{drop_all, drop_at, length-take, take_at}
 use Rattle.std.proofs.lemmas.Option.{get_or_from_slice_get}
 use Rattle.std.specs.List.{AllByRecursion}
 use Rattle.cc_defs.specs.declared.signature.Const.{Const}
@@ -89,6 +89,15 @@ pub first_given : (table : TableView) (s : Signature) (row : List ℕ) (from to 
     Some c ≡ slice_get (ground_constants s) from → AreGiven table row (constants_between s from to) (place + from) → AreGiven table row (c ∷ constants_between s (from + 1) to) (place + from)
 first_given table s row from to place c below within found given =
     subst (λ constants. AreGiven table row constants (place + from)) (next_between s from to c below within found) given
+
+given_within : (table : TableView) (row : List ℕ) (constants : List Const) (place : ℕ) → 0 < length constants → AreGiven table row constants place → place < length row
+given_within table row [] place some given = absurd (omega (arith, some))
+given_within table row (c ∷ constants) place some given = given.1
+
+pub place_within : (table : TableView) (s : Signature) (row : List ℕ) (from to place : ℕ) → from < to → to ≤ length (ground_constants s) →
+    AreGiven table row (constants_between s from to) (place + from) → place + from < length row
+place_within table s row from to place below within given =
+    given_within table row (constants_between s from to) (place + from) (simp (length-take, length-drop) (omega arith)) given
 
 pub others_given : (table : TableView) (s : Signature) (row : List ℕ) (from to place : ℕ) (c : Const) →
     AreGiven table row (c ∷ constants_between s (from + 1) to) (place + from) → AreGiven table row (constants_between s (from + 1) to) (place + (from + 1))

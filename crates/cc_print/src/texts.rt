@@ -63,13 +63,9 @@ fn history_line(alloc: Global, horizon: u32, number: u32) -> Result<Text, OutOfM
     ensures { IfOk result (λ text.
         text ≡ events.of_horizon horizon (codes "history " ++ decimal number)) }
 {
-    let mut text = String::with_capacity(alloc, 40)?;
-    text.push_str("horizon ")?;
-    push_number(&mut text, horizon)?;
-    text.push_str(": history ")?;
-    push_number(&mut text, number)?;
-    text.push('\n')?;
-    Ok(Text::of(text))
+    let mut said = String::from_str(alloc, "history ")?;
+    push_number(&mut said, number)?;
+    horizon_line(alloc, horizon, &said)
 }
 
 /// A line that says how many histories were listed at a horizon.

@@ -1,7 +1,22 @@
-use Rattle.std.proofs.Common.{◌+◌, slice_index, string_bytes}
+use Rattle.std.proofs.Common.{arith, ◌+◌, slice_index, string_bytes}
 use Rattle.cc_print.specs.Histories.{named_by}
-use Rattle.cc_print.proofs.RowParts.{first_given, one_shown, others_given}
+use Rattle.cc_print.proofs.RowParts.{first_given, one_shown, others_given, place_within}
 use Rattle.cc_print.proofs.histories.push_constants.Goals as goal
+
+pub constant-requires : goal.constant-requires
+constant-requires c = omega (arith, c.requires.within)
+
+pub overflow_add-index : goal.overflow_add-index
+overflow_add-index c =
+    omega (arith, place_within c.args.table.now c.args.sig.now c.args.row.now c.loop-number.number c.args.numbers.1 c.args.place c.loop-number-test.true c.requires.within c.loop-number.invariant.given)
+
+pub offset_bounds-row-place : goal.offset_bounds-row-place
+offset_bounds-row-place c =
+    omega (arith, place_within c.args.table.now c.args.sig.now c.args.row.now c.loop-number.number c.args.numbers.1 c.args.place c.loop-number-test.true c.requires.within c.loop-number.invariant.given)
+
+pub bounds-row-place : goal.bounds-row-place
+bounds-row-place c =
+    place_within c.args.table.now c.args.sig.now c.args.row.now c.loop-number.number c.args.numbers.1 c.args.place c.loop-number-test.true c.requires.within c.loop-number.invariant.given
 
 pub push_shown-requires-clause-named : goal.push_shown-requires-clause-named
 push_shown-requires-clause-named c =
