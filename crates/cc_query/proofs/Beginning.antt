@@ -1,7 +1,8 @@
 -- Where a session stands before its first event.
-use Rattle.std.proofs.Common.{◌≡◌, ◌∙◌, ◌≤◌, ◌⊎◌, inl, inr, false, [], Option, Some, None, refl, sym, subst, ap, arith}
-use Rattle.std.specs.Prelude.{IsSome, IsNone}
+use Rattle.std.proofs.Common.{◌≡◌, ◌≢◌, ◌∙◌, ◌≤◌, ◌⊎◌, inl, inr, false, [], Option, Some, None, refl, sym, subst, ap, arith}
+use Rattle.std.specs.Prelude.{IsSome, IsNone, is_some}
 use Rattle.std.specs.Option.{option_map}
+use Rattle.std.proofs.lemmas.Bool.{false≢true}
 use Rattle.cc_arena.specs.declared.ground_laws.GroundCondition.{GroundCondition}
 use Rattle.cc_arena.specs.GroundViews.{plain_ground_condition}
 use Rattle.cc_defs.specs.declared.lists.Key.{Key}
@@ -21,9 +22,12 @@ first_of_claim : (d : Description) (claim : Option Condition) (ground : Option G
     (IsNone ground → part ≡ parts.Histories) → (IsSome ground → part ≡ parts.Conditions) →
     (IsNone claim × (part ≡ parts.Histories)) ⊎ (IsSome claim × (part ≡ parts.Conditions))
 first_of_claim d None None part same histories conditions = inl (refl, histories refl)
-first_of_claim d None (Some ground) part same histories conditions = absurd cc
-first_of_claim d (Some claim) None part same histories conditions = absurd cc
+first_of_claim d None (Some ground) part same histories conditions = absurd (false≢true (sym (ap is_some same)))
+first_of_claim d (Some claim) None part same histories conditions = absurd (false≢true (ap is_some same))
 first_of_claim d (Some claim) (Some ground) part same histories conditions = inr (refl, conditions refl)
+
+pub opening_more : (part : Part) → phases.Opening part ≢ phases.Ended
+opening_more part over = absurd cc
 
 in_order : (query : PlainGroundQuery) (after : Option Key) → query.lo ≤ query.hi → first_at query after ≤ last_at query after
 in_order query None ordered = ordered

@@ -32,7 +32,7 @@ use Rattle.cc_query.specs.Accepted.{AreGoodAxioms}
 use Rattle.cc_query.specs.Laws.{SearchLaws as Laws}
 use Rattle.cc_query.specs.Lefts.{left_at}
 use Rattle.cc_query.specs.Parts.{open_section, rows_in, section_of}
-use Rattle.cc_query.specs.Searches.{SearchView, Awaits, Gives, IsBehind, IsRefuted, IsRightFault, IsSearch, IsSearched, IsTold, Stands, TellsNext, TellsTooMany, found_behind, left_of, phase_of}
+use Rattle.cc_query.specs.Searches.{SearchView, Awaits, Gives, IsBehind, IsReady, IsRefuted, IsRightFault, IsSearch, IsSearched, IsTold, Stands, TellsNext, TellsTooMany, found_behind, left_of, phase_of}
 use Rattle.cc_query.specs.Sessions.{HasFound, Holds, IsBlocked, IsWithin}
 use Rattle.cc_query.proofs.Going.{earned_none_empty}
 use Rattle.cc_query.proofs.Holding.{clauses_held, counted_as_derived, counted_within, holds_block, holds_line}
@@ -538,6 +538,10 @@ pub as_taken : (now mid : SearchView) (taken given : Stage) → mid ≡ record n
 as_taken now mid taken given mid_is taken_is given_is =
     ap (λ (s : SearchView). record s { stage = given }) mid_is ∙ ap (λ (g : Stage). record now { stage = g }) (sym given_is ∙ taken_is)
 
+pub ready_taken : (now mid : SearchView) (taken given : Stage) → mid ≡ record now { stage = stages.Ended } → taken ≡ given → IsReady now.ask taken → IsReady mid.ask given
+ready_taken now mid taken given mid_is given_is ready =
+    subst (λ (s : SearchView). IsReady s.ask given) (sym mid_is) (subst (λ (g : Stage). IsReady now.ask g) given_is ready)
+
 -- what the solver answered, by the budget that is asked
 pub answer_at : (budget : ℕ) (v now : SearchView) (old new : SolverView) (given answer : Answer) → budget ≡ v.ask.budget → v ≡ now → given ≡ answer →
     IsStep budget old new given → IsStep now.ask.budget old new answer
@@ -546,6 +550,9 @@ answer_at budget v now old new given answer budget_is same answer_is step =
     (subst (λ (a : Answer). IsStep budget old new a) answer_is step)
 
 -- ---- a search that begins
+
+pub searching_more : (solver : SolverView) (listed : ℕ) → stages.Searching solver listed ≢ stages.Ended
+searching_more solver listed over = absurd cc
 
 some_asked : (count : Option ℕ) → IfSome count (λ most. 1 ≤ most) → IfSome count (λ most. 0 < most)
 some_asked None is = tt

@@ -200,6 +200,9 @@ module _ (laws : SearchLaws) (s : SessionView) (askable : IsAskable s.signature 
 
   -- ---- headings
 
+  none_opens : (part : Part) → None ≡ Some part → ⊥
+  none_opens part opens = absurd cc
+
   heading_after : (d : Description) (q : Query) → IsAskFor q s.ask → (given : List Told) (solver : SolverView) (phase : Phase) → s.phase ≡ phase → (part : Part) →
       opens_at phase ≡ Some part → After d q s given → s.horizon ≤ last_horizon q s.ask.after → Holds (axioms_at d q s.ask s.horizon part) [] solver →
       RowsAreHistories d q s.ask s.horizon part →
@@ -213,15 +216,15 @@ module _ (laws : SearchLaws) (s : SessionView) (askable : IsAskable s.signature 
       (sym same) (after_claim_heading laws d q s fits given solver listed phase_is after
       (subst (λ (p : Part). Holds (axioms_at d q s.ask s.horizon p) [] solver) same holds)
       (subst (λ (p : Part). RowsAreHistories d q s.ask s.horizon p) same rows))
-  heading_after d q fits given solver (phases.Closed parts.Conditions words.Empty listed) phase_is part opens after low holds rows = absurd cc
-  heading_after d q fits given solver (phases.Closed parts.Conditions words.Spent listed) phase_is part opens after low holds rows = absurd cc
-  heading_after d q fits given solver (phases.Closed parts.Histories word listed) phase_is part opens after low holds rows = absurd cc
-  heading_after d q fits given solver (phases.Closed parts.Claim word listed) phase_is part opens after low holds rows = absurd cc
-  heading_after d q fits given solver (phases.Searching other old listed) phase_is part opens after low holds rows = absurd cc
-  heading_after d q fits given solver (phases.Denying old listed) phase_is part opens after low holds rows = absurd cc
-  heading_after d q fits given solver (phases.Refuted other listed) phase_is part opens after low holds rows = absurd cc
-  heading_after d q fits given solver phases.Failing phase_is part opens after low holds rows = absurd cc
-  heading_after d q fits given solver phases.Ended phase_is part opens after low holds rows = absurd cc
+  heading_after d q fits given solver (phases.Closed parts.Conditions words.Empty listed) phase_is part opens after low holds rows = absurd (none_opens part opens)
+  heading_after d q fits given solver (phases.Closed parts.Conditions words.Spent listed) phase_is part opens after low holds rows = absurd (none_opens part opens)
+  heading_after d q fits given solver (phases.Closed parts.Histories word listed) phase_is part opens after low holds rows = absurd (none_opens part opens)
+  heading_after d q fits given solver (phases.Closed parts.Claim word listed) phase_is part opens after low holds rows = absurd (none_opens part opens)
+  heading_after d q fits given solver (phases.Searching other old listed) phase_is part opens after low holds rows = absurd (none_opens part opens)
+  heading_after d q fits given solver (phases.Denying old listed) phase_is part opens after low holds rows = absurd (none_opens part opens)
+  heading_after d q fits given solver (phases.Refuted other listed) phase_is part opens after low holds rows = absurd (none_opens part opens)
+  heading_after d q fits given solver phases.Failing phase_is part opens after low holds rows = absurd (none_opens part opens)
+  heading_after d q fits given solver phases.Ended phase_is part opens after low holds rows = absurd (none_opens part opens)
 
   pub gives_heading : (part : Part) (solver : SolverView) → derived_count solver.kernel.entries ≡ 0 → opens_at s.phase ≡ Some part → s.horizon ≤ last_at s.query s.ask.after →
       ((d : Description) (q : Query) → IsSessionOf s d q → Holds (axioms_at d q s.ask s.horizon part) [] solver × RowsAreHistories d q s.ask s.horizon part

@@ -10,7 +10,7 @@ use Rattle.cc_defs.specs.Description.{Description}
 use Rattle.cc_defs.specs.Resolved.{Query}
 use Rattle.cc_defs.specs.Runs.{Ask, Step, Section, Horizon, Histories, Conditions, Claim, Failure, EndsWith, IsExhausted, IsTrueOf, MayEndWithin, TellsHistories, denied_rows, horizon_events, optional, rows_of, section_events}
 use Rattle.cc_query.specs.Accepted.{lines_of}
-use Rattle.cc_query.proofs.LinesRead.{IsAlike, IsHeaded, asked_lines, claim_lines, failed_lines, sections_alike}
+use Rattle.cc_query.proofs.LinesRead.{IsAlike, IsHeaded, asked_lines, claim_lines, failed_lines, sections_alike, some_line}
 
 -- ---- sections
 
@@ -50,6 +50,9 @@ AreAlike one other = ⊥
 pub claims_apart : (claim : Bool) → claim ≡ false → claim ≡ true → ⊥
 claims_apart claim none some = absurd cc
 
+not_both : (word : Option EndWord) → word ≡ Some words.Empty → word ≡ Some words.Found → ⊥
+not_both word empty found = absurd cc
+
 -- a section on the conditions that is the last, or that ended with `empty`, is not one that a claim follows
 not_followed : (at : ℕ) (one other claim : Section) (more others : List LogLine) → EndsWith words.Found other → EndsWith words.Empty one ⊎ (more ≡ []) →
     IsHeaded more → lines_of (section_events true at one) ++ more ≡ claim_lines at other claim ++ others → ⊥
@@ -57,8 +60,8 @@ not_followed at one other claim more others found last headed same =
     let alike = sections_alike true at one other more (lines_of (section_events false at claim) ++ others) headed tt
     (same ∙ append_assoc (lines_of (section_events true at other)) (lines_of (section_events false at claim)) others) in
     elim last [
-      | inl empty ↦ let word : Some words.Empty ≡ Some words.Found = sym empty ∙ alike.0.1 ∙ found in absurd cc
-      | inr none ↦ let begun = sym none ∙ alike.1 in absurd cc
+      | inl empty ↦ not_both one.word empty (alike.0.1 ∙ found)
+      | inr none ↦ some_line _ _ (sym alike.1 ∙ none)
     ]
 
 claims_alike : (at : ℕ) (first one second other : Section) (more others : List LogLine) → IsHeaded more → IsHeaded others →

@@ -38,7 +38,7 @@ use Rattle.cc_query.specs.declared.phase.Phase.TheVariants as phases
 use Rattle.cc_query.specs.Laws.{SearchLaws}
 use Rattle.cc_query.specs.Parts.{is_conditions}
 use Rattle.cc_query.specs.Events.{Gives}
-use Rattle.cc_query.specs.Sessions.{SessionView, After, HasFound, IsAskable, IsBlocked, IsRightFault, IsSession, IsSessionOf, IsWithin, ending_behind, last_at, opening_refusal, opens_at, with_row}
+use Rattle.cc_query.specs.Sessions.{SessionView, After, HasFound, IsAskable, IsBlocked, IsReady, IsRightFault, IsSession, IsSessionOf, IsWithin, ending_behind, last_at, opening_refusal, opens_at, with_row}
 use Rattle.cc_query.proofs.Giving.{asks_for, gives_all_asked, gives_block, gives_budget, gives_complete, gives_counterexample, gives_empty, gives_empty_line, gives_failing, gives_found, gives_history, gives_holds, gives_last, gives_line, gives_no_conditions, gives_no_history, gives_refuted, gives_spent}
 use Rattle.cc_query.proofs.Going.{history_too_many}
 use Rattle.cc_query.proofs.Refusing.{handed_on}
@@ -100,6 +100,11 @@ pub opening_fault : {S T : Type 0} (r : Result S Fault) (out : Result T Fault) (
     r ≡ Err fault → IsErrAnd out (λ given. given ≡ fault) →
     ((d : Description) (q : Query) → IsSessionOf s d q → IfErr r (IsRefusedBy (opening_refusal d q s.ask s.horizon (is_conditions part)))) → IfErr out (IsRightFault s)
 opening_fault r out fault s part opens low was is refused = handed_on r out fault (IsRightFault s) was is (fault_of r s part opens low refused)
+
+-- it is within the range, where it is not past it
+pub low_at : (v now : SessionView) (last : ℕ) → v ≡ now → last ≡ last_at v.query v.ask.after → v.horizon ≤ last → now.horizon ≤ last_at now.query now.ask.after
+low_at v now last same last_is low =
+    subst (λ (s : SessionView). s.horizon ≤ last_at s.query s.ask.after) same (subst (λ (n : ℕ). v.horizon ≤ n) last_is low)
 
 pub begin_last : (laws : SearchLaws) (v now : SessionView) (part : Part) (last : ℕ) (ending : Ending) → v ≡ now → IsSession v → now.phase ≡ phases.Ended →
     last ≡ last_at v.query v.ask.after → last < v.horizon → ending ≡ ending_behind v.met part →
@@ -328,6 +333,12 @@ pub as_before : (now mid : SessionView) (taken phase : Phase) → mid ≡ record
 as_before now mid taken phase mid_is taken_is phase_is =
     ap (λ (s : SessionView). record s { phase = phase }) mid_is ∙ ap (λ (p : Phase). record now { phase = p }) (sym phase_is ∙ taken_is)
 
+pub ready_before : (now mid : SessionView) (taken phase : Phase) → mid ≡ record now { phase = phases.Ended } → taken ≡ phase →
+    IsReady now.ask now.horizon (last_at now.query now.ask.after) taken → IsReady mid.ask mid.horizon (last_at mid.query mid.ask.after) phase
+ready_before now mid taken phase mid_is phase_is ready =
+    subst (λ (s : SessionView). IsReady s.ask s.horizon (last_at s.query s.ask.after) phase) (sym mid_is)
+    (subst (λ (p : Phase). IsReady now.ask now.horizon (last_at now.query now.ask.after) p) phase_is ready)
+
 pub step_refuted : (laws : SearchLaws) (v now mid new : SessionView) (event : Event) (taken : Phase) (part : Part) (listed : ℕ) → v ≡ now → IsSession v →
     mid ≡ record now { phase = phases.Ended } → taken ≡ now.phase → taken ≡ phases.Refuted part listed →
     new ≡ record mid { phase = phases.Closed part words.Empty listed } → event ≡ events.Log (lines.End words.Empty) → Gives now new event
@@ -365,6 +376,14 @@ pub step_at : (budget : ℕ) (v now : SessionView) (old new : SolverView) (given
 step_at budget v now old new given answer budget_is same answer_is step =
     subst (λ (n : ℕ). IsStep n old new answer) (budget_is ∙ ap (λ (s : SessionView). s.ask.budget) same)
     (subst (λ (a : Step). IsStep budget old new a) answer_is step)
+
+pub each_ok : {X E : Type 0} {P Q : X → Type 0} (r : Result X E) → ((x : X) → P x → Q x) → IfOk r P → IfOk r Q
+each_ok (Ok x) more is = more x is
+each_ok (Err e) more is = tt
+
+pub each_on : {X E Q : Type 0} {P : X → Type 0} (r : Result X E) → ((x : X) → P x → Q) → IfOk r P → OnOk r Q
+each_on (Ok x) more is = more x is
+each_on (Err e) more is = tt
 
 pub next_event : (r : Result Event Fault) (old new : SessionView) (d : Description) (q : Query) (given : List Told) → IfOk r (Gives old new) → IsSessionOf old d q →
     After d q old given → IfOk r (λ event. After d q new (given ++ with_row event new.row ∷ []) × IsSessionOf new d q)

@@ -146,9 +146,12 @@ horizon_headed horizon (Conditions section) more = tt
 horizon_headed horizon (Claim conditions claim) more = tt
 horizon_headed horizon (Failure conditions claim row) more = tt
 
+pub some_line : (line : LogLine) (more : List LogLine) → line ∷ more ≡ [] → ⊥
+some_line line more none = absurd cc
+
 -- a horizon that was begun has lines
 pub horizon_told : (horizon : ℕ) (first : Horizon) (more : List LogLine) → lines_of (horizon_events horizon first) ++ more ≡ [] → ⊥
-horizon_told horizon (Histories section) more none = absurd cc
-horizon_told horizon (Conditions section) more none = absurd cc
-horizon_told horizon (Claim conditions claim) more none = absurd cc
-horizon_told horizon (Failure conditions claim row) more none = absurd cc
+horizon_told horizon (Histories section) more none = some_line _ _ none
+horizon_told horizon (Conditions section) more none = some_line _ _ none
+horizon_told horizon (Claim conditions claim) more none = some_line _ _ none
+horizon_told horizon (Failure conditions claim row) more none = some_line _ _ none

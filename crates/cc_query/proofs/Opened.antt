@@ -18,7 +18,7 @@ use Rattle.cc_query.specs.declared.phase.Part.{Part}
 use Rattle.cc_query.specs.declared.phase.Part.TheVariants as parts
 use Rattle.cc_query.specs.Accepted.{AreGoodAxioms}
 use Rattle.cc_query.specs.Parts.{axioms_at, is_conditions, query_of}
-use Rattle.cc_query.specs.Sessions.{Holds, IsWithin, RowsAreHistories, SessionView}
+use Rattle.cc_query.specs.Sessions.{Holds, IsWithin, RowsAreHistories, SessionView, opening_refusal, refusal_at}
 use Rattle.cc_query.proofs.Holding.{axioms_are}
 
 pub told_of : {X E : Type 0} (r : Result X E) (P : X → Type 0) (x : X) → IfOk r (λ form. form ≡ x) → IfOk r P → OnOk r (P x)
@@ -36,6 +36,15 @@ positions_there sizes others clauses arena kernel sizes_are entries arena_is cho
     subst (λ (l : List (List Literal)). Contains l clause)
     (sym (ap (λ (l : List Entry). map (λ entry. entry.clause) l) entries ∙ axioms_are arena ∙ arena_is))
     (choices clause (subst (λ (l : List ℕ). Contains (positions_from 1 l) clause) sizes_are within))
+
+-- what was made
+pub of_made : {E : Type 0} (r : Result SolverView E) (made : SolverView) (P : SolverView → Type 0) → IfOk r (λ solver. solver ≡ made) → P made → IfOk r P
+of_made (Ok solver) made P is holds = subst P (sym is) holds
+of_made (Err e) made P is holds = tt
+
+pub on_ok : {X E P : Type 0} (r : Result X E) → P → OnOk r P
+on_ok (Ok x) holds = holds
+on_ok (Err e) holds = tt
 
 -- ---- the section of a part
 
@@ -112,6 +121,13 @@ within_opened ask solver form good sizes variables low entries few =
       variables = subst (λ (n : ℕ). n ≤ 4000000) (sym variables) low;
       positions = subst (λ (n : ℕ). sum solver.sizes ≤ n) (sym variables) (subst (λ (l : List ℕ). sum l ≤ form.variables) (sym sizes) good.positions);
     }
+
+-- its rules and clauses are within their limits
+pub within_part : (d : Description) (q : Query) (s now : SessionView) (part : Part) (denies : Bool) (key : Option Key) → s ≡ now → denies ≡ not (is_conditions part) →
+    key ≡ s.ask.after → refusal_at d q s.horizon denies key ≡ None → opening_refusal d q now.ask now.horizon (is_conditions part) ≡ None
+within_part d q s now part denies key same denies_is key_is none =
+    subst (λ (v : SessionView). opening_refusal d q v.ask v.horizon (is_conditions part) ≡ None) same
+    (subst (λ (b : Bool). refusal_at d q s.horizon b s.ask.after ≡ None) denies_is (subst (λ (k : Option Key). refusal_at d q s.horizon denies k ≡ None) key_is none))
 
 -- its axioms are good
 pub good_opened : (d : Description) (q : Query) (s now : SessionView) (part : Part) (denies : Bool) (key : Option Key) (form : Axioms) →

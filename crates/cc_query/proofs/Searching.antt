@@ -1,6 +1,7 @@
 -- One search: what its lines show when it ends.
 use Rattle.std.proofs.Common.{◌≡◌, ◌≢◌, ◌∙◌, ℕ, zero, suc, List, [], ◌∷◌, ◌++◌, length, Some, None, refl, sym, subst, ap, arith, append-nil, Result, Ok, Err, IfErr, IsErrAnd}
 use Rattle.std.specs.Prelude.{flat_map}
+use Rattle.std.specs.List.{AllByRecursion}
 use Rattle.std.proofs.lemmas.Grind.{flat_map-append}
 use Rattle.std.proofs.lemmas.List.{map-append}
 use Rattle.cc_clauses.specs.RowsOf.{IsRowOf}
@@ -14,6 +15,7 @@ use Rattle.cc_defs.specs.Histories.{AreFirstOf}
 use Rattle.cc_defs.specs.LogTexts.{IsFormed}
 use Rattle.cc_defs.specs.Runs.{Derive, row_told, rows_of}
 use Rattle.cc_defs.specs.Sections.{Axioms}
+use Rattle.cc_query.specs.Accepted.{AreGoodAxioms}
 use Rattle.cc_query.specs.declared.stage.Find.{Find}
 use Rattle.cc_query.specs.declared.stage.Find.TheVariants as finds
 use Rattle.cc_query.specs.declared.least.Outcome.{Outcome}
@@ -27,6 +29,20 @@ use Rattle.cc_query.proofs.AcceptedLines.{all_append}
 pub record IsSearching (axioms : Axioms) (budget : ℕ) (search : SearchView) (lines : List LogLine) : Type 0 where
   pub more : HasMore search
   pub told : HasTold axioms budget search lines
+
+pub searching : (axioms : Axioms) (budget : ℕ) (search : SearchView) (lines : List LogLine) → lines ≡ [] → HasMore search →
+    Stands axioms (Some 1) budget search (open_section []) → AreGoodAxioms axioms → IsSearching axioms budget search lines
+searching axioms budget search lines none more stands good = record {
+  more = more;
+  told = record {
+    steps = [];
+    stands = stands;
+    silent = refl;
+    lines_are = none;
+    formed = subst (λ (l : List LogLine). AllByRecursion IsFormed l) (sym none) tt;
+    good = good;
+  };
+}
 
 some_one : (n : ℕ) → Some 1 ≡ Some n → n ≡ 0 → ⊥
 some_one zero one none = absurd cc

@@ -22,6 +22,9 @@ counted_one entries entry = sum_by-append (λ (e : Entry). cond (not (is_given e
 pub few_entries : (ask : Ask) (solver : SolverView) (denied : ℕ) → ask.budget ≤ 2000000 → IsWithin ask solver denied → length solver.kernel.entries < 4000000000
 few_entries ask solver denied budget within = let a = within.derived in let b = within.few in let c = within.denied_few in omega arith
 
+pub one_more : (listed most : ℕ) → listed ≤ 100000000 → most ≡ 100000000 → (listed ≡ most → ⊥) → listed + 1 ≤ 100000000
+one_more listed most low most_is other = omega arith
+
 positions_kept : (old new : SolverView) → new.sizes ≡ old.sizes → new.kernel.variables ≡ old.kernel.variables → sum old.sizes ≤ old.kernel.variables →
     sum new.sizes ≤ new.kernel.variables
 positions_kept old new sizes variables low =

@@ -1,5 +1,8 @@
-use Rattle.std.proofs.Common.{Some}
+use Rattle.std.proofs.Common.{Some, subst, sym}
+use Rattle.std.proofs.lemmas.Bool.{false≢true}
+use Rattle.cc_query.specs.declared.stage.Find.{Find}
 use Rattle.cc_query.specs.Parts.{open_section}
+use Rattle.cc_query.specs.Searches.{GoesOn}
 use Rattle.cc_query.proofs.Searching.{closes, errs_as, line_told, not_found, only_memory, outcome_is, row_told_first}
 use Rattle.cc_query.proofs.least.follow.Goals as goal
 
@@ -32,3 +35,12 @@ returns-in_ok-outcome-in-End-clause-tells c = λ axioms budget told.
     outcome_is axioms budget c.args.search.now c.next.new.self c.args.lines.now.items told c.in-End.word c.replace-all.result.items c.in_ok-outcome-in-End.outcome
     (closes axioms budget c.args.search.now c.next.new.self c.args.lines.now.items told c.in_ok-line.field-0 c.in-End.word comes c.in-End.is)
     (λ i. (c.replace-all.ensures.value i).items) c.in_ok-outcome-in-End.ensures.empty c.in_ok-outcome-in-End.ensures.spent
+
+pub returns-in_ok-push-in-Line-clause-next : goal.returns-in_ok-push-in-Line-clause-next
+returns-in_ok-push-in-Line-clause-next c = λ none. (subst (λ (f : Find). GoesOn c.next.new.self f) c.in-Line.is c.in_ok-line.ensures.goes, c.in_ok-line.ensures.less)
+
+pub returns-in_ok-outcome-in-End-clause-next : goal.returns-in_ok-outcome-in-End-clause-next
+returns-in_ok-outcome-in-End-clause-next c = λ none. absurd (false≢true (sym none))
+
+pub returns-in_ok-row-in-Row-clause-next : goal.returns-in_ok-row-in-Row-clause-next
+returns-in_ok-row-in-Row-clause-next c = λ none. absurd (false≢true (sym none))

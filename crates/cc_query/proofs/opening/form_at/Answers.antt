@@ -41,3 +41,9 @@ returns-clause-within c = λ d q laws stands.
     (subst (λ (n : ℕ). OnOk c.clauses.result (form_refusal (clause_list d q n c.args.with_claim (option_map (λ (key : Bor Key). key.now) c.args.after)) ≡ None))
     c.in_ok-theory.ensures.horizon
     (c.clauses.ensures.within d q (c.in_ok-theory.ensures.of d laws) stands))
+
+pub clauses-requires-clause-key : goal.clauses-requires-clause-key
+clauses-requires-clause-key c = rw (c.in_ok-theory.ensures.signature, c.in_ok-theory.ensures.horizon) c.requires.key
+
+pub clauses-requires-clause-query : goal.clauses-requires-clause-query
+clauses-requires-clause-query c = rw (c.in_ok-theory.ensures.signature, c.in_ok-theory.ensures.horizon) c.requires.query

@@ -1,5 +1,7 @@
 use Rattle.std.proofs.Common.{◌≡◌, ◌∙◌, Some, Option, subst, sym}
 use Rattle.std.specs.Prelude.{IfSome}
+use Rattle.cc_arena.specs.GroundViews.{plain_ground_query}
+use Rattle.cc_form.specs.Queries.{IsKeyAt, IsQueryAt}
 use Rattle.cc_form.specs.Steps.{TemplateView}
 use Rattle.cc_theory.specs.Theories.{AreLawsOf}
 use Rattle.cc_query.proofs.lists.Lists.form.Goals as goal
@@ -42,3 +44,19 @@ returns-in-None-clause-within c = λ d q laws stands.
 pub returns-in-None-clause-refused : goal.returns-in-None-clause-refused
 returns-in-None-clause-refused c = λ d q laws stands.
     c.form_at.ensures.refused d q (subst (λ (v : TemplateView). AreLawsOf v.signature v.laws d) (sym c.self.view_is) laws) stands
+
+pub clauses-requires-clause-query : goal.clauses-requires-clause-query
+clauses-requires-clause-query c =
+    let same = some_is c.self.inside.template c.in-Some.template _ c.in-Some.is c.self.invariant.1 ∙ c.self.view_is in
+    subst (λ (v : TemplateView). IsQueryAt v.signature c.args.horizon (plain_ground_query c.args.query.now)) (sym same) c.requires.query
+
+pub clauses-requires-clause-key : goal.clauses-requires-clause-key
+clauses-requires-clause-key c =
+    let same = some_is c.self.inside.template c.in-Some.template _ c.in-Some.is c.self.invariant.1 ∙ c.self.view_is in
+    subst (λ (v : TemplateView). IfSome c.args.after (λ key. IsKeyAt v.signature c.args.horizon key.now)) (sym same) c.requires.key
+
+pub form_at-requires-clause-query : goal.form_at-requires-clause-query
+form_at-requires-clause-query c = subst (λ (v : TemplateView). IsQueryAt v.signature c.args.horizon (plain_ground_query c.args.query.now)) (sym c.self.view_is) c.requires.query
+
+pub form_at-requires-clause-key : goal.form_at-requires-clause-key
+form_at-requires-clause-key c = subst (λ (v : TemplateView). IfSome c.args.after (λ key. IsKeyAt v.signature c.args.horizon key.now)) (sym c.self.view_is) c.requires.key

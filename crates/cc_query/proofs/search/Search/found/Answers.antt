@@ -14,3 +14,15 @@ returns-clause-fault c = λ before step.
     row_fault c.search_laws.ensures c.tell.result c.args.self.now before c.args.solver c.args.listed c.in_ok-row.row.items
     (budget_low _ c.args.self.now c.self.view_is c.self.invariant) step (c.row.ensures ∙ ap (λ (r : List ℕ). Found r) (sym c.in_ok-row.ensures.items))
     c.tell.ensures.fault c.tell.ensures.many
+
+pub tell-requires-clause-found : goal.tell-requires-clause-found
+tell-requires-clause-found c = c.requires.found
+
+pub tell-requires-clause-within : goal.tell-requires-clause-within
+tell-requires-clause-within c = c.requires.within
+
+pub tell-requires-clause-over : goal.tell-requires-clause-over
+tell-requires-clause-over c = c.requires.over
+
+pub returns-clause-over : goal.returns-clause-over
+returns-clause-over c = c.tell.ensures.over

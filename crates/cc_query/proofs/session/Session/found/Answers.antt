@@ -29,3 +29,15 @@ returns-else-is_listing-clause-gives c = λ before step.
     path_gives c.search_laws.ensures c.args.self.now c.path.new.self c.path.result before c.args.solver c.args.part c.args.listed c.in_ok-row.row.items
     (askable_of _ c.args.self.now c.self.view_is c.self.invariant) (c.is_listing.ensures.other c.if-is_listing.false) step
     (c.row.ensures ∙ ap (λ (r : List ℕ). Found r) (sym c.in_ok-row.ensures.items)) c.path.ensures.event c.path.ensures.stands
+
+pub history-requires-clause-low : goal.history-requires-clause-low
+history-requires-clause-low c = c.requires.low
+
+pub history-requires-clause-found : goal.history-requires-clause-found
+history-requires-clause-found c = c.requires.found
+
+pub history-requires-clause-within : goal.history-requires-clause-within
+history-requires-clause-within c = c.requires.within
+
+pub path-requires : goal.path-requires
+path-requires c = c.requires.low

@@ -1,6 +1,6 @@
 use Rattle.std.proofs.Common.{sym, subst}
 use Rattle.std.specs.Option.{option_map}
-use Rattle.cc_query.proofs.Opened.{fresh_opened, good_opened, holds_opened, rows_opened, within_opened}
+use Rattle.cc_query.proofs.Opened.{fresh_opened, good_opened, holds_opened, rows_opened, within_opened, within_part}
 use Rattle.cc_query.proofs.Reaching.{query_there}
 use Rattle.cc_query.proofs.Refusing.{opening_refused}
 use Rattle.cc_query.specs.Sessions.{SessionView, IsSessionOf}
@@ -41,3 +41,12 @@ returns-clause-good c = λ d q of.
 
 pub returns-clause-fresh : goal.returns-clause-fresh
 returns-clause-fresh c = fresh_opened c.in_ok-solver_of.field-0 c.in_ok-form.form c.in_ok-solver_of.ensures.entries
+
+pub returns-clause-within : goal.returns-clause-within
+returns-clause-within c = λ d q of.
+    let there = subst (λ (v : SessionView). IsSessionOf v d q) (sym c.self.view_is) of in
+    within_part d q _ c.args.self.now c.args.part c.denies_claim.result (option_map (λ key. key.now) c.key_of-key.result) c.self.view_is c.denies_claim.ensures
+    c.key_of-key.ensures (c.in_ok-form.ensures.within d q there.laws there.query)
+
+pub returns-clause-ready : goal.returns-clause-ready
+returns-clause-ready c = c.in_ok-solver_of.ensures.ready
