@@ -128,6 +128,14 @@ puts_alike old new result more other same puts = record {
   refused = λ sizes made is. subst (λ (a : Asserted). IfErr result (IsPast a.last)) (same sizes made) (puts.refused sizes made is);
 }
 
+-- nothing is put where nothing is to be put
+pub puts_nothing : (old : Writer) (more : List ℕ → Asserted → Asserted) → ((sizes : List ℕ) (made : Asserted) → more sizes made ≡ made) → Puts old old (Ok tt) more
+puts_nothing old more none = record {
+  places = refl;
+  draft = λ sizes made is. subst (IsDraft sizes old) (sym (none sizes made)) is;
+  refused = λ sizes made is. tt;
+}
+
 -- one call behind another
 pub puts_then : (old between new : Writer) (result : Result (Unit {0}) Fault) (first second : List ℕ → Asserted → Asserted) → Puts old between (Ok tt) first → Puts between new result second → Puts old new result (λ sizes made. second sizes (first sizes made))
 puts_then old between new result first second one other = record {

@@ -1,5 +1,5 @@
 -- Rows of the positions of a horizon, by their indexes.
-use Rattle.std.proofs.Common.{◌≡◌, ◌∙◌, ℕ, zero, suc, ◌+◌, ◌<◌, ◌≤◌, ◌%◌, ◌↔◌, List, [], ◌∷◌, length, drop, Some, refl, sym, subst, ap, arith}
+use Rattle.std.proofs.Common.{◌≡◌, ◌∙◌, ℕ, zero, suc, ◌+◌, ◌<◌, ◌≤◌, ◌%◌, ◌↔◌, IsTrue, false, List, [], ◌∷◌, length, drop, Some, refl, sym, subst, ap, arith}
 use Rattle.std.specs.Prelude.{slice_get, slice_index, option_map}
 use Rattle.std.proofs.lemmas.List.{drop_all}
 use Rattle.cc_defs.specs.declared.signature.Const.{Const}
@@ -15,6 +15,9 @@ use Rattle.cc_rivals.proofs.Placing.{row_long}
 -- what is left of a row is one of the sizes that are left exactly where all of it is one
 abbrev pub IsRowFrom : List ℕ → List ℕ → ℕ → Type 0
 IsRowFrom sizes row position = IsRow (drop position sizes) (drop position row) ↔ IsRow sizes row
+
+pub never : {A : Type 0} → (A → ⊥) → IsTrue false ↔ A
+never not_so = ((λ h. absurd cc), (λ a. absurd (not_so a)))
 
 at_first : (sizes row : List ℕ) (position size : ℕ) → slice_get sizes position ≡ Some size → position < length row →
     IsRow (drop position sizes) (drop position row) ↔ ((slice_index row position < size) × IsRow (drop (suc position) sizes) (drop (suc position) row))

@@ -28,6 +28,17 @@ use Rattle.cc_wide.specs.WideLaws.{WideDescription, frame}
 use Rattle.cc_wide.specs.WideLists.{WideTimed, all_initial_wide, holds_in, initial_wide, wide_timed}
 use Rattle.cc_wide.specs.WideRules.{IsCandidate, wide_sizes}
 
+pub not_both : {A : Type 0} (b : Bool) → b ≡ true → b ≡ false → A
+not_both true so is = absurd cc
+not_both false so is = absurd cc
+
+pub alone : {X : Type 0} (test : X → Bool) (x : X) (here : Bool) → here ≡ test x → here ≡ list_all test (x ∷ [])
+alone test x here is = is ∙ sym (with_true (test x))
+  where
+    with_true : (b : Bool) → (b && true) ≡ b
+    with_true true = refl
+    with_true false = refl
+
 -- ---- loops: the test of what is left is that of the whole
 
 module _ {X : Type 0} (test : X → Bool) (left whole : List X) (so_far : list_all test left ≡ list_all test whole) where

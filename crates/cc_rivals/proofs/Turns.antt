@@ -1,5 +1,5 @@
 -- What comes next in the loops over laws, steps, fluents and values.
-use Rattle.std.proofs.Common.{Bor, ◌≡◌, ◌∙◌, ℕ, zero, suc, ◌+◌, ◌%◌, ◌<◌, ◌≤◌, inl, inr, List, [], ◌∷◌, ◌++◌, length, map, flat_map, drop, get_or, slice_get, Some, None, refl, sym, ap, subst, arith, option_map}
+use Rattle.std.proofs.Common.{Bor, ◌≡◌, ◌∙◌, ℕ, zero, suc, ◌+◌, ◌%◌, ◌<◌, ◌≤◌, inl, inr, ◌⊎◌, List, [], ◌∷◌, ◌++◌, length, length-append, map, flat_map, drop, get_or, slice_get, Some, None, refl, sym, ap, subst, arith, option_map}
 use Rattle.std.specs.List.{AllByRecursion}
 use Rattle.std.proofs.lemmas.Bool.{cases_lt}
 use Rattle.std.proofs.lemmas.List.{drop_all, drop_more}
@@ -7,6 +7,8 @@ use Rattle.std.proofs.lemmas.Option.{slice_get-map}
 use Rattle.cc_defs.specs.declared.node.Node.{Node}
 use Rattle.cc_defs.specs.declared.node.Node.TheVariants as nodes
 use Rattle.cc_defs.specs.declared.signature.Const.{Const}
+use Rattle.cc_defs.specs.declared.signature.Kind.{Kind}
+use Rattle.cc_defs.specs.declared.signature.Kind.TheVariants as kinds
 use Rattle.cc_defs.specs.declared.signature.LawKind.TheVariants as law_kinds
 use Rattle.cc_defs.specs.Description.{domain_sizes}
 use Rattle.cc_defs.specs.Rules.{upto}
@@ -54,6 +56,12 @@ upto_done n i most = drop_all i (upto n) (let long = length_upto n in omega arit
 
 -- ---- turns
 
+pub fluent_within : (fluents actions : List Const) (number count : ℕ) → number < count → count ≡ length fluents → number < length (fluents ++ actions)
+fluent_within fluents actions number count less is = let long = length-append fluents actions in omega arith
+
+pub all_split : {X : Type 0} (P : X → Type 0) (xs : List X) (i : ℕ) (d : X) → i < length xs → AllByRecursion P (drop i xs) → P (get_or xs i d) × AllByRecursion P (drop (i + 1) xs)
+all_split P xs i d less all = subst (AllByRecursion P) (drop_more xs i d less) all
+
 pub law_turn : (by : ℕ) (laws : List WideGroundLaw) (horizon step i : ℕ) → i < length laws →
     rules_at_step by (drop i laws) horizon step ≡ rules_in (placed_at by horizon step (get_or laws i no_law)) ++ rules_at_step by (drop (i + 1) laws) horizon step
 law_turn by laws horizon step i less = ap (λ (l : List WideGroundLaw). rules_at_step by l horizon step) (drop_more laws i no_law less)
@@ -99,3 +107,9 @@ atom_over sizes number value nodes_there is size = record {
   within = omega arith;
   low = omega arith;
 }
+
+pub none_initial : (kind : Kind) (number size : ℕ) → ((kind ≡ kinds.Determined) ⊎ (kind ≡ kinds.Action)) → initial_wide kind number size ≡ []
+none_initial kinds.Simple number size (inl e) = absurd cc
+none_initial kinds.Simple number size (inr e) = absurd cc
+none_initial kinds.Determined number size e = refl
+none_initial kinds.Action number size e = refl

@@ -2,12 +2,16 @@ use Rattle.std.proofs.Common.{◌∙◌, ◌&&◌, ℕ, List, ap, subst, sym}
 use Rattle.cc_defs.specs.Rows.{IsRow}
 use Rattle.cc_rivals.specs.Making.{rules_for}
 use Rattle.cc_rivals.specs.Meets.{query_met, rules_met}
+use Rattle.cc_rivals.specs.Wides.{AreWideLawsFor}
 use Rattle.cc_rivals.proofs.Matching.{sizes_are}
-use Rattle.cc_rivals.proofs.Testing.{candidate_tested}
+use Rattle.cc_rivals.proofs.Testing.{candidate_tested, not_both}
 use Rattle.cc_rivals.proofs.candidate.is_candidate.Goals as goal
 use Rattle.cc_theory.specs.Making.{stride_of}
 use Rattle.cc_wide.specs.declared.ground.WideGroundLaw.{WideGroundLaw}
 use Rattle.cc_wide.specs.WideLaws.{frame}
+
+pub meets_all-requires-clause-laws : goal.meets_all-requires-clause-laws
+meets_all-requires-clause-laws c = subst (AreWideLawsFor c.args.sig.now) (sym c.laws.ensures) c.requires.laws
 
 pub returns-then-has_indexes-clause-candidate : goal.returns-then-has_indexes-clause-candidate
 returns-then-has_indexes-clause-candidate c = λ w q of stands.
@@ -23,6 +27,6 @@ returns-then-has_indexes-clause-candidate c = λ w q of stands.
 
 pub returns-else-has_indexes-clause-candidate : goal.returns-else-has_indexes-clause-candidate
 returns-else-has_indexes-clause-candidate c = λ w q of stands. (
-  (λ so. absurd cc),
+  (λ so. not_both c.has_indexes.result so c.if-has_indexes.false),
   (λ candidate. c.has_indexes.ensures.1 (subst (λ (sizes : List ℕ). IsRow sizes c.args.row.now) (sym (sizes_are c.args.sig.now (frame w) c.args.horizon of.signature_is)) candidate.interprets)),
 )

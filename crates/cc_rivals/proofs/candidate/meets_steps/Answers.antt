@@ -1,4 +1,4 @@
-use Rattle.std.proofs.Common.{◌+◌, arith, ap, drop, flat_map, rules}
+use Rattle.std.proofs.Common.{◌+◌, arith, ap, drop, flat_map}
 use Rattle.cc_defs.specs.Rules.{upto}
 use Rattle.cc_rivals.specs.Making.{rules_at_step}
 use Rattle.cc_rivals.specs.Meets.{rule_met}
@@ -15,7 +15,7 @@ returns-then-not-meets_step c =
     let n = c.args.horizon + 1 in
     let i = c.loop-step.step in
     fails (rule_met c.args.row.now) (flat_map f (drop i (upto n))) (flat_map f (upto n)) c.loop-step.invariant (f i) (flat_map f (drop (i + 1) (upto n))) (step_turn f n i c.loop-step-test.true) c.meets_step.result c.meets_step.ensures
-    (search rules)
+    c.if-not-meets_step.true
 
 pub loop-step-preserved : goal.loop-step-preserved
 loop-step-preserved c =
@@ -23,7 +23,7 @@ loop-step-preserved c =
     let n = c.args.horizon + 1 in
     let i = c.loop-step.step in
     passes (rule_met c.args.row.now) (flat_map f (drop i (upto n))) (flat_map f (upto n)) c.loop-step.invariant (f i) (flat_map f (drop (i + 1) (upto n))) (step_turn f n i c.loop-step-test.true) c.meets_step.result c.meets_step.ensures
-    (search rules)
+    c.if-not-meets_step.false
 
 pub returns : goal.returns
 returns c =

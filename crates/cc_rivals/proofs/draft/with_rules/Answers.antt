@@ -25,3 +25,8 @@ returns-in_err-put_rules_of-clause-refused c =
     let last = (put_rules row P (nothing_put P) R).last in
     err_past c.from_residual-in_err-put_rules_of.result c.in_err-put_rules_of.field-0.0 last last c.from_residual-in_err-put_rules_of.ensures.1 (let e : last ≤ last = omega arith in e)
     (c.in_err-put_rules_of.ensures.refused P (nothing_put P) (subst (λ (p : List ℕ). IsDraft p c.in_ok-draft.draft (nothing_put p)) c.in_ok-sizes.ensures c.in_ok-draft.ensures.draft))
+
+pub returns-clause-draft : goal.returns-clause-draft
+returns-clause-draft c =
+    let P = position_sizes c.args.sig.now c.args.horizon in
+    c.in_ok-put_rules_of.ensures.draft P (nothing_put P) (subst (λ (p : List ℕ). IsDraft p c.in_ok-draft.draft (nothing_put p)) c.in_ok-sizes.ensures c.in_ok-draft.ensures.draft)

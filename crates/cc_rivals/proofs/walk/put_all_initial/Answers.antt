@@ -1,8 +1,9 @@
-use Rattle.std.proofs.Common.{Bor, ◌<◌, ◌+◌, ◌∙◌, List, ℕ, ap, arith, drop, length, option_map, slice_get}
+use Rattle.std.proofs.Common.{Bor, ◌<◌, ◌+◌, ◌∙◌, ◌≤◌, List, ℕ, ap, arith, drop, length, option_map, slice_get, subst}
+use Rattle.std.proofs.lemmas.List.{drop_all}
 use Rattle.cc_rivals.specs.Putting.{put_rules}
-use Rattle.cc_rivals.proofs.Folding.{loop_fails, loop_turn, rules_fold}
+use Rattle.cc_rivals.proofs.Folding.{loop_ends, loop_fails, loop_turn, rules_fold}
 use Rattle.cc_rivals.proofs.Stances.{first_stands}
-use Rattle.cc_rivals.proofs.Turns.{fluent_sized, fluent_turn}
+use Rattle.cc_rivals.proofs.Turns.{fluent_sized, fluent_turn, fluent_within}
 use Rattle.cc_rivals.proofs.walk.put_all_initial.Goals as goal
 use Rattle.cc_wide.specs.WideLists.{all_initial_wide, initial_wide}
 
@@ -35,3 +36,14 @@ loop-number-preserved c =
     (all_initial_wide i (drop i sig.fluents)) (initial_wide c.constant.result.now.kind i c.domain_size-size.result) (all_initial_wide (i + 1) (drop (i + 1) sig.fluents)) (all_initial_wide 0 sig.fluents) c.loop-number.invariant
     (fluent_turn sig.fluents sig.actions i c.from.result c.domain_size-size.result c.constant.result.now less c.from.ensures c.constant.ensures c.domain_size-size.ensures)
     c.in_ok-put_initial.ensures
+
+pub constant-requires : goal.constant-requires
+constant-requires c = fluent_within c.args.sig.now.fluents c.args.sig.now.actions c.loop-number.number c.fluents-number-end.result c.loop-number-test.true c.fluents-number-end.ensures
+
+pub returns : goal.returns
+returns c =
+    let row = option_map (λ (r : Bor (List ℕ)). r.now) c.args.row in
+    let fluents = c.args.sig.now.fluents in
+    let i = c.loop-number.number in
+    loop_ends (put_rules row) (rules_fold row) c.args.draft.now c.loop-number.draft (all_initial_wide i (drop i fluents)) (all_initial_wide 0 fluents) c.loop-number.invariant
+    (ap (all_initial_wide i) (drop_all i fluents (subst (λ (n : ℕ). n ≤ i) c.fluents-number-end.ensures c.loop-number-test.false)))
