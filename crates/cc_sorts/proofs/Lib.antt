@@ -17,7 +17,9 @@ pub mod Growing
 pub mod Grown
 pub mod Lefts
 pub mod Listed
+pub mod Making
 pub mod Names
+pub mod Nexts
 pub mod Numbered
 pub mod Pairs
 pub mod Passes

@@ -2,7 +2,7 @@ use Rattle.std.proofs.Common.{◌∙◌, ◌<◌, ℕ, List, length, slice_index
 use Rattle.std.proofs.Math.ListN.{length-set}
 use Rattle.cc_sorts.specs.Lists.{lists_of, list_at}
 use Rattle.cc_sorts.specs.Numbers.{union}
-use Rattle.cc_sorts.proofs.Vectors.{done_here, room_stays, rises, ascend_after}
+use Rattle.cc_sorts.proofs.Vectors.{ascends_at, done_here, room_stays, rises, ascend_after}
 use Rattle.cc_sorts.proofs.lists.unite_each.Goals as goal
 
 pub widening-preserved : goal.widening-preserved
@@ -19,3 +19,9 @@ widening-preserved c = record {
       c.unite_at.ensures.united c.unite_at.ensures.kept c.unite_at.ensures.kept_to_move
       (c.widening.invariant.room k (omega arith) within);
 }
+
+pub unite_at-requires-clause-lists : goal.unite_at-requires-clause-lists
+unite_at-requires-clause-lists c = ascends_at (lists_of c.widening.lists.items) (slice_index_or c.args.numbers.now c.widening.number-index 0) c.widening.invariant.ascend
+
+pub unite_at-requires-clause-room : goal.unite_at-requires-clause-room
+unite_at-requires-clause-room c = c.widening.invariant.room c.widening.number-index (omega arith) c.widening-test.true

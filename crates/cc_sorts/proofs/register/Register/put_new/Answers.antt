@@ -12,3 +12,12 @@ invariant_of-self-in-Ok c =
     c.self.inside.objects.named c.push.new.self.named c.self.inside.variables c.self.inside.symbols put (c.args.name.now, c.args.sort) c.self.invariant
     (omega (arith, c.if-len-ge-MOST_ENTRIES.false, c.len.ensures, c.self.inside.puts.ok.0)) (omega (arith, c.if-len-ge-MOST_ENTRIES-2.false, c.len-else-len-ge-MOST_ENTRIES.ensures))
     c.len-2.ensures (ap (λ (w : ObjectsView). w.named) c.in_ok-push.ensures.added) c.in-Ok.ensures.added c.in-Ok.ensures.put c.in-Ok.ensures.lists
+
+pub add_put-requires-clause-past : goal.add_put-requires-clause-past
+add_put-requires-clause-past c = c.self.invariant.past
+
+pub add_put-requires-clause-as_many : goal.add_put-requires-clause-as_many
+add_put-requires-clause-as_many c = c.self.invariant.as_many
+
+pub add_put-requires-clause-shown : goal.add_put-requires-clause-shown
+add_put-requires-clause-shown c = c.self.invariant.shown

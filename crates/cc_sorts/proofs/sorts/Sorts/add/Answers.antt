@@ -4,6 +4,7 @@ use Rattle.cc_sorts.specs.Dictionaries.{number_of, names_of}
 use Rattle.cc_sorts.specs.Lists.{lists_of}
 use Rattle.cc_sorts.specs.SortViews.{SortsView, with_sort}
 use Rattle.cc_sorts.proofs.Growing.{kept_added, seen_added}
+use Rattle.cc_sorts.proofs.Walks.{on_err}
 use Rattle.cc_sorts.proofs.sorts.Sorts.add.Goals as goal
 
 pub invariant_of-self-in-Ok : goal.invariant_of-self-in-Ok
@@ -25,3 +26,12 @@ returns-in-Ok-clause-added c =
     (ap names_of c.in_ok-push.ensures.added ∙ map-append (λ entry. entry.0) c.self.inside.names _)
     c.in-Ok.ensures.members
     ∙ ap (λ (view : SortsView). with_sort view c.args.name.now) c.self.view_is
+
+pub push-requires : goal.push-requires
+push-requires c = ap (λ (view : SortsView). number_of view.names c.args.name.now) c.self.view_is ∙ c.requires.new
+
+pub invariant_of-self : goal.invariant_of-self
+invariant_of-self c = rw (c.in_err-push.ensures.unchanged) c.self.invariant
+
+pub returns-in_err-push-clause-unchanged : goal.returns-in_err-push-clause-unchanged
+returns-in_err-push-clause-unchanged c = rw (c.in_err-push.ensures.unchanged) (on_err _ _ c.self.view_is)

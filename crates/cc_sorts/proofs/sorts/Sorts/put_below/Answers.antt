@@ -8,7 +8,7 @@ use Rattle.cc_sorts.specs.SortViews.{SortsView, with_pair}
 use Rattle.cc_sorts.proofs.Reading.{within}
 use Rattle.cc_sorts.proofs.Uppers.{apart_numbers}
 use Rattle.cc_sorts.proofs.Vectors.{numbers_within, ascends_at}
-use Rattle.cc_sorts.proofs.Walks.{on_ok}
+use Rattle.cc_sorts.proofs.Walks.{on_err, on_ok}
 use Rattle.cc_sorts.proofs.Widening.{kept_pair, seen_pair, pushed}
 use Rattle.cc_sorts.proofs.sorts.Sorts.put_below.Goals as goal
 
@@ -62,3 +62,31 @@ returns-clause-added c = on_ok c.record_pair.result _ (
     (pushed c.self.inside.pairs.items c.make_room_for_pair.new.pairs.items c.record_pair.new.pairs.items (record { upper = c.args.upper; lower = c.args.lower }) c.record_pair.ensures.pairs c.make_room_for_pair.ensures.pairs)
     c.in_ok-put.ensures.members
     ∙ ap (λ (view : SortsView). with_pair view c.args.upper c.args.lower) c.self.view_is)
+
+pub put-requires-clause-above : goal.put-requires-clause-above
+put-requires-clause-above c = c.self.invariant.above_are.ascend
+
+pub put-requires-clause-below : goal.put-requires-clause-below
+put-requires-clause-below c = c.self.invariant.below_are.ascend
+
+pub put-requires-clause-members : goal.put-requires-clause-members
+put-requires-clause-members c = c.self.invariant.members_ascend
+
+pub invariant_of-self : goal.invariant_of-self
+invariant_of-self c = rw (c.make_room_for_pair.ensures.pairs, c.make_room_for_pair.ensures.known) c.self.invariant
+
+pub returns-in_err-make_room_for_pair-clause-unchanged : goal.returns-in_err-make_room_for_pair-clause-unchanged
+returns-in_err-make_room_for_pair-clause-unchanged c = rw (c.make_room_for_pair.ensures.pairs) (on_err _ _ c.self.view_is)
+
+pub invariant_of-self-in_err-put : goal.invariant_of-self-in_err-put
+invariant_of-self-in_err-put c =
+    rw (c.make_room_for_pair.ensures.pairs, c.make_room_for_pair.ensures.known, c.in_err-put.ensures.above, c.in_err-put.ensures.below, c.in_err-put.ensures.members) c.self.invariant
+
+pub returns-in_err-put-clause-unchanged : goal.returns-in_err-put-clause-unchanged
+returns-in_err-put-clause-unchanged c = rw (c.make_room_for_pair.ensures.pairs, c.in_err-put.ensures.members) (on_err _ _ c.self.view_is)
+
+pub record_pair-requires-clause-room : goal.record_pair-requires-clause-room
+record_pair-requires-clause-room c = c.in_ok-make_room_for_pair.ensures.room
+
+pub record_pair-requires-clause-room_to_know : goal.record_pair-requires-clause-room_to_know
+record_pair-requires-clause-room_to_know c = c.in_ok-make_room_for_pair.ensures.room_to_know
