@@ -1,8 +1,8 @@
 -- Which literals a clause of marks has, and that it ascends.
-use Rattle.std.proofs.Common.{◌≡◌, ◌≢◌, ◌∙◌, ℕ, ◌+◌, ◌*◌, ◌-◌, ◌<◌, ◌≤◌, zero, suc, inl, inr, Bool, true, false, List, [], ◌∷◌, ◌++◌, length, get_or, set, take, drop, replicate, refl, sym, subst, ap, arith, get_or-set_same, get_or-set_other, length-set}
+use Rattle.std.proofs.Common.{◌≡◌, ◌≢◌, ◌∙◌, ℕ, ◌+◌, ◌*◌, ◌-◌, ◌<◌, ◌≤◌, zero, suc, inl, inr, Bool, true, false, not, List, [], ◌∷◌, ◌++◌, length, get_or, set, take, drop, replicate, refl, sym, subst, ap, arith, get_or-set_same, get_or-set_other, length-set}
 use Rattle.std.specs.Prelude.{◌⊎◌, ◌↔◌, IsTrue, if◌then◌else◌, Contains, OnErr, Result, Ok, Err}
 use Rattle.std.proofs.lemmas.Bool.Decides.{eqb_tells, nat_tests}
-use Rattle.std.proofs.lemmas.Bool.{cases_lt}
+use Rattle.std.proofs.lemmas.Bool.{cases_lt, false≢true}
 use Rattle.std.proofs.lemmas.List.{drop_all, drop_more, get_or_past, set_past, take_all}
 use Rattle.cc_clauses.specs.Merging.{code}
 use Rattle.cc_clauses.proofs.Literals.{among, clause_cons, clause_low, contained, same_from_code, same_members}
@@ -289,6 +289,27 @@ pub covered_without : (marks unmarked : List Bool) (touched : List Literal) (var
 covered_without marks unmarked touched variable unmarked_is covered number is =
     let (apart, there) = erased (set marks (2 * variable) false) (2 * variable + 1) number (subst (λ (m : List Bool). is_marked m number ≡ true) unmarked_is is) in
     let (other, here) = erased marks (2 * variable) number there in covered number here
+
+-- one literal more of a clause is marked
+pub with_next : (variable : ℕ) (clause : List Literal) (index : ℕ) (item : Literal) (marks new whole : List Bool) → index < length clause → item ≡ get_or clause index item →
+    new ≡ marked_with variable item marks → with_marks variable (drop index clause) marks ≡ whole → with_marks variable (drop (index + 1) clause) new ≡ whole
+with_next variable clause index item marks new whole low item_is new_is so_far =
+    let rest = drop (index + 1) clause in
+    ap (with_marks variable rest) (new_is ∙ ap (λ (l : Literal). marked_with variable l marks) item_is)
+    ∙ sym (ap (λ (ls : List Literal). with_marks variable ls marks) (drop_more clause index item low)) ∙ so_far
+
+-- ---- a test, and behind it another one
+
+module _ (P Q : Type 0) (first : Bool) (h : IsTrue first ↔ P) where
+  pub both_then : (second : Bool) → first ≡ true → (IsTrue second ↔ Q) → IsTrue second ↔ (P × Q)
+  both_then second is k = ((λ e. (h.0 is, k.0 e)), (λ p. k.1 p.1))
+
+  pub both_else : first ≡ false → IsTrue first ↔ (P × Q)
+  both_else is = ((λ e. absurd (false≢true (sym is ∙ e))), (λ p. h.1 p.0))
+
+  pub alone_then : (second : Bool) → first ≡ true → (IsTrue second ↔ Q) → IsTrue (not second) ↔ (P × (Q → ⊥))
+  alone_then true is k = ((λ e. absurd (false≢true e)), (λ p. absurd (p.1 (k.0 refl))))
+  alone_then false is k = ((λ e. (h.0 is, (λ q. false≢true (k.1 q)))), (λ p. refl))
 
 -- ---- room
 
