@@ -68,3 +68,10 @@ module _ (n : ℕ) (tokens : List Terminal) (name : List ℕ) (next : List Termi
     pub args-read : (rest : List Terminal) → sign_at marks.Comma after ≡ None → sign_at marks.RightParen after ≡ Some rest
         → term_from n tokens ≡ Some (Applied name (sums_of (found ++ arg ∷ [])), rest)
     args-read rest e f = term_is _ (read (n - 1) tokens name next called _ rest (args_are _ (last (left - 1) found here arg after first rest e f)))
+
+-- no step is left for another argument
+pub args-spent : (n : ℕ) (tokens : List Terminal) (name : List ℕ) (next : List Terminal) → 0 < n → call_at tokens ≡ Some (name, next)
+    → (left : ℕ) (found : List PlainSum) (here : List Terminal) → left ≡ 0 → args_from (n - 1) [] next ≡ args_from left found here → term_from n tokens ≡ None
+unfolding args_from
+args-spent n tokens name next any called left found here spent so_far =
+    subst (λ (m : ℕ). term_from m tokens ≡ None) (one_more n any) (refused (n - 1) tokens name next called (so_far ∙ rw spent))

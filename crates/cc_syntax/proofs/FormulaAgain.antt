@@ -11,7 +11,7 @@ use Rattle.cc_syntax.specs.declared.operators.Operator.{Operator}
 use Rattle.cc_syntax.specs.declared.operators.Operator.TheVariants as operators
 use Rattle.cc_syntax.specs.Readers.{given, ◌>>=◌, sign_at}
 use Rattle.cc_syntax.specs.Operators.{comparison_at, operator_at, strength, left_strength, right_strength, joined}
-use Rattle.cc_syntax.specs.Formulas.{PlainFrame, Not, Paren, ForAll, Exists, Left, filled, ends_before, PlainTurn, Wants, Has, Ends, variable_at, frame_at, side_at, bare_at, atom_at, Held, begun, gone_on, run_from}
+use Rattle.cc_syntax.specs.Formulas.{PlainFrame, Not, Paren, ForAll, Exists, Left, filled, ends_before, PlainTurn, Wants, Has, Ends, variable_at, frame_at, atom_at, Held, begun, gone_on, run_from}
 use Rattle.cc_syntax.proofs.Comparisons.{comparison-here}
 use Rattle.cc_syntax.proofs.IsReader.{ends_sum}
 use Rattle.cc_syntax.proofs.Singles.{some-is, sign-literal, name-reader}

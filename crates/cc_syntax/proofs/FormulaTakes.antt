@@ -5,12 +5,12 @@ use Rattle.cc_defs.specs.declared.token.Mark.{Mark}
 use Rattle.cc_defs.specs.declared.token.Mark.TheVariants as marks
 use Rattle.cc_defs.specs.Trees.{PlainTerm, PlainPiece, Numeral, Called, PlainSum, Summed, NoAddends, MoreAddends, PlainTree, Comparison}
 use Rattle.cc_defs.specs.Trees as trees
-use Rattle.cc_defs.specs.Grammar.{Terminal, Sign, Spelling, sign, name, term, sum, piece, comparing, ◌▸◌, where_it, formula_of}
+use Rattle.cc_defs.specs.Grammar.{Terminal, Sign, Spelling, sign, name, term, sum, ◌▸◌, where_it, formula_of}
 use Rattle.cc_syntax.specs.declared.operators.Operator.{Operator}
 use Rattle.cc_syntax.specs.Readers.{◌>>=◌, name_at, sign_at, ◌◁◌}
 use Rattle.cc_syntax.specs.Terms.{sum_at}
 use Rattle.cc_syntax.specs.Operators.{comparison_at, operator_at, strength, left_strength, right_strength}
-use Rattle.cc_syntax.specs.Formulas.{PlainFrame, Not, Paren, ForAll, Exists, Left, filled, ends_before, closed, closing, Wants, Has, Ends, variable_at, quantifier_at, bracket_at, frame_at, named_of, alone_of, side_at, bare_at, atom_at, Held, begun, shut, pushed, gone_on, run_from}
+use Rattle.cc_syntax.specs.Formulas.{PlainFrame, Not, Paren, ForAll, Exists, Left, filled, ends_before, closed, closing, Wants, Has, Ends, variable_at, quantifier_at, bracket_at, frame_at, alone_of, side_at, bare_at, atom_at, Held, begun, shut, pushed, gone_on, run_from}
 use Rattle.cc_syntax.proofs.Singles.{bind_some, given_cases, some-is, sign-literal, name-reader}
 use Rattle.cc_syntax.proofs.Comparisons.{comparison-takes}
 use Rattle.cc_syntax.proofs.TermReader.{sum-reader}

@@ -3,10 +3,9 @@ use Rattle.std.proofs.Common.{◌≡◌, ◌⊎◌, ℕ, ◌<◌, Bool, true, fa
 use Rattle.std.specs.Prelude.{codes}
 use Rattle.std.specs.Cmp.Derive.{both_true}
 use Rattle.std.proofs.lemmas.Bool.{and_parts}
-use Rattle.cc_defs.specs.declared.token.Mark.TheVariants as marks
 use Rattle.cc_defs.specs.Trees.{PlainTerm, Applied, NoSums, MoreSums, PlainPiece, Numeral, Called, PlainSum, Summed, PlainTree, PlainLaw, Caused, Constraint, Always, Nonexecutable, Default, Exogenous, Inertial, Causes, MayCause, NoConcurrency, PlainPart, Law}
 use Rattle.cc_defs.specs.Trees as trees
-use Rattle.cc_defs.specs.Grammar.{Terminal, Word, Sign, Spelling, ◌▸◌, never, word, optional, is_name, is_value_word, term, sum, piece, formula_of, formula, law, tested_law}
+use Rattle.cc_defs.specs.Grammar.{Terminal, Word, Spelling, ◌▸◌, never, word, optional, is_name, is_value_word, term, sum, piece, formula_of, formula, law, tested_law}
 use Rattle.cc_syntax.specs.Readers.{Literal, word_at, optional_at}
 use Rattle.cc_syntax.specs.Formulas.{formula_at}
 use Rattle.cc_syntax.specs.Laws.{if_at, caused_at, effect_at, alone_at, of_term_at, worded_at, acting_at, opens_formula, law_at, tested_law_at}

@@ -1,13 +1,14 @@
 -- Lists of items with a mark between them: the steps of a loop that reads them.
-use Rattle.std.proofs.Common.{◌≡◌, ℕ, zero, suc, ◌-◌, ◌<◌, List, [], ◌∷◌, ◌++◌, drop, map, Some, None, Err, refl, ap, ◌∙◌, arith}
+use Rattle.std.proofs.Common.{◌≡◌, ℕ, zero, suc, ◌-◌, ◌<◌, List, [], ◌∷◌, ◌++◌, drop, map, Some, None, Result, Err, refl, ap, ◌∙◌, arith}
 use Rattle.std.proofs.lemmas.List.{map-append}
+use Rattle.std.specs.Result.{IsErrAnd}
 use Rattle.cc_defs.specs.declared.token.Mark.{Mark}
 use Rattle.cc_defs.specs.declared.token.Token.{Token}
 use Rattle.cc_defs.specs.Grammar.{Terminal}
 use Rattle.cc_syntax.specs.declared.stop.Stop.{Stop}
 use Rattle.cc_syntax.specs.Readers.{Reader, sign_at, listed_from, listed_at}
-use Rattle.cc_syntax.specs.Views.{seen, Passes}
-use Rattle.cc_syntax.proofs.Stops.{not-passed}
+use Rattle.cc_syntax.specs.Views.{seen, Reads, Passes}
+use Rattle.cc_syntax.proofs.Stops.{stopped, no-tree, not-passed}
 
 -- the list behind the place is what was found, and what is left to read of it: so many items at most
 pub record IsListedFrom {T X : Type 0} (view : T → X) (item : Reader X) (mark : Mark) (tokens : List Token) (at left : ℕ) (items : List T) (next : ℕ) : Type 0 where
@@ -25,6 +26,14 @@ unfolding listed_from
 listed-empty item mark n found tokens e = rw e
 
 pub ruleset listed_steps = (listed-none, listed-empty)
+
+-- where no item is read there is no list
+pub listed-stopped : {T X Y : Type 0} {view : T → X} {item : Reader X} {mark : Mark} {tokens : List Token} {at left next : ℕ} {items : List T}
+    (read : Y → List X) (result : Result (Y × ℕ) Stop) (stop : Stop) → IsListedFrom view item mark tokens at left items next →
+    IsErrAnd result (λ other. other ≡ stop) → Reads view tokens (Err stop) (item (drop next (seen tokens))) →
+    Reads read tokens result (listed_at item mark (drop at (seen tokens)))
+listed-stopped {T} {X} {Y} {view} {item} {mark} {tokens} {at} {left} {next} {items} read result stop so_far is no_item =
+    stopped read tokens result stop _ is (λ e. so_far.whole ∙ listed-none item mark left (map view items) _ (no-tree view tokens stop _ no_item e))
 
 listed-last : {X : Type 0} (item : Reader X) (mark : Mark) (n : ℕ) (found : List X) (tokens rest : List Terminal) (x : X) →
     0 < n → item tokens ≡ Some (x, rest) → sign_at mark rest ≡ None → listed_from item mark n found tokens ≡ Some (found ++ x ∷ [], rest)

@@ -14,6 +14,11 @@ stopped view tokens (Ok read) stop found is none = absurd is
 stopped view tokens (Err stops.NoTree) stop found is none = none (cc)
 stopped view tokens (Err stops.OutOfMemory) stop found is none = tt
 
+-- memory was wanting
+pub out-of-memory : {X Y : Type 0} (view : X → Y) (tokens : List Token) (result : Result (X × ℕ) Stop) (found : Option (Y × List Terminal))
+    → IsErrAnd result (λ other. other ≡ stops.OutOfMemory) → Reads view tokens result found
+out-of-memory view tokens result found is = stopped view tokens result stops.OutOfMemory found is (λ e. absurd cc)
+
 pub no-tree : {X Y : Type 0} (view : X → Y) (tokens : List Token) (stop : Stop) (found : Option (Y × List Terminal))
     → Reads view tokens (Err stop) found → stop ≡ stops.NoTree → found ≡ None
 no-tree view tokens stops.NoTree found reads e = reads

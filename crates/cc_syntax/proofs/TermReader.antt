@@ -3,8 +3,8 @@ use Rattle.std.proofs.Common.{◌≡◌, ℕ, zero, suc, ◌<◌, ◌≤◌, Boo
 use Rattle.std.proofs.lemmas.List.{append-nil}
 use Rattle.cc_defs.specs.declared.token.Mark.TheVariants as marks
 use Rattle.cc_defs.specs.Trees.{PlainTerm, Applied, PlainSums, NoSums, MoreSums, PlainSum, Summed, PlainPiece, Numeral, Called, PlainAddends, NoAddends, MoreAddends}
-use Rattle.cc_defs.specs.Grammar.{Terminal, Word, Number, Quoted, Sign, is_name, is_value_word, sign, name, numeral, additive, term, other_sums, sum, piece, other_pieces, ◌▸◌}
-use Rattle.cc_syntax.specs.Readers.{Reader, ◌>>=◌, name_at, numeral_at, sign_at}
+use Rattle.cc_defs.specs.Grammar.{Terminal, Word, Number, Quoted, Sign, is_name, is_value_word, sign, name, additive, term, other_sums, sum, piece, other_pieces, ◌▸◌}
+use Rattle.cc_syntax.specs.Readers.{Reader, name_at, numeral_at, sign_at}
 use Rattle.cc_syntax.specs.Terms.{sums_of, PlainAddend, addends_of, call_at, leaf_at, additive_at, piece_by, addends_from, addends_by, sum_by, term_from, args_from, term_at, sum_at}
 use Rattle.cc_syntax.proofs.IsReader.{IsReader, ends_term, ends_sum}
 use Rattle.cc_syntax.proofs.Singles.{bind_some, given_cases, if_some, some-is, sign-literal, name-reader, numeral-reader}

@@ -1,11 +1,14 @@
 //! Readers of formulas. What is open is held in a list, so that no sign, bracket or operator costs a nested call.
-ghost use Rattle.std.specs.Prelude.{◌≡◌, suc, List, ◌∷◌, length, drop, map, option_map, IfOk};
+ghost use Rattle.std.specs.Prelude.{◌≡◌, suc, List, ◌∷◌, length, drop, map, option_map, IfOk, Some, Ok, Err};
+ghost use Rattle.std.specs.Result.{MatchResult};
+ghost use Rattle.cc_defs.specs.declared.token.Token as token;
+ghost use Rattle.cc_syntax.specs.declared.formulas.Turn.TheVariants as turns;
 ghost use Rattle.cc_syntax.specs.declared.frames.Frame.{Frame};
 ghost use Rattle.cc_defs.specs.Tokens.{AreTokens};
 ghost use Rattle.cc_defs.specs.Trees.{Summed, plain_piece, plain_sum, plain_term, plain_tree};
 ghost use Rattle.cc_defs.specs.declared.token.Mark.TheVariants as marks;
 ghost use Rattle.cc_defs.specs.Trees as trees;
-ghost use Rattle.cc_syntax.specs.Formulas.{plain_frame, stack, closed, frame_at, has_more as HasMore, alone_of, side_at, bare_at, atom_at, begun, shut, gone_on, run_from, Wants, formula_at};
+ghost use Rattle.cc_syntax.specs.Formulas.{plain_frame, stack, filled, closed, frame_at, has_more as HasMore, alone_of, side_at, bare_at, atom_at, begun, shut, gone_on, run_from, Wants, formula_at};
 ghost use Rattle.cc_syntax.specs.Operators.{compared_as};
 ghost use Rattle.cc_syntax.specs.Readers.{name_at, sign_at, ◌◁◌};
 ghost use Rattle.cc_syntax.specs.Terms.{plain_addend, addends_of, sum_at};
@@ -15,7 +18,7 @@ ghost use Rattle.cc_text.specs.Views.{token_views};
 
 use crate::frames::{Frame, Frames, close};
 use crate::operators::{Comparing, next_comparison, next_operator};
-use crate::reading::{boxed_read, made, placed};
+use crate::reading::{boxed_read, made, made_boxed, placed};
 use crate::stop::Stop;
 use crate::terms::{Parts, parts, sum, sum_of};
 use crate::tokens::{name, sign, sign_behind};
@@ -94,7 +97,7 @@ fn bare<'s>(tokens: &[Token<'s>], parts: Parts<'s>, at: usize) -> Result<(Tree<'
         (addends_of (map plain_addend parts.entry.1.items))) (drop at (seen tokens.now))) }
 {
     match alone(parts) {
-        Some(term) => Ok((Tree::Bare(term), at)),
+        Some(term) => placed(Tree::Bare(term), at),
         None => Err(Stop::NoTree),
     }
 }
@@ -166,6 +169,25 @@ fn atom<'s>(alloc: Global, tokens: &[Token<'s>], at: usize) -> Result<(Tree<'s>,
     }
 }
 
+/// Opens a frame before the place, where its operand is wanted.
+fn opened<'s>(frames: &mut Frames<'s>, frame: Frame<'s>, next: usize) -> Result<Turn<'s>, Stop>
+    ensures { (all : List token.Token) → Turns all frames.new.items result
+        (Some (plain_frame frame.entry ∷ stack frames.old.items, Wants (drop next (seen all)))) }
+{
+    frames.push(frame)?;
+    Ok(Turn::Wants(next))
+}
+
+/// An operand that was read, up to the place.
+fn has<'s>(read: Result<(Box<Tree<'s>>, usize), Stop>) -> Result<Turn<'s>, Stop>
+    ensures { MatchResult read.entry (λ r. result ≡ Ok (turns.Has r.0 r.1)) (λ stop. result ≡ Err stop) }
+{
+    match read {
+        Ok((tree, next)) => Ok(Turn::Has(tree, next)),
+        Err(stop) => Err(stop),
+    }
+}
+
 /// An operand is wanted: opens a frame, or reads an atom.
 #[tactic(auto, unfolding(crate::specs::Formulas::begun))]
 fn begin<'s>(
@@ -179,16 +201,18 @@ fn begin<'s>(
         (begun (stack frames.old.items) (drop at (seen tokens.now))) }
 {
     match opening(tokens, at) {
-        Ok((frame, next)) => {
-            frames.push(frame)?;
-            Ok(Turn::Wants(next))
-        }
-        Err(Stop::NoTree) => {
-            let (tree, next) = boxed_read(alloc, atom(alloc, tokens, at))?;
-            Ok(Turn::Has(tree, next))
-        }
+        Ok((frame, next)) => opened(frames, frame, next),
+        Err(Stop::NoTree) => has(boxed_read(alloc, atom(alloc, tokens, at))),
         Err(Stop::OutOfMemory) => Err(Stop::OutOfMemory),
     }
+}
+
+/// A frame with its operand.
+fn whole<'s>(parts: (Frame<'s>, Box<Tree<'s>>)) -> Tree<'s>
+    ensures { plain_tree result ≡ filled (plain_frame parts.entry.0) (plain_tree parts.entry.1.value) }
+{
+    let (frame, tree) = parts;
+    frame.whole(tree)
 }
 
 /// The bracket that closes a frame, and the frame with its operand.
@@ -206,8 +230,8 @@ fn shut_frame<'s>(
     ) (drop at (seen tokens.now))) }
 {
     let mark = frame.closing();
-    let ((frame, tree), next) = sign_behind(tokens, at, mark, (frame, tree))?;
-    Ok(Turn::Has(frame.filled(alloc, tree)?, next))
+    let shut = sign_behind(tokens, at, mark, (frame, tree));
+    has(made_boxed(alloc, shut, whole))
 }
 
 /// No operator follows an operand: it is the formula, or its bracket closes the innermost frame.
@@ -242,8 +266,7 @@ fn go_on<'s>(
     match next_operator(tokens, at) {
         Some((operator, next)) => {
             let left = close(alloc, frames, tree, operator.left_strength())?;
-            frames.push(Frame::Left(operator, left))?;
-            Ok(Turn::Wants(next))
+            opened(frames, Frame::Left(operator, left), next)
         }
         None => {
             let whole = close(alloc, frames, tree, WHOLE)?;

@@ -30,7 +30,7 @@ pub(crate) type Frames<'s> = SmallVec<Frame<'s>, 8>;
 
 impl<'s> Frame<'s> {
     /// The frame with its operand.
-    fn whole(self, tree: Box<Tree<'s>>) -> Tree<'s>
+    pub(crate) fn whole(self, tree: Box<Tree<'s>>) -> Tree<'s>
         ensures { plain_tree result
             ≡ filled (plain_frame self.entry) (plain_tree tree.entry.value) }
     {

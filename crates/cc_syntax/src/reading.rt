@@ -12,7 +12,7 @@ pub(crate) fn made<T: Drop, U: Drop, F: FnOnce(T) -> U>(
     read: Result<(T, usize), Stop>,
     make: F,
 ) -> Result<(U, usize), Stop>
-    requires { F.IsAlwaysCallable make }
+    requires { (value : T) → F.pre make value }
     ensures { MatchResult read (λ r. IfOk result (λ w. F.post make r.0 w.0 × (w.1 ≡ r.1))
         × IsOk result) (λ stop. result ≡ Err stop) }
 {
@@ -42,7 +42,7 @@ pub(crate) fn made_boxed<T: Drop, U: Drop, F: FnOnce(T) -> U>(
     read: Result<(T, usize), Stop>,
     make: F,
 ) -> Result<(Box<U>, usize), Stop>
-    requires { F.IsAlwaysCallable make }
+    requires { (value : T) → F.pre make value }
     ensures { MatchResult read (λ r. MatchResult result
         (λ w. F.post make r.0 w.0.value × (w.1 ≡ r.1)) (λ stop. stop ≡ stops.OutOfMemory))
         (λ stop. result ≡ Err stop) }

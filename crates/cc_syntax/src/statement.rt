@@ -1,11 +1,11 @@
 //! A statement's tree.
-ghost use Rattle.std.specs.Prelude.{◌≡◌, ◌<◌, ℕ, List as Items, Some, None, Err, codes, drop, false, length, map, IfOk, IfErr};
+ghost use Rattle.std.specs.Prelude.{◌≡◌, ◌<◌, ℕ, List as Items, Some, None, Err, codes, drop, false, length, map, IfOk, IfErr, IsFalse};
 ghost use Rattle.std.specs.Bool.{then_some};
 ghost use Rattle.std.specs.List.{list_any};
 ghost use Rattle.cc_defs.specs.declared.refusal.Fault.TheVariants as faults;
 ghost use Rattle.cc_defs.specs.declared.token.Mark.TheVariants as marks;
 ghost use Rattle.cc_defs.specs.Grammar.{same_text, Spells};
-ghost use Rattle.cc_defs.specs.Statements.{IsParsed, begins_directive, token_limit as limit_of, refusal_at};
+ghost use Rattle.cc_defs.specs.Statements.{IsParsed, begins_directive, is_too_long, token_limit as limit_of, refusal_at};
 ghost use Rattle.cc_defs.specs.Tokens.{AreTokens};
 ghost use Rattle.cc_defs.specs.Trees.{PlainPart, PlainStatement, plain_part, plain_statement, plain_sort_item, plain_obj_item, plain_list_item, plain_const_item, plain_query_item};
 ghost use Rattle.cc_defs.specs.Trees as trees;
@@ -176,6 +176,25 @@ fn too_long(limit: LimitAt, file: u32, tokens: &[Token]) -> Fault
     Fault::Refused(Refusal::past_at(limit, file, tokens[0].line))
 }
 
+/// What a statement says, or why it is refused. It is in a box, since each exit with a large value is dear to prove.
+fn said<'s>(alloc: Global, file: u32, tokens: &[Token<'s>]) -> Result<Box<Part<'s>>, Fault>
+    requires some { 0 < length tokens.now }
+    requires are { AreTokens (token_views tokens.now) }
+    ensures read { IfOk result (λ part. IsFalse (is_too_long (seen tokens.now))
+        × (statement_at (seen tokens.now) ≡ Some (plain_part part.value))) }
+    ensures refused { IfErr result (HasRefused file (token_views tokens.now)) }
+{
+    let limit = token_limit(tokens);
+    if tokens.len() > limit.number() as usize {
+        return Err(too_long(limit, file, tokens));
+    }
+    match whole(alloc, tokens) {
+        Ok(part) => Ok(part),
+        Err(Stop::NoTree) => Err(refusal(3, file, tokens)),
+        Err(Stop::OutOfMemory) => Err(Fault::OutOfMemory),
+    }
+}
+
 /// The one tree that spells the tokens of a statement, its dot among them; its names are slices of the source. Refuses, at
 /// the statement's first line and in this order, what has too many tokens (14, with the limit declaration tokens or
 /// statement tokens), and what no tree spells (3). `file` is the number of the file in refusals.
@@ -188,18 +207,13 @@ pub fn parse<'s>(alloc: Global, file: u32, tokens: &[Token<'s>]) -> Result<State
         Spells other (token_views tokens.now) → IfOk result (λ tree. plain_statement tree ≡ other) }
     ensures refused { IfErr result (HasRefused file (token_views tokens.now)) }
 {
-    let limit = token_limit(tokens);
-    if tokens.len() > limit.number() as usize {
-        return Err(too_long(limit, file, tokens));
-    }
     let line = tokens[0].line;
-    match whole(alloc, tokens) {
+    match said(alloc, file, tokens) {
         Ok(part) => Ok(Statement {
             part: Box::into_inner(part),
             line,
         }),
-        Err(Stop::NoTree) => Err(refusal(3, file, tokens)),
-        Err(Stop::OutOfMemory) => Err(Fault::OutOfMemory),
+        Err(fault) => Err(fault),
     }
 }
 

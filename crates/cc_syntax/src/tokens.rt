@@ -1,6 +1,6 @@
 //! Readers of single tokens. A reader is passed the tokens and the place where it begins, and answers the place behind
 //! what it read.
-ghost use Rattle.std.specs.Prelude.{◌≡◌, IsTrue, drop, IfOk};
+ghost use Rattle.std.specs.Prelude.{◌≡◌, ◌<◌, IsTrue, drop, length, IfOk, IfSome};
 ghost use Rattle.cc_defs.specs.Tokens.{AreTokens, is_quoted};
 ghost use Rattle.cc_text.specs.Views.{token_views};
 ghost use Rattle.cc_syntax.specs.Marks.{same_mark};
@@ -20,7 +20,8 @@ fn is_mark(mark: Mark, other: Mark) -> bool
 /// The token at the place, if there is one.
 #[tactic(auto, using(crate::proofs::Places::token_seen, crate::proofs::Places::nothing_seen))]
 pub(crate) fn token_at<'s>(tokens: &[Token<'s>], at: usize) -> Option<Token<'s>>
-    ensures { Stands tokens.now at result }
+    ensures stands { Stands tokens.now at result }
+    ensures within { IfSome result (λ _. at < length tokens.now) }
 {
     if at < tokens.len() {
         Some(tokens[at])

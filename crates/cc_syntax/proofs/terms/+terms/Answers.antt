@@ -3,8 +3,8 @@ use Rattle.cc_defs.specs.Trees.{PlainSum, PlainTerm, plain_piece, plain_sum}
 use Rattle.cc_syntax.specs.Terms.{term_from, args_from}
 use Rattle.cc_syntax.specs.Views.{seen}
 use Rattle.cc_syntax.proofs.Addends.{addends-ended, addends-spent, addends-refused, addends-continued}
-use Rattle.cc_syntax.proofs.Arguments.{arg-more, arg-refused, args-unended, args-read}
-use Rattle.cc_syntax.proofs.Stops.{stopped, no-tree, not-passed}
+use Rattle.cc_syntax.proofs.Arguments.{arg-more, arg-refused, args-unended, args-read, args-spent}
+use Rattle.cc_syntax.proofs.Stops.{stopped, out-of-memory, no-tree, not-passed}
 use Rattle.cc_syntax.proofs.Trees.{plain_pushed, plain_applied}
 use Rattle.cc_syntax.proofs.terms.+terms.Goals as goal
 
@@ -12,6 +12,9 @@ pub addends_within-returns-in_err-piece : goal.addends_within-returns-in_err-pie
 addends_within-returns-in_err-piece t c =
     stopped _ c.args.tokens.now c.from_residual.result c.in_err-piece.field-0.0 _ c.from_residual.ensures.1
     (λ e. c.loop.invariant ∙ addends-refused (term_from c.args.steps) _ _ _ _ _ (omega arith) (sym c.in-Some.ensures) (no-tree plain_piece c.args.tokens.now _ _ c.in_err-piece.ensures e))
+
+pub addends_within-returns-in_err-put_last : goal.addends_within-returns-in_err-put_last
+addends_within-returns-in_err-put_last t c = out-of-memory _ c.args.tokens.now _ _ c.from_residual-in_err-put_last.ensures.1
 
 pub addends_within-loop-preserved : goal.addends_within-loop-preserved
 addends_within-loop-preserved t c =
@@ -27,6 +30,12 @@ pub term_within-returns-in_err-arg : goal.term_within-returns-in_err-arg
 term_within-returns-in_err-arg t c =
     stopped _ c.args.tokens.now c.from_residual.result c.in_err-arg.field-0.0 _ c.from_residual.ensures.1
     (λ e. arg-refused c.args.steps _ _ _ (omega arith) c.in-Ok.ensures _ _ _ (omega arith) c.loop-left.invariant.0 (no-tree plain_sum c.args.tokens.now _ _ c.in_err-arg.ensures e))
+
+pub term_within-returns-in_err-put_last : goal.term_within-returns-in_err-put_last
+term_within-returns-in_err-put_last t c = out-of-memory _ c.args.tokens.now _ _ c.from_residual-in_err-put_last.ensures.1
+
+pub term_within-returns : goal.term_within-returns
+term_within-returns t c = args-spent c.args.steps _ _ _ (omega arith) c.in-Ok.ensures _ _ _ (omega arith) c.loop-left.invariant.0
 
 pub term_within-loop-left-preserved : goal.term_within-loop-left-preserved
 term_within-loop-left-preserved t c = (
