@@ -197,3 +197,14 @@ constant_within signature firsts constants horizon position value is count has =
     let long = firsts_long signature firsts is in
     let counted = size_count signature in
     omega arith
+
+pub some_constants : (signature : Signature) (constants horizon position value : ℕ) → constants ≡ stride_of signature → HasPlace (sizes_of signature) horizon (timed_heads.Atom position value) → 0 < constants
+some_constants signature constants horizon position value count has =
+    let within = slice_get_within (sizes_of signature) (position % length (sizes_of signature)) has.0 has.2 in
+    let counted = size_count signature in
+    omega arith
+
+pub last_read : (signature : Signature) (firsts : List ℕ) (constants horizon : ℕ) → firsts ≡ starts 0 (sizes_of signature) → constants ≡ stride_of signature →
+    (horizon + 1) * get_or firsts constants 0 ≡ place_of (sizes_of signature) horizon timed_heads.Falsity
+last_read signature firsts constants horizon is count =
+    ap (λ (f : List ℕ). (horizon + 1) * get_or f constants 0) is ∙ ap (λ (n : ℕ). (horizon + 1) * get_or (starts 0 (sizes_of signature)) n 0) (count ∙ sym (size_count signature))

@@ -1,8 +1,10 @@
 -- The rules of a horizon as loops make and count them.
-use Rattle.std.proofs.Common.{◌≡◌, ◌∙◌, ℕ, zero, suc, ◌+◌, ◌<◌, Bool, true, false, List, [], ◌∷◌, ◌++◌, length, map, flat_map, nat_lt, min, drop, slice_get, Some, None, refl, sym, ap, subst, arith, length-append, append_assoc, add-one, option_map, ◌%◌}
+use Rattle.std.proofs.Common.{◌≡◌, ◌∙◌, ℕ, zero, suc, ◌+◌, ◌<◌, ◌≤◌, Bool, true, false, List, [], ◌∷◌, ◌++◌, length, map, flat_map, nat_lt, min, drop, get_or, slice_get, Some, None, refl, sym, ap, subst, arith, length-append, append_assoc, add-one, option_map, ◌%◌}
 use Rattle.std.specs.Prelude.{if◌then◌else◌}
+use Rattle.std.specs.List.{AllByRecursion}
 use Rattle.std.proofs.Math.Nat.{mod-eq_of_lt}
 use Rattle.std.proofs.lemmas.Bool.{lt-ltb, ltb-true}
+use Rattle.std.proofs.lemmas.List.{append-nil, at_drop_all, drop_more}
 use Rattle.cc_arena.specs.declared.ground_laws.GroundLaw.{GroundLaw}
 use Rattle.cc_defs.specs.declared.signature.Const.{Const}
 use Rattle.cc_defs.specs.declared.signature.LawKind.{LawKind}
@@ -38,6 +40,45 @@ pub flat_behind : {A B : Type 0} (f : A → List B) (xs ys : List A) → flat_ma
 flat_behind f [] ys = refl
 flat_behind f (x ∷ xs) ys = ap (λ l. f x ++ l) (flat_behind f xs ys) ∙ sym (append_assoc (f x) (flat_map f xs) (flat_map f ys))
 
+-- ---- loops that put one part behind the other
+
+module _ {X Y : Type 0} where
+  pub nothing_left : (f : List X → List Y) (xs : List X) (i : ℕ) (front whole : List Y) → f [] ≡ [] → length xs ≤ i → front ++ f (drop i xs) ≡ whole → front ≡ whole
+  nothing_left f xs i front whole none past so_far = sym (append-nil front) ∙ ap (λ w. front ++ w) (sym none) ∙ sym (at_drop_all (λ w. front ++ f w) xs i past) ∙ so_far
+
+  pub map_next : (f : X → Y) (xs : List X) (i : ℕ) (d : X) (front new whole : List Y) → i < length xs → new ≡ front ++ f (get_or xs i d) ∷ [] →
+      front ++ map f (drop i xs) ≡ whole → new ++ map f (drop (i + 1) xs) ≡ whole
+  map_next f xs i d front new whole less made so_far =
+      let rest = map f (drop (i + 1) xs) in
+      ap (λ w. w ++ rest) made ∙ append_assoc front (f (get_or xs i d) ∷ []) rest ∙ ap (λ w. front ++ map f w) (sym (drop_more xs i d less)) ∙ so_far
+
+  pub flat_next : (f : X → List Y) (xs : List X) (i : ℕ) (d : X) (front new whole : List Y) → i < length xs → new ≡ front ++ f (get_or xs i d) →
+      front ++ flat_map f (drop i xs) ≡ whole → new ++ flat_map f (drop (i + 1) xs) ≡ whole
+  flat_next f xs i d front new whole less made so_far =
+      let rest = flat_map f (drop (i + 1) xs) in
+      ap (λ w. w ++ rest) made ∙ append_assoc front (f (get_or xs i d)) rest ∙ ap (λ w. front ++ flat_map f w) (sym (drop_more xs i d less)) ∙ so_far
+
+module _ {Y : Type 0} where
+  pub map_counted : (f : ℕ → Y) (n : ℕ) (start front new : List Y) → new ≡ front ++ f n ∷ [] → front ≡ start ++ map f (upto n) → new ≡ start ++ map f (upto (n + 1))
+  map_counted f n start front new made so_far =
+      made ∙ ap (λ w. w ++ f n ∷ []) so_far ∙ append_assoc start (map f (upto n)) (f n ∷ []) ∙ ap (λ w. start ++ w) (sym (map_behind f (upto n) (n ∷ []))) ∙ ap (λ k. start ++ map f (upto k)) (sym (add-one n))
+
+  pub flat_counted : (f : ℕ → List Y) (n : ℕ) (start front new : List Y) → new ≡ front ++ f n → front ≡ start ++ flat_map f (upto n) → new ≡ start ++ flat_map f (upto (n + 1))
+  flat_counted f n start front new made so_far =
+      made ∙ ap (λ w. w ++ f n) so_far ∙ append_assoc start (flat_map f (upto n)) (f n) ∙ ap (λ w. start ++ (flat_map f (upto n) ++ w)) (sym (append-nil (f n)))
+      ∙ ap (λ w. start ++ w) (sym (flat_behind f (upto n) (n ∷ []))) ∙ ap (λ k. start ++ flat_map f (upto k)) (sym (add-one n))
+
+pub all_next : {X : Type 0} (P : X → Type 0) (xs : List X) (i : ℕ) (d : X) → i < length xs → AllByRecursion P (drop i xs) → P (get_or xs i d)
+all_next P xs i d less all = (subst (AllByRecursion P) (drop_more xs i d less) all).0
+
+pub all_later : {X : Type 0} (P : X → Type 0) (xs : List X) (i : ℕ) → AllByRecursion P (drop i xs) → AllByRecursion P (drop (i + 1) xs)
+all_later {X = X} P xs i all = rw add-one (later xs i all)
+  where
+    later : (ys : List X) (k : ℕ) → AllByRecursion P (drop k ys) → AllByRecursion P (drop (suc k) ys)
+    later [] k none = tt
+    later (y ∷ ys) zero some = some.1
+    later (y ∷ ys) (suc k) some = later ys k some
+
 -- ---- what comes next
 
 front_is : {X : Type 0} (xs : List X) (i : ℕ) (x : X) → Some x ≡ slice_get xs i → drop i xs ≡ x ∷ drop (suc i) xs
@@ -52,6 +93,9 @@ among_left : {X : Type 0} (xs ys : List X) (i : ℕ) → i < length xs → slice
 among_left [] ys i less = absurd (omega arith)
 among_left (x ∷ xs) ys zero less = refl
 among_left (x ∷ xs) ys (suc i) less = among_left xs ys i (omega arith)
+
+pub fluent_low : (fluents actions : List Const) (number count : ℕ) → number < count → count ≡ length fluents → number < length (fluents ++ actions)
+fluent_low fluents actions number count low is = let long = length-append fluents actions in omega arith
 
 next_fluent : (fluents actions : List Const) (number : ℕ) (constant : Const) → number < length fluents →
     Some constant ≡ slice_get (fluents ++ actions) number → drop number fluents ≡ constant ∷ drop (number + 1) fluents
