@@ -2,7 +2,7 @@
 use Rattle.std.proofs.Common.{◌≡◌, ◌≢◌, ◌∙◌, ℕ, ◌+◌, ◌*◌, ◌/◌, ◌<◌, ◌≤◌, zero, suc, inl, inr, true, false, List, [], ◌∷◌, ◌++◌, length, get_or, take, Result, Ok, Err, sym, subst, ap, arith, length-append}
 use Rattle.std.specs.Prelude.{◌⊎◌, OnOk, All, Contains}
 use Rattle.std.proofs.lemmas.Bool.Decides.{eqb_tells, leb_tells, nat_tests}
-use Rattle.std.proofs.lemmas.List.{length-map, get_or_append_left, get_or-append-add, take-append-le}
+use Rattle.std.proofs.lemmas.List.{get_or-take, length-map, length-take, get_or_append_left, get_or-append-add, take-append-le}
 use Rattle.std.proofs.lemmas.List.Elements.{All-nil, All-cons}
 use Rattle.cc_defs.specs.Clauses.{Literal, opposite, IsClause, IsOver, IsBefore, IsNumbered, IsIn, IsLiteralOver}
 use Rattle.cc_kernel.specs.Kernels.{KernelView, Entry, clauses_of, IsThere}
@@ -11,6 +11,7 @@ use Rattle.cc_trail.specs.Links.{no_literal, watched_at}
 use Rattle.cc_trail.specs.Pairs.{PairsView, IsPair, IsPaired, ArePaired, AreFollowed, other_in}
 use Rattle.cc_trail.specs.Watches.{IsTrueBy, IsWatched, Watches, partner}
 use Rattle.cc_trail.specs.Trails.{TrailView, Fits, IsTrail, IsCovered, IsLong, IsPairLong, number_of}
+use Rattle.cc_trail.proofs.Codes.{read_at}
 use Rattle.cc_trail.proofs.StepLists.{in_left, in_right, in_push}
 
 pub on_ok : {T E : Type 0} (r : Result T E) {P Q : Type 0} → (P → Q) → OnOk r P → OnOk r Q
@@ -333,3 +334,20 @@ module _ (old new : TrailView) (kernel : KernelView) (fits : Fits old kernel) (n
       followed = followed_then;
     };
   }
+
+-- one more literal of a part is met
+pub part_next : (part clause : List Literal) (met index : ℕ) (one other : Literal) → met < length part → index < length clause → one ≡ get_or part met one → other ≡ get_or clause index other → one ≡ other →
+    ((literal : Literal) → Contains (take met part) literal → Contains clause literal) → (literal : Literal) → Contains (take (met + 1) part) literal → Contains clause literal
+part_next part clause met index one other met_low low one_is other_is same before literal (k, within, is) =
+    let counted = length-take (met + 1) part in
+    let at = sym (get_or-take (met + 1) part k literal (omega arith)) ∙ is in
+    elim (leb_tells (k + 1) met) [
+      | inl early ↦
+          let fewer = length-take met part in
+          before literal (k, omega (arith, early.1), get_or-take met part k literal (omega (arith, early.1)) ∙ at)
+      | inr late ↦
+          let here : k ≡ met = omega (arith, late.1) in
+          let one_at = read_at part met one literal met_low one_is in
+          let literal_is : one ≡ literal = one_at ∙ ap (λ (n : ℕ). get_or part n literal) (sym here) ∙ at in
+          (index, low, sym (read_at clause index other literal low other_is) ∙ sym same ∙ literal_is)
+    ]

@@ -1,8 +1,8 @@
 -- What a look-up of a literal tells, and which literal of a clause is best to watch.
 use Rattle.std.proofs.Common.{◌≡◌, ◌≢◌, ◌∙◌, ℕ, ◌+◌, ◌<◌, ◌≤◌, zero, suc, inl, inr, eqb, Bool, true, false, not, List, [], ◌∷◌, length, get_or, take, None, refl, sym, subst, ap, arith}
-use Rattle.std.specs.Prelude.{All, Contains}
+use Rattle.std.specs.Prelude.{◌⊎◌, All, Contains}
 use Rattle.std.proofs.lemmas.Bool.Decides.{eqb_tells}
-use Rattle.std.proofs.lemmas.List.Elements.{All-nil, All-cons, All-weaker, All-more}
+use Rattle.std.proofs.lemmas.List.Elements.{All-contains, All-nil, All-cons, All-weaker, All-more}
 use Rattle.cc_defs.specs.Clauses.{Literal, opposite, IsIn}
 use Rattle.cc_trail.specs.declared.entries.Step.{Step}
 use Rattle.cc_trail.specs.Links.{code_of}
@@ -21,6 +21,12 @@ pub codes_same : (a b : Literal) (r : Bool) → r ≡ eqb (code_of a) (code_of b
 codes_same a b r is holds = elim (eqb_tells (code_of a) (code_of b)) [
   | inl same ↦ code_injective a b (same.1)
   | inr other ↦ absurd (false_true (sym (other.0) ∙ sym is ∙ holds))
+]
+
+pub codes_apart : (a b : Literal) (r : Bool) → r ≡ eqb (code_of a) (code_of b) → r ≡ false → a ≢ b
+codes_apart a b r is fails = elim (eqb_tells (code_of a) (code_of b)) [
+  | inl same ↦ absurd (false_true (sym fails ∙ is ∙ same.0))
+  | inr other ↦ λ e. other.1 (ap code_of e)
 ]
 
 pub not_true : (b : Bool) → not b ≡ true → b ≡ false
@@ -81,6 +87,13 @@ best_false steps clause except literal level r holds is = subst (λ (b : Bool). 
 higher : (steps : List Step) (except : Literal) (low high : ℕ) → low ≤ high → (literal : Literal) → IsFalseBut steps except low literal → IsFalseBut steps except high literal
 higher steps except low high up literal (inl same) = inl same
 higher steps except low high up literal (inr (step, here, is, step_low)) = let below : step.level ≤ low = step_low in inr (step, here, is, omega arith)
+
+pub others_false : (steps : List Step) (clause : List Literal) (except : Literal) (level : ℕ) → All (IsFalseBut steps except level) clause →
+    (literal : Literal) → Contains clause literal → (literal ≡ except) ⊎ IsFalseBy steps literal
+others_false steps clause except level all literal here = elim (All-contains (IsFalseBut steps except level) clause literal all here) [
+  | inl same ↦ inl same
+  | inr fallen ↦ inr (fallen.0, fallen.1, fallen.2)
+]
 
 pub best_more : (steps : List Step) (clause : List Literal) (index : ℕ) (except literal : Literal) (low high : ℕ) → index < length clause → literal ≡ get_or clause index literal →
     low ≤ high → All (IsFalseBut steps except low) (take index clause) → IsFalseBut steps except high literal → All (IsFalseBut steps except high) (take (index + 1) clause)

@@ -1,7 +1,7 @@
 -- The last long clause is covered, and its nodes are taken out: the fit stays.
 use Rattle.std.proofs.Common.{◌≡◌, ◌∙◌, ℕ, ◌+◌, ◌-◌, ◌*◌, ◌/◌, ◌<◌, inl, inr, List, [], ◌∷◌, ◌++◌, length, get_or, take, sym, subst, ap, arith}
 use Rattle.std.specs.Prelude.{◌⊎◌, Contains}
-use Rattle.std.proofs.lemmas.List.{get_or-take, length-take-le, take_more, take_all}
+use Rattle.std.proofs.lemmas.List.{get_or-take, length-take-le, take-take, take_more, take_all}
 use Rattle.cc_defs.specs.Clauses.{Literal, opposite, IsNumbered, IsIn}
 use Rattle.cc_trail.specs.Links.{no_literal, watched_at}
 use Rattle.cc_trail.specs.Watches.{partner}
@@ -77,3 +77,10 @@ module _ (trail : TrailView) (clauses : List (List Literal)) (fits : FitsClauses
         rw (same_partner node (low.0)) (fits.watches node (omega (arith, low.1)) step here (is ∙ ap opposite (same_at node (low.1))));
     followed = fits.followed;
   }
+
+-- all but the last of all but the last
+pub taken_twice : {X : Type 0} (xs : List X) → take (length (take (length xs - 1) xs) - 1) (take (length xs - 1) xs) ≡ take (length xs - 2) xs
+taken_twice xs =
+    let shorter = length-take-le (length xs - 1) xs (omega arith) in
+    let fewer : length (take (length xs - 1) xs) - 1 ≡ length xs - 2 = omega arith in
+    ap (λ (n : ℕ). take n (take (length xs - 1) xs)) fewer ∙ take-take (length xs - 2) (length xs - 1) xs (omega arith)

@@ -1,9 +1,10 @@
 -- What the holder of entries sees after its parts have changed.
-use Rattle.std.proofs.Common.{◌≡◌, ◌≢◌, ◌∙◌, ℕ, ◌+◌, ◌-◌, ◌<◌, ◌≤◌, zero, suc, List, [], ◌∷◌, ◌++◌, length, get_or, set, take, Some, None, refl, sym, subst, ap, arith}
+use Rattle.std.proofs.Common.{◌≡◌, ◌≢◌, ◌∙◌, ℕ, ◌+◌, ◌-◌, ◌<◌, ◌≤◌, zero, suc, List, [], ◌∷◌, ◌++◌, length, get_or, replicate, set, take, Some, None, refl, sym, subst, ap, arith}
 use Rattle.std.specs.Prelude.{◌⊎◌, IfSome, IfNone, slice_get}
-use Rattle.std.proofs.lemmas.List.{get_or-take}
+use Rattle.std.proofs.lemmas.List.{get_or-replicate, get_or-take, length-replicate}
 use Rattle.std.proofs.lemmas.Option.{slice_get-get_or}
 use Rattle.cc_defs.specs.Clauses.{Literal, IsIn, IsLiteralOver}
+use Rattle.cc_defs.specs.Limits.{most_variables}
 use Rattle.cc_trail.specs.declared.entries.Step.{Step}
 use Rattle.cc_trail.specs.declared.entries.Entries.TheInside.{Inside}
 use Rattle.cc_trail.specs.Links.{no_literal}
@@ -18,6 +19,24 @@ use Rattle.cc_trail.proofs.Kept.{found, not_found, place_at, front_length, push_
 no_step : Step
 no_step = record { lit = no_literal; level = 0; reason = None }
 
+pub none_kept : (variables : ℕ) (steps : List Step) (literals : List Literal) (places marks : List ℕ) → variables ≤ most_variables → length steps ≡ variables → length literals ≡ variables →
+    places ≡ replicate (variables + 1) 0 → marks ≡ replicate (variables + 1) 0 → IsKept variables 0 steps literals places 0 × AreMarked variables [] marks
+none_kept variables steps literals places marks few steps_count literals_count places_are marks_are = (
+  record {
+    count_few = omega arith;
+    steps_count = steps_count;
+    literals_count = literals_count;
+    places_count = ap length places_are ∙ length-replicate (variables + 1) 0;
+    literals_are = refl;
+    places_are = λ variable low. ap (λ (ns : List ℕ). get_or ns variable 0) places_are ∙ get_or-replicate (variables + 1) variable 0 0 (omega arith);
+    are_steps = record { variables_few = few; over = λ step none. elim none [ ]; apart = tt; rising = tt; levels = refl };
+  },
+  record {
+    count = ap length marks_are ∙ length-replicate (variables + 1) 0;
+    marks_are = λ variable low. ap (λ (ns : List ℕ). get_or ns variable 0) marks_are ∙ get_or-replicate (variables + 1) variable 0 0 (omega arith);
+  },
+)
+
 module _ (inside : Inside) (old : EntriesView) (is : view_of inside ≡ old) (kept : IsKeptIn inside) where
   pub over_here : (literal : Literal) → IsLiteralOver old.variables literal → IsLiteralOver inside.variables literal
   over_here literal over = subst (λ (v : EntriesView). IsLiteralOver v.variables literal) (sym is) over
@@ -27,6 +46,15 @@ module _ (inside : Inside) (old : EntriesView) (is : view_of inside ≡ old) (ke
 
   pub within_here : (variable : ℕ) → variable ≤ old.variables → variable ≤ inside.variables
   within_here variable within = subst (λ (v : EntriesView). variable ≤ v.variables) (sym is) within
+
+  pub place_room : (variable : ℕ) → variable ≤ old.variables → variable < length inside.places.items
+  place_room variable within =
+      let low = within_here variable within in
+      let count = kept.places_count in
+      omega arith
+
+  pub mark_room : length inside.marks.items ≡ inside.variables + 1 → (variable : ℕ) → variable ≤ old.variables → variable < length inside.marks.items
+  mark_room count variable within = let low = within_here variable within in omega arith
 
   pub steps_here : AreSteps old.variables old.steps old.level_count
   steps_here = subst (λ (v : EntriesView). AreSteps v.variables v.steps v.level_count) is kept.are_steps

@@ -1,9 +1,10 @@
 -- What stays true of links: a walk begins and goes on, a node is moved to another list, the last one is taken out, two are added.
-use Rattle.std.proofs.Common.{◌≡◌, ◌≢◌, ◌∙◌, ℕ, ◌+◌, ◌-◌, ◌*◌, ◌<◌, zero, suc, inl, inr, List, [], ◌∷◌, ◌++◌, length, get_or, set, take, refl, sym, subst, ap, arith}
+use Rattle.std.proofs.Common.{◌≡◌, ◌≢◌, ◌∙◌, ℕ, ◌+◌, ◌-◌, ◌*◌, ◌<◌, ◌≤◌, zero, suc, inl, inr, List, [], ◌∷◌, ◌++◌, length, get_or, replicate, set, take, refl, sym, subst, ap, arith}
 use Rattle.std.specs.Prelude.{◌↔◌, drop}
 use Rattle.std.proofs.lemmas.Bool.Decides.{eqb_tells}
-use Rattle.std.proofs.lemmas.List.{length-set, length-take-le, length_push, get_or-take, get_or-set_other, get_or-set_same, get_or_append_left, get_or_push, set_comm}
+use Rattle.std.proofs.lemmas.List.{length-replicate, length-set, length-take-le, length_push, get_or-take, get_or-set_other, get_or-set_same, get_or_append_left, get_or_push, set_comm}
 use Rattle.cc_defs.specs.Clauses.{Literal, IsIn, IsLiteralOver}
+use Rattle.cc_defs.specs.Limits.{most_variables}
 use Rattle.cc_trail.specs.Links.{BeginsWith, no_literal, watched_at, code_of}
 use Rattle.cc_trail.specs.LinkParts.{back_from, AreListed, AreLinks}
 use Rattle.cc_trail.specs.Lists.{list_at, without_place}
@@ -36,6 +37,34 @@ first_of : (n : ℕ) (numbers : List ℕ) (node : ℕ) → BeginsWith (back_from
 first_of zero numbers node begins = absurd (omega (arith, ap length (begins.1)))
 first_of (suc n) numbers node begins =
     let e : suc n - 1 ≡ n = omega arith in (omega arith, rw e (sym (ap (λ (xs : List ℕ). get_or xs 0 0) (begins.1))), rw e refl)
+
+pub code_within : (lists : List (List ℕ)) (variables code : ℕ) (a : Literal) → length lists ≡ 2 * variables + 2 → IsLiteralOver variables a → code ≡ code_of a → code < length lists
+code_within lists variables code a count over is = let low = code_low variables a over in omega arith
+
+none_at : (count code : ℕ) → list_at (replicate count []) code ≡ []
+none_at zero code = refl
+none_at (suc count) zero = refl
+none_at (suc count) (suc code) = none_at count code
+
+pub no_links : (variables : ℕ) (lists : List (List ℕ)) (watched : List Literal) → variables ≤ most_variables → lists ≡ replicate (2 * variables + 2) [] → watched ≡ [] →
+    AreLinks variables lists watched 0 0
+no_links variables lists watched few lists_are watched_are =
+    let count = length-replicate {A = List ℕ} (2 * variables + 2) [] in
+    let none : (code place : ℕ) → place < length (list_at (replicate (2 * variables + 2) []) code) → ⊥ = λ code place low. let e = ap length (none_at (2 * variables + 2) code) in omega arith in
+    rw (lists_are, watched_are) (record {
+      variables_few = few;
+      lists_count = count;
+      watched_few = omega arith;
+      over = λ node low. absurd (omega arith);
+      walked_low = omega arith;
+      ahead_low = omega arith;
+      listed = record {
+        within = λ code place low. absurd (none code place low);
+        watching = λ code place low. absurd (none code place low);
+        there = λ node low. absurd (omega arith);
+        once = λ code place other low. absurd (none code place low);
+      };
+    })
 
 module _ (lists : List (List ℕ)) (watched : List Literal) (listed : AreListed lists watched) where
   pub not_ahead : (code place : ℕ) → place < length (list_at lists code) → IsIn (back_from place (list_at lists code)) (get_or (list_at lists code) place 0) → ⊥

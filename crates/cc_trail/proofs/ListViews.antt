@@ -24,6 +24,20 @@ none_yet numbers rooms count e = ap (map (numbers_in numbers)) e ∙ none count
     none zero = refl
     none (suc count) = λ i. [] ∷ none count i
 
+no_room_at : (count list : ℕ) → get_or (replicate count no_room) list no_room ≡ no_room
+no_room_at zero list = refl
+no_room_at (suc count) zero = refl
+no_room_at (suc count) (suc list) = no_room_at count list
+
+pub no_rooms : (new : Inside) (count : ℕ) → new.rooms.items ≡ replicate count no_room → new.numbers.items ≡ [] → AreRooms new
+no_rooms new count rooms_are numbers_are = record {
+  inside = rw (rooms_are, numbers_are) (λ list low. subst (IsIn []) (sym (no_room_at count list)) (record { counted = omega arith; within = omega arith }));
+  apart = rw rooms_are (λ list other low other_low apart.
+      subst (λ (room : Room). AreApart room (get_or (replicate count no_room) other no_room)) (sym (no_room_at count list))
+      (subst (AreApart no_room) (sym (no_room_at count other)) (inl (omega arith))));
+  few = rw numbers_are (omega arith);
+}
+
 -- ---- one room
 
 pub counted : (numbers : List ℕ) (room : Room) → IsIn numbers room → length (numbers_in numbers room) ≡ room.count
@@ -58,6 +72,21 @@ one_more numbers room x low within =
     ∙ take_more_set (drop room.start numbers) room.count x (omega (arith, low, within, length-drop room.start numbers))
 
 -- ---- one room among others
+
+pub room_low : (inside : Inside) (old : List (List ℕ)) → view_of inside ≡ old → (list : ℕ) → list < length old → list < inside.rooms.len
+room_low inside old is list within =
+    let count = length-map inside.rooms.items (numbers_in inside.numbers.items) in
+    let same = ap length is in
+    let ok = inside.rooms.ok.0 in
+    omega arith
+
+-- rooms that stay where they are, among as many places
+pub rooms_kept : (inside new : Inside) → AreRooms inside → new.rooms.items ≡ inside.rooms.items → length new.numbers.items ≡ length inside.numbers.items → AreRooms new
+rooms_kept inside new rooms same count = record {
+  inside = rw same (λ list low. let one = rooms.inside list low in record { counted = one.counted; within = rw count one.within });
+  apart = rw same rooms.apart;
+  few = rw count rooms.few;
+}
 
 same_elsewhere : (f g : Room → List ℕ) (rooms : List Room) (list : ℕ) (ys : List ℕ) →
     ((other : ℕ) → other < length rooms → other ≢ list → g (get_or rooms other no_room) ≡ f (get_or rooms other no_room)) →
@@ -128,6 +157,21 @@ module _ (inside : Inside) (old : List (List ℕ)) (is : view_of inside ≡ old)
   pub length_here : length (list_at old list) ≡ room.count
   length_here = ap length list_here ∙ counted inside.numbers.items room room_in
 
+  pub place_low : (place : ℕ) → place < length (list_at old list) → room.start + place < length inside.numbers.items
+  place_low place low =
+      let count = length_here in
+      let counted_is = room_in.counted in
+      let within_is = room_in.within in
+      omega arith
+
+  -- the number at a place of the list
+  pub number_here : (place x : ℕ) → place < length (list_at old list) → x ≡ get_or inside.numbers.items (room.start + place) x → x ≡ get_or (list_at old list) place 0
+  number_here place x low x_is =
+      read_at inside.numbers.items (room.start + place) x 0 (place_low place low) x_is
+      ∙ sym (get_or-drop room.start inside.numbers.items place 0)
+      ∙ sym (get_or-take room.count (drop room.start inside.numbers.items) place 0 (let count = length_here in omega arith))
+      ∙ ap (λ (ns : List ℕ). get_or ns place 0) (sym list_here)
+
   -- a number is written over another one of the list
   pub written_over : (place x : ℕ) → place < room.count →
       map (numbers_in (set inside.numbers.items (room.start + place) x)) inside.rooms.items ≡ set old list (set (list_at old list) place x)
@@ -169,6 +213,9 @@ module _ (inside : Inside) (old : List (List ℕ)) (is : view_of inside ≡ old)
 
     few : length new ≤ 4294967295
     few = elim has [ inl unchanged ↦ omega (arith, ap length unchanged.2, rooms.few) | inr wide ↦ wide.few ]
+
+    pub put_low : found.start + found.count < 4294967295
+    put_low = let low = more in let within_new = fits in let most = few in omega arith
 
     front : take (length inside.numbers.items) new ≡ inside.numbers.items
     front = elim has [

@@ -1,14 +1,20 @@
 -- The two literals that are best to watch are different ones of those that were looked at.
 use Rattle.std.proofs.Common.{◌≡◌, ◌≢◌, ◌∙◌, ℕ, ◌+◌, ◌<◌, ◌≤◌, zero, suc, inl, inr, Bool, true, false, List, [], ◌∷◌, ◌++◌, length, get_or, take, refl, sym, subst, ap, arith}
 use Rattle.std.specs.Prelude.{Contains}
-use Rattle.std.proofs.lemmas.List.{take_more}
+use Rattle.std.proofs.lemmas.List.{get_or-take, length-take, take_more}
 use Rattle.std.proofs.lemmas.List.Elements.{Contains-append_left, Contains-append_right}
 use Rattle.cc_defs.specs.Clauses.{Literal, IsClause, IsBefore}
 use Rattle.cc_trail.specs.Watches.{AreTwoOf}
 use Rattle.cc_trail.proofs.Attaching.{different}
 
-true_is_false : (b : Bool) → b ≡ true → b ≡ false → ⊥
+pub true_is_false : (b : Bool) → b ≡ true → b ≡ false → ⊥
 true_is_false b e f = cc
+
+in_front : (clause : List Literal) (n : ℕ) (literal : Literal) → Contains (take n clause) literal → Contains clause literal
+in_front clause n literal (k, low, is) = let counted = length-take n clause in (k, omega arith, sym (get_or-take n clause k literal (omega arith)) ∙ is)
+
+pub two_of_front : (clause : List Literal) (n : ℕ) (first second : Literal) → AreTwoOf (take n clause) first second → AreTwoOf clause first second
+two_of_front clause n first second (one, two, apart) = (in_front clause n first one, in_front clause n second two, apart)
 
 before_trans : (a b c : Literal) → IsBefore a b → IsBefore b c → IsBefore a c
 before_trans a b c (inl low) (inl high) = inl (omega arith)

@@ -90,6 +90,45 @@ module _ (inside : Inside) (old : TrailView) (is : view_of inside ≡ old) (part
     settled_went kernel settled = subst (λ (v : TrailView). IsSettled v kernel) (sym view_back)
         (settled_back old.steps (steps_to level old.steps) back.gone old.level_count level (clauses_of kernel) front back.high low settled)
 
+-- what the holder sees stays as it is
+pub parts_kept : (inside new : Inside) → AreParts inside → view_of new ≡ view_of inside → new.links ≡ inside.links → AreParts new
+parts_kept inside new parts same links = record {
+  trail_is = rw same parts.trail_is;
+  variables = ap (λ (l : LinksView). l.variables) links ∙ parts.variables ∙ sym (ap (λ (v : TrailView). v.variables) same);
+  pairs_variables = ap (λ (v : TrailView). v.pairs.variables) same ∙ parts.pairs_variables ∙ sym (ap (λ (v : TrailView). v.variables) same);
+  ahead = ap (λ (l : LinksView). l.ahead) links ∙ parts.ahead;
+}
+
+-- two more nodes, and perhaps fewer steps visited
+pub parts_long : (inside : Inside) → AreParts inside → (id visited : ℕ) (longs : List ℕ) (literal other : Literal) (links : LinksView) → visited ≤ inside.visited →
+    links ≡ record inside.links { watched = inside.links.watched ++ literal ∷ other ∷ [] } → longs ≡ inside.longs.items ++ id ∷ [] →
+    IsTrail (record (view_of inside) { attached = id; longs = longs; watched = links.watched; visited = visited }) × (links.variables ≡ inside.entries.variables) × (links.ahead ≡ [])
+parts_long inside parts id visited longs literal other links fewer links_are longs_are = rw links_are (
+  (record {
+    are_steps = parts.trail_is.are_steps;
+    visited = let before = parts.trail_is.visited in omega arith;
+    nodes =
+        let before = parts.trail_is.nodes in
+        omega (arith, length-append inside.links.watched (literal ∷ other ∷ []), ap length longs_are, length-append inside.longs.items (id ∷ []));
+  }),
+  parts.variables,
+  parts.ahead,
+)
+
+-- a clause is attached whose literals stand side by side, and perhaps fewer steps are visited
+pub parts_pair : (inside new : Inside) → AreParts inside → new.entries ≡ inside.entries → new.links ≡ inside.links → new.longs.items ≡ inside.longs.items →
+    new.pairs.variables ≡ inside.pairs.variables → new.visited ≤ inside.visited → AreParts new
+parts_pair inside new parts entries links longs pairs fewer = record {
+  trail_is = rw (entries, links, longs) (record {
+    are_steps = parts.trail_is.are_steps;
+    visited = let before = parts.trail_is.visited in omega arith;
+    nodes = parts.trail_is.nodes;
+  });
+  variables = rw (entries, links) parts.variables;
+  pairs_variables = rw entries (pairs ∙ parts.pairs_variables);
+  ahead = rw links parts.ahead;
+}
+
 -- one more step at the last level, and two more nodes
 pub parts_true : (inside : Inside) (old : TrailView) → view_of inside ≡ old → AreParts inside → (id : ℕ) (longs : List ℕ) (literal other : Literal) (entries : EntriesView) (links : LinksView) →
     entries ≡ record inside.entries { steps = inside.entries.steps ++ (record { lit = literal; level = inside.entries.level_count; reason = Some id }) ∷ [] } →

@@ -93,6 +93,13 @@ short_reason clauses steps number (a ∷ []) literal numbered short is =
     only other (zero, within, at) = sym at ∙ same
     only other (suc k, within, at) = absurd (omega (arith, within))
 
+pub short_true : (kernel : KernelView) (steps : List Step) (number : ℕ) (clause : List Literal) (literal : Literal) → IsShort (clauses_of kernel) number →
+    IsNumbered (clauses_of kernel) number clause → slice_get clause 0 ≡ Some literal → HasReason (clauses_of kernel) steps literal number × Contains clause literal
+short_true kernel steps number clause literal (other, other_numbered, short) numbered is =
+    let it = short_reason (clauses_of kernel) steps number clause literal numbered
+    (subst (λ (ls : List Literal). length ls < 2) (numbered_same (clauses_of kernel) number other clause other_numbered numbered) short) is in
+    (it.0, it.1)
+
 pub short_failed : (kernel : KernelView) (old new : EntriesView) (number : ℕ) (clause : List Literal) (literal : Literal) → AreSound kernel old →
     (HasReason (clauses_of kernel) old.steps literal number → AreSound kernel old → AreSound kernel new) →
     IsShort (clauses_of kernel) number → IsNumbered (clauses_of kernel) number clause → slice_get clause 0 ≡ Some literal → IsFalseBy new.steps literal →

@@ -20,3 +20,6 @@ loop-index-preserved c = (
   met_more (clauses_of c.args.kernel.now) c.args.shorts.now c.loop-index.index (get_or c.args.shorts.now c.loop-index.index 0) c.loop-index.entries c.make_short.new.entries
       (slice_get-get_or c.args.shorts.now c.loop-index.index 0 c.loop-index-test.true) c.make_short.ensures.grown (c.loop-index.invariant.2) c.in_default.ensures.met,
 )
+
+pub returns-in-Some-clause-grown : goal.returns-in-Some-clause-grown
+returns-in-Some-clause-grown c = grown_then c.args.entries.now c.loop-index.entries c.make_short.new.entries c.loop-index.invariant.1 c.make_short.ensures.grown

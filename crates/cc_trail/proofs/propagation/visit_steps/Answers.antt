@@ -1,7 +1,10 @@
-use Rattle.std.proofs.Common.{ℕ, ◌+◌, Option, subst}
-use Rattle.std.specs.Prelude.{IfNone}
+use Rattle.std.proofs.Common.{ℕ, ◌+◌, Option, subst, ◌∙◌, List, ap, arith, length, length-append}
+use Rattle.std.specs.Prelude.{IfNone, IfSome}
 use Rattle.cc_trail.specs.Visits.{AreWatched}
 use Rattle.cc_trail.proofs.Growing.{grown_then, watched_grown, followed_grown}
+use Rattle.cc_kernel.specs.Kernels.{clauses_of}
+use Rattle.cc_trail.specs.Trails.{IsFailedClause}
+use Rattle.cc_trail.specs.declared.entries.Step.{Step}
 use Rattle.cc_trail.proofs.propagation.visit_steps.Goals as goal
 
 pub returns-in-Some-clause-followed : goal.returns-in-Some-clause-followed
@@ -35,3 +38,25 @@ loop-visited-preserved c = (
   c.visit_step.ensures.none,
   c.in_default-visit_pairs.ensures.next,
 )
+
+pub returns-in_err-number-clause-grown : goal.returns-in_err-number-clause-grown
+returns-in_err-number-clause-grown c = grown_then c.args.entries.now c.loop-visited.entries c.visit_step.new.entries c.loop-visited.invariant.1 c.visit_step.ensures.grown
+
+pub returns-in-Some-clause-grown : goal.returns-in-Some-clause-grown
+returns-in-Some-clause-grown c = grown_then c.args.entries.now c.loop-visited.entries c.visit_step.new.entries c.loop-visited.invariant.1 c.visit_step.ensures.grown
+
+pub returns-in-Some-visit_pairs-clause-grown : goal.returns-in-Some-visit_pairs-clause-grown
+returns-in-Some-visit_pairs-clause-grown c =
+    grown_then c.args.entries.now c.visit_step.new.entries c.visit_pairs.new.entries
+    (grown_then c.args.entries.now c.loop-visited.entries c.visit_step.new.entries c.loop-visited.invariant.1 c.visit_step.ensures.grown) c.visit_pairs.ensures.grown
+
+pub visit_pairs-requires-clause-within : goal.visit_pairs-requires-clause-within
+visit_pairs-requires-clause-within c =
+    let more = ap (λ (steps : List Step). length steps) c.visit_step.ensures.grown.steps ∙ length-append c.loop-visited.entries.steps c.visit_step.ensures.grown.more in
+    let count = c.count.ensures.count in
+    let low = c.loop-visited-test.true in
+    omega arith
+
+pub returns-in-Some-clause-failed : goal.returns-in-Some-clause-failed
+returns-in-Some-clause-failed c =
+    subst (λ (found : Option ℕ). IfSome found (λ number. IsFailedClause (clauses_of c.args.kernel.now) c.visit_step.new.entries.steps number)) c.in-Some.is c.in_ok-number.ensures.failed

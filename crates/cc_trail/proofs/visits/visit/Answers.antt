@@ -5,9 +5,9 @@ use Rattle.cc_defs.specs.Clauses.{Literal, IsLiteralOver}
 use Rattle.cc_trail.specs.Links.{LinksView, watched_at}
 use Rattle.cc_trail.specs.Visits.{IsFalseAt, IsVisiting}
 use Rattle.cc_trail.proofs.Attaching.{all_over}
-use Rattle.cc_trail.proofs.Growing.{grown_at}
+use Rattle.cc_trail.proofs.Growing.{grown_at, grown_none}
 use Rattle.cc_trail.proofs.Choosing.{not_true, not_false, best_open, best_false, value_true, value_false}
-use Rattle.cc_trail.proofs.Visiting.{low, partner_low, there, fallen_at, visiting_then, others_then, failed_here, gone_then, passed_then, open_then, fallen_then, fallen_apart, other_in}
+use Rattle.cc_trail.proofs.Visiting.{low, partner_low, there, fallen_at, visiting_then, others_then, failed_here, gone_then, passed_then, open_then, fallen_then, fallen_apart, other_in, half_low, fallen_in}
 use Rattle.cc_trail.proofs.visits.visit.Goals as goal
 
 pub watched-other-requires : goal.watched-other-requires
@@ -109,3 +109,70 @@ returns-clause-failed c =
     c.watched-other.result (c.watched-other.ensures.watched ∙ ap (λ (n : ℕ). watched_at c.args.links.now.watched n) c.partner_of.ensures) c.clause.result.now c.clause.ensures.clause
     c.best_beside-watch.result.level (best.1) c.make_true.new.entries c.make_true.ensures.grown (c.make_true.ensures.sound c.args.kernel.now)
     (value_false c.make_true.new.entries.steps c.make_true.new.entries.level_count c.watched-other.result c.make_true.result c.if-make_true.false c.make_true.ensures.value)
+
+pub put-requires-clause-within : goal.put-requires-clause-within
+put-requires-clause-within c = low c.args.kernel.now c.args.longs.now c.args.place c.args.step.now c.args.entries.now c.args.links.now c.requires.visiting c.args.node c.requires.first
+
+pub put-requires-then-not-watch-clause-within : goal.put-requires-then-not-watch-clause-within
+put-requires-then-not-watch-clause-within c = low c.args.kernel.now c.args.longs.now c.args.place c.args.step.now c.args.entries.now c.args.links.now c.requires.visiting c.args.node c.requires.first
+
+pub put-requires-then-make_true-clause-within : goal.put-requires-then-make_true-clause-within
+put-requires-then-make_true-clause-within c = low c.args.kernel.now c.args.longs.now c.args.place c.args.step.now c.args.entries.now c.args.links.now c.requires.visiting c.args.node c.requires.first
+
+pub best_beside-watch-requires-clause-member : goal.best_beside-watch-requires-clause-member
+best_beside-watch-requires-clause-member c =
+    subst (λ (l : Literal). Contains c.clause.result.now l) (sym c.opposite-fallen.ensures) (fallen_in c.args.kernel.now c.args.longs.now c.args.place c.args.step.now c.args.entries.now c.args.links.now c.requires.visiting c.args.node c.requires.first c.clause.result.now c.clause.ensures.clause)
+
+pub put-requires-then-make_true-clause-over : goal.put-requires-then-make_true-clause-over
+put-requires-then-make_true-clause-over c =
+    rw c.requires.visiting.watched.variables
+    (All-contains (λ (l : Literal). IsLiteralOver c.args.kernel.now.variables l) c.clause.result.now c.best_beside-watch.result.lit
+    (all_over c.args.kernel.now.variables c.clause.result.now c.clause.ensures.over) c.best_beside-watch.ensures.member)
+
+pub bounds-longs-node : goal.bounds-longs-node
+bounds-longs-node c = half_low c.args.kernel.now c.args.longs.now c.args.place c.args.step.now c.args.entries.now c.args.links.now c.requires.visiting c.args.node c.requires.first
+
+pub returns-in_err-put-clause-grown : goal.returns-in_err-put-clause-grown
+returns-in_err-put-clause-grown c = grown_none c.args.entries.now
+
+pub returns-in_err-put-in-ForGood-clause-grown : goal.returns-in_err-put-in-ForGood-clause-grown
+returns-in_err-put-in-ForGood-clause-grown c = grown_none c.args.entries.now
+
+pub returns-then-not-watch-clause-grown : goal.returns-then-not-watch-clause-grown
+returns-then-not-watch-clause-grown c = grown_none c.args.entries.now
+
+pub returns-then-not-is_due-clause-grown : goal.returns-then-not-is_due-clause-grown
+returns-then-not-is_due-clause-grown c = grown_none c.args.entries.now
+
+pub returns-in-ForGood-clause-grown : goal.returns-in-ForGood-clause-grown
+returns-in-ForGood-clause-grown c = grown_none c.args.entries.now
+
+pub returns-then-make_true-clause-grown : goal.returns-then-make_true-clause-grown
+returns-then-make_true-clause-grown c = c.make_true.ensures.grown
+
+pub returns-clause-grown : goal.returns-clause-grown
+returns-clause-grown c = c.make_true.ensures.grown
+
+pub returns-then-make_true-clause-fewer : goal.returns-then-make_true-clause-fewer
+returns-then-make_true-clause-fewer c = ap (λ (v : LinksView). v.ahead) c.in_ok-put-2.ensures.put
+
+pub returns-then-not-watch-clause-fewer : goal.returns-then-not-watch-clause-fewer
+returns-then-not-watch-clause-fewer c = ap (λ (v : LinksView). v.ahead) c.in_ok-put.ensures.put
+
+pub returns-in-ForGood-clause-fewer : goal.returns-in-ForGood-clause-fewer
+returns-in-ForGood-clause-fewer c = ap (λ (v : LinksView). v.ahead) c.in_ok-put-in-ForGood.ensures.put
+
+pub returns-then-not-is_due-clause-fewer : goal.returns-then-not-is_due-clause-fewer
+returns-then-not-is_due-clause-fewer c = ap (λ (v : LinksView). v.ahead) c.pass.ensures
+
+pub returns-in_err-put-clause-visiting : goal.returns-in_err-put-clause-visiting
+returns-in_err-put-clause-visiting c = subst (λ (v : LinksView). IsVisiting c.args.kernel.now c.args.longs.now c.args.place c.args.step.now c.args.entries.now v) (sym c.in_err-put.ensures.kept) c.requires.visiting
+
+pub returns-in_err-put-in-ForGood-clause-visiting : goal.returns-in_err-put-in-ForGood-clause-visiting
+returns-in_err-put-in-ForGood-clause-visiting c = subst (λ (v : LinksView). IsVisiting c.args.kernel.now c.args.longs.now c.args.place c.args.step.now c.args.entries.now v) (sym c.in_err-put-in-ForGood.ensures.kept) c.requires.visiting
+
+pub put-requires-then-make_true-clause-first : goal.put-requires-then-make_true-clause-first
+put-requires-then-make_true-clause-first c = c.requires.first
+
+pub put-requires-then-not-watch-clause-first : goal.put-requires-then-not-watch-clause-first
+put-requires-then-not-watch-clause-first c = c.requires.first

@@ -1,8 +1,8 @@
 use Rattle.std.proofs.Common.{sym, subst}
 use Rattle.cc_defs.specs.Clauses.{Literal, IsLiteralOver}
 use Rattle.cc_trail.specs.Links.{AreAhead}
-use Rattle.cc_trail.proofs.Growing.{grown_none}
-use Rattle.cc_trail.proofs.Walking.{fallen_over, visit_begins}
+use Rattle.cc_trail.proofs.Growing.{grown_none, grown_then}
+use Rattle.cc_trail.proofs.Walking.{fallen_over, visit_begins, put_watched, visit_ends}
 use Rattle.cc_trail.proofs.visits.visit_step.Goals as goal
 
 pub begin-requires : goal.begin-requires
@@ -17,3 +17,18 @@ loop-node-init c = (
       c.requires.watched (subst (λ (l : Literal). AreAhead c.args.links.now c.begin.new.self l) c.opposite-fallen.ensures c.begin.ensures),
   grown_none c.args.entries.now,
 )
+
+pub returns-in_default-visit-clause-here : goal.returns-in_default-visit-clause-here
+returns-in_default-visit-clause-here c = put_watched c.args.kernel.now c.args.longs.now c.args.place c.visit.new.entries c.visit.new.links c.end.new.self c.end.ensures c.visit.ensures.visiting.watched
+
+pub returns-in_default-visit-clause-grown : goal.returns-in_default-visit-clause-grown
+returns-in_default-visit-clause-grown c = grown_then c.args.entries.now c.loop-node.entries c.visit.new.entries c.loop-node.invariant.1 c.visit.ensures.grown
+
+pub returns-in_default-visit-clause-sound : goal.returns-in_default-visit-clause-sound
+returns-in_default-visit-clause-sound c = c.visit.ensures.visiting.sound
+
+pub returns-clause-next : goal.returns-clause-next
+returns-clause-next c = visit_ends c.args.kernel.now c.args.longs.now c.args.place c.step-step.result c.loop-node.entries c.loop-node.links c.loop-node.invariant.0 c.in_default.ensures.none
+
+pub loop-node-preserved : goal.loop-node-preserved
+loop-node-preserved c = (c.visit.ensures.visiting, grown_then c.args.entries.now c.loop-node.entries c.visit.new.entries c.loop-node.invariant.1 c.visit.ensures.grown)

@@ -1,8 +1,8 @@
-use Rattle.std.proofs.Common.{◌∙◌, ◌*◌, Bool, ap, ◌+◌, ◌<◌, ℕ, inr, None, take, sym, subst, arith}
+use Rattle.std.proofs.Common.{◌∙◌, ◌*◌, Bool, ap, ◌+◌, ◌<◌, ℕ, inr, None, take, sym, subst, arith, ◌≤◌}
 use Rattle.std.specs.Prelude.{if◌then◌else◌}
 use Rattle.cc_trail.proofs.StepLists.{level_count_few}
 use Rattle.cc_trail.proofs.Kept.{front_length}
-use Rattle.cc_trail.proofs.EntryViews.{within_push, kept_then, marked_then, levels_few, pushed_here, view_pushed, level_is}
+use Rattle.cc_trail.proofs.EntryViews.{within_push, kept_then, marked_then, levels_few, pushed_here, view_pushed, level_is, mark_room, place_room}
 use Rattle.cc_trail.proofs.entries.Entries.decide.Goals as goal
 
 pub index_mut-requires : goal.index_mut-requires
@@ -61,3 +61,11 @@ overflow_add-self-inside-2 c =
     let all = within_push c.self.inside c.args.self.now c.self.view_is c.self.invariant.kept (record { lit = c.args.lit; level = c.self.inside.level_count + 1; reason = None }) c.requires.over c.requires.open in
     let most = c.self.invariant.kept.are_steps.variables_few in
     omega (arith, all.0)
+
+pub index_mut-requires-3 : goal.index_mut-requires-3
+index_mut-requires-3 c =
+    subst (λ (n : ℕ). c.variable.result < n) (sym c.self.inside.places.ok.0) (place_room c.self.inside c.args.self.now c.self.view_is c.self.invariant.kept c.variable.result (subst (λ (n : ℕ). n ≤ c.args.self.now.variables) (sym c.variable.ensures) c.requires.over.1))
+
+pub index_mut-requires-4 : goal.index_mut-requires-4
+index_mut-requires-4 c =
+    subst (λ (n : ℕ). c.variable-2.result < n) (sym c.self.inside.marks.ok.0) (mark_room c.self.inside c.args.self.now c.self.view_is c.self.invariant.kept c.self.invariant.marked.count c.variable-2.result (subst (λ (n : ℕ). n ≤ c.args.self.now.variables) (sym c.variable-2.ensures) c.requires.over.1))

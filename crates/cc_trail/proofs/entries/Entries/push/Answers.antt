@@ -1,7 +1,7 @@
-use Rattle.std.proofs.Common.{◌*◌, Bool, ◌∙◌, ◌+◌, ◌<◌, ℕ, inl, [], ◌∷◌, ◌++◌, refl, sym, subst, ap, arith}
+use Rattle.std.proofs.Common.{◌*◌, Bool, ◌∙◌, ◌+◌, ◌<◌, ℕ, inl, [], ◌∷◌, ◌++◌, refl, sym, subst, ap, arith, ◌≤◌}
 use Rattle.std.specs.Prelude.{if◌then◌else◌}
 use Rattle.cc_trail.specs.Steps.{EntriesView}
-use Rattle.cc_trail.proofs.EntryViews.{within_push, kept_then, marked_then, levels_few, pushed_here, view_kept, level_is}
+use Rattle.cc_trail.proofs.EntryViews.{within_push, kept_then, marked_then, levels_few, pushed_here, view_kept, level_is, mark_room, place_room}
 use Rattle.cc_trail.proofs.entries.Entries.push.Goals as goal
 
 pub index_mut-requires : goal.index_mut-requires
@@ -38,3 +38,11 @@ mark-requires c =
     let all = within_push c.self.inside c.args.self.now c.self.view_is c.self.invariant.kept (record { lit = c.args.lit; level = c.self.inside.level_count; reason = c.args.reason }) c.requires.over c.requires.open in
     let most = c.self.invariant.kept.are_steps.variables_few in
     omega (arith, all.0)
+
+pub index_mut-requires-3 : goal.index_mut-requires-3
+index_mut-requires-3 c =
+    subst (λ (n : ℕ). c.variable.result < n) (sym c.self.inside.places.ok.0) (place_room c.self.inside c.args.self.now c.self.view_is c.self.invariant.kept c.variable.result (subst (λ (n : ℕ). n ≤ c.args.self.now.variables) (sym c.variable.ensures) c.requires.over.1))
+
+pub index_mut-requires-4 : goal.index_mut-requires-4
+index_mut-requires-4 c =
+    subst (λ (n : ℕ). c.variable-2.result < n) (sym c.self.inside.marks.ok.0) (mark_room c.self.inside c.args.self.now c.self.view_is c.self.invariant.kept c.self.invariant.marked.count c.variable-2.result (subst (λ (n : ℕ). n ≤ c.args.self.now.variables) (sym c.variable-2.ensures) c.requires.over.1))

@@ -1,7 +1,7 @@
-use Rattle.std.proofs.Common.{◌≡◌, ◌∙◌, ◌+◌, List, [], ◌∷◌, ◌++◌, length, sym, subst, ap, arith}
+use Rattle.std.proofs.Common.{◌≡◌, ◌∙◌, ◌+◌, List, [], ◌∷◌, ◌++◌, length, sym, subst, ap, arith, ℕ, append_assoc}
 use Rattle.cc_defs.specs.Clauses.{Literal, IsLiteralOver}
 use Rattle.cc_trail.specs.Links.{LinksView}
-use Rattle.cc_trail.proofs.Linked.{links_added}
+use Rattle.cc_trail.proofs.Linked.{links_added, code_within}
 use Rattle.cc_trail.proofs.links.Links.add_two.Goals as goal
 
 pub invariant_of-self-2 : goal.invariant_of-self-2
@@ -16,3 +16,33 @@ invariant_of-self-2 c =
     (subst (λ (v : LinksView). IsLiteralOver v.variables c.args.b) (sym c.self.view_is) c.requires.b_over)
     c.requires.apart c.len-count.result (c.len-count.result + 1) c.code.result c.code-2.result one_is (omega arith) (omega (arith, c.if-count-ge-MOST_NODES.false))
     c.code.ensures c.code-2.ensures)
+
+pub invariant_of-self : goal.invariant_of-self
+invariant_of-self c = rw c.reserve.ensures.items c.self.invariant
+
+pub invariant_of-self-in_err-push_two : goal.invariant_of-self-in_err-push_two
+invariant_of-self-in_err-push_two c = rw (c.in_err-push_two.ensures.kept, c.reserve.ensures.items) c.self.invariant
+
+pub push_two-requires-clause-first : goal.push_two-requires-clause-first
+push_two-requires-clause-first c = code_within c.self.inside.lists c.self.inside.variables c.code.result c.args.a c.self.invariant.lists_count (subst (λ (v : LinksView). IsLiteralOver v.variables c.args.a) (sym c.self.view_is) c.requires.a_over) c.code.ensures
+
+pub push_two-requires-clause-second : goal.push_two-requires-clause-second
+push_two-requires-clause-second c = code_within c.self.inside.lists c.self.inside.variables c.code-2.result c.args.b c.self.invariant.lists_count (subst (λ (v : LinksView). IsLiteralOver v.variables c.args.b) (sym c.self.view_is) c.requires.b_over) c.code-2.ensures
+
+pub returns-clause-added : goal.returns-clause-added
+returns-clause-added c =
+    let watched_is = c.in_ok-push-2.ensures.items ∙ ap (λ (literals : List Literal). literals ++ c.args.b ∷ [])
+    (c.in_ok-push.ensures.items ∙ ap (λ (literals : List Literal). literals ++ c.args.a ∷ []) c.reserve.ensures.items) ∙ append_assoc c.self.inside.watched.items (c.args.a ∷ []) (c.args.b ∷ []) in
+    ap (λ (literals : List Literal). let w : LinksView = record { variables = c.self.inside.variables; watched = literals; ahead = [] } in w) watched_is
+    ∙ ap (λ (v : LinksView). let w : LinksView = record v { watched = v.watched ++ c.args.a ∷ c.args.b ∷ []; ahead = [] } in w) c.self.view_is
+    ∙ ap (λ (ns : List ℕ). let w : LinksView = record c.args.self.now { watched = c.args.self.now.watched ++ c.args.a ∷ c.args.b ∷ []; ahead = ns } in w) (sym c.requires.none)
+
+pub invariant_of-self-in_err-push : goal.invariant_of-self-in_err-push
+invariant_of-self-in_err-push c = absurd (let room = c.in_ok-reserve.ensures.ok in let long = c.reserve.ensures.len in let full = c.in_err-push.ensures.full in omega arith)
+
+pub invariant_of-self-in_err-push-2 : goal.invariant_of-self-in_err-push-2
+invariant_of-self-in_err-push-2 c =
+    let room = c.in_ok-reserve.ensures.ok in
+    let longer = c.in_ok-push.ensures.capacity in
+    let full = c.in_err-push-2.ensures.full in
+    absurd (omega (arith, c.in_ok-push.ensures.len, c.reserve.ensures.len))

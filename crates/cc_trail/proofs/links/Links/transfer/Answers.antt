@@ -1,8 +1,9 @@
-use Rattle.std.proofs.Common.{◌≢◌, ◌∙◌, ℕ, List, set, drop, sym, subst, ap}
+use Rattle.std.proofs.Common.{◌≢◌, ◌∙◌, ℕ, List, set, drop, sym, subst, ap, ◌<◌, length}
 use Rattle.cc_defs.specs.Clauses.{IsLiteralOver}
 use Rattle.cc_trail.specs.Links.{LinksView, BeginsWith, watched_at}
 use Rattle.cc_trail.specs.LinkParts.{view_of}
 use Rattle.cc_trail.proofs.Linked.{links_moved, ahead_moved}
+use Rattle.std.proofs.lemmas.List.{length-set}
 use Rattle.cc_trail.proofs.links.Links.transfer.Goals as goal
 
 pub invariant_of-self-2 : goal.invariant_of-self-2
@@ -24,3 +25,9 @@ returns-clause-moved c =
     (subst (λ (v : LinksView). watched_at v.watched c.args.node ≢ c.args.lit) (sym c.self.view_is) c.requires.apart)
     c.code.result c.code.ensures c.push.new.self c.take_out.new.self c.in_ok-push.ensures.pushed c.take_out.ensures)
     ∙ ap (λ (v : LinksView). let w : LinksView = record v { watched = set v.watched c.args.node c.args.lit; ahead = drop 1 v.ahead } in w) c.self.view_is
+
+pub invariant_of-self : goal.invariant_of-self
+invariant_of-self c = rw c.in_err-push.ensures.kept c.self.invariant
+
+pub take_out-requires-clause-list : goal.take_out-requires-clause-list
+take_out-requires-clause-list c = subst (λ (n : ℕ). c.self.inside.walked < n) (sym (ap length c.in_ok-push.ensures.pushed ∙ length-set c.self.inside.lists c.code.result _)) c.self.invariant.walked_low

@@ -1,4 +1,4 @@
-use Rattle.std.proofs.Common.{◌≡◌, ◌∙◌, ◌+◌, sym, subst, ap}
+use Rattle.std.proofs.Common.{◌≡◌, ◌∙◌, ◌+◌, sym, subst, ap, arith}
 use Rattle.std.proofs.lemmas.List.Elements.{All-contains}
 use Rattle.cc_defs.specs.Clauses.{Literal, IsLiteralOver}
 use Rattle.cc_trail.specs.Trails.{TrailView, IsTrail, Fits}
@@ -60,3 +60,9 @@ returns-clause-fits c =
     (subst (λ (v : TrailView). IsTrail v) c.self.view_is c.self.invariant.trail_is) c.args.id (c.requires.next ∙ ap (λ (v : TrailView). v.attached + 1) (sym same)) c.requires.there c.clause-clause.result.now
     c.clause-clause.ensures.clause c.best_two-pair.result.first c.best_two-pair.result.second c.best_two-pair.ensures.0 c.best_two-pair.ensures.1
     c.best_two-pair.ensures.2) c.attach_long.ensures.attached
+
+pub attach_pair-requires-clause-first : goal.attach_pair-requires-clause-first
+attach_pair-requires-clause-first c = (subst (λ (l : Literal). IsLiteralOver c.args.self.now.variables l) (sym c.index-clause-0.is) (rw c.requires.fits.variables (all_over c.args.kernel.now.variables c.clause-clause.result.now c.clause-clause.ensures.over 0 c.index-clause-0.result (let long = c.if-clause-lt2.false in omega arith))))
+
+pub attach_pair-requires-clause-second : goal.attach_pair-requires-clause-second
+attach_pair-requires-clause-second c = (subst (λ (l : Literal). IsLiteralOver c.args.self.now.variables l) (sym c.index-clause-1.is) (rw c.requires.fits.variables (all_over c.args.kernel.now.variables c.clause-clause.result.now c.clause-clause.ensures.over 1 c.index-clause-1.result (let long = c.if-clause-lt2.false in omega arith))))

@@ -1,5 +1,8 @@
-use Rattle.std.proofs.Common.{◌∙◌, ℕ, List, [], ◌∷◌, ◌++◌, ap}
-use Rattle.cc_trail.proofs.TrailViews.{parts_true}
+use Rattle.std.proofs.Common.{◌∙◌, ℕ, List, [], ◌∷◌, ◌++◌, ap, refl, subst, sym, arith}
+use Rattle.cc_trail.proofs.TrailViews.{parts_true, parts_kept}
+use Rattle.cc_defs.specs.Clauses.{IsLiteralOver}
+use Rattle.cc_trail.specs.Trails.{TrailView, IsTrail}
+use Rattle.cc_trail.specs.TrailParts.{view_of}
 use Rattle.cc_trail.proofs.trail.Trail.attach_true.Goals as goal
 
 pub invariant_of-self-2 : goal.invariant_of-self-2
@@ -12,3 +15,18 @@ invariant_of-self-2 c =
       pairs_variables = there.2;
       ahead = there.3;
     }
+
+pub invariant_of-self : goal.invariant_of-self
+invariant_of-self c = parts_kept c.self.inside _ c.self.invariant (ap (λ (longs : List ℕ). let v : TrailView = record (view_of c.self.inside) { longs = longs } in v) c.reserve.ensures.items) refl
+
+pub invariant_of-self-in_err-add_two : goal.invariant_of-self-in_err-add_two
+invariant_of-self-in_err-add_two c = parts_kept c.self.inside _ c.self.invariant (λ i. record (view_of c.self.inside) { longs = c.reserve.ensures.items i; watched = (c.in_err-add_two.ensures.kept i).watched }) c.in_err-add_two.ensures.kept
+
+pub push-requires-2-clause-over : goal.push-requires-2-clause-over
+push-requires-2-clause-over c = (subst (λ (v : TrailView). IsLiteralOver v.variables c.args.pair.first) (sym c.self.view_is) c.requires.first)
+
+pub returns-clause-trail : goal.returns-clause-trail
+returns-clause-trail c = subst IsTrail c.self.view_is c.self.invariant.trail_is
+
+pub invariant_of-self-in_err-push : goal.invariant_of-self-in_err-push
+invariant_of-self-in_err-push c = absurd (let room = c.in_ok-reserve.ensures.ok in let long = c.reserve.ensures.len in let full = c.in_err-push.ensures.full in omega arith)

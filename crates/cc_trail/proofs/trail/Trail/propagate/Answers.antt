@@ -1,4 +1,4 @@
-use Rattle.std.proofs.Common.{◌≡◌, ◌∙◌, ℕ, List, length, sym, subst}
+use Rattle.std.proofs.Common.{◌≡◌, ◌∙◌, ℕ, List, length, sym, subst, ◌*◌, ap, length-append, arith, refl}
 use Rattle.std.specs.Prelude.{IfNone}
 use Rattle.std.proofs.lemmas.Result.{IfOk-weaker}
 use Rattle.cc_defs.specs.Assignments.{IsClosed}
@@ -6,9 +6,12 @@ use Rattle.cc_kernel.specs.Kernels.{clauses_of}
 use Rattle.cc_defs.specs.Clauses.{IsIn}
 use Rattle.cc_trail.specs.Steps.{values_of}
 use Rattle.cc_trail.specs.Visits.{AreWatched}
-use Rattle.cc_trail.proofs.Growing.{watched_grown}
+use Rattle.cc_trail.proofs.Growing.{watched_grown, grown_then}
 use Rattle.cc_trail.proofs.Walking.{met_grown}
 use Rattle.cc_trail.proofs.Propagated.{watched_here, known_here, followed_still, still_good, good_then, fits_then, all_closed}
+use Rattle.cc_trail.specs.Trails.{TrailView}
+use Rattle.cc_trail.specs.declared.entries.Step.{Step}
+use Rattle.cc_trail.specs.Pairs.{ArePaired}
 use Rattle.cc_trail.proofs.trail.Trail.propagate.Goals as goal
 
 pub make_shorts-requires-clause-known : goal.make_shorts-requires-clause-known
@@ -55,3 +58,43 @@ returns-clause-closed c =
     (λ number here. met_grown (clauses_of c.args.kernel.now) c.make_shorts.new.entries c.visit_steps.new.entries number c.visit_steps.ensures.grown
     (c.in_default.ensures.met number (subst (λ (ns : List ℕ). IsIn ns number) (sym c.deref.ensures.value) here))))
     c.visit_steps.ensures.all
+
+pub invariant_of-self : goal.invariant_of-self
+invariant_of-self c =
+    let grown = c.make_shorts.ensures.grown in
+    let more = ap (λ (steps : List Step). length steps) grown.steps ∙ length-append c.self.inside.entries.steps grown.more in
+    record {
+      trail_is = record {
+        are_steps = c.make_shorts.ensures.sound.are_steps;
+        visited = let before = c.self.invariant.trail_is.visited in omega arith;
+        nodes = c.self.invariant.trail_is.nodes;
+      };
+      variables = c.self.invariant.variables ∙ sym grown.variables;
+      pairs_variables = c.self.invariant.pairs_variables ∙ sym grown.variables;
+      ahead = c.self.invariant.ahead;
+    }
+
+pub invariant_of-self-2 : goal.invariant_of-self-2
+invariant_of-self-2 c =
+    let watched = c.visit_steps.ensures.watched in
+    record {
+      trail_is = record {
+        are_steps = c.visit_steps.ensures.sound.are_steps;
+        visited = watched.within;
+        nodes = watched.nodes ∙ ap (λ (ns : List ℕ). 2 * length ns) c.deref-2.ensures.value;
+      };
+      variables = watched.variables ∙ sym c.visit_steps.ensures.sound.variables;
+      pairs_variables = c.self.invariant.pairs_variables ∙ sym (c.visit_steps.ensures.grown.variables ∙ c.make_shorts.ensures.grown.variables);
+      ahead = c.visit_steps.ensures.none;
+    }
+
+pub returns-clause-propagated : goal.returns-clause-propagated
+returns-clause-propagated c =
+    let grown = grown_then c.self.inside.entries c.make_shorts.new.entries c.visit_steps.new.entries c.make_shorts.ensures.grown c.visit_steps.ensures.grown in
+    rw (← c.self.view_is) (record { more = grown.more; steps = grown.steps; each = grown.each; variables = grown.variables; level_count = grown.level_count; attached = refl })
+
+pub visit_steps-requires-clause-paired : goal.visit_steps-requires-clause-paired
+visit_steps-requires-clause-paired c = subst (λ (v : TrailView). ArePaired (clauses_of c.args.kernel.now) v.pairs) (sym c.self.view_is) c.requires.fits.clauses.pairs
+
+pub returns-clause-settled : goal.returns-clause-settled
+returns-clause-settled c = c.visit_steps.ensures.sound.settled
