@@ -154,6 +154,9 @@ module _ {X : Type 0} (P : X → Type 0) where
       let both = subst (AllByRecursion P) (drop-cons xs i none less) all in
       subst (λ (n : ℕ). AllByRecursion P (drop n xs)) (let e : suc i ≡ i + 1 = omega arith in e) both.1
 
+  pub first_behind : (xs : List X) (i : ℕ) (none : X) → i < length xs → AllByRecursion P (drop i xs) → P (get_or xs i none)
+  first_behind xs i none less all = (subst (AllByRecursion P) (drop-cons xs i none less) all).0
+
   pub all_each : {Y : Type 0} (Q : Y → Type 0) (f : Y → X) → ((y : Y) → Q y → P (f y)) → (ys : List Y) → AllByRecursion Q ys → AllByRecursion (λ y. P (f y)) ys
   all_each Q f each [] all = tt
   all_each Q f each (y ∷ ys) all = (each y all.0, all_each Q f each ys all.1)

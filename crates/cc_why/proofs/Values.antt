@@ -1,5 +1,6 @@
 -- Lists of the values of a function.
-use Rattle.std.proofs.Common.{◌≡◌, ◌∙◌, ℕ, zero, suc, ◌+◌, ◌<◌, ◌⊎◌, inl, inr, List, [], ◌∷◌, ◌++◌, length, map, get_or, refl, sym, ap, subst, arith, length-append}
+use Rattle.std.proofs.Common.{◌≡◌, ◌∙◌, ℕ, zero, suc, ◌+◌, ◌<◌, ◌⊎◌, inl, inr, List, [], ◌∷◌, ◌++◌, length, map, drop, get_or, refl, sym, ap, subst, arith, length-append, append_assoc, add-one}
+use Rattle.std.proofs.Math.Seq.{drop-cons}
 use Rattle.std.proofs.lemmas.List.{ext_get_or, length-map}
 use Rattle.cc_defs.specs.Declarations.{upto}
 
@@ -48,3 +49,17 @@ pub values_are : {X : Type 0} (f : ℕ → X) (xs : List X) (n : ℕ) (d : X) �
 values_are f xs n d long each =
     ext_get_or d xs (map f (upto n)) (long ∙ sym (length_values f n)) (λ i less.
     let within : i < n = subst (λ (k : ℕ). i < k) long less in each i within ∙ sym (value_at f n i d within))
+
+-- one more value
+pub value_pushed : {X : Type 0} (f : ℕ → X) (n : ℕ) (items pushed : List X) (x : X) → items ≡ map f (upto n) → x ≡ f n → pushed ≡ items ++ x ∷ [] →
+    pushed ≡ map f (upto (n + 1))
+value_pushed f n items pushed x are is e =
+    e ∙ ap (λ front. front ++ x ∷ []) are ∙ ap (λ y. map f (upto n) ++ y ∷ []) is ∙ sym (map_last f n) ∙ ap (λ m. map f (upto m)) (sym (add-one n))
+
+-- where a list is mapped item by item: what is there, with what is left, is the whole
+pub item_pushed : {A X : Type 0} (f : A → X) (all : List A) (i : ℕ) (there pushed whole : List X) (a : A) (x : X) → i < length all →
+    there ++ map f (drop i all) ≡ whole → x ≡ f (get_or all i a) → pushed ≡ there ++ x ∷ [] → pushed ++ map f (drop (i + 1) all) ≡ whole
+item_pushed f all i there pushed whole a x below so_far is e =
+    ap (λ front. front ++ map f (drop (i + 1) all)) (e ∙ ap (λ y. there ++ y ∷ []) is)
+    ∙ append_assoc there (f (get_or all i a) ∷ []) (map f (drop (i + 1) all))
+    ∙ ap (λ n. there ++ f (get_or all i a) ∷ map f (drop n all)) (add-one i) ∙ ap (λ rest. there ++ map f rest) (sym (drop-cons all i a below)) ∙ so_far
