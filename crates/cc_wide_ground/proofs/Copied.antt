@@ -1,11 +1,12 @@
 -- Terms that are copied, and those of a constant.
-use Rattle.std.proofs.Common.{rules, ◌≡◌, ◌∙◌, ℕ, ◌≤◌, List, [], ◌∷◌, ◌++◌, length, map, drop, refl, sym, ap, append-nil}
-use Rattle.std.proofs.lemmas.List.{drop_all}
+use Rattle.std.proofs.Common.{rules, ◌≡◌, ◌∙◌, ℕ, ◌+◌, ◌≤◌, ◌<◌, List, [], ◌∷◌, ◌++◌, length, map, drop, get_or, refl, sym, ap, subst, append-nil, append_assoc, Result, Ok, Err, IfOk, IsErrAnd, IsOk, OnOk}
+use Rattle.std.proofs.lemmas.List.{drop_all, drop_more, map-append}
 use Rattle.std.specs.Prelude.{◌==◌, if◌then◌else◌}
 use Rattle.std.specs.Global.{Vec}
 use Rattle.cc_defs.specs.declared.formula.Term as kept
 use Rattle.cc_defs.specs.declared.formula.Term.{items-the_row-Term, items_hidden-the_row-Term-0}
 use Rattle.cc_defs.specs.declared.formula.Term.TheBlock.{hidden-the_row-Term-0}
+use Rattle.cc_defs.specs.declared.refusal.OutOfMemory.{OutOfMemory}
 use Rattle.cc_defs.specs.Judged.{constants_of}
 use Rattle.cc_defs.specs.Resolved.{Atom, Constant, Falsity, MoreTerms, Term, plain_row, plain_term, terms_of}
 use Rattle.cc_wide.specs.WideLaws.{atom_of_sides, listed}
@@ -30,12 +31,40 @@ listed_all : (terms : List Term) → listed (terms_of terms) ≡ terms
 listed_all [] = refl
 listed_all (term ∷ terms) = ap (λ (others : List Term). term ∷ others) (listed_all terms)
 
-pub copied_all : (items : List kept.Term) (i : ℕ) (copies : List kept.Term) (whole : List Term) → length items ≤ i →
-    map plain_term copies ++ map plain_term (drop i items) ≡ whole → map plain_term copies ≡ whole
-copied_all items i copies whole past e =
-    sym (append-nil (map plain_term copies))
-    ∙ sym (ap (λ (left : List kept.Term). map plain_term copies ++ map plain_term left) (drop_all i items past))
-    ∙ e
+module _ {X Y Z : Type 0} (plain : X → Y) (left : List Z → List Y) where
+  pub copied_all : (items : List Z) (i : ℕ) (copies : List X) (whole : List Y) → left [] ≡ [] → length items ≤ i →
+      map plain copies ++ left (drop i items) ≡ whole → map plain copies ≡ whole
+  copied_all items i copies whole none past e =
+      sym (append-nil (map plain copies)) ∙ ap (λ (l : List Y). map plain copies ++ l) (sym none)
+      ∙ sym (ap (λ (l : List Z). map plain copies ++ left l) (drop_all i items past)) ∙ e
+
+  pub copied_more : (meant : Z → Y) → ((z : Z) (zs : List Z) → left (z ∷ zs) ≡ meant z ∷ left zs) → (items : List Z) (i : ℕ) (z : Z) (copies new : List X) (made : Result X OutOfMemory) (whole : List Y) → i < length items → z ≡ get_or items i z →
+      IfOk made (λ item. plain item ≡ meant z) → IsOk made → IfOk made (λ item. new ≡ copies ++ item ∷ []) →
+      map plain copies ++ left (drop i items) ≡ whole → map plain new ++ left (drop (i + 1) items) ≡ whole
+  copied_more meant next items i z copies new (Ok item) whole less at same ok put e =
+      let rest = left (drop (i + 1) items) in
+      ap (λ (l : List X). map plain l ++ rest) put ∙ ap (λ (l : List Y). l ++ rest) (map-append plain copies (item ∷ [])) ∙ append_assoc (map plain copies) (plain item ∷ []) rest
+      ∙ ap (λ (l : List Y). map plain copies ++ l) (ap (λ (y : Y). y ∷ rest) same ∙ sym (next z (drop (i + 1) items)) ∙ sym (ap left (drop_more items i z less ∙ ap (λ y. y ∷ drop (i + 1) items) (sym at)))) ∙ e
+  copied_more meant next items i z copies new (Err fault) whole less at same ok put e = absurd cc
+
+-- ---- what calls made
+
+pub nothing_told : {X E : Type 0} (P : Type 0) (result : Result X E) (fault : E) → IsErrAnd result (λ given. given ≡ fault) → OnOk result P
+nothing_told P (Ok made) fault failed = absurd failed
+nothing_told P (Err given) fault failed = tt
+
+pub nothing_made : {X E : Type 0} (P : X → Type 0) (result : Result X E) (fault : E) → IsErrAnd result (λ given. given ≡ fault) → IfOk result P
+nothing_made P (Ok made) fault failed = absurd failed
+nothing_made P (Err given) fault failed = tt
+
+pub two : {A B C : Type 0} (make : A → B → C) {a b : A} {x y : B} → a ≡ b → x ≡ y → make a x ≡ make b y
+two make {a = a} {b = b} {x = x} {y = y} p q = ap (λ z. make z x) p ∙ ap (make b) q
+
+pub was_made : {X : Type 0} (P : X → Type 0) (result : Result X OutOfMemory) (value inner : X) → IfOk result P → result ≡ Ok value → inner ≡ value → P inner
+was_made P result value inner so is same = subst P (sym same) (subst (λ r. IfOk r P) is so)
+
+pub copied : {X Y : Type 0} (plain : X → Y) (result : Result X OutOfMemory) (value at old : X) → IfOk result (λ copy. plain copy ≡ plain at) → result ≡ Ok value → at ≡ old → plain value ≡ plain old
+copied plain result value at old so is same = subst (λ r. IfOk r (λ copy. plain copy ≡ plain at)) is so ∙ ap plain same
 
 -- the head of an equation with a constant
 pub sides_are : (side : kept.Term) (symbol : ℕ) (args : Vec kept.Term) (items : List kept.Term) (value : Term) →

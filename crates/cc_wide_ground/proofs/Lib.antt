@@ -1,4 +1,5 @@
 pub mod Copied
 pub mod Joined
+pub mod Shared
 pub mod WideFits
 pub mod Zipped

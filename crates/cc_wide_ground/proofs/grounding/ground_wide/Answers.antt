@@ -1,10 +1,14 @@
-use Rattle.std.proofs.Common.{◌∙◌, ap, map, subst, sym}
+use Rattle.std.proofs.Common.{◌∙◌, Option, ap, map, subst, sym}
+use Rattle.std.specs.Option.{option_or}
 use Rattle.cc_arena.specs.GroundViews.{plain_ground_laws}
+use Rattle.cc_defs.specs.declared.refusal.Refusal.{Refusal}
 use Rattle.cc_defs.specs.Universe.{universe}
+use Rattle.cc_ground.specs.Counting.{laws_refusal}
 use Rattle.cc_wide.specs.WideForms.{AreWideGroundLaws}
 use Rattle.cc_wide.specs.WideGrounds.{plain_wide_ground}
 use Rattle.cc_wide.specs.WideLaws.{frame_base, plain_wide_base}
 use Rattle.cc_wide_ground.specs.WideGrounding.{head_base}
+use Rattle.cc_wide_ground.proofs.Copied.{nothing_made, nothing_told}
 use Rattle.cc_wide_ground.proofs.WideFits.{all_fit}
 use Rattle.cc_wide_ground.proofs.Zipped.{all_made}
 use Rattle.cc_wide_ground.proofs.grounding.ground_wide.Goals as goal
@@ -26,3 +30,47 @@ returns-clause-fits c = λ declarations is of forms.
     subst (AreWideGroundLaws u) (sym (returns-clause-made c declarations is of))
     (all_fit u c.fluent_terms_fit.ensures c.ground_laws_fit.ensures (c.declared_have_their_kinds.ensures declarations)
     (c.declared_have_their_values.ensures declarations is.known) 0 (map plain_wide_base c.args.laws.now) forms)
+
+pub returns-in_err-parts-clause-made : goal.returns-in_err-parts-clause-made
+returns-in_err-parts-clause-made c = λ declarations is of. nothing_made _ c.from_residual-in_err-parts.result _ c.from_residual-in_err-parts.ensures.1
+
+pub returns-in_err-parts-clause-fits : goal.returns-in_err-parts-clause-fits
+returns-in_err-parts-clause-fits c = λ declarations is of forms. nothing_made _ c.from_residual-in_err-parts.result _ c.from_residual-in_err-parts.ensures.1
+
+pub returns-in_err-heads-clause-made : goal.returns-in_err-heads-clause-made
+returns-in_err-heads-clause-made c = λ declarations is of. nothing_made _ c.from_residual-in_err-heads.result _ c.from_residual-in_err-heads.ensures.1
+
+pub returns-in_err-heads-clause-fits : goal.returns-in_err-heads-clause-fits
+returns-in_err-heads-clause-fits c = λ declarations is of forms. nothing_made _ c.from_residual-in_err-heads.result _ c.from_residual-in_err-heads.ensures.1
+
+pub returns-in_err-falsehood-clause-made : goal.returns-in_err-falsehood-clause-made
+returns-in_err-falsehood-clause-made c = λ declarations is of. nothing_made _ c.from_residual-in_err-falsehood.result _ c.from_residual-in_err-falsehood.ensures.1
+
+pub returns-in_err-falsehood-clause-fits : goal.returns-in_err-falsehood-clause-fits
+returns-in_err-falsehood-clause-fits c = λ declarations is of forms. nothing_made _ c.from_residual-in_err-falsehood.result _ c.from_residual-in_err-falsehood.ensures.1
+
+pub returns-in_err-made-clause-made : goal.returns-in_err-made-clause-made
+returns-in_err-made-clause-made c = λ declarations is of. nothing_made _ c.from_residual-in_err-made.result _ c.from_residual-in_err-made.ensures.1
+
+pub returns-in_err-made-clause-fits : goal.returns-in_err-made-clause-fits
+returns-in_err-made-clause-fits c = λ declarations is of forms. nothing_made _ c.from_residual-in_err-made.result _ c.from_residual-in_err-made.ensures.1
+
+pub returns-in_err-parts-clause-unrefused : goal.returns-in_err-parts-clause-unrefused
+returns-in_err-parts-clause-unrefused c = λ declarations is of. nothing_told _ c.from_residual-in_err-parts.result _ c.from_residual-in_err-parts.ensures.1
+
+pub returns-in_err-heads-clause-unrefused : goal.returns-in_err-heads-clause-unrefused
+returns-in_err-heads-clause-unrefused c = λ declarations is of. nothing_told _ c.from_residual-in_err-heads.result _ c.from_residual-in_err-heads.ensures.1
+
+pub returns-in_err-falsehood-clause-unrefused : goal.returns-in_err-falsehood-clause-unrefused
+returns-in_err-falsehood-clause-unrefused c = λ declarations is of. nothing_told _ c.from_residual-in_err-falsehood.result _ c.from_residual-in_err-falsehood.ensures.1
+
+pub returns-in_err-made-clause-unrefused : goal.returns-in_err-made-clause-unrefused
+returns-in_err-made-clause-unrefused c = λ declarations is of. nothing_told _ c.from_residual-in_err-made.result _ c.from_residual-in_err-made.ensures.1
+
+pub returns-clause-unrefused : goal.returns-clause-unrefused
+returns-clause-unrefused c = λ declarations is of.
+    let u = universe declarations in
+    let laws = map plain_wide_base c.args.laws.now in
+    ap (λ (o : Option Refusal). option_or o (laws_refusal u (map head_base laws)))
+    (ap (laws_refusal u) (sym (c.in_ok-frames.ensures ∙ ap (λ laws. map frame_base (map plain_wide_base laws)) c.items.ensures)) ∙ c.in_ok-parts.ensures.unrefused declarations is of)
+    ∙ ap (laws_refusal u) (sym (c.in_ok-told.ensures ∙ ap (λ laws. map head_base (map plain_wide_base laws)) c.items-2.ensures)) ∙ c.in_ok-heads.ensures.unrefused declarations is of
