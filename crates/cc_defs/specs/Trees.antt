@@ -1,5 +1,6 @@
 -- The tree of a statement in plain form: without boxes and vectors, and apart from where its names lie in memory.
 use Rattle.std.specs.Prelude.{ℕ, Bool, List, map, Option}
+use Rattle.std.specs.Global.{Box}
 use Rattle.std.specs.Option.{option_map}
 use Rattle.cc_defs.specs.declared.signature.At.{At}
 use Rattle.cc_defs.specs.declared.tree.KindWord.{KindWord}
@@ -193,16 +194,20 @@ plain_query_item (query_items.Label label) = Label label.now
 plain_query_item (query_items.Range lo hi) = Range lo hi
 plain_query_item (query_items.Condition claim at formulas) = Condition claim at (map plain_tree formulas)
 
+-- the same of a tree in a box
+abbrev pub boxed_tree : Box trees.Tree → PlainTree
+boxed_tree tree = plain_tree tree.value
+
 abbrev pub plain_law : LawTree → PlainLaw
-plain_law (law_trees.Caused f g h) = Caused (plain_tree f) (option_map plain_tree g) (option_map plain_tree h)
-plain_law (law_trees.Constraint f) = Constraint (plain_tree f)
-plain_law (law_trees.Always f) = Always (plain_tree f)
-plain_law (law_trees.Nonexecutable f g) = Nonexecutable (plain_tree f) (option_map plain_tree g)
-plain_law (law_trees.Default f g h) = Default (plain_tree f) (option_map plain_tree g) (option_map plain_tree h)
+plain_law (law_trees.Caused f g h) = Caused (boxed_tree f) (option_map boxed_tree g) (option_map boxed_tree h)
+plain_law (law_trees.Constraint f) = Constraint (boxed_tree f)
+plain_law (law_trees.Always f) = Always (boxed_tree f)
+plain_law (law_trees.Nonexecutable f g) = Nonexecutable (boxed_tree f) (option_map boxed_tree g)
+plain_law (law_trees.Default f g h) = Default (boxed_tree f) (option_map boxed_tree g) (option_map boxed_tree h)
 plain_law (law_trees.Exogenous c) = Exogenous (plain_term c)
 plain_law (law_trees.Inertial c) = Inertial (plain_term c)
-plain_law (law_trees.Causes a f g) = Causes (plain_tree a) (plain_tree f) (option_map plain_tree g)
-plain_law (law_trees.MayCause a f g) = MayCause (plain_tree a) (plain_tree f) (option_map plain_tree g)
+plain_law (law_trees.Causes a f g) = Causes (boxed_tree a) (boxed_tree f) (option_map boxed_tree g)
+plain_law (law_trees.MayCause a f g) = MayCause (boxed_tree a) (boxed_tree f) (option_map boxed_tree g)
 plain_law law_trees.NoConcurrency = NoConcurrency
 
 abbrev pub plain_part : Part → PlainPart
@@ -212,7 +217,7 @@ plain_part (parts.Variables items) = Variables (map plain_list_item items)
 plain_part (parts.Constants items) = Constants (map plain_const_item items)
 plain_part (parts.Query items) = Query (map plain_query_item items)
 plain_part (parts.Include file) = Include file.now
-plain_part (parts.Law law test) = Law (plain_law law) (option_map plain_tree test)
+plain_part (parts.Law law test) = Law (plain_law law) (option_map boxed_tree test)
 
 abbrev pub plain_statement : Statement → PlainStatement
 plain_statement statement = record { part = plain_part statement.part; line = statement.line }

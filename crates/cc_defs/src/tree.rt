@@ -150,27 +150,28 @@ pub enum QueryItem<'s> {
     },
 }
 
-/// A law without its `where` test. The optional parts are those behind `if` and `after`, in this order.
+/// A law without its `where` test. The optional parts are those behind `if` and `after`, in this order. Formulas are in boxes,
+/// as those of a formula are: so a law takes little room where it stands.
 #[derive(Drop)]
 pub enum LawTree<'s> {
     /// `caused F if G after H`
-    Caused(Tree<'s>, Option<Tree<'s>>, Option<Tree<'s>>),
+    Caused(Box<Tree<'s>>, Option<Box<Tree<'s>>>, Option<Box<Tree<'s>>>),
     /// `constraint F`
-    Constraint(Tree<'s>),
+    Constraint(Box<Tree<'s>>),
     /// `always F`
-    Always(Tree<'s>),
+    Always(Box<Tree<'s>>),
     /// `nonexecutable F if G`
-    Nonexecutable(Tree<'s>, Option<Tree<'s>>),
+    Nonexecutable(Box<Tree<'s>>, Option<Box<Tree<'s>>>),
     /// `default F if G after H`
-    Default(Tree<'s>, Option<Tree<'s>>, Option<Tree<'s>>),
+    Default(Box<Tree<'s>>, Option<Box<Tree<'s>>>, Option<Box<Tree<'s>>>),
     /// `exogenous c`
     Exogenous(TermTree<'s>),
     /// `inertial c`
     Inertial(TermTree<'s>),
     /// `A causes F if G`
-    Causes(Tree<'s>, Tree<'s>, Option<Tree<'s>>),
+    Causes(Box<Tree<'s>>, Box<Tree<'s>>, Option<Box<Tree<'s>>>),
     /// `A may cause F if G`
-    MayCause(Tree<'s>, Tree<'s>, Option<Tree<'s>>),
+    MayCause(Box<Tree<'s>>, Box<Tree<'s>>, Option<Box<Tree<'s>>>),
     /// `noconcurrency`
     NoConcurrency,
 }
@@ -191,7 +192,7 @@ pub enum Part<'s> {
     /// `:- include '..'`, the file's name without its quotes
     Include(&'s str),
     /// A law, with its `where` test.
-    Law(LawTree<'s>, Option<Tree<'s>>),
+    Law(LawTree<'s>, Option<Box<Tree<'s>>>),
 }
 
 /// A statement, and the line of its first token, from 1.

@@ -31,3 +31,8 @@ pub some_of : {X E Z : Type 0} (plain : X → Z) (made : Result X E) (result : R
     IfOk made (λ x. plain x ≡ z) → IfOk result (λ part. option_map plain part ≡ Some z)
 some_of plain (Ok x) result z e q = subst (λ r. IfOk r (λ part. option_map plain part ≡ Some z)) (sym e) (ap Some q)
 some_of plain (Err error) result z e q = no_value (λ part. option_map plain part ≡ Some z) result e
+
+-- the same, of a value that is known by another name
+pub some_as : {X E Z : Type 0} (plain : X → Z) (made : Result X E) (result : Result (Option X) E) (z w : Z) → z ≡ w → MatchResult made (λ value. result ≡ Ok (Some value)) (λ error. IsErr result) →
+    IfOk made (λ x. plain x ≡ z) → IfOk result (λ part. option_map plain part ≡ Some w)
+some_as plain made result z w same e q = subst (λ v. IfOk result (λ part. option_map plain part ≡ Some v)) same (some_of plain made result z e q)

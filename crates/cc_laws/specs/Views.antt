@@ -7,7 +7,7 @@ use Rattle.cc_defs.specs.declared.tree.Addend.{Addend}
 use Rattle.cc_defs.specs.declared.tree.SumTree.{SumTree}
 use Rattle.cc_defs.specs.Resolved.{Formula, plain_formula}
 use Rattle.cc_defs.specs.Resolved as resolved
-use Rattle.cc_defs.specs.Trees.{Comparison, PlainTerm, PlainSums, NoSums, MoreSums, PlainSum, Summed, PlainPiece, Numeral, Called, PlainAddends, NoAddends, MoreAddends, PlainTree, plain_law, plain_sum, plain_tree}
+use Rattle.cc_defs.specs.Trees.{Comparison, PlainTerm, PlainSums, NoSums, MoreSums, PlainSum, Summed, PlainPiece, Numeral, Called, PlainAddends, NoAddends, MoreAddends, PlainTree, boxed_tree, plain_law, plain_sum, plain_tree}
 use Rattle.cc_defs.specs.Trees as trees
 use Rattle.cc_laws.specs.declared.expansion.Source.{Source}
 use Rattle.cc_laws.specs.declared.meaning.Meaning.{Meaning as KeptMeaning}
@@ -182,4 +182,4 @@ frame_of frame = record {
 
 -- what the base laws of a law have in common
 abbrev pub frame_from : Vocabulary → Source → Frame
-frame_from v source = law_frame source.file v source.line source.variables.now (option_map plain_tree source.test.now)
+frame_from v source = law_frame source.file v source.line source.variables.now (option_map boxed_tree source.test.now)

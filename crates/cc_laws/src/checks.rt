@@ -3,7 +3,7 @@ ghost use Rattle.std.specs.Prelude.{◌≡◌, ◌++◌, List as Items, None, fl
 ghost use Rattle.std.specs.List.{list_any};
 ghost use Rattle.std.specs.Option.{option_map};
 ghost use Rattle.cc_defs.specs.Declarations.{Declaration as Declared};
-ghost use Rattle.cc_defs.specs.Trees.{plain_term, plain_tree, plain_law, plain_part, plain_statement};
+ghost use Rattle.cc_defs.specs.Trees.{boxed_tree, plain_law, plain_part, plain_statement, plain_term};
 ghost use Rattle.cc_defs.specs.declared.refusal.Fault.TheVariants as faulty;
 ghost use Rattle.cc_defs.specs.Refusals as refusals;
 ghost use Rattle.cc_defs.specs.Refusals.{IsRefusedBy, least};
@@ -29,9 +29,9 @@ use cc_sorts::Table;
 use std::alloc::Global;
 
 /// Whether a part that may be missing fails the check.
-fn part_fails(table: &Table, check: Check, part: &Option<Tree<'_>>) -> bool
+fn part_fails(table: &Table, check: Check, part: &Option<Box<Tree<'_>>>) -> bool
     ensures { result ≡ list_any
-        (fails (vocabulary_of table.now) check) (optional (option_map plain_tree part.now)) }
+        (fails (vocabulary_of table.now) check) (optional (option_map boxed_tree part.now)) }
 {
     match part {
         Some(formula) => formula_fails(table, check, formula),
@@ -62,9 +62,9 @@ fn formulas_fail(table: &Table, check: Check, law: &LawTree<'_>) -> bool
 }
 
 /// Whether a formula of a law or its test fails the check.
-fn law_fails(table: &Table, check: Check, law: &LawTree<'_>, test: &Option<Tree<'_>>) -> bool
+fn law_fails(table: &Table, check: Check, law: &LawTree<'_>, test: &Option<Box<Tree<'_>>>) -> bool
     ensures { result ≡ list_any (fails (vocabulary_of table.now) check)
-        (faults.formulas (plain_law law.now) ++ optional (option_map plain_tree test.now)) }
+        (faults.formulas (plain_law law.now) ++ optional (option_map boxed_tree test.now)) }
 {
     formulas_fail(table, check, law) || part_fails(table, check, test)
 }
@@ -83,16 +83,16 @@ fn subject_has(table: &Table, property: Property, law: &LawTree<'_>) -> bool
 }
 
 #[tactic(auto, using(crate::proofs::Failing::some_unknown))]
-fn law_has_unknown(table: &Table, law: &LawTree<'_>, test: &Option<Tree<'_>>) -> bool
+fn law_has_unknown(table: &Table, law: &LawTree<'_>, test: &Option<Box<Tree<'_>>>) -> bool
     ensures { result ≡ faults.law_has_unknown
-        (vocabulary_of table.now) (plain_law law.now) (optional (option_map plain_tree test.now)) }
+        (vocabulary_of table.now) (plain_law law.now) (optional (option_map boxed_tree test.now)) }
 {
     law_fails(table, Check::Unknown, law, test) || subject_has(table, Property::Unknown, law)
 }
 
-fn law_has_miscounted(table: &Table, law: &LawTree<'_>, test: &Option<Tree<'_>>) -> bool
+fn law_has_miscounted(table: &Table, law: &LawTree<'_>, test: &Option<Box<Tree<'_>>>) -> bool
     ensures { result ≡ faults.law_has_miscounted
-        (vocabulary_of table.now) (plain_law law.now) (optional (option_map plain_tree test.now)) }
+        (vocabulary_of table.now) (plain_law law.now) (optional (option_map boxed_tree test.now)) }
 {
     law_fails(table, Check::Mentions(Property::Miscounted), law, test)
         || subject_has(table, Property::Miscounted, law)
@@ -119,9 +119,9 @@ fn subject_misfits(table: &Table, law: &LawTree<'_>) -> bool
 }
 
 /// Whether something in a law or its test does not fit.
-fn law_misfits(table: &Table, law: &LawTree<'_>, test: &Option<Tree<'_>>) -> bool
+fn law_misfits(table: &Table, law: &LawTree<'_>, test: &Option<Box<Tree<'_>>>) -> bool
     ensures { result ≡ faults.law_misfits
-        (vocabulary_of table.now) (plain_law law.now) (optional (option_map plain_tree test.now)) }
+        (vocabulary_of table.now) (plain_law law.now) (optional (option_map boxed_tree test.now)) }
 {
     (law_fails(table, Check::Misfits, law, test) || subject_misfits(table, law))
         || part_fails(table, Check::Mentions(Property::Constant), test)
@@ -131,11 +131,11 @@ fn law_misfits(table: &Table, law: &LawTree<'_>, test: &Option<Tree<'_>>) -> boo
 fn add_part(
     table: &Table,
     bound: &mut Vec<u32>,
-    part: &Option<Tree<'_>>,
+    part: &Option<Box<Tree<'_>>>,
     found: &mut Vec<u32>,
 ) -> Result<(), OutOfMemory>
     ensures added { OnOk result (found.new.items ≡ found.old.items ++ flat_map (free
-        (vocabulary_of table.now) bound.old.items) (optional (option_map plain_tree part.now))) }
+        (vocabulary_of table.now) bound.old.items) (optional (option_map boxed_tree part.now))) }
     ensures closed { OnOk result (bound.new.items ≡ bound.old.items) }
 {
     match part {
@@ -205,11 +205,11 @@ fn has_unbound(
     alloc: Global,
     table: &Table,
     law: &LawTree<'_>,
-    test: &Option<Tree<'_>>,
+    test: &Option<Box<Tree<'_>>>,
 ) -> Result<bool, OutOfMemory>
     ensures { IfOk result (λ unbound. unbound ≡ list_any (faults.has_unbound
         (vocabulary_of table.now) (faults.law_variables (vocabulary_of table.now)
-        (plain_law law.now))) (optional (option_map plain_tree test.now))) }
+        (plain_law law.now))) (optional (option_map boxed_tree test.now))) }
 {
     let Some(test) = test else {
         return Ok(false);
@@ -224,10 +224,10 @@ fn wide_fault(
     alloc: Global,
     table: &Table,
     law: &LawTree<'_>,
-    test: &Option<Tree<'_>>,
+    test: &Option<Box<Tree<'_>>>,
 ) -> Result<Option<u8>, OutOfMemory>
     ensures { IfOk result (λ fault. fault ≡ least (wide_faults (vocabulary_of table.now)
-        (plain_law law.now) (optional (option_map plain_tree test.now)))) }
+        (plain_law law.now) (optional (option_map boxed_tree test.now)))) }
 {
     if law_has_unknown(table, law, test) {
         return Ok(Some(5));
@@ -255,10 +255,10 @@ fn law_fault(
     alloc: Global,
     table: &Table,
     law: &LawTree<'_>,
-    test: &Option<Tree<'_>>,
+    test: &Option<Box<Tree<'_>>>,
 ) -> Result<Option<u8>, OutOfMemory>
     ensures { IfOk result (λ fault. fault ≡ least (faults.law_faults (vocabulary_of table.now)
-        (plain_law law.now) (optional (option_map plain_tree test.now)))) }
+        (plain_law law.now) (optional (option_map boxed_tree test.now)))) }
 {
     if let Some(number) = wide_fault(alloc, table, law, test)? {
         return Ok(Some(number));

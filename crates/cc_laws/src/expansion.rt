@@ -6,7 +6,7 @@ ghost use Rattle.cc_defs.specs.Declarations.{Declaration as Declared};
 ghost use Rattle.cc_defs.specs.Refusals.{IsRefusedBy};
 ghost use Rattle.cc_defs.specs.Resolved.{plain_base_law, plain_formula, plain_head};
 ghost use Rattle.cc_defs.specs.Resolved as resolved;
-ghost use Rattle.cc_defs.specs.Trees.{plain_const_item, plain_kind, plain_law, plain_part, plain_statement, plain_term, plain_tree};
+ghost use Rattle.cc_defs.specs.Trees.{boxed_tree, plain_const_item, plain_kind, plain_law, plain_part, plain_statement, plain_term};
 ghost use Rattle.cc_laws.specs.Expansion as words;
 ghost use Rattle.cc_laws.specs.Expansion.{Expands};
 ghost use Rattle.cc_laws.specs.LawFaults.{law_refusal};
@@ -43,7 +43,7 @@ pub(crate) struct Source<'t, 's> {
     pub(crate) file: u32,
     pub(crate) line: u32,
     pub(crate) variables: &'t [u32],
-    pub(crate) test: &'t Option<Tree<'s>>,
+    pub(crate) test: &'t Option<Box<Tree<'s>>>,
 }
 
 /// The sort of a variable; 0 where there is none.
@@ -74,14 +74,14 @@ fn written_test(
     alloc: Global,
     table: &Table,
     names: &mut Names,
-    test: &Option<Tree<'_>>,
+    test: &Option<Box<Tree<'_>>>,
 ) -> Result<Formula, OutOfMemory>
     ensures made { IfOk result (λ made.
         plain_formula made ≡ words.part (vocabulary_of table.now)
-        (scope_of names.old) names.old.next (option_map plain_tree test.now)) }
+        (scope_of names.old) names.old.next (option_map boxed_tree test.now)) }
     ensures kept { OnOk result (names.new.bindings.items ≡ names.old.bindings.items) }
     ensures next { OnOk result (names.new.next
-        ≡ names.old.next + words.part_brackets (option_map plain_tree test.now)) }
+        ≡ names.old.next + words.part_brackets (option_map boxed_tree test.now)) }
 {
     some_or(resolve_part(alloc, table, names, test), Formula::True)
 }
@@ -324,10 +324,10 @@ fn laws_in(
     table: &Table,
     line: u32,
     law: &LawTree<'_>,
-    test: &Option<Tree<'_>>,
+    test: &Option<Box<Tree<'_>>>,
 ) -> Result<Vec<BaseLaw>, OutOfMemory>
     ensures { IfOk result (λ made. map plain_base_law made.items ≡ words.laws_in file
-        (vocabulary_of table.now) line (plain_law law.now) (option_map plain_tree test.now)) }
+        (vocabulary_of table.now) line (plain_law law.now) (option_map boxed_tree test.now)) }
 {
     let variables = law_variables(alloc, table, law)?;
     let source = Source {

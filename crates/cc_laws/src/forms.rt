@@ -2,7 +2,7 @@
 ghost use Rattle.std.specs.Prelude.{◌≡◌};
 ghost use Rattle.std.specs.List.{list_all};
 ghost use Rattle.std.specs.Option.{option_map};
-ghost use Rattle.cc_defs.specs.Trees.{plain_law, plain_term, plain_tree};
+ghost use Rattle.cc_defs.specs.Trees.{boxed_tree, plain_law, plain_term, plain_tree};
 ghost use Rattle.cc_laws.specs.FormulaFaults as formulas;
 ghost use Rattle.cc_laws.specs.LawFaults as faults;
 ghost use Rattle.cc_laws.specs.FreeVariables.{optional};
@@ -38,9 +38,9 @@ fn is_action_formula(table: &Table, formula: &Tree<'_>) -> bool
 }
 
 /// Whether a part that may be missing has no action.
-fn is_fluent_part(table: &Table, part: &Option<Tree<'_>>) -> bool
+fn is_fluent_part(table: &Table, part: &Option<Box<Tree<'_>>>) -> bool
     ensures { result ≡ list_all (formulas.is_fluent_formula (vocabulary_of table.now))
-        (optional (option_map plain_tree part.now)) }
+        (optional (option_map boxed_tree part.now)) }
 {
     match part {
         Some(formula) => is_fluent_formula(table, formula),
@@ -52,11 +52,11 @@ fn is_fluent_part(table: &Table, part: &Option<Tree<'_>>) -> bool
 fn has_form(
     table: &Table,
     head: &Tree<'_>,
-    body: &Option<Tree<'_>>,
-    after: &Option<Tree<'_>>,
+    body: &Option<Box<Tree<'_>>>,
+    after: &Option<Box<Tree<'_>>>,
 ) -> bool
     ensures { result ≡ faults.has_form (vocabulary_of table.now) (plain_tree head.now)
-        (optional (option_map plain_tree body.now)) (option_map plain_tree after.now) }
+        (optional (option_map boxed_tree body.now)) (option_map boxed_tree after.now) }
 {
     let of_fluents = is_fluent_formula(table, head) && is_fluent_part(table, body);
     match after {
@@ -104,9 +104,9 @@ pub(crate) fn lacks_form(table: &Table, law: &LawTree<'_>) -> bool
 }
 
 /// Whether the head of a law with an `after` part has a statically determined fluent.
-fn has_determined_after(table: &Table, head: &Tree<'_>, after: &Option<Tree<'_>>) -> bool
+fn has_determined_after(table: &Table, head: &Tree<'_>, after: &Option<Box<Tree<'_>>>) -> bool
     ensures { result ≡ faults.has_determined_after
-        (vocabulary_of table.now) (plain_tree head.now) (option_map plain_tree after.now) }
+        (vocabulary_of table.now) (plain_tree head.now) (option_map boxed_tree after.now) }
 {
     match after {
         Some(_) => has(table, Property::Determined, head),

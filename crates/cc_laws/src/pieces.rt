@@ -2,7 +2,7 @@
 ghost use Rattle.std.specs.Prelude.{◌≡◌, ◌+◌, is_none, IfOk, OnOk};
 ghost use Rattle.std.specs.Option.{option_map};
 ghost use Rattle.cc_defs.specs.Resolved.{plain_formula};
-ghost use Rattle.cc_defs.specs.Trees.{plain_law, plain_tree};
+ghost use Rattle.cc_defs.specs.Trees.{boxed_tree, plain_law, plain_tree};
 ghost use Rattle.cc_laws.specs.Expansion as words;
 ghost use Rattle.cc_laws.specs.Resolving as resolving;
 ghost use Rattle.cc_laws.specs.Shortened as short;
@@ -63,14 +63,14 @@ fn resolve_both(
     table: &Table,
     names: &mut Names,
     first: &Tree<'_>,
-    second: &Option<Tree<'_>>,
+    second: &Option<Box<Tree<'_>>>,
 ) -> Result<Formula, OutOfMemory>
     ensures made { IfOk result (λ made.
         plain_formula made ≡ resolving.resolve (vocabulary_of table.now) (scope_of names.old)
-        names.old.next (words.both (plain_tree first.now) (option_map plain_tree second.now))) }
+        names.old.next (words.both (plain_tree first.now) (option_map boxed_tree second.now))) }
     ensures kept { OnOk result (names.new.bindings.items ≡ names.old.bindings.items) }
     ensures next { OnOk result (names.new.next ≡ names.old.next + resolving.brackets
-        (words.both (plain_tree first.now) (option_map plain_tree second.now))) }
+        (words.both (plain_tree first.now) (option_map boxed_tree second.now))) }
 {
     match second {
         Some(second) => resolve_two(alloc, table, names, Joint::Both, first, second),
@@ -83,14 +83,14 @@ pub(crate) fn resolve_part(
     alloc: Global,
     table: &Table,
     names: &mut Names,
-    part: &Option<Tree<'_>>,
+    part: &Option<Box<Tree<'_>>>,
 ) -> Result<Option<Formula>, OutOfMemory>
     ensures made { IfOk result (λ made. option_map plain_formula made
         ≡ option_map (resolving.resolve (vocabulary_of table.now) (scope_of names.old)
-        names.old.next) (option_map plain_tree part.now)) }
+        names.old.next) (option_map boxed_tree part.now)) }
     ensures kept { OnOk result (names.new.bindings.items ≡ names.old.bindings.items) }
     ensures next { OnOk result (names.new.next
-        ≡ names.old.next + words.part_brackets (option_map plain_tree part.now)) }
+        ≡ names.old.next + words.part_brackets (option_map boxed_tree part.now)) }
 {
     match part {
         Some(formula) => some(resolve(alloc, table, names, formula)),

@@ -4,7 +4,7 @@ ghost use Rattle.std.specs.Option.{option_map};
 ghost use Rattle.cc_defs.specs.Declarations.{Declaration as Declared};
 ghost use Rattle.cc_defs.specs.Refusals.{IsRefusedBy};
 ghost use Rattle.cc_defs.specs.Resolved.{plain_base_law, plain_formula, plain_head};
-ghost use Rattle.cc_defs.specs.Trees.{plain_law, plain_part, plain_statement, plain_tree};
+ghost use Rattle.cc_defs.specs.Trees.{boxed_tree, plain_law, plain_part, plain_statement, plain_tree};
 ghost use Rattle.cc_laws.specs.Expansion.{law_frame as law_frame_of};
 ghost use Rattle.cc_laws.specs.Expansion as words_of;
 ghost use Rattle.cc_laws.specs.LawFaults.{law_variables as law_variables_of};
@@ -185,12 +185,12 @@ fn whole_in(
     table: &Table,
     line: u32,
     law: &LawTree<'_>,
-    test: &Option<Tree<'_>>,
+    test: &Option<Box<Tree<'_>>>,
 ) -> Result<Vec<WideBase>, OutOfMemory>
     ensures { IfOk result (λ made. map plain_wide_base made.items
         ≡ words.whole_short (vocabulary_of table.now) (law_frame_of file (vocabulary_of table.now)
         line (law_variables_of (vocabulary_of table.now) (plain_law law.now))
-        (option_map plain_tree test.now))
+        (option_map boxed_tree test.now))
         (law_short_for (vocabulary_of table.now) (plain_law law.now))) }
 {
     let variables = law_variables(alloc, table, law)?;

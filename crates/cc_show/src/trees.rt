@@ -134,7 +134,7 @@ fn show_tree(out: &mut String, tree: &Tree) -> Result<(), OutOfMemory> {
     Ok(())
 }
 
-fn show_part(out: &mut String, word: &str, part: &Option<Tree>) -> Result<(), OutOfMemory> {
+fn show_part(out: &mut String, word: &str, part: &Option<Box<Tree>>) -> Result<(), OutOfMemory> {
     match part {
         None => Ok(()),
         Some(tree) => {

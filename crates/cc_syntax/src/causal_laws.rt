@@ -3,7 +3,7 @@ ghost use Rattle.std.specs.Prelude.{◌≡◌, Err, drop, codes, IfOk, None, Opt
 ghost use Rattle.std.specs.Option.{option_map};
 ghost use Rattle.std.specs.Result.{MatchResult};
 ghost use Rattle.cc_defs.specs.Tokens.{AreTokens};
-ghost use Rattle.cc_defs.specs.Trees.{PlainTree, PlainLaw, plain_tree, plain_law, plain_part, plain_term};
+ghost use Rattle.cc_defs.specs.Trees.{PlainTree, PlainLaw, boxed_tree, plain_law, plain_part, plain_term};
 ghost use Rattle.cc_defs.specs.Trees as trees;
 ghost use Rattle.cc_syntax.specs.Formulas.{formula_at};
 ghost use Rattle.cc_syntax.specs.Laws.{caused_at, effect_at, worded_at, acting_at, opens_formula as opening, law_at, tested_law_at};
@@ -15,7 +15,7 @@ ghost use Rattle.cc_text.specs.Views.{token_views};
 
 use crate::formulas::formula;
 use crate::operators::boxed;
-use crate::reading::{boxed_read, made_boxed, placed};
+use crate::reading::{made, made_boxed, placed};
 use crate::stop::Stop;
 use crate::terms::term;
 use crate::tokens::{token_at, word};
@@ -23,17 +23,17 @@ use crate::words::{is_reserved_word, is_word_of_value};
 use cc_defs::{LawTree, Mark, Part, TermTree, Token, TokenKind, Tree};
 use std::alloc::Global;
 
-/// `F if G`. What is read is kept in boxes until the law is made of it, so that its drop is one call.
-type Effect<'s> = (Box<Tree<'s>>, Box<Option<Tree<'s>>>);
+/// `F if G`
+type Effect<'s> = (Box<Tree<'s>>, Option<Box<Tree<'s>>>);
 
 /// `F if G after H`
-type Caused<'s> = (Effect<'s>, Box<Option<Tree<'s>>>);
+type Caused<'s> = (Effect<'s>, Option<Box<Tree<'s>>>);
 
 /// A formula that is there.
-fn some_formula<'s>(formula: Box<Tree<'s>>) -> Option<Tree<'s>>
-    ensures { option_map plain_tree result ≡ Some (plain_tree formula.entry.value) }
+fn some_formula<'s>(formula: Box<Tree<'s>>) -> Option<Box<Tree<'s>>>
+    ensures { option_map boxed_tree result ≡ Some (boxed_tree formula.entry) }
 {
-    Some(Box::into_inner(formula))
+    Some(formula)
 }
 
 /// A formula behind the word, if the word is there.
@@ -42,15 +42,15 @@ fn optional<'s>(
     tokens: &[Token<'s>],
     at: usize,
     text: &str,
-) -> Result<(Box<Option<Tree<'s>>>, usize), Stop>
+) -> Result<(Option<Box<Tree<'s>>>, usize), Stop>
     requires { AreTokens (token_views tokens.now) }
-    ensures { Reads (λ read. option_map plain_tree read.value) tokens.now result
+    ensures { Reads (λ read. option_map boxed_tree read) tokens.now result
         (optional_at formula_at text.now (drop at (seen tokens.now))) }
 {
     let Ok(next) = word(tokens, at, text) else {
-        return boxed_read(alloc, placed(None, at));
+        return placed(None, at);
     };
-    made_boxed(alloc, formula(alloc, tokens, next), some_formula)
+    made(formula(alloc, tokens, next), some_formula)
 }
 
 /// What was read, and a formula behind the word, if the word is there. What was read is of any type, so that its drop is one
@@ -60,10 +60,10 @@ fn optional_behind<'s, K: Drop>(
     tokens: &[Token<'s>],
     read: Result<(K, usize), Stop>,
     text: &str,
-) -> Result<((K, Box<Option<Tree<'s>>>), usize), Stop>
+) -> Result<((K, Option<Box<Tree<'s>>>), usize), Stop>
     requires { AreTokens (token_views tokens.now) }
     ensures { MatchResult read (λ r. IfOk result (λ both. both.0.0 ≡ r.0)
-        × Reads (λ both. option_map plain_tree both.1.value) tokens.now result (optional_at
+        × Reads (λ both. option_map boxed_tree both.1) tokens.now result (optional_at
         formula_at text.now (drop r.1 (seen tokens.now)))) (λ stop. result ≡ Err stop) }
 {
     let (kept, next) = read?;
@@ -76,7 +76,7 @@ fn optional_behind<'s, K: Drop>(
 fn effect<'s>(alloc: Global, tokens: &[Token<'s>], at: usize) -> Result<(Effect<'s>, usize), Stop>
     requires { AreTokens (token_views tokens.now) }
     ensures { (make : PlainTree → Option PlainTree → PlainLaw) →
-        Reads (λ read. make (plain_tree read.0.value) (option_map plain_tree read.1.value))
+        Reads (λ read. make (boxed_tree read.0) (option_map boxed_tree read.1))
         tokens.now result (effect_at make (drop at (seen tokens.now))) }
 {
     optional_behind(alloc, tokens, formula(alloc, tokens, at), "if")
@@ -87,8 +87,8 @@ fn effect<'s>(alloc: Global, tokens: &[Token<'s>], at: usize) -> Result<(Effect<
 fn caused<'s>(alloc: Global, tokens: &[Token<'s>], at: usize) -> Result<(Caused<'s>, usize), Stop>
     requires { AreTokens (token_views tokens.now) }
     ensures { (make : PlainTree → Option PlainTree → Option PlainTree → PlainLaw) → Reads (λ read.
-        make (plain_tree read.0.0.value) (option_map plain_tree read.0.1.value)
-        (option_map plain_tree read.1.value)) tokens.now result (caused_at make (drop at (seen tokens.now))) }
+        make (boxed_tree read.0.0) (option_map boxed_tree read.0.1)
+        (option_map boxed_tree read.1)) tokens.now result (caused_at make (drop at (seen tokens.now))) }
 {
     let formula = formula(alloc, tokens, at);
     let effect = optional_behind(alloc, tokens, formula, "if");
@@ -97,51 +97,29 @@ fn caused<'s>(alloc: Global, tokens: &[Token<'s>], at: usize) -> Result<(Caused<
 
 /// `caused`, with what is behind it.
 fn caused_tree<'s>(parts: Caused<'s>) -> LawTree<'s>
-    ensures { plain_law result ≡ trees.Caused (plain_tree parts.entry.0.0.value)
-        (option_map plain_tree parts.entry.0.1.value) (option_map plain_tree parts.entry.1.value) }
+    ensures { plain_law result ≡ trees.Caused (boxed_tree parts.entry.0.0)
+        (option_map boxed_tree parts.entry.0.1) (option_map boxed_tree parts.entry.1) }
 {
     let ((formula, condition), after) = parts;
-    LawTree::Caused(
-        Box::into_inner(formula),
-        Box::into_inner(condition),
-        Box::into_inner(after),
-    )
+    LawTree::Caused(formula, condition, after)
 }
 
 /// `default`, with what is behind it.
 fn default_tree<'s>(parts: Caused<'s>) -> LawTree<'s>
-    ensures { plain_law result ≡ trees.Default (plain_tree parts.entry.0.0.value)
-        (option_map plain_tree parts.entry.0.1.value) (option_map plain_tree parts.entry.1.value) }
+    ensures { plain_law result ≡ trees.Default (boxed_tree parts.entry.0.0)
+        (option_map boxed_tree parts.entry.0.1) (option_map boxed_tree parts.entry.1) }
 {
     let ((formula, condition), before) = parts;
-    LawTree::Default(
-        Box::into_inner(formula),
-        Box::into_inner(condition),
-        Box::into_inner(before),
-    )
-}
-
-/// `constraint`, with what is behind it.
-fn constraint_tree<'s>(formula: Box<Tree<'s>>) -> LawTree<'s>
-    ensures { plain_law result ≡ trees.Constraint (plain_tree formula.entry.value) }
-{
-    LawTree::Constraint(Box::into_inner(formula))
-}
-
-/// `always`, with what is behind it.
-fn always_tree<'s>(formula: Box<Tree<'s>>) -> LawTree<'s>
-    ensures { plain_law result ≡ trees.Always (plain_tree formula.entry.value) }
-{
-    LawTree::Always(Box::into_inner(formula))
+    LawTree::Default(formula, condition, before)
 }
 
 /// `nonexecutable`, with what is behind it.
 fn nonexecutable_tree<'s>(parts: Effect<'s>) -> LawTree<'s>
-    ensures { plain_law result ≡ trees.Nonexecutable (plain_tree parts.entry.0.value)
-        (option_map plain_tree parts.entry.1.value) }
+    ensures { plain_law result ≡ trees.Nonexecutable (boxed_tree parts.entry.0)
+        (option_map boxed_tree parts.entry.1) }
 {
     let (formula, condition) = parts;
-    LawTree::Nonexecutable(Box::into_inner(formula), Box::into_inner(condition))
+    LawTree::Nonexecutable(formula, condition)
 }
 
 /// `inertial`, and the constant behind it.
@@ -172,10 +150,10 @@ fn worded<'s>(
         return made_boxed(alloc, caused(alloc, tokens, next), caused_tree);
     }
     if let Ok(next) = word(tokens, at, "constraint") {
-        return made_boxed(alloc, formula(alloc, tokens, next), constraint_tree);
+        return made_boxed(alloc, formula(alloc, tokens, next), LawTree::Constraint);
     }
     if let Ok(next) = word(tokens, at, "always") {
-        return made_boxed(alloc, formula(alloc, tokens, next), always_tree);
+        return made_boxed(alloc, formula(alloc, tokens, next), LawTree::Always);
     }
     if let Ok(next) = word(tokens, at, "nonexecutable") {
         return made_boxed(alloc, effect(alloc, tokens, next), nonexecutable_tree);
@@ -199,7 +177,7 @@ fn effect_behind<'s, K: Drop>(
     requires { AreTokens (token_views tokens.now) }
     ensures kept { IfOk result (λ read. read.0.0 ≡ kept) }
     ensures read { (make : PlainTree → Option PlainTree → PlainLaw) →
-        Reads (λ read. make (plain_tree read.1.0.value) (option_map plain_tree read.1.1.value))
+        Reads (λ read. make (boxed_tree read.1.0) (option_map boxed_tree read.1.1))
         tokens.now result (effect_at make (drop at (seen tokens.now))) }
 {
     let (parts, next) = effect(alloc, tokens, at)?;
@@ -208,28 +186,20 @@ fn effect_behind<'s, K: Drop>(
 
 /// `causes`, between an action and its effect.
 fn causes_tree<'s>(read: (Box<Tree<'s>>, Effect<'s>)) -> LawTree<'s>
-    ensures { plain_law result ≡ trees.Causes (plain_tree read.entry.0.value)
-        (plain_tree read.entry.1.0.value) (option_map plain_tree read.entry.1.1.value) }
+    ensures { plain_law result ≡ trees.Causes (boxed_tree read.entry.0)
+        (boxed_tree read.entry.1.0) (option_map boxed_tree read.entry.1.1) }
 {
     let (action, (formula, condition)) = read;
-    LawTree::Causes(
-        Box::into_inner(action),
-        Box::into_inner(formula),
-        Box::into_inner(condition),
-    )
+    LawTree::Causes(action, formula, condition)
 }
 
 /// `may cause`, between an action and its effect.
 fn may_cause_tree<'s>(read: (Box<Tree<'s>>, Effect<'s>)) -> LawTree<'s>
-    ensures { plain_law result ≡ trees.MayCause (plain_tree read.entry.0.value)
-        (plain_tree read.entry.1.0.value) (option_map plain_tree read.entry.1.1.value) }
+    ensures { plain_law result ≡ trees.MayCause (boxed_tree read.entry.0)
+        (boxed_tree read.entry.1.0) (option_map boxed_tree read.entry.1.1) }
 {
     let (action, (formula, condition)) = read;
-    LawTree::MayCause(
-        Box::into_inner(action),
-        Box::into_inner(formula),
-        Box::into_inner(condition),
-    )
+    LawTree::MayCause(action, formula, condition)
 }
 
 /// `may cause`
@@ -310,12 +280,12 @@ fn no_concurrency<'s>(alloc: Global, next: usize) -> Result<(Box<Part<'s>>, usiz
 }
 
 /// A law and its test.
-fn law_part<'s>(read: (Box<LawTree<'s>>, Box<Option<Tree<'s>>>)) -> Part<'s>
+fn law_part<'s>(read: (Box<LawTree<'s>>, Option<Box<Tree<'s>>>)) -> Part<'s>
     ensures { plain_part result
-        ≡ trees.Law (plain_law read.entry.0.value) (option_map plain_tree read.entry.1.value) }
+        ≡ trees.Law (plain_law read.entry.0.value) (option_map boxed_tree read.entry.1) }
 {
     let (law, test) = read;
-    Part::Law(Box::into_inner(law), Box::into_inner(test))
+    Part::Law(Box::into_inner(law), test)
 }
 
 /// A law with its test.

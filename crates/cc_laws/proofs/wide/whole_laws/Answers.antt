@@ -14,5 +14,5 @@ returns-in_ok-whole-in-Caused c =
     let law = plain_law c.args.law.now in
     subst (λ w. IfOk c.only.result (λ made. map plain_wide_base made.items ≡ w))
     (ap (λ (one : WideBase). one ∷ []) c.in_ok-whole-in-Caused.ensures
-    ∙ whole_head v frame law c.is_later-later.result (plain_tree c.in-Caused.head) c.is_later-later.ensures (search rules))
+    ∙ whole_head v frame law c.is_later-later.result (plain_tree c.deref.result.now) c.is_later-later.ensures (search rules))
     (only_so plain_wide_base c.only.result c.in_ok-whole-in-Caused.whole c.only.ensures)
