@@ -217,7 +217,7 @@ plain_part (parts.Variables items) = Variables (map plain_list_item items)
 plain_part (parts.Constants items) = Constants (map plain_const_item items)
 plain_part (parts.Query items) = Query (map plain_query_item items)
 plain_part (parts.Include file) = Include file.now
-plain_part (parts.Law law test) = Law (plain_law law) (option_map boxed_tree test)
+plain_part (parts.Law law test) = Law (plain_law law.value) (option_map boxed_tree test)
 
 abbrev pub plain_statement : Statement → PlainStatement
-plain_statement statement = record { part = plain_part statement.part; line = statement.line }
+plain_statement statement = record { part = plain_part statement.part.value; line = statement.line }

@@ -150,8 +150,7 @@ pub enum QueryItem<'s> {
     },
 }
 
-/// A law without its `where` test. The optional parts are those behind `if` and `after`, in this order. Formulas are in boxes,
-/// as those of a formula are: so a law takes little room where it stands.
+/// A law without its `where` test. The optional parts are those behind `if` and `after`, in this order.
 #[derive(Drop)]
 pub enum LawTree<'s> {
     /// `caused F if G after H`
@@ -192,12 +191,12 @@ pub enum Part<'s> {
     /// `:- include '..'`, the file's name without its quotes
     Include(&'s str),
     /// A law, with its `where` test.
-    Law(LawTree<'s>, Option<Box<Tree<'s>>>),
+    Law(Box<LawTree<'s>>, Option<Box<Tree<'s>>>),
 }
 
 /// A statement, and the line of its first token, from 1.
 #[derive(Drop)]
 pub struct Statement<'s> {
-    pub part: Part<'s>,
+    pub part: Box<Part<'s>>,
     pub line: u32,
 }

@@ -255,7 +255,7 @@ impl Progress {
         ensures around { self.new.around ≡ self.old.around }
         ensures names { self.new.names ≡ self.old.names }
     {
-        match &statement.part {
+        match &*statement.part {
             Part::Sorts(_) | Part::Objects(_) | Part::Variables(_) | Part::Constants(_) => {
                 self.declare(alloc, file, statement)
             }

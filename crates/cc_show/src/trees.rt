@@ -347,7 +347,7 @@ fn show_statement(
     out: &mut String,
     statement: &Statement,
 ) -> Result<(), OutOfMemory> {
-    match &statement.part {
+    match &*statement.part {
         Part::Sorts(items) => show_sorts(out, items.items()),
         Part::Objects(items) => show_objects(out, items.items()),
         Part::Variables(items) => show_lists(out, "variables", items.items()),

@@ -38,7 +38,7 @@ pub(crate) fn add_declarations<'t, 's>(
         ≡ plain_declarations file statement.now.line found.old.items
         ++ declarations_of file (plain_statement statement.now)) }
 {
-    match &statement.part {
+    match &*statement.part {
         Part::Sorts(items) => add_sort_items(found, items.items()),
         Part::Objects(items) => add_object_items(found, items.items()),
         Part::Variables(items) => add_variable_items(found, items.items()),

@@ -1,6 +1,7 @@
 -- What the reader of statements finds is the tree of a statement, and where it finds nothing there is none.
 use Rattle.std.proofs.Common.{◌≡◌, ℕ, ◌<◌, ◌≤◌, List, [], ◌∷◌, length, slice_index_or, Option, Some, None, Result, Err, IfOk, Bool, true, false, IsFalse, refl, ap, subst, sym, ◌∙◌, ◌⊎◌, inl, inr, arith}
 use Rattle.std.specs.Bool.{then_some}
+use Rattle.std.specs.Global.{Box}
 use Rattle.std.specs.Option.{ok_or}
 use Rattle.std.proofs.lemmas.Bool.{le-ltb}
 use Rattle.std.proofs.lemmas.List.{length-map}
@@ -56,12 +57,12 @@ line_of : (tokens : List Token) (other : Token) → 0 < length tokens → first_
 line_of [] other some = absurd (omega (arith, some))
 line_of (token ∷ tokens) other some = refl
 
-pub is_parsed : (tokens : List Token) (part : Part) (other : Token) → 0 < length tokens → AreTokens (token_views tokens) →
-    IsFalse (is_too_long (seen tokens)) → statement_at (seen tokens) ≡ Some (plain_part part) →
+pub is_parsed : (tokens : List Token) (part : Box Part) (other : Token) → 0 < length tokens → AreTokens (token_views tokens) →
+    IsFalse (is_too_long (seen tokens)) → statement_at (seen tokens) ≡ Some (plain_part part.value) →
     IsParsed (token_views tokens) (plain_statement record { part = part; line = (slice_index_or tokens 0 other).line })
 is_parsed tokens part other some are short found = record {
   short = short;
-  spelled = record { whole = statement-takes (token_views tokens) are (plain_part part) found; line = sym (line_of tokens other some) };
+  spelled = record { whole = statement-takes (token_views tokens) are (plain_part part.value) found; line = sym (line_of tokens other some) };
 }
 
 pub is_refused : (tokens : List Token) (file : ℕ) (fault : Fault) → IsFalse (is_too_long (seen tokens)) →

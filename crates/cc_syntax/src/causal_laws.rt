@@ -275,7 +275,8 @@ fn no_concurrency<'s>(alloc: Global, next: usize) -> Result<(Box<Part<'s>>, usiz
         (λ read. (plain_part read.0.value ≡ trees.Law trees.NoConcurrency None) × (read.1 ≡ next))
         (λ stop. stop ≡ stops.OutOfMemory) }
 {
-    let part = boxed(alloc, Part::Law(LawTree::NoConcurrency, None))?;
+    let law = boxed(alloc, LawTree::NoConcurrency)?;
+    let part = boxed(alloc, Part::Law(law, None))?;
     Ok((part, next))
 }
 
@@ -285,7 +286,7 @@ fn law_part<'s>(read: (Box<LawTree<'s>>, Option<Box<Tree<'s>>>)) -> Part<'s>
         ≡ trees.Law (plain_law read.entry.0.value) (option_map boxed_tree read.entry.1) }
 {
     let (law, test) = read;
-    Part::Law(Box::into_inner(law), test)
+    Part::Law(law, test)
 }
 
 /// A law with its test.

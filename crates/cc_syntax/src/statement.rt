@@ -209,10 +209,7 @@ pub fn parse<'s>(alloc: Global, file: u32, tokens: &[Token<'s>]) -> Result<State
 {
     let line = tokens[0].line;
     match said(alloc, file, tokens) {
-        Ok(part) => Ok(Statement {
-            part: Box::into_inner(part),
-            line,
-        }),
+        Ok(part) => Ok(Statement { part, line }),
         Err(fault) => Err(fault),
     }
 }
