@@ -1,6 +1,6 @@
 -- What a place of a formula sees, as the code keeps it.
-use Rattle.std.proofs.Common.{◌≡◌, ◌∙◌, ℕ, ◌+◌, ◌-◌, ◌<◌, ◌≤◌, ◌==◌, List, [], ◌∷◌, ◌++◌, length, drop, get_or, Option, Some, if◌then◌else◌, arith, refl, sym, ap, subst}
-use Rattle.std.proofs.lemmas.List.{at_drop_more}
+use Rattle.std.proofs.Common.{◌≡◌, ◌∙◌, ℕ, ◌+◌, ◌-◌, ◌<◌, ◌≤◌, ◌==◌, List, [], ◌∷◌, ◌++◌, length, drop, get_or, Option, Some, if◌then◌else◌, arith, refl, sym, ap, subst, take}
+use Rattle.std.proofs.lemmas.List.{at_drop_more, length_push, take_at}
 use Rattle.cc_laws.specs.declared.names.Binding.{Binding as KeptBinding}
 use Rattle.cc_laws.specs.Resolving.{Binding, number_in, numbered_from}
 use Rattle.cc_laws.specs.Views.{plain_binding, inside}
@@ -41,3 +41,14 @@ pub bound_before : (variables : List ℕ) (place d : ℕ) (old new : List KeptBi
 bound_before variables place d old new last some within is e q =
     let here : place ≡ place - 1 + 1 = omega arith in
     bound_more variables (place - 1) d old new last (omega arith) is e (subst (λ (n : ℕ). inside [] old ≡ numbered_from n (drop n variables)) here q)
+
+-- ---- a list to which one was pushed and from which it was taken again, and a number that was counted on
+
+pub popped : {X : Type 0} (old pushed new : List X) (x : X) (count : ℕ) → count ≡ length pushed → pushed ≡ old ++ x ∷ [] → new ≡ take (count - 1) pushed → new ≡ old
+popped old pushed new x count all e q =
+    let longer : count ≡ length old + 1 = all ∙ ap length e ∙ length_push old x in
+    let as_many : length old ≡ count - 1 = omega (arith, longer) in
+    q ∙ ap (take (count - 1)) e ∙ take_at old (x ∷ []) (count - 1) as_many
+
+pub counted_on : (n m a b c : ℕ) → n ≡ m + c → m ≡ a + b → n ≡ a + (b + c)
+counted_on n m a b c e q = omega (arith, e, q)

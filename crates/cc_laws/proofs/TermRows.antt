@@ -11,7 +11,7 @@ use Rattle.cc_defs.specs.declared.tree.TermTree.{TermTree, out-TermTree}
 use Rattle.cc_defs.specs.Resolved.{Term, Terms, NoTerms, MoreTerms, plain_term}
 use Rattle.cc_defs.specs.Resolved as resolved
 use Rattle.cc_defs.specs.Trees as trees
-use Rattle.cc_laws.specs.Resolving.{Binding, resolve_term, resolve_sums, resolve_sum, resolve_piece, resolve_addends, term_meant}
+use Rattle.cc_laws.specs.Resolving.{Binding, resolve_term, resolve_sums, resolve_sum, resolve_piece, resolve_addends, term_meant, joined}
 use Rattle.cc_laws.specs.Views.{plain_sums, plain_added, row_terms}
 use Rattle.cc_laws.specs.Vocabulary.{Vocabulary, Meaning, meaning}
 use Rattle.cc_laws.proofs.Mentions.{term_parts, sum_parts}
@@ -78,3 +78,16 @@ sum_begun v scope sum made items p q =
     ap (λ (one : Term). resolve_addends v scope one (plain_added items)) p
     ∙ ap (λ (addends : List Addend). resolve_addends v scope (resolve_piece v scope (trees.plain_piece (out-SumTree sum).first)) (plain_added addends)) q
     ∙ sym (ap (resolve_sum v scope) (sum_parts sum))
+
+-- one more addend was joined
+pub addend_more : (v : Vocabulary) (scope : List Binding) (items : List Addend) (i : ℕ) (d : Addend) (made first second one whole : Term) → i < length items → d ≡ get_or items i d →
+    first ≡ made → second ≡ resolve_piece v scope (trees.plain_piece d.piece) → one ≡ joined d.minus first second →
+    resolve_addends v scope made (plain_added (drop i items)) ≡ whole → resolve_addends v scope one (plain_added (drop (i + 1) items)) ≡ whole
+addend_more v scope items i d made first second one whole within is f s e q =
+    ap (λ (t : Term). resolve_addends v scope t (plain_added (drop (i + 1) items))) (e ∙ ap (λ (t : Term). joined d.minus t second) f ∙ ap (joined d.minus made) s)
+    ∙ sym (next_item (λ (l : List Addend). resolve_addends v scope made (plain_added l)) items i d within is)
+    ∙ q
+
+pub addends_done : (v : Vocabulary) (scope : List Binding) (items : List Addend) (i : ℕ) (made whole : Term) → length items ≤ i →
+    resolve_addends v scope made (plain_added (drop i items)) ≡ whole → made ≡ whole
+addends_done v scope items i made whole past q = sym (at_drop_all (λ (l : List Addend). resolve_addends v scope made (plain_added l)) items i past) ∙ q

@@ -3,7 +3,7 @@ use Rattle.std.proofs.Common.{◌≡◌, ◌∙◌, List, [], ◌∷◌, ◌++�
 use Rattle.std.specs.Prelude.{IsErr, option_map}
 use Rattle.std.specs.Result.{MatchResult}
 use Rattle.std.proofs.lemmas.List.{map-append}
-use Rattle.std.specs.Global.{Vec}
+use Rattle.std.specs.Global.{Vec, Box}
 
 pub with_made : {X E R : Type 0} (made : Result X E) (P Q : X → Type 0) → IsOk made → IfOk made Q → IfOk made P → ((x : X) → P x → Q x → R) → R
 with_made (Ok x) P Q ok q p give = give x p q
@@ -36,3 +36,7 @@ some_of plain (Err error) result z e q = no_value (λ part. option_map plain par
 pub some_as : {X E Z : Type 0} (plain : X → Z) (made : Result X E) (result : Result (Option X) E) (z w : Z) → z ≡ w → MatchResult made (λ value. result ≡ Ok (Some value)) (λ error. IsErr result) →
     IfOk made (λ x. plain x ≡ z) → IfOk result (λ part. option_map plain part ≡ Some w)
 some_as plain made result z w same e q = subst (λ v. IfOk result (λ part. option_map plain part ≡ Some v)) same (some_of plain made result z e q)
+
+-- in a box
+pub in_box : {X E : Type 0} (P : X → Type 0) (made : Result X E) (boxed : Result (Box X) E) (box : Box X) → boxed ≡ Ok box → IfOk boxed (λ place. made ≡ Ok place.value) → IfOk made P → P box.value
+in_box P made boxed box is put so = subst (λ r. IfOk r P) (subst (λ r. IfOk r (λ place. made ≡ Ok place.value)) is put) so

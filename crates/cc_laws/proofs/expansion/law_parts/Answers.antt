@@ -30,3 +30,17 @@ returns-clause-body c =
     let body = part v (scope_of c.args.names.now) c.args.names.now.next (plain_caused c.args.law.now).body in
     ap plain_formula c.into_inner-2.ensures ∙ subst (λ r. IfOk r (λ made. plain_formula made ≡ body)) c.in_ok-body.ensures c.written_body.ensures.made
     ∙ sym (ap (λ (b : Bool). if b then resolved.Truth else body) c.if-denied.false)
+
+pub returns-then-denied-clause-after : goal.returns-then-denied-clause-after
+returns-then-denied-clause-after c =
+    let v = vocabulary_of c.args.table.now in
+    let old = c.args.names.now in
+    let law = plain_caused c.args.law.now in
+    let body = part v (scope_of old) old.next law.body in
+    ap (λ f. Some (plain_formula f)) c.into_inner.ensures
+    ∙ ap Some (subst (λ r. IfOk r (λ made. plain_formula made ≡ body)) c.in_ok-body.ensures c.written_body.ensures.made)
+    ∙ sym (ap (λ (b : Bool). if b then Some body else option_map (resolve v (scope_of old) (old.next + part_brackets law.body)) law.after) c.if-denied.true)
+
+pub returns-then-denied-clause-body : goal.returns-then-denied-clause-body
+returns-then-denied-clause-body c =
+    sym (ap (λ (b : Bool). if b then resolved.Truth else part (vocabulary_of c.args.table.now) (scope_of c.args.names.now) c.args.names.now.next (plain_caused c.args.law.now).body) c.if-denied.true)

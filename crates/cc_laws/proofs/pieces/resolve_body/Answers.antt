@@ -40,3 +40,9 @@ returns-else-law-clause-made c =
     subst (λ (part : Option PlainTree). IfOk c.some-in-Causes.result (λ made. option_map plain_formula made ≡ option_map resolved part))
     (sym (ap (λ (law : LawTree). (short_with c.args.law.now.later (plain_law law)).body) c.in-Causes.is ∙ ap (λ (later : Bool). if later then None else Some part) c.if-law.false))
     (some_as plain_formula c.resolve_both-in-Causes.result c.some-in-Causes.result _ _ (ap (λ (tree : Tree). resolved (both (plain_tree tree) (option_map boxed_tree c.in-Causes.body))) c.deref-in-Causes.ensures) c.some-in-Causes.ensures c.resolve_both-in-Causes.ensures.made)
+
+pub returns-then-law-clause-made : goal.returns-then-law-clause-made
+returns-then-law-clause-made c =
+    let resolved = resolve (vocabulary_of c.args.table.now) (scope_of c.args.names.now) c.args.names.now.next in
+    let part = both (boxed_tree c.in-Causes.actions) (option_map boxed_tree c.in-Causes.body) in
+    sym (ap (λ (law : LawTree). option_map resolved (short_with c.args.law.now.later (plain_law law)).body) c.in-Causes.is ∙ ap (λ (later : Bool). option_map resolved (if later then None else Some part)) c.if-law.true)

@@ -1,12 +1,12 @@
-use Rattle.std.proofs.Common.{◌≡◌, ◌∙◌, ◌++◌, ◌∷◌, [], List, ap}
+use Rattle.std.proofs.Common.{◌≡◌, ◌∙◌, ◌++◌, ◌∷◌, [], List, ap, Ok, IfOk, refl, subst}
 use Rattle.cc_defs.specs.declared.tree.SumTree.{SumTree}
 use Rattle.cc_defs.specs.Resolved.{plain_term}
-use Rattle.cc_defs.specs.Trees.{plain_sum}
-use Rattle.cc_laws.specs.Resolving.{resolve_sum, resolve_sums}
+use Rattle.cc_defs.specs.Trees.{plain_sum, plain_piece}
+use Rattle.cc_laws.specs.Resolving.{resolve_sum, resolve_sums, resolve_piece}
 use Rattle.cc_laws.specs.Views.{plain_sums, scope_of}
 use Rattle.cc_laws.specs.Vocabulary.{vocabulary_of}
-use Rattle.cc_laws.proofs.WithMade.{with_made}
-use Rattle.cc_laws.proofs.TermRows.{resolved_more, resolved_all, term_resolved, sum_begun}
+use Rattle.cc_laws.proofs.WithMade.{with_made, in_box}
+use Rattle.cc_laws.proofs.TermRows.{resolved_more, resolved_all, term_resolved, sum_begun, addend_more, addends_done}
 use Rattle.cc_laws.proofs.resolving.+terms.Goals as goal
 
 pub resolve_term-loop-argument-preserved : goal.resolve_term-loop-argument-preserved
@@ -28,3 +28,17 @@ pub resolve_sum-loop-addend-init : goal.resolve_sum-loop-addend-init
 resolve_sum-loop-addend-init t c =
     sum_begun (vocabulary_of c.args.table.now) (scope_of c.args.names.now) c.args.sum.now (plain_term c.in_ok-made.made) c.deref-addend-items.result.now
     c.in_ok-made.ensures c.deref-addend-items.ensures.value
+
+pub resolve_sum-loop-addend-preserved : goal.resolve_sum-loop-addend-preserved
+resolve_sum-loop-addend-preserved t c =
+    let v = vocabulary_of c.args.table.now in
+    let scope = (scope_of c.args.names.now) in
+    let d = c.addend-item.result in
+    let both = c.in_ok-first.ensures.made in
+    addend_more v scope c.deref-addend-items.result.now c.loop-addend.addend-index d _ _ _ _ _ c.loop-addend-test.true c.addend-item.is
+    (in_box (λ one. plain_term one ≡ plain_term c.loop-addend.made) (Ok c.loop-addend.made) c.boxed.result c.in_ok-first.first both.0 c.boxed.ensures refl)
+    (in_box (λ one. plain_term one ≡ resolve_piece v scope (plain_piece d.piece)) c.resolve_piece-piece.result c.boxed-in-loop-addend.result c.in_ok-first.second both.1 c.boxed-in-loop-addend.ensures c.resolve_piece-piece.ensures)
+    c.joined-made.ensures c.loop-addend.invariant
+
+pub resolve_sum-returns : goal.resolve_sum-returns
+resolve_sum-returns t c = addends_done (vocabulary_of c.args.table.now) (scope_of c.args.names.now) c.deref-addend-items.result.now c.loop-addend.addend-index _ _ c.loop-addend-test.false c.loop-addend.invariant
