@@ -1,7 +1,7 @@
 -- The law that a law is short for, and the base laws of those that are short for none.
 use Rattle.std.specs.Prelude.{Bool, true, false, if◌then◌else◌, List, [], ◌∷◌, Option, Some, None}
 use Rattle.cc_defs.specs.Resolved as resolved
-use Rattle.cc_defs.specs.Trees.{PlainLaw}
+use Rattle.cc_defs.specs.Trees.{PlainLaw, PlainTree}
 use Rattle.cc_defs.specs.Trees as trees
 use Rattle.cc_laws.specs.Expansion.{Caused, caused, both, effect, Exogenous, Inertial, Frame, subject_laws}
 use Rattle.cc_laws.specs.FormulaFaults.{is_fluent_formula}
@@ -35,13 +35,29 @@ abbrev pub is_later : Vocabulary → PlainLaw → Bool
 is_later v (trees.Causes a f g) = is_fluent_formula v f
 is_later v law = false
 
+abbrev pub head_of : PlainLaw → Option PlainTree
+head_of (trees.Caused f g h) = Some f
+head_of (trees.Default f g h) = Some f
+head_of (trees.Causes a f g) = Some f
+head_of (trees.MayCause a f g) = Some f
+head_of law = None
+
+abbrev pub body_of : Bool → PlainLaw → Option PlainTree
+body_of later (trees.Caused f g h) = g
+body_of later (trees.Constraint f) = Some (trees.Not f)
+body_of later (trees.Default f g h) = Some (both f g)
+body_of later (trees.Causes a f g) = if later then None else Some (both a g)
+body_of later (trees.MayCause a f g) = Some f
+body_of later law = None
+
+abbrev pub after_of : Bool → PlainLaw → Option PlainTree
+after_of later (trees.Caused f g h) = h
+after_of later (trees.Always f) = Some (trees.Not f)
+after_of later (trees.Nonexecutable f g) = Some (both f g)
+after_of later (trees.Default f g h) = h
+after_of later (trees.Causes a f g) = if later then Some (both a g) else None
+after_of later (trees.MayCause a f g) = Some (both a g)
+after_of later law = None
+
 abbrev pub short_with : Bool → PlainLaw → Caused
-short_with later (trees.Caused f g h) = caused (Some f) g h
-short_with later (trees.Constraint f) = caused None (Some (trees.Not f)) None
-short_with later (trees.Always f) = caused None None (Some (trees.Not f))
-short_with later (trees.Nonexecutable f g) = caused None None (Some (both f g))
-short_with later (trees.Default f g h) = caused (Some f) (Some (both f g)) h
-short_with later (trees.Causes a f g) =
-    caused (Some f) (if later then None else Some (both a g)) (if later then Some (both a g) else None)
-short_with later (trees.MayCause a f g) = caused (Some f) (Some f) (Some (both a g))
-short_with later law = caused None None None
+short_with later law = caused (head_of law) (body_of later law) (after_of later law)

@@ -7,6 +7,7 @@ use Rattle.cc_defs.specs.declared.tree.Addend.{Addend}
 use Rattle.cc_defs.specs.declared.tree.SumTree.{SumTree}
 use Rattle.cc_defs.specs.Resolved.{Formula, plain_formula}
 use Rattle.cc_defs.specs.Resolved as resolved
+use Rattle.cc_defs.specs.declared.tree.LawTree.{LawTree}
 use Rattle.cc_defs.specs.Trees.{Comparison, PlainTerm, PlainSums, NoSums, MoreSums, PlainSum, Summed, PlainPiece, Numeral, Called, PlainAddends, NoAddends, MoreAddends, PlainTree, boxed_tree, plain_law, plain_sum, plain_tree}
 use Rattle.cc_defs.specs.Trees as trees
 use Rattle.cc_laws.specs.declared.expansion.Source.{Source}
@@ -16,7 +17,6 @@ use Rattle.cc_laws.specs.declared.mention.Property.{Property}
 use Rattle.cc_laws.specs.declared.mention.Property.TheVariants as properties
 use Rattle.cc_laws.specs.declared.names.Binding.{Binding as KeptBinding}
 use Rattle.cc_laws.specs.declared.names.Names.{Names}
-use Rattle.cc_laws.specs.declared.pieces.Caused.{Caused as KeptCaused}
 use Rattle.cc_laws.specs.declared.resolving.Joint.{Joint}
 use Rattle.cc_laws.specs.declared.resolving.Joint.TheVariants as joints
 use Rattle.cc_laws.specs.declared.resolving.Bracket.{Bracket}
@@ -160,8 +160,8 @@ bracket_over brackets.Exists = resolved.Exists
 
 -- ---- the law that a law is short for
 
-abbrev pub plain_caused : KeptCaused → Caused
-plain_caused law = short_with law.later (plain_law law.law.now)
+abbrev pub plain_caused : LawTree → Bool → Caused
+plain_caused law later = short_with later (plain_law law)
 
 -- ---- base laws
 

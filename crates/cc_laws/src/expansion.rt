@@ -12,6 +12,7 @@ ghost use Rattle.cc_laws.specs.Expansion.{Expands};
 ghost use Rattle.cc_laws.specs.LawFaults.{law_refusal};
 ghost use Rattle.cc_laws.specs.Resolving.{alone, numbered_from, resolve};
 ghost use Rattle.cc_laws.specs.Shortened.{other_laws as laws_of_others};
+ghost use Rattle.cc_laws.specs.Shortened as short;
 ghost use Rattle.cc_laws.specs.Views.{frame_from, frame_of, persistence_of, plain_caused, row_terms, scope_of};
 ghost use Rattle.cc_laws.specs.Vocabulary as vocabulary_words;
 ghost use Rattle.cc_laws.specs.Vocabulary.{vocabulary, vocabulary_of};
@@ -24,9 +25,7 @@ use crate::made::{only, some_or};
 use crate::meaning::{Meaning, meaning_of};
 use crate::mention::Property;
 use crate::names::{Names, names_of};
-use crate::pieces::{
-    Caused, is_later, is_short, lacks_after, resolve_after, resolve_body, resolve_part,
-};
+use crate::pieces::{is_later, is_short, lacks_after, resolve_after, resolve_body, resolve_part};
 use crate::resolving::{negated, resolve_term};
 use crate::values::{Frame, Parts, Persistence, base_law, equation_of, value_law};
 use cc_defs::{
@@ -91,15 +90,16 @@ pub(crate) fn written_body(
     alloc: Global,
     table: &Table,
     names: &mut Names,
-    law: &Caused<'_, '_>,
+    law: &LawTree<'_>,
+    later: bool,
 ) -> Result<Formula, OutOfMemory>
-    ensures made { IfOk result (λ made. plain_formula made ≡ words.part
-        (vocabulary_of table.now) (scope_of names.old) names.old.next (plain_caused law.now).body) }
+    ensures made { IfOk result (λ made. plain_formula made ≡ words.part (vocabulary_of table.now)
+        (scope_of names.old) names.old.next (plain_caused law.now later).body) }
     ensures kept { OnOk result (names.new.bindings.items ≡ names.old.bindings.items) }
     ensures next { OnOk result
-        (names.new.next ≡ names.old.next + words.part_brackets (plain_caused law.now).body) }
+        (names.new.next ≡ names.old.next + words.part_brackets (plain_caused law.now later).body) }
 {
-    some_or(resolve_body(alloc, table, names, law), Formula::True)
+    some_or(resolve_body(alloc, table, names, law, later), Formula::True)
 }
 
 /// What the base laws of a law have in common.
@@ -125,11 +125,11 @@ pub(crate) fn law_frame(
 }
 
 /// Whether the head of a law has an action.
-fn head_acts(table: &Table, law: &Caused<'_, '_>) -> bool
+fn head_acts(table: &Table, law: &LawTree<'_>) -> bool
     ensures { result
-        ≡ words.part_acts (vocabulary_of table.now) (plain_caused law.now).head }
+        ≡ words.part_acts (vocabulary_of table.now) (short.head_of (plain_law law.now)) }
 {
-    match law.law {
+    match law {
         LawTree::Caused(head, _, _)
         | LawTree::Default(head, _, _)
         | LawTree::Causes(_, head, _)
@@ -139,11 +139,11 @@ fn head_acts(table: &Table, law: &Caused<'_, '_>) -> bool
 }
 
 /// Whether a law denies a step where a part of its head is `false`. It goes through the whole head: asked once for a law.
-fn denies(table: &Table, law: &Caused<'_, '_>) -> bool
-    ensures { result ≡ is_none (plain_caused law.now).after
-        && words.part_acts (vocabulary_of table.now) (plain_caused law.now).head }
+fn denies(table: &Table, law: &LawTree<'_>, later: bool) -> bool
+    ensures { result ≡ is_none (plain_caused law.now later).after
+        && words.part_acts (vocabulary_of table.now) (plain_caused law.now later).head }
 {
-    lacks_after(law) && head_acts(table, law)
+    lacks_after(law, later) && head_acts(table, law)
 }
 
 /// Whether a part of a head denies a step, where the law denies steps.
@@ -161,26 +161,28 @@ fn law_parts(
     alloc: Global,
     table: &Table,
     names: &mut Names,
-    law: &Caused<'_, '_>,
+    law: &LawTree<'_>,
+    later: bool,
     denied: bool,
 ) -> Result<Parts, OutOfMemory>
     ensures body { IfOk result (λ made. plain_formula made.body
         ≡ (if denied then resolved.Truth else words.part (vocabulary_of table.now)
-        (scope_of names.old) names.old.next (plain_caused law.now).body)) }
+        (scope_of names.old) names.old.next (plain_caused law.now later).body)) }
     ensures after { IfOk result (λ made. option_map plain_formula made.after ≡ (if denied then Some
         (words.part (vocabulary_of table.now) (scope_of names.old) names.old.next
-        (plain_caused law.now).body) else option_map (resolve (vocabulary_of table.now)
-        (scope_of names.old) (names.old.next + words.part_brackets (plain_caused law.now).body))
-        (plain_caused law.now).after)) }
+        (plain_caused law.now later).body) else option_map (resolve (vocabulary_of table.now)
+        (scope_of names.old)
+        (names.old.next + words.part_brackets (plain_caused law.now later).body))
+        (plain_caused law.now later).after)) }
 {
-    let body = boxed(alloc, written_body(alloc, table, names, law))?;
+    let body = boxed(alloc, written_body(alloc, table, names, law, later))?;
     if denied {
         return Ok(Parts {
             body: Formula::True,
             after: Some(Box::into_inner(body)),
         });
     }
-    let after = boxed(alloc, resolve_after(alloc, table, names, law))?;
+    let after = boxed(alloc, resolve_after(alloc, table, names, law, later))?;
     Ok(Parts {
         body: Box::into_inner(body),
         after: Box::into_inner(after),
@@ -192,19 +194,20 @@ fn law_for(
     alloc: Global,
     table: &Table,
     source: &Source<'_, '_>,
-    law: &Caused<'_, '_>,
+    law: &LawTree<'_>,
+    later: bool,
     denying: bool,
     head: Head,
 ) -> Result<BaseLaw, OutOfMemory>
-    requires { denying ≡ is_none (plain_caused law.now).after
-        && words.part_acts (vocabulary_of table.now) (plain_caused law.now).head }
+    requires { denying ≡ is_none (plain_caused law.now later).after
+        && words.part_acts (vocabulary_of table.now) (plain_caused law.now later).head }
     ensures { IfOk result (λ made.
         plain_base_law made ≡ words.law_for (vocabulary_of table.now) (frame_from
-        (vocabulary_of table.now) source.now) (plain_caused law.now) (plain_head head)) }
+        (vocabulary_of table.now) source.now) (plain_caused law.now later) (plain_head head)) }
 {
     let denied = denies_step(denying, &head);
     let mut frame = law_frame(alloc, table, source)?;
-    let parts = law_parts(alloc, table, &mut frame.names, law, denied)?;
+    let parts = law_parts(alloc, table, &mut frame.names, law, later, denied)?;
     Ok(base_law(table, frame, head, parts))
 }
 
@@ -213,13 +216,13 @@ fn head_parts(
     alloc: Global,
     table: &Table,
     variables: &[u32],
-    law: &Caused<'_, '_>,
+    law: &LawTree<'_>,
 ) -> Result<Vec<Head>, OutOfMemory>
     ensures { IfOk result (λ found.
         map plain_head found.items ≡ words.head_parts (vocabulary_of table.now)
-        (numbered_from 0 variables.now) (plain_caused law.now).head) }
+        (numbered_from 0 variables.now) (short.head_of (plain_law law.now))) }
 {
-    match law.law {
+    match law {
         LawTree::Caused(head, _, _)
         | LawTree::Default(head, _, _)
         | LawTree::Causes(_, head, _)
@@ -236,17 +239,21 @@ fn split(
     alloc: Global,
     table: &Table,
     source: &Source<'_, '_>,
-    law: &Caused<'_, '_>,
+    law: &LawTree<'_>,
+    later: bool,
 ) -> Result<Vec<BaseLaw>, OutOfMemory>
     ensures { IfOk result (λ made.
         map plain_base_law made.items ≡ words.split (vocabulary_of table.now)
-        (frame_from (vocabulary_of table.now) source.now) (plain_caused law.now)) }
+        (frame_from (vocabulary_of table.now) source.now) (plain_caused law.now later)) }
 {
     let heads = head_parts(alloc, table, source.variables, law)?;
-    let denying = denies(table, law);
+    let denying = denies(table, law, later);
     let mut made = Vec::with_capacity(alloc, heads.len())?;
     for head in heads {
-        put_made(&mut made, law_for(alloc, table, source, law, denying, head))?;
+        put_made(
+            &mut made,
+            law_for(alloc, table, source, law, later, denying, head),
+        )?;
     }
     Ok(made)
 }
@@ -312,7 +319,7 @@ fn laws_with(
 {
     if is_short(law) {
         let later = is_later(table, law);
-        return split(alloc, table, source, &Caused { law, later });
+        return split(alloc, table, source, law, later);
     }
     other_laws(alloc, table, source, law)
 }

@@ -1,4 +1,5 @@
-//! The law `caused F if G after H` that a law is short for.
+//! The law `caused F if G after H` that a law is short for. Where actions of the law have an effect, `later` says whether it
+//! comes a step later.
 ghost use Rattle.std.specs.Prelude.{◌≡◌, ◌+◌, is_none, IfOk, OnOk};
 ghost use Rattle.std.specs.Option.{option_map};
 ghost use Rattle.cc_defs.specs.Resolved.{plain_formula};
@@ -16,14 +17,6 @@ use crate::resolving::{Joint, resolve, resolve_not, resolve_two};
 use cc_defs::{Formula, LawTree, OutOfMemory, Tree};
 use cc_sorts::Table;
 use std::alloc::Global;
-
-/// A law that is short for a law `caused F if G after H`, and whether the effect of its actions, where it has one, comes a
-/// step later.
-#[derive(Clone, Copy)]
-pub(crate) struct Caused<'t, 's> {
-    pub(crate) law: &'t LawTree<'s>,
-    pub(crate) later: bool,
-}
 
 /// Whether a law is short for another one.
 pub(crate) fn is_short(law: &LawTree<'_>) -> bool
@@ -46,13 +39,13 @@ pub(crate) fn is_later(table: &Table, law: &LawTree<'_>) -> bool
 }
 
 /// Whether the law that a law is short for has no `after` part.
-pub(crate) fn lacks_after(law: &Caused<'_, '_>) -> bool
-    ensures { result ≡ is_none (plain_caused law.now).after }
+pub(crate) fn lacks_after(law: &LawTree<'_>, later: bool) -> bool
+    ensures { result ≡ is_none (plain_caused law.now later).after }
 {
-    match law.law {
+    match law {
         LawTree::Caused(_, _, after) | LawTree::Default(_, _, after) => after.is_none(),
         LawTree::Always(_) | LawTree::Nonexecutable(..) | LawTree::MayCause(..) => false,
-        LawTree::Causes(..) => !law.later,
+        LawTree::Causes(..) => !later,
         _ => true,
     }
 }
@@ -103,22 +96,23 @@ pub(crate) fn resolve_body(
     alloc: Global,
     table: &Table,
     names: &mut Names,
-    law: &Caused<'_, '_>,
+    law: &LawTree<'_>,
+    later: bool,
 ) -> Result<Option<Formula>, OutOfMemory>
     ensures made { IfOk result (λ made. option_map plain_formula made ≡ option_map
         (resolving.resolve (vocabulary_of table.now) (scope_of names.old) names.old.next)
-        (plain_caused law.now).body) }
+        (plain_caused law.now later).body) }
     ensures kept { OnOk result (names.new.bindings.items ≡ names.old.bindings.items) }
     ensures next { OnOk result
-        (names.new.next ≡ names.old.next + words.part_brackets (plain_caused law.now).body) }
+        (names.new.next ≡ names.old.next + words.part_brackets (plain_caused law.now later).body) }
 {
-    match law.law {
+    match law {
         LawTree::Caused(_, body, _) => resolve_part(alloc, table, names, body),
         LawTree::Constraint(formula) => some(resolve_not(alloc, table, names, formula)),
         LawTree::Default(head, body, _) => some(resolve_both(alloc, table, names, head, body)),
         LawTree::MayCause(_, head, _) => some(resolve(alloc, table, names, head)),
         LawTree::Causes(actions, _, body) => {
-            if law.later {
+            if later {
                 return Ok(None);
             }
             some(resolve_both(alloc, table, names, actions, body))
@@ -132,16 +126,17 @@ pub(crate) fn resolve_after(
     alloc: Global,
     table: &Table,
     names: &mut Names,
-    law: &Caused<'_, '_>,
+    law: &LawTree<'_>,
+    later: bool,
 ) -> Result<Option<Formula>, OutOfMemory>
     ensures made { IfOk result (λ made. option_map plain_formula made ≡ option_map
         (resolving.resolve (vocabulary_of table.now) (scope_of names.old) names.old.next)
-        (plain_caused law.now).after) }
+        (plain_caused law.now later).after) }
     ensures kept { OnOk result (names.new.bindings.items ≡ names.old.bindings.items) }
     ensures next { OnOk result
-        (names.new.next ≡ names.old.next + words.part_brackets (plain_caused law.now).after) }
+        (names.new.next ≡ names.old.next + words.part_brackets (plain_caused law.now later).after) }
 {
-    match law.law {
+    match law {
         LawTree::Caused(_, _, after) | LawTree::Default(_, _, after) => {
             resolve_part(alloc, table, names, after)
         }
@@ -150,7 +145,7 @@ pub(crate) fn resolve_after(
             some(resolve_both(alloc, table, names, actions, body))
         }
         LawTree::Causes(actions, _, body) => {
-            if !law.later {
+            if !later {
                 return Ok(None);
             }
             some(resolve_both(alloc, table, names, actions, body))

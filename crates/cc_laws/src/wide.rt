@@ -23,7 +23,7 @@ use crate::forms::{has, has_indefinite_head};
 use crate::made::only;
 use crate::mention::Property;
 use crate::names::Names;
-use crate::pieces::{Caused, is_later, lacks_after, resolve_after};
+use crate::pieces::{is_later, lacks_after, resolve_after};
 use crate::resolving::resolve;
 use crate::values::equation_of;
 use cc_defs::{
@@ -80,11 +80,11 @@ fn all_widened(alloc: Global, laws: Vec<BaseLaw>) -> Result<Vec<WideBase>, OutOf
 }
 
 /// The class of a law with the `after` part of this one and this head.
-fn class_of(table: &Table, law: &Caused<'_, '_>, head: &Tree<'_>) -> LawKind
+fn class_of(table: &Table, law: &LawTree<'_>, later: bool, head: &Tree<'_>) -> LawKind
     ensures { result ≡ words.wide_class (vocabulary_of table.now)
-        (plain_caused law.now).after (plain_tree head.now) }
+        (plain_caused law.now later).after (plain_tree head.now) }
 {
-    if !lacks_after(law) {
+    if !lacks_after(law, later) {
         return LawKind::FluentDynamic;
     }
     if has(table, Property::Action, head) {
@@ -107,22 +107,24 @@ fn whole_parts(
     alloc: Global,
     table: &Table,
     names: &mut Names,
-    law: &Caused<'_, '_>,
+    law: &LawTree<'_>,
+    later: bool,
     head: &Tree<'_>,
 ) -> Result<WholeParts, OutOfMemory>
-    ensures body { IfOk result (λ made. plain_formula made.body.value ≡ words_of.part
-        (vocabulary_of table.now) (scope_of names.old) names.old.next (plain_caused law.now).body) }
+    ensures body { IfOk result (λ made.
+        plain_formula made.body.value ≡ words_of.part (vocabulary_of table.now)
+        (scope_of names.old) names.old.next (plain_caused law.now later).body) }
     ensures after { IfOk result (λ made. option_map plain_formula made.after.value
         ≡ option_map (resolve_of (vocabulary_of table.now) (scope_of names.old)
-        (names.old.next + words_of.part_brackets (plain_caused law.now).body))
-        (plain_caused law.now).after) }
+        (names.old.next + words_of.part_brackets (plain_caused law.now later).body))
+        (plain_caused law.now later).after) }
     ensures head { IfOk result (λ made. plain_formula made.head.value
         ≡ resolve_of (vocabulary_of table.now) (scope_of names.old)
-        (names.old.next + words_of.part_brackets (plain_caused law.now).body
-        + words_of.part_brackets (plain_caused law.now).after) (plain_tree head.now)) }
+        (names.old.next + words_of.part_brackets (plain_caused law.now later).body
+        + words_of.part_brackets (plain_caused law.now later).after) (plain_tree head.now)) }
 {
-    let body = boxed(alloc, written_body(alloc, table, names, law))?;
-    let after = boxed(alloc, resolve_after(alloc, table, names, law))?;
+    let body = boxed(alloc, written_body(alloc, table, names, law, later))?;
+    let after = boxed(alloc, resolve_after(alloc, table, names, law, later))?;
     let head = boxed(alloc, resolve(alloc, table, names, head))?;
     Ok(WholeParts { head, body, after })
 }
@@ -132,22 +134,23 @@ fn whole_law(
     alloc: Global,
     table: &Table,
     source: &Source<'_, '_>,
-    law: &Caused<'_, '_>,
+    law: &LawTree<'_>,
+    later: bool,
     head: &Tree<'_>,
 ) -> Result<WideBase, OutOfMemory>
     ensures { IfOk result (λ made. plain_wide_base made ≡ words.whole_law (vocabulary_of table.now)
-        (frame_from (vocabulary_of table.now) source.now) (plain_caused law.now)
+        (frame_from (vocabulary_of table.now) source.now) (plain_caused law.now later)
         (plain_tree head.now)) }
 {
     let mut frame = law_frame(alloc, table, source)?;
-    let parts = whole_parts(alloc, table, &mut frame.names, law, head)?;
+    let parts = whole_parts(alloc, table, &mut frame.names, law, later, head)?;
     Ok(WideBase::One(WideLaw {
         ranges: List::of(frame.ranges),
         head: Box::into_inner(parts.head),
         body: Box::into_inner(parts.body),
         after: Box::into_inner(parts.after),
         test: Box::into_inner(frame.test),
-        kind: class_of(table, law, head),
+        kind: class_of(table, law, later, head),
         file: frame.file,
         line: frame.line,
     }))
@@ -171,7 +174,7 @@ fn whole_laws(
         | LawTree::Default(head, _, _)
         | LawTree::Causes(_, head, _)
         | LawTree::MayCause(_, head, _) => {
-            let whole = whole_law(alloc, table, source, &Caused { law, later }, head)?;
+            let whole = whole_law(alloc, table, source, law, later, head)?;
             only(alloc, whole)
         }
         _ => Ok(Vec::new(alloc)),

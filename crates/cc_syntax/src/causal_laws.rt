@@ -87,8 +87,8 @@ fn effect<'s>(alloc: Global, tokens: &[Token<'s>], at: usize) -> Result<(Effect<
 fn caused<'s>(alloc: Global, tokens: &[Token<'s>], at: usize) -> Result<(Caused<'s>, usize), Stop>
     requires { AreTokens (token_views tokens.now) }
     ensures { (make : PlainTree → Option PlainTree → Option PlainTree → PlainLaw) → Reads (λ read.
-        make (boxed_tree read.0.0) (option_map boxed_tree read.0.1)
-        (option_map boxed_tree read.1)) tokens.now result (caused_at make (drop at (seen tokens.now))) }
+        make (boxed_tree read.0.0) (option_map boxed_tree read.0.1) (option_map boxed_tree read.1))
+        tokens.now result (caused_at make (drop at (seen tokens.now))) }
 {
     let formula = formula(alloc, tokens, at);
     let effect = optional_behind(alloc, tokens, formula, "if");

@@ -9,7 +9,7 @@ use Rattle.cc_laws.proofs.expansion.law_for.Goals as goal
 pub returns : goal.returns
 returns c =
     let v = vocabulary_of c.args.table.now in
-    let law = plain_caused c.args.law.now in
+    let law = plain_caused c.args.law.now c.args.later in
     let head = plain_head c.args.head in
     made_for v (frame_of c.in_ok-frame.frame) head c.denies_step-denied.result _ _ _ _ _ _ _ (plain_base_law c.base_law.result)
     (denied_by v law head c.args.denying c.denies_step-denied.result c.requires c.denies_step-denied.ensures)

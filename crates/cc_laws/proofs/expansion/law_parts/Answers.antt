@@ -13,7 +13,7 @@ use Rattle.cc_laws.proofs.expansion.law_parts.Goals as goal
 pub returns-clause-after : goal.returns-clause-after
 returns-clause-after c =
     let v = vocabulary_of c.args.table.now in
-    let law = plain_caused c.args.law.now in
+    let law = plain_caused c.args.law.now c.args.later in
     let old = c.args.names.now in
     let new = c.written_body.new.names in
     ap (option_map plain_formula) c.into_inner-3.ensures
@@ -27,7 +27,7 @@ returns-clause-after c =
 pub returns-clause-body : goal.returns-clause-body
 returns-clause-body c =
     let v = vocabulary_of c.args.table.now in
-    let body = part v (scope_of c.args.names.now) c.args.names.now.next (plain_caused c.args.law.now).body in
+    let body = part v (scope_of c.args.names.now) c.args.names.now.next (plain_caused c.args.law.now c.args.later).body in
     ap plain_formula c.into_inner-2.ensures ∙ subst (λ r. IfOk r (λ made. plain_formula made ≡ body)) c.in_ok-body.ensures c.written_body.ensures.made
     ∙ sym (ap (λ (b : Bool). if b then resolved.Truth else body) c.if-denied.false)
 
@@ -35,7 +35,7 @@ pub returns-then-denied-clause-after : goal.returns-then-denied-clause-after
 returns-then-denied-clause-after c =
     let v = vocabulary_of c.args.table.now in
     let old = c.args.names.now in
-    let law = plain_caused c.args.law.now in
+    let law = plain_caused c.args.law.now c.args.later in
     let body = part v (scope_of old) old.next law.body in
     ap (λ f. Some (plain_formula f)) c.into_inner.ensures
     ∙ ap Some (subst (λ r. IfOk r (λ made. plain_formula made ≡ body)) c.in_ok-body.ensures c.written_body.ensures.made)
@@ -43,4 +43,4 @@ returns-then-denied-clause-after c =
 
 pub returns-then-denied-clause-body : goal.returns-then-denied-clause-body
 returns-then-denied-clause-body c =
-    sym (ap (λ (b : Bool). if b then resolved.Truth else part (vocabulary_of c.args.table.now) (scope_of c.args.names.now) c.args.names.now.next (plain_caused c.args.law.now).body) c.if-denied.true)
+    sym (ap (λ (b : Bool). if b then resolved.Truth else part (vocabulary_of c.args.table.now) (scope_of c.args.names.now) c.args.names.now.next (plain_caused c.args.law.now c.args.later).body) c.if-denied.true)

@@ -12,14 +12,14 @@ use Rattle.cc_laws.proofs.expansion.split.Goals as goal
 pub loop-head-preserved : goal.loop-head-preserved
 loop-head-preserved c =
     let v = vocabulary_of c.args.table.now in
-    let f = law_for v (frame_from v c.args.source.now) (plain_caused c.args.law.now) in
+    let f = law_for v (frame_from v c.args.source.now) (plain_caused c.args.law.now c.args.later) in
     with_made c.law_for.result (λ one. plain_base_law one ≡ f (plain_head c.in-Some.head)) (λ one. c.put_made.new.list.items ≡ c.loop-head.made.items ++ one ∷ []) c.in_ok-put_made.ensures.made c.in_ok-put_made.ensures.items c.law_for.ensures
     (λ one is put. yielded_more plain_base_law f plain_head c.loop-head.yielded c.in-Some.head c.loop-head.made.items c.put_made.new.list.items one put is c.loop-head.invariant)
 
 pub returns : goal.returns
 returns c =
     let v = vocabulary_of c.args.table.now in
-    let f = law_for v (frame_from v c.args.source.now) (plain_caused c.args.law.now) in
+    let f = law_for v (frame_from v c.args.source.now) (plain_caused c.args.law.now c.args.later) in
     let begun = c.into_iter-head-iterator.ensures.into_iter_gives in
     let taken = YieldsList-end (YieldsList-from_vec {s = c.into_iter-head-iterator.result} c.in_ok-heads.heads.items begun.0 (begun.1 ∙ c.in_ok-heads.heads.ok.0)) c.loop-head.yielded c.loop-head.head-iterator c.loop-head.yielded_by c.next.result c.next.new.self c.in-None.is c.next.ensures.steps in
     yielded_all plain_base_law f plain_head c.loop-head.yielded c.in_ok-heads.heads.items c.loop-head.made.items taken.0 c.loop-head.invariant

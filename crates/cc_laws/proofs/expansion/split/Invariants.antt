@@ -7,4 +7,4 @@ use Rattle.cc_laws.proofs.expansion.split.Given as goal
 
 abbrev pub invariant-loop-head : goal.invariant-loop-head
 invariant-loop-head l =
-    map plain_base_law l.made.items ≡ map (law_for (vocabulary_of l.table) (frame_from (vocabulary_of l.table) l.source) (plain_caused l.law)) (map plain_head l.yielded)
+    map plain_base_law l.made.items ≡ map (law_for (vocabulary_of l.table) (frame_from (vocabulary_of l.table) l.source) (plain_caused l.law l.later)) (map plain_head l.yielded)

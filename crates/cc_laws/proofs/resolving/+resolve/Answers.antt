@@ -47,7 +47,7 @@ resolve_two-returns-clause-made t c =
     let first = resolve v (scope_of old) old.next (plain_tree c.args.first.now) in
     let second = λ (scope : List Binding) (n : ℕ). resolve v scope n (plain_tree c.args.second.now) in
     let made : plain_formula c.match-joint.result ≡ joined_by c.args.joint one other = elim c.match-joint.branch [
-      resolve_two-in-Both w ↦ ap plain_formula w.result-is ∙ sym (ap (λ (j : Joint). joined_by j one other) w.in-Both.is)
+      | resolve_two-in-Both w ↦ ap plain_formula w.result-is ∙ sym (ap (λ (j : Joint). joined_by j one other) w.in-Both.is)
       | resolve_two-in-Either w ↦ ap plain_formula w.result-is ∙ sym (ap (λ (j : Joint). joined_by j one other) w.in-Either.is)
       | resolve_two-in-Implies w ↦ ap plain_formula w.result-is ∙ sym (ap (λ (j : Joint). joined_by j one other) w.in-Implies.is)
       | resolve_two-in-Same w ↦ ap plain_formula w.result-is ∙ sym (ap (λ (j : Joint). joined_by j one other) w.in-Same.is)

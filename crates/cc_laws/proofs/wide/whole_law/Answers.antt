@@ -21,7 +21,7 @@ built file line over head body after test kind =
 pub returns : goal.returns
 returns c =
     let v = vocabulary_of c.args.table.now in
-    let law = plain_caused c.args.law.now in
+    let law = plain_caused c.args.law.now c.args.later in
     let kept = c.in_ok-frame.frame in
     let parts = c.in_ok-parts.ensures in
     let make = built kept.file kept.line in

@@ -13,12 +13,12 @@ pub returns-clause-body : goal.returns-clause-body
 returns-clause-body c =
     let v = vocabulary_of c.args.table.now in
     let old = c.args.names.now in
-    subst (λ r. IfOk r (λ made. plain_formula made ≡ part v (scope_of old) old.next (plain_caused c.args.law.now).body)) c.in_ok-body.ensures c.written_body.ensures.made
+    subst (λ r. IfOk r (λ made. plain_formula made ≡ part v (scope_of old) old.next (plain_caused c.args.law.now c.args.later).body)) c.in_ok-body.ensures c.written_body.ensures.made
 
 pub returns-clause-after : goal.returns-clause-after
 returns-clause-after c =
     let v = vocabulary_of c.args.table.now in
-    let law = plain_caused c.args.law.now in
+    let law = plain_caused c.args.law.now c.args.later in
     let old = c.args.names.now in
     let new = c.written_body.new.names in
     subst (λ r. IfOk r (λ made. option_map plain_formula made ≡ option_map (resolve v (scope_of new) new.next) law.after)) c.in_ok-after.ensures c.resolve_after.ensures.made
@@ -30,7 +30,7 @@ returns-clause-after c =
 pub returns-clause-head : goal.returns-clause-head
 returns-clause-head c =
     let v = vocabulary_of c.args.table.now in
-    let law = plain_caused c.args.law.now in
+    let law = plain_caused c.args.law.now c.args.later in
     let head = plain_tree c.args.head.now in
     let old = c.args.names.now in
     let mid = c.written_body.new.names in
