@@ -152,3 +152,19 @@ pub seen_added : (names new : List (List ℕ)) (name : List ℕ) (pairs : List S
 seen_added names new name pairs members more_members within is_new is_members =
     ap (λ (n : List (List ℕ)). seen n pairs more_members) is_new ∙ ap (seen (names ++ name ∷ []) pairs) is_members
     ∙ ap (λ (ps : List Pair). (let view : SortsView = record { names = names ++ name ∷ []; pairs = ps; members = members ++ [] ∷ [] } in view)) (named_more names name [] pairs within)
+
+-- ---- parts that stayed
+
+pub kept_as : (names new : List (List ℕ)) (pairs known : List SortPair) (above more_above below more_below members more_members : List (List ℕ)) → AreKept names pairs known above below members →
+    new ≡ names → more_above ≡ above → more_below ≡ below → more_members ≡ members → AreKept new pairs known more_above more_below more_members
+kept_as names new pairs known above more_above below more_below members more_members kept e f g h =
+    let P : List (List ℕ) → Type 0 = λ w. AreKept w pairs known above below members in
+    let Q : List (List ℕ) → Type 0 = λ w. AreKept new pairs known w below members in
+    let R : List (List ℕ) → Type 0 = λ w. AreKept new pairs known more_above w members in
+    let S : List (List ℕ) → Type 0 = λ w. AreKept new pairs known more_above more_below w in
+    subst S (sym h) (subst R (sym g) (subst Q (sym f) (subst P (sym e) kept)))
+
+pub seen_as : (names new : List (List ℕ)) (pairs more_pairs : List SortPair) (members more_members : List (List ℕ)) (view : SortsView) → seen names pairs members ≡ view →
+    new ≡ names → more_pairs ≡ pairs → more_members ≡ members → seen new more_pairs more_members ≡ view
+seen_as names new pairs more_pairs members more_members view is e f g =
+    ap (λ (w : List (List ℕ)). seen w more_pairs more_members) e ∙ ap (λ (w : List SortPair). seen names w more_members) f ∙ ap (λ (w : List (List ℕ)). seen names pairs w) g ∙ is

@@ -1,15 +1,17 @@
 -- The numbers of the puts of each sort stay below a bound, each sort has a list of them, and one of what is shown.
-use Rattle.std.proofs.Common.{◌≡◌, ℕ, zero, suc, ◌+◌, ◌<◌, ◌≤◌, true, false, nat_lt, List, [], ◌∷◌, ◌++◌, length, slice_index_or, take, Option, None, Result, Ok, Err, OnOk, OnErr, ◌∙◌, ◌-◌, refl, sym, ap, subst, length-append, arith}
+use Rattle.std.proofs.Common.{◌≡◌, ℕ, zero, suc, ◌+◌, ◌<◌, ◌≤◌, Bool, true, false, is_some, Some, map, nat_lt, List, [], ◌∷◌, ◌++◌, length, slice_index_or, take, Option, None, Result, Ok, Err, OnOk, OnErr, ◌∙◌, ◌-◌, refl, sym, ap, subst, length-append, arith}
 use Rattle.std.specs.Prelude.{if◌then◌else◌, ◌==◌}
+use Rattle.std.proofs.lemmas.Bool.{false≢true}
 use Rattle.std.proofs.lemmas.List.{map-append}
 use Rattle.std.specs.List.{AllByRecursion}
 use Rattle.cc_defs.specs.Declarations.{Pair, is_below}
+use Rattle.cc_defs.specs.Trees.{PlainShape, PlainKind}
 use Rattle.cc_sorts.specs.Numbers.{put, union}
-use Rattle.cc_sorts.specs.Dictionaries.{number_of}
+use Rattle.cc_sorts.specs.Dictionaries.{number_of, names_of, values_of}
 use Rattle.cc_sorts.specs.Entered.{Fits}
 use Rattle.cc_sorts.specs.Shown.{shown_list, shown_lists}
-use Rattle.cc_sorts.specs.Steps.{with_sorts, put_sort, new_sort, new_put, new_object}
-use Rattle.cc_sorts.specs.Tables.{Numbered, TableView}
+use Rattle.cc_sorts.specs.Steps.{with_sorts, put_sort, new_sort, put_pair, found_pair, new_pair, put_variable, found_variable, new_variable, put_symbol, found_symbol, new_symbol, placed_in, new_put, new_object}
+use Rattle.cc_sorts.specs.Tables.{Numbered, TableView, symbol_names}
 use Rattle.cc_sorts.specs.declared.table.PutAt.{PutAt}
 use Rattle.cc_sorts.specs.declared.table.Placed.{Placed}
 use Rattle.cc_sorts.specs.SortViews.{SortsView, IsPast, changed_above, with_sort, with_pair, with_implied, with_object, members_at, name_at}
@@ -197,7 +199,67 @@ fits_back sorts new puts more lists listed objects named variables symbols fits 
     fits_as sorts new puts more lists listed objects named variables symbols e f
     (g ∙ ap (λ (w : List PutAt). shown_lists w new.members) f ∙ ap (λ (w : SortsView). shown_lists puts w.members) e ∙ sym fits.shown) is_named fits
 
+-- what is not there
+pub missing : (found other : Option ℕ) (there : Bool) → found ≡ other → there ≡ is_some found → there ≡ false → other ≡ None
+missing None other there e f g = sym e
+missing (Some x) other there e f g = absurd (false≢true (sym g ∙ f))
+
+pub fits_variable : {A E : Type 0} (result : Result A E) (sorts : SortsView) (puts : List PutAt) (lists : List (List ℕ)) (objects variables new : List Numbered) (symbols : List (List ℕ × Placed)) (entry : Numbered) →
+    Fits sorts puts lists objects variables symbols → length variables + 1 < 4000000000 → OnOk result (new ≡ variables ++ entry ∷ []) → OnErr result (new ≡ variables) → Fits sorts puts lists objects new symbols
+fits_variable (Ok x) sorts puts lists objects variables new symbols entry fits few e _ =
+    let P : List Numbered → Type 0 = λ w. Fits sorts puts lists objects w symbols in
+    subst P (sym e) (record {
+      few_sorts = fits.few_sorts;
+      few_puts = fits.few_puts;
+      few_objects = fits.few_objects;
+      few_variables = omega (arith, length-append variables (entry ∷ []), few);
+      few_symbols = fits.few_symbols;
+      named = fits.named;
+      past = fits.past;
+      as_many = fits.as_many;
+      shown = fits.shown;
+      owned = fits.owned;
+    })
+fits_variable (Err x) sorts puts lists objects variables new symbols entry fits few _ e = let P : List Numbered → Type 0 = λ w. Fits sorts puts lists objects w symbols in subst P (sym e) fits
+
+pub fits_symbol : {A E : Type 0} (result : Result A E) (sorts : SortsView) (puts : List PutAt) (lists : List (List ℕ)) (objects variables : List Numbered) (symbols new : List (List ℕ × Placed)) (name : List ℕ) (placed : Placed) →
+    Fits sorts puts lists objects variables symbols → length symbols + 1 < 4000000000 → name ≡ placed.symbol.name → OnOk result (new ≡ symbols ++ (name, placed) ∷ []) → OnErr result (new ≡ symbols) →
+    Fits sorts puts lists objects variables new
+fits_symbol (Ok x) sorts puts lists objects variables symbols new name placed fits few same e _ =
+    let P : List (List ℕ × Placed) → Type 0 = λ w. Fits sorts puts lists objects variables w in
+    let own : Placed → List ℕ = λ p. p.symbol.name in
+    subst P (sym e) (record {
+      few_sorts = fits.few_sorts;
+      few_puts = fits.few_puts;
+      few_objects = fits.few_objects;
+      few_variables = fits.few_variables;
+      few_symbols = omega (arith, length-append symbols ((name, placed) ∷ []), few);
+      named = map-append (λ entry. entry.0) symbols ((name, placed) ∷ []) ∙ ap (λ (w : List (List ℕ)). w ++ name ∷ []) fits.named ∙ ap (λ (n : List ℕ). map own (values_of symbols) ++ n ∷ []) same
+          ∙ sym (ap (map own) (map-append (λ entry. entry.1) symbols ((name, placed) ∷ [])) ∙ map-append own (values_of symbols) (placed ∷ []));
+      past = fits.past;
+      as_many = fits.as_many;
+      shown = fits.shown;
+      owned = fits.owned;
+    })
+fits_symbol (Err x) sorts puts lists objects variables symbols new name placed fits few same _ e = let P : List (List ℕ × Placed) → Type 0 = λ w. Fits sorts puts lists objects variables w in subst P (sym e) fits
+
 -- ---- what a register is seen as
+
+pub pair_is : (table : TableView) (upper lower : List ℕ) (i j : ℕ) (below implied : Bool) → number_of table.sorts.names upper ≡ Some i → number_of table.sorts.names lower ≡ Some j →
+    is_below table.sorts.pairs (name_at table.sorts i) (name_at table.sorts j) ≡ below → is_below table.sorts.pairs (name_at table.sorts j) (name_at table.sorts i) ≡ implied →
+    put_pair table upper lower ≡ new_pair table i j below implied
+pair_is table upper lower i j below implied e f g h =
+    ap (λ (found : Option ℕ). found_pair table found (number_of table.sorts.names lower)) e ∙ ap (found_pair table (Some i)) f
+    ∙ ap (λ (b : Bool). new_pair table i j b (is_below table.sorts.pairs (name_at table.sorts j) (name_at table.sorts i))) g ∙ ap (new_pair table i j below) h
+
+pub variable_is : (table : TableView) (name sort : List ℕ) (number : ℕ) → number_of table.sorts.names sort ≡ Some number → number_of (names_of table.variables) name ≡ None →
+    put_variable table name sort ≡ new_variable table name number
+variable_is table name sort number e f =
+    ap (λ (found : Option ℕ). found_variable table name found (number_of (names_of table.variables) name)) e ∙ ap (found_variable table name (Some number)) f
+
+pub symbol_is : (table : TableView) (shape : PlainShape) (kind : PlainKind) (file line : ℕ) → number_of (symbol_names table) shape.name ≡ None →
+    put_symbol table shape kind file line ≡ new_symbol table (placed_in table shape kind file line)
+symbol_is table shape kind file line e = ap (found_symbol table (placed_in table shape kind file line)) e
 
 pub seen_again : {A E : Type 0} (result : Result A E) (sorts new : SortsView) (puts more : List PutAt) (objects : List Numbered) (numbers : List (Option ℕ)) (variables : List Numbered) (symbols : List Placed)
     (table : TableView) (put : PutAt) → viewed sorts puts objects numbers variables symbols ≡ table →

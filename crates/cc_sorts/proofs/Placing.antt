@@ -1,5 +1,5 @@
 -- The object of a number, as it is found.
-use Rattle.std.proofs.Common.{◌≡◌, ◌∙◌, ℕ, zero, suc, ◌+◌, Bool, true, false, cond, List, [], ◌∷◌, ◌++◌, length, take, drop, position, slice_get, Option, Some, None, eqb, inl, inr, refl, sym, ap, subst, arith, is_some, is_none, ◌&&◌, ◌||◌, Result, Ok, Err, OnOk, OnErr}
+use Rattle.std.proofs.Common.{◌≡◌, ◌∙◌, ℕ, zero, suc, ◌+◌, Bool, true, false, cond, List, [], ◌∷◌, ◌++◌, length, take, drop, position, slice_get, Option, Some, None, eqb, inl, inr, refl, sym, ap, subst, arith, is_some, is_none, ◌&&◌, ◌||◌, Result, Ok, Err, OnOk, OnErr, length-append}
 use Rattle.std.specs.Prelude.{if◌then◌else◌, ◌==◌}
 use Rattle.std.specs.List.{position_from, list_any}
 use Rattle.std.specs.Map.{lookup}
@@ -9,7 +9,8 @@ use Rattle.std.proofs.lemmas.Iterator.Adapters.{position_from-zero}
 use Rattle.cc_defs.specs.DeclarationFaults.{is_that}
 use Rattle.cc_sorts.specs.declared.table.PutAt.{PutAt}
 use Rattle.cc_sorts.specs.Lefts.{is_number_from, is_put_as, is_put_from}
-use Rattle.cc_sorts.specs.Objects.{AreFound, checked_at}
+use Rattle.cc_sorts.specs.Objects.{ObjectsView, AreFound, AreObjects, checked_at, more_objects}
+use Rattle.cc_sorts.specs.Tables.{Numbered}
 
 -- ---- places of items that pass a test
 
@@ -201,3 +202,22 @@ no_put_as object puts none =
 pub no_put_from : (low high : ℕ) (sort : Option ℕ) (puts : List PutAt) → sort ≡ None → false ≡ list_any (is_put_from low high sort) puts
 no_put_from low high sort puts none =
     none_any (is_put_from low high None) puts (λ put. and_none (is_number_from low high put.number)) ∙ ap (λ (o : Option ℕ). list_any (is_put_from low high o) puts) (sym none)
+
+-- ---- an object behind the others
+
+pub objects_more : (named more : List Numbered) (numbers room read all : List (Option ℕ)) (places : List (ℕ × ℕ)) (entry : Numbered) (number : Option ℕ) → length numbers ≡ length named →
+    more ≡ named ++ entry ∷ [] → room ≡ numbers → read ≡ room → all ≡ room ++ number ∷ [] → AreFound (read ++ number ∷ []) places → AreObjects more all places
+objects_more named more numbers room read all places entry number as_many e f g h found =
+    let P : List (Option ℕ) → Type 0 = λ w. AreFound w places in
+    record {
+      as_many = omega (arith, ap length e, length-append named (entry ∷ []), ap length f, ap length h, length-append room (number ∷ []), as_many);
+      found = subst P (ap (λ (w : List (Option ℕ)). w ++ number ∷ []) g ∙ sym h) found;
+    }
+
+pub seen_more : (named more : List Numbered) (numbers room all : List (Option ℕ)) (view : ObjectsView) (name : List ℕ) (sort : ℕ) (number : Option ℕ) →
+    (let seen : ObjectsView = record { named = named; numbers = numbers } in seen) ≡ view → more ≡ named ++ (name, sort) ∷ [] → room ≡ numbers → all ≡ room ++ number ∷ [] →
+    (let seen : ObjectsView = record { named = more; numbers = all } in seen) ≡ more_objects view name sort number
+seen_more named more numbers room all view name sort number is e f g =
+    ap (λ (w : List Numbered). (let seen : ObjectsView = record { named = w; numbers = all } in seen)) e
+    ∙ ap (λ (w : List (Option ℕ)). (let seen : ObjectsView = record { named = named ++ (name, sort) ∷ []; numbers = w } in seen)) (g ∙ ap (λ (w : List (Option ℕ)). w ++ number ∷ []) f)
+    ∙ ap (λ (w : ObjectsView). more_objects w name sort number) is

@@ -1,10 +1,12 @@
 -- A vector in place of another among vectors of numbers: what their lists and capacities become.
-use Rattle.std.proofs.Common.{zero, suc, drop, add-one, drop-cons, ◌≡◌, ◌∙◌, ℕ, ◌+◌, ◌<◌, ◌≤◌, ◌≢◌, inl, inr, List, [], ◌∷◌, length, get_or, slice_set, sym, subst, ap, arith, Vec}
-use Rattle.std.proofs.lemmas.Bool.{cases_order}
-use Rattle.std.proofs.lemmas.List.{get_or-map, map-set, get_or-set_same, get_or-set_other}
+use Rattle.std.proofs.Common.{◌++◌, Result, Ok, Err, refl, zero, suc, drop, add-one, drop-cons, ◌≡◌, ◌∙◌, ℕ, ◌+◌, ◌<◌, ◌≤◌, ◌≢◌, inl, inr, List, [], ◌∷◌, length, get_or, slice_set, sym, subst, ap, arith, Vec}
+use Rattle.std.proofs.lemmas.Bool.{cases_order, false≢true}
+use Rattle.std.proofs.lemmas.List.{get_or-map, map-append, map-set, get_or-set_same, get_or-set_other}
 use Rattle.std.proofs.Math.Seq.{map-set_same}
 use Rattle.std.proofs.Math.ListN.{length-map}
 use Rattle.std.specs.List.{AllByRecursion}
+use Rattle.std.specs.Prelude.{if◌then◌else◌}
+use Rattle.std.specs.Result.{IsOk, is_ok}
 use Rattle.cc_sorts.specs.Lists.{lists_of, capacities_of, list_at, at_each, HasRoom, AllAscend, AreBelow}
 use Rattle.cc_sorts.specs.Numbers.{Ascends, union}
 use Rattle.cc_sorts.proofs.Unions.{ascends_union}
@@ -78,6 +80,21 @@ all_at P [] k d all within = absurd (omega arith)
 all_at P (x ∷ xs) zero d all within = all.0
 all_at P (x ∷ xs) (suc k) d all within = all_at P xs k d all.1 (omega arith)
 
+-- the number at a place is within as many vectors as there were
+pub within_still : {Y Z : Type 0} (old new : Vec (Vec ℕ Z) Y) (numbers : List ℕ) (i : ℕ) → AreBelow old.len numbers → length (lists_of new.items) ≡ length (lists_of old.items) →
+    i < length numbers → get_or numbers i 0 < new.len
+within_still old new numbers i below same within =
+    let less : get_or numbers i 0 < old.len = all_at (λ n. n < old.len) numbers i 0 below within in
+    omega (arith, less, length-map old.items items_of, length-map new.items items_of, same, old.ok.0, new.ok.0)
+
+pub below_still : {Y Z : Type 0} (old new : Vec (Vec ℕ Z) Y) (numbers : List ℕ) → AreBelow old.len numbers → lists_of new.items ≡ lists_of old.items → AreBelow new.len numbers
+below_still old new numbers below same =
+    let count : length (lists_of new.items) ≡ old.len = omega (arith, ap length same, length-map old.items items_of, old.ok.0) in
+    numbers_within new old.len numbers numbers count refl below
+
+pub count_within : {Z : Type 0} (vectors items : List (Vec ℕ Z)) (number count : ℕ) → items ≡ vectors → length (lists_of vectors) ≡ count → number < count → number < length items
+count_within vectors items number count same as_many less = omega (arith, ap length same, length-map vectors items_of, as_many, less)
+
 pub rises : (xs : List ℕ) (i k d : ℕ) → Ascends xs → i < k → k < length xs → get_or xs i d < get_or xs k d
 rises [] i k d h less within = absurd (omega arith)
 rises (x ∷ xs) i zero d h less within = absurd (omega arith)
@@ -111,3 +128,13 @@ room_stays vectors new number other more to_move later list apart is kept grows 
     let same : list_at (lists_of new) other ≡ list_at (lists_of vectors) other =
     ap (λ (lists : List (List ℕ)). list_at lists other) is ∙ get_or-set_other (lists_of vectors) number other list [] apart in
     (omega (arith, room.0, ap length same, kept other apart), omega (arith, room.1, ap length same))
+
+-- ---- a list behind the others
+
+pub lists_end : {Z : Type 0} (old room new : List (Vec ℕ Z)) (item : Vec ℕ Z) (list : List ℕ) → room ≡ old → item.items ≡ list → new ≡ room ++ item ∷ [] → lists_of new ≡ lists_of old ++ list ∷ []
+lists_end {Z} old room new item list same is e =
+    ap lists_of e ∙ map-append items_of room (item ∷ []) ∙ ap (λ (w : List (Vec ℕ Z)). lists_of w ++ item.items ∷ []) same ∙ ap (λ (w : List ℕ). lists_of old ++ w ∷ []) is
+
+pub if_done : {A E X : Type 0} (result : Result A E) (more old it : X) → IsOk result → it ≡ more → it ≡ (if is_ok result then more else old)
+if_done (Ok x) more old it done e = e
+if_done (Err x) more old it done e = absurd (false≢true done)

@@ -2,7 +2,9 @@
 use Rattle.std.proofs.Common.{◌≡◌, ◌∙◌, ℕ, zero, suc, ◌+◌, ◌<◌, ◌≤◌, List, [], ◌∷◌, ◌++◌, length, map, flat_map, append_assoc, append-nil, take, drop, get_or, min, ◌-◌, Result, Ok, Err, OnErr, OnOk, Bor, refl, sym, ap, subst, arith, length-append, add-one}
 use Rattle.std.proofs.Math.Seq.{take-suc}
 use Rattle.std.proofs.lemmas.List.{map-append, length-map}
+use Rattle.std.proofs.lemmas.Bool.{false≢true}
 use Rattle.std.proofs.lemmas.Grind.{flat_map-append}
+use Rattle.std.specs.Result.{IsOk}
 use Rattle.cc_defs.specs.Declarations.{Declaration, Span, Number, put_declared, upto, from_to}
 use Rattle.cc_sorts.specs.Declaring.{numbers_of, plain_declaration, plain_declarations}
 use Rattle.cc_sorts.specs.declared.declaration.Declaration as declarations
@@ -156,6 +158,20 @@ on_ok (Err e) P p = tt
 pub on_err : {A E : Type 0} (r : Result A E) (P : Type 0) → P → OnErr r P
 on_err (Ok x) P p = tt
 on_err (Err e) P p = p
+
+pub on_done : {A E : Type 0} (r : Result A E) (P : Type 0) → IsOk r → OnErr r P
+on_done (Ok x) P done = tt
+on_done (Err e) P done = absurd (false≢true done)
+
+pub ok_done : {A E : Type 0} (r : Result A E) (P : Type 0) → IsOk r → OnOk r P → P
+ok_done (Ok x) P done p = p
+ok_done (Err e) P done p = absurd (false≢true done)
+
+-- one behind the others of a list that was mapped
+pub mapped_end : {X Y : Type 0} (f : X → Y) (start now new : List Y) (xs : List X) (x : X) (y : Y) → now ≡ start ++ map f xs → y ≡ f x → new ≡ now ++ y ∷ [] → new ≡ start ++ map f (xs ++ x ∷ [])
+mapped_end {X} {Y} f start now new xs x y is same e =
+    e ∙ ap (λ (w : List Y). w ++ y ∷ []) is ∙ append_assoc start (map f xs) (y ∷ []) ∙ ap (λ (z : Y). start ++ (map f xs ++ z ∷ [])) same
+    ∙ ap (λ (w : List Y). start ++ w) (sym (map-append f xs (x ∷ [])))
 
 pub taken_all : {X : Type 0} (xs : List X) (i : ℕ) → length xs ≤ i → take i xs ≡ xs
 taken_all [] zero p = refl

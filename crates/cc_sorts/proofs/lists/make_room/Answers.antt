@@ -1,7 +1,8 @@
-use Rattle.std.proofs.Common.{◌∙◌, ℕ, slice_index_or, arith}
+use Rattle.std.proofs.Common.{◌∙◌, ℕ, slice_index_or, arith, ap, length}
 use borrow.Author.Count.{below_more}
 use Rattle.cc_sorts.specs.Lists.{HasRoom}
 use Rattle.cc_sorts.proofs.Making.{room_kept}
+use Rattle.cc_sorts.proofs.Vectors.{within_still}
 use Rattle.cc_sorts.proofs.lists.make_room.Goals as goal
 
 pub widening-preserved : goal.widening-preserved
@@ -24,3 +25,6 @@ returns-clause-grown c = c.widening.invariant.grown
 
 pub returns-clause-room : goal.returns-clause-room
 returns-clause-room c = λ k within. c.widening.invariant.room k (omega (arith, within, c.widening-test.false))
+
+pub make_room_at-requires : goal.make_room_at-requires
+make_room_at-requires c = within_still c.args.lists.now c.widening.lists c.args.numbers.now c.widening.number-index c.requires (ap length c.widening.invariant.same) c.widening-test.true

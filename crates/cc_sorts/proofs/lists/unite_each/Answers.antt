@@ -1,8 +1,9 @@
-use Rattle.std.proofs.Common.{◌∙◌, ◌<◌, ℕ, List, length, slice_index_or, arith, ap}
+use Rattle.std.proofs.Common.{◌∙◌, ◌<◌, ℕ, List, length, slice_index_or, arith, ap, sym}
 use Rattle.std.proofs.Math.ListN.{length-set}
-use Rattle.cc_sorts.specs.Lists.{lists_of, list_at}
+use Rattle.cc_sorts.specs.Lists.{lists_of, list_at, at_each}
 use Rattle.cc_sorts.specs.Numbers.{union}
-use Rattle.cc_sorts.proofs.Vectors.{ascends_at, done_here, room_stays, rises, ascend_after}
+use Rattle.cc_sorts.proofs.Vectors.{ascends_at, done_here, room_stays, rises, ascend_after, within_still}
+use Rattle.std.proofs.lemmas.List.{at_drop_all}
 use Rattle.cc_sorts.proofs.lists.unite_each.Goals as goal
 
 pub widening-preserved : goal.widening-preserved
@@ -25,3 +26,11 @@ unite_at-requires-clause-lists c = ascends_at (lists_of c.widening.lists.items) 
 
 pub unite_at-requires-clause-room : goal.unite_at-requires-clause-room
 unite_at-requires-clause-room c = c.widening.invariant.room c.widening.number-index (omega arith) c.widening-test.true
+
+pub unite_at-requires-clause-number : goal.unite_at-requires-clause-number
+unite_at-requires-clause-number c = within_still c.args.lists.now c.widening.lists c.args.numbers.now c.widening.number-index c.requires.within c.widening.invariant.count c.widening-test.true
+
+pub returns-clause-united : goal.returns-clause-united
+returns-clause-united c =
+    sym (at_drop_all (λ (rest : List ℕ). at_each rest (λ (list : List ℕ). union list c.args.others.now) (lists_of c.widening.lists.items)) c.args.numbers.now c.widening.number-index c.widening-test.false)
+    ∙ c.widening.invariant.whole

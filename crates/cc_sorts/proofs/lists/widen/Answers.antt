@@ -2,6 +2,7 @@ use Rattle.std.proofs.Common.{◌∙◌, Bool, List, ℕ, arith, ap, subst, sym}
 use Rattle.std.specs.Prelude.{if◌then◌else◌}
 use Rattle.cc_sorts.specs.Lists.{lists_of, at_each, AllAscend}
 use Rattle.cc_sorts.specs.Numbers.{union}
+use Rattle.cc_sorts.proofs.Vectors.{below_still}
 use Rattle.cc_sorts.proofs.lists.widen.Goals as goal
 
 pub unite_each-requires-clause-room : goal.unite_each-requires-clause-room
@@ -36,3 +37,12 @@ returns-clause-members c =
     let old = lists_of c.args.members.now.items in
     let change : List (List ℕ) → List (List ℕ) = at_each c.args.uppers.now (λ list. union list c.args.objects.now) in
     c.unite_each-3.ensures.united ∙ ap change c.make_room-3.ensures.same ∙ sym (ap (λ (b : Bool). if b then change old else old) c.unite_each-3.ensures.done)
+
+pub unite_each-requires-3-clause-within : goal.unite_each-requires-3-clause-within
+unite_each-requires-3-clause-within c = below_still c.args.members.now c.make_room-3.new.lists c.args.uppers.now c.requires.within_members c.make_room-3.ensures.same
+
+pub unite_each-requires-2-clause-within : goal.unite_each-requires-2-clause-within
+unite_each-requires-2-clause-within c = below_still c.args.below.now c.make_room-2.new.lists c.args.uppers.now c.requires.within_below c.make_room-2.ensures.same
+
+pub unite_each-requires-clause-within : goal.unite_each-requires-clause-within
+unite_each-requires-clause-within c = below_still c.args.above.now c.make_room.new.lists c.args.lowers.now c.requires.within_above c.make_room.ensures.same

@@ -26,3 +26,6 @@ filling-preserved c =
 pub returns-clause-filled : goal.returns-clause-filled
 returns-clause-filled c =
     c.filling.invariant.shown ∙ ap (shown_list c.args.puts.now) (taken_all c.args.numbers.now c.filling.number-index c.filling-test.false)
+
+pub bounds-puts-number : goal.bounds-puts-number
+bounds-puts-number c = all_at (λ number. number < length c.args.puts.now) c.args.numbers.now c.filling.number-index 0 c.requires.within c.filling-test.true

@@ -5,7 +5,7 @@ use Rattle.cc_sorts.specs.Shown.{shown_list}
 use Rattle.cc_sorts.specs.SortViews.{members_at}
 use Rattle.cc_sorts.proofs.Past.{below_at}
 use Rattle.cc_sorts.proofs.Spaces.{set_here}
-use Rattle.cc_sorts.proofs.Vectors.{rises}
+use Rattle.cc_sorts.proofs.Vectors.{rises, all_at}
 use Rattle.cc_sorts.proofs.shown.fill_each.Goals as goal
 
 pub fill_at-requires-clause-within : goal.fill_at-requires-clause-within
@@ -30,3 +30,6 @@ filling-preserved c =
           let less : number < slice_index_or c.args.numbers.now k 0 = rises c.args.numbers.now c.filling.number-index k 0 c.requires.numbers (omega arith) within in
           omega (arith, c.fill_at.ensures.kept (slice_index_or c.args.numbers.now k 0) (λ same. omega arith), c.filling.invariant.room k (omega arith) within);
     }
+
+pub members-requires : goal.members-requires
+members-requires c = all_at (λ number. number < length c.args.sorts.now.names) c.args.numbers.now c.filling.number-index 0 c.requires.known c.filling-test.true

@@ -1,7 +1,8 @@
-use Rattle.std.proofs.Common.{◌≤◌, ◌∙◌, ◌+◌, ℕ, length, slice_index_or, arith, ap}
+use Rattle.std.proofs.Common.{◌≤◌, ◌∙◌, ◌+◌, ℕ, length, slice_index_or, arith, ap, ◌<◌}
 use borrow.Author.Count.{below_more}
 use Rattle.cc_sorts.specs.Lists.{capacities_of}
 use Rattle.cc_sorts.specs.SortViews.{members_at}
+use Rattle.cc_sorts.proofs.Vectors.{all_at, within_still}
 use Rattle.cc_sorts.proofs.shown.reserve_above.Goals as goal
 
 pub widening-preserved : goal.widening-preserved
@@ -20,3 +21,9 @@ returns-clause-same c = c.widening.invariant.same
 
 pub returns-clause-room : goal.returns-clause-room
 returns-clause-room c = λ k within. c.widening.invariant.room k (omega (arith, within, c.widening-test.false))
+
+pub members-members-requires : goal.members-members-requires
+members-members-requires c = all_at (λ number. number < length c.args.sorts.now.names) c.args.numbers.now c.widening.number-index 0 c.requires.known c.widening-test.true
+
+pub reserve_at-requires : goal.reserve_at-requires
+reserve_at-requires c = within_still c.args.lists.now c.widening.lists c.args.numbers.now c.widening.number-index c.requires.within (ap length c.widening.invariant.same) c.widening-test.true

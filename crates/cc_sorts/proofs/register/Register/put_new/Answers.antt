@@ -1,8 +1,10 @@
-use Rattle.std.proofs.Common.{ap, arith}
+use Rattle.std.proofs.Common.{◌<◌, ℕ, ap, arith, length, subst, sym}
+use Rattle.std.specs.List.{AllByRecursion}
 use Rattle.cc_sorts.specs.declared.table.PutAt.{PutAt}
 use Rattle.cc_sorts.specs.Lists.{lists_of}
 use Rattle.cc_sorts.specs.Objects.{ObjectsView}
-use Rattle.cc_sorts.proofs.Past.{fits_new}
+use Rattle.cc_sorts.specs.Tables.{TableView}
+use Rattle.cc_sorts.proofs.Past.{fits_back, fits_new, seen_back, taken_back}
 use Rattle.cc_sorts.proofs.register.Register.put_new.Goals as goal
 
 pub invariant_of-self-in-Ok : goal.invariant_of-self-in-Ok
@@ -21,3 +23,27 @@ add_put-requires-clause-as_many c = c.self.invariant.as_many
 
 pub add_put-requires-clause-shown : goal.add_put-requires-clause-shown
 add_put-requires-clause-shown c = c.self.invariant.shown
+
+pub add_put-requires-clause-sort : goal.add_put-requires-clause-sort
+add_put-requires-clause-sort c = subst (λ (t : TableView). c.args.sort < length t.sorts.names) (sym c.self.view_is) c.requires.sort
+
+pub add_put-requires-clause-fresh : goal.add_put-requires-clause-fresh
+add_put-requires-clause-fresh c = λ fresh. subst (λ (n : ℕ). AllByRecursion (λ put. put.object < n) c.self.inside.puts.items) (sym c.len-2.ensures) c.self.invariant.owned
+
+pub invariant_of-self : goal.invariant_of-self
+invariant_of-self c = rw (c.in_err-push.ensures.unchanged) c.self.invariant
+
+pub invariant_of-self-in-Err : goal.invariant_of-self-in-Err
+invariant_of-self-in-Err c =
+    fits_back c.self.inside.sorts c.add_put.new.sorts c.self.inside.puts.items c.add_put.new.puts.items (lists_of c.self.inside.lists.items) (lists_of c.add_put.new.lists.items)
+    c.self.inside.objects.named c.pop.new.self.named c.self.inside.variables c.self.inside.symbols c.self.invariant
+    (taken_back c.self.inside.objects.named c.push.new.self.named c.pop.new.self.named (c.args.name.now, c.args.sort) (ap (λ (w : ObjectsView). w.named) c.in_ok-push.ensures.added) c.pop.ensures.named)
+    c.in-Err.ensures.unchanged c.in-Err.ensures.puts_kept c.in-Err.ensures.lists
+
+pub returns-in-Err-clause-unchanged : goal.returns-in-Err-clause-unchanged
+returns-in-Err-clause-unchanged c =
+    seen_back c.self.inside.sorts c.add_put.new.sorts c.self.inside.puts.items c.add_put.new.puts.items c.self.inside.objects.named c.pop.new.self.named c.self.inside.objects.numbers c.pop.new.self.numbers
+    c.self.inside.variables _ c.args.self.now c.self.view_is
+    (taken_back c.self.inside.objects.named c.push.new.self.named c.pop.new.self.named (c.args.name.now, c.args.sort) (ap (λ (w : ObjectsView). w.named) c.in_ok-push.ensures.added) c.pop.ensures.named)
+    (taken_back c.self.inside.objects.numbers c.push.new.self.numbers c.pop.new.self.numbers c.args.number (ap (λ (w : ObjectsView). w.numbers) c.in_ok-push.ensures.added) c.pop.ensures.numbers)
+    c.in-Err.ensures.unchanged c.in-Err.ensures.puts_kept

@@ -1,4 +1,4 @@
-use Rattle.std.proofs.Common.{◌∙◌, ◌∷◌, [], length, ap, sym, subst}
+use Rattle.std.proofs.Common.{◌∙◌, ◌∷◌, [], length, ap, sym, subst, refl}
 use Rattle.cc_sorts.specs.Dictionaries.{names_of}
 use Rattle.cc_sorts.specs.Lists.{lists_of, list_at, at_each}
 use Rattle.cc_sorts.specs.Numbers.{Ascends, union}
@@ -6,6 +6,8 @@ use Rattle.cc_sorts.specs.SortViews.{SortsView, with_object, IsPast}
 use Rattle.cc_sorts.proofs.Changing.{kept_object, seen_object}
 use Rattle.cc_sorts.proofs.Reading.{within, read_above, above_below, above_ascend}
 use Rattle.cc_sorts.proofs.Vectors.{numbers_within}
+use Rattle.cc_sorts.proofs.Growing.{kept_as}
+use Rattle.std.proofs.lemmas.Bool.{false≢true}
 use Rattle.cc_sorts.proofs.sorts.Sorts.add_object.Goals as goal
 
 pub make_room-requires : goal.make_room-requires
@@ -45,3 +47,11 @@ returns-clause-added c =
     (c.unite_each.ensures.united ∙ ap (at_each c.deref-above.result.now (λ list. union list (c.args.object ∷ []))) c.make_room.ensures.same)
     (subst (IsPast c.args.object) (sym c.self.view_is) c.requires.last)
     ∙ ap (λ (view : SortsView). with_object view c.args.sort c.args.object) c.self.view_is
+
+pub invariant_of-self-in_err-unite_each : goal.invariant_of-self-in_err-unite_each
+invariant_of-self-in_err-unite_each c = absurd (false≢true c.in_err-unite_each.ensures.done)
+
+pub invariant_of-self : goal.invariant_of-self
+invariant_of-self c =
+    kept_as (names_of c.self.inside.names) (names_of c.self.inside.names) c.self.inside.pairs.items c.self.inside.known.keys (lists_of c.self.inside.above.items) (lists_of c.self.inside.above.items)
+    (lists_of c.self.inside.below.items) (lists_of c.self.inside.below.items) (lists_of c.self.inside.members.items) (lists_of c.make_room.new.lists.items) c.self.invariant refl refl refl c.make_room.ensures.same

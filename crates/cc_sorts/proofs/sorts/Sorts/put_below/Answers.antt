@@ -1,4 +1,4 @@
-use Rattle.std.proofs.Common.{◌∙◌, ap, length, sym, subst}
+use Rattle.std.proofs.Common.{◌∙◌, ap, length, sym, subst, arith, refl}
 use Rattle.indexmap.specs.IndexSet.{insert_key}
 use Rattle.cc_sorts.specs.Dictionaries.{names_of}
 use Rattle.cc_sorts.specs.Lists.{lists_of, list_at}
@@ -7,9 +7,10 @@ use Rattle.cc_sorts.specs.SortParts.{same_numbers}
 use Rattle.cc_sorts.specs.SortViews.{SortsView, with_pair}
 use Rattle.cc_sorts.proofs.Reading.{within}
 use Rattle.cc_sorts.proofs.Uppers.{apart_numbers}
-use Rattle.cc_sorts.proofs.Vectors.{numbers_within, ascends_at}
-use Rattle.cc_sorts.proofs.Walks.{on_err, on_ok}
+use Rattle.cc_sorts.proofs.Vectors.{numbers_within, ascends_at, count_within}
+use Rattle.cc_sorts.proofs.Walks.{on_err, on_ok, on_done}
 use Rattle.cc_sorts.proofs.Widening.{kept_pair, seen_pair, pushed}
+use Rattle.cc_sorts.proofs.Growing.{seen_as}
 use Rattle.cc_sorts.proofs.sorts.Sorts.put_below.Goals as goal
 
 pub put-requires-clause-within_above : goal.put-requires-clause-within_above
@@ -76,17 +77,39 @@ pub invariant_of-self : goal.invariant_of-self
 invariant_of-self c = rw (c.make_room_for_pair.ensures.pairs, c.make_room_for_pair.ensures.known) c.self.invariant
 
 pub returns-in_err-make_room_for_pair-clause-unchanged : goal.returns-in_err-make_room_for_pair-clause-unchanged
-returns-in_err-make_room_for_pair-clause-unchanged c = rw (c.make_room_for_pair.ensures.pairs) (on_err _ _ c.self.view_is)
+returns-in_err-make_room_for_pair-clause-unchanged c =
+    on_err _ _ (seen_as (names_of c.self.inside.names) (names_of c.self.inside.names) c.self.inside.pairs.items c.make_room_for_pair.new.pairs.items (lists_of c.self.inside.members.items) (lists_of c.self.inside.members.items)
+    c.args.self.now c.self.view_is refl c.make_room_for_pair.ensures.pairs refl)
 
 pub invariant_of-self-in_err-put : goal.invariant_of-self-in_err-put
 invariant_of-self-in_err-put c =
     rw (c.make_room_for_pair.ensures.pairs, c.make_room_for_pair.ensures.known, c.in_err-put.ensures.above, c.in_err-put.ensures.below, c.in_err-put.ensures.members) c.self.invariant
 
 pub returns-in_err-put-clause-unchanged : goal.returns-in_err-put-clause-unchanged
-returns-in_err-put-clause-unchanged c = rw (c.make_room_for_pair.ensures.pairs, c.in_err-put.ensures.members) (on_err _ _ c.self.view_is)
+returns-in_err-put-clause-unchanged c =
+    on_err _ _ (seen_as (names_of c.self.inside.names) (names_of c.self.inside.names) c.self.inside.pairs.items c.make_room_for_pair.new.pairs.items (lists_of c.self.inside.members.items) (lists_of c.put.new.members.items)
+    c.args.self.now c.self.view_is refl c.make_room_for_pair.ensures.pairs c.in_err-put.ensures.members)
 
 pub record_pair-requires-clause-room : goal.record_pair-requires-clause-room
 record_pair-requires-clause-room c = c.in_ok-make_room_for_pair.ensures.room
 
 pub record_pair-requires-clause-room_to_know : goal.record_pair-requires-clause-room_to_know
 record_pair-requires-clause-room_to_know c = c.in_ok-make_room_for_pair.ensures.room_to_know
+
+pub of-requires-clause-upper : goal.of-requires-clause-upper
+of-requires-clause-upper c = count_within c.self.inside.above.items c.deref.result.now c.args.upper _ c.deref.ensures.value c.self.invariant.above_are.as_many (within c.self.inside c.args.self.now c.self.view_is c.self.invariant c.args.upper c.requires.upper)
+
+pub of-requires-clause-lower : goal.of-requires-clause-lower
+of-requires-clause-lower c = count_within c.self.inside.below.items c.deref-2.result.now c.args.lower _ c.deref-2.ensures.value c.self.invariant.below_are.as_many (within c.self.inside c.args.self.now c.self.view_is c.self.invariant c.args.lower c.requires.lower)
+
+pub of-requires-clause-members : goal.of-requires-clause-members
+of-requires-clause-members c = count_within c.self.inside.members.items c.deref-3.result.now c.args.lower _ c.deref-3.ensures.value c.self.invariant.members_count (within c.self.inside c.args.self.now c.self.view_is c.self.invariant c.args.lower c.requires.lower)
+
+pub returns-clause-unchanged : goal.returns-clause-unchanged
+returns-clause-unchanged c = on_done _ _ c.record_pair.ensures.done
+
+pub overflow_cast-pair : goal.overflow_cast-pair
+overflow_cast-pair c = omega (arith, (within c.self.inside c.args.self.now c.self.view_is c.self.invariant c.args.upper c.requires.upper), c.self.invariant.few)
+
+pub overflow_cast-pair-2 : goal.overflow_cast-pair-2
+overflow_cast-pair-2 c = omega (arith, (within c.self.inside c.args.self.now c.self.view_is c.self.invariant c.args.lower c.requires.lower), c.self.invariant.few)
