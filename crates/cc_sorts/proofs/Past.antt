@@ -10,7 +10,7 @@ use Rattle.cc_sorts.specs.Numbers.{put, union}
 use Rattle.cc_sorts.specs.Dictionaries.{number_of, names_of, values_of}
 use Rattle.cc_sorts.specs.Entered.{Fits}
 use Rattle.cc_sorts.specs.Shown.{shown_list, shown_lists}
-use Rattle.cc_sorts.specs.Steps.{with_sorts, put_sort, new_sort, put_pair, found_pair, new_pair, put_variable, found_variable, new_variable, put_symbol, found_symbol, new_symbol, placed_in, new_put, new_object}
+use Rattle.cc_sorts.specs.Steps.{put_object, found_object, with_sorts, put_sort, new_sort, put_pair, found_pair, new_pair, put_variable, found_variable, new_variable, put_symbol, found_symbol, new_symbol, placed_in, new_put, new_object}
 use Rattle.cc_sorts.specs.Tables.{Numbered, TableView, symbol_names}
 use Rattle.cc_sorts.specs.declared.table.PutAt.{PutAt}
 use Rattle.cc_sorts.specs.declared.table.Placed.{Placed}
@@ -256,6 +256,11 @@ pub variable_is : (table : TableView) (name sort : List ℕ) (number : ℕ) → 
     put_variable table name sort ≡ new_variable table name number
 variable_is table name sort number e f =
     ap (λ (found : Option ℕ). found_variable table name found (number_of (names_of table.variables) name)) e ∙ ap (found_variable table name (Some number)) f
+
+pub object_is : (table : TableView) (name sort : List ℕ) (number : Option ℕ) (place : ℕ) (other : Option ℕ) → number_of table.sorts.names sort ≡ Some place → number_of (names_of table.objects) name ≡ other →
+    put_object table name sort number ≡ found_object table name number (Some place) other
+object_is table name sort number place other e f =
+    ap (λ (found : Option ℕ). found_object table name number found (number_of (names_of table.objects) name)) e ∙ ap (found_object table name number (Some place)) f
 
 pub symbol_is : (table : TableView) (shape : PlainShape) (kind : PlainKind) (file line : ℕ) → number_of (symbol_names table) shape.name ≡ None →
     put_symbol table shape kind file line ≡ new_symbol table (placed_in table shape kind file line)

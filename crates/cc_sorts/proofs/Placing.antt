@@ -1,9 +1,10 @@
 -- The object of a number, as it is found.
-use Rattle.std.proofs.Common.{◌≡◌, ◌∙◌, ℕ, zero, suc, ◌+◌, Bool, true, false, cond, List, [], ◌∷◌, ◌++◌, length, take, drop, position, slice_get, Option, Some, None, eqb, inl, inr, refl, sym, ap, subst, arith, is_some, is_none, ◌&&◌, ◌||◌, Result, Ok, Err, OnOk, OnErr, length-append}
+use Rattle.std.proofs.Common.{◌≡◌, ◌∙◌, ℕ, zero, suc, ◌+◌, Bool, true, false, cond, List, [], ◌∷◌, ◌++◌, length, take, drop, position, slice_get, Option, Some, None, eqb, inl, inr, refl, sym, ap, subst, arith, is_some, is_none, ◌&&◌, ◌||◌, Result, Ok, Err, OnOk, OnErr, length-append, ◌-◌}
 use Rattle.std.specs.Prelude.{if◌then◌else◌, ◌==◌}
 use Rattle.std.specs.List.{position_from, list_any}
 use Rattle.std.specs.Map.{lookup}
 use Rattle.std.proofs.lemmas.Bool.{eqb-true}
+use Rattle.std.proofs.lemmas.List.{length-take}
 use Rattle.std.proofs.lemmas.Bool.Decides.{eqb_tells}
 use Rattle.std.proofs.lemmas.Iterator.Adapters.{position_from-zero}
 use Rattle.cc_defs.specs.DeclarationFaults.{is_that}
@@ -221,3 +222,12 @@ seen_more named more numbers room all view name sort number is e f g =
     ap (λ (w : List Numbered). (let seen : ObjectsView = record { named = w; numbers = all } in seen)) e
     ∙ ap (λ (w : List (Option ℕ)). (let seen : ObjectsView = record { named = named ++ (name, sort) ∷ []; numbers = w } in seen)) (g ∙ ap (λ (w : List (Option ℕ)). w ++ number ∷ []) f)
     ∙ ap (λ (w : ObjectsView). more_objects w name sort number) is
+
+pub objects_fewer : (named fewer : List Numbered) (numbers rest : List (Option ℕ)) (places : List (ℕ × ℕ)) (len : ℕ) → AreObjects named numbers places → len ≡ length numbers →
+    fewer ≡ take (length named - 1) named → rest ≡ take (len - 1) numbers → AreObjects fewer rest places
+objects_fewer named fewer numbers rest places len kept count e f =
+    let P : List (Option ℕ) → Type 0 = λ w. AreFound w places in
+    record {
+      as_many = omega (arith, ap length e, ap length f, length-take (length named - 1) named, length-take (len - 1) numbers, kept.as_many, count);
+      found = subst P (sym f) (found_front numbers places (len - 1) kept.found);
+    }

@@ -95,6 +95,9 @@ below_still old new numbers below same =
 pub count_within : {Z : Type 0} (vectors items : List (Vec ℕ Z)) (number count : ℕ) → items ≡ vectors → length (lists_of vectors) ≡ count → number < count → number < length items
 count_within vectors items number count same as_many less = omega (arith, ap length same, length-map vectors items_of, as_many, less)
 
+pub vec_within : {Y Z : Type 0} (vectors : Vec (Vec ℕ Z) Y) (number count : ℕ) → length (lists_of vectors.items) ≡ count → number < count → number < vectors.len
+vec_within vectors number count as_many less = omega (arith, length-map vectors.items items_of, vectors.ok.0, as_many, less)
+
 pub rises : (xs : List ℕ) (i k d : ℕ) → Ascends xs → i < k → k < length xs → get_or xs i d < get_or xs k d
 rises [] i k d h less within = absurd (omega arith)
 rises (x ∷ xs) i zero d h less within = absurd (omega arith)

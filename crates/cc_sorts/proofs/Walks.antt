@@ -1,9 +1,10 @@
 -- What loops over declarations have done so far.
-use Rattle.std.proofs.Common.{◌≡◌, ◌∙◌, ℕ, zero, suc, ◌+◌, ◌<◌, ◌≤◌, List, [], ◌∷◌, ◌++◌, length, map, flat_map, append_assoc, append-nil, take, drop, get_or, min, ◌-◌, Result, Ok, Err, OnErr, OnOk, Bor, refl, sym, ap, subst, arith, length-append, add-one}
+use Rattle.std.proofs.Common.{Bool, true, false, ◌||◌, ◌≡◌, ◌∙◌, ℕ, zero, suc, ◌+◌, ◌<◌, ◌≤◌, List, [], ◌∷◌, ◌++◌, length, map, flat_map, append_assoc, append-nil, take, drop, get_or, min, ◌-◌, Result, Ok, Err, OnErr, OnOk, Bor, refl, sym, ap, subst, arith, length-append, add-one}
 use Rattle.std.proofs.Math.Seq.{take-suc}
-use Rattle.std.proofs.lemmas.List.{map-append, length-map}
+use Rattle.std.proofs.lemmas.List.{map-append, length-map, at_drop_all, at_drop_more}
 use Rattle.std.proofs.lemmas.Bool.{false≢true}
 use Rattle.std.proofs.lemmas.Grind.{flat_map-append}
+use Rattle.std.specs.List.{list_any}
 use Rattle.std.specs.Result.{IsOk}
 use Rattle.cc_defs.specs.Declarations.{Declaration, Span, Number, put_declared, upto, from_to}
 use Rattle.cc_sorts.specs.Declaring.{numbers_of, plain_declaration, plain_declarations}
@@ -178,3 +179,15 @@ taken_all [] zero p = refl
 taken_all [] (suc i) p = refl
 taken_all (x ∷ xs) zero p = absurd (omega arith)
 taken_all (x ∷ xs) (suc i) p = ap (λ w. x ∷ w) (taken_all xs i (omega arith))
+
+-- ---- loops that look for one
+
+module _ {X : Type 0} (test : X → Bool) (xs : List X) (i : ℕ) (same : list_any test (drop i xs) ≡ list_any test xs) where
+  pub any_found : (d : X) → i < length xs → true ≡ test (get_or xs i d) → true ≡ list_any test xs
+  any_found d within here = ap (λ (b : Bool). b || list_any test (drop (i + 1) xs)) here ∙ sym (at_drop_more (list_any test) xs i d within) ∙ same
+
+  pub any_later : (d : X) → i < length xs → false ≡ test (get_or xs i d) → list_any test (drop (i + 1) xs) ≡ list_any test xs
+  any_later d within here = ap (λ (b : Bool). b || list_any test (drop (i + 1) xs)) here ∙ sym (at_drop_more (list_any test) xs i d within) ∙ same
+
+  pub none_left : length xs ≤ i → false ≡ list_any test xs
+  none_left past = sym (at_drop_all (list_any test) xs i past) ∙ same

@@ -46,3 +46,27 @@ unite_each-requires-2-clause-within c = below_still c.args.below.now c.make_room
 
 pub unite_each-requires-clause-within : goal.unite_each-requires-clause-within
 unite_each-requires-clause-within c = below_still c.args.above.now c.make_room.new.lists c.args.lowers.now c.requires.within_above c.make_room.ensures.same
+
+pub unite_each-requires-clause-lists : goal.unite_each-requires-clause-lists
+unite_each-requires-clause-lists c = subst AllAscend (sym c.make_room.ensures.same) c.requires.above
+
+pub unite_each-requires-clause-numbers : goal.unite_each-requires-clause-numbers
+unite_each-requires-clause-numbers c = c.requires.lowers
+
+pub unite_each-requires-clause-others : goal.unite_each-requires-clause-others
+unite_each-requires-clause-others c = c.requires.uppers
+
+pub unite_each-requires-2-clause-numbers : goal.unite_each-requires-2-clause-numbers
+unite_each-requires-2-clause-numbers c = c.requires.uppers
+
+pub unite_each-requires-2-clause-others : goal.unite_each-requires-2-clause-others
+unite_each-requires-2-clause-others c = c.requires.lowers
+
+pub unite_each-requires-3-clause-numbers : goal.unite_each-requires-3-clause-numbers
+unite_each-requires-3-clause-numbers c = c.requires.uppers
+
+pub unite_each-requires-3-clause-others : goal.unite_each-requires-3-clause-others
+unite_each-requires-3-clause-others c = c.requires.objects
+
+pub make_room-requires-3 : goal.make_room-requires-3
+make_room-requires-3 c = c.requires.within_members

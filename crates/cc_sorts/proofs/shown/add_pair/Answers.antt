@@ -1,8 +1,9 @@
-use Rattle.std.proofs.Common.{◌≡◌, ◌∙◌, ℕ, length, slice_index_or, sym, ap, subst, arith, refl, ◌+◌, ◌≤◌}
+use Rattle.std.proofs.Common.{◌≡◌, ◌∙◌, ℕ, length, slice_index_or, sym, ap, subst, arith, refl, ◌+◌, ◌≤◌, ◌<◌}
 use Rattle.cc_sorts.specs.Lists.{lists_of, capacities_of}
-use Rattle.cc_sorts.specs.SortViews.{members_at, IsPast}
+use Rattle.cc_sorts.specs.SortViews.{members_at, IsPast, SortsView}
 use Rattle.cc_sorts.proofs.Filled.{above_ascends, above_within, above_pair, listed_len, pair_lists, pair_room}
 use Rattle.cc_sorts.proofs.Past.{past_pair}
+use Rattle.cc_sorts.proofs.Walks.{on_ok, on_done}
 use Rattle.cc_sorts.proofs.shown.add_pair.Goals as goal
 
 pub reserve_above-requires-clause-within : goal.reserve_above-requires-clause-within
@@ -42,3 +43,12 @@ pub returns-clause-lists : goal.returns-clause-lists
 returns-clause-lists c =
     pair_lists c.args.puts.now c.args.sorts.now c.put_below.new.self c.args.upper c.args.lower c.above-2.result.now (lists_of c.args.lists.now.items) (lists_of c.reserve_above.new.lists.items)
     (lists_of c.fill_each.new.lists.items) c.requires.apart c.requires.as_many c.requires.shown c.reserve_above.ensures.same c.in_ok-put_below.ensures.added c.above-2.ensures c.fill_each.ensures.filled
+
+pub above-requires-2 : goal.above-requires-2
+above-requires-2 c = subst (λ (w : SortsView). c.args.upper < length w.names) (sym c.in_ok-put_below.ensures.added) c.requires.upper
+
+pub returns-clause-added : goal.returns-clause-added
+returns-clause-added c = on_ok c.fill_each.result _ c.in_ok-put_below.ensures.added
+
+pub returns-clause-unchanged : goal.returns-clause-unchanged
+returns-clause-unchanged c = on_done c.fill_each.result _ c.fill_each.ensures.done

@@ -5,7 +5,7 @@ use Rattle.cc_sorts.specs.Shown.{shown_list}
 use Rattle.cc_sorts.specs.SortViews.{members_at}
 use Rattle.cc_sorts.proofs.Past.{below_at}
 use Rattle.cc_sorts.proofs.Spaces.{set_here}
-use Rattle.cc_sorts.proofs.Vectors.{rises, all_at}
+use Rattle.cc_sorts.proofs.Vectors.{rises, all_at, within_still}
 use Rattle.cc_sorts.proofs.shown.fill_each.Goals as goal
 
 pub fill_at-requires-clause-within : goal.fill_at-requires-clause-within
@@ -33,3 +33,6 @@ filling-preserved c =
 
 pub members-requires : goal.members-requires
 members-requires c = all_at (λ number. number < length c.args.sorts.now.names) c.args.numbers.now c.filling.number-index 0 c.requires.known c.filling-test.true
+
+pub fill_at-requires-clause-number : goal.fill_at-requires-clause-number
+fill_at-requires-clause-number c = within_still c.args.lists.now c.filling.lists c.args.numbers.now c.filling.number-index c.requires.within c.filling.invariant.count c.filling-test.true

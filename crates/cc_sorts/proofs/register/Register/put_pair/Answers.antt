@@ -68,3 +68,9 @@ returns-clause-unchanged c = on_err_weaker c.add_pair.result (λ is. ap (λ (w :
 
 pub returns-then-below-2-clause-unchanged : goal.returns-then-below-2-clause-unchanged
 returns-then-below-2-clause-unchanged c = on_err_weaker c.add_implied.result (λ is. ap (λ (w : SortsView). viewed w c.self.inside.puts.items c.self.inside.objects.named c.self.inside.objects.numbers c.self.inside.variables (values_of c.self.inside.symbols)) is ∙ c.self.view_is) c.add_implied.ensures.unchanged
+
+pub below-requires-clause-upper : goal.below-requires-clause-upper
+below-requires-clause-upper c = (found_name c.self.inside.sorts.names c.args.lower.now c.in-Some-Some.lower (sym c.find-2.ensures ∙ c.in-Some-Some.is-1)).0
+
+pub below-requires-clause-lower : goal.below-requires-clause-lower
+below-requires-clause-lower c = (found_name c.self.inside.sorts.names c.args.upper.now c.in-Some-Some.upper (sym c.find.ensures ∙ c.in-Some-Some.is-0)).0

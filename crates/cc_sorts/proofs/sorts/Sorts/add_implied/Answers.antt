@@ -7,7 +7,7 @@ use Rattle.cc_sorts.specs.SortParts.{same_numbers}
 use Rattle.cc_sorts.specs.SortViews.{SortsView, with_implied, name_at}
 use Rattle.cc_sorts.proofs.Reading.{within}
 use Rattle.cc_sorts.proofs.Uppers.{apart_numbers}
-use Rattle.cc_sorts.proofs.Walks.{on_ok}
+use Rattle.cc_sorts.proofs.Walks.{on_ok, on_done}
 use Rattle.cc_sorts.proofs.Widening.{kept_implied, seen_implied, pushed}
 use Rattle.cc_sorts.proofs.sorts.Sorts.add_implied.Goals as goal
 
@@ -28,3 +28,9 @@ returns-clause-added c = on_ok c.record_pair.result _ (
     c.record_pair.new.pairs.items
     (pushed c.self.inside.pairs.items c.make_room_for_pair.new.pairs.items c.record_pair.new.pairs.items (record { upper = c.args.upper; lower = c.args.lower }) c.record_pair.ensures.pairs c.make_room_for_pair.ensures.pairs)
     ∙ ap (λ (view : SortsView). with_implied view c.args.upper c.args.lower) c.self.view_is)
+
+pub invariant_of-self : goal.invariant_of-self
+invariant_of-self c = rw (c.make_room_for_pair.ensures.pairs, c.make_room_for_pair.ensures.known) c.self.invariant
+
+pub returns-clause-unchanged : goal.returns-clause-unchanged
+returns-clause-unchanged c = on_done c.record_pair.result _ c.record_pair.ensures.done

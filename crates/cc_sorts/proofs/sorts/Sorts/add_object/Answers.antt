@@ -1,11 +1,11 @@
 use Rattle.std.proofs.Common.{◌∙◌, ◌∷◌, [], length, ap, sym, subst, refl}
 use Rattle.cc_sorts.specs.Dictionaries.{names_of}
-use Rattle.cc_sorts.specs.Lists.{lists_of, list_at, at_each}
+use Rattle.cc_sorts.specs.Lists.{lists_of, list_at, at_each, AllAscend}
 use Rattle.cc_sorts.specs.Numbers.{Ascends, union}
 use Rattle.cc_sorts.specs.SortViews.{SortsView, with_object, IsPast}
 use Rattle.cc_sorts.proofs.Changing.{kept_object, seen_object}
 use Rattle.cc_sorts.proofs.Reading.{within, read_above, above_below, above_ascend}
-use Rattle.cc_sorts.proofs.Vectors.{numbers_within}
+use Rattle.cc_sorts.proofs.Vectors.{numbers_within, vec_within}
 use Rattle.cc_sorts.proofs.Growing.{kept_as}
 use Rattle.std.proofs.lemmas.Bool.{false≢true}
 use Rattle.cc_sorts.proofs.sorts.Sorts.add_object.Goals as goal
@@ -55,3 +55,12 @@ pub invariant_of-self : goal.invariant_of-self
 invariant_of-self c =
     kept_as (names_of c.self.inside.names) (names_of c.self.inside.names) c.self.inside.pairs.items c.self.inside.known.keys (lists_of c.self.inside.above.items) (lists_of c.self.inside.above.items)
     (lists_of c.self.inside.below.items) (lists_of c.self.inside.below.items) (lists_of c.self.inside.members.items) (lists_of c.make_room.new.lists.items) c.self.invariant refl refl refl c.make_room.ensures.same
+
+pub unite_each-requires-clause-room : goal.unite_each-requires-clause-room
+unite_each-requires-clause-room c = c.in_ok-make_room.ensures.room
+
+pub index-requires : goal.index-requires
+index-requires c = vec_within c.self.inside.above c.args.sort _ c.self.invariant.above_are.as_many (within c.self.inside c.args.self.now c.self.view_is c.self.invariant c.args.sort c.requires.sort)
+
+pub unite_each-requires-clause-lists : goal.unite_each-requires-clause-lists
+unite_each-requires-clause-lists c = subst AllAscend (sym c.make_room.ensures.same) c.self.invariant.members_ascend
