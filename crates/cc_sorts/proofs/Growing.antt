@@ -168,3 +168,10 @@ pub seen_as : (names new : List (List ℕ)) (pairs more_pairs : List SortPair) (
     new ≡ names → more_pairs ≡ pairs → more_members ≡ members → seen new more_pairs more_members ≡ view
 seen_as names new pairs more_pairs members more_members view is e f g =
     ap (λ (w : List (List ℕ)). seen w more_pairs more_members) e ∙ ap (λ (w : List SortPair). seen names w more_members) f ∙ ap (λ (w : List (List ℕ)). seen names pairs w) g ∙ is
+
+pub kept_same : (names : List (List ℕ)) (pairs more_pairs known more_known : List SortPair) (above below members : List (List ℕ)) → AreKept names pairs known above below members →
+    more_pairs ≡ pairs → more_known ≡ known → AreKept names more_pairs more_known above below members
+kept_same names pairs more_pairs known more_known above below members kept e f =
+    let P : List SortPair → Type 0 = λ w. AreKept names w known above below members in
+    let Q : List SortPair → Type 0 = λ w. AreKept names more_pairs w above below members in
+    subst Q (sym f) (subst P (sym e) kept)

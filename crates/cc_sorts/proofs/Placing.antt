@@ -231,3 +231,15 @@ objects_fewer named fewer numbers rest places len kept count e f =
       as_many = omega (arith, ap length e, ap length f, length-take (length named - 1) named, length-take (len - 1) numbers, kept.as_many, count);
       found = subst P (sym f) (found_front numbers places (len - 1) kept.found);
     }
+
+pub objects_stay : (named more : List Numbered) (numbers room read : List (Option ℕ)) (places : List (ℕ × ℕ)) → length numbers ≡ length named → more ≡ named → room ≡ numbers → read ≡ room →
+    AreFound read places → AreObjects more room places
+objects_stay named more numbers room read places as_many e f g found =
+    let P : List (Option ℕ) → Type 0 = λ w. AreFound w places in
+    record { as_many = ap length f ∙ as_many ∙ sym (ap length e); found = subst P g found }
+
+pub seen_stays : (named more : List Numbered) (numbers room : List (Option ℕ)) (view : ObjectsView) → (let seen : ObjectsView = record { named = named; numbers = numbers } in seen) ≡ view →
+    more ≡ named → room ≡ numbers → (let seen : ObjectsView = record { named = more; numbers = room } in seen) ≡ view
+seen_stays named more numbers room view is e f =
+    ap (λ (w : List Numbered). (let seen : ObjectsView = record { named = w; numbers = room } in seen)) e
+    ∙ ap (λ (w : List (Option ℕ)). (let seen : ObjectsView = record { named = named; numbers = w } in seen)) f ∙ is

@@ -6,7 +6,7 @@ use Rattle.std.proofs.Math.Seq.{map-set_same}
 use Rattle.std.proofs.Math.ListN.{length-map}
 use Rattle.std.specs.List.{AllByRecursion}
 use Rattle.std.specs.Prelude.{if◌then◌else◌}
-use Rattle.std.specs.Result.{IsOk, is_ok}
+use Rattle.std.specs.Result.{IsErr, IsOk, is_ok}
 use Rattle.cc_sorts.specs.Lists.{lists_of, capacities_of, list_at, at_each, HasRoom, AllAscend, AreBelow}
 use Rattle.cc_sorts.specs.Numbers.{Ascends, union}
 use Rattle.cc_sorts.proofs.Unions.{ascends_union}
@@ -141,3 +141,7 @@ lists_end {Z} old room new item list same is e =
 pub if_done : {A E X : Type 0} (result : Result A E) (more old it : X) → IsOk result → it ≡ more → it ≡ (if is_ok result then more else old)
 if_done (Ok x) more old it done e = e
 if_done (Err x) more old it done e = absurd (false≢true done)
+
+pub if_err : {A E X : Type 0} (result : Result A E) (more old it : X) → IsErr result → it ≡ old → it ≡ (if is_ok result then more else old)
+if_err (Ok x) more old it failed e = absurd (false≢true failed)
+if_err (Err x) more old it failed e = e

@@ -1,14 +1,15 @@
 -- What loops over declarations have done so far.
-use Rattle.std.proofs.Common.{Bool, true, false, ◌||◌, ◌≡◌, ◌∙◌, ℕ, zero, suc, ◌+◌, ◌<◌, ◌≤◌, List, [], ◌∷◌, ◌++◌, length, map, flat_map, append_assoc, append-nil, take, drop, get_or, min, ◌-◌, Result, Ok, Err, OnErr, OnOk, Bor, refl, sym, ap, subst, arith, length-append, add-one}
+use Rattle.std.proofs.Common.{Bool, true, false, ◌||◌, ◌≡◌, ◌≢◌, ◌∙◌, ℕ, zero, suc, ◌+◌, ◌<◌, ◌≤◌, List, [], ◌∷◌, ◌++◌, length, map, flat_map, append_assoc, append-nil, take, drop, get_or, min, ◌-◌, Result, Ok, Err, OnErr, OnOk, Bor, refl, sym, ap, subst, arith, length-append, add-one}
 use Rattle.std.proofs.Math.Seq.{take-suc}
 use Rattle.std.proofs.lemmas.List.{map-append, length-map, at_drop_all, at_drop_more}
-use Rattle.std.proofs.lemmas.Bool.{false≢true}
+use Rattle.std.proofs.lemmas.Bool.{eq-eqb, false≢true, ne_eqb}
 use Rattle.std.proofs.lemmas.Grind.{flat_map-append}
 use Rattle.std.specs.List.{list_any}
 use Rattle.std.specs.Result.{IsOk}
 use Rattle.cc_defs.specs.Declarations.{Declaration, Span, Number, put_declared, upto, from_to}
 use Rattle.cc_sorts.specs.Declaring.{numbers_of, plain_declaration, plain_declarations}
 use Rattle.cc_sorts.specs.declared.declaration.Declaration as declarations
+use Rattle.cc_sorts.specs.Numbers.{has}
 use Rattle.cc_sorts.specs.Steps.{IsFrontOf, behind, behind_all}
 use Rattle.cc_sorts.specs.Tables.{TableView}
 
@@ -191,3 +192,13 @@ module _ {X : Type 0} (test : X → Bool) (xs : List X) (i : ℕ) (same : list_a
 
   pub none_left : length xs ≤ i → false ≡ list_any test xs
   none_left past = sym (at_drop_all (list_any test) xs i past) ∙ same
+
+module _ (number : ℕ) (xs : List ℕ) (i : ℕ) (same : has number (drop i xs) ≡ has number xs) where
+  pub has_found : i < length xs → get_or xs i 0 ≡ number → true ≡ has number xs
+  has_found within is = ap (λ (b : Bool). b || has number (drop (i + 1) xs)) (sym (eq-eqb _ _ is)) ∙ sym (at_drop_more (has number) xs i 0 within) ∙ same
+
+  pub has_later : i < length xs → get_or xs i 0 ≢ number → has number (drop (i + 1) xs) ≡ has number xs
+  has_later within other = ap (λ (b : Bool). b || has number (drop (i + 1) xs)) (sym (ne_eqb _ _ other)) ∙ sym (at_drop_more (has number) xs i 0 within) ∙ same
+
+  pub has_none : length xs ≤ i → false ≡ has number xs
+  has_none past = sym (at_drop_all (has number) xs i past) ∙ same

@@ -1,7 +1,8 @@
-use Rattle.std.proofs.Common.{[], ◌∷◌, arith}
-use Rattle.cc_sorts.proofs.Vectors.{if_done, lists_end}
+use Rattle.std.proofs.Common.{[], ◌∷◌, arith, ap}
+use Rattle.cc_sorts.proofs.Vectors.{if_done, lists_end, if_err}
 use Rattle.cc_sorts.proofs.Walks.{ok_done}
 use Rattle.std.proofs.lemmas.Bool.{false≢true}
+use Rattle.cc_sorts.specs.Lists.{lists_of}
 use Rattle.cc_sorts.proofs.lists.put_lists.Goals as goal
 
 pub returns-clause-members : goal.returns-clause-members
@@ -36,3 +37,21 @@ returns-in_err-put_last-clause-members c = absurd (false≢true (c.in_err-put_la
 
 pub returns-in_err-put_last-2-clause-members : goal.returns-in_err-put_last-2-clause-members
 returns-in_err-put_last-2-clause-members c = absurd (false≢true (c.in_err-put_last-2.ensures.succeeds (omega (arith, c.in_ok-reserve-2.ensures.ok))))
+
+pub returns-in_err-uppers-clause-above : goal.returns-in_err-uppers-clause-above
+returns-in_err-uppers-clause-above c = if_err c.from_residual-in_err-uppers.result _ _ _ c.from_residual-in_err-uppers.ensures.0 (ap lists_of c.reserve.ensures.items)
+
+pub returns-in_err-uppers-clause-below : goal.returns-in_err-uppers-clause-below
+returns-in_err-uppers-clause-below c = if_err c.from_residual-in_err-uppers.result _ _ _ c.from_residual-in_err-uppers.ensures.0 (ap lists_of c.reserve-2.ensures.items)
+
+pub returns-in_err-uppers-clause-members : goal.returns-in_err-uppers-clause-members
+returns-in_err-uppers-clause-members c = if_err c.from_residual-in_err-uppers.result _ _ _ c.from_residual-in_err-uppers.ensures.0 (ap lists_of c.reserve-3.ensures.items)
+
+pub returns-in_err-lowers-clause-above : goal.returns-in_err-lowers-clause-above
+returns-in_err-lowers-clause-above c = if_err c.from_residual-in_err-lowers.result _ _ _ c.from_residual-in_err-lowers.ensures.0 (ap lists_of c.reserve.ensures.items)
+
+pub returns-in_err-lowers-clause-below : goal.returns-in_err-lowers-clause-below
+returns-in_err-lowers-clause-below c = if_err c.from_residual-in_err-lowers.result _ _ _ c.from_residual-in_err-lowers.ensures.0 (ap lists_of c.reserve-2.ensures.items)
+
+pub returns-in_err-lowers-clause-members : goal.returns-in_err-lowers-clause-members
+returns-in_err-lowers-clause-members c = if_err c.from_residual-in_err-lowers.result _ _ _ c.from_residual-in_err-lowers.ensures.0 (ap lists_of c.reserve-3.ensures.items)

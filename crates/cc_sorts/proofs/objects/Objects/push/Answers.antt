@@ -1,7 +1,9 @@
-use Rattle.std.proofs.Common.{arith}
+use Rattle.std.proofs.Common.{arith, ◌∙◌, ap, refl, subst, sym}
 use Rattle.cc_sorts.proofs.Walks.{on_err, on_done, ok_done}
 use Rattle.std.proofs.lemmas.Result.{on_ok_weaker}
-use Rattle.cc_sorts.proofs.Placing.{objects_more, seen_more}
+use Rattle.cc_sorts.proofs.Placing.{objects_more, seen_more, objects_stay, seen_stays}
+use Rattle.cc_sorts.specs.Dictionaries.{names_of, number_of}
+use Rattle.cc_sorts.specs.Objects.{AreFound, ObjectsView}
 use Rattle.cc_sorts.proofs.objects.Objects.push.Goals as goal
 
 pub invariant_of-self : goal.invariant_of-self
@@ -23,3 +25,21 @@ returns-clause-added c =
 
 pub returns-clause-unchanged : goal.returns-clause-unchanged
 returns-clause-unchanged c = on_done c.put_last.result _ (c.put_last.ensures.succeeds (omega (arith, c.in_ok-reserve.ensures.ok)))
+
+pub invariant_of-self-in_err-push : goal.invariant_of-self-in_err-push
+invariant_of-self-in_err-push c = objects_stay c.self.inside.names c.push.new.self c.self.inside.numbers.items c.reserve.new.self.items c.deref.result.now c.note.new.places.entries c.self.invariant.as_many c.in_err-push.ensures.unchanged c.reserve.ensures.items c.deref.ensures.value c.note.ensures.kept
+
+pub invariant_of-self-in_err-note : goal.invariant_of-self-in_err-note
+invariant_of-self-in_err-note c = objects_stay c.self.inside.names c.self.inside.names c.self.inside.numbers.items c.reserve.new.self.items c.deref.result.now c.note.new.places.entries c.self.invariant.as_many refl c.reserve.ensures.items c.deref.ensures.value c.note.ensures.kept
+
+pub returns-in_err-push-clause-unchanged : goal.returns-in_err-push-clause-unchanged
+returns-in_err-push-clause-unchanged c = on_err _ _ (seen_stays c.self.inside.names c.push.new.self c.self.inside.numbers.items c.reserve.new.self.items c.args.self.now c.self.view_is c.in_err-push.ensures.unchanged c.reserve.ensures.items)
+
+pub returns-in_err-note-clause-unchanged : goal.returns-in_err-note-clause-unchanged
+returns-in_err-note-clause-unchanged c = on_err _ _ (seen_stays c.self.inside.names c.self.inside.names c.self.inside.numbers.items c.reserve.new.self.items c.args.self.now c.self.view_is refl c.reserve.ensures.items)
+
+pub push-requires : goal.push-requires
+push-requires c = ap (λ (w : ObjectsView). number_of (names_of w.named) c.args.name.now) c.self.view_is ∙ c.requires.new
+
+pub note-requires-clause-found : goal.note-requires-clause-found
+note-requires-clause-found c = subst (λ w. AreFound w c.self.inside.places.entries) (sym (c.deref.ensures.value ∙ c.reserve.ensures.items)) c.self.invariant.found

@@ -1,10 +1,12 @@
-use Rattle.std.proofs.Common.{◌<◌, ℕ, ap, arith, length, subst, sym}
+use Rattle.std.proofs.Common.{◌<◌, ℕ, ap, arith, length, subst, sym, ◌∙◌}
 use Rattle.std.specs.List.{AllByRecursion}
 use Rattle.cc_sorts.specs.declared.table.PutAt.{PutAt}
 use Rattle.cc_sorts.specs.Lists.{lists_of}
 use Rattle.cc_sorts.specs.Objects.{ObjectsView}
 use Rattle.cc_sorts.specs.Tables.{TableView}
-use Rattle.cc_sorts.proofs.Past.{fits_back, fits_new, seen_back, taken_back}
+use Rattle.cc_sorts.proofs.Past.{fits_back, fits_new, seen_back, taken_back, seen_new, viewed}
+use Rattle.cc_sorts.proofs.Walks.{on_err}
+use Rattle.cc_sorts.specs.Dictionaries.{names_of, number_of, values_of}
 use Rattle.cc_sorts.proofs.register.Register.put_new.Goals as goal
 
 pub invariant_of-self-in-Ok : goal.invariant_of-self-in-Ok
@@ -47,3 +49,27 @@ returns-in-Err-clause-unchanged c =
     (taken_back c.self.inside.objects.named c.push.new.self.named c.pop.new.self.named (c.args.name.now, c.args.sort) (ap (λ (w : ObjectsView). w.named) c.in_ok-push.ensures.added) c.pop.ensures.named)
     (taken_back c.self.inside.objects.numbers c.push.new.self.numbers c.pop.new.self.numbers c.args.number (ap (λ (w : ObjectsView). w.numbers) c.in_ok-push.ensures.added) c.pop.ensures.numbers)
     c.in-Err.ensures.unchanged c.in-Err.ensures.puts_kept
+
+pub returns-in-Ok-clause-put : goal.returns-in-Ok-clause-put
+returns-in-Ok-clause-put c =
+    seen_new c.self.inside.sorts c.add_put.new.sorts c.self.inside.puts.items c.add_put.new.puts.items c.self.inside.objects.named c.push.new.self.named c.self.inside.objects.numbers c.push.new.self.numbers c.self.inside.variables (values_of c.self.inside.symbols)
+    c.args.self.now c.args.name.now c.len-2.result c.args.sort c.args.number c.self.view_is c.len-2.ensures (ap (λ (w : ObjectsView). w.named) c.in_ok-push.ensures.added) (ap (λ (w : ObjectsView). w.numbers) c.in_ok-push.ensures.added)
+    c.in-Ok.ensures.added c.in-Ok.ensures.put
+
+pub add_put-requires-clause-few : goal.add_put-requires-clause-few
+add_put-requires-clause-few c = subst (λ (n : ℕ). n < 4000000000) (sym c.self.inside.puts.ok.0) c.self.invariant.few_puts
+
+pub push-requires-clause-few : goal.push-requires-clause-few
+push-requires-clause-few c = c.self.invariant.few_objects
+
+pub push-requires-clause-new : goal.push-requires-clause-new
+push-requires-clause-new c = ap (λ (t : TableView). number_of (names_of t.objects) c.args.name.now) c.self.view_is ∙ c.requires.new
+
+pub overflow_cast-sort : goal.overflow_cast-sort
+overflow_cast-sort c = omega (arith, (subst (λ (t : TableView). c.args.sort < length t.sorts.names) (sym c.self.view_is) c.requires.sort), c.self.invariant.few_sorts)
+
+pub overflow_cast-put-2 : goal.overflow_cast-put-2
+overflow_cast-put-2 c = omega (arith, (subst (λ (t : TableView). c.args.sort < length t.sorts.names) (sym c.self.view_is) c.requires.sort), c.self.invariant.few_sorts)
+
+pub returns-in_err-push-clause-unchanged : goal.returns-in_err-push-clause-unchanged
+returns-in_err-push-clause-unchanged c = on_err _ _ (ap (λ (w : ObjectsView). viewed c.self.inside.sorts c.self.inside.puts.items w.named w.numbers c.self.inside.variables (values_of c.self.inside.symbols)) c.in_err-push.ensures.unchanged ∙ c.self.view_is)

@@ -9,6 +9,7 @@ use Rattle.cc_sorts.proofs.Reading.{within}
 use Rattle.cc_sorts.proofs.Uppers.{apart_numbers}
 use Rattle.cc_sorts.proofs.Walks.{on_ok, on_done}
 use Rattle.cc_sorts.proofs.Widening.{kept_implied, seen_implied, pushed}
+use Rattle.cc_sorts.proofs.Growing.{kept_same}
 use Rattle.cc_sorts.proofs.sorts.Sorts.add_implied.Goals as goal
 
 pub invariant_of-self-2 : goal.invariant_of-self-2
@@ -30,7 +31,9 @@ returns-clause-added c = on_ok c.record_pair.result _ (
     ∙ ap (λ (view : SortsView). with_implied view c.args.upper c.args.lower) c.self.view_is)
 
 pub invariant_of-self : goal.invariant_of-self
-invariant_of-self c = rw (c.make_room_for_pair.ensures.pairs, c.make_room_for_pair.ensures.known) c.self.invariant
+invariant_of-self c =
+    kept_same (names_of c.self.inside.names) c.self.inside.pairs.items c.make_room_for_pair.new.pairs.items c.self.inside.known.keys c.make_room_for_pair.new.known.keys (lists_of c.self.inside.above.items) (lists_of c.self.inside.below.items) (lists_of c.self.inside.members.items)
+    c.self.invariant c.make_room_for_pair.ensures.pairs c.make_room_for_pair.ensures.known
 
 pub returns-clause-unchanged : goal.returns-clause-unchanged
 returns-clause-unchanged c = on_done c.record_pair.result _ c.record_pair.ensures.done

@@ -10,7 +10,7 @@ use Rattle.cc_sorts.proofs.Uppers.{apart_numbers}
 use Rattle.cc_sorts.proofs.Vectors.{numbers_within, ascends_at, count_within}
 use Rattle.cc_sorts.proofs.Walks.{on_err, on_ok, on_done}
 use Rattle.cc_sorts.proofs.Widening.{kept_pair, seen_pair, pushed}
-use Rattle.cc_sorts.proofs.Growing.{seen_as}
+use Rattle.cc_sorts.proofs.Growing.{seen_as, kept_as, kept_same}
 use Rattle.cc_sorts.proofs.sorts.Sorts.put_below.Goals as goal
 
 pub put-requires-clause-within_above : goal.put-requires-clause-within_above
@@ -74,7 +74,9 @@ pub put-requires-clause-members : goal.put-requires-clause-members
 put-requires-clause-members c = c.self.invariant.members_ascend
 
 pub invariant_of-self : goal.invariant_of-self
-invariant_of-self c = rw (c.make_room_for_pair.ensures.pairs, c.make_room_for_pair.ensures.known) c.self.invariant
+invariant_of-self c =
+    kept_same (names_of c.self.inside.names) c.self.inside.pairs.items c.make_room_for_pair.new.pairs.items c.self.inside.known.keys c.make_room_for_pair.new.known.keys (lists_of c.self.inside.above.items) (lists_of c.self.inside.below.items) (lists_of c.self.inside.members.items)
+    c.self.invariant c.make_room_for_pair.ensures.pairs c.make_room_for_pair.ensures.known
 
 pub returns-in_err-make_room_for_pair-clause-unchanged : goal.returns-in_err-make_room_for_pair-clause-unchanged
 returns-in_err-make_room_for_pair-clause-unchanged c =
@@ -83,7 +85,10 @@ returns-in_err-make_room_for_pair-clause-unchanged c =
 
 pub invariant_of-self-in_err-put : goal.invariant_of-self-in_err-put
 invariant_of-self-in_err-put c =
-    rw (c.make_room_for_pair.ensures.pairs, c.make_room_for_pair.ensures.known, c.in_err-put.ensures.above, c.in_err-put.ensures.below, c.in_err-put.ensures.members) c.self.invariant
+    kept_as (names_of c.self.inside.names) (names_of c.self.inside.names) c.make_room_for_pair.new.pairs.items c.make_room_for_pair.new.known.keys (lists_of c.self.inside.above.items) (lists_of c.put.new.above.items)
+    (lists_of c.self.inside.below.items) (lists_of c.put.new.below.items) (lists_of c.self.inside.members.items) (lists_of c.put.new.members.items)
+    (kept_same (names_of c.self.inside.names) c.self.inside.pairs.items c.make_room_for_pair.new.pairs.items c.self.inside.known.keys c.make_room_for_pair.new.known.keys (lists_of c.self.inside.above.items) (lists_of c.self.inside.below.items) (lists_of c.self.inside.members.items)
+    c.self.invariant c.make_room_for_pair.ensures.pairs c.make_room_for_pair.ensures.known) refl c.in_err-put.ensures.above c.in_err-put.ensures.below c.in_err-put.ensures.members
 
 pub returns-in_err-put-clause-unchanged : goal.returns-in_err-put-clause-unchanged
 returns-in_err-put-clause-unchanged c =
