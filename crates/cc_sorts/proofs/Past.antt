@@ -11,7 +11,7 @@ use Rattle.cc_sorts.specs.Dictionaries.{number_of, names_of, values_of}
 use Rattle.cc_sorts.specs.Entered.{Fits}
 use Rattle.cc_sorts.specs.Shown.{shown_list, shown_lists}
 use Rattle.cc_sorts.specs.Steps.{put_object, found_object, with_sorts, put_sort, new_sort, put_pair, found_pair, new_pair, put_variable, found_variable, new_variable, put_symbol, found_symbol, new_symbol, placed_in, new_put, new_object}
-use Rattle.cc_sorts.specs.Tables.{Numbered, TableView, symbol_names}
+use Rattle.cc_sorts.specs.Tables.{Numbered, TableView, first_table, symbol_names}
 use Rattle.cc_sorts.specs.declared.table.PutAt.{PutAt}
 use Rattle.cc_sorts.specs.declared.table.Placed.{Placed}
 use Rattle.cc_sorts.specs.SortViews.{SortsView, IsPast, changed_above, with_sort, with_pair, with_implied, with_object, members_at, name_at}
@@ -198,6 +198,24 @@ pub fits_back : (sorts new : SortsView) (puts more : List PutAt) (lists listed :
 fits_back sorts new puts more lists listed objects named variables symbols fits is_named e f g =
     fits_as sorts new puts more lists listed objects named variables symbols e f
     (g ∙ ap (λ (w : List PutAt). shown_lists w new.members) f ∙ ap (λ (w : SortsView). shown_lists puts w.members) e ∙ sym fits.shown) is_named fits
+
+pub fits_first : (sorts : SortsView) (puts : List PutAt) (lists : List (List ℕ)) (objects variables : List Numbered) (symbols : List (List ℕ × Placed)) →
+    sorts ≡ first_table.sorts → puts ≡ first_table.puts → lists ≡ first_table.sorts.members → objects ≡ first_table.objects → variables ≡ [] → symbols ≡ [] → Fits sorts puts lists objects variables symbols
+fits_first sorts puts lists objects variables symbols e f g h i j =
+    let P : List Numbered → Type 0 = λ w. Fits first_table.sorts first_table.puts first_table.sorts.members first_table.objects w [] in
+    let Q : List (List ℕ × Placed) → Type 0 = λ w. Fits first_table.sorts first_table.puts first_table.sorts.members first_table.objects variables w in
+    fits_as first_table.sorts sorts first_table.puts puts first_table.sorts.members lists first_table.objects objects variables symbols e f g h (subst Q (sym j) (subst P (sym i) (record {
+      few_sorts = omega arith;
+      few_puts = omega arith;
+      few_objects = omega arith;
+      few_variables = omega arith;
+      few_symbols = omega arith;
+      named = refl;
+      past = ((omega arith, (omega arith, tt)), tt);
+      as_many = refl;
+      shown = refl;
+      owned = (omega arith, (omega arith, tt));
+    })))
 
 -- what is not there
 pub missing : (found other : Option ℕ) (there : Bool) → found ≡ other → there ≡ is_some found → there ≡ false → other ≡ None

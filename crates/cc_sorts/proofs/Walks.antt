@@ -1,5 +1,5 @@
 -- What loops over declarations have done so far.
-use Rattle.std.proofs.Common.{Bool, true, false, ◌||◌, ◌≡◌, ◌≢◌, ◌∙◌, ℕ, zero, suc, ◌+◌, ◌<◌, ◌≤◌, List, [], ◌∷◌, ◌++◌, length, map, flat_map, append_assoc, append-nil, take, drop, get_or, min, ◌-◌, Result, Ok, Err, OnErr, OnOk, Bor, refl, sym, ap, subst, arith, length-append, add-one}
+use Rattle.std.proofs.Common.{Bool, true, false, ◌&&◌, ◌||◌, ◌≡◌, ◌≢◌, ◌∙◌, ℕ, zero, suc, ◌+◌, ◌<◌, ◌≤◌, List, [], ◌∷◌, ◌++◌, length, map, flat_map, append_assoc, append-nil, take, drop, get_or, min, ◌-◌, Result, Ok, Err, OnErr, OnOk, Bor, refl, sym, ap, subst, arith, length-append, add-one}
 use Rattle.std.proofs.Math.Seq.{take-suc}
 use Rattle.std.proofs.lemmas.List.{map-append, length-map, at_drop_all, at_drop_more}
 use Rattle.std.proofs.lemmas.Bool.{eq-eqb, false≢true, ne_eqb}
@@ -202,3 +202,13 @@ module _ (number : ℕ) (xs : List ℕ) (i : ℕ) (same : has number (drop i xs)
 
   pub has_none : length xs ≤ i → false ≡ has number xs
   has_none past = sym (at_drop_all (has number) xs i past) ∙ same
+
+module _ {X : Type 0} (F : List X → Bool) (test : X → Bool) (step : (x : X) (rest : List X) → F (x ∷ rest) ≡ (test x && F rest)) (xs : List X) (i : ℕ) (whole : Bool) (same : F (drop i xs) ≡ whole) where
+  pub all_stop : (d : X) → i < length xs → false ≡ test (get_or xs i d) → false ≡ whole
+  all_stop d within here = ap (λ (b : Bool). b && F (drop (i + 1) xs)) here ∙ sym (step (get_or xs i d) (drop (i + 1) xs)) ∙ sym (at_drop_more F xs i d within) ∙ same
+
+  pub all_later : (d : X) → i < length xs → true ≡ test (get_or xs i d) → F (drop (i + 1) xs) ≡ whole
+  all_later d within here = ap (λ (b : Bool). b && F (drop (i + 1) xs)) here ∙ sym (step (get_or xs i d) (drop (i + 1) xs)) ∙ sym (at_drop_more F xs i d within) ∙ same
+
+  pub all_left : true ≡ F [] → length xs ≤ i → true ≡ whole
+  all_left none past = none ∙ sym (at_drop_all F xs i past) ∙ same
