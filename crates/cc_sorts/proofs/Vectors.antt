@@ -145,3 +145,10 @@ if_done (Err x) more old it done e = absurd (false≢true done)
 pub if_err : {A E X : Type 0} (result : Result A E) (more old it : X) → IsErr result → it ≡ old → it ≡ (if is_ok result then more else old)
 if_err (Ok x) more old it failed e = absurd (false≢true failed)
 if_err (Err x) more old it failed e = e
+
+pub room_here : {Y Z : Type 0} (vectors : Vec (Vec ℕ Z) Y) (number more to_move : ℕ) (old : Vec ℕ Z) → number < vectors.len → old ≡ get_or vectors.items number old → HasRoom vectors.items more to_move number →
+    (old.len + more ≤ old.cap) × (old.len ≤ to_move)
+room_here vectors number more to_move old less is room =
+    let within : number < length vectors.items = omega (arith, less, vectors.ok.0) in
+    let count = ap length (list_here vectors.items number old old within is) in
+    (omega (arith, room.0, count, capacity_here vectors.items number old old within is, old.ok.0), omega (arith, room.1, count, old.ok.0))

@@ -1,4 +1,4 @@
-use Rattle.std.proofs.Common.{◌∙◌, ◌<◌, ℕ, List, length, slice_index_or, arith, ap, sym}
+use Rattle.std.proofs.Common.{◌∙◌, ◌<◌, ℕ, List, length, slice_index_or, arith, ap, sym, refl}
 use Rattle.std.proofs.Math.ListN.{length-set}
 use Rattle.cc_sorts.specs.Lists.{lists_of, list_at, at_each}
 use Rattle.cc_sorts.specs.Numbers.{union}
@@ -34,3 +34,12 @@ pub returns-clause-united : goal.returns-clause-united
 returns-clause-united c =
     sym (at_drop_all (λ (rest : List ℕ). at_each rest (λ (list : List ℕ). union list c.args.others.now) (lists_of c.widening.lists.items)) c.args.numbers.now c.widening.number-index c.widening-test.false)
     ∙ c.widening.invariant.whole
+
+pub widening-init : goal.widening-init
+widening-init c = record {
+  whole = refl;
+  count = refl;
+  ascend = c.requires.lists;
+  kept = omega arith;
+  room = λ k low within. c.requires.room k within;
+}

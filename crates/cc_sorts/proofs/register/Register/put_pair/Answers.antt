@@ -74,3 +74,12 @@ below-requires-clause-upper c = (found_name c.self.inside.sorts.names c.args.low
 
 pub below-requires-clause-lower : goal.below-requires-clause-lower
 below-requires-clause-lower c = (found_name c.self.inside.sorts.names c.args.upper.now c.in-Some-Some.upper (sym c.find.ensures ∙ c.in-Some-Some.is-0)).0
+
+pub add_pair-requires-clause-apart : goal.add_pair-requires-clause-apart
+add_pair-requires-clause-apart c = sym c.below.ensures ∙ c.if-below.false
+
+pub add_implied-requires-clause-apart : goal.add_implied-requires-clause-apart
+add_implied-requires-clause-apart c = sym c.below.ensures ∙ c.if-below.false
+
+pub add_implied-requires-clause-implied : goal.add_implied-requires-clause-implied
+add_implied-requires-clause-implied c = sym c.below-2.ensures ∙ c.if-below-2.true

@@ -26,3 +26,6 @@ returns-clause-put c =
 
 pub returns-clause-unchanged : goal.returns-clause-unchanged
 returns-clause-unchanged c = on_err_weaker c.push.result (λ is. ap (λ (w : List Placed). viewed c.self.inside.sorts c.self.inside.puts.items c.self.inside.objects.named c.self.inside.objects.numbers c.self.inside.variables w) (ap values_of is) ∙ c.self.view_is) c.push.ensures.unchanged
+
+pub push-requires : goal.push-requires
+push-requires c = missing c.find.result _ c.is_some.result c.find.ensures c.is_some.ensures c.if-is_some.false

@@ -1,4 +1,4 @@
-use Rattle.std.proofs.Common.{◌∙◌, ap}
+use Rattle.std.proofs.Common.{◌∙◌, ap, arith}
 use Rattle.indexmap.specs.IndexSet.{insert_key}
 use Rattle.cc_defs.specs.Declarations.{is_below}
 use Rattle.cc_sorts.specs.Dictionaries.{names_of}
@@ -37,3 +37,9 @@ invariant_of-self c =
 
 pub returns-clause-unchanged : goal.returns-clause-unchanged
 returns-clause-unchanged c = on_done c.record_pair.result _ c.record_pair.ensures.done
+
+pub overflow_cast-pair : goal.overflow_cast-pair
+overflow_cast-pair c = omega (arith, (within c.self.inside c.args.self.now c.self.view_is c.self.invariant c.args.upper c.requires.upper), c.self.invariant.few)
+
+pub overflow_cast-pair-2 : goal.overflow_cast-pair-2
+overflow_cast-pair-2 c = omega (arith, (within c.self.inside c.args.self.now c.self.view_is c.self.invariant c.args.lower c.requires.lower), c.self.invariant.few)

@@ -1,7 +1,7 @@
 use Rattle.std.proofs.Common.{◌∙◌, ap, sym}
 use Rattle.cc_sorts.specs.Dictionaries.{number_of}
 use Rattle.cc_sorts.specs.SortViews.{SortsView}
-use Rattle.cc_sorts.proofs.Uppers.{named_pair, without_upper, without_lower}
+use Rattle.cc_sorts.proofs.Uppers.{named_pair, without_upper, without_lower, found_name}
 use Rattle.cc_sorts.proofs.sorts.Sorts.has_named.Goals as goal
 
 pub returns-in-Some-find : goal.returns-in-Some-find
@@ -20,3 +20,9 @@ pub returns-in-None : goal.returns-in-None
 returns-in-None c =
     without_upper c.self.inside c.args.self.now c.self.view_is c.self.invariant c.args.upper.now
     (sym (ap (λ (view : SortsView). number_of view.names c.args.upper.now) c.self.view_is) ∙ sym c.find.ensures ∙ c.in-None.is) c.args.lower.now
+
+pub has_pair-requires-clause-upper : goal.has_pair-requires-clause-upper
+has_pair-requires-clause-upper c = (found_name c.args.self.now.names c.args.upper.now c.in-Some.upper (ap (λ (v : SortsView). number_of v.names c.args.upper.now) (sym c.self.view_is) ∙ sym c.find.ensures ∙ c.in-Some.is)).0
+
+pub has_pair-requires-clause-lower : goal.has_pair-requires-clause-lower
+has_pair-requires-clause-lower c = (found_name c.args.self.now.names c.args.lower.now c.in-Some-find.lower (ap (λ (v : SortsView). number_of v.names c.args.lower.now) (sym c.self.view_is) ∙ sym c.find-in-Some.ensures ∙ c.in-Some-find.is)).0
