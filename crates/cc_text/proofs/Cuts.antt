@@ -119,19 +119,22 @@ same_view one other k t l =
 
 -- ---- no token begins with space or a comment
 
+none_is : (kind : TokenKind) → None ≡ Some kind → ⊥
+none_is kind e = cc
+
 starts : (b : ℕ) (bs : List ℕ) (kind : TokenKind) → kind_of (b ∷ bs) ≡ Some kind → (is_space b || eqb b 37) ≡ false
 starts b bs kind e =
     elim (bool_cases (is_space b || eqb b 37)) [
       | inr f ↦ f
       | inl f ↦ absurd (elim (or_cases (is_space b) (eqb b 37) f) [
-        | inr s ↦ let g : kind_of (37 ∷ bs) ≡ Some kind = subst (λ (c : ℕ). kind_of (c ∷ bs) ≡ Some kind) (eqb-true b 37 s) e in cc
+        | inr s ↦ none_is kind (subst (λ (c : ℕ). kind_of (c ∷ bs) ≡ Some kind) (eqb-true b 37 s) e)
         | inl f1 ↦ elim (or_cases _ (eqb b 10) f1) [
-          | inr s ↦ let g : kind_of (10 ∷ bs) ≡ Some kind = subst (λ (c : ℕ). kind_of (c ∷ bs) ≡ Some kind) (eqb-true b 10 s) e in cc
+          | inr s ↦ none_is kind (subst (λ (c : ℕ). kind_of (c ∷ bs) ≡ Some kind) (eqb-true b 10 s) e)
           | inl f2 ↦ elim (or_cases _ (eqb b 13) f2) [
-            | inr s ↦ let g : kind_of (13 ∷ bs) ≡ Some kind = subst (λ (c : ℕ). kind_of (c ∷ bs) ≡ Some kind) (eqb-true b 13 s) e in cc
+            | inr s ↦ none_is kind (subst (λ (c : ℕ). kind_of (c ∷ bs) ≡ Some kind) (eqb-true b 13 s) e)
             | inl f3 ↦ elim (or_cases (eqb b 32) (eqb b 9) f3) [
-              | inr s ↦ let g : kind_of (9 ∷ bs) ≡ Some kind = subst (λ (c : ℕ). kind_of (c ∷ bs) ≡ Some kind) (eqb-true b 9 s) e in cc
-              | inl s ↦ let g : kind_of (32 ∷ bs) ≡ Some kind = subst (λ (c : ℕ). kind_of (c ∷ bs) ≡ Some kind) (eqb-true b 32 s) e in cc
+              | inr s ↦ none_is kind (subst (λ (c : ℕ). kind_of (c ∷ bs) ≡ Some kind) (eqb-true b 9 s) e)
+              | inl s ↦ none_is kind (subst (λ (c : ℕ). kind_of (c ∷ bs) ≡ Some kind) (eqb-true b 32 s) e)
             ]
           ]
         ]
@@ -139,7 +142,7 @@ starts b bs kind e =
     ]
 
 begins_by : (piece after : List ℕ) (kind : TokenKind) → kind_of piece ≡ Some kind → begins_gap (piece ++ after) ≡ false
-begins_by [] after kind e = absurd cc
+begins_by [] after kind e = absurd (none_is kind e)
 begins_by (b ∷ bs) after kind e = starts b bs kind e
 
 token_begins : (token : TokenView) (rest after : List ℕ) → IsToken token rest after → begins_gap rest ≡ false
@@ -311,7 +314,7 @@ passes_or_not kind text =
     ]
 
 pub some_bytes : (text : List ℕ) (kind : TokenKind) (size : ℕ) → IsFront text kind size → 0 < size
-some_bytes text kind zero f = absurd (let e = f.kind_is in cc)
+some_bytes text kind zero f = absurd (none_is kind f.kind_is)
 some_bytes text kind (suc size) f = omega arith
 
 abbrev CutOr : ℕ → ℕ → List ℕ → Type 0

@@ -132,3 +132,6 @@ read_more file text tokens line rest token count after so_far f e = subst (ReadS
       let line_is = f.line_is in
       omega (arith, length-append f.gap f.rest, length-append token.text (drop count rest));
 })
+
+pub shorter : (rest behind : List ℕ) (count : ℕ) → 0 < count → count ≤ length rest → behind ≡ drop count rest → length behind < length rest
+shorter rest behind count some within is = let e = ap length is in omega (arith, length-drop count rest)

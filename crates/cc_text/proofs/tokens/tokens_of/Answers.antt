@@ -2,7 +2,7 @@ use Rattle.std.proofs.Common.{◌≡◌, ◌+◌, ◌≤◌, ◌∙◌, ◌++◌
 use Rattle.std.proofs.lemmas.List.{append-nil, map-append}
 use Rattle.cc_defs.specs.Tokens.{TokenView, IsCut, StopsAt}
 use Rattle.cc_text.specs.Views.{token_view, token_views}
-use Rattle.cc_text.proofs.Stepping.{ReadSoFar, Finds, read_nothing, read_more}
+use Rattle.cc_text.proofs.Stepping.{ReadSoFar, Finds, read_more, shorter}
 use Rattle.cc_text.proofs.tokens.tokens_of.Goals as goal
 
 pub returns-in-End-clause-read : goal.returns-in-End-clause-read
@@ -28,3 +28,6 @@ loop-tokens-preserved c =
     subst (λ (l : List TokenView). ReadSoFar c.args.file c.args.bytes.now l c.in-Goes.token.line c.behind-rest.result.now) (sym pushed)
     (read_more c.args.file c.args.bytes.now views c.loop-tokens.line c.loop-tokens.rest.now (token_view c.in-Goes.token) c.in-Goes.count c.behind-rest.result.now
     c.loop-tokens.invariant found c.behind-rest.ensures)
+
+pub loop-tokens-smaller : goal.loop-tokens-smaller
+loop-tokens-smaller c = let s = c.in-Goes.ensures in shorter c.loop-tokens.rest.now c.behind-rest.result.now c.in-Goes.count s.2 s.3 c.behind-rest.ensures
