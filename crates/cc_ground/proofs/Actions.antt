@@ -1,6 +1,7 @@
 -- The Boolean actions from a number on.
-use Rattle.std.proofs.Common.{◌≡◌, ◌∙◌, ℕ, zero, suc, ◌+◌, Bool, true, false, List, [], ◌∷◌, ◌++◌, drop, slice_get, Some, sym, ap, append_assoc, add-one}
+use Rattle.std.proofs.Common.{◌≡◌, ◌∙◌, ℕ, zero, suc, ◌+◌, ◌≤◌, Bool, true, false, List, [], ◌∷◌, ◌++◌, length, drop, slice_get, Some, sym, ap, append_assoc, append-nil, add-one}
 use Rattle.std.specs.Prelude.{if◌then◌else◌}
+use Rattle.std.proofs.lemmas.List.{at_drop_all}
 use Rattle.cc_defs.specs.declared.signature.Const.{Const}
 use Rattle.cc_defs.specs.Declarations.{numbers_where}
 use Rattle.cc_defs.specs.Universe.{Universe, constants_in, is_boolean_action}
@@ -35,3 +36,7 @@ actions_step u number constant front new whole boolean is same added_is so_far =
     let rest = actions_behind u number (constants_in u) in
     added front rest whole new number boolean added_is
     (ap (λ (w : Bool). front ++ (if w then number ∷ rest else rest)) same ∙ ap (λ (w : List ℕ). front ++ w) (sym (actions_more u number constant (constants_in u) is)) ∙ so_far)
+
+pub actions_end : (u : Universe) (front whole : List ℕ) (number : ℕ) → length (constants_in u) ≤ number → front ++ numbers_where (is_boolean_action u) number (drop number (constants_in u)) ≡ whole → front ≡ whole
+actions_end u front whole number past so_far =
+    sym (append-nil front) ∙ sym (at_drop_all (λ (l : List Const). front ++ numbers_where (is_boolean_action u) number l) (constants_in u) number past) ∙ so_far

@@ -270,3 +270,36 @@ module _ (u : Universe) (query : QueryTree) (items : List ConditionTree) (count 
 
   pub asked_none : query.claim ≡ None → count ≡ min (choices_of_query u (plain_query query)) 16000001
   asked_none none = let all : count ≡ min (count + 0) 16000001 = omega (arith, counted_so) in all ∙ with_claim u (map plain_condition query.conditions) count 0 counted_so ∙ asked_as None none
+
+pub laws_more : (u : Universe) (laws : List BaseLawTree) (i now next whole : ℕ) (law : BaseLawTree) → i < length laws → law ≡ get_or laws i law → next ≡ min (now + base_choices u (plain_base_law law)) 16000001 →
+    min (now + laws_choices u (map plain_base_law (drop i laws))) 16000001 ≡ whole → min (next + laws_choices u (map plain_base_law (drop (i + 1) laws))) 16000001 ≡ whole
+laws_more u laws i now next whole law less at is so_far =
+    let rest = laws_choices u (map plain_base_law (drop (i + 1) laws)) in
+    counts_on now (base_choices u (plain_base_law law)) rest next is
+    ∙ sym (ap (λ (k : ℕ). min (now + k) 16000001) (at_drop_more (λ (l : List BaseLawTree). laws_choices u (map plain_base_law l)) laws i law less ∙ ap (λ (l : BaseLawTree). base_choices u (plain_base_law l) + rest) (sym at)))
+    ∙ so_far
+
+pub conditions_more : (u : Universe) (conditions : List ConditionTree) (i now next whole : ℕ) (condition : ConditionTree) (env : BindingsView) → i < length conditions → condition ≡ get_or conditions i condition → env ≡ no_bindings →
+    next ≡ min (now + choices_of u (environment_of env) (plain_formula condition.formula)) 16000001 →
+    min (now + conditions_choices u (map plain_condition (drop i conditions))) 16000001 ≡ whole → min (next + conditions_choices u (map plain_condition (drop (i + 1) conditions))) 16000001 ≡ whole
+conditions_more u conditions i now next whole condition env less at none is so_far =
+    let rest = conditions_choices u (map plain_condition (drop (i + 1) conditions)) in
+    counts_on now (condition_choices u (plain_condition condition)) rest next (is ∙ ap (λ (w : BindingsView). min (now + choices_of u (environment_of w) (plain_formula condition.formula)) 16000001) none)
+    ∙ sym (ap (λ (k : ℕ). min (now + k) 16000001) (at_drop_more (λ (l : List ConditionTree). conditions_choices u (map plain_condition l)) conditions i condition less ∙ ap (λ (l : ConditionTree). condition_choices u (plain_condition l) + rest) (sym at)))
+    ∙ so_far
+
+-- of a law for one list of values
+abbrev under_with : Universe → Law → List ℕ → Bool → ℕ
+under_with u law values b = (if b then law_choices u law values else 0) + 0
+
+pub under_none : (u : Universe) (law : Law) (values : List ℕ) (count : ℕ) → count ≤ 16000001 → has_instance u law values ≡ false → count ≡ min (count + choices_under u law (values ∷ [])) 16000001
+under_none u law values count few none = counts_none count _ few (ap (under_with u law values) none)
+
+pub under_some : (u : Universe) (law : Law) (values : List ℕ) (count mid new : ℕ) → has_instance u law values ≡ true → mid ≡ min (count + choices_of u (giving values) law.body) 16000001 → new ≡ min (mid + part_choices u (giving values) law.after) 16000001 →
+    new ≡ min (count + choices_under u law (values ∷ [])) 16000001
+under_some u law values count mid new has first second =
+    second ∙ counts_on count (choices_of u (giving values) law.body) (part_choices u (giving values) law.after) mid first
+    ∙ ap (λ (k : ℕ). min (count + k) 16000001) (zeroth ∙ sym (ap (under_with u law values) has))
+  where
+    zeroth : law_choices u law values ≡ law_choices u law values + 0
+    zeroth = omega arith

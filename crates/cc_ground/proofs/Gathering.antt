@@ -63,3 +63,12 @@ module _ (u : Universe) (env : Environment) where
       here (Some number) (Some numbers) e rest = ap (λ (w : Option (List ℕ)). cons_both (Some number) w) (rest refl)
       here (Some number) None e rest = absurd cc
       here None all e rest = absurd cc
+
+  pub all_then : (xs ys : List (ℕ × Terms)) (one other : Bool) → one ≡ true → one ≡ is_some (all_meant u env xs) → other ≡ is_some (all_meant u env ys) → other ≡ is_some (all_meant u env (xs ++ ys))
+  all_then xs ys one other there e f = f ∙ ap (λ (b : Bool). b && is_some (all_meant u env ys)) (sym there ∙ e) ∙ sym (all_both xs ys)
+
+  pub all_else : (xs ys : List (ℕ × Terms)) (one : Bool) → one ≡ false → one ≡ is_some (all_meant u env xs) → one ≡ is_some (all_meant u env (xs ++ ys))
+  all_else xs ys one absent e = absent ∙ ap (λ (b : Bool). b && is_some (all_meant u env ys)) (sym absent ∙ e) ∙ sym (all_both xs ys)
+
+  pub one_by_one : (there mid last : List ℕ) (xs ys : List (ℕ × Terms)) → mid ≡ gathered there (those_meant u env xs) → last ≡ gathered mid (those_meant u env ys) → last ≡ gathered there (those_meant u env (xs ++ ys))
+  one_by_one there mid last xs ys e f = f ∙ ap (λ (l : List ℕ). gathered l (those_meant u env ys)) e ∙ sym (gathered_both there xs ys)

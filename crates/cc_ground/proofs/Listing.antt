@@ -1,14 +1,16 @@
 -- The nodes of lists of value indexes, index by index of the first constant.
-use Rattle.std.proofs.Common.{◌≡◌, ◌∙◌, ℕ, zero, suc, ◌+◌, ◌<◌, ◌≤◌, Bool, true, false, List, [], ◌∷◌, ◌++◌, length, map, flat_map, filter, refl, sym, ap, subst, add-one, append_assoc, append-nil, length-append, inl, inr, arith}
+use Rattle.std.proofs.Common.{◌≡◌, ◌≢◌, ◌-◌, ◌∙◌, ℕ, zero, suc, ◌+◌, ◌<◌, ◌≤◌, Bool, true, false, List, [], ◌∷◌, ◌++◌, length, get_or, slice_get, Some, map, flat_map, filter, refl, sym, ap, subst, add-one, append_assoc, append-nil, length-append, inl, inr, arith}
 use Rattle.std.specs.Prelude.{if◌then◌else◌}
-use Rattle.std.proofs.lemmas.Bool.{cases_eq}
+use Rattle.std.proofs.lemmas.Bool.{cases_eq, false≢true}
 use Rattle.std.proofs.lemmas.Grind.{flat_map-append}
 use Rattle.std.proofs.lemmas.List.{map-append}
 use Rattle.std.proofs.lemmas.List.Elements.{filter-append}
+use Rattle.std.proofs.lemmas.Option.{slice_get-get_or}
 use Rattle.cc_defs.specs.declared.node.Node.{Node}
 use Rattle.cc_defs.specs.Declarations.{upto}
 use Rattle.cc_defs.specs.Environments.{choices}
 use Rattle.cc_defs.specs.Judged.{size_of}
+use Rattle.cc_defs.specs.Signatures.{none_value}
 use Rattle.cc_ground.specs.declared.judged.Equation.{Equation}
 use Rattle.cc_ground.specs.declared.maker.Halt.{Halt}
 use Rattle.cc_ground.specs.declared.maker.Maker.{Maker}
@@ -143,3 +145,17 @@ last_count equation indexes [] none = ap (list_count equation) (sym (append-nil 
     here true = refl
     here false = refl
 last_count equation indexes (number ∷ left) none = absurd (omega arith)
+
+-- ---- a value by its index
+
+pub value_plain : (with_none : Bool) (objects all : List ℕ) (index d : ℕ) → with_none ≡ false → index < length all → all ≡ (if with_none then none_value ∷ objects else objects) → slice_get all index ≡ Some (get_or objects index d)
+value_plain true objects all index d e within is = absurd (false≢true (sym e))
+value_plain false objects all index d e within is = ap (λ (l : List ℕ). slice_get l index) is ∙ slice_get-get_or objects index d (subst (λ (l : List ℕ). index < length l) is within)
+
+pub value_behind : (with_none : Bool) (objects all : List ℕ) (index d : ℕ) → with_none ≡ true → index ≢ 0 → index < length all → all ≡ (if with_none then none_value ∷ objects else objects) → slice_get all index ≡ Some (get_or objects (index - 1) d)
+value_behind false objects all index d e some within is = absurd (false≢true e)
+value_behind true objects all zero d e some within is = absurd (some refl)
+value_behind true objects all (suc index) d e some within is =
+    let before : index ≡ suc index - 1 = omega arith in
+    let less : suc index < length (none_value ∷ objects) = subst (λ (l : List ℕ). suc index < length l) is within in
+    ap (λ (l : List ℕ). slice_get l (suc index)) is ∙ slice_get-get_or objects index d (omega arith) ∙ ap (λ (k : ℕ). Some (get_or objects k d)) before

@@ -1,5 +1,5 @@
 -- The instances of a law, value by value of its first range, and the laws of a list of base laws.
-use Rattle.std.proofs.Common.{◌≡◌, ◌∙◌, ℕ, ◌+◌, ◌<◌, ◌≤◌, Bool, true, false, ◌&&◌, cond, List, [], ◌∷◌, ◌++◌, length, drop, map, min, get_or, Option, Some, None, is_some, Result, Ok, Err, slice_get, filter, refl, sym, ap, subst, append_assoc, append-nil, arith}
+use Rattle.std.proofs.Common.{◌≡◌, ◌∙◌, ℕ, ◌+◌, ◌<◌, ◌≤◌, Bool, true, false, ◌&&◌, cond, List, [], ◌∷◌, ◌++◌, length, drop, map, min, get_or, Option, Some, None, is_some, IfOk, Result, Ok, Err, slice_get, filter, refl, sym, ap, subst, append_assoc, append-nil, arith}
 use Rattle.std.specs.List.{flat_map}
 use Rattle.std.specs.Result.{OnOk}
 use Rattle.std.proofs.lemmas.List.{at_drop_all, at_drop_more, map-append, map-id}
@@ -14,15 +14,18 @@ use Rattle.cc_defs.specs.declared.law.Range.{Range}
 use Rattle.cc_defs.specs.declared.node.GroundHead.{GroundHead}
 use Rattle.cc_defs.specs.Environments.{Under, Together, choices, has_instance, instances_from, instances_of, passes, pairs_of, range_values}
 use Rattle.cc_defs.specs.GroundLaws.{PlainGroundLaw, ground_head, ground_laws, law_of_instance, law_with, pair_law}
+use Rattle.cc_defs.specs.Judged.{choices_of}
 use Rattle.cc_defs.specs.Resolved.{Law, plain_base_law, plain_law}
 use Rattle.cc_defs.specs.Satisfaction.{Environment, giving, head_is_there}
 use Rattle.cc_defs.specs.Universe.{Universe, boolean_actions}
 use Rattle.cc_ground.specs.declared.maker.Halt.{Halt}
 use Rattle.cc_ground.specs.declared.maker.Maker.{Maker}
 use Rattle.cc_ground.specs.Bindings.{BindingsView, bound_over, environment_of, with_value}
-use Rattle.cc_ground.specs.Counting.{nodes_in}
+use Rattle.cc_ground.specs.Choices.{choices_under}
+use Rattle.cc_ground.specs.Counting.{nodes_in, part_choices}
 use Rattle.cc_ground.specs.Views.{HasMade, IsLike, LacksRoom, laws_behind, laws_from, laws_of, laws_under, passes_in, universe_in}
 use Rattle.cc_ground.proofs.Actions.{front_behind}
+use Rattle.cc_ground.proofs.Counted.{under_some}
 use Rattle.cc_ground.proofs.Making.{MadeSoFar, made_end, made_more, made_lacks}
 use Rattle.cc_ground.proofs.Putting.{same_universe}
 
@@ -95,6 +98,26 @@ pub not_under : (u : Universe) (base : ℕ) (law : Law) (env : BindingsView) (pa
 not_under u base law env passed none is fails =
     let test : passes u law.test env.values ≡ false = sym (ap (passes_in u law.test) (unbound env none)) ∙ sym is ∙ fails in
     sym (one_under u base law env.values ∙ ap (λ (b : Bool). cond (b && head_is_there u (giving env.values) law.head) (laws_with u base law env.values) []) test)
+
+pub no_instance : (u : Universe) (law : Law) (env : BindingsView) (passed : Bool) → env.bound ≡ [] → passed ≡ passes_in u law.test (environment_of env) → passed ≡ false → has_instance u law env.values ≡ false
+no_instance u law env passed none is fails =
+    ap (λ (b : Bool). b && head_is_there u (giving env.values) law.head) (sym (ap (passes_in u law.test) (unbound env none)) ∙ sym is ∙ fails)
+
+pub instance_there : (u : Universe) (law : Law) (env now : BindingsView) (passed : Bool) (head : Option GroundHead) → env.bound ≡ [] → passed ≡ passes_in u law.test (environment_of env) →
+    passed ≡ true → now ≡ env → head ≡ ground_head u (environment_of now) law.head → head_is_there u (giving env.values) law.head ≡ is_some (ground_head u (giving env.values) law.head) → has_instance u law env.values ≡ is_some head
+instance_there u law env now passed head none is holds same found there =
+    let given = unbound env none in
+    let test : passes u law.test env.values ≡ true = sym (ap (passes_in u law.test) given) ∙ sym is ∙ holds in
+    let head_is : head ≡ ground_head u (giving env.values) law.head = found ∙ ap (λ (w : BindingsView). ground_head u (environment_of w) law.head) same ∙ ap (λ (w : Environment). ground_head u w law.head) given in
+    ap (λ (b : Bool). b && head_is_there u (giving env.values) law.head) test ∙ there ∙ ap is_some (sym head_is)
+
+pub under_counted : {E : Type 0} (u : Universe) (law : Law) (env mid after : BindingsView) (count now : ℕ) (result : Result ℕ E) → env.bound ≡ [] → has_instance u law env.values ≡ true → mid ≡ env → now ≡ min (count + choices_of u (environment_of mid) law.body) 16000001 →
+    after ≡ mid → IfOk result (λ new. new ≡ min (now + part_choices u (environment_of after) law.after) 16000001) → IfOk result (λ new. new ≡ min (count + choices_under u law (env.values ∷ [])) 16000001)
+under_counted u law env mid after count now (Err error) none has same first still second = tt
+under_counted u law env mid after count now (Ok new) none has same first still second =
+    let given = ap (λ (w : BindingsView). environment_of w) same ∙ unbound env none in
+    under_some u law env.values count now new has (first ∙ ap (λ (w : Environment). min (count + choices_of u w law.body) 16000001) given)
+    (second ∙ ap (λ (w : Environment). min (now + part_choices u w law.after) 16000001) (ap (λ (w : BindingsView). environment_of w) still ∙ given))
 
 -- with the head that there is
 pub is_under : (u : Universe) (base : ℕ) (law : Law) (env now : BindingsView) (passed : Bool) (head : Option GroundHead) → env.bound ≡ [] → passed ≡ passes_in u law.test (environment_of env) →

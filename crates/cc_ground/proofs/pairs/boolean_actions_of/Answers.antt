@@ -1,8 +1,8 @@
-use Rattle.std.proofs.Common.{◌≡◌, ◌∙◌, Bool, [], ◌∷◌, ◌++◌, sym, ap, subst}
+use Rattle.std.proofs.Common.{◌≡◌, ◌∙◌, Bool, [], ◌∷◌, ◌++◌, arith, sym, ap, subst}
 use Rattle.std.specs.Prelude.{if◌then◌else◌}
 use Rattle.cc_defs.specs.Universe.{boolean_actions}
 use Rattle.cc_ground.specs.Views.{universe_of}
-use Rattle.cc_ground.proofs.Actions.{actions_step}
+use Rattle.cc_ground.proofs.Actions.{actions_end, actions_step}
 use Rattle.cc_ground.proofs.pairs.boolean_actions_of.Goals as goal
 use Rattle.cc_ground.proofs.Putting.{err_if}
 use Rattle.cc_ground.proofs.pairs.boolean_actions_of.Goals.{then-is_boolean_action+in_ok-push, else-is_boolean_action}
@@ -23,3 +23,6 @@ loop-number-preserved c =
 
 pub returns-in_err-push : goal.returns-in_err-push
 returns-in_err-push c = err_if _ c.from_residual-in_err-push.result c.from_residual-in_err-push.ensures.0
+
+pub returns : goal.returns
+returns c = actions_end (universe_of c.args.table.now c.args.sig.now) c.loop-number.numbers.items _ c.loop-number.number (omega (arith, c.in_ok-number-end.ensures, c.loop-number-test.false)) c.loop-number.invariant
