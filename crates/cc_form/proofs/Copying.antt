@@ -1,14 +1,17 @@
 -- Loops that copy clauses, and that make those of a part of the positions or of the rules.
-use Rattle.std.proofs.Common.{◌≡◌, ◌∙◌, ℕ, zero, suc, ◌+◌, ◌-◌, ◌<◌, ◌≤◌, List, [], ◌∷◌, ◌++◌, length, map, flat_map, take, drop, get_or, slice_get, Some, Result, Ok, Err, OnOk, refl, sym, ap, subst, arith}
-use Rattle.std.proofs.lemmas.List.{map-append, take-append-drop}
+use Rattle.std.proofs.Common.{◌≡◌, ◌∙◌, ℕ, zero, suc, ◌+◌, ◌-◌, ◌<◌, ◌≤◌, List, [], ◌∷◌, ◌++◌, length, map, flat_map, take, drop, get_or, slice_get, Some, Result, Ok, Err, OnOk, refl, sym, ap, subst, arith, append_assoc}
+use Rattle.std.proofs.Math.Nat.{mul-le-mul_right}
+use Rattle.std.proofs.lemmas.List.{map-append, take-append-drop, take_more}
 use Rattle.cc_defs.specs.ClauseForms.{all_written}
 use Rattle.cc_defs.specs.ClauseLists.{Bodied, completion_from, denials_of, position_completion}
 use Rattle.cc_defs.specs.Clauses.{IsLiteralOver, IsOver, Literal}
 use Rattle.cc_defs.specs.Rules.{upto}
 use Rattle.cc_theory.specs.declared.rule.TimedRule.{TimedRule}
 use Rattle.cc_theory.specs.Theories.{plain_head}
+use Rattle.cc_form.specs.declared.moving.Way.{Way}
 use Rattle.cc_form.specs.declared.store.Kept.{Kept}
 use Rattle.cc_form.specs.Making.{bodied}
+use Rattle.cc_form.specs.Steps.{CanMove, CanPlace, way_at}
 use Rattle.cc_form.specs.Store.{Gives}
 use Rattle.cc_form.proofs.Keeping.{gives_full, gives_more}
 use Rattle.cc_form.proofs.Spreading.{denials_two, written_two}
@@ -80,3 +83,19 @@ denial_front (rule ∷ rules) (b ∷ bodies) (suc i) none body less long is =
     denial_front rules bodies i none body (omega arith) (omega arith) is
     ∙ ap (λ (n : ℕ). all_written (denials_of (record { head = plain_head (get_or rules i none).head; body = body } ∷ [])) ++ all_written (denials_of (bodied (drop n (rule ∷ rules)) (drop n (b ∷ bodies)))))
     (let e : suc (i + 1) ≡ suc i + 1 = omega arith in e)
+
+pub can_move : (way : Way) (horizon steps top : ℕ) → steps + 2 ≤ horizon → CanPlace way horizon top → CanMove (way_at way steps) top
+can_move way horizon steps top less can =
+    let before : steps ≤ horizon - 2 = omega arith in
+    let values = mul-le-mul_right way.values before in
+    let own = mul-le-mul_right way.own before in
+    let low = can.low in
+    let most = can.most in
+    record { few = can.few; low = omega arith; middle = omega arith; most = omega arith }
+
+pub staged_more : (f : Literal → Literal) (start now next clause : List Literal) (i : ℕ) (literal made : Literal) → i < length clause → literal ≡ get_or clause i literal → made ≡ f literal → next ≡ now ++ made ∷ [] →
+    now ≡ start ++ map f (take i clause) → next ≡ start ++ map f (take (i + 1) clause)
+staged_more f start now next clause i literal made less at is pushed so_far =
+    pushed ∙ ap (λ (m : Literal). now ++ m ∷ []) (is ∙ ap f at) ∙ ap (λ (l : List Literal). l ++ f (get_or clause i literal) ∷ []) so_far
+    ∙ append_assoc start (map f (take i clause)) (f (get_or clause i literal) ∷ [])
+    ∙ ap (λ (l : List Literal). start ++ l) (sym (ap (map f) (take_more clause i literal less) ∙ map-append f (take i clause) (get_or clause i literal ∷ [])))

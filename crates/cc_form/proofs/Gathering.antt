@@ -145,3 +145,12 @@ module _ (signature : Signature) where
   few_values few =
       let one = sum_by-append (λ (n : ℕ). n) (each signature) (each signature ++ F) in
       omega arith
+
+  pub later_within : (step : ℕ) (places : List ℕ) → step ≡ stride → places ≡ two → 2 * step ≤ length places
+  later_within step places is at = let within = parts_within in let long = ap length at in omega arith
+
+  pub first_within : (step : ℕ) (places : List ℕ) → step ≡ stride → places ≡ two → step ≤ length places
+  first_within step places is at = let within = later_within step places is at in omega arith
+
+pub own_is : (start truth own last : ℕ) → start ≡ truth → last ≡ truth + (0 + 1) * own → last - start ≡ own
+own_is start truth own last e f = omega arith

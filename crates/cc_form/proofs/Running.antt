@@ -1,16 +1,18 @@
 -- The machine over the nodes of a term makes its literal.
 use Rattle.std.proofs.Common.{Result, Ok, Err, IfErr, OnOk, IsErrAnd, ◌≡◌, ◌∙◌, ℕ, zero, suc, ◌+◌, ◌-◌, ◌<◌, ◌≤◌, List, [], ◌∷◌, ◌++◌, length, map, take, drop, get_or, refl, sym, ap, subst, arith, append_assoc, append-nil, length-append}
 use Rattle.std.specs.List.{AllByRecursion}
+use Rattle.std.proofs.lemmas.List.{take_rest}
 use Rattle.cc_arena.specs.Walks.{arity}
 use Rattle.cc_defs.specs.declared.node.Node.{Node}
 use Rattle.cc_defs.specs.declared.node.Node.TheVariants as nodes
 use Rattle.cc_defs.specs.declared.refusal.Fault.{Fault}
 use Rattle.cc_defs.specs.declared.refusal.Fault.TheVariants as faults
-use Rattle.cc_defs.specs.ClauseForms.{Made, MadeAll, positive, true_variable, made_all, made_any, made_of, made_operands}
+use Rattle.cc_defs.specs.ClauseForms.{Made, MadeAll, all_clauses, all_written, any_clauses, positive, true_variable, made_all, made_any, made_of, made_operands}
 use Rattle.cc_defs.specs.ClauseLists.{Asserted}
 use Rattle.cc_defs.specs.Clauses.{Literal, opposite}
 use Rattle.cc_defs.specs.Terms.{Ground, Operands, Fits, IsTermOver, nothing, and_then, operand_count, postfix, postfixes}
 use Rattle.cc_defs.specs.Terms as terms
+use Rattle.cc_form.specs.declared.store.Kept.{Kept}
 use Rattle.cc_form.specs.declared.writer.Writer.{Writer}
 use Rattle.cc_form.specs.Machine.{Adds, Ran, IsBuilt, IsPast, IsRan, IsReady, behind, first_of, made_node, made_nodes, moved_node, run, stepped}
 use Rattle.cc_form.specs.Store.{Gives}
@@ -322,3 +324,58 @@ adds_then old new made (Err fault) past then = tt
 pub adds_past : (Q : Fault → Type 0) (old new : Writer) (made : Asserted) (result : Result (Unit {0}) Fault) → Adds old new result made → ((fault : Fault) → IsPast made.last fault → Q fault) → IfErr result Q
 adds_past Q old new made (Ok done) built then = tt
 adds_past Q old new made (Err fault) past then = then fault past
+
+-- a node takes its operands from the stack
+pub step_ran : (old new : Writer) (by : ℕ) (node : Node) (start : ℕ) (items : List Literal) (literal : Literal) → start ≡ length old.stack.items - arity (moved_node by node) → items ≡ old.stack.items →
+    literal ≡ (made_node old.places (moved_node by node) (take (length items - start) (drop start items)) old.last).literal → new.last ≡ (made_node old.places (moved_node by node) (take (length items - start) (drop start items)) old.last).last →
+    new.last ≤ 4000000 → Gives old.store.kept new.store.kept (made_node old.places (moved_node by node) (take (length items - start) (drop start items)) old.last).clauses → new.places ≡ old.places →
+    new.stack.items ≡ take start old.stack.items ++ literal ∷ [] → IsRan old new (stepped old.places (moved_node by node) old.stack.items old.last)
+step_ran old new by node start items literal begins same is ends few gives still stack =
+    let made : List Literal → Made = λ o. made_node old.places (moved_node by node) o old.last in
+    let whole = old.stack.items in
+    let first = length whole - arity (moved_node by node) in
+    let operands : take (length items - start) (drop start items) ≡ drop first whole = take_rest items start ∙ ap (drop start) same ∙ ap (λ (n : ℕ). drop n whole) begins in
+    let last = ends ∙ ap (λ (o : List Literal). (made o).last) operands in
+    record {
+      stack = stack ∙ ap (λ (n : ℕ). take n whole ++ literal ∷ []) begins ∙ ap (λ (l : Literal). take first whole ++ l ∷ []) (is ∙ ap (λ (o : List Literal). (made o).literal) operands);
+      built = record {
+        places = still;
+        ends = last;
+        within = subst (λ (n : ℕ). n ≤ 4000000) last few;
+        gives = subst (λ (o : List Literal). Gives old.store.kept new.store.kept (made o).clauses) operands gives;
+      };
+    }
+
+-- ---- a node of two operands or more
+
+pub all_given : (t x : Literal) (operands : List Literal) (last : ℕ) (old new : Kept) → 2 ≤ length operands → x ≡ positive (last + 1) → Gives old new (all_written (all_clauses x operands)) →
+    Gives old new (made_all t (record { literals = operands; last = last; clauses = [] }) operands).clauses
+all_given t x [] last old new long is gives = absurd (omega arith)
+all_given t x (f ∷ []) last old new long is gives = absurd (omega arith)
+all_given t x (f ∷ g ∷ operands) last old new long is gives = subst (λ (y : Literal). Gives old new (all_written (all_clauses y (f ∷ g ∷ operands)))) is gives
+
+pub all_last : (t : Literal) (operands : List Literal) (last now : ℕ) → 2 ≤ length operands → now ≡ last + 1 → now ≡ (made_all t (record { literals = operands; last = last; clauses = [] }) operands).last
+all_last t [] last now long is = absurd (omega arith)
+all_last t (f ∷ []) last now long is = absurd (omega arith)
+all_last t (f ∷ g ∷ operands) last now long is = is
+
+pub all_short : (t : Literal) (operands : List Literal) (last : ℕ) (kept : Kept) → length operands < 2 → Gives kept kept (made_all t (record { literals = operands; last = last; clauses = [] }) operands).clauses
+all_short t [] last kept short = gives_none kept
+all_short t (f ∷ []) last kept short = gives_none kept
+all_short t (f ∷ g ∷ operands) last kept short = absurd (omega arith)
+
+pub any_given : (t x : Literal) (operands : List Literal) (last : ℕ) (old new : Kept) → 2 ≤ length operands → x ≡ positive (last + 1) → Gives old new (all_written (any_clauses x operands)) →
+    Gives old new (made_any t (record { literals = operands; last = last; clauses = [] }) operands).clauses
+any_given t x [] last old new long is gives = absurd (omega arith)
+any_given t x (f ∷ []) last old new long is gives = absurd (omega arith)
+any_given t x (f ∷ g ∷ operands) last old new long is gives = subst (λ (y : Literal). Gives old new (all_written (any_clauses y (f ∷ g ∷ operands)))) is gives
+
+pub any_last : (t : Literal) (operands : List Literal) (last now : ℕ) → 2 ≤ length operands → now ≡ last + 1 → now ≡ (made_any t (record { literals = operands; last = last; clauses = [] }) operands).last
+any_last t [] last now long is = absurd (omega arith)
+any_last t (f ∷ []) last now long is = absurd (omega arith)
+any_last t (f ∷ g ∷ operands) last now long is = is
+
+pub any_short : (t : Literal) (operands : List Literal) (last : ℕ) (kept : Kept) → length operands < 2 → Gives kept kept (made_any t (record { literals = operands; last = last; clauses = [] }) operands).clauses
+any_short t [] last kept short = gives_none kept
+any_short t (f ∷ []) last kept short = gives_none kept
+any_short t (f ∷ g ∷ operands) last kept short = absurd (omega arith)

@@ -24,3 +24,9 @@ loop-size-preserved c =
       fits = omega arith;
       done = done_more c.args.store.now.kept c.loop-size.store.kept c.exactly_one.new.store.kept _ _ _ _ (positions_front c.loop-size.first c.args.sizes.now c.loop-size.size-index c.loop-size-test.true) so.done c.in_ok-exactly_one.ensures;
     }
+
+pub overflow_add-first : goal.overflow_add-first
+overflow_add-first c =
+    let sum = sum_front c.args.sizes.now c.loop-size.size-index c.loop-size-test.true in
+    let fits = c.loop-size.invariant.fits in
+    omega arith

@@ -5,7 +5,7 @@ use Rattle.cc_form.specs.Places.{position_sizes}
 use Rattle.cc_form.specs.Steps.{truth_at}
 use Rattle.cc_form.specs.Store.{Holds}
 use Rattle.cc_form.proofs.Finishing.{bodies_long}
-use Rattle.cc_form.proofs.Gathering.{completion_part, first_part, last_part, later_part}
+use Rattle.cc_form.proofs.Gathering.{completion_part, first_part, first_within, last_part, later_part, later_within}
 use Rattle.cc_form.proofs.Leaving.{at_ok, err_if, err_on}
 use Rattle.cc_form.proofs.steps.three_complete.Goals as goal
 
@@ -65,3 +65,21 @@ returns-in_err-theory c = let is = c.from_residual.ensures.0 in record { first =
 
 pub returns-in_err-three : goal.returns-in_err-three
 returns-in_err-three c = let is = c.from_residual-in_err-three.ensures.0 in record { first = err_if _ _ is; later = err_if _ _ is; last = err_if _ _ is; ends = err_on _ _ is }
+
+pub completed-first-requires-clause-within : goal.completed-first-requires-clause-within
+completed-first-requires-clause-within c =
+    let S = c.fluents.result + c.actions.result in
+    let stride : S ≡ stride_of c.args.sig.now = (let f = c.fluents.ensures in let a = c.actions.ensures in omega arith) in
+    first_within c.args.sig.now S c.args.writer.now.places stride c.requires.places
+
+pub completed-later-requires-clause-within : goal.completed-later-requires-clause-within
+completed-later-requires-clause-within c =
+    let S = c.fluents.result + c.actions.result in
+    let stride : S ≡ stride_of c.args.sig.now = (let f = c.fluents.ensures in let a = c.actions.ensures in omega arith) in
+    later_within c.args.sig.now S c.completed-first.new.writer.places stride (c.completed-first.ensures.places ∙ c.requires.places)
+
+pub completed-last-requires-clause-ordered : goal.completed-last-requires-clause-ordered
+completed-last-requires-clause-ordered c =
+    let S = c.fluents.result + c.actions.result in
+    let stride : S ≡ stride_of c.args.sig.now = (let f = c.fluents.ensures in let a = c.actions.ensures in omega arith) in
+    later_within c.args.sig.now S c.sizes-end.result.now stride (c.sizes-end.ensures ∙ c.requires.places)

@@ -1,6 +1,7 @@
-use Rattle.cc_form.proofs.Gathering.{all_ends, all_literals}
+use Rattle.cc_form.proofs.Gathering.{all_ends, all_literals, own_is}
 use Rattle.cc_form.proofs.Leaving.{err_if, err_on}
-use Rattle.std.proofs.Common.{◌∙◌}
+use Rattle.std.proofs.Common.{◌∙◌, arith}
+use Rattle.cc_form.specs.Steps.{own_variables, truth_at}
 use Rattle.cc_form.proofs.steps.three_ruled.Goals as goal
 
 pub returns-clause-literals : goal.returns-clause-literals
@@ -57,3 +58,12 @@ returns-clause-empty c = c.in_ok-last.ensures.empty
 
 pub returns-clause-places : goal.returns-clause-places
 returns-clause-places c = c.in_ok-last.ensures.places ∙ c.in_ok-later.ensures.places ∙ c.in_ok-first.ensures.places ∙ c.in_ok-begin.ensures.places
+
+pub returns-clause-own : goal.returns-clause-own
+returns-clause-own c = own_is c.args.writer.now.last (truth_at c.args.sig.now 2) (own_variables c.args.sig.now c.args.laws.now) c.go_on.new.writer.last c.requires.last (c.in_ok-first.ensures.next (omega arith))
+
+pub go_on-requires-2-clause-last : goal.go_on-requires-2-clause-last
+go_on-requires-2-clause-last c = c.in_ok-first.ensures.next (omega arith)
+
+pub go_on-requires-3-clause-last : goal.go_on-requires-3-clause-last
+go_on-requires-3-clause-last c = c.in_ok-later.ensures.next (omega arith)
