@@ -1,6 +1,6 @@
 use Rattle.std.proofs.Common.{◌-◌, ◌∙◌, length, arith, refl, rules}
 use Rattle.cc_ports.proofs.Called.{nothing_given, given_more}
-use Rattle.cc_ports.proofs.Told.{was_given, was_kept}
+use Rattle.cc_ports.proofs.Told.{given_within, piece_within, still_below, was_given, was_kept}
 use Rattle.cc_ports.proofs.whole.give_all.Goals as goal
 
 pub returns-in_err-given-clause-some : goal.returns-in_err-given-clause-some
@@ -9,16 +9,20 @@ returns-in_err-given-clause-some g c =
     _ _ _ _ c.loop-given.invariant.told c.in_err-given.ensures.after
 
 pub loop-given-preserved : goal.loop-given-preserved
-loop-given-preserved g c = record {
-  within = omega (arith, c.in_ok-given.ensures.count);
-  told = was_given c.args.to c.args.bytes.now c.loop-given.given (length c.args.bytes.now - c.loop-given.given) _ _ _ _
-      (omega (arith, c.in_ok-given.ensures.count)) c.loop-given.invariant.told c.in_ok-given.ensures.after;
-  begun = cc (c.in_ok-given.ensures.begun);
-  calls = given_more c.args.to _ _ _ _ c.loop-given.invariant.calls c.in_ok-given.ensures.calls;
-  calm = (c.in_ok-given.ensures.calm.0 ∙ c.loop-given.invariant.calm.0, c.in_ok-given.ensures.calm.1 ∙ c.loop-given.invariant.calm.1);
-  reads_count = omega (arith, c.in_ok-given.ensures.reads_count);
-  writes_count = omega (arith, c.in_ok-given.ensures.writes_count);
-}
+loop-given-preserved g c =
+    let invariant = c.loop-given.invariant in
+    let gives = c.in_ok-given.ensures in
+    let bytes = c.args.bytes.now in
+    let few = piece_within bytes c.loop-given.given _ gives.count in
+    record {
+      within = given_within _ _ _ invariant.within few;
+      told = was_given c.args.to bytes c.loop-given.given (length bytes - c.loop-given.given) _ _ _ _ few invariant.told gives.after;
+      begun = gives.begun ∙ invariant.begun;
+      calls = given_more c.args.to _ _ _ _ invariant.calls gives.calls;
+      calm = (gives.calm.0 ∙ invariant.calm.0, gives.calm.1 ∙ invariant.calm.1);
+      reads_count = still_below _ _ _ invariant.reads_count gives.reads_count;
+      writes_count = still_below _ _ _ invariant.writes_count gives.writes_count;
+    }
 
 pub loop-given-init : goal.loop-given-init
 loop-given-init g c = record {
