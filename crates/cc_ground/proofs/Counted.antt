@@ -1,5 +1,5 @@
 -- How many lists of values are walked: counts that stop, and where there are none.
-use Rattle.std.proofs.Common.{◌≡◌, ◌∙◌, ℕ, zero, suc, ◌+◌, ◌*◌, ◌<◌, ◌≤◌, Bool, true, false, ◌&&◌, ◌||◌, List, [], ◌∷◌, ◌++◌, length, map, flat_map, filter, get_or, drop, min, Option, Some, None, option_map, inl, inr, refl, sym, ap, append_assoc, append-nil, arith}
+use Rattle.std.proofs.Common.{◌≡◌, ◌∙◌, ℕ, zero, suc, ◌+◌, ◌*◌, ◌<◌, ◌≤◌, Bool, true, false, ◌&&◌, ◌||◌, List, [], ◌∷◌, ◌++◌, length, map, flat_map, filter, get_or, drop, min, Option, Some, None, Result, Ok, Err, IfOk, option_map, inl, inr, refl, sym, ap, append_assoc, append-nil, arith}
 use Rattle.std.specs.Prelude.{if◌then◌else◌}
 use Rattle.std.specs.List.{sum_by}
 use Rattle.std.proofs.lemmas.Bool.{cases_lt}
@@ -303,3 +303,11 @@ under_some u law values count mid new has first second =
   where
     zeroth : law_choices u law values ≡ law_choices u law values + 0
     zeroth = omega arith
+
+-- a formula of two
+pub two_counted : {E : Type 0} (u : Universe) (old mid : BindingsView) (f g whole : Formula) (count now : ℕ) (result : Result ℕ E) → choices_of u (environment_of old) whole ≡ choices_of u (environment_of old) f + choices_of u (environment_of old) g → mid ≡ old →
+    now ≡ min (count + choices_of u (environment_of old) f) 16000001 → IfOk result (λ new. new ≡ min (now + choices_of u (environment_of mid) g) 16000001) → IfOk result (λ new. new ≡ min (count + choices_of u (environment_of old) whole) 16000001)
+two_counted u old mid f g whole count now (Err error) sum same first second = tt
+two_counted u old mid f g whole count now (Ok new) sum same first second =
+    second ∙ ap (λ (w : BindingsView). min (now + choices_of u (environment_of w) g) 16000001) same
+    ∙ counts_on count (choices_of u (environment_of old) f) (choices_of u (environment_of old) g) now first ∙ ap (λ (k : ℕ). min (count + k) 16000001) (sym sum)

@@ -78,3 +78,9 @@ args_none u env terms i items term found less at is none so_far = no_front items
 pub args_end : (u : Universe) (env : Environment) (terms : List Term) (i : ℕ) (items : List ℕ) → length terms ≤ i → with_front items (args_of u env (drop i terms)) ≡ args_of u env terms → Some items ≡ args_of u env terms
 args_end u env terms i items past so_far =
     ap Some (sym (append-nil items)) ∙ sym (at_drop_all (λ (l : List Term). with_front items (args_of u env l)) terms i past) ∙ so_far
+
+-- a formula of two, by its parts
+pub two_is : (kept_as : Box kept.Formula → Box kept.Formula → kept.Formula) (resolved_as : resolved.Formula → resolved.Formula → resolved.Formula) (whole f g : kept.Formula) (l r : Box kept.Formula) →
+    plain_formula (kept_as l r) ≡ resolved_as (plain_formula l.value) (plain_formula r.value) → whole ≡ kept_as l r → f ≡ l.value → g ≡ r.value → plain_formula whole ≡ resolved_as (plain_formula f) (plain_formula g)
+two_is kept_as resolved_as whole f g l r plain is first second =
+    ap plain_formula is ∙ plain ∙ ap (λ x. resolved_as (plain_formula x) (plain_formula r.value)) (sym first) ∙ ap (λ x. resolved_as (plain_formula f) (plain_formula x)) (sym second)

@@ -1,4 +1,6 @@
-use Rattle.std.proofs.Common.{◌≡◌, ◌∙◌, ◌+◌, ℕ, List, IfOk, min, get_or, ap, arith, subst, sym}
+use Rattle.cc_defs.specs.declared.formula.Formula as kept
+use Rattle.cc_defs.specs.Resolved as resolved
+use Rattle.std.proofs.Common.{◌≡◌, ◌∙◌, ◌+◌, ℕ, List, IfOk, OnOk, min, get_or, ap, arith, refl, subst, sym}
 use Rattle.cc_defs.specs.Judged.{choices_of}
 use Rattle.cc_defs.specs.Resolved.{Formula, plain_formula}
 use Rattle.cc_defs.specs.Satisfaction.{bind}
@@ -6,8 +8,8 @@ use Rattle.cc_defs.specs.Universe.{objects_of}
 use Rattle.cc_ground.specs.Bindings.{BindingsView, environment_of}
 use Rattle.cc_ground.specs.Choices.{bracket_choices}
 use Rattle.cc_ground.specs.Views.{universe_of}
-use Rattle.cc_ground.proofs.Counted.{bracket_done, bracket_is, bracket_more, counts_none, no_instances}
-use Rattle.cc_ground.proofs.Meant.{all_is, some_is}
+use Rattle.cc_ground.proofs.Counted.{bracket_done, bracket_is, bracket_more, counts_none, no_instances, two_counted}
+use Rattle.cc_ground.proofs.Meant.{all_is, some_is, two_is}
 use Rattle.cc_ground.proofs.choosing.+choosing.Goals as goal
 
 pub with_formula-returns-in-ForAll-clause-count : goal.with_formula-returns-in-ForAll-clause-count
@@ -54,3 +56,51 @@ with_instances-returns-clause-count t c =
     let formula = plain_formula c.args.formula.now in
     bracket_done u env c.args.variable formula c.objects_of-object-items.result.now c.loop-object.object-index c.args.count c.loop-object.total c.loop-object.invariant.few c.loop-object-test.false c.loop-object.invariant.rest
     ∙ ap (λ (l : List ℕ). min (c.args.count + bracket_choices u env c.args.variable formula l) 16000001) c.objects_of-object-items.ensures
+
+pub with_formula-returns-in_ok-count-in-Both-clause-count : goal.with_formula-returns-in_ok-count-in-Both-clause-count
+with_formula-returns-in_ok-count-in-Both-clause-count t c =
+    let u = universe_of c.args.table.now c.args.sig.now in
+    let f = c.deref-in-Both.result.now in
+    let g = c.deref-in-Both-2.result.now in
+    two_counted u c.args.env.now c.with_formula-in-Both.new.env (plain_formula f) (plain_formula g) (plain_formula c.args.formula.now) c.args.count c.in_ok-count-in-Both.count c.with_formula-in-Both-2.result
+    (ap (choices_of u (environment_of c.args.env.now)) (two_is kept.Both resolved.Both c.args.formula.now f g c.in-Both.left c.in-Both.right refl c.in-Both.is c.deref-in-Both.ensures c.deref-in-Both-2.ensures))
+    c.in_ok-count-in-Both.ensures.env c.in_ok-count-in-Both.ensures.count c.with_formula-in-Both-2.ensures.count
+
+pub with_formula-returns-in_ok-count-in-Both-clause-env : goal.with_formula-returns-in_ok-count-in-Both-clause-env
+with_formula-returns-in_ok-count-in-Both-clause-env t c = subst (λ (w : BindingsView). OnOk c.with_formula-in-Both-2.result (c.with_formula-in-Both-2.new.env ≡ w)) c.in_ok-count-in-Both.ensures.env c.with_formula-in-Both-2.ensures.env
+
+pub with_formula-returns-in_ok-count-in-Either-clause-count : goal.with_formula-returns-in_ok-count-in-Either-clause-count
+with_formula-returns-in_ok-count-in-Either-clause-count t c =
+    let u = universe_of c.args.table.now c.args.sig.now in
+    let f = c.deref-in-Either.result.now in
+    let g = c.deref-in-Either-2.result.now in
+    two_counted u c.args.env.now c.with_formula-in-Either.new.env (plain_formula f) (plain_formula g) (plain_formula c.args.formula.now) c.args.count c.in_ok-count-in-Either.count c.with_formula-in-Either-2.result
+    (ap (choices_of u (environment_of c.args.env.now)) (two_is kept.Either resolved.Either c.args.formula.now f g c.in-Either.left c.in-Either.right refl c.in-Either.is c.deref-in-Either.ensures c.deref-in-Either-2.ensures))
+    c.in_ok-count-in-Either.ensures.env c.in_ok-count-in-Either.ensures.count c.with_formula-in-Either-2.ensures.count
+
+pub with_formula-returns-in_ok-count-in-Either-clause-env : goal.with_formula-returns-in_ok-count-in-Either-clause-env
+with_formula-returns-in_ok-count-in-Either-clause-env t c = subst (λ (w : BindingsView). OnOk c.with_formula-in-Either-2.result (c.with_formula-in-Either-2.new.env ≡ w)) c.in_ok-count-in-Either.ensures.env c.with_formula-in-Either-2.ensures.env
+
+pub with_formula-returns-in_ok-count-in-Implies-clause-count : goal.with_formula-returns-in_ok-count-in-Implies-clause-count
+with_formula-returns-in_ok-count-in-Implies-clause-count t c =
+    let u = universe_of c.args.table.now c.args.sig.now in
+    let f = c.deref-in-Implies.result.now in
+    let g = c.deref-in-Implies-2.result.now in
+    two_counted u c.args.env.now c.with_formula-in-Implies.new.env (plain_formula f) (plain_formula g) (plain_formula c.args.formula.now) c.args.count c.in_ok-count-in-Implies.count c.with_formula-in-Implies-2.result
+    (ap (choices_of u (environment_of c.args.env.now)) (two_is kept.Implies resolved.Implies c.args.formula.now f g c.in-Implies.left c.in-Implies.right refl c.in-Implies.is c.deref-in-Implies.ensures c.deref-in-Implies-2.ensures))
+    c.in_ok-count-in-Implies.ensures.env c.in_ok-count-in-Implies.ensures.count c.with_formula-in-Implies-2.ensures.count
+
+pub with_formula-returns-in_ok-count-in-Implies-clause-env : goal.with_formula-returns-in_ok-count-in-Implies-clause-env
+with_formula-returns-in_ok-count-in-Implies-clause-env t c = subst (λ (w : BindingsView). OnOk c.with_formula-in-Implies-2.result (c.with_formula-in-Implies-2.new.env ≡ w)) c.in_ok-count-in-Implies.ensures.env c.with_formula-in-Implies-2.ensures.env
+
+pub with_formula-returns-in_ok-count-in-Same-clause-count : goal.with_formula-returns-in_ok-count-in-Same-clause-count
+with_formula-returns-in_ok-count-in-Same-clause-count t c =
+    let u = universe_of c.args.table.now c.args.sig.now in
+    let f = c.deref-in-Same.result.now in
+    let g = c.deref-in-Same-2.result.now in
+    two_counted u c.args.env.now c.with_formula-in-Same.new.env (plain_formula f) (plain_formula g) (plain_formula c.args.formula.now) c.args.count c.in_ok-count-in-Same.count c.with_formula-in-Same-2.result
+    (ap (choices_of u (environment_of c.args.env.now)) (two_is kept.Same resolved.Same c.args.formula.now f g c.in-Same.left c.in-Same.right refl c.in-Same.is c.deref-in-Same.ensures c.deref-in-Same-2.ensures))
+    c.in_ok-count-in-Same.ensures.env c.in_ok-count-in-Same.ensures.count c.with_formula-in-Same-2.ensures.count
+
+pub with_formula-returns-in_ok-count-in-Same-clause-env : goal.with_formula-returns-in_ok-count-in-Same-clause-env
+with_formula-returns-in_ok-count-in-Same-clause-env t c = subst (λ (w : BindingsView). OnOk c.with_formula-in-Same-2.result (c.with_formula-in-Same-2.new.env ≡ w)) c.in_ok-count-in-Same.ensures.env c.with_formula-in-Same-2.ensures.env
