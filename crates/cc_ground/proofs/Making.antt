@@ -1,6 +1,6 @@
 -- Laws that are made behind others, and the room that is left for their nodes.
-use Rattle.std.proofs.Common.{◌≡◌, ◌∙◌, ℕ, ◌+◌, List, [], ◌∷◌, ◌++◌, map, IfOk, Ok, Err, Result, refl, sym, ap, subst, append_assoc, append-nil, arith}
-use Rattle.std.proofs.lemmas.List.{map-append}
+use Rattle.std.proofs.Common.{◌≡◌, ◌∙◌, ℕ, ◌+◌, ◌<◌, ◌≤◌, length, drop, get_or, List, [], ◌∷◌, ◌++◌, map, IfOk, Ok, Err, Result, refl, sym, ap, subst, append_assoc, append-nil, arith}
+use Rattle.std.proofs.lemmas.List.{at_drop_all, at_drop_more, map-append}
 use Rattle.cc_arena.specs.declared.ground_laws.GroundLaw.{GroundLaw}
 use Rattle.cc_ground.specs.declared.maker.Halt.{Halt}
 use Rattle.cc_ground.specs.declared.maker.Maker.{Maker}
@@ -62,3 +62,11 @@ first_pairs base one others left e =
 pub as_made : {A E B : Type 0} (view : A → B) (P : B → Type 0) (result : Result A E) (made : B) → P made → IfOk result (λ a. view a ≡ made) → IfOk result (λ a. P (view a))
 as_made view P (Ok a) made holds e = subst P (sym e) holds
 as_made view P (Err fault) made holds e = tt
+
+pub pair_made : (base one : ℕ) (others : List ℕ) (i other : ℕ) {whole : List PlainGroundLaw} {was there next : List GroundLaw} {old mid new : Maker} → MadeSoFar (map (λ other. pair_law base (one, other)) (drop i others)) whole was there old mid → i < length others →
+    other ≡ get_or others i 0 → HasMade (pair_law base (one, other) ∷ []) there next mid new → MadeSoFar (map (λ other. pair_law base (one, other)) (drop (i + 1) others)) whole was next old new
+pair_made base one others i other so within is made =
+    made_more so (at_drop_more (map (λ other. pair_law base (one, other))) others i 0 within ∙ ap (λ (o : ℕ). pair_law base (one, o) ∷ map (λ other. pair_law base (one, other)) (drop (i + 1) others)) (sym is)) made
+
+pub pairs_made : (base one : ℕ) (others : List ℕ) (i : ℕ) {whole : List PlainGroundLaw} {was there : List GroundLaw} {old new : Maker} → MadeSoFar (map (λ other. pair_law base (one, other)) (drop i others)) whole was there old new → length others ≤ i → HasMade whole was there old new
+pairs_made base one others i so past = made_end so (at_drop_all (map (λ other. pair_law base (one, other))) others i past)

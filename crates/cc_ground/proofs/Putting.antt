@@ -184,6 +184,9 @@ instances_more {instance} {objects} {i} so within put = record {
   rest = sym (at_drop_more (behind instance so.made) objects i 0 within) ∙ so.rest;
 }
 
+pub instances_done : {instance : ℕ → Ground} {objects : List ℕ} {i : ℕ} {old new : Maker} → InstancesSoFar instance objects i old new → length objects ≤ i → HasPut (postfixes (behind instance nothing objects)) old new
+instances_done {instance} {objects} {i} so past = put_as (ap postfixes (sym (at_drop_all (behind instance so.made) objects i past) ∙ so.rest)) so.put
+
 instances_grow : (instance : ℕ → Ground) (made : Operands) (objects : List ℕ) → length (postfixes made) ≤ length (postfixes (behind instance made objects))
 instances_grow instance made [] = omega arith
 instances_grow instance made (object ∷ objects) =

@@ -232,6 +232,13 @@ no_total u valuation sign pieces i plus minus d whole within none so_far =
     none_joins false = refl
     none_joins true = refl
 
+pub more_total : (u : Universe) (valuation : ℕ → ℕ) (pieces : List Signed) (i plus minus now less number : ℕ) (d : Signed) (whole : Option Value) → i < length pieces → Some number ≡ number_in u valuation (get_or pieces i d).piece →
+    Some (Whole now less) ≡ joined (get_or pieces i d).minus (Some (Whole plus minus)) (Some (Whole number 0)) → total u valuation (drop i pieces) (Some (Whole plus minus)) ≡ whole → total u valuation (drop (i + 1) pieces) (Some (Whole now less)) ≡ whole
+more_total u valuation pieces i plus minus now less number d whole within some is so_far =
+    let rest = drop (i + 1) pieces in
+    ap (total u valuation rest) (is ∙ ap (λ (o : Option ℕ). joined (get_or pieces i d).minus (Some (Whole plus minus)) (whole_of o)) some)
+    ∙ sym (at_drop_more (λ (l : List Signed). total u valuation l (Some (Whole plus minus))) pieces i d within) ∙ so_far
+
 -- ---- constants, each once
 
 -- those of the second list that are not in the first

@@ -7,7 +7,7 @@ use Rattle.cc_defs.specs.Nodes.{nodes_of}
 use Rattle.cc_ground.specs.Bindings.{environment_of}
 use Rattle.cc_ground.specs.Views.{HasPut, LacksRoom, universe_in}
 use Rattle.cc_ground.proofs.Meant.{all_is, some_is}
-use Rattle.cc_ground.proofs.Putting.{behind, both_nodes, either_nodes, err_if, err_on, first_lacks, implies_nodes, nodes_in, not_nodes, one_lacks, same_nodes, then_lacks, then_put, two_lack, two_put, bracket_puts, bracket_lacks, bracket_lacks_last, count_is, instance_at, instance_lacks, instance_put, instances_begin, instances_in, lacks_so}
+use Rattle.cc_ground.proofs.Putting.{behind, both_nodes, either_nodes, err_if, err_on, first_lacks, implies_nodes, nodes_in, not_nodes, one_lacks, same_nodes, then_lacks, then_put, two_lack, two_put, bracket_puts, bracket_lacks, bracket_lacks_last, count_is, instance_at, instance_lacks, instance_put, instances_begin, instances_done, instances_in, put_as, lacks_so}
 use Rattle.cc_ground.proofs.maker.Maker.+formula.Goals as goal
 
 pub put-returns-in_err-count-in-ForAll-clause-full : goal.put-returns-in_err-count-in-ForAll-clause-full
@@ -197,3 +197,7 @@ put_instances-returns-in_err-narrow-clause-put t c = err_on _ c.from_residual-in
 
 pub put_instances-returns-in_err-narrow-clause-count : goal.put_instances-returns-in_err-narrow-clause-count
 put_instances-returns-in_err-narrow-clause-count t c = err_if _ c.from_residual-in_err-narrow.result c.from_residual-in_err-narrow.ensures.0
+
+pub put_instances-returns-clause-put : goal.put_instances-returns-clause-put
+put_instances-returns-clause-put t c =
+    put_as (ap (λ (l : List ℕ). postfixes (behind (instance_at c.args.self.now (plain_formula c.args.formula.now) c.args.variable) nothing l)) c.objects_of-objects.ensures) (instances_done c.loop-object.invariant c.loop-object-test.false)
