@@ -1,7 +1,10 @@
 -- The instances of a law, value by value of its first range, and the laws of a list of base laws.
 use Rattle.std.proofs.Common.{◌≡◌, ◌∙◌, ℕ, ◌+◌, ◌<◌, ◌≤◌, Bool, true, false, ◌&&◌, cond, List, [], ◌∷◌, ◌++◌, length, drop, map, min, get_or, Option, Some, None, is_some, IfOk, Result, Ok, Err, slice_get, filter, refl, sym, ap, subst, append_assoc, append-nil, arith}
 use Rattle.std.specs.List.{flat_map}
+use Rattle.std.specs.Option.{option_or}
+use Rattle.std.specs.Prelude.{if◌then◌else◌}
 use Rattle.std.specs.Result.{OnOk}
+use Rattle.std.proofs.lemmas.Bool.{le-ltb, lt-ltb}
 use Rattle.std.proofs.lemmas.List.{at_drop_all, at_drop_more, map-append, map-id}
 use Rattle.std.proofs.lemmas.Grind.{flat_map-append}
 use Rattle.std.proofs.lemmas.List.Elements.{filter-append}
@@ -12,17 +15,20 @@ use Rattle.cc_defs.specs.declared.law.BaseLaw.TheVariants as base_laws
 use Rattle.cc_defs.specs.declared.law.Law.{Law as LawTree}
 use Rattle.cc_defs.specs.declared.law.Range.{Range}
 use Rattle.cc_defs.specs.declared.node.GroundHead.{GroundHead}
+use Rattle.cc_defs.specs.declared.refusal.LimitAt.TheVariants as limits
 use Rattle.cc_defs.specs.Environments.{Under, Together, choices, has_instance, instances_from, instances_of, passes, pairs_of, range_values}
 use Rattle.cc_defs.specs.GroundLaws.{PlainGroundLaw, ground_head, ground_laws, law_of_instance, law_with, pair_law}
 use Rattle.cc_defs.specs.Judged.{choices_of}
-use Rattle.cc_defs.specs.Resolved.{Law, plain_base_law, plain_law}
+use Rattle.cc_defs.specs.Refusals.{past}
+use Rattle.cc_defs.specs.Resolved.{BaseLaw, Law, plain_base_law, plain_law}
 use Rattle.cc_defs.specs.Satisfaction.{Environment, giving, head_is_there}
 use Rattle.cc_defs.specs.Universe.{Universe, boolean_actions}
 use Rattle.cc_ground.specs.declared.maker.Halt.{Halt}
+use Rattle.cc_ground.specs.declared.maker.Halt.TheVariants as halts
 use Rattle.cc_ground.specs.declared.maker.Maker.{Maker}
 use Rattle.cc_ground.specs.Bindings.{BindingsView, bound_over, environment_of, with_value}
 use Rattle.cc_ground.specs.Choices.{choices_under}
-use Rattle.cc_ground.specs.Counting.{nodes_in, part_choices}
+use Rattle.cc_ground.specs.Counting.{choice_refusal, choices_of_all, instances_of_all, laws_refusal, node_refusal, nodes_in, part_choices}
 use Rattle.cc_ground.specs.Views.{HasMade, IsLike, LacksRoom, laws_behind, laws_from, laws_of, laws_under, passes_in, universe_in}
 use Rattle.cc_ground.proofs.Actions.{front_behind}
 use Rattle.cc_ground.proofs.Counted.{under_some}
@@ -270,3 +276,19 @@ laws_lack laws law base i {was} {there} {old} {now} halt so within is same lacks
 -- the actions stay those of the makers that are alike
 pub same_actions : (old now : Maker) (actions : List ℕ) → actions ≡ boolean_actions (universe_in old) → IsLike old now → actions ≡ boolean_actions (universe_in now)
 same_actions old now actions is like = is ∙ ap boolean_actions (same_universe old now like.table like.sig)
+
+-- ---- within the limits
+
+pub few_laws : (u : Universe) (laws : List BaseLaw) (count limit many more : ℕ) → count ≡ min (instances_of_all u laws) 1000001 → limit ≡ 1000000 → count ≤ limit → many ≡ min (choices_of_all u laws) 16000001 → more ≡ 16000000 → many ≤ more →
+    laws_refusal u laws ≡ node_refusal (nodes_in (ground_laws u laws))
+few_laws u laws count limit many more counted first few walked second rest =
+    let nodes = node_refusal (nodes_in (ground_laws u laws)) in
+    ap (λ (b : Bool). if b then Some (past limits.LawInstances) else option_or (choice_refusal (choices_of_all u laws)) nodes) (le-ltb 1000000 (instances_of_all u laws) (omega (arith, counted, first, few)))
+    ∙ ap (λ (b : Bool). option_or (if b then Some (past limits.Choices) else None) nodes) (le-ltb 16000000 (choices_of_all u laws) (omega (arith, walked, second, rest)))
+
+pub nodes_fit : (nodes same left room limit : ℕ) → left + nodes ≡ room → room ≡ limit → limit ≡ 16000000 → nodes ≡ same → node_refusal same ≡ None
+nodes_fit nodes same left room limit made begun is e = ap (λ (b : Bool). if b then Some (past limits.GroundNodes) else None) (le-ltb 16000000 same (omega (arith, made, begun, is, e)))
+
+pub nodes_pass : (nodes same room limit : ℕ) (halt : Halt) → LacksRoom nodes room halt → halt ≡ halts.Full → room ≡ limit → limit ≡ 16000000 → nodes ≡ same → node_refusal same ≡ Some (past limits.GroundNodes)
+nodes_pass nodes same room limit halt lacks full begun is e =
+    let few : room < nodes = subst (LacksRoom nodes room) full lacks in ap (λ (b : Bool). if b then Some (past limits.GroundNodes) else None) (lt-ltb 16000000 same (omega (arith, few, begun, is, e)))
