@@ -70,3 +70,15 @@ pair_made base one others i other so within is made =
 
 pub pairs_made : (base one : ℕ) (others : List ℕ) (i : ℕ) {whole : List PlainGroundLaw} {was there : List GroundLaw} {old new : Maker} → MadeSoFar (map (λ other. pair_law base (one, other)) (drop i others)) whole was there old new → length others ≤ i → HasMade whole was there old new
 pairs_made base one others i so past = made_end so (at_drop_all (map (λ other. pair_law base (one, other))) others i past)
+
+pub one_made : (law : GroundLaw) (plain : PlainGroundLaw) (was now : List GroundLaw) → now ≡ was ++ law ∷ [] → plain_ground_law law ≡ plain → map plain_ground_law now ≡ map plain_ground_law was ++ plain ∷ []
+one_made law plain was now pushed same = ap (map plain_ground_law) pushed ∙ map-append plain_ground_law was (law ∷ []) ∙ ap (λ (p : PlainGroundLaw). map plain_ground_law was ++ p ∷ []) same
+
+pub pair_room : (base one other last mid first : ℕ) → last + 1 ≡ mid → mid + 3 ≡ first → last + nodes_in (pair_law base (one, other) ∷ []) ≡ first
+pair_room base one other last mid first second before = omega arith
+
+put_clear : {X : Type 0} (had now part : List X) → had ≡ [] → now ≡ had ++ part → now ≡ part
+put_clear had now part none is = is ∙ ap (λ l. l ++ part) none
+
+pub placed : {X : Type 0} (slice part had now placed_now : List X) → had ≡ [] → now ≡ had ++ part → slice ≡ now → placed_now ≡ slice → placed_now ≡ part
+placed slice part had now placed_now none is same copied = copied ∙ same ∙ put_clear had now part none is
