@@ -1,15 +1,20 @@
 -- Laws that are made behind others, and the room that is left for their nodes.
-use Rattle.std.proofs.Common.{◌≡◌, ◌∙◌, ℕ, ◌+◌, ◌<◌, ◌≤◌, length, drop, get_or, List, [], ◌∷◌, ◌++◌, map, IfOk, Ok, Err, Result, refl, sym, ap, subst, append_assoc, append-nil, arith}
+use Rattle.std.proofs.Common.{◌≡◌, ◌∙◌, ℕ, ◌+◌, ◌<◌, ◌≤◌, length, drop, get_or, List, [], ◌∷◌, ◌++◌, map, IfOk, Option, Some, None, option_map, Ok, Err, Result, refl, sym, ap, subst, append_assoc, append-nil, arith}
 use Rattle.std.proofs.lemmas.List.{at_drop_all, at_drop_more, map-append}
 use Rattle.cc_arena.specs.declared.ground_laws.GroundLaw.{GroundLaw}
 use Rattle.cc_ground.specs.declared.maker.Halt.{Halt}
 use Rattle.cc_ground.specs.declared.maker.Maker.{Maker}
-use Rattle.cc_ground.specs.Counting.{nodes_in}
+use Rattle.cc_defs.specs.declared.formula.Formula as kept
+use Rattle.cc_defs.specs.declared.node.Node.{Node}
+use Rattle.cc_defs.specs.Nodes.{nodes_of}
+use Rattle.cc_defs.specs.Resolved.{plain_formula}
+use Rattle.cc_ground.specs.Bindings.{environment_of}
+use Rattle.cc_ground.specs.Counting.{length_of_part, nodes_in}
 use Rattle.cc_defs.specs.GroundLaws.{PlainGroundLaw, pair_law}
 use Rattle.cc_arena.specs.GroundViews.{plain_ground_law}
 use Rattle.cc_defs.specs.Environments.{pairs_of}
-use Rattle.cc_ground.specs.Views.{HasMade, IsLike, LacksRoom}
-use Rattle.cc_ground.proofs.Putting.{lacks_more, like_both}
+use Rattle.cc_ground.specs.Views.{HasMade, IsLike, LacksRoom, universe_in}
+use Rattle.cc_ground.proofs.Putting.{lacks_more, like_both, nodes_like}
 
 pub nodes_in-append : (laws more : List PlainGroundLaw) → nodes_in (laws ++ more) ≡ nodes_in laws + nodes_in more
 nodes_in-append [] more = omega arith
@@ -82,3 +87,11 @@ put_clear had now part none is = is ∙ ap (λ l. l ++ part) none
 
 pub placed : {X : Type 0} (slice part had now placed_now : List X) → had ≡ [] → now ≡ had ++ part → slice ≡ now → placed_now ≡ slice → placed_now ≡ part
 placed slice part had now placed_now none is same copied = copied ∙ same ∙ put_clear had now part none is
+
+pub part_like : (part : Option kept.Formula) {a b : Maker} → IsLike a b →
+    option_map (λ f. nodes_of (universe_in b) (environment_of b.env) (plain_formula f)) part ≡ option_map (nodes_of (universe_in a) (environment_of a.env)) (option_map plain_formula part)
+part_like None like = refl
+part_like (Some f) like = ap Some (nodes_like (plain_formula f) like)
+
+pub law_room : (last mid first body : ℕ) (part same : Option (List Node)) → last + length_of_part part ≡ mid → part ≡ same → mid + body ≡ first → last + (body + length_of_part same + 0) ≡ first
+law_room last mid first body part same second is before = let e = ap length_of_part is in omega (arith, second, e, before)
