@@ -1,7 +1,8 @@
 -- Places are gone through one after another, whichever they are.
-use Rattle.std.proofs.Common.{◌≡◌, ◌∙◌, ℕ, zero, suc, ◌<◌, List, [], ◌∷◌, ◌++◌, length, Some, None, Result, Ok, Err, refl, sym, ap, subst, inl, inr, append_assoc, append-nil, arith}
+use Rattle.std.proofs.Common.{◌≡◌, ◌∙◌, ℕ, zero, suc, ◌<◌, ◌≤◌, ◌+◌, List, [], ◌∷◌, ◌++◌, length, Some, None, Result, Ok, Err, IfErr, IsErrAnd, refl, sym, ap, subst, inl, inr, append_assoc, append-nil, arith}
 use Rattle.std.specs.Option.{option_or}
 use Rattle.std.proofs.lemmas.Bool.{lt-ltb}
+use Rattle.std.proofs.lemmas.Bool.Decides.{nat_tests}
 use Rattle.cc_defs.specs.Limits.{limit_number}
 use Rattle.cc_defs.specs.Refusals.{past_at}
 use Rattle.cc_defs.specs.declared.refusal.LimitAt.TheVariants as limits
@@ -14,7 +15,8 @@ use Rattle.cc_describe.specs.declared.heads.Heads.{Heads}
 use Rattle.cc_describe.specs.declared.files.Halt.{Halt}
 use Rattle.cc_describe.specs.declared.files.Halt.TheVariants as halts
 use Rattle.cc_describe.specs.declared.progress.Progress.{Progress}
-use Rattle.cc_describe.specs.FirstRefusal.{first_behind, opened_behind, opening_refusal}
+use Rattle.cc_describe.specs.Describing.{AreFirstNames}
+use Rattle.cc_describe.specs.FirstRefusal.{bytes_in, first_behind, opened_behind, opening_refusal}
 use Rattle.cc_describe.specs.Places.{Place, Opened, Barred, Said, opened_in}
 use Rattle.cc_describe.specs.ProgressViews.{IsProgress, IsOpened, IsRefusedOpening, IsRefusedStatement, Says, GoesSomewhere, halt_of}
 use Rattle.cc_describe.proofs.PlacesAppended.{all_first, first_behind_all, first_of, first_opened, names_behind}
@@ -105,3 +107,31 @@ too_long before name file refusal old new was number names is =
       subst (λ h. IsRefusedOpening before name bytes.0 h new) (sym told)
           (long_refused before bytes.0 file bytes.1 (number ∙ ap length was.names), names ∙ ap (λ l. l ++ name ∷ []) was.names),
     )
+
+-- ---- a file whose name was noted
+
+pub entered_first : {which : Heads} (before : List Place) (name : List ℕ) (old new : Progress) → IsProgress which old before → new.names.items ≡ old.names.items ++ name ∷ []
+    → AreFirstNames new.names.items (opened_in before ++ name ∷ [])
+entered_first before name old new was names = ([], sym (append-nil new.names.items ∙ names ∙ ap (λ l. l ++ name ∷ []) was.names))
+
+-- all files together are too long
+all_refused : (before : List Place) (bytes : List ℕ) → length bytes ≤ limit_number limits.FileBytes → limit_number limits.TotalBytes < bytes_in before + length bytes
+    → opening_refusal before bytes ≡ Some (past_at limits.TotalBytes (length (opened_in before)) 1)
+all_refused before bytes short many = grind (arith, nat_tests)
+
+pub too_many : {T : Type 0} {which : Heads} (before : List Place) (name bytes : List ℕ) (file count : ℕ) (fault : Fault) (old entered new : Progress) (result : Result T Halt) → IsProgress which old before
+    → file ≡ length old.names.items → entered.names.items ≡ old.names.items ++ name ∷ [] → entered ≡ record old { names = entered.names; around = entered.around }
+    → count ≡ length bytes → length bytes ≤ limit_number limits.FileBytes → (fault ≡ faults.Refused (past_at limits.TotalBytes file 1)) × (limit_number limits.TotalBytes < entered.bytes + count)
+    → new ≡ record entered { bytes = new.bytes } → IsErrAnd result (λ told. told ≡ halt_of fault) → IfErr result (λ halt. IsRefusedOpening before name bytes halt new)
+too_many before name bytes file count fault old entered new (Ok done) was number names entering is short refused counting told = tt
+too_many before name bytes file count fault old entered new (Err halt) was number names entering is short refused counting told =
+    let bytes_were : entered.bytes ≡ bytes_in before = ap (λ (p : Progress). p.bytes) entering ∙ was.bytes in
+    let many = subst (λ n. limit_number limits.TotalBytes < n) (ap (λ n. n + count) bytes_were ∙ ap (λ n. bytes_in before + n) is) refused.1 in
+    let numbered = ap (λ n. past_at limits.TotalBytes n 1) (number ∙ ap length was.names) in
+    subst (λ h. IsRefusedOpening before name bytes h new) (sym (told ∙ ap halt_of (refused.0 ∙ ap faults.Refused numbered)))
+    (all_refused before bytes short many, ap (λ p. p.names.items) counting ∙ names ∙ ap (λ l. l ++ name ∷ []) was.names)
+
+pub some_bytes : {T : Type 0} (before : List Place) (name bytes : List ℕ) (new : Progress) (result : Result T Halt) → IfErr result (λ halt. IsRefusedOpening before name bytes halt new)
+    → IfErr result (λ halt. (some : List ℕ) × IsRefusedOpening before name some halt new)
+some_bytes before name bytes new (Ok done) refused = tt
+some_bytes before name bytes new (Err halt) refused = (bytes, refused)

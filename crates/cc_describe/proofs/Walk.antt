@@ -1,8 +1,8 @@
 -- A file is opened, and gone through statement by statement.
-use Rattle.std.proofs.Common.{◌≡◌, ◌∙◌, ℕ, zero, suc, ◌+◌, ◌-◌, ◌<◌, ◌≤◌, List, [], ◌∷◌, ◌++◌, length, take, drop, map, slice_index_or, unwrap_or, Option, Some, None, option_map, IfSome, IsSome, Result, Ok, Err, IsErrAnd, IsErrOf, refl, sym, ap, subst, inl, inr, append_assoc, append-nil, length-append, arith}
+use Rattle.std.proofs.Common.{◌≡◌, ◌∙◌, ℕ, zero, suc, ◌+◌, ◌-◌, ◌<◌, ◌≤◌, List, [], ◌∷◌, ◌++◌, length, take, drop, map, slice_index_or, unwrap_or, Option, Some, None, option_map, IfSome, IsSome, Result, Ok, Err, IsErrAnd, IsErrOf, OnOk, refl, sym, ap, subst, inl, inr, append_assoc, append-nil, length-append, arith}
 use Rattle.std.specs.Option.{option_or}
 use Rattle.std.specs.List.{AllByRecursion}
-use Rattle.std.proofs.lemmas.List.{take_all, take_more, take-append-drop}
+use Rattle.std.proofs.lemmas.List.{take_all, take-append-le, take_more, take-append-drop}
 use Rattle.std.proofs.Math.Seq.{drop-cons}
 use Rattle.std.proofs.lemmas.Bool.Decides.{nat_tests}
 use Rattle.cc_defs.specs.Limits.{limit_number}
@@ -12,6 +12,8 @@ use Rattle.cc_defs.specs.declared.refusal.Fault.TheVariants as faults
 use Rattle.cc_defs.specs.Resolved.{plain_base_law, plain_query}
 use Rattle.cc_defs.specs.Tokens.{TokenView, AreTokens, statements as statements_of}
 use Rattle.cc_ports.specs.Contents.{Contents, with_rest}
+use Rattle.cc_ports.specs.declared.whole.ReadStop.{ReadStop}
+use Rattle.cc_ports.specs.declared.whole.ReadStop.TheVariants as stops
 use Rattle.cc_text.specs.Laws.{CutOrStop, StatementsAreTokens}
 use Rattle.cc_text.specs.Reading.{HasRead, HasStopped}
 use Rattle.cc_syntax.specs.Parsing.{TreeOrRefusal}
@@ -468,7 +470,7 @@ statement_ends {which} deep files around file before tokens name done now none t
     (λ more kept. ([], refl, refl, subst (IsProgress which now) (sym (append-nil more)) kept)))
 
 -- a statement that is refused is no fault of the desk
-pub no_fault : (result : Result (Unit {0}) Halt) (fault : Fault) → IsErrAnd result (λ told. told ≡ halt_of fault) → result ≡ Err halts.ReadFault → ⊥
+pub no_fault : {T : Type 0} (result : Result T Halt) (fault : Fault) → IsErrAnd result (λ told. told ≡ halt_of fault) → result ≡ Err halts.ReadFault → ⊥
 no_fault (Ok done) fault is same = elim is [ ]
 no_fault (Err told) (faults.Refused refusal) is same = absurd cc
 no_fault (Err told) faults.OutOfMemory is same = absurd cc
@@ -476,6 +478,55 @@ no_fault (Err told) faults.OutOfMemory is same = absurd cc
 -- nor is what was done
 pub done_no_fault : {T : Type 0} (done : T) → IsErrOf {T = T} (Ok done) halts.ReadFault → ⊥
 done_no_fault done same = absurd cc
+
+pub err_is : {T : Type 0} (result : Result T Halt) {halt : Halt} → IsErrAnd result (λ told. told ≡ halt) → result ≡ Err halt
+err_is (Ok done) is = elim is [ ]
+err_is (Err told) is = ap Err is
+
+-- an error of another type of results
+abbrev as_err : (T U : Type 0) (halt : Halt) → Result T Halt → Result U Halt
+as_err T U halt (Ok done) = Err halt
+as_err T U halt (Err told) = Err told
+
+pub same_fault : {T U : Type 0} (result : Result U Halt) (halt : Halt) → IsErrAnd result (λ told. told ≡ halt) → IsErrOf {T = T} (Err halt) halts.ReadFault → result ≡ Err halts.ReadFault
+same_fault {T} {U} result halt is same = err_is result is ∙ ap (as_err T U halts.ReadFault) same
+
+pub as_told : {T U : Type 0} (result : Result U Halt) (halt : Halt) → IsErrAnd result (λ told. told ≡ halt) → result ≡ Err halts.ReadFault → IsErrOf {T = T} (Err halt) halts.ReadFault
+as_told {T} {U} result halt is same = ap (as_err U T halts.ReadFault) (sym (err_is result is) ∙ same)
+
+pub errs_on : {T : Type 0} (P : Type 0) (result : Result T Halt) (halt : Halt) → IsErrAnd result (λ told. told ≡ halt) → OnOk result P
+errs_on P (Ok done) halt is = elim is [ ]
+errs_on P (Err told) halt is = tt
+
+-- a read that gave bytes did not fail
+pub read_no_fault : {T : Type 0} (done : T) → IsErrOf {T = T} (Ok done) stops.Failed → ⊥
+read_no_fault done same = absurd cc
+
+pub long_no_fault : {T : Type 0} (stop : ReadStop) → stop ≡ stops.Limit → IsErrOf {T = T} (Err stop) stops.Failed → ⊥
+long_no_fault stop is same = absurd cc
+
+pub wanting_no_fault : {T : Type 0} (stop : ReadStop) → stop ≡ stops.OutOfMemory → IsErrOf {T = T} (Err stop) stops.Failed → ⊥
+wanting_no_fault stop is same = absurd cc
+
+-- ---- how deep
+
+pub up_through : {a b c : ℕ} → a ≤ b → b ≤ c → a ≤ c
+up_through first second = omega arith
+
+pub none_below : {n : ℕ} → n ≤ 0 → n ≡ 0
+none_below none = omega arith
+
+pub deeper : (around : List (List ℕ)) (name : List ℕ) {names : List (List ℕ)} {deep most : ℕ} → 0 < deep → names ≡ around ++ name ∷ [] → length around + deep ≡ most → length names + (deep - 1) ≡ most
+deeper around name some is sum = omega (arith, ap length is, length-append around (name ∷ []))
+
+pub less_deep : {deep measure : ℕ} → 0 < deep → deep ≡ measure → deep - 1 < measure
+less_deep some is = omega arith
+
+-- a file is left
+pub left_again : (around : List (List ℕ)) (name : List ℕ) {names left : List (List ℕ)} → names ≡ around ++ name ∷ [] → left ≡ take (length names - 1) names → left ≡ around
+left_again around name is left_is =
+    let one_less : length (around ++ name ∷ []) - 1 ≡ length around = omega (arith, length-append around (name ∷ [])) in
+    left_is ∙ ap (λ l. take (length l - 1) l) is ∙ ap (λ n. take n (around ++ name ∷ [])) one_less ∙ take-append-le (length around) around (name ∷ []) (omega arith) ∙ take_all (length around) around (omega arith)
 
 -- ---- the files that are opened are there
 

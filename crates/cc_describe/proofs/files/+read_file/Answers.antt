@@ -1,13 +1,13 @@
 use Rattle.std.proofs.Common.{ℕ, List, ◌+◌, ◌<◌, ◌≤◌, ◌≡◌, ◌++◌, ◌∷◌, [], Some, None, length, slice_index_or, arith, sym, ap, subst, ◌∙◌, Ok, Err}
 use Rattle.std.specs.Option.{option_copied}
-use Rattle.cc_ports.specs.Contents.{with_rest}
+use Rattle.cc_ports.specs.Contents.{with_rest, Rose}
 use Rattle.cc_text.specs.Views.{token_views, cut_at}
 use Rattle.cc_describe.specs.declared.heads.Heads.{Heads}
 use Rattle.cc_describe.specs.Places.{AreThere, Opened, Place, content}
 use Rattle.cc_describe.specs.ProgressViews.{IsProgress, halt_of}
 use Rattle.cc_describe.proofs.CallsKept.{keeps_as, keeps_more}
 use Rattle.cc_describe.proofs.SomePlaces.{Gone, barred_goes, opened_goes, opening_goes, refused_goes, said_goes, then_goes}
-use Rattle.cc_describe.proofs.Walk.{AreInside, Midway, done_no_fault, later_are_tokens, progress_left, opening_stops, text_stops, told_as, no_fault, finds, finds_as, has_read, taken_as, refused_as, touched_again, tells_still, midway_begins, midway_goes, midway_ends, midway_stops, statement_refused, statement_alone, statement_reads, statement_ends}
+use Rattle.cc_describe.proofs.Walk.{as_told, deeper, errs_on, left_again, less_deep, none_below, same_fault, touched_again, up_through, AreInside, Midway, done_no_fault, later_are_tokens, progress_left, opening_stops, text_stops, told_as, no_fault, finds, finds_as, has_read, taken_as, refused_as, tells_still, midway_begins, midway_goes, midway_ends, midway_stops, statement_refused, statement_alone, statement_reads, statement_ends}
 use Rattle.cc_describe.proofs.files.+read_file.Goals.{in-Some+then-deep-gt0+in_ok-read_file-in-Some, in-Some+else-deep-gt0, in-None}
 use Rattle.cc_describe.proofs.files.+read_file.Goals as goal
 
@@ -48,7 +48,7 @@ returns-in_err-included-clause-gone g t c contents which before told was =
     let statements = cut_at 0 c.tokens.inside.ends.items (token_views c.tokens.inside.tokens.items) in
     let tokens = slice_index_or statements c.loop-i.i [] in
     let mid = (before ++ Opened name (content contents.files name) ∷ []) ++ m.done in
-    let within : c.loop-i.i < length statements = omega (arith, c.count-i-end.ensures, ap length c.tokens.view_is) in
+    let within : c.loop-i.i < length statements = subst (λ n. c.loop-i.i < n) (c.count-i-end.ensures ∙ ap length (sym c.tokens.view_is)) c.loop-i-test.true in
     told_as which _ before c.from_residual-in_err-included.result _ _ c.from_residual-in_err-included.ensures.1
     (midway_stops c.cut_or_stop.ensures c.statements_are_tokens.ensures c.tree_or_refusal.ensures c.args.progress.now.around.items c.take.new.self _ within (has_read _ _ _ _ _ c.items.ensures opened.0 c.tokens.view_is c.in-Ok.ensures.read) m
     (statement_refused c.cut_or_stop.ensures c.statements_are_tokens.ensures c.tree_or_refusal.ensures c.args.deep contents.files around c.in_ok-bytes.file mid tokens _
@@ -80,12 +80,12 @@ returns-in_err-read_file-in-Some-clause-gone g t c contents which before told wa
     let statements = cut_at 0 c.tokens.inside.ends.items (token_views c.tokens.inside.tokens.items) in
     let tokens = slice_index_or statements c.loop-i.i [] in
     let mid = (before ++ Opened name (content contents.files name) ∷ []) ++ m.done in
-    let within : c.loop-i.i < length statements = omega (arith, c.count-i-end.ensures, ap length c.tokens.view_is) in
+    let within : c.loop-i.i < length statements = subst (λ n. c.loop-i.i < n) (c.count-i-end.ensures ∙ ap length (sym c.tokens.view_is)) c.loop-i-test.true in
     let after = c.loop-i.invariant.told in
     told_as which _ before c.from_residual-in_err-read_file-in-Some.result _ _ c.from_residual-in_err-read_file-in-Some.ensures.1
     (midway_stops c.cut_or_stop.ensures c.statements_are_tokens.ensures c.tree_or_refusal.ensures c.args.progress.now.around.items c.read_file.new.progress _ within (has_read _ _ _ _ _ c.items.ensures opened.0 c.tokens.view_is c.in-Ok.ensures.read) m
     (statement_reads c.args.deep contents.files around _ c.in_ok-bytes.file mid tokens c.in-Some.included.now (Err c.in_err-read_file-in-Some.field-0.0) c.take.new.self c.read_file.new.progress
-    (omega arith) (ap (λ a. a.items) c.in_ok-included.ensures.around ∙ c.loop-i.invariant.around)
+    c.if-deep-gt0.true (ap (λ a. a.items) c.in_ok-included.ensures.around ∙ c.loop-i.invariant.around)
     (taken_as mid c.in_ok-bytes.file _ around _ tokens _ (Some c.in-Some.included.now) c.take.new.self c.loop-i.invariant.around
     (c.statement.ensures.tokens ∙ ap (λ s. slice_index_or s c.loop-i.i []) (sym c.tokens.view_is)) (ap option_copied c.in-Some.is) (c.in_ok-included.ensures.taken which mid m.kept))
     (λ more kept. c.in_err-read_file-in-Some.ensures.gone (with_rest after.0 contents) which more (tells_still after.0 _ _ contents after.1 told) kept)))
@@ -97,7 +97,7 @@ loop-i-preserved g t c =
     let statements = cut_at 0 c.tokens.inside.ends.items (token_views c.tokens.inside.tokens.items) in
     let tokens = slice_index_or statements c.loop-i.i [] in
     let file = c.in_ok-bytes.file in
-    let within : c.loop-i.i < length statements = omega (arith, c.count-i-end.ensures, ap length c.tokens.view_is) in
+    let within : c.loop-i.i < length statements = subst (λ n. c.loop-i.i < n) (c.count-i-end.ensures ∙ ap length (sym c.tokens.view_is)) c.loop-i-test.true in
     let tokens_are : token_views c.statement.result.now ≡ tokens = c.statement.ensures.tokens ∙ ap (λ s. slice_index_or s c.loop-i.i []) (sym c.tokens.view_is) in
     let after = c.loop-i.invariant.told in
     let taken_around : c.take.new.self.around.items ≡ around = ap (λ a. a.items) c.in_ok-included.ensures.around ∙ c.loop-i.invariant.around in
@@ -116,7 +116,7 @@ loop-i-preserved g t c =
                 subst (Midway which c.args.deep contents.files before name file around statements (c.loop-i.i + 1)) (sym w.progress-is)
                 (midway_goes w.read_file.new.progress tt within m
                 (statement_reads c.args.deep contents.files around _ file mid tokens w.in-Some.included.now (Ok tt) c.take.new.self w.read_file.new.progress
-                (omega arith) taken_around
+                w.if-deep-gt0.true taken_around
                 (taken_as mid file _ around _ tokens _ (Some w.in-Some.included.now) c.take.new.self c.loop-i.invariant.around
                 tokens_are (ap option_copied w.in-Some.is) (c.in_ok-included.ensures.taken which mid m.kept))
                 (λ more kept. read.gone (with_rest after.0 contents) which more (tells_still after.0 _ _ contents after.1 told) kept)));
@@ -132,8 +132,8 @@ loop-i-preserved g t c =
                 let calm = read.calm (done_no_fault _) in
                 (ap (λ desk. (g.D.Desk.seen desk).reads) w.desk-is ∙ calm.0 ∙ c.loop-i.invariant.calm.0, ap (λ desk. (g.D.Desk.seen desk).writes) w.desk-is ∙ calm.1 ∙ c.loop-i.invariant.calm.1);
             begun = ap (λ desk. (g.D.Desk.seen desk).begun) w.desk-is ∙ read.begun ∙ c.loop-i.invariant.begun;
-            reads_count = rw w.desk-is (omega (arith, read.reads_count));
-            writes_count = rw w.desk-is (omega (arith, read.writes_count));
+            reads_count = subst (λ desk. (g.D.Desk.seen c.args.desk.now).reads ≤ (g.D.Desk.seen desk).reads) (sym w.desk-is) (up_through c.loop-i.invariant.reads_count read.reads_count);
+            writes_count = subst (λ desk. (g.D.Desk.seen c.args.desk.now).writes ≤ (g.D.Desk.seen desk).writes) (sym w.desk-is) (up_through c.loop-i.invariant.writes_count read.writes_count);
           }
       | in-Some+else-deep-gt0 w ↦
           record {
@@ -143,7 +143,7 @@ loop-i-preserved g t c =
                 let mid = (before ++ Opened name (content contents.files name) ∷ []) ++ m.done in
                 subst (Midway which c.args.deep contents.files before name file around statements (c.loop-i.i + 1)) (sym w.progress-is)
                 (midway_goes c.take.new.self tt within m
-                (statement_ends c.args.deep contents.files around file mid tokens w.in-Some.included.now tt c.take.new.self (omega arith)
+                (statement_ends c.args.deep contents.files around file mid tokens w.in-Some.included.now tt c.take.new.self (none_below w.if-deep-gt0.false)
                 (taken_as mid file _ around _ tokens _ (Some w.in-Some.included.now) c.take.new.self c.loop-i.invariant.around
                 tokens_are (ap option_copied w.in-Some.is) (c.in_ok-included.ensures.taken which mid m.kept))));
             kept = λ which before was.
@@ -155,8 +155,8 @@ loop-i-preserved g t c =
             calls = rw (w.progress-is, w.desk-is) taken_calls;
             calm = (ap (λ desk. (g.D.Desk.seen desk).reads) w.desk-is ∙ c.loop-i.invariant.calm.0, ap (λ desk. (g.D.Desk.seen desk).writes) w.desk-is ∙ c.loop-i.invariant.calm.1);
             begun = ap (λ desk. (g.D.Desk.seen desk).begun) w.desk-is ∙ c.loop-i.invariant.begun;
-            reads_count = rw w.desk-is (omega arith);
-            writes_count = rw w.desk-is (omega arith);
+            reads_count = subst (λ desk. (g.D.Desk.seen c.args.desk.now).reads ≤ (g.D.Desk.seen desk).reads) (sym w.desk-is) c.loop-i.invariant.reads_count;
+            writes_count = subst (λ desk. (g.D.Desk.seen c.args.desk.now).writes ≤ (g.D.Desk.seen desk).writes) (sym w.desk-is) c.loop-i.invariant.writes_count;
           }
       | in-None w ↦
           record {
@@ -178,8 +178,8 @@ loop-i-preserved g t c =
             calls = rw (w.progress-is, w.desk-is) taken_calls;
             calm = (ap (λ desk. (g.D.Desk.seen desk).reads) w.desk-is ∙ c.loop-i.invariant.calm.0, ap (λ desk. (g.D.Desk.seen desk).writes) w.desk-is ∙ c.loop-i.invariant.calm.1);
             begun = ap (λ desk. (g.D.Desk.seen desk).begun) w.desk-is ∙ c.loop-i.invariant.begun;
-            reads_count = rw w.desk-is (omega arith);
-            writes_count = rw w.desk-is (omega arith);
+            reads_count = subst (λ desk. (g.D.Desk.seen c.args.desk.now).reads ≤ (g.D.Desk.seen desk).reads) (sym w.desk-is) c.loop-i.invariant.reads_count;
+            writes_count = subst (λ desk. (g.D.Desk.seen c.args.desk.now).writes ≤ (g.D.Desk.seen desk).writes) (sym w.desk-is) c.loop-i.invariant.writes_count;
           }
     ]
 
@@ -249,3 +249,115 @@ returns-in_err-read_file-in-Some-clause-calls g t c =
 
 pub returns-clause-calls : goal.returns-clause-calls
 returns-clause-calls g t c = keeps_as c.loop-i.invariant.calls (ap (λ p. p.names.items) c.leave.ensures.rest)
+
+pub returns-in_err-included-clause-begun : goal.returns-in_err-included-clause-begun
+returns-in_err-included-clause-begun g t c = c.loop-i.invariant.begun
+
+pub returns-in_err-included-clause-reads_count : goal.returns-in_err-included-clause-reads_count
+returns-in_err-included-clause-reads_count g t c = c.loop-i.invariant.reads_count
+
+pub returns-in_err-included-clause-writes_count : goal.returns-in_err-included-clause-writes_count
+returns-in_err-included-clause-writes_count g t c = c.loop-i.invariant.writes_count
+
+pub returns-in_err-included-clause-after : goal.returns-in_err-included-clause-after
+returns-in_err-included-clause-after g t c = c.loop-i.invariant.told
+
+pub returns-in_err-included-clause-calm : goal.returns-in_err-included-clause-calm
+returns-in_err-included-clause-calm g t c other = c.loop-i.invariant.calm
+
+pub returns-clause-begun : goal.returns-clause-begun
+returns-clause-begun g t c = c.loop-i.invariant.begun
+
+pub returns-clause-reads_count : goal.returns-clause-reads_count
+returns-clause-reads_count g t c = c.loop-i.invariant.reads_count
+
+pub returns-clause-writes_count : goal.returns-clause-writes_count
+returns-clause-writes_count g t c = c.loop-i.invariant.writes_count
+
+pub returns-clause-after : goal.returns-clause-after
+returns-clause-after g t c = c.loop-i.invariant.told
+
+pub returns-clause-calm : goal.returns-clause-calm
+returns-clause-calm g t c other = c.loop-i.invariant.calm
+
+pub returns-in_err-bytes-clause-after : goal.returns-in_err-bytes-clause-after
+returns-in_err-bytes-clause-after g t c = c.open.ensures.after
+
+pub returns-in_err-bytes-clause-begun : goal.returns-in_err-bytes-clause-begun
+returns-in_err-bytes-clause-begun g t c = c.open.ensures.begun
+
+pub returns-in_err-bytes-clause-reads_count : goal.returns-in_err-bytes-clause-reads_count
+returns-in_err-bytes-clause-reads_count g t c = c.open.ensures.reads_count
+
+pub returns-in_err-bytes-clause-writes_count : goal.returns-in_err-bytes-clause-writes_count
+returns-in_err-bytes-clause-writes_count g t c = c.open.ensures.writes_count
+
+pub returns-in-Err-clause-after : goal.returns-in-Err-clause-after
+returns-in-Err-clause-after g t c = c.open.ensures.after
+
+pub returns-in-Err-clause-begun : goal.returns-in-Err-clause-begun
+returns-in-Err-clause-begun g t c = c.open.ensures.begun
+
+pub returns-in-Err-clause-reads_count : goal.returns-in-Err-clause-reads_count
+returns-in-Err-clause-reads_count g t c = c.open.ensures.reads_count
+
+pub returns-in-Err-clause-writes_count : goal.returns-in-Err-clause-writes_count
+returns-in-Err-clause-writes_count g t c = c.open.ensures.writes_count
+
+pub returns-clause-failed : goal.returns-clause-failed
+returns-clause-failed g t c is = absurd (done_no_fault _ is)
+
+pub returns-in-Err-clause-failed : goal.returns-in-Err-clause-failed
+returns-in-Err-clause-failed g t c is = absurd (no_fault _ c.in-Err.fault c.from.ensures is)
+
+pub returns-in-Err-clause-calm : goal.returns-in-Err-clause-calm
+returns-in-Err-clause-calm g t c other = c.in_ok-bytes.ensures.calm (done_no_fault _)
+
+pub returns-in_err-bytes-clause-calm : goal.returns-in_err-bytes-clause-calm
+returns-in_err-bytes-clause-calm g t c other = c.in_err-bytes.ensures.calm (λ fault. other (same_fault c.from_residual.result _ c.from_residual.ensures.1 fault))
+
+pub returns-in_err-bytes-clause-failed : goal.returns-in_err-bytes-clause-failed
+returns-in_err-bytes-clause-failed g t c is = c.in_err-bytes.ensures.failed (as_told c.from_residual.result _ c.from_residual.ensures.1 is)
+
+pub returns-in_err-bytes-clause-around : goal.returns-in_err-bytes-clause-around
+returns-in_err-bytes-clause-around g t c = errs_on _ c.from_residual.result _ c.from_residual.ensures.1
+
+pub returns-in_err-included-clause-around : goal.returns-in_err-included-clause-around
+returns-in_err-included-clause-around g t c = errs_on _ c.from_residual-in_err-included.result _ c.from_residual-in_err-included.ensures.1
+
+pub returns-in_err-read_file-in-Some-clause-around : goal.returns-in_err-read_file-in-Some-clause-around
+returns-in_err-read_file-in-Some-clause-around g t c = errs_on _ c.from_residual-in_err-read_file-in-Some.result _ c.from_residual-in_err-read_file-in-Some.ensures.1
+
+pub returns-in_err-read_file-in-Some-clause-after : goal.returns-in_err-read_file-in-Some-clause-after
+returns-in_err-read_file-in-Some-clause-after g t c = let first = c.loop-i.invariant.told in let second = c.read_file.ensures.after in touched_again first.0 _ _ _ first.1 second.0 second.1
+
+pub returns-in_err-read_file-in-Some-clause-begun : goal.returns-in_err-read_file-in-Some-clause-begun
+returns-in_err-read_file-in-Some-clause-begun g t c = c.read_file.ensures.begun ∙ c.loop-i.invariant.begun
+
+pub returns-in_err-read_file-in-Some-clause-reads_count : goal.returns-in_err-read_file-in-Some-clause-reads_count
+returns-in_err-read_file-in-Some-clause-reads_count g t c = up_through c.loop-i.invariant.reads_count c.read_file.ensures.reads_count
+
+pub returns-in_err-read_file-in-Some-clause-writes_count : goal.returns-in_err-read_file-in-Some-clause-writes_count
+returns-in_err-read_file-in-Some-clause-writes_count g t c = up_through c.loop-i.invariant.writes_count c.read_file.ensures.writes_count
+
+pub returns-in_err-read_file-in-Some-clause-calm : goal.returns-in_err-read_file-in-Some-clause-calm
+returns-in_err-read_file-in-Some-clause-calm g t c other =
+    let read = c.in_err-read_file-in-Some.ensures.calm (λ fault. other (same_fault c.from_residual-in_err-read_file-in-Some.result _ c.from_residual-in_err-read_file-in-Some.ensures.1 fault)) in
+    (read.0 ∙ c.loop-i.invariant.calm.0, read.1 ∙ c.loop-i.invariant.calm.1)
+
+pub returns-in_err-read_file-in-Some-clause-failed : goal.returns-in_err-read_file-in-Some-clause-failed
+returns-in_err-read_file-in-Some-clause-failed g t c is =
+    subst (λ n. Rose n (g.D.Desk.seen c.read_file.new.desk).reads) c.loop-i.invariant.calm.0 (c.in_err-read_file-in-Some.ensures.failed (as_told c.from_residual-in_err-read_file-in-Some.result _ c.from_residual-in_err-read_file-in-Some.ensures.1 is))
+
+pub returns-clause-around : goal.returns-clause-around
+returns-clause-around g t c = left_again c.args.progress.now.around.items c.args.name.now c.loop-i.invariant.around c.leave.ensures.around
+
+pub take-requires-clause-are : goal.take-requires-clause-are
+take-requires-clause-are g t c = c.statement.ensures.are _ c.in-Ok.ensures.read
+
+pub overflow_sub-deep : goal.overflow_sub-deep
+overflow_sub-deep g t c = c.if-deep-gt0.true
+
+pub read_file-requires : goal.read_file-requires
+read_file-requires g t c k lives =
+    (less_deep c.if-deep-gt0.true c.requires.1.0, (lives, deeper c.args.progress.now.around.items c.args.name.now c.if-deep-gt0.true (ap (λ a. a.items) c.in_ok-included.ensures.around ∙ c.loop-i.invariant.around) c.requires.1.1.1))

@@ -1,8 +1,10 @@
-use Rattle.std.proofs.Common.{ℕ, List, arith, ap, ◌∙◌, length, Ok, subst, sym}
+use Rattle.std.proofs.Common.{ℕ, List, [], ◌≤◌, arith, ap, ◌∙◌, length, Ok, Err, IfErr, refl, subst, sym}
+use Rattle.cc_defs.specs.declared.refusal.Fault.TheVariants as faults
 use Rattle.cc_describe.specs.Places.{AreThere}
+use Rattle.cc_describe.specs.ProgressViews.{IsRefusedOpening}
 use Rattle.cc_describe.proofs.CallsKept.{keeps_names, keeps_read}
-use Rattle.cc_describe.proofs.Walk.{untouched, content_is, is_opened, there_too, read_there, finds}
-use Rattle.cc_describe.proofs.SomePlaces.{too_long}
+use Rattle.cc_describe.proofs.Walk.{done_no_fault, no_fault, long_no_fault, long_there, read_no_fault, wanting_no_fault, untouched, content_is, is_opened, there_too, read_there, finds}
+use Rattle.cc_describe.proofs.SomePlaces.{entered_first, some_bytes, too_long, too_many}
 use Rattle.cc_describe.proofs.files.open.Goals as goal
 
 pub returns-in_err-file-clause-after : goal.returns-in_err-file-clause-after
@@ -54,3 +56,129 @@ returns-in_err-count-clause-calls g c =
 pub returns-clause-calls : goal.returns-clause-calls
 returns-clause-calls g c =
     keeps_read c.args.name.now _ (ap (λ p. p.names.items) c.in_ok-count.ensures.rest ∙ c.in_ok-file.ensures.names) c.read_all.ensures.calls
+
+pub returns-in-Err-Limit-clause-after : goal.returns-in-Err-Limit-clause-after
+returns-in-Err-Limit-clause-after g c = c.read_all.ensures.after
+
+pub returns-in-Err-Limit-clause-begun : goal.returns-in-Err-Limit-clause-begun
+returns-in-Err-Limit-clause-begun g c = c.read_all.ensures.begun
+
+pub returns-in-Err-Limit-clause-reads_count : goal.returns-in-Err-Limit-clause-reads_count
+returns-in-Err-Limit-clause-reads_count g c = c.read_all.ensures.reads_count
+
+pub returns-in-Err-Limit-clause-writes_count : goal.returns-in-Err-Limit-clause-writes_count
+returns-in-Err-Limit-clause-writes_count g c = c.read_all.ensures.writes_count
+
+pub returns-in-Err-Failed-clause-after : goal.returns-in-Err-Failed-clause-after
+returns-in-Err-Failed-clause-after g c = c.read_all.ensures.after
+
+pub returns-in-Err-Failed-clause-begun : goal.returns-in-Err-Failed-clause-begun
+returns-in-Err-Failed-clause-begun g c = c.read_all.ensures.begun
+
+pub returns-in-Err-Failed-clause-reads_count : goal.returns-in-Err-Failed-clause-reads_count
+returns-in-Err-Failed-clause-reads_count g c = c.read_all.ensures.reads_count
+
+pub returns-in-Err-Failed-clause-writes_count : goal.returns-in-Err-Failed-clause-writes_count
+returns-in-Err-Failed-clause-writes_count g c = c.read_all.ensures.writes_count
+
+pub returns-in-Err-OutOfMemory-clause-after : goal.returns-in-Err-OutOfMemory-clause-after
+returns-in-Err-OutOfMemory-clause-after g c = c.read_all.ensures.after
+
+pub returns-in-Err-OutOfMemory-clause-begun : goal.returns-in-Err-OutOfMemory-clause-begun
+returns-in-Err-OutOfMemory-clause-begun g c = c.read_all.ensures.begun
+
+pub returns-in-Err-OutOfMemory-clause-reads_count : goal.returns-in-Err-OutOfMemory-clause-reads_count
+returns-in-Err-OutOfMemory-clause-reads_count g c = c.read_all.ensures.reads_count
+
+pub returns-in-Err-OutOfMemory-clause-writes_count : goal.returns-in-Err-OutOfMemory-clause-writes_count
+returns-in-Err-OutOfMemory-clause-writes_count g c = c.read_all.ensures.writes_count
+
+pub returns-in_err-count-clause-after : goal.returns-in_err-count-clause-after
+returns-in_err-count-clause-after g c = c.read_all.ensures.after
+
+pub returns-in_err-count-clause-begun : goal.returns-in_err-count-clause-begun
+returns-in_err-count-clause-begun g c = c.read_all.ensures.begun
+
+pub returns-in_err-count-clause-reads_count : goal.returns-in_err-count-clause-reads_count
+returns-in_err-count-clause-reads_count g c = c.read_all.ensures.reads_count
+
+pub returns-in_err-count-clause-writes_count : goal.returns-in_err-count-clause-writes_count
+returns-in_err-count-clause-writes_count g c = c.read_all.ensures.writes_count
+
+pub returns-clause-after : goal.returns-clause-after
+returns-clause-after g c = c.read_all.ensures.after
+
+pub returns-clause-begun : goal.returns-clause-begun
+returns-clause-begun g c = c.read_all.ensures.begun
+
+pub returns-clause-reads_count : goal.returns-clause-reads_count
+returns-clause-reads_count g c = c.read_all.ensures.reads_count
+
+pub returns-clause-writes_count : goal.returns-clause-writes_count
+returns-clause-writes_count g c = c.read_all.ensures.writes_count
+
+pub returns-in-Err-Failed-clause-refused : goal.returns-in-Err-Failed-clause-refused
+returns-in-Err-Failed-clause-refused g c contents which before told was = entered_first before c.args.name.now c.args.progress.now c.enter.new.self was c.in_ok-file.ensures.names
+
+pub returns-in-Err-Failed-clause-stopped : goal.returns-in-Err-Failed-clause-stopped
+returns-in-Err-Failed-clause-stopped g c which before was = ([], entered_first before c.args.name.now c.args.progress.now c.enter.new.self was c.in_ok-file.ensures.names)
+
+pub returns-in-Err-OutOfMemory-clause-refused : goal.returns-in-Err-OutOfMemory-clause-refused
+returns-in-Err-OutOfMemory-clause-refused g c contents which before told was = entered_first before c.args.name.now c.args.progress.now c.enter.new.self was c.in_ok-file.ensures.names
+
+pub returns-in-Err-OutOfMemory-clause-stopped : goal.returns-in-Err-OutOfMemory-clause-stopped
+returns-in-Err-OutOfMemory-clause-stopped g c which before was = ([], entered_first before c.args.name.now c.args.progress.now c.enter.new.self was c.in_ok-file.ensures.names)
+
+pub returns-in_err-count-clause-stopped : goal.returns-in_err-count-clause-stopped
+returns-in_err-count-clause-stopped g c which before was =
+    some_bytes before c.args.name.now c.in-Ok.bytes c.count.new.self c.from_residual-in_err-count.result
+    (too_many before c.args.name.now c.in-Ok.bytes c.in_ok-file.file (length c.items.result.now) _ c.args.progress.now c.enter.new.self c.count.new.self c.from_residual-in_err-count.result was
+    c.in_ok-file.ensures.number c.in_ok-file.ensures.names c.in_ok-file.ensures.rest (ap length c.items.ensures) (subst (λ n. length c.in-Ok.bytes ≤ n) c.number.ensures c.in-Ok.ensures.within) c.in_err-count.ensures.refused c.in_err-count.ensures.rest c.from_residual-in_err-count.ensures.1)
+
+pub returns-in_err-count-clause-refused : goal.returns-in_err-count-clause-refused
+returns-in_err-count-clause-refused g c contents which before told was =
+    subst (λ bytes. IfErr c.from_residual-in_err-count.result (λ halt. IsRefusedOpening before c.args.name.now bytes halt c.count.new.self)) (content_is _ contents c.args.name.now c.in-Ok.bytes told c.in-Ok.ensures.bytes)
+    (too_many before c.args.name.now c.in-Ok.bytes c.in_ok-file.file (length c.items.result.now) _ c.args.progress.now c.enter.new.self c.count.new.self c.from_residual-in_err-count.result was
+    c.in_ok-file.ensures.number c.in_ok-file.ensures.names c.in_ok-file.ensures.rest (ap length c.items.ensures) (subst (λ n. length c.in-Ok.bytes ≤ n) c.number.ensures c.in-Ok.ensures.within) c.in_err-count.ensures.refused c.in_err-count.ensures.rest c.from_residual-in_err-count.ensures.1)
+
+pub returns-in_err-count-clause-there : goal.returns-in_err-count-clause-there
+returns-in_err-count-clause-there g c contents told are =
+    finds contents.files c.from_residual-in_err-count.result _
+    (subst (λ p. AreThere contents.files p.names.items) (sym c.in_err-count.ensures.rest)
+    (subst (AreThere contents.files) (sym c.in_ok-file.ensures.names)
+    (there_too contents.files c.args.progress.now.names.items c.args.name.now are (read_there _ contents c.args.name.now c.in-Ok.bytes told c.in-Ok.ensures.bytes))))
+
+pub returns-in-Err-Limit-clause-there : goal.returns-in-Err-Limit-clause-there
+returns-in-Err-Limit-clause-there g c contents told are =
+    subst (AreThere contents.files) (sym c.in_ok-file.ensures.names)
+    (there_too contents.files c.args.progress.now.names.items c.args.name.now are (long_there _ contents c.args.name.now _ told (c.in-Err-Limit.ensures.limit (ap Err c.in-Err-Limit.field-0-is))))
+
+pub returns-clause-calm : goal.returns-clause-calm
+returns-clause-calm g c other = c.in-Ok.ensures.calm (read_no_fault _)
+
+pub returns-in_err-count-clause-calm : goal.returns-in_err-count-clause-calm
+returns-in_err-count-clause-calm g c other = c.in-Ok.ensures.calm (read_no_fault _)
+
+pub returns-in-Err-Limit-clause-calm : goal.returns-in-Err-Limit-clause-calm
+returns-in-Err-Limit-clause-calm g c other = c.in-Err-Limit.ensures.calm (long_no_fault _ c.in-Err-Limit.field-0-is)
+
+pub returns-in-Err-OutOfMemory-clause-calm : goal.returns-in-Err-OutOfMemory-clause-calm
+returns-in-Err-OutOfMemory-clause-calm g c other = c.in-Err-OutOfMemory.ensures.calm (wanting_no_fault _ c.in-Err-OutOfMemory.field-0-is)
+
+pub returns-in-Err-Failed-clause-calm : goal.returns-in-Err-Failed-clause-calm
+returns-in-Err-Failed-clause-calm g c other = absurd (other refl)
+
+pub returns-clause-failed : goal.returns-clause-failed
+returns-clause-failed g c is = absurd (done_no_fault _ is)
+
+pub returns-in_err-count-clause-failed : goal.returns-in_err-count-clause-failed
+returns-in_err-count-clause-failed g c is = absurd (no_fault c.from_residual-in_err-count.result _ c.from_residual-in_err-count.ensures.1 is)
+
+pub returns-in-Err-Limit-clause-failed : goal.returns-in-Err-Limit-clause-failed
+returns-in-Err-Limit-clause-failed g c is = absurd (no_fault _ (faults.Refused c.past_at.result) refl is)
+
+pub returns-in-Err-OutOfMemory-clause-failed : goal.returns-in-Err-OutOfMemory-clause-failed
+returns-in-Err-OutOfMemory-clause-failed g c is = absurd (no_fault _ faults.OutOfMemory refl is)
+
+pub returns-in-Err-Failed-clause-failed : goal.returns-in-Err-Failed-clause-failed
+returns-in-Err-Failed-clause-failed g c is = c.in-Err-Failed.ensures.failed (ap Err c.in-Err-Failed.field-0-is)
