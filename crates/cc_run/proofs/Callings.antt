@@ -1,5 +1,5 @@
 -- Which calls steps make of a desk, one after another.
-use Rattle.std.proofs.Common.{◌≡◌, ◌∙◌, refl, sym, ap, subst, ℕ, List, [], ◌∷◌, ◌++◌, map, Option, Some, None, IfSome, Result, Err, append_assoc, append-nil, inl, inr}
+use Rattle.std.proofs.Common.{◌≡◌, ◌∙◌, refl, sym, ap, subst, ℕ, List, [], ◌∷◌, ◌++◌, map, Option, Some, None, IfSome, Result, Ok, Err, append_assoc, append-nil, inl, inr}
 use Rattle.std.specs.Prelude.{◌⊎◌, IsErrOf}
 use Rattle.cc_defs.specs.declared.refusal.Refusal.{Refusal}
 use Rattle.cc_describe.specs.declared.description.Described.{Described}
@@ -187,3 +187,15 @@ unread stop = Err stop
 
 pub limit_is_no_fault : (stop : ReadStop) → stop ≡ read_stops.Limit → IsErrOf (unread stop) read_stops.Failed → ⊥
 limit_is_no_fault stop is fault = cc
+
+pub ok_no_err : {T E : Type 0} (done : T) (e : E) → IsErrOf {T = T} {E = E} (Ok done) e → ⊥
+ok_no_err done e is = absurd cc
+
+pub memory_not_read : stops.OutOfMemory ≡ stops.ReadFault → ⊥
+memory_not_read is = absurd cc
+
+pub memory_not_write : stops.OutOfMemory ≡ stops.WriteFault → ⊥
+memory_not_write is = absurd cc
+
+pub read_not_write : stops.ReadFault ≡ stops.WriteFault → ⊥
+read_not_write is = absurd cc

@@ -1,5 +1,6 @@
 -- What a run leaves behind, from its steps.
 use Rattle.std.proofs.Common.{◌≡◌, ◌∙◌, refl, sym, ap, subst, ℕ, ◌≤◌, Bool, true, false, List, [], ◌++◌, Option, Some, None, Result, Ok, Err, IfSome, IfOk, MatchResult, inl, inr, option_map, append-nil, length, arith}
+use Rattle.std.proofs.lemmas.Bool.{false≢true}
 use Rattle.std.specs.Prelude.{◌⊎◌, IsNone, is_some, IsErrAnd, IsErrOf, IsSomeAnd, ◌||◌}
 use Rattle.cc_defs.specs.declared.event.Ending.{Ending}
 use Rattle.cc_defs.specs.declared.event.Ending.TheVariants as endings
@@ -49,7 +50,7 @@ use Rattle.cc_words.specs.Requests.{Checking, Listing, Request, ToBeSure, ToChec
 use Rattle.cc_words.specs.Words.{Text}
 use Rattle.cc_tell.proofs.Calls.{called_none, called_on}
 use Rattle.cc_tell.proofs.GivenSteps.{calm_both, kept-nothing}
-use Rattle.cc_run.proofs.Callings.{asks_behind, asks_nothing, first_none, may_be_refused, some_asked_of, stop_answers_nothing, told_answers_nothing}
+use Rattle.cc_run.proofs.Callings.{asks_behind, asks_nothing, first_none, may_be_refused, read_not_write, some_asked_of, stop_answers_nothing, told_answers_nothing}
 
 -- ---- counts
 
@@ -338,6 +339,9 @@ told_stopped words rest (Some c) new was begun stop told same = λ fresh none.
     subst (λ (n : Option Contents). IsSomeAnd n (λ after. Leaves words c after begun (Err stop))) (sym told)
     (leaves_nothing words c (with_rest rest c) begun stop refl (record { out = fresh.out; err = fresh.err; log = fresh.log }) (same ∙ none))
 
+error_is : (d e : Stop) → IsErrOf {T = Status} (Err d) e → d ≡ e
+error_is d e is = cc
+
 -- it has read, and opened the first of the files that it has to open
 pub prints_stopped : (words : List Text) (begins : Bool) (opened opens : List Text) (rest : List ℕ) (stop : Stop) (x y : Moment) → y.told ≡ option_map (with_rest rest) x.told →
     y.begun ≡ x.begun → x.reads ≤ y.reads → x.writes ≤ y.writes → Called opened [] x y → AreFirstNames opened opens → (stop ≡ stops.ReadFault → Rose x.reads y.reads) →
@@ -353,16 +357,13 @@ prints_stopped words begins opened opens rest stop x y told begun reads writes c
     begun_first = first_none (log_asked (request_of words) statuses.Right);
     whole = λ is. absurd (stop_answers_nothing stop is);
   };
-  calm = λ ok. absurd cc;
+  calm = λ ok. absurd (false≢true ok);
   begun = λ _. begun;
   reads = reads;
   writes = writes;
   read_fault = λ is. read_fault (error_is stop stops.ReadFault is);
   write_fault = λ is. absurd (write_fault (error_is stop stops.WriteFault is));
 }
-  where
-    error_is : (d e : Stop) → IsErrOf {T = Status} (Err d) e → d ≡ e
-    error_is d e is = cc
 
 -- nothing happened but that memory was wanting
 pub prints_lacking : (words : List Text) (begins : Bool) (opens : List Text) (x : Moment) (r : Result Status Stop) → IsErrAnd r (λ e. e ≡ stops.OutOfMemory) →
@@ -593,7 +594,7 @@ prints_unbegun {X = X} words named names x y b e (Err d) for at is same =
         begun_first = ([], sym for ∙ sym (append-nil names));
         whole = λ is. absurd (stop_answers_nothing d is);
       };
-      calm = λ ok. absurd cc;
+      calm = λ ok. absurd (false≢true ok);
       begun = λ _. left.begun;
       reads = left.reads;
       writes = left.writes;
@@ -602,7 +603,7 @@ prints_unbegun {X = X} words named names x y b e (Err d) for at is same =
     }
   where
     not_read : (d e : Stop) → d ≡ e → e ≡ stops.WriteFault → IsErrOf {T = Status} (Err d) stops.ReadFault → ⊥
-    not_read d e same is read = absurd cc
+    not_read d e same is read = read_not_write (sym (error_is d stops.ReadFault read) ∙ same ∙ is)
 
 -- where no log is named, nothing is begun
 pub begins_none : (x : Moment) → Begins {X = Unit {0}} false [] x x (Ok tt)

@@ -33,3 +33,8 @@ returns-clause-named c = λ d of.
         key_is = c.in_ok-key.ensures.is d asked.query (signature_of c.args.described.now d of) asked.stands;
       },
     )
+
+pub returns-clause-searchable : goal.returns-clause-searchable
+returns-clause-searchable c =
+    let range = c.in_ok-query.ensures.range in
+    record { laws_fit = c.in_ok-laws.ensures.fit; ordered = range.0; most = range.1; steps = c.in_ok-query.ensures.steps; key_fits = c.in_ok-key.ensures.fits }

@@ -27,3 +27,9 @@ returns-clause-named c = λ d of.
       rules = c.in_ok-is_path.ensures.unrefused d laws;
       path = c.in_ok-is_path.ensures.is d laws;
     }
+
+pub returns-clause-laws : goal.returns-clause-laws
+returns-clause-laws c = c.in_ok-laws.ensures.fit
+
+pub row_is_path-requires-clause-laws : goal.row_is_path-requires-clause-laws
+row_is_path-requires-clause-laws c = c.in_ok-laws.ensures.fit

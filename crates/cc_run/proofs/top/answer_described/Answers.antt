@@ -3,7 +3,7 @@ use Rattle.cc_describe.specs.declared.description.DescribeStop.TheVariants as st
 use Rattle.cc_describe.specs.Describing.{Describes, HasStopped}
 use Rattle.cc_run.specs.Requested.{AsksDescription, heads_of, named_of, opens_behind, source_of}
 use Rattle.cc_tell.specs.declared.status.Stop.TheVariants as run_stops
-use Rattle.cc_run.proofs.Callings.{refused_is_no_fault}
+use Rattle.cc_run.proofs.Callings.{memory_not_read, memory_not_write, ok_no_err, read_not_write, refused_is_no_fault}
 use Rattle.cc_run.proofs.Outcomes.{files_stay, prints_after_read, prints_opened, prints_refusal, prints_stopped}
 use Rattle.cc_run.proofs.Readings.{first_of, opened_all, opened_refused, reads_as, refuses_description}
 use Rattle.cc_run.proofs.top.answer_described.Goals as goal
@@ -14,7 +14,7 @@ returns-in-Ok g c = λ words request earlier asked same reads.
     let there = files_stay read.rest (λ files. Describes (heads_of request) (source_of request files) (named_of request).file c.in-Ok.described) _ _ read.told read.describes in
     prints_opened words _ request _ _ _ c.answer_read-answer.result asked (opened_all _ request c.in-Ok.described read.opened (subst AsksDescription same c.requires.description) read.opens)
     (prints_after_read words _ read.opened (opens_behind request) read.rest _ _ _ c.answer_read-answer.result read.told read.begun read.reads read.writes
-    read.called (read.calm (λ is. cc)) (c.answer_read-answer.ensures words request asked same there))
+    read.called (read.calm (ok_no_err _ _)) (c.answer_read-answer.ensures words request asked same there))
 
 pub returns-in-Err-Refused : goal.returns-in-Err-Refused
 returns-in-Err-Refused g c = λ words request earlier asked same reads.
@@ -36,7 +36,7 @@ returns-in-Err-ReadFault g c = λ words request earlier asked same reads.
     let names = first_of _ request stops.ReadFault read.opened (subst AsksDescription same c.requires.description) read.opens in
     prints_opened words _ request names.all _ _ _ asked names.are
     (prints_stopped words _ read.opened names.all read.rest run_stops.ReadFault _ _ read.told read.begun read.reads read.writes
-    read.called names.first (λ _. read.failed refl) (λ is. cc))
+    read.called names.first (λ _. read.failed refl) read_not_write)
 
 pub returns-in-Err-OutOfMemory : goal.returns-in-Err-OutOfMemory
 returns-in-Err-OutOfMemory g c = λ words request earlier asked same reads.
@@ -44,4 +44,4 @@ returns-in-Err-OutOfMemory g c = λ words request earlier asked same reads.
     let names = first_of _ request stops.OutOfMemory read.opened (subst AsksDescription same c.requires.description) read.opens in
     prints_opened words _ request names.all _ _ _ asked names.are
     (prints_stopped words _ read.opened names.all read.rest run_stops.OutOfMemory _ _ read.told read.begun read.reads read.writes
-    read.called names.first (λ is. absurd cc) (λ is. cc))
+    read.called names.first (λ is. absurd (memory_not_read is)) memory_not_write)

@@ -4,7 +4,7 @@ use Rattle.cc_run.specs.Tasks.{checked_by, request_of}
 use Rattle.cc_run.specs.Telling.{task_to_check}
 use Rattle.cc_tell.specs.declared.status.Stop.TheVariants as stops
 use Rattle.cc_words.specs.Requests.{Converting}
-use Rattle.cc_run.proofs.Callings.{called_reads, first_all, limit_is_no_fault}
+use Rattle.cc_run.proofs.Callings.{called_reads, first_all, limit_is_no_fault, memory_not_read, memory_not_write, ok_no_err, read_not_write}
 use Rattle.cc_run.proofs.Judged.{as_converting, converting_is, is_log_of, refuses_long}
 use Rattle.cc_run.proofs.Outcomes.{RefusesRequest, files_stay, prints_after_read, prints_refusal, prints_stopped}
 use Rattle.cc_run.proofs.modes.convert.convert.Goals as goal
@@ -17,7 +17,7 @@ returns-in-Ok g c = λ words converting d q asked same of is.
     let there = files_stay read.after.0 (λ files. NamesLog files (checked_by converting) task c.items.result.now) _ _ read.after.1 named in
     let log = c.args.asked.now.log.now in
     prints_after_read words _ (log ∷ []) [] read.after.0 _ _ _ c.convert_log.result read.after.1 read.begun read.reads_count read.writes_count
-    (called_reads log _ _ _ read.calls) (c.in-Ok.ensures.calm (λ is. cc))
+    (called_reads log _ _ _ read.calls) (c.in-Ok.ensures.calm (ok_no_err _ _))
     (c.convert_log.ensures words converting d q asked (ap (λ (one : Converting). one.to) (converting_is c.args.asked.now converting same)) of there)
 
 pub returns-in-Err-Limit : goal.returns-in-Err-Limit
@@ -38,11 +38,11 @@ returns-in-Err-Failed g c = λ words converting d q asked same of is.
     let read = c.read_all.ensures in
     let log = c.args.asked.now.log.now in
     prints_stopped words _ (log ∷ []) (log ∷ []) read.after.0 stops.ReadFault _ _ read.after.1 read.begun read.reads_count read.writes_count
-    (called_reads log _ _ _ read.calls) (first_all (log ∷ [])) (λ _. c.in-Err-Failed.ensures.failed (ap Err c.in-Err-Failed.field-0-is)) (λ is. cc)
+    (called_reads log _ _ _ read.calls) (first_all (log ∷ [])) (λ _. c.in-Err-Failed.ensures.failed (ap Err c.in-Err-Failed.field-0-is)) read_not_write
 
 pub returns-in-Err-OutOfMemory : goal.returns-in-Err-OutOfMemory
 returns-in-Err-OutOfMemory g c = λ words converting d q asked same of is.
     let read = c.read_all.ensures in
     let log = c.args.asked.now.log.now in
     prints_stopped words _ (log ∷ []) (log ∷ []) read.after.0 stops.OutOfMemory _ _ read.after.1 read.begun read.reads_count read.writes_count
-    (called_reads log _ _ _ read.calls) (first_all (log ∷ [])) (λ is. absurd cc) (λ is. cc)
+    (called_reads log _ _ _ read.calls) (first_all (log ∷ [])) (λ is. absurd (memory_not_read is)) memory_not_write

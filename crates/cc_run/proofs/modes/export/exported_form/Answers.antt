@@ -33,3 +33,6 @@ returns-clause-refused c = λ d of.
     (fault_form d (map plain_query c.args.described.now.queries) (plain_text c.args.asked.now.query) c.args.asked.now.horizon (plain_ground_query c.in_ok-query.query)
     (c.in_ok-laws.ensures.unrefused d of) asked)
     (c.form_at.ensures.refused d asked.query (c.in_ok-laws.ensures.of d of) asked.stands)
+
+pub form_at-requires-clause-laws : goal.form_at-requires-clause-laws
+form_at-requires-clause-laws c = c.in_ok-laws.ensures.fit

@@ -3,6 +3,7 @@ use Rattle.cc_run.specs.Modes.Modelling.{IsCnfIn}
 use Rattle.cc_run.specs.Tasks.{request_of}
 use Rattle.cc_tell.specs.declared.status.Stop.TheVariants as stops
 use Rattle.cc_words.specs.Requests.{ModelChecking, ToCheckModels}
+use Rattle.cc_run.proofs.Callings.{memory_not_read, memory_not_write, ok_no_err, read_not_write}
 use Rattle.cc_run.proofs.CnfReadings.{refused_is_no_fault}
 use Rattle.cc_run.proofs.ModelRuns.{always, checked_is, cnf_as, checks_refuse}
 use Rattle.cc_run.proofs.Outcomes.{RefusesRequest, files_stay, prints_after_read, prints_opened, prints_refusal, prints_stopped}
@@ -17,7 +18,7 @@ returns-in-Ok g c = λ words checking asked same.
     let form = c.in-Ok.ensures.form in
     let there = files_stay read.after.0 (λ files. IsCnfIn files checking.file form.0) _ _ read.after.1 (cnf_as _ file checking.file form.0 (ap (λ (k : ModelChecking). k.file) is) form.2) in
     prints_opened words _ (ToCheckModels checking) (file ∷ rest) _ _ c.check_over.result asked (always _ (ap (λ (k : ModelChecking). k.file ∷ k.log ∷ []) is))
-    (prints_after_read words _ (file ∷ []) rest read.after.0 _ _ _ c.check_over.result read.after.1 read.begun read.reads_count read.writes_count read.called (c.in-Ok.ensures.calm (λ is. cc))
+    (prints_after_read words _ (file ∷ []) rest read.after.0 _ _ _ c.check_over.result read.after.1 read.begun read.reads_count read.writes_count read.called (c.in-Ok.ensures.calm (ok_no_err _ _))
     (c.check_over.ensures words checking form.0 asked (ap (λ (k : ModelChecking). k.log) is) form.1 there))
 
 pub returns-in-Err-Refused : goal.returns-in-Err-Refused
@@ -43,7 +44,7 @@ returns-in-Err-ReadFault g c = λ words checking asked same.
     let rest = c.args.asked.now.log.now ∷ [] in
     let read = c.read_form.ensures in
     prints_opened words _ (ToCheckModels checking) (file ∷ rest) _ _ _ asked (always _ (ap (λ (k : ModelChecking). k.file ∷ k.log ∷ []) is))
-    (prints_stopped words _ (file ∷ []) (file ∷ rest) read.after.0 stops.ReadFault _ _ read.after.1 read.begun read.reads_count read.writes_count read.called (rest, refl) (λ _. c.in-Err-ReadFault.ensures.failed (ap Err c.in-Err-ReadFault.field-0-is)) (λ is. cc))
+    (prints_stopped words _ (file ∷ []) (file ∷ rest) read.after.0 stops.ReadFault _ _ read.after.1 read.begun read.reads_count read.writes_count read.called (rest, refl) (λ _. c.in-Err-ReadFault.ensures.failed (ap Err c.in-Err-ReadFault.field-0-is)) read_not_write)
 
 pub returns-in-Err-OutOfMemory : goal.returns-in-Err-OutOfMemory
 returns-in-Err-OutOfMemory g c = λ words checking asked same.
@@ -52,4 +53,4 @@ returns-in-Err-OutOfMemory g c = λ words checking asked same.
     let rest = c.args.asked.now.log.now ∷ [] in
     let read = c.read_form.ensures in
     prints_opened words _ (ToCheckModels checking) (file ∷ rest) _ _ _ asked (always _ (ap (λ (k : ModelChecking). k.file ∷ k.log ∷ []) is))
-    (prints_stopped words _ (file ∷ []) (file ∷ rest) read.after.0 stops.OutOfMemory _ _ read.after.1 read.begun read.reads_count read.writes_count read.called (rest, refl) (λ is. absurd cc) (λ is. cc))
+    (prints_stopped words _ (file ∷ []) (file ∷ rest) read.after.0 stops.OutOfMemory _ _ read.after.1 read.begun read.reads_count read.writes_count read.called (rest, refl) (λ is. absurd (memory_not_read is)) memory_not_write)
