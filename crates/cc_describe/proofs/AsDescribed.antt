@@ -234,3 +234,8 @@ of_some which names new (halts.Refused refusal) (stops.Refused told file) (place
   ap (λ one. option_or one (signature_refusal (declared_in places))) some ∙ ap Some (sym is.0),
   is.1 ∙ ap (λ l. file_named l refusal) (names_are ∙ opened) ∙ ap (file_named (opened_until which [] places)) (sym is.0),
 )
+
+-- what did not end well describes nothing
+pub nothing_described : {T E : Type 0} (told : Option Contents) (stop : E) (P : Contents → T → Type 0) → IfSome told (λ contents. IfOk {T = T} {E = E} (Err stop) (P contents))
+nothing_described None stop P = tt
+nothing_described (Some contents) stop P = tt

@@ -1,12 +1,14 @@
 -- What a statement that is taken up adds to what was read.
-use Rattle.std.proofs.Common.{◌≡◌, ◌∙◌, ℕ, ◌+◌, Bool, true, false, ◌||◌, cond, List, [], ◌∷◌, ◌++◌, length, map, flat_map, Option, Some, None, IfSome, IsTrue, Result, Ok, Err, IfOk, OnOk, refl, sym, ap, subst, append-nil, arith, true≢false}
+use Rattle.std.proofs.Common.{◌≡◌, ◌∙◌, ℕ, ◌+◌, Bool, true, false, ◌||◌, cond, List, [], ◌∷◌, ◌++◌, length, map, flat_map, Option, Some, None, IfSome, IsTrue, Result, Ok, Err, IfOk, IfErr, OnOk, inl, inr, refl, sym, ap, subst, append-nil, arith, true≢false}
 use Rattle.std.specs.List.{list_any}
 use Rattle.std.proofs.lemmas.Bool.{lt-ltb}
 use Rattle.std.proofs.lemmas.List.Concat.{flat_map-cons}
 use Rattle.std.proofs.lemmas.List.Folds.{list_any-append}
 use Rattle.cc_defs.specs.DeclarationFaults.{declaration_refusal}
 use Rattle.cc_defs.specs.Declarations.{Declaration, declarations_of, part_declarations}
-use Rattle.cc_defs.specs.Refusals.{least, refused}
+use Rattle.cc_defs.specs.declared.refusal.Fault.{Fault}
+use Rattle.cc_defs.specs.declared.refusal.Fault.TheVariants as faults
+use Rattle.cc_defs.specs.Refusals.{IsRefusedBy, least, refused}
 use Rattle.cc_defs.specs.Resolved.{Query, plain_base_law, plain_query}
 use Rattle.cc_defs.specs.Statements.{IsParsed}
 use Rattle.cc_defs.specs.Tokens.{TokenView}
@@ -18,6 +20,7 @@ use Rattle.cc_laws.specs.Questions.{labels_in, has_two, first, items_of, query_f
 use Rattle.cc_laws.specs.Vocabulary.{Vocabulary, vocabulary}
 use Rattle.cc_laws.specs.Widening.{wide_laws}
 use Rattle.cc_sorts.specs.Tables.{TableView, IsTable, Declares}
+use Rattle.cc_syntax.specs.Parsing.{HasRefused}
 use Rattle.cc_wide.specs.WideLaws.{plain_wide_base}
 use Rattle.cc_describe.specs.declared.heads.Heads.{Heads}
 use Rattle.cc_describe.specs.declared.heads.Heads.TheVariants as heads
@@ -25,7 +28,7 @@ use Rattle.cc_describe.specs.declared.progress.Progress.{Progress}
 use Rattle.cc_describe.specs.Describing.{asked_in, base_laws_at, laws_at, queries_at, wide_at, wide_laws_at}
 use Rattle.cc_describe.specs.FirstRefusal.{declared_at, declared_in, labels_at, labelled_in, bytes_at, is_among, asking_refusal, include_refusal, law_refusal_of, statement_refusal}
 use Rattle.cc_describe.specs.Places.{Place, Said, included, opened_at}
-use Rattle.cc_describe.specs.ProgressViews.{Adds, IsProgress, IsTaken, Says, declares}
+use Rattle.cc_describe.specs.ProgressViews.{Adds, IsProgress, IsRefusedStatement, IsTaken, Says, declares}
 use Rattle.cc_describe.proofs.NoFault.{none_holds, no_number}
 use Rattle.cc_describe.proofs.PlacesAppended.{declared_in_behind, labelled_in_behind, opened_in_behind, bytes_in_behind, gathered_one, gathers_laws, gathers_queries, gathers_wide}
 
@@ -273,3 +276,13 @@ pub taken_by_tree : (which : Heads) {T E : Type 0} (of : T → Option (List ℕ)
     IfOk result (λ name. IsTaken which before file around tokens (of name) new)
 taken_by_tree which of (Ok name) before file around tokens statement new parsed says is = (statement, parsed, is, says)
 taken_by_tree which of (Err fault) before file around tokens statement new parsed says is = tt
+
+pub refused_by_tree : {T : Type 0} (which : Heads) (before : List Place) (file : ℕ) (around : List (List ℕ)) (tokens : List TokenView) (statement : PlainStatement) (result : Result T Fault) → IsParsed tokens statement →
+    IfErr result (IsRefusedBy (statement_refusal which before file around statement statement.part)) → IfErr result (IsRefusedStatement which before file around tokens)
+refused_by_tree which before file around tokens statement (Ok name) parsed is = tt
+refused_by_tree which before file around tokens statement (Err (faults.Refused refusal)) parsed is = inr (statement, parsed, is)
+refused_by_tree which before file around tokens statement (Err faults.OutOfMemory) parsed is = tt
+
+pub refused_by_text : (which : Heads) (before : List Place) (file : ℕ) (around : List (List ℕ)) (tokens : List TokenView) (fault : Fault) → HasRefused file tokens fault → IsRefusedStatement which before file around tokens fault
+refused_by_text which before file around tokens (faults.Refused refusal) is = inl is
+refused_by_text which before file around tokens faults.OutOfMemory is = tt

@@ -1,9 +1,9 @@
 use Rattle.std.proofs.Common.{ap, [], Err, refl}
 use Rattle.cc_describe.specs.declared.description.DescribeStop.TheVariants as stops
-use Rattle.cc_describe.specs.Describing.{AsksFormulas, HasForms, HasWideForms}
+use Rattle.cc_describe.specs.Describing.{AsksFormulas, Describes, HasForms, HasWideForms}
 use Rattle.cc_describe.proofs.CallsKept.{keeps_names}
 use Rattle.cc_describe.proofs.Walk.{untouched}
-use Rattle.cc_describe.proofs.AsDescribed.{as_called, fault_comes, fault_told, is_described, is_refused, is_refused_whole, of_some, of_some_whole, opens_none, opens_stopped, opens_whole, says_all, says_so}
+use Rattle.cc_describe.proofs.AsDescribed.{as_called, fault_comes, fault_told, is_described, is_refused, is_refused_whole, nothing_described, of_some, of_some_whole, opens_none, opens_stopped, opens_whole, says_all, says_so}
 use Rattle.cc_describe.proofs.PlacesForms.{asks_formulas, has_forms, has_wide_forms}
 use Rattle.cc_describe.proofs.description.describe.Goals as goal
 
@@ -78,3 +78,7 @@ returns-in-Ok-read_file-clause-calm g c other = c.in-Ok-read_file.ensures.calm (
 pub returns-in-Err-read_file-clause-calm : goal.returns-in-Err-read_file-clause-calm
 returns-in-Err-read_file-clause-calm g c other =
     c.in-Err-read_file.ensures.calm (λ fault. other (fault_comes c.deref.result.now c.in-Err-read_file.halt c.stop_of-stop.result c.stop_of-stop.ensures fault))
+
+pub returns-in-Err-read_file-clause-described : goal.returns-in-Err-read_file-clause-described
+returns-in-Err-read_file-clause-described g c =
+    nothing_described (g.D.Desk.seen c.args.desk.now).told c.stop_of-stop.result (λ contents. Describes c.args.heads contents.files c.args.name.now)

@@ -4,10 +4,10 @@ use Rattle.cc_ports.specs.Contents.{with_rest, Rose}
 use Rattle.cc_text.specs.Views.{token_views, cut_at}
 use Rattle.cc_describe.specs.declared.heads.Heads.{Heads}
 use Rattle.cc_describe.specs.Places.{AreThere, Opened, Place, content}
-use Rattle.cc_describe.specs.ProgressViews.{IsProgress, halt_of}
+use Rattle.cc_describe.specs.ProgressViews.{IsProgress, OpensAsKept, halt_of}
 use Rattle.cc_describe.proofs.CallsKept.{keeps_as, keeps_more}
 use Rattle.cc_describe.proofs.SomePlaces.{Gone, barred_goes, opened_goes, opening_goes, refused_goes, said_goes, then_goes}
-use Rattle.cc_describe.proofs.Walk.{as_told, deeper, errs_on, left_again, less_deep, none_below, same_fault, touched_again, up_through, AreInside, Midway, done_no_fault, later_are_tokens, progress_left, opening_stops, text_stops, told_as, no_fault, finds, finds_as, has_read, taken_as, refused_as, tells_still, midway_begins, midway_goes, midway_ends, midway_stops, statement_refused, statement_alone, statement_reads, statement_ends}
+use Rattle.cc_describe.proofs.Walk.{as_told, deeper, left_again, less_deep, none_below, same_fault, touched_again, up_through, AreInside, Midway, done_no_fault, later_are_tokens, progress_left, opening_stops, text_stops, told_as, no_fault, finds, finds_as, has_read, taken_as, refused_as, tells_still, midway_begins, midway_goes, midway_ends, midway_stops, statement_refused, statement_alone, statement_reads, statement_ends}
 use Rattle.cc_describe.proofs.files.+read_file.Goals.{in-Some+then-deep-gt0+in_ok-read_file-in-Some, in-Some+else-deep-gt0, in-None}
 use Rattle.cc_describe.proofs.files.+read_file.Goals as goal
 
@@ -127,7 +127,7 @@ loop-i-preserved g t c =
                 (read.there (with_rest after.0 contents) (tells_still after.0 _ _ contents after.1 told)
                 (subst (λ l. AreThere contents.files l.items) (sym c.in_ok-included.ensures.names) (c.loop-i.invariant.there contents told are)));
             told = touched_again after.0 _ _ _ after.1 read.after.0 (ap (λ desk. (g.D.Desk.seen desk).told) w.desk-is ∙ read.after.1);
-            calls = rw (w.progress-is, w.desk-is) (keeps_more taken_calls read.calls);
+            calls = keeps_as (subst (λ desk. OpensAsKept c.args.progress.now.names.items w.read_file.new.progress.names.items (g.D.Desk.seen c.args.desk.now).calls (g.D.Desk.seen desk).calls) (sym w.desk-is) (keeps_more taken_calls read.calls)) (ap (λ p. p.names.items) w.progress-is);
             calm =
                 let calm = read.calm (done_no_fault _) in
                 (ap (λ desk. (g.D.Desk.seen desk).reads) w.desk-is ∙ calm.0 ∙ c.loop-i.invariant.calm.0, ap (λ desk. (g.D.Desk.seen desk).writes) w.desk-is ∙ calm.1 ∙ c.loop-i.invariant.calm.1);
@@ -152,7 +152,7 @@ loop-i-preserved g t c =
                 subst (λ p. AreThere contents.files p.names.items) (sym w.progress-is)
                 (subst (λ l. AreThere contents.files l.items) (sym c.in_ok-included.ensures.names) (c.loop-i.invariant.there contents told are));
             told = (after.0, ap (λ desk. (g.D.Desk.seen desk).told) w.desk-is ∙ after.1);
-            calls = rw (w.progress-is, w.desk-is) taken_calls;
+            calls = keeps_as (subst (λ desk. OpensAsKept c.args.progress.now.names.items c.take.new.self.names.items (g.D.Desk.seen c.args.desk.now).calls (g.D.Desk.seen desk).calls) (sym w.desk-is) taken_calls) (ap (λ p. p.names.items) w.progress-is);
             calm = (ap (λ desk. (g.D.Desk.seen desk).reads) w.desk-is ∙ c.loop-i.invariant.calm.0, ap (λ desk. (g.D.Desk.seen desk).writes) w.desk-is ∙ c.loop-i.invariant.calm.1);
             begun = ap (λ desk. (g.D.Desk.seen desk).begun) w.desk-is ∙ c.loop-i.invariant.begun;
             reads_count = subst (λ desk. (g.D.Desk.seen c.args.desk.now).reads ≤ (g.D.Desk.seen desk).reads) (sym w.desk-is) c.loop-i.invariant.reads_count;
@@ -175,7 +175,7 @@ loop-i-preserved g t c =
                 subst (λ p. AreThere contents.files p.names.items) (sym w.progress-is)
                 (subst (λ l. AreThere contents.files l.items) (sym c.in_ok-included.ensures.names) (c.loop-i.invariant.there contents told are));
             told = (after.0, ap (λ desk. (g.D.Desk.seen desk).told) w.desk-is ∙ after.1);
-            calls = rw (w.progress-is, w.desk-is) taken_calls;
+            calls = keeps_as (subst (λ desk. OpensAsKept c.args.progress.now.names.items c.take.new.self.names.items (g.D.Desk.seen c.args.desk.now).calls (g.D.Desk.seen desk).calls) (sym w.desk-is) taken_calls) (ap (λ p. p.names.items) w.progress-is);
             calm = (ap (λ desk. (g.D.Desk.seen desk).reads) w.desk-is ∙ c.loop-i.invariant.calm.0, ap (λ desk. (g.D.Desk.seen desk).writes) w.desk-is ∙ c.loop-i.invariant.calm.1);
             begun = ap (λ desk. (g.D.Desk.seen desk).begun) w.desk-is ∙ c.loop-i.invariant.begun;
             reads_count = subst (λ desk. (g.D.Desk.seen c.args.desk.now).reads ≤ (g.D.Desk.seen desk).reads) (sym w.desk-is) c.loop-i.invariant.reads_count;
@@ -280,30 +280,6 @@ returns-clause-after g t c = c.loop-i.invariant.told
 pub returns-clause-calm : goal.returns-clause-calm
 returns-clause-calm g t c other = c.loop-i.invariant.calm
 
-pub returns-in_err-bytes-clause-after : goal.returns-in_err-bytes-clause-after
-returns-in_err-bytes-clause-after g t c = c.open.ensures.after
-
-pub returns-in_err-bytes-clause-begun : goal.returns-in_err-bytes-clause-begun
-returns-in_err-bytes-clause-begun g t c = c.open.ensures.begun
-
-pub returns-in_err-bytes-clause-reads_count : goal.returns-in_err-bytes-clause-reads_count
-returns-in_err-bytes-clause-reads_count g t c = c.open.ensures.reads_count
-
-pub returns-in_err-bytes-clause-writes_count : goal.returns-in_err-bytes-clause-writes_count
-returns-in_err-bytes-clause-writes_count g t c = c.open.ensures.writes_count
-
-pub returns-in-Err-clause-after : goal.returns-in-Err-clause-after
-returns-in-Err-clause-after g t c = c.open.ensures.after
-
-pub returns-in-Err-clause-begun : goal.returns-in-Err-clause-begun
-returns-in-Err-clause-begun g t c = c.open.ensures.begun
-
-pub returns-in-Err-clause-reads_count : goal.returns-in-Err-clause-reads_count
-returns-in-Err-clause-reads_count g t c = c.open.ensures.reads_count
-
-pub returns-in-Err-clause-writes_count : goal.returns-in-Err-clause-writes_count
-returns-in-Err-clause-writes_count g t c = c.open.ensures.writes_count
-
 pub returns-clause-failed : goal.returns-clause-failed
 returns-clause-failed g t c is = absurd (done_no_fault _ is)
 
@@ -315,18 +291,6 @@ returns-in-Err-clause-calm g t c other = c.in_ok-bytes.ensures.calm (done_no_fau
 
 pub returns-in_err-bytes-clause-calm : goal.returns-in_err-bytes-clause-calm
 returns-in_err-bytes-clause-calm g t c other = c.in_err-bytes.ensures.calm (λ fault. other (same_fault c.from_residual.result _ c.from_residual.ensures.1 fault))
-
-pub returns-in_err-bytes-clause-failed : goal.returns-in_err-bytes-clause-failed
-returns-in_err-bytes-clause-failed g t c is = c.in_err-bytes.ensures.failed (as_told c.from_residual.result _ c.from_residual.ensures.1 is)
-
-pub returns-in_err-bytes-clause-around : goal.returns-in_err-bytes-clause-around
-returns-in_err-bytes-clause-around g t c = errs_on _ c.from_residual.result _ c.from_residual.ensures.1
-
-pub returns-in_err-included-clause-around : goal.returns-in_err-included-clause-around
-returns-in_err-included-clause-around g t c = errs_on _ c.from_residual-in_err-included.result _ c.from_residual-in_err-included.ensures.1
-
-pub returns-in_err-read_file-in-Some-clause-around : goal.returns-in_err-read_file-in-Some-clause-around
-returns-in_err-read_file-in-Some-clause-around g t c = errs_on _ c.from_residual-in_err-read_file-in-Some.result _ c.from_residual-in_err-read_file-in-Some.ensures.1
 
 pub returns-in_err-read_file-in-Some-clause-after : goal.returns-in_err-read_file-in-Some-clause-after
 returns-in_err-read_file-in-Some-clause-after g t c = let first = c.loop-i.invariant.told in let second = c.read_file.ensures.after in touched_again first.0 _ _ _ first.1 second.0 second.1

@@ -57,66 +57,6 @@ pub returns-clause-calls : goal.returns-clause-calls
 returns-clause-calls g c =
     keeps_read c.args.name.now _ (ap (λ p. p.names.items) c.in_ok-count.ensures.rest ∙ c.in_ok-file.ensures.names) c.read_all.ensures.calls
 
-pub returns-in-Err-Limit-clause-after : goal.returns-in-Err-Limit-clause-after
-returns-in-Err-Limit-clause-after g c = c.read_all.ensures.after
-
-pub returns-in-Err-Limit-clause-begun : goal.returns-in-Err-Limit-clause-begun
-returns-in-Err-Limit-clause-begun g c = c.read_all.ensures.begun
-
-pub returns-in-Err-Limit-clause-reads_count : goal.returns-in-Err-Limit-clause-reads_count
-returns-in-Err-Limit-clause-reads_count g c = c.read_all.ensures.reads_count
-
-pub returns-in-Err-Limit-clause-writes_count : goal.returns-in-Err-Limit-clause-writes_count
-returns-in-Err-Limit-clause-writes_count g c = c.read_all.ensures.writes_count
-
-pub returns-in-Err-Failed-clause-after : goal.returns-in-Err-Failed-clause-after
-returns-in-Err-Failed-clause-after g c = c.read_all.ensures.after
-
-pub returns-in-Err-Failed-clause-begun : goal.returns-in-Err-Failed-clause-begun
-returns-in-Err-Failed-clause-begun g c = c.read_all.ensures.begun
-
-pub returns-in-Err-Failed-clause-reads_count : goal.returns-in-Err-Failed-clause-reads_count
-returns-in-Err-Failed-clause-reads_count g c = c.read_all.ensures.reads_count
-
-pub returns-in-Err-Failed-clause-writes_count : goal.returns-in-Err-Failed-clause-writes_count
-returns-in-Err-Failed-clause-writes_count g c = c.read_all.ensures.writes_count
-
-pub returns-in-Err-OutOfMemory-clause-after : goal.returns-in-Err-OutOfMemory-clause-after
-returns-in-Err-OutOfMemory-clause-after g c = c.read_all.ensures.after
-
-pub returns-in-Err-OutOfMemory-clause-begun : goal.returns-in-Err-OutOfMemory-clause-begun
-returns-in-Err-OutOfMemory-clause-begun g c = c.read_all.ensures.begun
-
-pub returns-in-Err-OutOfMemory-clause-reads_count : goal.returns-in-Err-OutOfMemory-clause-reads_count
-returns-in-Err-OutOfMemory-clause-reads_count g c = c.read_all.ensures.reads_count
-
-pub returns-in-Err-OutOfMemory-clause-writes_count : goal.returns-in-Err-OutOfMemory-clause-writes_count
-returns-in-Err-OutOfMemory-clause-writes_count g c = c.read_all.ensures.writes_count
-
-pub returns-in_err-count-clause-after : goal.returns-in_err-count-clause-after
-returns-in_err-count-clause-after g c = c.read_all.ensures.after
-
-pub returns-in_err-count-clause-begun : goal.returns-in_err-count-clause-begun
-returns-in_err-count-clause-begun g c = c.read_all.ensures.begun
-
-pub returns-in_err-count-clause-reads_count : goal.returns-in_err-count-clause-reads_count
-returns-in_err-count-clause-reads_count g c = c.read_all.ensures.reads_count
-
-pub returns-in_err-count-clause-writes_count : goal.returns-in_err-count-clause-writes_count
-returns-in_err-count-clause-writes_count g c = c.read_all.ensures.writes_count
-
-pub returns-clause-after : goal.returns-clause-after
-returns-clause-after g c = c.read_all.ensures.after
-
-pub returns-clause-begun : goal.returns-clause-begun
-returns-clause-begun g c = c.read_all.ensures.begun
-
-pub returns-clause-reads_count : goal.returns-clause-reads_count
-returns-clause-reads_count g c = c.read_all.ensures.reads_count
-
-pub returns-clause-writes_count : goal.returns-clause-writes_count
-returns-clause-writes_count g c = c.read_all.ensures.writes_count
-
 pub returns-in-Err-Failed-clause-refused : goal.returns-in-Err-Failed-clause-refused
 returns-in-Err-Failed-clause-refused g c contents which before told was = entered_first before c.args.name.now c.args.progress.now c.enter.new.self was c.in_ok-file.ensures.names
 
@@ -170,9 +110,6 @@ returns-in-Err-Failed-clause-calm g c other = absurd (other refl)
 
 pub returns-clause-failed : goal.returns-clause-failed
 returns-clause-failed g c is = absurd (done_no_fault _ is)
-
-pub returns-in_err-count-clause-failed : goal.returns-in_err-count-clause-failed
-returns-in_err-count-clause-failed g c is = absurd (no_fault c.from_residual-in_err-count.result _ c.from_residual-in_err-count.ensures.1 is)
 
 pub returns-in-Err-Limit-clause-failed : goal.returns-in-Err-Limit-clause-failed
 returns-in-Err-Limit-clause-failed g c is = absurd (no_fault _ (faults.Refused c.past_at.result) refl is)
