@@ -1,7 +1,8 @@
 -- The row that words name, what is refused of it, and what is given.
-use Rattle.std.proofs.Common.{◌≡◌, ◌∙◌, refl, sym, ap, subst, ℕ, ◌<◌, Bool, true, false, cond, List, [], length, nat_lt, Option, Some, None, IfSome, Result, Ok, Err, IfOk, inl, inr, arith}
+use Rattle.std.proofs.Common.{◌≡◌, ◌∙◌, refl, sym, ap, subst, ℕ, ◌<◌, ◌≤◌, Bool, true, false, cond, List, [], length, nat_lt, Option, Some, None, IfSome, Result, Ok, Err, IfOk, inl, inr, arith}
 use Rattle.std.specs.Prelude.{◌↔◌, IfErr, IsErrAnd, IsTrue}
 use Rattle.std.proofs.lemmas.Bool.{iff_false}
+use Rattle.std.proofs.lemmas.Bool.Decides.{nat_tests}
 use Rattle.cc_arena.specs.declared.ground_laws.GroundLaw.{GroundLaw}
 use Rattle.cc_defs.specs.declared.lists.Key.{Key}
 use Rattle.cc_defs.specs.declared.refusal.Fault.{Fault}
@@ -210,3 +211,7 @@ prints_explained words explaining described signature laws key is_path x z r of 
     (λ before read. explained_given before.files words explaining of.places described signature laws key is_path tells.whole asked of.said read looked tells.explained tells.begun) of.read)
     tells.begun tells.step tells.ended (ends_so words explaining (description_in of.places) described.files key tells.whole r asked tells.explained tells.ended)
     (asks_no_more words (ToExplain explaining) x z r asked (λ _. refl) tells.step.moves.called)
+
+-- so few rules are not refused
+pub rules_fit : (d : Description) (horizon : ℕ) → length (timed_rules d horizon) ≤ most_rules → rules_refusal d horizon ≡ None
+rules_fit d horizon few = grind (arith, nat_tests)

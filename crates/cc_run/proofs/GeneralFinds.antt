@@ -110,6 +110,11 @@ goes_next old new (events.History horizon number row lines) (Ok status) goes les
 goes_next old new (events.Ended ending) (Ok status) goes less is = λ none. absurd cc
 goes_next old new (events.Spent horizon listed rivals_of lines) (Ok status) goes less is = λ none. absurd cc
 
+-- behind a status nothing is next
+pub stopped_next : (P : Type 0) (r : Result (Option Status) Stop) (s : Status) → IfOk r (λ status. status ≡ Some s) → IfOk r (λ status. IsNone status → P)
+stopped_next P (Err stop) s is = tt
+stopped_next P (Ok status) s is = λ none. absurd cc
+
 -- ---- all of them
 
 -- so far this run was told, and it goes on

@@ -1,3 +1,6 @@
+use Rattle.std.proofs.Common.{subst, ◌≤◌}
+use Rattle.cc_defs.specs.Description.{sizes_at}
+use Rattle.cc_defs.specs.Rows.{IsRow}
 use Rattle.cc_run.proofs.Explained.{no_indexes, no_row, too_far}
 use Rattle.cc_run.proofs.rows.fitting.Goals as goal
 
@@ -13,3 +16,10 @@ returns-clause-refused c = λ text d spelled signature. (
       (no_indexes d text c.args.key c.items.result.now c.is_row.result c.items.ensures (c.is_row.ensures.described d signature) c.if-is_row.false),
   c.at-2.ensures,
 )
+
+pub returns-then-is_row-clause-named : goal.returns-then-is_row-clause-named
+returns-then-is_row-clause-named c = λ text d spelled signature. record {
+  spelled = spelled;
+  most = subst (λ n. c.args.key.horizon ≤ n) c.number.ensures c.if-key-number.false;
+  row = subst (λ row. IsRow (sizes_at d c.args.key.horizon) row) c.items.ensures ((c.is_row.ensures.described d signature).0 c.if-is_row.true);
+}

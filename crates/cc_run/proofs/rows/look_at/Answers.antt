@@ -33,3 +33,6 @@ returns-clause-laws c = c.in_ok-laws.ensures.fit
 
 pub row_is_path-requires-clause-laws : goal.row_is_path-requires-clause-laws
 row_is_path-requires-clause-laws c = c.in_ok-laws.ensures.fit
+
+pub row_is_path-requires-clause-row : goal.row_is_path-requires-clause-row
+row_is_path-requires-clause-row c = λ d signature. let named = c.in_ok-key.ensures.named d signature in named.row

@@ -1,7 +1,7 @@
 use Rattle.std.proofs.Common.{refl, subst, sym}
 use Rattle.cc_general.specs.Generals.{IsRightFault, IsWritable}
 use Rattle.cc_run.proofs.DescribedNames.{framed_names}
-use Rattle.cc_run.proofs.GeneralFinds.{event_told, goes_next, limit_told, memory_told}
+use Rattle.cc_run.proofs.GeneralFinds.{event_told, goes_next, limit_told, memory_told, stopped_next}
 use Rattle.cc_wide.specs.WideLaws.{frame}
 use Rattle.cc_run.proofs.modes.general.tell_next.Goals as goal
 
@@ -26,3 +26,6 @@ returns-in-Err-Refused-clause-tells g c = λ w q run is general stands.
 
 pub returns-in-Err-OutOfMemory-clause-tells : goal.returns-in-Err-OutOfMemory-clause-tells
 returns-in-Err-OutOfMemory-clause-tells g c = λ w q run is general stands. memory_told w q run c.args.general.now c.next.new.self stands _ _ refl
+
+pub returns-in-Err-Refused-clause-next : goal.returns-in-Err-Refused-clause-next
+returns-in-Err-Refused-clause-next g c = stopped_next _ c.tell_limit.result _ c.tell_limit.ensures.status

@@ -1,4 +1,5 @@
-use Rattle.std.proofs.Common.{◌∙◌, Some, ap, map, refl, sym}
+use Rattle.std.proofs.Common.{◌∙◌, Some, ap, map, refl, subst, sym}
+use Rattle.cc_defs.specs.Paths.{IsPath}
 use Rattle.cc_defs.specs.Resolved.{plain_base_law}
 use Rattle.cc_ports.specs.declared.desk.To.TheVariants as outputs
 use Rattle.cc_tell.specs.declared.status.Status.TheVariants as statuses
@@ -54,3 +55,8 @@ returns g c = λ d of laws path.
     (one_as outputs.Out _ _ _ _ c.tell_causes.result text
     (c.tell_causes.ensures d c.args.key.now.horizon (names_of c.args.described.now d of) base causes)) c.in_ok-tell_causes.was)
     refl
+
+pub why-requires-clause-path : goal.why-requires-clause-path
+why-requires-clause-path g c =
+    let path = c.requires.path in
+    (path.0, path.2, subst (IsPath path.0 c.args.key.now.horizon) (sym c.items-row.ensures) path.4)
