@@ -96,17 +96,21 @@ long_refused : (before : List Place) (bytes : List ℕ) (file : ℕ) → limit_n
     opening_refusal before bytes ≡ Some (past_at limits.FileBytes file 1)
 long_refused before bytes file long is = rw (lt-ltb (limit_number limits.FileBytes) (length bytes) long) (ap (λ n. Some (past_at limits.FileBytes n 1)) (sym is))
 
+pub long_at : {which : Heads} (before : List Place) (name bytes : List ℕ) (file : ℕ) (refusal : Refusal) (old new : Progress) → IsProgress which old before → file ≡ length old.names.items →
+    new.names.items ≡ old.names.items ++ name ∷ [] → refusal ≡ past_at limits.FileBytes file 1 → limit_number limits.FileBytes < length bytes →
+    IsRefusedOpening before name bytes (halts.Refused refusal) new
+long_at before name bytes file refusal old new was number names is long =
+    let told = ap halts.Refused is in
+    subst (λ h. IsRefusedOpening before name bytes h new) (sym told)
+    (long_refused before bytes file long (number ∙ ap length was.names), names ∙ ap (λ l. l ++ name ∷ []) was.names)
+
 -- some bytes are too long
 pub too_long : {which : Heads} (before : List Place) (name : List ℕ) (file : ℕ) (refusal : Refusal) (old new : Progress) → IsProgress which old before → file ≡ length old.names.items →
     new.names.items ≡ old.names.items ++ name ∷ [] → refusal ≡ past_at limits.FileBytes file 1 →
     (bytes : List ℕ) × IsRefusedOpening before name bytes (halts.Refused refusal) new
 too_long before name file refusal old new was number names is =
     let bytes = longer_than (limit_number limits.FileBytes) in
-    let told = ap halts.Refused is in (
-      bytes.0,
-      subst (λ h. IsRefusedOpening before name bytes.0 h new) (sym told)
-          (long_refused before bytes.0 file bytes.1 (number ∙ ap length was.names), names ∙ ap (λ l. l ++ name ∷ []) was.names),
-    )
+    (bytes.0, long_at before name bytes.0 file refusal old new was number names is bytes.1)
 
 -- ---- a file whose name was noted
 

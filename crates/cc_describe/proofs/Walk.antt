@@ -539,6 +539,10 @@ pub long_there : (told : Option Contents) (contents : Contents) (name : List ℕ
     → IfSome told (λ c. (bytes : List ℕ) × (c.files name ≡ Some bytes) × (most < length bytes)) → IsSome (contents.files name)
 long_there told contents name most is there = let found = rw is at there in rw (found.1) refl
 
+pub content_long : (told : Option Contents) (contents : Contents) (name : List ℕ) (most : ℕ) → told ≡ Some contents
+    → IfSome told (λ c. (bytes : List ℕ) × (c.files name ≡ Some bytes) × (most < length bytes)) → most < length (content contents.files name)
+content_long told contents name most is there = let found = rw is at there in subst (λ file. most < length (unwrap_or file [])) (sym found.1) found.2
+
 pub finds : {T : Type 0} (files : Files) (result : Result T Halt) (names : List (List ℕ)) → AreThere files names → FindsFiles files result names
 finds files (Ok done) names are = are
 finds files (Err (halts.Refused refusal)) names are = are

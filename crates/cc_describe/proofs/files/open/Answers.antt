@@ -1,73 +1,21 @@
-use Rattle.std.proofs.Common.{ℕ, List, [], ◌≤◌, arith, ap, ◌∙◌, length, Ok, Err, IfErr, refl, subst, sym}
+use Rattle.std.proofs.Common.{[], ◌<◌, ◌≤◌, ap, ◌∙◌, length, Err, IfErr, refl, subst, sym}
 use Rattle.cc_defs.specs.declared.refusal.Fault.TheVariants as faults
-use Rattle.cc_describe.specs.Places.{AreThere}
+use Rattle.cc_describe.specs.Places.{AreThere, content}
 use Rattle.cc_describe.specs.ProgressViews.{IsRefusedOpening}
 use Rattle.cc_describe.proofs.CallsKept.{keeps_names, keeps_read}
-use Rattle.cc_describe.proofs.Walk.{done_no_fault, no_fault, long_no_fault, long_there, read_no_fault, wanting_no_fault, untouched, content_is, is_opened, there_too, read_there, finds}
-use Rattle.cc_describe.proofs.SomePlaces.{entered_first, some_bytes, too_long, too_many}
+use Rattle.cc_describe.proofs.Walk.{content_long, done_no_fault, no_fault, long_no_fault, long_there, read_no_fault, wanting_no_fault, untouched, content_is, is_opened, there_too, read_there, finds}
+use Rattle.cc_describe.proofs.SomePlaces.{entered_first, long_at, some_bytes, too_long, too_many}
 use Rattle.cc_describe.proofs.files.open.Goals as goal
 
 pub returns-in_err-file-clause-after : goal.returns-in_err-file-clause-after
 returns-in_err-file-clause-after g c = untouched (g.D.Desk.seen c.args.desk.now).told
 
-pub returns-clause-opened : goal.returns-clause-opened
-returns-clause-opened g c contents which before told was =
-    let read = c.in-Ok.ensures in (
-      content_is _ contents c.args.name.now c.in-Ok.bytes told read.bytes,
-      is_opened before c.args.name.now c.in-Ok.bytes c.args.progress.now c.enter.new.self c.count.new.self (length c.items.result.now) was
-          c.in_ok-file.ensures.names c.in_ok-file.ensures.rest (ap length c.items.ensures) (omega arith) c.in_ok-count.ensures.counted c.in_ok-count.ensures.rest,
-      c.in_ok-file.ensures.number ∙ ap length was.names,
-    )
-
-pub returns-clause-kept : goal.returns-clause-kept
-returns-clause-kept g c which before was =
-    let read = c.in-Ok.ensures in
-    is_opened before c.args.name.now c.in-Ok.bytes c.args.progress.now c.enter.new.self c.count.new.self (length c.items.result.now) was
-    c.in_ok-file.ensures.names c.in_ok-file.ensures.rest (ap length c.items.ensures) (omega (arith, read.within)) c.in_ok-count.ensures.counted c.in_ok-count.ensures.rest
-
-pub returns-clause-there : goal.returns-clause-there
-returns-clause-there g c contents told are =
-    finds {T = List ℕ × ℕ} contents.files (Ok (c.in-Ok.bytes, c.in_ok-file.file)) _
-    (subst (λ p. AreThere contents.files p.names.items) (sym c.in_ok-count.ensures.rest)
-    (subst (AreThere contents.files) (sym c.in_ok-file.ensures.names)
-    (there_too contents.files c.args.progress.now.names.items c.args.name.now are (read_there _ contents c.args.name.now c.in-Ok.bytes told c.in-Ok.ensures.bytes))))
-
-pub returns-in-Err-Limit-clause-stopped : goal.returns-in-Err-Limit-clause-stopped
-returns-in-Err-Limit-clause-stopped g c which before was =
-    too_long before c.args.name.now c.in_ok-file.file c.past_at.result c.args.progress.now c.enter.new.self was
-    c.in_ok-file.ensures.number c.in_ok-file.ensures.names c.past_at.ensures
-
 pub returns-in_err-file-clause-calls : goal.returns-in_err-file-clause-calls
 returns-in_err-file-clause-calls g c = keeps_names _ c.in_err-file.ensures.unnamed
-
-pub returns-in-Err-Limit-clause-calls : goal.returns-in-Err-Limit-clause-calls
-returns-in-Err-Limit-clause-calls g c = keeps_read c.args.name.now _ c.in_ok-file.ensures.names c.read_all.ensures.calls
-
-pub returns-in-Err-Failed-clause-calls : goal.returns-in-Err-Failed-clause-calls
-returns-in-Err-Failed-clause-calls g c = keeps_read c.args.name.now _ c.in_ok-file.ensures.names c.read_all.ensures.calls
-
-pub returns-in-Err-OutOfMemory-clause-calls : goal.returns-in-Err-OutOfMemory-clause-calls
-returns-in-Err-OutOfMemory-clause-calls g c = keeps_read c.args.name.now _ c.in_ok-file.ensures.names c.read_all.ensures.calls
 
 pub returns-in_err-count-clause-calls : goal.returns-in_err-count-clause-calls
 returns-in_err-count-clause-calls g c =
     keeps_read c.args.name.now _ (ap (λ p. p.names.items) c.in_err-count.ensures.rest ∙ c.in_ok-file.ensures.names) c.read_all.ensures.calls
-
-pub returns-clause-calls : goal.returns-clause-calls
-returns-clause-calls g c =
-    keeps_read c.args.name.now _ (ap (λ p. p.names.items) c.in_ok-count.ensures.rest ∙ c.in_ok-file.ensures.names) c.read_all.ensures.calls
-
-pub returns-in-Err-Failed-clause-refused : goal.returns-in-Err-Failed-clause-refused
-returns-in-Err-Failed-clause-refused g c contents which before told was = entered_first before c.args.name.now c.args.progress.now c.enter.new.self was c.in_ok-file.ensures.names
-
-pub returns-in-Err-Failed-clause-stopped : goal.returns-in-Err-Failed-clause-stopped
-returns-in-Err-Failed-clause-stopped g c which before was = ([], entered_first before c.args.name.now c.args.progress.now c.enter.new.self was c.in_ok-file.ensures.names)
-
-pub returns-in-Err-OutOfMemory-clause-refused : goal.returns-in-Err-OutOfMemory-clause-refused
-returns-in-Err-OutOfMemory-clause-refused g c contents which before told was = entered_first before c.args.name.now c.args.progress.now c.enter.new.self was c.in_ok-file.ensures.names
-
-pub returns-in-Err-OutOfMemory-clause-stopped : goal.returns-in-Err-OutOfMemory-clause-stopped
-returns-in-Err-OutOfMemory-clause-stopped g c which before was = ([], entered_first before c.args.name.now c.args.progress.now c.enter.new.self was c.in_ok-file.ensures.names)
 
 pub returns-in_err-count-clause-stopped : goal.returns-in_err-count-clause-stopped
 returns-in_err-count-clause-stopped g c which before was =
@@ -88,34 +36,94 @@ returns-in_err-count-clause-there g c contents told are =
     (subst (AreThere contents.files) (sym c.in_ok-file.ensures.names)
     (there_too contents.files c.args.progress.now.names.items c.args.name.now are (read_there _ contents c.args.name.now c.in-Ok.bytes told c.in-Ok.ensures.bytes))))
 
-pub returns-in-Err-Limit-clause-there : goal.returns-in-Err-Limit-clause-there
-returns-in-Err-Limit-clause-there g c contents told are =
-    subst (AreThere contents.files) (sym c.in_ok-file.ensures.names)
-    (there_too contents.files c.args.progress.now.names.items c.args.name.now are (long_there _ contents c.args.name.now _ told (c.in-Err-Limit.ensures.limit (ap Err c.in-Err-Limit.field-0-is))))
-
-pub returns-clause-calm : goal.returns-clause-calm
-returns-clause-calm g c other = c.in-Ok.ensures.calm (read_no_fault _)
-
 pub returns-in_err-count-clause-calm : goal.returns-in_err-count-clause-calm
 returns-in_err-count-clause-calm g c other = c.in-Ok.ensures.calm (read_no_fault _)
 
-pub returns-in-Err-Limit-clause-calm : goal.returns-in-Err-Limit-clause-calm
-returns-in-Err-Limit-clause-calm g c other = c.in-Err-Limit.ensures.calm (long_no_fault _ c.in-Err-Limit.field-0-is)
+pub returns-in-Err-Failed : goal.returns-in-Err-Failed
+returns-in-Err-Failed g c = record {
+  opened = λ contents which before told was. tt;
+  kept = λ which before was. tt;
+  within = tt;
+  around = tt;
+  refused = λ contents which before told was. entered_first before c.args.name.now c.args.progress.now c.enter.new.self was c.in_ok-file.ensures.names;
+  stopped = λ which before was. ([], entered_first before c.args.name.now c.args.progress.now c.enter.new.self was c.in_ok-file.ensures.names);
+  there = λ contents told are. tt;
+  failed = λ is. c.in-Err-Failed.ensures.failed (ap Err c.in-Err-Failed.field-0-is);
+  calls = keeps_read c.args.name.now _ c.in_ok-file.ensures.names c.read_all.ensures.calls;
+  calm = λ other. absurd (other refl);
+  after = c.read_all.ensures.after;
+  begun = c.read_all.ensures.begun;
+  reads_count = c.read_all.ensures.reads_count;
+  writes_count = c.read_all.ensures.writes_count;
+}
 
-pub returns-in-Err-OutOfMemory-clause-calm : goal.returns-in-Err-OutOfMemory-clause-calm
-returns-in-Err-OutOfMemory-clause-calm g c other = c.in-Err-OutOfMemory.ensures.calm (wanting_no_fault _ c.in-Err-OutOfMemory.field-0-is)
+pub returns-in-Err-OutOfMemory : goal.returns-in-Err-OutOfMemory
+returns-in-Err-OutOfMemory g c = record {
+  opened = λ contents which before told was. tt;
+  kept = λ which before was. tt;
+  within = tt;
+  around = tt;
+  refused = λ contents which before told was. entered_first before c.args.name.now c.args.progress.now c.enter.new.self was c.in_ok-file.ensures.names;
+  stopped = λ which before was. ([], entered_first before c.args.name.now c.args.progress.now c.enter.new.self was c.in_ok-file.ensures.names);
+  there = λ contents told are. tt;
+  failed = λ is. absurd (no_fault _ faults.OutOfMemory refl is);
+  calls = keeps_read c.args.name.now _ c.in_ok-file.ensures.names c.read_all.ensures.calls;
+  calm = λ other. c.in-Err-OutOfMemory.ensures.calm (wanting_no_fault _ c.in-Err-OutOfMemory.field-0-is);
+  after = c.read_all.ensures.after;
+  begun = c.read_all.ensures.begun;
+  reads_count = c.read_all.ensures.reads_count;
+  writes_count = c.read_all.ensures.writes_count;
+}
 
-pub returns-in-Err-Failed-clause-calm : goal.returns-in-Err-Failed-clause-calm
-returns-in-Err-Failed-clause-calm g c other = absurd (other refl)
+pub returns-in-Err-Limit : goal.returns-in-Err-Limit
+returns-in-Err-Limit g c = record {
+  opened = λ contents which before told was. tt;
+  kept = λ which before was. tt;
+  within = tt;
+  around = tt;
+  refused = λ contents which before told was.
+      let long = content_long _ contents c.args.name.now _ told (c.in-Err-Limit.ensures.limit (ap Err c.in-Err-Limit.field-0-is)) in
+      long_at before c.args.name.now (content contents.files c.args.name.now) c.in_ok-file.file c.past_at.result c.args.progress.now c.enter.new.self was
+      c.in_ok-file.ensures.number c.in_ok-file.ensures.names c.past_at.ensures (subst (λ n. n < length (content contents.files c.args.name.now)) c.number.ensures long);
+  stopped = λ which before was.
+      too_long before c.args.name.now c.in_ok-file.file c.past_at.result c.args.progress.now c.enter.new.self was
+      c.in_ok-file.ensures.number c.in_ok-file.ensures.names c.past_at.ensures;
+  there = λ contents told are.
+      subst (AreThere contents.files) (sym c.in_ok-file.ensures.names)
+      (there_too contents.files c.args.progress.now.names.items c.args.name.now are (long_there _ contents c.args.name.now _ told (c.in-Err-Limit.ensures.limit (ap Err c.in-Err-Limit.field-0-is))));
+  failed = λ is. absurd (no_fault _ (faults.Refused c.past_at.result) refl is);
+  calls = keeps_read c.args.name.now _ c.in_ok-file.ensures.names c.read_all.ensures.calls;
+  calm = λ other. c.in-Err-Limit.ensures.calm (long_no_fault _ c.in-Err-Limit.field-0-is);
+  after = c.read_all.ensures.after;
+  begun = c.read_all.ensures.begun;
+  reads_count = c.read_all.ensures.reads_count;
+  writes_count = c.read_all.ensures.writes_count;
+}
 
-pub returns-clause-failed : goal.returns-clause-failed
-returns-clause-failed g c is = absurd (done_no_fault _ is)
-
-pub returns-in-Err-Limit-clause-failed : goal.returns-in-Err-Limit-clause-failed
-returns-in-Err-Limit-clause-failed g c is = absurd (no_fault _ (faults.Refused c.past_at.result) refl is)
-
-pub returns-in-Err-OutOfMemory-clause-failed : goal.returns-in-Err-OutOfMemory-clause-failed
-returns-in-Err-OutOfMemory-clause-failed g c is = absurd (no_fault _ faults.OutOfMemory refl is)
-
-pub returns-in-Err-Failed-clause-failed : goal.returns-in-Err-Failed-clause-failed
-returns-in-Err-Failed-clause-failed g c is = c.in-Err-Failed.ensures.failed (ap Err c.in-Err-Failed.field-0-is)
+pub returns : goal.returns
+returns g c = record {
+  opened = λ contents which before told was. (
+    content_is _ contents c.args.name.now c.in-Ok.bytes told c.in-Ok.ensures.bytes,
+    is_opened before c.args.name.now c.in-Ok.bytes c.args.progress.now c.enter.new.self c.count.new.self (length c.items.result.now) was
+      c.in_ok-file.ensures.names c.in_ok-file.ensures.rest (ap length c.items.ensures) (subst (λ n. length c.in-Ok.bytes ≤ n) c.number.ensures c.in-Ok.ensures.within) c.in_ok-count.ensures.counted c.in_ok-count.ensures.rest,
+    c.in_ok-file.ensures.number ∙ ap length was.names,
+  );
+  refused = λ contents which before told was. tt;
+  kept = λ which before was.
+      is_opened before c.args.name.now c.in-Ok.bytes c.args.progress.now c.enter.new.self c.count.new.self (length c.items.result.now) was
+      c.in_ok-file.ensures.names c.in_ok-file.ensures.rest (ap length c.items.ensures) (subst (λ n. length c.in-Ok.bytes ≤ n) c.number.ensures c.in-Ok.ensures.within) c.in_ok-count.ensures.counted c.in_ok-count.ensures.rest;
+  stopped = λ which before was. tt;
+  there = λ contents told are.
+      subst (λ p. AreThere contents.files p.names.items) (sym c.in_ok-count.ensures.rest)
+      (subst (AreThere contents.files) (sym c.in_ok-file.ensures.names)
+      (there_too contents.files c.args.progress.now.names.items c.args.name.now are (read_there _ contents c.args.name.now c.in-Ok.bytes told c.in-Ok.ensures.bytes)));
+  within = subst (λ n. length c.in-Ok.bytes ≤ n) c.number.ensures c.in-Ok.ensures.within;
+  around = ap (λ p. p.around.items) c.in_ok-count.ensures.rest ∙ c.in_ok-file.ensures.around;
+  failed = λ is. absurd (done_no_fault _ is);
+  calls = keeps_read c.args.name.now _ (ap (λ p. p.names.items) c.in_ok-count.ensures.rest ∙ c.in_ok-file.ensures.names) c.read_all.ensures.calls;
+  calm = λ other. c.in-Ok.ensures.calm (read_no_fault _);
+  after = c.read_all.ensures.after;
+  begun = c.read_all.ensures.begun;
+  reads_count = c.read_all.ensures.reads_count;
+  writes_count = c.read_all.ensures.writes_count;
+}
