@@ -7,21 +7,9 @@ use Rattle.cc_describe.specs.Places.{AreThere, Opened, Place, content}
 use Rattle.cc_describe.specs.ProgressViews.{IsProgress, OpensAsKept, halt_of}
 use Rattle.cc_describe.proofs.CallsKept.{keeps_as, keeps_more}
 use Rattle.cc_describe.proofs.SomePlaces.{Gone, barred_goes, opened_goes, opening_goes, refused_goes, said_goes, then_goes}
-use Rattle.cc_describe.proofs.Walk.{as_told, deeper, left_again, less_deep, none_below, same_fault, touched_again, up_through, AreInside, Midway, done_no_fault, later_are_tokens, progress_left, opening_stops, text_stops, told_as, no_fault, finds, finds_as, has_read, taken_as, refused_as, tells_still, midway_begins, midway_goes, midway_ends, midway_stops, statement_refused, statement_alone, statement_reads, statement_ends}
+use Rattle.cc_describe.proofs.Walk.{as_told, deeper, errs_on, left_again, less_deep, none_below, same_fault, touched_again, up_through, AreInside, Midway, done_no_fault, later_are_tokens, progress_left, opening_stops, text_stops, told_as, no_fault, finds, finds_as, has_read, taken_as, refused_as, tells_still, midway_begins, midway_goes, midway_ends, midway_stops, statement_refused, statement_alone, statement_reads, statement_ends}
 use Rattle.cc_describe.proofs.files.+read_file.Goals.{in-Some+then-deep-gt0+in_ok-read_file-in-Some, in-Some+else-deep-gt0, in-None}
 use Rattle.cc_describe.proofs.files.+read_file.Goals as goal
-
-pub returns-in_err-bytes-clause-gone : goal.returns-in_err-bytes-clause-gone
-returns-in_err-bytes-clause-gone g t c contents which before told was =
-    told_as which _ before c.from_residual.result _ _ c.from_residual.ensures.1
-    (opening_stops which c.cut_or_stop.ensures c.statements_are_tokens.ensures c.tree_or_refusal.ensures c.args.deep contents.files before c.args.name.now
-    c.args.progress.now.around.items _ _ (c.in_err-bytes.ensures.refused contents which before told was))
-
-pub returns-in-Err-clause-gone : goal.returns-in-Err-clause-gone
-returns-in-Err-clause-gone g t c contents which before told was =
-    let opened = c.in_ok-bytes.ensures.opened contents which before told was in
-    text_stops c.cut_or_stop.ensures c.statements_are_tokens.ensures c.tree_or_refusal.ensures c.args.deep contents.files before c.args.name.now c.in_ok-bytes.bytes c.items.result.now c.in_ok-bytes.file c.args.progress.now.around.items c.in-Err.fault c.from.result c.open.new.progress
-    opened.0 c.items.ensures c.from.ensures opened.1 opened.2 c.in-Err.ensures.refused
 
 pub loop-i-init : goal.loop-i-init
 loop-i-init g t c = record {
@@ -38,57 +26,6 @@ loop-i-init g t c = record {
   reads_count = c.open.ensures.reads_count;
   writes_count = c.open.ensures.writes_count;
 }
-
-pub returns-in_err-included-clause-gone : goal.returns-in_err-included-clause-gone
-returns-in_err-included-clause-gone g t c contents which before told was =
-    let opened = c.in_ok-bytes.ensures.opened contents which before told was in
-    let m = c.loop-i.invariant.gone contents which before told was in
-    let name = c.args.name.now in
-    let around = c.args.progress.now.around.items ++ name ∷ [] in
-    let statements = cut_at 0 c.tokens.inside.ends.items (token_views c.tokens.inside.tokens.items) in
-    let tokens = slice_index_or statements c.loop-i.i [] in
-    let mid = (before ++ Opened name (content contents.files name) ∷ []) ++ m.done in
-    let within : c.loop-i.i < length statements = subst (λ n. c.loop-i.i < n) (c.count-i-end.ensures ∙ ap length (sym c.tokens.view_is)) c.loop-i-test.true in
-    told_as which _ before c.from_residual-in_err-included.result _ _ c.from_residual-in_err-included.ensures.1
-    (midway_stops c.cut_or_stop.ensures c.statements_are_tokens.ensures c.tree_or_refusal.ensures c.args.progress.now.around.items c.take.new.self _ within (has_read _ _ _ _ _ c.items.ensures opened.0 c.tokens.view_is c.in-Ok.ensures.read) m
-    (statement_refused c.cut_or_stop.ensures c.statements_are_tokens.ensures c.tree_or_refusal.ensures c.args.deep contents.files around c.in_ok-bytes.file mid tokens _
-    c.loop-i.progress c.take.new.self
-    (later_are_tokens c.statements_are_tokens.ensures _ statements c.loop-i.i within (has_read _ _ _ _ _ c.items.ensures opened.0 c.tokens.view_is c.in-Ok.ensures.read)).0
-    m.kept c.in_err-included.ensures.names
-    (refused_as which mid c.in_ok-bytes.file _ around _ tokens _ c.loop-i.invariant.around
-    (c.statement.ensures.tokens ∙ ap (λ s. slice_index_or s c.loop-i.i []) (sym c.tokens.view_is)) (c.in_err-included.ensures.refused which mid m.kept))))
-
-pub returns-in_err-included-clause-failed : goal.returns-in_err-included-clause-failed
-returns-in_err-included-clause-failed g t c is =
-    absurd (no_fault c.from_residual-in_err-included.result _ c.from_residual-in_err-included.ensures.1 is)
-
-pub returns-clause-gone : goal.returns-clause-gone
-returns-clause-gone g t c contents which before told was =
-    let opened = c.in_ok-bytes.ensures.opened contents which before told was in
-    let m = c.loop-i.invariant.gone contents which before told was in
-    let statements = cut_at 0 c.tokens.inside.ends.items (token_views c.tokens.inside.tokens.items) in
-    let past : length statements ≤ c.loop-i.i = omega (arith, c.count-i-end.ensures, ap length c.tokens.view_is) in
-    midway_ends c.args.progress.now.around.items c.leave.new.self tt past
-    (has_read _ _ _ _ _ c.items.ensures opened.0 c.tokens.view_is c.in-Ok.ensures.read) m c.leave.ensures.rest
-
-pub returns-in_err-read_file-in-Some-clause-gone : goal.returns-in_err-read_file-in-Some-clause-gone
-returns-in_err-read_file-in-Some-clause-gone g t c contents which before told was =
-    let opened = c.in_ok-bytes.ensures.opened contents which before told was in
-    let m = c.loop-i.invariant.gone contents which before told was in
-    let name = c.args.name.now in
-    let around = c.args.progress.now.around.items ++ name ∷ [] in
-    let statements = cut_at 0 c.tokens.inside.ends.items (token_views c.tokens.inside.tokens.items) in
-    let tokens = slice_index_or statements c.loop-i.i [] in
-    let mid = (before ++ Opened name (content contents.files name) ∷ []) ++ m.done in
-    let within : c.loop-i.i < length statements = subst (λ n. c.loop-i.i < n) (c.count-i-end.ensures ∙ ap length (sym c.tokens.view_is)) c.loop-i-test.true in
-    let after = c.loop-i.invariant.told in
-    told_as which _ before c.from_residual-in_err-read_file-in-Some.result _ _ c.from_residual-in_err-read_file-in-Some.ensures.1
-    (midway_stops c.cut_or_stop.ensures c.statements_are_tokens.ensures c.tree_or_refusal.ensures c.args.progress.now.around.items c.read_file.new.progress _ within (has_read _ _ _ _ _ c.items.ensures opened.0 c.tokens.view_is c.in-Ok.ensures.read) m
-    (statement_reads c.args.deep contents.files around _ c.in_ok-bytes.file mid tokens c.in-Some.included.now (Err c.in_err-read_file-in-Some.field-0.0) c.take.new.self c.read_file.new.progress
-    c.if-deep-gt0.true (ap (λ a. a.items) c.in_ok-included.ensures.around ∙ c.loop-i.invariant.around)
-    (taken_as mid c.in_ok-bytes.file _ around _ tokens _ (Some c.in-Some.included.now) c.take.new.self c.loop-i.invariant.around
-    (c.statement.ensures.tokens ∙ ap (λ s. slice_index_or s c.loop-i.i []) (sym c.tokens.view_is)) (ap option_copied c.in-Some.is) (c.in_ok-included.ensures.taken which mid m.kept))
-    (λ more kept. c.in_err-read_file-in-Some.ensures.gone (with_rest after.0 contents) which more (tells_still after.0 _ _ contents after.1 told) kept)))
 
 pub loop-i-preserved : goal.loop-i-preserved
 loop-i-preserved g t c =
@@ -183,139 +120,6 @@ loop-i-preserved g t c =
           }
     ]
 
-pub returns-clause-kept : goal.returns-clause-kept
-returns-clause-kept g t c which before was =
-    let went = c.loop-i.invariant.kept which before was in
-    (went.0, tt, went.2, progress_left (before ++ went.0) _ c.leave.new.self went.3 c.leave.ensures.rest)
-
-pub returns-in_err-bytes-clause-kept : goal.returns-in_err-bytes-clause-kept
-returns-in_err-bytes-clause-kept g t c which before was =
-    let stopped = c.in_err-bytes.ensures.stopped which before was in
-    told_as which (λ places. Unit {0}) before c.from_residual.result _ _ c.from_residual.ensures.1 (opening_goes which before c.args.name.now stopped.0 _ c.open.new.progress stopped.1)
-
-pub returns-in-Err-clause-kept : goal.returns-in-Err-clause-kept
-returns-in-Err-clause-kept g t c which before was =
-    then_goes before c.open.new.progress c.open.new.progress (Err c.from.result) (opened_goes before c.args.name.now c.in_ok-bytes.bytes _ (c.in_ok-bytes.ensures.kept which before was))
-    (λ more kept. barred_goes more c.in-Err.fault c.from.result c.open.new.progress c.from.ensures kept)
-
-pub returns-in_err-included-clause-kept : goal.returns-in_err-included-clause-kept
-returns-in_err-included-clause-kept g t c which before was =
-    told_as which (λ places. Unit {0}) before c.from_residual-in_err-included.result _ _ c.from_residual-in_err-included.ensures.1
-    (then_goes before c.loop-i.progress c.take.new.self (Err (halt_of c.in_err-included.field-0.0)) (c.loop-i.invariant.kept which before was)
-    (λ more kept. refused_goes more c.in_ok-bytes.file c.loop-i.progress.around.items (token_views c.statement.result.now) c.in_err-included.field-0.0 c.loop-i.progress c.take.new.self kept c.in_err-included.ensures.names (c.in_err-included.ensures.refused which more kept)))
-
-pub returns-in_err-read_file-in-Some-clause-kept : goal.returns-in_err-read_file-in-Some-clause-kept
-returns-in_err-read_file-in-Some-clause-kept g t c which before was =
-    let went : Gone which before c.take.new.self = then_goes before c.loop-i.progress c.take.new.self (Ok (tt {0})) (c.loop-i.invariant.kept which before was)
-    (λ more kept. let taken = c.in_ok-included.ensures.taken which more kept in said_goes more c.in_ok-bytes.file c.loop-i.progress.around.items taken.0 c.take.new.self taken.3) in
-    told_as which (λ places. Unit {0}) before c.from_residual-in_err-read_file-in-Some.result _ _ c.from_residual-in_err-read_file-in-Some.ensures.1
-    (then_goes before c.take.new.self c.read_file.new.progress (Err c.in_err-read_file-in-Some.field-0.0) went (c.in_err-read_file-in-Some.ensures.kept which))
-
-pub returns-in_err-bytes-clause-there : goal.returns-in_err-bytes-clause-there
-returns-in_err-bytes-clause-there g t c contents told are =
-    finds_as (List ℕ × ℕ) contents.files c.from_residual.result _ _ c.from_residual.ensures.1 (c.in_err-bytes.ensures.there contents told are)
-
-pub returns-in-Err-clause-there : goal.returns-in-Err-clause-there
-returns-in-Err-clause-there g t c contents told are = finds {T = Unit {0}} contents.files (Err c.from.result) _ (c.in_ok-bytes.ensures.there contents told are)
-
-pub returns-in_err-included-clause-there : goal.returns-in_err-included-clause-there
-returns-in_err-included-clause-there g t c contents told are =
-    finds contents.files c.from_residual-in_err-included.result _
-    (subst (λ l. AreThere contents.files l.items) (sym c.in_err-included.ensures.names) (c.loop-i.invariant.there contents told are))
-
-pub returns-in_err-read_file-in-Some-clause-there : goal.returns-in_err-read_file-in-Some-clause-there
-returns-in_err-read_file-in-Some-clause-there g t c contents told are =
-    let after = c.loop-i.invariant.told in
-    finds_as (Unit {0}) contents.files c.from_residual-in_err-read_file-in-Some.result _ _ c.from_residual-in_err-read_file-in-Some.ensures.1
-    (c.in_err-read_file-in-Some.ensures.there (with_rest after.0 contents) (tells_still after.0 _ _ contents after.1 told)
-    (subst (λ l. AreThere contents.files l.items) (sym c.in_ok-included.ensures.names) (c.loop-i.invariant.there contents told are)))
-
-pub returns-clause-there : goal.returns-clause-there
-returns-clause-there g t c contents told are =
-    subst (λ p. AreThere contents.files p.names.items) (sym c.leave.ensures.rest) (c.loop-i.invariant.there contents told are)
-
-pub returns-in_err-bytes-clause-calls : goal.returns-in_err-bytes-clause-calls
-returns-in_err-bytes-clause-calls g t c = c.open.ensures.calls
-
-pub returns-in-Err-clause-calls : goal.returns-in-Err-clause-calls
-returns-in-Err-clause-calls g t c = c.open.ensures.calls
-
-pub returns-in_err-included-clause-calls : goal.returns-in_err-included-clause-calls
-returns-in_err-included-clause-calls g t c = keeps_as c.loop-i.invariant.calls (ap (λ l. l.items) c.in_err-included.ensures.names)
-
-pub returns-in_err-read_file-in-Some-clause-calls : goal.returns-in_err-read_file-in-Some-clause-calls
-returns-in_err-read_file-in-Some-clause-calls g t c =
-    keeps_more (keeps_as c.loop-i.invariant.calls (ap (λ l. l.items) c.in_ok-included.ensures.names)) c.in_err-read_file-in-Some.ensures.calls
-
-pub returns-clause-calls : goal.returns-clause-calls
-returns-clause-calls g t c = keeps_as c.loop-i.invariant.calls (ap (λ p. p.names.items) c.leave.ensures.rest)
-
-pub returns-in_err-included-clause-begun : goal.returns-in_err-included-clause-begun
-returns-in_err-included-clause-begun g t c = c.loop-i.invariant.begun
-
-pub returns-in_err-included-clause-reads_count : goal.returns-in_err-included-clause-reads_count
-returns-in_err-included-clause-reads_count g t c = c.loop-i.invariant.reads_count
-
-pub returns-in_err-included-clause-writes_count : goal.returns-in_err-included-clause-writes_count
-returns-in_err-included-clause-writes_count g t c = c.loop-i.invariant.writes_count
-
-pub returns-in_err-included-clause-after : goal.returns-in_err-included-clause-after
-returns-in_err-included-clause-after g t c = c.loop-i.invariant.told
-
-pub returns-in_err-included-clause-calm : goal.returns-in_err-included-clause-calm
-returns-in_err-included-clause-calm g t c other = c.loop-i.invariant.calm
-
-pub returns-clause-begun : goal.returns-clause-begun
-returns-clause-begun g t c = c.loop-i.invariant.begun
-
-pub returns-clause-reads_count : goal.returns-clause-reads_count
-returns-clause-reads_count g t c = c.loop-i.invariant.reads_count
-
-pub returns-clause-writes_count : goal.returns-clause-writes_count
-returns-clause-writes_count g t c = c.loop-i.invariant.writes_count
-
-pub returns-clause-after : goal.returns-clause-after
-returns-clause-after g t c = c.loop-i.invariant.told
-
-pub returns-clause-calm : goal.returns-clause-calm
-returns-clause-calm g t c other = c.loop-i.invariant.calm
-
-pub returns-clause-failed : goal.returns-clause-failed
-returns-clause-failed g t c is = absurd (done_no_fault _ is)
-
-pub returns-in-Err-clause-failed : goal.returns-in-Err-clause-failed
-returns-in-Err-clause-failed g t c is = absurd (no_fault _ c.in-Err.fault c.from.ensures is)
-
-pub returns-in-Err-clause-calm : goal.returns-in-Err-clause-calm
-returns-in-Err-clause-calm g t c other = c.in_ok-bytes.ensures.calm (done_no_fault _)
-
-pub returns-in_err-bytes-clause-calm : goal.returns-in_err-bytes-clause-calm
-returns-in_err-bytes-clause-calm g t c other = c.in_err-bytes.ensures.calm (λ fault. other (same_fault c.from_residual.result _ c.from_residual.ensures.1 fault))
-
-pub returns-in_err-read_file-in-Some-clause-after : goal.returns-in_err-read_file-in-Some-clause-after
-returns-in_err-read_file-in-Some-clause-after g t c = let first = c.loop-i.invariant.told in let second = c.read_file.ensures.after in touched_again first.0 _ _ _ first.1 second.0 second.1
-
-pub returns-in_err-read_file-in-Some-clause-begun : goal.returns-in_err-read_file-in-Some-clause-begun
-returns-in_err-read_file-in-Some-clause-begun g t c = c.read_file.ensures.begun ∙ c.loop-i.invariant.begun
-
-pub returns-in_err-read_file-in-Some-clause-reads_count : goal.returns-in_err-read_file-in-Some-clause-reads_count
-returns-in_err-read_file-in-Some-clause-reads_count g t c = up_through c.loop-i.invariant.reads_count c.read_file.ensures.reads_count
-
-pub returns-in_err-read_file-in-Some-clause-writes_count : goal.returns-in_err-read_file-in-Some-clause-writes_count
-returns-in_err-read_file-in-Some-clause-writes_count g t c = up_through c.loop-i.invariant.writes_count c.read_file.ensures.writes_count
-
-pub returns-in_err-read_file-in-Some-clause-calm : goal.returns-in_err-read_file-in-Some-clause-calm
-returns-in_err-read_file-in-Some-clause-calm g t c other =
-    let read = c.in_err-read_file-in-Some.ensures.calm (λ fault. other (same_fault c.from_residual-in_err-read_file-in-Some.result _ c.from_residual-in_err-read_file-in-Some.ensures.1 fault)) in
-    (read.0 ∙ c.loop-i.invariant.calm.0, read.1 ∙ c.loop-i.invariant.calm.1)
-
-pub returns-in_err-read_file-in-Some-clause-failed : goal.returns-in_err-read_file-in-Some-clause-failed
-returns-in_err-read_file-in-Some-clause-failed g t c is =
-    subst (λ n. Rose n (g.D.Desk.seen c.read_file.new.desk).reads) c.loop-i.invariant.calm.0 (c.in_err-read_file-in-Some.ensures.failed (as_told c.from_residual-in_err-read_file-in-Some.result _ c.from_residual-in_err-read_file-in-Some.ensures.1 is))
-
-pub returns-clause-around : goal.returns-clause-around
-returns-clause-around g t c = left_again c.args.progress.now.around.items c.args.name.now c.loop-i.invariant.around c.leave.ensures.around
-
 pub take-requires-clause-are : goal.take-requires-clause-are
 take-requires-clause-are g t c = c.statement.ensures.are _ c.in-Ok.ensures.read
 
@@ -325,3 +129,143 @@ overflow_sub-deep g t c = c.if-deep-gt0.true
 pub read_file-requires : goal.read_file-requires
 read_file-requires g t c k lives =
     (less_deep c.if-deep-gt0.true c.requires.1.0, (lives, deeper c.args.progress.now.around.items c.args.name.now c.if-deep-gt0.true (ap (λ a. a.items) c.in_ok-included.ensures.around ∙ c.loop-i.invariant.around) c.requires.1.1.1))
+
+pub returns-in_err-bytes : goal.returns-in_err-bytes
+returns-in_err-bytes g t c = record {
+  gone = λ contents which before told was.
+      told_as which _ before c.from_residual.result _ _ c.from_residual.ensures.1
+      (opening_stops which c.cut_or_stop.ensures c.statements_are_tokens.ensures c.tree_or_refusal.ensures c.args.deep contents.files before c.args.name.now
+      c.args.progress.now.around.items _ _ (c.in_err-bytes.ensures.refused contents which before told was));
+  kept = λ which before was.
+      let stopped = c.in_err-bytes.ensures.stopped which before was in
+      told_as which (λ places. Unit {0}) before c.from_residual.result _ _ c.from_residual.ensures.1 (opening_goes which before c.args.name.now stopped.0 _ c.open.new.progress stopped.1);
+  there = λ contents told are. finds_as (List ℕ × ℕ) contents.files c.from_residual.result _ _ c.from_residual.ensures.1 (c.in_err-bytes.ensures.there contents told are);
+  around = errs_on _ c.from_residual.result _ c.from_residual.ensures.1;
+  failed = λ is. c.in_err-bytes.ensures.failed (as_told c.from_residual.result _ c.from_residual.ensures.1 is);
+  after = c.open.ensures.after;
+  begun = c.open.ensures.begun;
+  calls = c.open.ensures.calls;
+  calm = λ other. c.in_err-bytes.ensures.calm (λ fault. other (same_fault c.from_residual.result _ c.from_residual.ensures.1 fault));
+  reads_count = c.open.ensures.reads_count;
+  writes_count = c.open.ensures.writes_count;
+}
+
+pub returns-in-Err : goal.returns-in-Err
+returns-in-Err g t c = record {
+  gone = λ contents which before told was.
+      let opened = c.in_ok-bytes.ensures.opened contents which before told was in
+      text_stops c.cut_or_stop.ensures c.statements_are_tokens.ensures c.tree_or_refusal.ensures c.args.deep contents.files before c.args.name.now c.in_ok-bytes.bytes c.items.result.now c.in_ok-bytes.file c.args.progress.now.around.items c.in-Err.fault c.from.result c.open.new.progress
+      opened.0 c.items.ensures c.from.ensures opened.1 opened.2 c.in-Err.ensures.refused;
+  kept = λ which before was.
+      then_goes before c.open.new.progress c.open.new.progress (Err c.from.result) (opened_goes before c.args.name.now c.in_ok-bytes.bytes _ (c.in_ok-bytes.ensures.kept which before was))
+      (λ more kept. barred_goes more c.in-Err.fault c.from.result c.open.new.progress c.from.ensures kept);
+  there = λ contents told are. finds {T = Unit {0}} contents.files (Err c.from.result) _ (c.in_ok-bytes.ensures.there contents told are);
+  around = tt;
+  failed = λ is. absurd (no_fault _ c.in-Err.fault c.from.ensures is);
+  after = c.open.ensures.after;
+  begun = c.open.ensures.begun;
+  calls = c.open.ensures.calls;
+  calm = λ other. c.in_ok-bytes.ensures.calm (done_no_fault _);
+  reads_count = c.open.ensures.reads_count;
+  writes_count = c.open.ensures.writes_count;
+}
+
+pub returns-in_err-included : goal.returns-in_err-included
+returns-in_err-included g t c = record {
+  gone = λ contents which before told was.
+      let opened = c.in_ok-bytes.ensures.opened contents which before told was in
+      let m = c.loop-i.invariant.gone contents which before told was in
+      let name = c.args.name.now in
+      let around = c.args.progress.now.around.items ++ name ∷ [] in
+      let statements = cut_at 0 c.tokens.inside.ends.items (token_views c.tokens.inside.tokens.items) in
+      let tokens = slice_index_or statements c.loop-i.i [] in
+      let mid = (before ++ Opened name (content contents.files name) ∷ []) ++ m.done in
+      let within : c.loop-i.i < length statements = subst (λ n. c.loop-i.i < n) (c.count-i-end.ensures ∙ ap length (sym c.tokens.view_is)) c.loop-i-test.true in
+      told_as which _ before c.from_residual-in_err-included.result _ _ c.from_residual-in_err-included.ensures.1
+      (midway_stops c.cut_or_stop.ensures c.statements_are_tokens.ensures c.tree_or_refusal.ensures c.args.progress.now.around.items c.take.new.self _ within (has_read _ _ _ _ _ c.items.ensures opened.0 c.tokens.view_is c.in-Ok.ensures.read) m
+      (statement_refused c.cut_or_stop.ensures c.statements_are_tokens.ensures c.tree_or_refusal.ensures c.args.deep contents.files around c.in_ok-bytes.file mid tokens _
+      c.loop-i.progress c.take.new.self
+      (later_are_tokens c.statements_are_tokens.ensures _ statements c.loop-i.i within (has_read _ _ _ _ _ c.items.ensures opened.0 c.tokens.view_is c.in-Ok.ensures.read)).0
+      m.kept c.in_err-included.ensures.names
+      (refused_as which mid c.in_ok-bytes.file _ around _ tokens _ c.loop-i.invariant.around
+      (c.statement.ensures.tokens ∙ ap (λ s. slice_index_or s c.loop-i.i []) (sym c.tokens.view_is)) (c.in_err-included.ensures.refused which mid m.kept))));
+  kept = λ which before was.
+      told_as which (λ places. Unit {0}) before c.from_residual-in_err-included.result _ _ c.from_residual-in_err-included.ensures.1
+      (then_goes before c.loop-i.progress c.take.new.self (Err (halt_of c.in_err-included.field-0.0)) (c.loop-i.invariant.kept which before was)
+      (λ more kept. refused_goes more c.in_ok-bytes.file c.loop-i.progress.around.items (token_views c.statement.result.now) c.in_err-included.field-0.0 c.loop-i.progress c.take.new.self kept c.in_err-included.ensures.names (c.in_err-included.ensures.refused which more kept)));
+  there = λ contents told are.
+      finds contents.files c.from_residual-in_err-included.result _
+      (subst (λ l. AreThere contents.files l.items) (sym c.in_err-included.ensures.names) (c.loop-i.invariant.there contents told are));
+  around = errs_on _ c.from_residual-in_err-included.result _ c.from_residual-in_err-included.ensures.1;
+  failed = λ is. absurd (no_fault c.from_residual-in_err-included.result _ c.from_residual-in_err-included.ensures.1 is);
+  after = c.loop-i.invariant.told;
+  begun = c.loop-i.invariant.begun;
+  calls = keeps_as c.loop-i.invariant.calls (ap (λ l. l.items) c.in_err-included.ensures.names);
+  calm = λ other. c.loop-i.invariant.calm;
+  reads_count = c.loop-i.invariant.reads_count;
+  writes_count = c.loop-i.invariant.writes_count;
+}
+
+pub returns-in_err-read_file-in-Some : goal.returns-in_err-read_file-in-Some
+returns-in_err-read_file-in-Some g t c = record {
+  gone = λ contents which before told was.
+      let opened = c.in_ok-bytes.ensures.opened contents which before told was in
+      let m = c.loop-i.invariant.gone contents which before told was in
+      let name = c.args.name.now in
+      let around = c.args.progress.now.around.items ++ name ∷ [] in
+      let statements = cut_at 0 c.tokens.inside.ends.items (token_views c.tokens.inside.tokens.items) in
+      let tokens = slice_index_or statements c.loop-i.i [] in
+      let mid = (before ++ Opened name (content contents.files name) ∷ []) ++ m.done in
+      let within : c.loop-i.i < length statements = subst (λ n. c.loop-i.i < n) (c.count-i-end.ensures ∙ ap length (sym c.tokens.view_is)) c.loop-i-test.true in
+      let after = c.loop-i.invariant.told in
+      told_as which _ before c.from_residual-in_err-read_file-in-Some.result _ _ c.from_residual-in_err-read_file-in-Some.ensures.1
+      (midway_stops c.cut_or_stop.ensures c.statements_are_tokens.ensures c.tree_or_refusal.ensures c.args.progress.now.around.items c.read_file.new.progress _ within (has_read _ _ _ _ _ c.items.ensures opened.0 c.tokens.view_is c.in-Ok.ensures.read) m
+      (statement_reads c.args.deep contents.files around _ c.in_ok-bytes.file mid tokens c.in-Some.included.now (Err c.in_err-read_file-in-Some.field-0.0) c.take.new.self c.read_file.new.progress
+      c.if-deep-gt0.true (ap (λ a. a.items) c.in_ok-included.ensures.around ∙ c.loop-i.invariant.around)
+      (taken_as mid c.in_ok-bytes.file _ around _ tokens _ (Some c.in-Some.included.now) c.take.new.self c.loop-i.invariant.around
+      (c.statement.ensures.tokens ∙ ap (λ s. slice_index_or s c.loop-i.i []) (sym c.tokens.view_is)) (ap option_copied c.in-Some.is) (c.in_ok-included.ensures.taken which mid m.kept))
+      (λ more kept. c.in_err-read_file-in-Some.ensures.gone (with_rest after.0 contents) which more (tells_still after.0 _ _ contents after.1 told) kept)));
+  kept = λ which before was.
+      let went : Gone which before c.take.new.self = then_goes before c.loop-i.progress c.take.new.self (Ok (tt {0})) (c.loop-i.invariant.kept which before was)
+      (λ more kept. let taken = c.in_ok-included.ensures.taken which more kept in said_goes more c.in_ok-bytes.file c.loop-i.progress.around.items taken.0 c.take.new.self taken.3) in
+      told_as which (λ places. Unit {0}) before c.from_residual-in_err-read_file-in-Some.result _ _ c.from_residual-in_err-read_file-in-Some.ensures.1
+      (then_goes before c.take.new.self c.read_file.new.progress (Err c.in_err-read_file-in-Some.field-0.0) went (c.in_err-read_file-in-Some.ensures.kept which));
+  there = λ contents told are.
+      let after = c.loop-i.invariant.told in
+      finds_as (Unit {0}) contents.files c.from_residual-in_err-read_file-in-Some.result _ _ c.from_residual-in_err-read_file-in-Some.ensures.1
+      (c.in_err-read_file-in-Some.ensures.there (with_rest after.0 contents) (tells_still after.0 _ _ contents after.1 told)
+      (subst (λ l. AreThere contents.files l.items) (sym c.in_ok-included.ensures.names) (c.loop-i.invariant.there contents told are)));
+  around = errs_on _ c.from_residual-in_err-read_file-in-Some.result _ c.from_residual-in_err-read_file-in-Some.ensures.1;
+  failed = λ is. subst (λ n. Rose n (g.D.Desk.seen c.read_file.new.desk).reads) c.loop-i.invariant.calm.0 (c.in_err-read_file-in-Some.ensures.failed (as_told c.from_residual-in_err-read_file-in-Some.result _ c.from_residual-in_err-read_file-in-Some.ensures.1 is));
+  after = let first = c.loop-i.invariant.told in let second = c.read_file.ensures.after in touched_again first.0 _ _ _ first.1 second.0 second.1;
+  begun = c.read_file.ensures.begun ∙ c.loop-i.invariant.begun;
+  calls = keeps_more (keeps_as c.loop-i.invariant.calls (ap (λ l. l.items) c.in_ok-included.ensures.names)) c.in_err-read_file-in-Some.ensures.calls;
+  calm = λ other.
+      let read = c.in_err-read_file-in-Some.ensures.calm (λ fault. other (same_fault c.from_residual-in_err-read_file-in-Some.result _ c.from_residual-in_err-read_file-in-Some.ensures.1 fault)) in
+      (read.0 ∙ c.loop-i.invariant.calm.0, read.1 ∙ c.loop-i.invariant.calm.1);
+  reads_count = up_through c.loop-i.invariant.reads_count c.read_file.ensures.reads_count;
+  writes_count = up_through c.loop-i.invariant.writes_count c.read_file.ensures.writes_count;
+}
+
+pub returns : goal.returns
+returns g t c = record {
+  gone = λ contents which before told was.
+      let opened = c.in_ok-bytes.ensures.opened contents which before told was in
+      let m = c.loop-i.invariant.gone contents which before told was in
+      let statements = cut_at 0 c.tokens.inside.ends.items (token_views c.tokens.inside.tokens.items) in
+      let past : length statements ≤ c.loop-i.i = omega (arith, c.count-i-end.ensures, ap length c.tokens.view_is) in
+      midway_ends c.args.progress.now.around.items c.leave.new.self tt past
+      (has_read _ _ _ _ _ c.items.ensures opened.0 c.tokens.view_is c.in-Ok.ensures.read) m c.leave.ensures.rest;
+  kept = λ which before was.
+      let went = c.loop-i.invariant.kept which before was in
+      (went.0, tt, went.2, progress_left (before ++ went.0) _ c.leave.new.self went.3 c.leave.ensures.rest);
+  there = λ contents told are. subst (λ p. AreThere contents.files p.names.items) (sym c.leave.ensures.rest) (c.loop-i.invariant.there contents told are);
+  around = left_again c.args.progress.now.around.items c.args.name.now c.loop-i.invariant.around c.leave.ensures.around;
+  failed = λ is. absurd (done_no_fault _ is);
+  after = c.loop-i.invariant.told;
+  begun = c.loop-i.invariant.begun;
+  calls = keeps_as c.loop-i.invariant.calls (ap (λ p. p.names.items) c.leave.ensures.rest);
+  calm = λ other. c.loop-i.invariant.calm;
+  reads_count = c.loop-i.invariant.reads_count;
+  writes_count = c.loop-i.invariant.writes_count;
+}
