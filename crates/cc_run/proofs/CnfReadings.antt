@@ -1,5 +1,5 @@
 -- A CNF whose text, or whose clause list, is refused.
-use Rattle.std.proofs.Common.{Err, Result, ◌≡◌, sym, subst, ◌≤◌, List, [], ◌∷◌, ℕ, Option, Some, None, IfSome, length, refl, inr}
+use Rattle.std.proofs.Common.{Err, Result, ◌≡◌, sym, subst, ◌≤◌, List, [], ◌∷◌, ℕ, Option, Some, None, IfSome, length, refl, inr, Err}
 use Rattle.std.specs.Prelude.{IsErrOf}
 use Rattle.cc_defs.specs.declared.refusal.Fault.TheVariants as faults
 use Rattle.cc_defs.specs.declared.refusal.LimitAt.TheVariants as limits
@@ -8,6 +8,8 @@ use Rattle.cc_defs.specs.Limits.{limit_number}
 use Rattle.cc_defs.specs.Sections.{Axioms}
 use Rattle.cc_describe.specs.FirstRefusal.{file_named}
 use Rattle.cc_ports.specs.Contents.{Contents}
+use Rattle.cc_ports.specs.declared.whole.ReadStop.{ReadStop}
+use Rattle.cc_ports.specs.declared.whole.ReadStop.TheVariants as read_stops
 use Rattle.cc_run.specs.declared.cnfs.CnfStop.{CnfStop}
 use Rattle.cc_run.specs.declared.cnfs.CnfStop.TheVariants as stops
 use Rattle.cc_run.specs.CnfForms.{IsFormFault}
@@ -39,3 +41,20 @@ unformed stop = Err stop
 
 pub refused_is_no_fault : (stop : CnfStop) (refusal : Refusal) → stop ≡ stops.Refused refusal → IsErrOf (unformed stop) stops.ReadFault → ⊥
 refused_is_no_fault stop refusal is fault = cc
+
+-- ---- why there is none
+
+pub fault_refuses_none : (refusal : Refusal) → stops.ReadFault ≡ stops.Refused refusal → ⊥
+fault_refuses_none refusal is = absurd cc
+
+pub memory_refuses_none : (refusal : Refusal) → stops.OutOfMemory ≡ stops.Refused refusal → ⊥
+memory_refuses_none refusal is = absurd cc
+
+pub memory_is_no_fault : (T : Type 0) → IsErrOf {T = T} (Err stops.OutOfMemory) stops.ReadFault → ⊥
+memory_is_no_fault T is = absurd cc
+
+pub refused_no_fault : (T : Type 0) (refusal : Refusal) → IsErrOf {T = T} (Err (stops.Refused refusal)) stops.ReadFault → ⊥
+refused_no_fault T refusal is = absurd cc
+
+pub memory_unread : (T : Type 0) (stop : ReadStop) → stop ≡ read_stops.OutOfMemory → IsErrOf {T = T} (Err stop) read_stops.Failed → ⊥
+memory_unread T stop is fault = absurd cc
