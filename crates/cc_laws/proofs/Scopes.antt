@@ -1,6 +1,6 @@
 -- What a place of a formula sees, as the code keeps it.
 use Rattle.std.proofs.Common.{◌≡◌, ◌∙◌, ℕ, ◌+◌, ◌-◌, ◌<◌, ◌≤◌, ◌==◌, List, [], ◌∷◌, ◌++◌, length, drop, get_or, Option, Some, if◌then◌else◌, arith, refl, sym, ap, subst, take}
-use Rattle.std.proofs.lemmas.List.{at_drop_more, length_push, take_at}
+use Rattle.std.proofs.lemmas.List.{at_drop_more, length_push, take_at, at_drop_all}
 use Rattle.cc_laws.specs.declared.names.Binding.{Binding as KeptBinding}
 use Rattle.cc_laws.specs.Resolving.{Binding, number_in, numbered_from}
 use Rattle.cc_laws.specs.Views.{plain_binding, inside}
@@ -52,3 +52,9 @@ popped old pushed new x count all e q =
 
 pub counted_on : (n m a b c : ℕ) → n ≡ m + c → m ≡ a + b → n ≡ a + (b + c)
 counted_on n m a b c e q = omega (arith, e, q)
+
+pub counted_all : {X : Type 0} (count : List X → ℕ) (xs : List X) (i next total : ℕ) → count [] ≡ 0 → length xs ≤ i → next + count (drop i xs) ≡ total → next ≡ total
+counted_all count xs i next total none past so = let e = at_drop_all count xs i past ∙ none in omega (arith, e, so)
+
+pub none_counted : (n m : ℕ) → m ≡ 0 → n ≡ n + m
+none_counted n m e = omega (arith, e)

@@ -1,13 +1,16 @@
 -- The base laws of a law, by what it is short for.
 use Rattle.std.proofs.Common.{◌≡◌, Bool, List, true, false, Option, Some, None, [], ◌∷◌, ◌∙◌, refl, sym, ap}
 use Rattle.cc_defs.specs.Resolved.{BaseLaw}
-use Rattle.cc_defs.specs.Trees.{PlainLaw, PlainTree}
+use Rattle.cc_defs.specs.Trees.{PlainLaw, PlainTree, plain_law}
 use Rattle.cc_defs.specs.Trees as trees
 use Rattle.cc_laws.specs.Expansion.{Caused, Frame, effect, laws_with, split}
 use Rattle.cc_laws.specs.FormulaFaults.{is_fluent_formula}
 use Rattle.cc_laws.specs.Shortened.{is_later, is_short, law_short_for, other_laws, short_with}
 use Rattle.cc_laws.specs.Vocabulary.{Vocabulary}
 use Rattle.cc_laws.specs.Widening.{whole_law, whole_of, whole_short}
+use Rattle.cc_defs.specs.declared.tree.LawTree.{LawTree}
+use Rattle.cc_defs.specs.declared.tree.TermTree.{TermTree}
+use Rattle.cc_defs.specs.declared.tree.LawTree.TheVariants as kept
 
 effect_is : (later : Bool) (a f : PlainTree) (g : Option PlainTree) → short_with later (trees.Causes a f g) ≡ effect later a f g
 effect_is true a f g = refl
@@ -75,3 +78,15 @@ whole_head v frame law later head e q =
     ap (whole_of v frame (short_with later law)) (sym q)
     ∙ ap (λ (b : Bool). whole_of v frame (short_with b law) (short_with b law).head) e
     ∙ whole_shortened v frame law
+
+pub none_of_others : (v : Vocabulary) (frame : Frame) (law : LawTree) → ((c : TermTree) → law ≡ kept.Exogenous c → ⊥) → ((c : TermTree) → law ≡ kept.Inertial c → ⊥) → (law ≡ kept.NoConcurrency → ⊥) → [] ≡ other_laws v frame (plain_law law)
+none_of_others v frame (kept.Caused f g h) e i n = refl
+none_of_others v frame (kept.Constraint f) e i n = refl
+none_of_others v frame (kept.Always f) e i n = refl
+none_of_others v frame (kept.Nonexecutable f g) e i n = refl
+none_of_others v frame (kept.Default f g h) e i n = refl
+none_of_others v frame (kept.Exogenous c) e i n = absurd (e c refl)
+none_of_others v frame (kept.Inertial c) e i n = absurd (i c refl)
+none_of_others v frame (kept.Causes a f g) e i n = refl
+none_of_others v frame (kept.MayCause a f g) e i n = refl
+none_of_others v frame kept.NoConcurrency e i n = absurd (n refl)

@@ -1,5 +1,5 @@
 -- What is known of what was made, where it was put behind others.
-use Rattle.std.proofs.Common.{◌≡◌, ◌∙◌, List, [], ◌∷◌, ◌++◌, map, Option, Some, Result, Ok, Err, IfOk, IsOk, OnOk, ap, sym, subst}
+use Rattle.std.proofs.Common.{◌≡◌, ◌∙◌, List, [], ◌∷◌, ◌++◌, map, Option, Some, Result, Ok, Err, IfOk, IsOk, OnOk, ap, sym, subst, ◌⊎◌, inl, inr, append_assoc}
 use Rattle.std.specs.Prelude.{IsErr, option_map}
 use Rattle.std.specs.Result.{MatchResult}
 use Rattle.std.proofs.lemmas.List.{map-append}
@@ -40,3 +40,12 @@ some_as plain made result z w same e q = subst (λ v. IfOk result (λ part. opti
 -- in a box
 pub in_box : {X E : Type 0} (P : X → Type 0) (made : Result X E) (boxed : Result (Box X) E) (box : Box X) → boxed ≡ Ok box → IfOk boxed (λ place. made ≡ Ok place.value) → IfOk made P → P box.value
 in_box P made boxed box is put so = subst (λ r. IfOk r P) (subst (λ r. IfOk r (λ place. made ≡ Ok place.value)) is put) so
+
+pub by_either : {X : Type 0} (P : X → Type 0) (x a b : X) → (x ≡ a) ⊎ (x ≡ b) → P a → P b → P x
+by_either P x a b (inl e) p q = subst P (sym e) p
+by_either P x a b (inr e) p q = subst P (sym e) q
+
+-- what was added behind what had been added
+pub appended : {X Y E : Type 0} (done : Result Y E) (found one two first second whole : List X) → one ≡ found ++ first → OnOk done (two ≡ one ++ second) → first ++ second ≡ whole → OnOk done (two ≡ found ++ whole)
+appended {X = X} (Ok x) found one two first second whole e last are = last ∙ ap (λ (w : List X). w ++ second) e ∙ append_assoc found first second ∙ ap (λ (w : List X). found ++ w) are
+appended (Err error) found one two first second whole e last are = tt

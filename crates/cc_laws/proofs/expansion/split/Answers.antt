@@ -24,3 +24,6 @@ returns c =
     let taken = YieldsList-end (YieldsList-from_vec {s = c.into_iter-head-iterator.result} c.in_ok-heads.heads.items begun.0 (begun.1 ∙ c.in_ok-heads.heads.ok.0)) c.loop-head.yielded c.loop-head.head-iterator c.loop-head.yielded_by c.next.result c.next.new.self c.in-None.is c.next.ensures.steps in
     yielded_all plain_base_law f plain_head c.loop-head.yielded c.in_ok-heads.heads.items c.loop-head.made.items taken.0 c.loop-head.invariant
     ∙ ap (map f) c.in_ok-heads.ensures
+
+pub loop-head-init : goal.loop-head-init
+loop-head-init c = ap (map plain_base_law) c.in_ok-made.ensures.items

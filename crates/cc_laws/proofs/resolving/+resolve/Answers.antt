@@ -1,14 +1,17 @@
-use Rattle.std.proofs.Common.{◌∙◌, ◌≡◌, [], List, ap, subst, ◌+◌, ◌∷◌, ℕ, OnOk, sym}
+use Rattle.std.proofs.Common.{◌∙◌, ◌≡◌, [], List, ap, subst, ◌+◌, ◌∷◌, ℕ, OnOk, sym, refl}
 use Rattle.std.specs.Prelude.{IfOk}
 use Rattle.cc_defs.specs.Resolved.{plain_formula, Formula, Not}
 use Rattle.cc_defs.specs.Trees.{plain_tree}
 use Rattle.cc_laws.specs.Resolving.{Binding, resolve, brackets, resolve_bracket}
-use Rattle.cc_laws.specs.Views.{inside, bracket_over, joined_by, scope_of}
-use Rattle.cc_laws.specs.Vocabulary.{vocabulary_of, Meaning}
+use Rattle.cc_laws.specs.Views.{inside, bracket_over, joined_by, scope_of, bracket_before}
+use Rattle.cc_laws.specs.Vocabulary.{vocabulary_of, Meaning, meaning}
 use Rattle.cc_laws.proofs.Scopes.{pushed, popped, counted_on}
 use Rattle.cc_laws.specs.declared.resolving.Joint.{Joint}
 use Rattle.cc_laws.specs.declared.names.Binding.{Binding as KeptBinding}
 use Rattle.cc_laws.proofs.resolving.+resolve.Goals.{resolve_two-in-Both, resolve_two-in-Either, resolve_two-in-Implies, resolve_two-in-Same}
+use Rattle.cc_defs.specs.declared.tree.Tree.{Tree}
+use Rattle.cc_laws.specs.declared.resolving.Bracket.{Bracket}
+use Rattle.cc_laws.proofs.WithMade.{by_either}
 use Rattle.cc_laws.proofs.resolving.+resolve.Goals as goal
 
 pub resolve_inside-returns-clause-made : goal.resolve_inside-returns-clause-made
@@ -71,3 +74,14 @@ resolve_bracket-returns-in_ok-inner-in-Variable-clause-made t c =
     ∙ ap (seen (record { variable = variable; number = c.in_ok-number.number } ∷ scope_of old)) c.in_ok-number.ensures.next)
     ∙ ap (λ (n : ℕ). make n (seen (record { variable = variable; number = n } ∷ scope_of old) (old.next + 1))) c.in_ok-number.ensures.number
     ∙ ap (λ (means : Meaning). resolve_bracket (bracket_over c.args.bracket) (scope_of old) old.next means (λ scope. seen scope (old.next + 1))) c.in-Variable.ensures
+
+pub resolve-returns-in-ForAll-clause-made : goal.resolve-returns-in-ForAll-clause-made
+resolve-returns-in-ForAll-clause-made t c =
+    let v = vocabulary_of c.args.table.now in
+    let scope = scope_of c.args.names.now in
+    let next = c.args.names.now.next in
+    let bracket = λ (b : Bracket) (inner : Tree). resolve_bracket (bracket_over b) scope next (meaning v c.in-ForAll.name.now) (λ seen. resolve v seen (next + 1) (plain_tree inner)) in
+    subst (λ (w : Formula). IfOk c.resolve_bracket.result (λ made. plain_formula made ≡ w))
+    (ap (bracket c.bracket_in.result) c.deref-in-ForAll.ensures ∙ ap (λ (b : Bracket). bracket b c.in-ForAll.inner.value) c.bracket_in.ensures
+    ∙ by_either (λ (f : Tree). bracket (bracket_before (plain_tree f)) c.in-ForAll.inner.value ≡ resolve v scope next (plain_tree f)) c.args.formula.now _ _ c.in-ForAll.is refl refl)
+    c.resolve_bracket.ensures.made

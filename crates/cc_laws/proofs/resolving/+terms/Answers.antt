@@ -1,4 +1,4 @@
-use Rattle.std.proofs.Common.{◌≡◌, ◌∙◌, ◌++◌, ◌∷◌, [], List, ap, Ok, IfOk, refl, subst}
+use Rattle.std.proofs.Common.{◌≡◌, ◌∙◌, ◌++◌, ◌∷◌, [], List, ap, Ok, refl}
 use Rattle.cc_defs.specs.declared.tree.SumTree.{SumTree}
 use Rattle.cc_defs.specs.Resolved.{plain_term}
 use Rattle.cc_defs.specs.Trees.{plain_sum, plain_piece}

@@ -1,4 +1,4 @@
-use Rattle.std.proofs.Common.{◌≡◌, ◌∙◌, ◌+◌, List, ℕ, ap}
+use Rattle.std.proofs.Common.{◌∙◌, ◌+◌, List, ℕ, ap}
 use Rattle.std.specs.Prelude.{Option}
 use Rattle.std.specs.Option.{option_map}
 use Rattle.cc_defs.specs.declared.law.Range.{Range}
