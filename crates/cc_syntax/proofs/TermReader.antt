@@ -8,6 +8,7 @@ use Rattle.cc_syntax.specs.Readers.{Reader, name_at, numeral_at, sign_at}
 use Rattle.cc_syntax.specs.Terms.{sums_of, PlainAddend, addends_of, call_at, leaf_at, additive_at, piece_by, addends_from, addends_by, sum_by, term_from, args_from, term_at, sum_at}
 use Rattle.cc_syntax.proofs.IsReader.{IsReader, ends_term, ends_sum}
 use Rattle.cc_syntax.proofs.Singles.{bind_some, given_cases, if_some, some-is, sign-literal, name-reader, numeral-reader}
+use Rattle.std.proofs.lemmas.Bool.{false≢true}
 
 -- ---- nothing is read
 
@@ -302,8 +303,7 @@ no-call text rest e =
     none-of (call_at (Word text ∷ rest)) (λ read q.
     let call = call-takes (Word text ∷ rest) read q in
     let same : rest ≡ call.0 = tail-is (Word text) (Word read.0) rest call.0 call.1.1 in
-    let bar = ap ends_term (same ∙ call.2) in
-    absurd cc)
+    absurd (false≢true (sym (ap ends_term (same ∙ call.2)) ∙ e)))
   where
     tail-is : (one other : Terminal) (a b : List Terminal) → one ∷ a ≡ other ∷ b → a ≡ b
     tail-is one other a b e = cc

@@ -1,11 +1,13 @@
-use Rattle.std.proofs.Common.{◌-◌, List, Some, drop, ap, sym, ◌∙◌, arith}
-use Rattle.cc_defs.specs.Trees.{PlainSum, PlainTerm, plain_piece, plain_sum}
-use Rattle.cc_syntax.specs.Terms.{term_from, args_from}
+use Rattle.std.proofs.Common.{◌-◌, List, Some, drop, ap, sym, ◌∙◌, arith, Option}
+use Rattle.cc_defs.specs.Trees.{PlainSum, PlainTerm, plain_piece, plain_sum, PlainPiece, Summed}
+use Rattle.cc_syntax.specs.Terms.{term_from, args_from, PlainAddend, addends_by, addends_of}
 use Rattle.cc_syntax.specs.Views.{seen}
 use Rattle.cc_syntax.proofs.Addends.{addends-ended, addends-spent, addends-refused, addends-continued}
 use Rattle.cc_syntax.proofs.Arguments.{arg-more, arg-refused, args-unended, args-read, args-spent}
 use Rattle.cc_syntax.proofs.Stops.{stopped, out-of-memory, no-tree, not-passed}
-use Rattle.cc_syntax.proofs.Trees.{plain_pushed, plain_applied}
+use Rattle.cc_syntax.proofs.Trees.{plain_pushed, plain_applied, sum_made}
+use Rattle.cc_defs.specs.Grammar.{Terminal}
+use Rattle.cc_syntax.specs.Readers.{◌>>=◌}
 use Rattle.cc_syntax.proofs.terms.+terms.Goals as goal
 
 pub addends_within-returns-in_err-piece : goal.addends_within-returns-in_err-piece
@@ -58,3 +60,9 @@ term_within-returns-in-Err t c =
     _ (not-passed c.args.tokens.now _ _ c.in-Err.ensures) c.in_ok-end-in-Err.ensures
     ∙ ap (λ (term : PlainTerm). Some (term, drop c.in_ok-end-in-Err.end (seen c.args.tokens.now)))
     (plain_applied (record { name = c.in-Ok.call.0; args = c.put_last.new.list }) c.loop-left.args.items c.in_ok-arg.arg c.in_ok-put_last.ensures)
+
+pub sum_within-returns : goal.sum_within-returns
+sum_within-returns t c =
+    ap (λ (o : Option (PlainPiece × List Terminal)). o >>= λ first. addends_by (term_from c.args.steps) first.1 >>= λ others. Some (Summed first.0 (addends_of others.0), others.1)) c.in_ok-first.ensures
+    ∙ ap (λ (o : Option (List PlainAddend × List Terminal)). o >>= λ others. Some (Summed (plain_piece c.in_ok-first.first) (addends_of others.0), others.1)) c.in_ok-rest.ensures
+    ∙ sym (ap (λ (sum : PlainSum). Some (sum, drop c.in_ok-rest.next (seen c.args.tokens.now))) (sum_made (record { first = c.in_ok-first.first; rest = c.in_ok-rest.rest })))
