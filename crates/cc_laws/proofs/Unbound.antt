@@ -1,16 +1,19 @@
 -- The variables of a term that no bracket binds: that of its name, and those of its arguments.
-use Rattle.std.proofs.Common.{◌≡◌, ◌∙◌, ℕ, not, List, [], ◌∷◌, ◌++◌, flat_map, append_assoc, refl, sym, ap}
+use Rattle.std.proofs.Common.{◌≡◌, ◌∙◌, ℕ, not, List, [], ◌∷◌, ◌++◌, flat_map, append_assoc, refl, sym, ap, ◌⊎◌, inl, inr}
 use Rattle.std.proofs.lemmas.List.Concat.{flat_map-append}
 use Rattle.std.proofs.lemmas.List.Elements.{filter-append}
 use Rattle.cc_defs.specs.declared.tree.Addend.{Addend}
 use Rattle.cc_defs.specs.declared.tree.SumTree.{SumTree, out-SumTree}
 use Rattle.cc_defs.specs.declared.tree.TermTree.{TermTree, out-TermTree}
-use Rattle.cc_defs.specs.Trees.{PlainTerm, PlainSum, plain_piece, plain_sum, plain_term}
-use Rattle.cc_laws.specs.FreeVariables.{is_among, variable_meant, term_variables, sum_variables, unbound}
+use Rattle.cc_defs.specs.Trees.{PlainTerm, PlainSum, plain_piece, plain_sum, plain_term, plain_tree}
+use Rattle.cc_laws.specs.FreeVariables.{is_among, variable_meant, term_variables, sum_variables, unbound, free}
 use Rattle.cc_laws.specs.Leaves.{Mention, argument_mentions, sum_mentions, addend_mentions, piece_mentions}
 use Rattle.cc_laws.specs.Views.{plain_sums, plain_added, piece_variables}
 use Rattle.cc_laws.specs.Vocabulary.{Vocabulary, meaning}
 use Rattle.cc_laws.proofs.Mentions.{term_parts, sum_parts}
+use Rattle.std.specs.Global.{Box}
+use Rattle.cc_defs.specs.declared.tree.Tree.{Tree}
+use Rattle.cc_defs.specs.declared.tree.Tree as trees
 
 -- those of several sums
 abbrev pub unbound_in : Vocabulary → List ℕ → List SumTree → List ℕ
@@ -92,3 +95,12 @@ sum_begun v bound sum old new items added are =
 pub unbound_none : (numbers : List ℕ) → unbound [] numbers ≡ numbers
 unbound_none [] = refl
 unbound_none (number ∷ numbers) = ap (λ (others : List ℕ). number ∷ others) (unbound_none numbers)
+
+-- those of two formulas that are joined
+pub joined_free : (v : Vocabulary) (bound : List ℕ) (formula : Tree) (first second : Box Tree) →
+    (formula ≡ trees.Both first second) ⊎ ((formula ≡ trees.Either first second) ⊎ ((formula ≡ trees.Implies first second) ⊎ (formula ≡ trees.Same first second))) →
+    free v bound (plain_tree first.value) ++ free v bound (plain_tree second.value) ≡ free v bound (plain_tree formula)
+joined_free v bound formula first second (inl e) = sym (ap (λ (f : Tree). free v bound (plain_tree f)) e)
+joined_free v bound formula first second (inr (inl e)) = sym (ap (λ (f : Tree). free v bound (plain_tree f)) e)
+joined_free v bound formula first second (inr (inr (inl e))) = sym (ap (λ (f : Tree). free v bound (plain_tree f)) e)
+joined_free v bound formula first second (inr (inr (inr e))) = sym (ap (λ (f : Tree). free v bound (plain_tree f)) e)

@@ -298,15 +298,15 @@ summed-again first others piece_again others_again n tokens rest le p e =
 
 -- ---- terms
 
+abbrev behind-first : List Terminal → List Terminal
+behind-first [] = []
+behind-first (one ∷ others) = others
+
 no-call : (text : List ℕ) (rest : List Terminal) → ends_term rest ≡ true → call_at (Word text ∷ rest) ≡ None
 no-call text rest e =
     none-of (call_at (Word text ∷ rest)) (λ read q.
     let call = call-takes (Word text ∷ rest) read q in
-    let same : rest ≡ call.0 = tail-is (Word text) (Word read.0) rest call.0 call.1.1 in
-    absurd (false≢true (sym (ap ends_term (same ∙ call.2)) ∙ e)))
-  where
-    tail-is : (one other : Terminal) (a b : List Terminal) → one ∷ a ≡ other ∷ b → a ≡ b
-    tail-is one other a b e = cc
+    absurd (false≢true (sym (ap ends_term (ap behind-first call.1.1 ∙ call.2)) ∙ e)))
 
 leaf-again : (text : List ℕ) → TermAgain (Applied text NoSums)
 unfolding term_from

@@ -3,10 +3,11 @@ use Rattle.cc_defs.specs.declared.tree.SumTree.{SumTree}
 use Rattle.cc_defs.specs.Resolved.{plain_term}
 use Rattle.cc_defs.specs.Trees.{plain_sum, plain_piece}
 use Rattle.cc_laws.specs.Resolving.{resolve_sum, resolve_sums, resolve_piece}
-use Rattle.cc_laws.specs.Views.{plain_sums, scope_of}
+use Rattle.cc_laws.specs.Views.{plain_sums, scope_of, row_terms}
 use Rattle.cc_laws.specs.Vocabulary.{vocabulary_of}
 use Rattle.cc_laws.proofs.WithMade.{with_made, in_box}
-use Rattle.cc_laws.proofs.TermRows.{resolved_more, resolved_all, term_resolved, sum_begun, addend_more, addends_done}
+use Rattle.cc_laws.proofs.TermRows.{resolved_more, resolved_all, term_resolved, sum_begun, addend_more, addends_done, behind}
+use Rattle.cc_defs.specs.declared.formula.Term.{Term as Kept}
 use Rattle.cc_laws.proofs.resolving.+terms.Goals as goal
 
 pub resolve_term-loop-argument-preserved : goal.resolve_term-loop-argument-preserved
@@ -42,3 +43,7 @@ resolve_sum-loop-addend-preserved t c =
 
 pub resolve_sum-returns : goal.resolve_sum-returns
 resolve_sum-returns t c = addends_done (vocabulary_of c.args.table.now) (scope_of c.args.names.now) c.deref-addend-items.result.now c.loop-addend.addend-index _ _ c.loop-addend-test.false c.loop-addend.invariant
+
+pub resolve_term-loop-argument-init : goal.resolve_term-loop-argument-init
+resolve_term-loop-argument-init t c =
+    ap (λ (args : List Kept). behind (row_terms args) (resolve_sums (vocabulary_of c.args.table.now) (scope_of c.args.names.now) (plain_sums c.deref-argument-items.result.now))) c.in_ok-args.ensures.items

@@ -1,4 +1,4 @@
-use Rattle.std.proofs.Common.{◌∙◌}
+use Rattle.std.proofs.Common.{◌∙◌, ap, map}
 use Rattle.std.proofs.lemmas.Iterator.Adapters.{YieldsList-from_vec}
 use Rattle.std.proofs.lemmas.Iterator.Consumers.{YieldsList-end}
 use Rattle.cc_defs.specs.Resolved.{plain_base_law}
@@ -17,3 +17,6 @@ returns c =
     let begun = c.into_iter-law-iterator.ensures.into_iter_gives in
     let taken = YieldsList-end (YieldsList-from_vec {s = c.into_iter-law-iterator.result} c.args.laws.items begun.0 (begun.1 ∙ c.args.laws.ok.0)) c.loop-law.yielded c.loop-law.law-iterator c.loop-law.yielded_by c.next.result c.next.new.self c.in-None.is c.next.ensures.steps in
     yielded_all plain_wide_base widened plain_base_law c.loop-law.yielded c.args.laws.items c.loop-law.made.items taken.0 c.loop-law.invariant
+
+pub loop-law-init : goal.loop-law-init
+loop-law-init c = ap (map plain_wide_base) c.in_ok-made.ensures.items
