@@ -1,5 +1,6 @@
 -- The base laws of a law, by what it is short for.
 use Rattle.std.proofs.Common.{◌≡◌, Bool, List, true, false, Option, Some, None, [], ◌∷◌, ◌∙◌, refl, sym, ap}
+use Rattle.std.specs.Global.{Box}
 use Rattle.cc_defs.specs.Resolved.{BaseLaw}
 use Rattle.cc_defs.specs.Trees.{PlainLaw, PlainTree, plain_law}
 use Rattle.cc_defs.specs.Trees as trees
@@ -10,6 +11,7 @@ use Rattle.cc_laws.specs.Vocabulary.{Vocabulary}
 use Rattle.cc_laws.specs.Widening.{whole_law, whole_of, whole_short}
 use Rattle.cc_defs.specs.declared.tree.LawTree.{LawTree}
 use Rattle.cc_defs.specs.declared.tree.TermTree.{TermTree}
+use Rattle.cc_defs.specs.declared.tree.Tree.{Tree}
 use Rattle.cc_defs.specs.declared.tree.LawTree.TheVariants as kept
 
 effect_is : (later : Bool) (a f : PlainTree) (g : Option PlainTree) → short_with later (trees.Causes a f g) ≡ effect later a f g
@@ -90,3 +92,17 @@ none_of_others v frame (kept.Inertial c) e i n = absurd (i c refl)
 none_of_others v frame (kept.Causes a f g) e i n = refl
 none_of_others v frame (kept.MayCause a f g) e i n = refl
 none_of_others v frame kept.NoConcurrency e i n = absurd (n refl)
+
+-- where there is no head
+pub headless : (v : Vocabulary) (frame : Frame) (law : LawTree) → ((f : Box Tree) (g h : Option (Box Tree)) → law ≡ kept.Caused f g h → ⊥) → ((f : Box Tree) (g h : Option (Box Tree)) → law ≡ kept.Default f g h → ⊥) →
+    ((a f : Box Tree) (g : Option (Box Tree)) → law ≡ kept.Causes a f g → ⊥) → ((a f : Box Tree) (g : Option (Box Tree)) → law ≡ kept.MayCause a f g → ⊥) → [] ≡ whole_short v frame (law_short_for v (plain_law law))
+headless v frame (kept.Caused f g h) c d e m = absurd (c f g h refl)
+headless v frame (kept.Constraint f) c d e m = refl
+headless v frame (kept.Always f) c d e m = refl
+headless v frame (kept.Nonexecutable f g) c d e m = refl
+headless v frame (kept.Default f g h) c d e m = absurd (d f g h refl)
+headless v frame (kept.Exogenous t) c d e m = refl
+headless v frame (kept.Inertial t) c d e m = refl
+headless v frame (kept.Causes a f g) c d e m = absurd (e a f g refl)
+headless v frame (kept.MayCause a f g) c d e m = absurd (m a f g refl)
+headless v frame kept.NoConcurrency c d e m = refl

@@ -39,3 +39,6 @@ sum_has-loop-addend-preserved t c = passed (list_any (λ addend. piece_has (voca
 
 pub sum_has-returns : goal.sum_has-returns
 sum_has-returns t c = none_left (list_any (λ addend. piece_has (vocabulary_of c.args.table.now) (asks c.args.property) (plain_piece addend.piece))) (λ addend. piece_has (vocabulary_of c.args.table.now) (asks c.args.property) (plain_piece addend.piece)) c.deref-addend-items.result.now c.loop-addend.addend-index _ c.loop-addend.invariant refl c.loop-addend-test.false
+
+pub sum_has-returns-then-piece_has-2 : goal.sum_has-returns-then-piece_has-2
+sum_has-returns-then-piece_has-2 t c = found (list_any (λ addend. piece_has (vocabulary_of c.args.table.now) (asks c.args.property) (plain_piece addend.piece))) (λ addend. piece_has (vocabulary_of c.args.table.now) (asks c.args.property) (plain_piece addend.piece)) c.deref-addend-items.result.now c.loop-addend.addend-index _ c.loop-addend.invariant (λ _ _. refl) c.addend-item.result c.loop-addend-test.true c.addend-item.is (sym c.piece_has-in-loop-addend.ensures ∙ c.if-piece_has-2.true)

@@ -3,7 +3,7 @@ use Rattle.cc_defs.specs.Trees.{plain_law, plain_tree}
 use Rattle.cc_laws.specs.Views.{frame_from}
 use Rattle.cc_laws.specs.Vocabulary.{vocabulary_of}
 use Rattle.cc_wide.specs.WideLaws.{WideBase, plain_wide_base}
-use Rattle.cc_laws.proofs.Shortened.{whole_head}
+use Rattle.cc_laws.proofs.Shortened.{headless, whole_head}
 use Rattle.cc_laws.proofs.WithMade.{only_so}
 use Rattle.cc_laws.proofs.wide.whole_laws.Goals as goal
 
@@ -16,3 +16,10 @@ returns-in_ok-whole-in-Caused c =
     (ap (λ (one : WideBase). one ∷ []) c.in_ok-whole-in-Caused.ensures
     ∙ whole_head v frame law c.is_later-later.result (plain_tree c.deref.result.now) c.is_later-later.ensures (search rules))
     (only_so plain_wide_base c.only.result c.in_ok-whole-in-Caused.whole c.only.ensures)
+
+pub returns-in_default : goal.returns-in_default
+returns-in_default c =
+    let none = c.in_default in
+    let v = vocabulary_of c.args.table.now in
+    ap (map plain_wide_base) c.new.ensures.items
+    ∙ headless v (frame_from v c.args.source.now) c.args.law.now none.not-Caused none.not-Default none.not-Causes none.not-MayCause
