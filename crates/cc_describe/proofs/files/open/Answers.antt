@@ -105,7 +105,7 @@ returns g c = record {
   opened = λ contents which before told was. (
     content_is _ contents c.args.name.now c.in-Ok.bytes told c.in-Ok.ensures.bytes,
     is_opened before c.args.name.now c.in-Ok.bytes c.args.progress.now c.enter.new.self c.count.new.self (length c.items.result.now) was
-      c.in_ok-file.ensures.names c.in_ok-file.ensures.rest (ap length c.items.ensures) (subst (λ n. length c.in-Ok.bytes ≤ n) c.number.ensures c.in-Ok.ensures.within) c.in_ok-count.ensures.counted c.in_ok-count.ensures.rest,
+        c.in_ok-file.ensures.names c.in_ok-file.ensures.rest (ap length c.items.ensures) (subst (λ n. length c.in-Ok.bytes ≤ n) c.number.ensures c.in-Ok.ensures.within) c.in_ok-count.ensures.counted c.in_ok-count.ensures.rest,
     c.in_ok-file.ensures.number ∙ ap length was.names,
   );
   refused = λ contents which before told was. tt;
