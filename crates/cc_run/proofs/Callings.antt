@@ -1,18 +1,16 @@
 -- Which calls steps make of a desk, one after another.
-use Rattle.std.proofs.Common.{◌≡◌, ◌∙◌, refl, sym, ap, subst, ℕ, List, [], ◌∷◌, ◌++◌, map, Option, Some, None, IfSome, Result, Ok, Err, append_assoc, append-nil, inl, inr}
+use Rattle.std.proofs.Common.{◌≡◌, ◌∙◌, refl, sym, ap, subst, ℕ, List, [], ◌∷◌, ◌++◌, map, Result, Ok, Err, append_assoc, append-nil, inl, inr}
 use Rattle.std.specs.Prelude.{◌⊎◌, IsErrOf}
 use Rattle.cc_defs.specs.declared.refusal.Refusal.{Refusal}
 use Rattle.cc_describe.specs.declared.description.Described.{Described}
 use Rattle.cc_describe.specs.declared.description.DescribeStop.{DescribeStop}
 use Rattle.cc_describe.specs.declared.description.DescribeStop.TheVariants as describe_stops
 use Rattle.cc_describe.specs.Describing.{AreFirstNames}
-use Rattle.cc_describe.specs.Places.{Files, HasPlaces}
 use Rattle.cc_ports.specs.Calls.{AreReadings, Call, Reads, names_begun, names_opened, with_calls}
-use Rattle.cc_ports.specs.Contents.{Contents}
 use Rattle.cc_ports.specs.declared.whole.ReadStop.{ReadStop}
 use Rattle.cc_ports.specs.declared.whole.ReadStop.TheVariants as read_stops
 use Rattle.cc_ports.specs.Moments.{Moment}
-use Rattle.cc_run.specs.Names.{AreAsked, IsAnswer, MayEndWith}
+use Rattle.cc_run.specs.Names.{IsAnswer}
 use Rattle.cc_run.specs.Promises.{IsEndStatus}
 use Rattle.cc_run.specs.Stops.{Asks, outcome}
 use Rattle.cc_tell.specs.declared.status.Status.{Status}
@@ -21,7 +19,6 @@ use Rattle.cc_tell.specs.declared.status.Stop.{Stop}
 use Rattle.cc_tell.specs.declared.status.Stop.TheVariants as stops
 use Rattle.cc_tell.specs.Steps.{Called}
 use Rattle.cc_tell.specs.StopLines.{TellsStop, cut_status, stop_status}
-use Rattle.cc_words.specs.Requests.{Request, ToBeSure, ToCheck, ToCheckGeneral, ToCheckModels, ToCheckSure, ToConvert, ToExplain, ToExport, ToList, ToListGenerally, ToMake, ToModel}
 use Rattle.cc_words.specs.Words.{Text}
 use Rattle.cc_tell.proofs.Calls.{called_both}
 
@@ -116,59 +113,6 @@ told_ends_nothing stop x y status tells = how tells.how
     how : {A B C : Type 0} → (A × (status ≡ stop_status stop)) ⊎ (B × (status ≡ cut_status stop) × C) → IsEndStatus status → ⊥
     how (inl whole) is = stop_ends_nothing stop (subst IsEndStatus whole.1 is)
     how (inr cut) is = cut_ends_nothing stop (subst IsEndStatus cut.1 is)
-
-pub may_be_refused : (request : Option Request) → MayEndWith request statuses.Refused
-may_be_refused None = refl
-may_be_refused (Some (ToList listing)) = tt
-may_be_refused (Some (ToCheck checking)) = tt
-may_be_refused (Some (ToMake size budget)) = tt
-may_be_refused (Some (ToExplain explaining)) = tt
-may_be_refused (Some (ToConvert converting)) = tt
-may_be_refused (Some (ToExport exporting)) = tt
-may_be_refused (Some (ToModel modelling)) = tt
-may_be_refused (Some (ToCheckModels checking)) = tt
-may_be_refused (Some (ToBeSure surely)) = tt
-may_be_refused (Some (ToCheckSure checking)) = tt
-may_be_refused (Some (ToListGenerally generally)) = tt
-may_be_refused (Some (ToCheckGeneral checking)) = tt
-
--- some names are asked for, whatever is asked
-pub some_asked : HasPlaces → (files : Files) (request : Option Request) → (all : List Text) × AreAsked files request all
-some_asked has files None = ([], refl)
-some_asked has files (Some (ToList listing)) =
-    let there = has files listing.file in
-    (_, (there.0, there.1, refl))
-some_asked has files (Some (ToCheck checking)) =
-    let there = has files checking.file in
-    (_, (_, (there.0, there.1, refl), refl))
-some_asked has files (Some (ToMake size budget)) = ([], refl)
-some_asked has files (Some (ToExplain explaining)) =
-    let there = has files explaining.file in
-    (_, (there.0, there.1, refl))
-some_asked has files (Some (ToConvert converting)) =
-    let there = has files converting.file in
-    (_, (_, (there.0, there.1, refl), refl))
-some_asked has files (Some (ToExport exporting)) =
-    let there = has files exporting.file in
-    (_, (there.0, there.1, refl))
-some_asked has files (Some (ToModel modelling)) = (_, refl)
-some_asked has files (Some (ToCheckModels checking)) = (_, refl)
-some_asked has files (Some (ToBeSure surely)) =
-    let there = has files surely.file in
-    (_, (there.0, there.1, refl))
-some_asked has files (Some (ToCheckSure checking)) =
-    let there = has files checking.file in
-    (_, (_, (there.0, there.1, refl), refl))
-some_asked has files (Some (ToListGenerally generally)) =
-    let there = has files generally.file in
-    (_, (there.0, there.1, refl))
-some_asked has files (Some (ToCheckGeneral checking)) =
-    let there = has files checking.file in
-    (_, (_, (there.0, there.1, refl), refl))
-
-pub some_asked_of : HasPlaces → (o : Option Contents) (request : Option Request) → (all : List Text) × IfSome o (λ c. AreAsked c.files request all)
-some_asked_of has None request = ([], tt)
-some_asked_of has (Some c) request = some_asked has c.files request
 
 -- ---- a description that was read
 

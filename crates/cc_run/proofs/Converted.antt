@@ -40,13 +40,13 @@ use Rattle.cc_query.proofs.Giving.{last_is}
 use Rattle.cc_query.proofs.Shortness.{last_low}
 use Rattle.cc_run.specs.Asking.{AreOf, AreSearchable}
 use Rattle.cc_run.specs.Converted.{AreLeft, HasLeft, HasOpened, IsJudged, converted_by, other_said}
+use Rattle.cc_run.specs.Promises.{Keeps, log_asked}
 use Rattle.cc_run.specs.Stops.{Asks, Prints, outcome}
 use Rattle.cc_run.specs.Telling.{counts_of, task_to_check}
-use Rattle.cc_run.specs.Answers.{Gives}
 use Rattle.cc_run.specs.Modes.Checking.{NamesLog, verdict_status}
-use Rattle.cc_run.specs.Modes.Converting.{Converts, IsConverted}
-use Rattle.cc_run.specs.Names.{IsAnswer, MayEndWith, log_asked}
-use Rattle.cc_run.specs.Tasks.{checked_by, request_of}
+use Rattle.cc_run.specs.Modes.Converting.{Converts, IsConverted, converting_promise}
+use Rattle.cc_run.specs.Names.{IsAnswer}
+use Rattle.cc_run.specs.Tasks.{checked_by}
 use Rattle.cc_run.specs.Wholes.{Whole}
 use Rattle.cc_tell.specs.Steps.{Begins, Step}
 use Rattle.cc_tell.specs.Givens.{given_to, joined, only_out}
@@ -55,11 +55,11 @@ use Rattle.cc_tell.specs.declared.status.Status.{Status}
 use Rattle.cc_tell.specs.declared.status.Status.TheVariants as statuses
 use Rattle.cc_tell.specs.declared.status.Stop.{Stop}
 use Rattle.cc_theory.specs.Theories.{AreLawsOf}
-use Rattle.cc_words.specs.Requests.{Converting, Request, ToConvert}
+use Rattle.cc_words.specs.Requests.{Converting}
 use Rattle.cc_words.specs.Words.{Text}
 use Rattle.cc_tell.proofs.LineSteps.{LinesSoFar, lines_begin, lines_end, lines_more, lines_stop}
 use Rattle.cc_run.proofs.Callings.{first_none, stop_answers_nothing}
-use Rattle.cc_run.proofs.Outcomes.{known, log_asked_as, prints_begun, prints_whole}
+use Rattle.cc_run.proofs.Outcomes.{known, prints_begun, prints_whole}
 use Rattle.cc_run.proofs.Passing.{range_is}
 
 -- ---- a section of the log
@@ -375,13 +375,13 @@ converted_joined verdict other = λ i. record { out = append-nil (verdict_line v
 
 -- ---- a run that converts
 
-ends_as : (words : List Text) (converting : Converting) (verdict : LogVerdict) (r : Result Status Stop) → request_of words ≡ Some (ToConvert converting) →
-    IfOk r (λ status. status ≡ verdict_status verdict) → IfOk r (MayEndWith (request_of words))
-ends_as words converting verdict (Err stop) asked is = tt
-ends_as words converting verdict (Ok status) asked is =
-    subst (λ (o : Option Request). MayEndWith o status) (sym asked) (subst (λ (s : Status). MayEndWith (Some (ToConvert converting)) s) (sym is) (may verdict))
+ends_as : (converting : Converting) (verdict : LogVerdict) (r : Result Status Stop) →
+    IfOk r (λ status. status ≡ verdict_status verdict) → IfOk r ((converting_promise converting).MayEnd)
+ends_as converting verdict (Err stop) is = tt
+ends_as converting verdict (Ok status) is =
+    (subst (λ (s : Status). (converting_promise converting).MayEnd s) (sym is) (may verdict))
   where
-    may : (verdict : LogVerdict) → MayEndWith (Some (ToConvert converting)) (verdict_status verdict)
+    may : (verdict : LogVerdict) → (converting_promise converting).MayEnd (verdict_status verdict)
     may (verdicts.Accepted low high blocked) = tt
     may (verdicts.Refused line reason) = tt
 
@@ -389,10 +389,10 @@ ended_as : (verdict : LogVerdict) (r : Result Status Stop) → IfOk r (λ status
 ended_as verdict (Ok status) is = ap Some (sym is)
 ended_as verdict (Err stop) is = tt
 
-module _ (words : List Text) (converting : Converting) (d : Description) (q : Query) (key : Option Key) (bytes : List ℕ) (asked : request_of words ≡ Some (ToConvert converting)) where
+module _ (converting : Converting) (d : Description) (q : Query) (key : Option Key) (bytes : List ℕ) where
   gives_whole : (files : Files) (verdict : LogVerdict) (whole : Whole) → NamesLog files (checked_by converting) (task_to_check d q key) bytes → IsJudged d q key bytes verdict →
-      IsConverted (subject_of d q key) bytes verdict whole → whole.ends ≡ Some (verdict_status verdict) → Gives files (request_of words) whole
-  gives_whole files verdict whole named judged converted ends = subst (λ (o : Option Request). Gives files o whole) (sym asked) (inr converts)
+      IsConverted (subject_of d q key) bytes verdict whole → whole.ends ≡ Some (verdict_status verdict) → Keeps (converting_promise converting) files whole
+  gives_whole files verdict whole named judged converted ends = inr converts
     where
       converts : Converts converting files whole
       converts = record {
@@ -410,12 +410,12 @@ module _ (words : List Text) (converting : Converting) (d : Description) (q : Qu
   -- a log that is refused: no other is begun
   pub prints_refused_log : (verdict : LogVerdict) (line : ℕ) (reason : Cause) (x z : Moment) (r : Result Status Stop) → verdict ≡ verdicts.Refused line reason →
       IfSome x.told (λ c. NamesLog c.files (checked_by converting) (task_to_check d q key) bytes) → IsJudged d q key bytes verdict →
-      Step (only_out (verdict_line verdict)) x z r → IfOk r (λ status. status ≡ verdict_status verdict) → Prints words true [] x z r
+      Step (only_out (verdict_line verdict)) x z r → IfOk r (λ status. status ≡ verdict_status verdict) → Prints (converting_promise converting) true [] x z r
   prints_refused_log verdict line reason x z r is named judged step status =
-      prints_whole words true [] whole x z r
-      (known x.told (λ c. NamesLog c.files (checked_by converting) (task_to_check d q key) bytes) (λ c. Gives c.files (request_of words) whole)
+      prints_whole (converting_promise converting) true [] whole x z r
+      (known x.told (λ c. NamesLog c.files (checked_by converting) (task_to_check d q key) bytes) (λ c. Keeps (converting_promise converting) c.files whole)
       (λ c log. gives_whole c.files verdict whole log judged (subst (λ (v : LogVerdict). IsConverted (subject_of d q key) bytes v (of v)) (sym is) (refl, refl)) refl) named)
-      refl step (ended_as verdict r status) (ends_as words converting verdict r asked status) asks
+      refl step (ended_as verdict r status) (ends_as converting verdict r status) asks
     where
       of : LogVerdict → Whole
       of v = record { given = only_out (verdict_line v); begun = false; ends = Some (verdict_status v) }
@@ -423,31 +423,31 @@ module _ (words : List Text) (converting : Converting) (d : Description) (q : Qu
       whole : Whole
       whole = of verdict
 
-      none : (r : Result Status Stop) → IfOk r (λ status. status ≡ verdict_status verdict) → IsAnswer (outcome r) → [] ≡ log_asked (Some (ToConvert converting)) (outcome r)
+      none : (r : Result Status Stop) → IfOk r (λ status. status ≡ verdict_status verdict) → IsAnswer (outcome r) → [] ≡ log_asked (converting_promise converting) (outcome r)
       none (Err stop) status answer = absurd (stop_answers_nothing stop answer)
-      none (Ok end) status answer = ap (λ (s : Status). log_asked (Some (ToConvert converting)) s) (sym (status ∙ ap verdict_status is))
+      none (Ok end) status answer = ap (λ (s : Status). log_asked (converting_promise converting) s) (sym (status ∙ ap verdict_status is))
 
-      asks : Asks [] (log_asked (request_of words)) x z r
+      asks : Asks [] (log_asked (converting_promise converting)) x z r
       asks = record {
         opened = [];
         begun = [];
         called = step.moves.called;
         opened_first = first_none [];
-        begun_first = first_none (log_asked (request_of words) statuses.Right);
-        whole = λ answer. (refl, none r status answer ∙ sym (log_asked_as words (ToConvert converting) (outcome r) asked));
+        begun_first = first_none (log_asked (converting_promise converting) statuses.Right);
+        whole = λ answer. (refl, none r status answer);
       }
 
   -- a log that is accepted: its other version is given to the one that is begun
   pub prints_accepted_log : {X : Type 0} → OtherVersionsAreJudgedAlike → (verdict : LogVerdict) (first last blocked : ℕ) (names : List Text) (x y z : Moment) (b : Result X Stop) (v : X)
       (r : Result Status Stop) (says : SaysLines d q key bytes) → verdict ≡ verdicts.Accepted first last blocked → names ≡ converting.to ∷ [] →
       IfSome x.told (λ c. NamesLog c.files (checked_by converting) (task_to_check d q key) bytes) → IsJudged d q key bytes verdict → Begins true names x y b → b ≡ Ok v →
-      Step (converted_by verdict (other_said d q key bytes says)) y z r → IfOk r (λ status. status ≡ verdict_status verdict) → Prints words true [] x z r
+      Step (converted_by verdict (other_said d q key bytes says)) y z r → IfOk r (λ status. status ≡ verdict_status verdict) → Prints (converting_promise converting) true [] x z r
   prints_accepted_log law verdict first last blocked names x y z b v r says is to named judged begins at step status =
-      prints_begun words true names whole x y z b v r (to ∙ sym (log_asked_as words (ToConvert converting) statuses.Right asked))
-      (λ answer. to ∙ (name r status answer ∙ sym (log_asked_as words (ToConvert converting) (outcome r) asked)))
-      (known x.told (λ c. NamesLog c.files (checked_by converting) (task_to_check d q key) bytes) (λ c. Gives c.files (request_of words) whole)
+      prints_begun (converting_promise converting) true names whole x y z b v r to
+      (λ answer. to ∙ (name r status answer))
+      (known x.told (λ c. NamesLog c.files (checked_by converting) (task_to_check d q key) bytes) (λ c. Keeps (converting_promise converting) c.files whole)
       (λ c log. gives_whole c.files verdict whole log judged (converted verdict is judged.judged) refl) named)
-      refl begins at step (ended_as verdict r status) (ends_as words converting verdict r asked status)
+      refl begins at step (ended_as verdict r status) (ends_as converting verdict r status)
     where
       other : List ℕ
       other = other_said d q key bytes says
@@ -458,9 +458,9 @@ module _ (words : List Text) (converting : Converting) (d : Description) (q : Qu
       whole : Whole
       whole = of verdict
 
-      name : (r : Result Status Stop) → IfOk r (λ status. status ≡ verdict_status verdict) → IsAnswer (outcome r) → converting.to ∷ [] ≡ log_asked (Some (ToConvert converting)) (outcome r)
+      name : (r : Result Status Stop) → IfOk r (λ status. status ≡ verdict_status verdict) → IsAnswer (outcome r) → converting.to ∷ [] ≡ log_asked (converting_promise converting) (outcome r)
       name (Err stop) status answer = absurd (stop_answers_nothing stop answer)
-      name (Ok end) status answer = ap (λ (s : Status). log_asked (Some (ToConvert converting)) s) (sym (status ∙ ap verdict_status is))
+      name (Ok end) status answer = ap (λ (s : Status). log_asked (converting_promise converting) s) (sym (status ∙ ap verdict_status is))
 
       converted : (v : LogVerdict) → v ≡ verdicts.Accepted first last blocked → IsVerdict (subject_of d q key) bytes v → IsConverted (subject_of d q key) bytes v (of v)
       converted v same right =

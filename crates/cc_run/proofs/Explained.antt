@@ -27,12 +27,11 @@ use Rattle.cc_ports.specs.declared.desk.To.TheVariants as outputs
 use Rattle.cc_ports.specs.Moments.{Moment}
 use Rattle.cc_print.specs.Keys.{IsKeyText}
 use Rattle.cc_print.specs.Laws.{OneKey}
-use Rattle.cc_run.specs.Answers.{Gives}
 use Rattle.cc_run.specs.Explained.{IsExplainingFault, IsLookedAt, IsRowFault, TellsRow}
-use Rattle.cc_run.specs.Modes.Explaining.{Explains, HasNoRow, IsExplained, IsRowNamed, MayEndExplaining, RefusesRow, RefusesRowOf, no_history_line}
-use Rattle.cc_run.specs.Names.{MayEndWith}
+use Rattle.cc_run.specs.Modes.Explaining.{Explains, HasNoRow, IsExplained, IsRowNamed, MayEndExplaining, RefusesRow, RefusesRowOf, explaining_promise, no_history_line}
+use Rattle.cc_run.specs.Promises.{Keeps}
 use Rattle.cc_run.specs.Stops.{Prints}
-use Rattle.cc_run.specs.Tasks.{AreRead, description_in, request_of}
+use Rattle.cc_run.specs.Tasks.{AreRead, description_in}
 use Rattle.cc_run.specs.Wholes.{Whole}
 use Rattle.cc_tell.specs.declared.status.Status.{Status}
 use Rattle.cc_tell.specs.declared.status.Status.TheVariants as statuses
@@ -41,10 +40,10 @@ use Rattle.cc_tell.specs.CauseTexts.{why_text}
 use Rattle.cc_tell.specs.Steps.{Step}
 use Rattle.cc_tell.specs.Givens.{given_to, only_out}
 use Rattle.cc_theory.specs.Theories.{rules_refusal}
-use Rattle.cc_words.specs.Requests.{Explaining, Request, ToExplain}
+use Rattle.cc_words.specs.Requests.{Explaining}
 use Rattle.cc_words.specs.Words.{Text}
-use Rattle.cc_run.proofs.Outcomes.{RefusesRequest, asks_no_more, known, prints_whole}
-use Rattle.cc_run.proofs.Readings.{IsRead, asked_refuses}
+use Rattle.cc_run.proofs.Outcomes.{asks_no_more, known, prints_whole}
+use Rattle.cc_run.proofs.Readings.{IsRead}
 
 -- ---- the row
 
@@ -119,13 +118,12 @@ row_refused files explaining places described refusal file said read name (inr (
   refused = inr (none, is, name ∙ unplaced described.files (description_in places) explaining.key refusal is);
 }
 
-pub refuses_row : (o : Option Contents) (words : List Text) (explaining : Explaining) (described : Described) (of : IsRead heads.Definite o (λ files. files) explaining.file described) (refusal : Refusal)
-    (file : Text) → request_of words ≡ Some (ToExplain explaining) → file ≡ file_named described.files refusal →
-    IsExplainingFault (description_in of.places) explaining.key (faults.Refused refusal) → IfSome o (λ before. RefusesRequest before.files (request_of words) refusal file)
-refuses_row o words explaining described of refusal file asked name fault =
-    known o (λ before. AreRead before.files explaining.file of.places) (λ before. RefusesRequest before.files (request_of words) refusal file)
-    (λ before read. asked_refuses words (ToExplain explaining) before.files refusal file asked
-    (inr (row_refused before.files explaining of.places described refusal file of.said read name fault))) of.read
+pub refuses_row : (o : Option Contents) (explaining : Explaining) (described : Described) (of : IsRead heads.Definite o (λ files. files) explaining.file described) (refusal : Refusal)
+    (file : Text) → file ≡ file_named described.files refusal →
+    IsExplainingFault (description_in of.places) explaining.key (faults.Refused refusal) → IfSome o (λ before. (explaining_promise explaining).Refuses before.files refusal file)
+refuses_row o explaining described of refusal file name fault =
+    known o (λ before. AreRead before.files explaining.file of.places) (λ before. (explaining_promise explaining).Refuses before.files refusal file)
+    (λ before read. inr (row_refused before.files explaining of.places described refusal file of.said read name fault)) of.read
 
 -- the text of the key, as the words give it
 pub fault_as : (d : Description) (a b : Text) (fault : Fault) → a ≡ b → IsExplainingFault d b fault → IsExplainingFault d a fault
@@ -173,22 +171,21 @@ may_end : (d : Description) (names : List Text) (key : Key) (whole : Whole) (sta
 may_end d names key whole status (inl explained) is = subst MayEndExplaining (some_status statuses.Right status whole.ends explained.2 is) tt
 may_end d names key whole status (inr explained) is = subst MayEndExplaining (some_status statuses.Not status whole.ends explained.2 is) tt
 
-ends_so : (words : List Text) (explaining : Explaining) (d : Description) (names : List Text) (key : Key) (whole : Whole) (r : Result Status Stop) →
-    request_of words ≡ Some (ToExplain explaining) → IsExplained d names key whole → IfOk r (λ status. whole.ends ≡ Some status) → IfOk r (MayEndWith (request_of words))
-ends_so words explaining d names key whole (Ok status) asked explained ended =
-    subst (λ (o : Option Request). MayEndWith o status) (sym asked) (may_end d names key whole status explained ended)
-ends_so words explaining d names key whole (Err stop) asked explained ended = tt
+ends_so : (explaining : Explaining) (d : Description) (names : List Text) (key : Key) (whole : Whole) (r : Result Status Stop) →
+    IsExplained d names key whole → IfOk r (λ status. whole.ends ≡ Some status) → IfOk r ((explaining_promise explaining).MayEnd)
+ends_so explaining d names key whole (Ok status) explained ended =
+    (may_end d names key whole status explained ended)
+ends_so explaining d names key whole (Err stop) explained ended = tt
 
 -- the names of the files, by the places
 explained_as : (d : Description) (names all : List Text) (key : Key) (whole : Whole) → names ≡ all → IsExplained d names key whole → IsExplained d all key whole
 explained_as d names all key whole same is = subst (λ (w : List Text). IsExplained d w key whole) same is
 
-explained_given : (files : Files) (words : List Text) (explaining : Explaining) (places : List Place) (described : Described) (signature : Signature) (laws : List GroundLaw) (key : Key)
-    (is_path : Bool) (whole : Whole) → request_of words ≡ Some (ToExplain explaining) → IsDescribed heads.Definite places described → AreRead files explaining.file places →
+explained_given : (files : Files) (explaining : Explaining) (places : List Place) (described : Described) (signature : Signature) (laws : List GroundLaw) (key : Key)
+    (is_path : Bool) (whole : Whole) → IsDescribed heads.Definite places described → AreRead files explaining.file places →
     IsLookedAt (description_in places) signature explaining.key laws key is_path → IsExplained (description_in places) described.files key whole → whole.begun ≡ false →
-    Gives files (request_of words) whole
-explained_given files words explaining places described signature laws key is_path whole asked said read looked explained begun =
-    subst (λ (o : Option Request). Gives files o whole) (sym asked) (inr explains)
+    Keeps (explaining_promise explaining) files whole
+explained_given files explaining places described signature laws key is_path whole said read looked explained begun = inr explains
   where
     explains : Explains explaining files whole
     explains = record {
@@ -202,15 +199,15 @@ explained_given files words explaining places described signature laws key is_pa
       begun = begun;
     }
 
-pub prints_explained : (words : List Text) (explaining : Explaining) (described : Described) (signature : Signature) (laws : List GroundLaw) (key : Key) (is_path : Bool) (x z : Moment)
-    (r : Result Status Stop) → (of : IsRead heads.Definite x.told (λ files. files) explaining.file described) → request_of words ≡ Some (ToExplain explaining) →
-    IsLookedAt (description_in of.places) signature explaining.key laws key is_path → TellsRow (description_in of.places) described.files key x z r → Prints words false [] x z r
-prints_explained words explaining described signature laws key is_path x z r of asked looked tells =
-    prints_whole words false [] tells.whole x z r
-    (known x.told (λ before. AreRead before.files explaining.file of.places) (λ before. Gives before.files (request_of words) tells.whole)
-    (λ before read. explained_given before.files words explaining of.places described signature laws key is_path tells.whole asked of.said read looked tells.explained tells.begun) of.read)
-    tells.begun tells.step tells.ended (ends_so words explaining (description_in of.places) described.files key tells.whole r asked tells.explained tells.ended)
-    (asks_no_more words (ToExplain explaining) x z r asked (λ _. refl) tells.step.moves.called)
+pub prints_explained : (explaining : Explaining) (described : Described) (signature : Signature) (laws : List GroundLaw) (key : Key) (is_path : Bool) (x z : Moment)
+    (r : Result Status Stop) → (of : IsRead heads.Definite x.told (λ files. files) explaining.file described) →
+    IsLookedAt (description_in of.places) signature explaining.key laws key is_path → TellsRow (description_in of.places) described.files key x z r → Prints (explaining_promise explaining) false [] x z r
+prints_explained explaining described signature laws key is_path x z r of looked tells =
+    prints_whole (explaining_promise explaining) false [] tells.whole x z r
+    (known x.told (λ before. AreRead before.files explaining.file of.places) (λ before. Keeps (explaining_promise explaining) before.files tells.whole)
+    (λ before read. explained_given before.files explaining of.places described signature laws key is_path tells.whole of.said read looked tells.explained tells.begun) of.read)
+    tells.begun tells.step tells.ended (ends_so explaining (description_in of.places) described.files key tells.whole r tells.explained tells.ended)
+    (asks_no_more (explaining_promise explaining) x z r (λ _. refl) tells.step.moves.called)
 
 -- so few rules are not refused
 pub rules_fit : (d : Description) (horizon : ℕ) → length (timed_rules d horizon) ≤ most_rules → rules_refusal d horizon ≡ None

@@ -36,12 +36,11 @@ use Rattle.cc_ports.specs.Contents.{Contents}
 use Rattle.cc_ports.specs.declared.desk.To.TheVariants as outputs
 use Rattle.cc_ports.specs.Moments.{Moment}
 use Rattle.cc_query.specs.Sessions.{refusal_at}
-use Rattle.cc_run.specs.Answers.{Gives}
 use Rattle.cc_run.specs.Exported.{IsAskedAt, IsExportFault, IsExported, tried_refusal}
-use Rattle.cc_run.specs.Modes.Exporting.{Exports, MayEndExporting, NamesHorizon, RefusesExporting, export_refusal, horizon_refusal, is_outside}
-use Rattle.cc_run.specs.Names.{MayEndWith}
+use Rattle.cc_run.specs.Modes.Exporting.{Exports, MayEndExporting, NamesHorizon, RefusesExporting, export_refusal, exporting_promise, horizon_refusal, is_outside}
+use Rattle.cc_run.specs.Promises.{Keeps}
 use Rattle.cc_run.specs.Stops.{Prints}
-use Rattle.cc_run.specs.Tasks.{AreRead, description_in, queries_in, query_named, query_refusal, request_of}
+use Rattle.cc_run.specs.Tasks.{AreRead, description_in, queries_in, query_named, query_refusal}
 use Rattle.cc_run.specs.Wholes.{Whole}
 use Rattle.cc_tell.specs.declared.status.Status.{Status}
 use Rattle.cc_tell.specs.declared.status.Status.TheVariants as statuses
@@ -49,14 +48,14 @@ use Rattle.cc_tell.specs.declared.status.Stop.{Stop}
 use Rattle.cc_tell.specs.declared.status.Stop.TheVariants as stops
 use Rattle.cc_tell.specs.Steps.{Step}
 use Rattle.cc_tell.specs.Givens.{given_to, only_out}
-use Rattle.cc_words.specs.Requests.{Exporting, Request, ToExport}
+use Rattle.cc_words.specs.Requests.{Exporting}
 use Rattle.cc_words.specs.Words.{Text}
 use Rattle.cc_tell.proofs.GivenSteps.{step_nothing}
 use Rattle.cc_tell.proofs.LineSteps.{LinesSoFar, lines_end, lines_stop}
 use Rattle.cc_run.proofs.Explained.{ended_as}
 use Rattle.cc_run.proofs.Named.{refused_found, unrefused_query}
-use Rattle.cc_run.proofs.Outcomes.{RefusesRequest, asks_no_more, known, prints_whole}
-use Rattle.cc_run.proofs.Readings.{IsRead, asked_refuses}
+use Rattle.cc_run.proofs.Outcomes.{asks_no_more, known, prints_whole}
+use Rattle.cc_run.proofs.Readings.{IsRead}
 
 -- an error that is handed on
 pub handed_on : {X : Type 0} (P : Fault → Type 0) (fault : Fault) (s : Result X Fault) → IsErrAnd s (λ e. e ≡ fault) → P fault → IfErr s P
@@ -244,14 +243,13 @@ export_refused files exporting places described refusal file said read name (inr
   name = name ∙ unplaced described.files (description_in places) q exporting.horizon refusal passed;
 }))
 
-pub refuses_export : (o : Option Contents) (words : List Text) (exporting : Exporting) (described : Described) (of : IsRead heads.Definite o (λ files. files) exporting.file described) (refusal : Refusal)
-    (file : Text) → request_of words ≡ Some (ToExport exporting) → file ≡ file_named described.files refusal →
+pub refuses_export : (o : Option Contents) (exporting : Exporting) (described : Described) (of : IsRead heads.Definite o (λ files. files) exporting.file described) (refusal : Refusal)
+    (file : Text) → file ≡ file_named described.files refusal →
     IsExportFault (description_in of.places) (map plain_query described.queries) exporting.query exporting.horizon (faults.Refused refusal) →
-    IfSome o (λ before. RefusesRequest before.files (request_of words) refusal file)
-refuses_export o words exporting described of refusal file asked name fault =
-    known o (λ before. AreRead before.files exporting.file of.places) (λ before. RefusesRequest before.files (request_of words) refusal file)
-    (λ before read. asked_refuses words (ToExport exporting) before.files refusal file asked
-    (export_refused before.files exporting of.places described refusal file of.said read name fault)) of.read
+    IfSome o (λ before. (exporting_promise exporting).Refuses before.files refusal file)
+refuses_export o exporting described of refusal file name fault =
+    known o (λ before. AreRead before.files exporting.file of.places) (λ before. (exporting_promise exporting).Refuses before.files refusal file)
+    (λ before read. (export_refused before.files exporting of.places described refusal file of.said read name fault)) of.read
 
 -- ---- what is given
 
@@ -262,16 +260,16 @@ export_whole exporting form = record {
   ends = Some statuses.Right;
 }
 
-may_end : (words : List Text) (exporting : Exporting) (r : Result Status Stop) → request_of words ≡ Some (ToExport exporting) → IfOk r (λ s. s ≡ statuses.Right) →
-    IfOk r (MayEndWith (request_of words))
-may_end words exporting (Ok status) asked is =
-    subst (λ (o : Option Request). MayEndWith o status) (sym asked) (subst MayEndExporting (sym is) tt)
-may_end words exporting (Err stop) asked is = tt
+may_end : (exporting : Exporting) (r : Result Status Stop) → IfOk r (λ s. s ≡ statuses.Right) →
+    IfOk r ((exporting_promise exporting).MayEnd)
+may_end exporting (Ok status) is =
+    (subst MayEndExporting (sym is) tt)
+may_end exporting (Err stop) is = tt
 
-export_given : (files : Files) (words : List Text) (exporting : Exporting) (places : List Place) (described : Described) (form : Axioms) → request_of words ≡ Some (ToExport exporting) →
+export_given : (files : Files) (exporting : Exporting) (places : List Place) (described : Described) (form : Axioms) →
     IsDescribed heads.Definite places described → AreRead files exporting.file places →
-    IsExported (description_in places) (map plain_query described.queries) exporting.query exporting.horizon form → Gives files (request_of words) (export_whole exporting form)
-export_given files words exporting places described form asked said read is = subst (λ (o : Option Request). Gives files o (export_whole exporting form)) (sym asked) (inr exports)
+    IsExported (description_in places) (map plain_query described.queries) exporting.query exporting.horizon form → Keeps (exporting_promise exporting) files (export_whole exporting form)
+export_given files exporting places described form said read is = inr exports
   where
     exports : Exports exporting files (export_whole exporting form)
     exports = record {
@@ -285,13 +283,13 @@ export_given files words exporting places described form asked said read is = su
       ends = refl;
     }
 
-pub prints_exported : (words : List Text) (exporting : Exporting) (described : Described) (form : Axioms) (x z : Moment) (r : Result Status Stop) →
-    (of : IsRead heads.Definite x.told (λ files. files) exporting.file described) → request_of words ≡ Some (ToExport exporting) →
+pub prints_exported : (exporting : Exporting) (described : Described) (form : Axioms) (x z : Moment) (r : Result Status Stop) →
+    (of : IsRead heads.Definite x.told (λ files. files) exporting.file described) →
     IsExported (description_in of.places) (map plain_query described.queries) exporting.query exporting.horizon form →
     Step (only_out (export_of exporting.horizon (record { variables = form.variables; clauses = form.clauses }))) x z r → IfOk r (λ status. status ≡ statuses.Right) →
-    Prints words false [] x z r
-prints_exported words exporting described form x z r of asked is step ended =
-    prints_whole words false [] (export_whole exporting form) x z r
-    (known x.told (λ before. AreRead before.files exporting.file of.places) (λ before. Gives before.files (request_of words) (export_whole exporting form))
-    (λ before read. export_given before.files words exporting of.places described form asked of.said read is) of.read)
-    refl step (ended_as statuses.Right r ended) (may_end words exporting r asked ended) (asks_no_more words (ToExport exporting) x z r asked (λ _. refl) step.moves.called)
+    Prints (exporting_promise exporting) false [] x z r
+prints_exported exporting described form x z r of is step ended =
+    prints_whole (exporting_promise exporting) false [] (export_whole exporting form) x z r
+    (known x.told (λ before. AreRead before.files exporting.file of.places) (λ before. Keeps (exporting_promise exporting) before.files (export_whole exporting form))
+    (λ before read. export_given before.files exporting of.places described form of.said read is) of.read)
+    refl step (ended_as statuses.Right r ended) (may_end exporting r ended) (asks_no_more (exporting_promise exporting) x z r (λ _. refl) step.moves.called)

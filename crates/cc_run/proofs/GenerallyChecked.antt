@@ -12,13 +12,11 @@ use Rattle.cc_describe.specs.Places.{Files}
 use Rattle.cc_general.specs.GeneralLogs.{ProvesHistories, general_subject}
 use Rattle.cc_ports.specs.Contents.{Contents}
 use Rattle.cc_ports.specs.Moments.{Moment}
-use Rattle.cc_run.specs.Answers.{Gives}
-use Rattle.cc_run.specs.Modes.CheckingGeneral.{ChecksGeneral, NamesGeneralLog, RefusesCheckingGeneral, named_for_general}
+use Rattle.cc_run.specs.Modes.CheckingGeneral.{ChecksGeneral, NamesGeneralLog, RefusesCheckingGeneral, general_checking_promise, named_for_general}
 use Rattle.cc_run.specs.Modes.CheckingSure.{MayEndCheckingSure}
 use Rattle.cc_run.specs.Modes.Generally.{NamesWide, RefusesGenerally}
-use Rattle.cc_run.specs.Names.{MayEndWith}
+use Rattle.cc_run.specs.Promises.{Keeps, Promise}
 use Rattle.cc_run.specs.Stops.{Prints}
-use Rattle.cc_run.specs.Tasks.{request_of}
 use Rattle.cc_run.specs.Wholes.{Whole}
 use Rattle.cc_tell.specs.declared.status.Status.{Status}
 use Rattle.cc_tell.specs.declared.status.Stop.{Stop}
@@ -27,9 +25,9 @@ use Rattle.cc_tell.specs.Steps.{Step}
 use Rattle.cc_tell.specs.Givens.{only_out}
 use Rattle.cc_wide.specs.WideLaws.{WideDescription}
 use Rattle.cc_words.specs.declared.asked.CheckGeneralAsked.{CheckGeneralAsked}
-use Rattle.cc_words.specs.Requests.{Request, GeneralChecking, ToCheckGeneral}
+use Rattle.cc_words.specs.Requests.{GeneralChecking, ToCheckGeneral}
 use Rattle.cc_words.specs.Words.{Text}
-use Rattle.cc_run.proofs.Outcomes.{RefusesRequest, asks_no_more, known, prints_whole}
+use Rattle.cc_run.proofs.Outcomes.{asks_no_more, known, prints_whole}
 use Rattle.cc_run.proofs.Readings.{general_checking_by}
 use Rattle.cc_run.proofs.SurelyChecked.{verdict_may}
 
@@ -54,27 +52,27 @@ is_log (Some c) checking w q name read bytes same same_bytes is there = record {
 
 -- ---- what is refused
 
-abbrev Refuses : Option Contents → List Text → Refusal → Text → Type 0
-Refuses o words refusal file = IfSome o (λ c. RefusesRequest c.files (request_of words) refusal file)
+abbrev Refuses : Option Contents → Promise → Refusal → Text → Type 0
+Refuses o promise refusal file = IfSome o (λ c. promise.Refuses c.files refusal file)
 
-refuses_checking : (o : Option Contents) (words : List Text) (checking : GeneralChecking) (refusal : Refusal) (file : Text) → request_of words ≡ Some (ToCheckGeneral checking) →
-    IfSome o (λ c. RefusesCheckingGeneral c.files checking refusal file) → Refuses o words refusal file
-refuses_checking o words checking refusal file asked =
-    known o (λ c. RefusesCheckingGeneral c.files checking refusal file) (λ c. RefusesRequest c.files (request_of words) refusal file)
-    (λ c refused. subst (λ (r : Option Request). RefusesRequest c.files r refusal file) (sym asked) refused)
+refuses_checking : (o : Option Contents) (checking : GeneralChecking) (refusal : Refusal) (file : Text) →
+    IfSome o (λ c. RefusesCheckingGeneral c.files checking refusal file) → Refuses o (general_checking_promise checking) refusal file
+refuses_checking o checking refusal file =
+    known o (λ c. RefusesCheckingGeneral c.files checking refusal file) (λ c. (general_checking_promise checking).Refuses c.files refusal file)
+    (λ c refused. refused)
 
-pub refuses_named : (o : Option Contents) (words : List Text) (checking : GeneralChecking) (refusal : Refusal) (file : Text) → request_of words ≡ Some (ToCheckGeneral checking) →
-    IfSome o (λ c. RefusesGenerally c.files (named_for_general checking) refusal file) → Refuses o words refusal file
-refuses_named o words checking refusal file asked refused =
-    refuses_checking o words checking refusal file asked
+pub refuses_named : (o : Option Contents) (checking : GeneralChecking) (refusal : Refusal) (file : Text) →
+    IfSome o (λ c. RefusesGenerally c.files (named_for_general checking) refusal file) → Refuses o (general_checking_promise checking) refusal file
+refuses_named o checking refusal file refused =
+    refuses_checking o checking refusal file
     (known o (λ c. RefusesGenerally c.files (named_for_general checking) refusal file) (λ c. RefusesCheckingGeneral c.files checking refusal file) (λ c is. inl is) refused)
 
 -- a log that passes its limit
-pub refuses_long : (o : Option Contents) (words : List Text) (checking : GeneralChecking) (w : WideDescription) (q : Query) (name : Text) (most : ℕ) (refusal : Refusal) →
-    request_of words ≡ Some (ToCheckGeneral checking) → name ≡ checking.log → IfSome o (λ c. NamesWide c.files (named_for_general checking) w q) →
+pub refuses_long : (o : Option Contents) (checking : GeneralChecking) (w : WideDescription) (q : Query) (name : Text) (most : ℕ) (refusal : Refusal) →
+    name ≡ checking.log → IfSome o (λ c. NamesWide c.files (named_for_general checking) w q) →
     IfSome o (λ c. (bytes : List ℕ) × (c.files name ≡ Some bytes) × (most < length bytes)) → most ≡ limit_number limits.LogBytes → refusal ≡ past limits.LogBytes →
-    Refuses o words refusal []
-refuses_long o words checking w q name most refusal asked same is long most_is past_is = refuses_checking o words checking refusal [] asked (by o is long)
+    Refuses o (general_checking_promise checking) refusal []
+refuses_long o checking w q name most refusal same is long most_is past_is = refuses_checking o checking refusal [] (by o is long)
   where
     by : (o : Option Contents) → IfSome o (λ c. NamesWide c.files (named_for_general checking) w q) →
         IfSome o (λ c. (bytes : List ℕ) × (c.files name ≡ Some bytes) × (most < length bytes)) → IfSome o (λ c. RefusesCheckingGeneral c.files checking refusal [])
@@ -84,25 +82,25 @@ refuses_long o words checking w q name most refusal asked same is long most_is p
         inr (w, q, long.0, record { is = is; there = there }, inl (subst (λ (n : ℕ). n < length long.0) most_is long.2, past_is), refl)
 
 -- a section that passes a limit
-pub refuses_section : (o : Option Contents) (words : List Text) (checking : GeneralChecking) (w : WideDescription) (q : Query) (bytes : List ℕ) (refusal : Refusal) →
-    request_of words ≡ Some (ToCheckGeneral checking) → IfSome o (λ c. NamesGeneralLog c.files checking w q bytes) → length bytes ≤ limit_number limits.LogBytes →
-    IsSilentFault (general_subject w q) bytes (faults.Refused refusal) → Refuses o words refusal []
-refuses_section o words checking w q bytes refusal asked named few fault =
-    refuses_checking o words checking refusal [] asked
+pub refuses_section : (o : Option Contents) (checking : GeneralChecking) (w : WideDescription) (q : Query) (bytes : List ℕ) (refusal : Refusal) →
+    IfSome o (λ c. NamesGeneralLog c.files checking w q bytes) → length bytes ≤ limit_number limits.LogBytes →
+    IsSilentFault (general_subject w q) bytes (faults.Refused refusal) → Refuses o (general_checking_promise checking) refusal []
+refuses_section o checking w q bytes refusal named few fault =
+    refuses_checking o checking refusal []
     (known o (λ c. NamesGeneralLog c.files checking w q bytes) (λ c. RefusesCheckingGeneral c.files checking refusal [])
     (λ c log. inr (w, q, bytes, log, inr (few, fault), refl)) named)
 
 -- ---- what is said
 
-pub prints_general_verdict : (words : List Text) (checking : GeneralChecking) (w : WideDescription) (q : Query) (bytes : List ℕ) (verdict : SilentVerdict) (x z : Moment) (r : Result Status Stop) →
-    request_of words ≡ Some (ToCheckGeneral checking) → IfSome x.told (λ c. NamesGeneralLog c.files checking w q bytes) → length bytes ≤ limit_number limits.LogBytes →
+pub prints_general_verdict : (checking : GeneralChecking) (w : WideDescription) (q : Query) (bytes : List ℕ) (verdict : SilentVerdict) (x z : Moment) (r : Result Status Stop) →
+    IfSome x.told (λ c. NamesGeneralLog c.files checking w q bytes) → length bytes ≤ limit_number limits.LogBytes →
     IsSilentVerdict (general_subject w q) bytes verdict → IsSilentVerdictWithin (general_subject w q) bytes verdict → ProvesHistories w q bytes verdict →
-    Step (only_out (silent_verdict_line (codes "histories") verdict)) x z r → IfOk r (λ status. status ≡ silent_verdict_status verdict) → Prints words false [] x z r
-prints_general_verdict words checking w q bytes verdict x z r asked named few judged within proves step status =
-    prints_whole words false [] whole x z r
-    (known x.told (λ c. NamesGeneralLog c.files checking w q bytes) (λ c. Gives c.files (request_of words) whole)
-    (λ c log. subst (λ (o : Option Request). Gives c.files o whole) (sym asked) (inr (checks c.files log))) named)
-    refl step (ended r status) (may r status) (asks_no_more words (ToCheckGeneral checking) x z r asked (λ _. refl) step.moves.called)
+    Step (only_out (silent_verdict_line (codes "histories") verdict)) x z r → IfOk r (λ status. status ≡ silent_verdict_status verdict) → Prints (general_checking_promise checking) false [] x z r
+prints_general_verdict checking w q bytes verdict x z r named few judged within proves step status =
+    prints_whole (general_checking_promise checking) false [] whole x z r
+    (known x.told (λ c. NamesGeneralLog c.files checking w q bytes) (λ c. Keeps (general_checking_promise checking) c.files whole)
+    (λ c log. inr (checks c.files log)) named)
+    refl step (ended r status) (may r status) (asks_no_more (general_checking_promise checking) x z r (λ _. refl) step.moves.called)
   where
     whole : Whole
     whole = record { given = only_out (silent_verdict_line (codes "histories") verdict); begun = false; ends = Some (silent_verdict_status verdict) }
@@ -127,6 +125,6 @@ prints_general_verdict words checking w q bytes verdict x z r asked named few ju
     ended (Ok status) is = ap Some (sym is)
     ended (Err stop) is = tt
 
-    may : (r : Result Status Stop) → IfOk r (λ status. status ≡ silent_verdict_status verdict) → IfOk r (MayEndWith (request_of words))
-    may (Ok status) is = subst (λ (o : Option Request). MayEndWith o status) (sym asked) (subst MayEndCheckingSure (sym is) (verdict_may verdict))
+    may : (r : Result Status Stop) → IfOk r (λ status. status ≡ silent_verdict_status verdict) → IfOk r ((general_checking_promise checking).MayEnd)
+    may (Ok status) is = subst MayEndCheckingSure (sym is) (verdict_may verdict)
     may (Err stop) is = tt

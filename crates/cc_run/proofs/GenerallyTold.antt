@@ -11,13 +11,10 @@ use Rattle.cc_general.specs.Accepted.{GeneralLogsAreAccepted}
 use Rattle.cc_general.specs.GeneralRuns.{GeneralEnding, Complete, Asked, NoneAtAll, SpentAmong, SpentOver, GeneralRun, general_horizon}
 use Rattle.cc_ports.specs.Contents.{Contents}
 use Rattle.cc_ports.specs.Moments.{Moment}
-use Rattle.cc_run.specs.Answers.{Gives}
 use Rattle.cc_run.specs.Generals.{TellsGenerally, generally_given}
-use Rattle.cc_run.specs.Modes.Generally.{EndsGenerally, ListsGenerally, NamesWide, RefusesGenerally, general_status, named_generally}
-use Rattle.cc_run.specs.Names.{MayEndWith, log_asked}
-use Rattle.cc_run.specs.Promises.{IsEndStatus}
+use Rattle.cc_run.specs.Modes.Generally.{EndsGenerally, ListsGenerally, NamesWide, RefusesGenerally, general_promise, general_status, named_generally}
+use Rattle.cc_run.specs.Promises.{IsEndStatus, Keeps, log_asked}
 use Rattle.cc_run.specs.Stops.{Prints, outcome}
-use Rattle.cc_run.specs.Tasks.{request_of}
 use Rattle.cc_run.specs.Wholes.{Whole}
 use Rattle.cc_tell.specs.declared.status.Status.{Status}
 use Rattle.cc_tell.specs.declared.status.Status.TheVariants as statuses
@@ -26,10 +23,10 @@ use Rattle.cc_tell.specs.Steps.{Begins}
 use Rattle.cc_tell.specs.Givens.{nothing}
 use Rattle.cc_wide.specs.WideLaws.{WideDescription}
 use Rattle.cc_words.specs.declared.asked.GeneralAsked.{GeneralAsked}
-use Rattle.cc_words.specs.Requests.{Generally, Request, ToListGenerally}
+use Rattle.cc_words.specs.Requests.{Generally, ToListGenerally}
 use Rattle.cc_words.specs.Words.{Text}
 use Rattle.cc_tell.proofs.GivenSteps.{step_as}
-use Rattle.cc_run.proofs.Outcomes.{RefusesRequest, known, prints_begun}
+use Rattle.cc_run.proofs.Outcomes.{known, prints_begun}
 use Rattle.cc_run.proofs.Readings.{generally_by}
 use Rattle.cc_run.proofs.SurelyTold.{log_begins}
 
@@ -47,16 +44,16 @@ pub begins_generally : {X : Type 0} (asked : GeneralAsked) (generally : Generall
 begins_generally asked generally is names x y r begins = subst (λ b. Begins b names x y r) (log_begins asked.log ∙ ap (λ (g : Generally). is_some g.log) is) begins
 
 -- what is refused of it
-pub refuses_asked : (o : Option Contents) (words : List Text) (generally : Generally) (refusal : Refusal) (file : Text) → request_of words ≡ Some (ToListGenerally generally) →
-    IfSome o (λ before. RefusesGenerally before.files (named_generally generally) refusal file) → IfSome o (λ before. RefusesRequest before.files (request_of words) refusal file)
-refuses_asked o words generally refusal file asked =
-    known o (λ before. RefusesGenerally before.files (named_generally generally) refusal file) (λ before. RefusesRequest before.files (request_of words) refusal file)
-    (λ before refused. subst (λ (r : Option Request). RefusesRequest before.files r refusal file) (sym asked) refused)
+pub refuses_asked : (o : Option Contents) (generally : Generally) (refusal : Refusal) (file : Text) →
+    IfSome o (λ before. RefusesGenerally before.files (named_generally generally) refusal file) → IfSome o (λ before. (general_promise generally).Refuses before.files refusal file)
+refuses_asked o generally refusal file =
+    known o (λ before. RefusesGenerally before.files (named_generally generally) refusal file) (λ before. (general_promise generally).Refuses before.files refusal file)
+    (λ before refused. refused)
 
 -- the log that is named is the one that is asked for, however the run ends
-pub general_log_named : (words : List Text) (generally : Generally) (names : List Text) → request_of words ≡ Some (ToListGenerally generally) → names ≡ optional generally.log →
-    (status : Status) → names ≡ log_asked (request_of words) status
-general_log_named words generally names asked named status = named ∙ sym (ap (λ (o : Option Request). log_asked o status) asked)
+pub general_log_named : (generally : Generally) (names : List Text) → names ≡ optional generally.log →
+    (status : Status) → names ≡ log_asked (general_promise generally) status
+general_log_named generally names named status = named
 
 -- ---- a run
 
@@ -75,10 +72,10 @@ generally_may w q count run err (Some other) status (inl ended) is =
 generally_may w q count run err (Some other) status (inr refused) is =
     let same : other ≡ status = cc in subst IsEndStatus (sym refused.3 ∙ same) tt
 
-pub prints_generally : {X : Type 0} (words : List Text) (generally : Generally) (w : WideDescription) (q : Query) (names : List Text) (x y z : Moment) (b : Result X Stop) (v : X) (r : Result Status Stop) →
-    GeneralLogsAreAccepted → (range_of q).1 ≤ most_steps → request_of words ≡ Some (ToListGenerally generally) → names ≡ optional generally.log →
-    IfSome x.told (λ c. NamesWide c.files (named_generally generally) w q) → Begins (is_some generally.log) names x y b → b ≡ Ok v → TellsGenerally w q generally.count generally.budget nothing y z r → Prints words (is_some generally.log) [] x z r
-prints_generally words generally w q names x y z b v r law low asked named is at was told =
+pub prints_generally : {X : Type 0} (generally : Generally) (w : WideDescription) (q : Query) (names : List Text) (x y z : Moment) (b : Result X Stop) (v : X) (r : Result Status Stop) →
+    GeneralLogsAreAccepted → (range_of q).1 ≤ most_steps → names ≡ optional generally.log →
+    IfSome x.told (λ c. NamesWide c.files (named_generally generally) w q) → Begins (is_some generally.log) names x y b → b ≡ Ok v → TellsGenerally w q generally.count generally.budget nothing y z r → Prints (general_promise generally) (is_some generally.log) [] x z r
+prints_generally generally w q names x y z b v r law low named is at was told =
     let more = told.more in
     let within = more.fair.within in
     let short : IsShort (general_horizon q told.run) = omega arith in
@@ -95,15 +92,14 @@ prints_generally words generally w q names x y z b v r law low asked named is at
       begun = refl;
       ends = more.how;
     } in
-    let names_are = general_log_named words generally names asked named in
-    prints_begun words (is_some generally.log) names whole x y z b v r (names_are statuses.Right) (λ _. names_are (outcome r))
-    (known x.told (λ c. NamesWide c.files (named_generally generally) w q) (λ c. Gives c.files (request_of words) whole)
-    (λ c is. subst (λ (o : Option Request). Gives c.files o whole) (sym asked) (inr (lists c.files is))) is)
+    let names_are = general_log_named generally names named in
+    prints_begun (general_promise generally) (is_some generally.log) names whole x y z b v r (names_are statuses.Right) (λ _. names_are (outcome r))
+    (known x.told (λ c. NamesWide c.files (named_generally generally) w q) (λ c. Keeps (general_promise generally) c.files whole)
+    (λ c is. inr (lists c.files is)) is)
     refl at was (step_as more.given whole.given y z r more.grows more.step) told.ended (may r told.ended)
   where
-    may : (r : Result Status Stop) → IfOk r (λ status. told.ends ≡ Some status) → IfOk r (MayEndWith (request_of words))
-    may (Ok status) is = subst (λ (o : Option Request). MayEndWith o status) (sym asked)
-        (generally_may w q generally.count told.run told.more.err told.ends status told.more.how is)
+    may : (r : Result Status Stop) → IfOk r (λ status. told.ends ≡ Some status) → IfOk r ((general_promise generally).MayEnd)
+    may (Ok status) is = generally_may w q generally.count told.run told.more.err told.ends status told.more.how is
     may (Err stop) is = tt
 
 -- the same, asked by what the program has

@@ -15,10 +15,12 @@ use Rattle.cc_describe.specs.Places.{Files}
 use Rattle.cc_judge.specs.Judging.{BlocksHistories, IsJudgeFault, IsVerdictWithin}
 use Rattle.cc_ports.specs.Contents.{Contents}
 use Rattle.cc_query.specs.Accepted.{subject_of}
-use Rattle.cc_run.specs.Modes.Checking.{NamesLog, RefusesChecking, RefusesLog}
-use Rattle.cc_run.specs.Tasks.{IsTask, Task, checked_by, named_in, request_of}
+use Rattle.cc_run.specs.Modes.Checking.{NamesLog, RefusesChecking, RefusesLog, checking_promise}
+use Rattle.cc_run.specs.Modes.Converting.{converting_promise}
+use Rattle.cc_run.specs.Promises.{Promise}
+use Rattle.cc_run.specs.Tasks.{IsTask, Task, checked_by, named_in}
 use Rattle.cc_run.specs.Telling.{task_to_check}
-use Rattle.cc_run.proofs.Outcomes.{IsSaid, RefusesRequest}
+use Rattle.cc_run.proofs.Outcomes.{IsSaid}
 use Rattle.cc_run.proofs.Readings.{checking_by, converting_by}
 use Rattle.cc_words.specs.declared.asked.CheckAsked.{CheckAsked}
 use Rattle.cc_words.specs.declared.asked.ConvertAsked.{ConvertAsked}
@@ -63,32 +65,32 @@ fault_as d q key found bytes fault same is = subst (λ (k : Option Key). IsJudge
 
 -- ---- what is refused
 
--- what is refused of a log that is checked is refused of what the words ask for
-abbrev pub RefusesAsChecked : List Text → Checking → Type 0
-RefusesAsChecked words checking = (files : Files) (refusal : Refusal) (file : Text) → RefusesChecking files checking refusal file → RefusesRequest files (request_of words) refusal file
+-- what is refused of a log that is checked is refused of a run with this promise
+abbrev pub RefusesAsChecked : Promise → Checking → Type 0
+RefusesAsChecked promise checking = (files : Files) (refusal : Refusal) (file : Text) → RefusesChecking files checking refusal file → promise.Refuses files refusal file
 
-pub as_checking : (words : List Text) (checking : Checking) → request_of words ≡ Some (ToCheck checking) → RefusesAsChecked words checking
-as_checking words checking asked files refusal file refused = subst (λ request. RefusesRequest files request refusal file) (sym asked) refused
+pub as_checking : (checking : Checking) → RefusesAsChecked (checking_promise checking) checking
+as_checking checking files refusal file refused = refused
 
-pub as_converting : (words : List Text) (converting : Converting) → request_of words ≡ Some (ToConvert converting) → RefusesAsChecked words (checked_by converting)
-as_converting words converting asked files refusal file refused = subst (λ request. RefusesRequest files request refusal file) (sym asked) refused
+pub as_converting : (converting : Converting) → RefusesAsChecked (converting_promise converting) (checked_by converting)
+as_converting converting files refusal file refused = refused
 
-log_refused : (files : Files) (words : List Text) (checking : Checking) (task : Task) (bytes : List ℕ) (refusal : Refusal) → RefusesAsChecked words checking →
-    NamesLog files checking task bytes → RefusesLog task bytes refusal → RefusesRequest files (request_of words) refusal []
-log_refused files words checking task bytes refusal asked named refused = asked files refusal [] (inr (task, bytes, named, refused, refl))
+log_refused : (files : Files) (promise : Promise) (checking : Checking) (task : Task) (bytes : List ℕ) (refusal : Refusal) → RefusesAsChecked promise checking →
+    NamesLog files checking task bytes → RefusesLog task bytes refusal → promise.Refuses files refusal []
+log_refused files promise checking task bytes refusal asked named refused = asked files refusal [] (inr (task, bytes, named, refused, refl))
 
 -- it reaches a section that passes a limit
-pub refuses_section : (o : Option Contents) (words : List Text) (checking : Checking) (task : Task) (bytes : List ℕ) (refusal : Refusal) →
-    RefusesAsChecked words checking → IfSome o (λ before. NamesLog before.files checking task bytes) → length bytes ≤ limit_number limits.LogBytes →
-    IsJudgeFault task.description task.query task.ask.after bytes (faults.Refused refusal) → IfSome o (λ before. RefusesRequest before.files (request_of words) refusal [])
-refuses_section None words checking task bytes refusal asked named few fault = tt
-refuses_section (Some c) words checking task bytes refusal asked named few fault = log_refused c.files words checking task bytes refusal asked named (inr (few, fault))
+pub refuses_section : (o : Option Contents) (promise : Promise) (checking : Checking) (task : Task) (bytes : List ℕ) (refusal : Refusal) →
+    RefusesAsChecked promise checking → IfSome o (λ before. NamesLog before.files checking task bytes) → length bytes ≤ limit_number limits.LogBytes →
+    IsJudgeFault task.description task.query task.ask.after bytes (faults.Refused refusal) → IfSome o (λ before. promise.Refuses before.files refusal [])
+refuses_section None promise checking task bytes refusal asked named few fault = tt
+refuses_section (Some c) promise checking task bytes refusal asked named few fault = log_refused c.files promise checking task bytes refusal asked named (inr (few, fault))
 
 -- it is too long
-pub refuses_long : (o : Option Contents) (words : List Text) (checking : Checking) (task : Task) (name : List ℕ) (most : ℕ) (refusal : Refusal) →
-    RefusesAsChecked words checking → name ≡ checking.log → IfSome o (λ before. IsTask before.files (named_in checking) task) →
+pub refuses_long : (o : Option Contents) (promise : Promise) (checking : Checking) (task : Task) (name : List ℕ) (most : ℕ) (refusal : Refusal) →
+    RefusesAsChecked promise checking → name ≡ checking.log → IfSome o (λ before. IsTask before.files (named_in checking) task) →
     IfSome o (λ c. (bytes : List ℕ) × (c.files name ≡ Some bytes) × (most < length bytes)) → most ≡ limit_number limits.LogBytes → refusal ≡ past limits.LogBytes →
-    IfSome o (λ before. RefusesRequest before.files (request_of words) refusal [])
-refuses_long None words checking task name most refusal asked same is long most_is past_is = tt
-refuses_long (Some c) words checking task name most refusal asked same is long most_is past_is =
-    log_refused c.files words checking task long.0 refusal asked (record { is = is; there = subst (λ (n : Text). c.files n ≡ Some long.0) same long.1 }) (inl (subst (λ (n : ℕ). n < length long.0) most_is long.2, past_is))
+    IfSome o (λ before. promise.Refuses before.files refusal [])
+refuses_long None promise checking task name most refusal asked same is long most_is past_is = tt
+refuses_long (Some c) promise checking task name most refusal asked same is long most_is past_is =
+    log_refused c.files promise checking task long.0 refusal asked (record { is = is; there = subst (λ (n : Text). c.files n ≡ Some long.0) same long.1 }) (inl (subst (λ (n : ℕ). n < length long.0) most_is long.2, past_is))

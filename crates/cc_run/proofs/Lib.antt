@@ -25,6 +25,7 @@ pub mod NumberedRuns
 pub mod NumberedSteps
 pub mod Outcomes
 pub mod Passing
+pub mod Promised
 pub mod Readings
 pub mod Requests
 pub mod RunEvents

@@ -22,16 +22,13 @@ use Rattle.cc_ports.specs.Moments.{Moment}
 use Rattle.cc_print.specs.Models.{models_verdict_line}
 use Rattle.cc_query.proofs.Moving.{told_moved}
 use Rattle.cc_query.specs.Accepted.{AreGoodAxioms}
-use Rattle.cc_run.specs.Answers.{Gives}
 use Rattle.cc_run.specs.CnfForms.{IsFormOf}
 use Rattle.cc_run.specs.Modes.Checking.{verdict_status}
-use Rattle.cc_run.specs.Modes.CheckingModels.{ChecksModels}
-use Rattle.cc_run.specs.Modes.Modelling.{EndsModels, IsCnfIn, Models, RefusesCnf}
+use Rattle.cc_run.specs.Modes.CheckingModels.{ChecksModels, models_checking_promise}
+use Rattle.cc_run.specs.Modes.Modelling.{EndsModels, IsCnfIn, Models, RefusesCnf, modelling_promise}
 use Rattle.cc_run.specs.ModelsTold.{AreWithin, EndsListing, TellsListing, told_of}
-use Rattle.cc_run.specs.Names.{MayEndWith, log_asked}
-use Rattle.cc_run.specs.Promises.{IsEndStatus}
+use Rattle.cc_run.specs.Promises.{IsEndStatus, Keeps, log_asked}
 use Rattle.cc_run.specs.Stops.{Prints, outcome}
-use Rattle.cc_run.specs.Tasks.{request_of}
 use Rattle.cc_run.specs.Wholes.{Whole}
 use Rattle.cc_tell.specs.declared.status.Status.{Status}
 use Rattle.cc_tell.specs.declared.status.Status.TheVariants as statuses
@@ -42,14 +39,14 @@ use Rattle.cc_tell.specs.Givens.{nothing, only_out}
 use Rattle.cc_words.specs.declared.asked.Asked.TheVariants as requests
 use Rattle.cc_words.specs.declared.asked.CheckModelsAsked.{CheckModelsAsked}
 use Rattle.cc_words.specs.declared.asked.ModelsAsked.{ModelsAsked}
-use Rattle.cc_words.specs.Requests.{ModelChecking, Modelling, Request, ToCheckModels, ToModel}
+use Rattle.cc_words.specs.Requests.{ModelChecking, Modelling, ToCheckModels, ToModel}
 use Rattle.cc_words.specs.Views.{plain_request, plain_text}
 use Rattle.cc_words.specs.Words.{Text}
 use Rattle.cc_tell.proofs.Calls.{called_on}
 use Rattle.cc_tell.proofs.GivenSteps.{calm_both, rose_later, step_as}
 use Rattle.cc_run.proofs.Callings.{first_none}
 use Rattle.cc_run.proofs.NumberedSteps.{section_low}
-use Rattle.cc_run.proofs.Outcomes.{Comes, RefusesRequest, known, left, prints_whole, told_search, whole_comes}
+use Rattle.cc_run.proofs.Outcomes.{Comes, known, left, prints_whole, told_search, whole_comes}
 
 -- ---- what is asked
 
@@ -85,25 +82,25 @@ log_there (Some c) a b read bytes same same_bytes there =
 
 -- ---- what is refused
 
-pub models_refuse : (o : Option Contents) (words : List Text) (modelling : Modelling) (refusal : Refusal) (file named name : Text) → request_of words ≡ Some (ToModel modelling) →
-    file ≡ modelling.file → name ≡ named → IfSome o (λ c. RefusesCnf c.files file refusal named) → IfSome o (λ c. RefusesRequest c.files (request_of words) refusal name)
-models_refuse o words modelling refusal file named name asked same said refused =
-    known o (λ c. RefusesCnf c.files file refusal named) (λ c. RefusesRequest c.files (request_of words) refusal name)
-    (λ c is. subst (λ (r : Option Request). RefusesRequest c.files r refusal name) (sym asked) (subst (λ (f : Text). RefusesCnf c.files f refusal name) same (subst (λ (n : Text). RefusesCnf c.files file refusal n) (sym said) is))) refused
+pub models_refuse : (o : Option Contents) (modelling : Modelling) (refusal : Refusal) (file named name : Text) →
+    file ≡ modelling.file → name ≡ named → IfSome o (λ c. RefusesCnf c.files file refusal named) → IfSome o (λ c. (modelling_promise modelling).Refuses c.files refusal name)
+models_refuse o modelling refusal file named name same said refused =
+    known o (λ c. RefusesCnf c.files file refusal named) (λ c. (modelling_promise modelling).Refuses c.files refusal name)
+    (λ c is. (subst (λ (f : Text). RefusesCnf c.files f refusal name) same (subst (λ (n : Text). RefusesCnf c.files file refusal n) (sym said) is))) refused
 
-pub checks_refuse : (o : Option Contents) (words : List Text) (checking : ModelChecking) (refusal : Refusal) (file named name : Text) → request_of words ≡ Some (ToCheckModels checking) →
-    file ≡ checking.file → name ≡ named → IfSome o (λ c. RefusesCnf c.files file refusal named) → IfSome o (λ c. RefusesRequest c.files (request_of words) refusal name)
-checks_refuse o words checking refusal file named name asked same said refused =
-    known o (λ c. RefusesCnf c.files file refusal named) (λ c. RefusesRequest c.files (request_of words) refusal name)
-    (λ c is. subst (λ (r : Option Request). RefusesRequest c.files r refusal name) (sym asked) (inl (subst (λ (f : Text). RefusesCnf c.files f refusal name) same (subst (λ (n : Text). RefusesCnf c.files file refusal n) (sym said) is)))) refused
+pub checks_refuse : (o : Option Contents) (checking : ModelChecking) (refusal : Refusal) (file named name : Text) →
+    file ≡ checking.file → name ≡ named → IfSome o (λ c. RefusesCnf c.files file refusal named) → IfSome o (λ c. (models_checking_promise checking).Refuses c.files refusal name)
+checks_refuse o checking refusal file named name same said refused =
+    known o (λ c. RefusesCnf c.files file refusal named) (λ c. (models_checking_promise checking).Refuses c.files refusal name)
+    (λ c is. (inl (subst (λ (f : Text). RefusesCnf c.files f refusal name) same (subst (λ (n : Text). RefusesCnf c.files file refusal n) (sym said) is)))) refused
 
-pub checks_refuse_long : (o : Option Contents) (words : List Text) (checking : ModelChecking) (cnf : PlainCnf) (name : Text) (most : ℕ) (refusal : Refusal) →
-    request_of words ≡ Some (ToCheckModels checking) → name ≡ checking.log → IfSome o (λ c. IsCnfIn c.files checking.file cnf) →
+pub checks_refuse_long : (o : Option Contents) (checking : ModelChecking) (cnf : PlainCnf) (name : Text) (most : ℕ) (refusal : Refusal) →
+    name ≡ checking.log → IfSome o (λ c. IsCnfIn c.files checking.file cnf) →
     IfSome o (λ c. (bytes : List ℕ) × (c.files name ≡ Some bytes) × (most < length bytes)) → most ≡ limit_number limits.LogBytes → refusal ≡ past limits.LogBytes →
-    IfSome o (λ c. RefusesRequest c.files (request_of words) refusal [])
-checks_refuse_long None words checking cnf name most refusal asked same is long most_is past_is = tt
-checks_refuse_long (Some c) words checking cnf name most refusal asked same is long most_is past_is =
-    subst (λ (r : Option Request). RefusesRequest c.files r refusal []) (sym asked) (inr (record {
+    IfSome o (λ c. (models_checking_promise checking).Refuses c.files refusal [])
+checks_refuse_long None checking cnf name most refusal same is long most_is past_is = tt
+checks_refuse_long (Some c) checking cnf name most refusal same is long most_is past_is =
+    (inr (record {
       cnf = cnf;
       is = is;
       bytes = long.0;
@@ -115,7 +112,7 @@ checks_refuse_long (Some c) words checking cnf name most refusal asked same is l
 
 -- ---- a verdict
 
-verdict_may : (checking : ModelChecking) (verdict : LogVerdict) → MayEndWith (Some (ToCheckModels checking)) (verdict_status verdict)
+verdict_may : (checking : ModelChecking) (verdict : LogVerdict) → (models_checking_promise checking).MayEnd (verdict_status verdict)
 verdict_may checking (verdicts.Accepted first last blocked) = tt
 verdict_may checking (verdicts.Refused line reason) = tt
 
@@ -124,19 +121,19 @@ blocked_models : (cnf : PlainCnf) (form : Axioms) (bytes : List ℕ) (verdict : 
 blocked_models cnf form bytes (verdicts.Accepted first last blocked) is all = λ row model. all row ((is.tells.rows row).1 model)
 blocked_models cnf form bytes (verdicts.Refused line reason) is all = tt
 
-pub prints_models_verdict : (words : List Text) (checking : ModelChecking) (cnf : PlainCnf) (form : Axioms) (bytes : List ℕ) (verdict : LogVerdict) (x z : Moment) (r : Result Status Stop) →
-    request_of words ≡ Some (ToCheckModels checking) → IsFormOf cnf form → IfSome x.told (λ c. IsCnfIn c.files checking.file cnf) →
+pub prints_models_verdict : (checking : ModelChecking) (cnf : PlainCnf) (form : Axioms) (bytes : List ℕ) (verdict : LogVerdict) (x z : Moment) (r : Result Status Stop) →
+    IsFormOf cnf form → IfSome x.told (λ c. IsCnfIn c.files checking.file cnf) →
     IfSome x.told (λ c. c.files checking.log ≡ Some bytes) → length bytes ≤ limit_number limits.LogBytes → IsVerdict (subject_over form) bytes verdict →
     BlocksAll (IsRowOf form.sizes form.clauses) bytes verdict → Step (only_out (models_verdict_line verdict)) x z r → IfOk r (λ status. status ≡ verdict_status verdict) →
-    Prints words false [] x z r
-prints_models_verdict words checking cnf form bytes verdict x z r asked of is there few judged blocks step status =
-    prints_whole words false [] whole x z r (gives x.told is there) refl step (ended r status) (may r status) (record {
+    Prints (models_checking_promise checking) false [] x z r
+prints_models_verdict checking cnf form bytes verdict x z r of is there few judged blocks step status =
+    prints_whole (models_checking_promise checking) false [] whole x z r (gives x.told is there) refl step (ended r status) (may r status) (record {
       opened = [];
       begun = [];
       called = step.moves.called;
       opened_first = first_none [];
-      begun_first = first_none (log_asked (request_of words) statuses.Right);
-      whole = λ _. (refl, sym (ap (λ (o : Option Request). log_asked o (outcome r)) asked));
+      begun_first = first_none (log_asked (models_checking_promise checking) statuses.Right);
+      whole = λ _. (refl, refl);
     })
   where
     whole : Whole
@@ -158,17 +155,16 @@ prints_models_verdict words checking cnf form bytes verdict x z r asked of is th
     }
 
     gives : (o : Option Contents) → IfSome o (λ c. IsCnfIn c.files checking.file cnf) → IfSome o (λ c. c.files checking.log ≡ Some bytes) →
-        IfSome o (λ c. Gives c.files (request_of words) whole)
+        IfSome o (λ c. Keeps (models_checking_promise checking) c.files whole)
     gives None is there = tt
-    gives (Some c) is there = subst (λ (o : Option Request). Gives c.files o whole) (sym asked) (inr (checks c.files is there))
+    gives (Some c) is there = (inr (checks c.files is there))
 
     ended : (r : Result Status Stop) → IfOk r (λ status. status ≡ verdict_status verdict) → IfOk r (λ status. Some (verdict_status verdict) ≡ Some status)
     ended (Ok status) is = ap Some (sym is)
     ended (Err stop) is = tt
 
-    may : (r : Result Status Stop) → IfOk r (λ status. status ≡ verdict_status verdict) → IfOk r (MayEndWith (request_of words))
-    may (Ok status) is = subst (λ (o : Option Request). MayEndWith o status) (sym asked)
-        (subst (λ (s : Status). MayEndWith (Some (ToCheckModels checking)) s) (sym is) (verdict_may checking verdict))
+    may : (r : Result Status Stop) → IfOk r (λ status. status ≡ verdict_status verdict) → IfOk r ((models_checking_promise checking).MayEnd)
+    may (Ok status) is = subst (λ (s : Status). (models_checking_promise checking).MayEnd s) (sym is) (verdict_may checking verdict)
     may (Err stop) is = tt
 
 -- ---- a listing
@@ -212,15 +208,15 @@ listing_ends cnf section err None how = how
 listing_ends cnf section err (Some status) how = how
 
 -- the log that is named is the one that is asked for, however the run ends
-pub models_log : (words : List Text) (modelling : Modelling) (names : List Text) → request_of words ≡ Some (ToModel modelling) → names ≡ optional modelling.log →
-    (status : Status) → names ≡ log_asked (request_of words) status
-models_log words modelling names asked named status = named ∙ sym (ap (λ (o : Option Request). log_asked o status) asked)
+pub models_log : (modelling : Modelling) (names : List Text) → names ≡ optional modelling.log →
+    (status : Status) → names ≡ log_asked (modelling_promise modelling) status
+models_log modelling names named status = named
 
-pub prints_listing : {X : Type 0} (words : List Text) (modelling : Modelling) (cnf : PlainCnf) (form : Axioms) (names : List Text) (x y z : Moment) (b : Result X Stop) (v : X) (r : Result Status Stop) →
-    request_of words ≡ Some (ToModel modelling) → names ≡ optional modelling.log → IsFormOf cnf form → IfSome x.told (λ c. IsCnfIn c.files modelling.file cnf) →
+pub prints_listing : {X : Type 0} (modelling : Modelling) (cnf : PlainCnf) (form : Axioms) (names : List Text) (x y z : Moment) (b : Result X Stop) (v : X) (r : Result Status Stop) →
+    names ≡ optional modelling.log → IsFormOf cnf form → IfSome x.told (λ c. IsCnfIn c.files modelling.file cnf) →
     Begins (is_some modelling.log) names x y b → b ≡ Ok v → TellsListing form modelling.form modelling.count modelling.budget nothing y z r →
-    Prints words (is_some modelling.log) [] x z r
-prints_listing {X = X} words modelling cnf form names x y z b v r asked named of is at was listing =
+    Prints (modelling_promise modelling) (is_some modelling.log) [] x z r
+prints_listing {X = X} modelling cnf form names x y z b v r named of is at was listing =
     let begins = is_some modelling.log in
     let made : Result X Stop = Ok v in
     let done : Begins begins names x y made = subst (λ b. Begins begins names x y b) was at in
@@ -240,12 +236,12 @@ prints_listing {X = X} words modelling cnf form names x y z b v r asked named of
       begun = refl;
       ends = listing_ends cnf told.section more.err told.ends more.how;
     } in
-    let names_are = models_log words modelling names asked named in
+    let names_are = models_log modelling names named in
     record {
-      told = told_search words step.given x.told y.told z.told x.begun z.begun r done.told step.moves.told
-          (known x.told (λ c. IsCnfIn c.files modelling.file cnf) (λ before. x.begun ≡ false → Comes before.files words (left step.given z.begun) r)
-          (λ before is none. whole_comes before.files words whole step.given z.begun r
-          (subst (λ (o : Option Request). Gives before.files o whole) (sym asked) (inr (models before.files is)))
+      told = told_search (modelling_promise modelling) step.given x.told y.told z.told x.begun z.begun r done.told step.moves.told
+          (known x.told (λ c. IsCnfIn c.files modelling.file cnf) (λ before. x.begun ≡ false → Comes before.files (modelling_promise modelling) (left step.given z.begun) r)
+          (λ before is none. whole_comes before.files (modelling_promise modelling) whole step.given z.begun r
+          (inr (models before.files is))
           (sym (begun_as begins x.begun y.begun z.begun done.begun step.moves.begun none)) step.how told.ended) is);
       ends = may r listing.ended;
       asks = record {
@@ -268,8 +264,8 @@ prints_listing {X = X} words modelling cnf form names x y z b v r asked named of
     begun_as true was at begun one two none = sym (two ∙ one)
     begun_as false was at begun one two none = sym (two ∙ (one ∙ none))
 
-    may : (r : Result Status Stop) → IfOk r (λ status. listing.ends ≡ Some status) → IfOk r (MayEndWith (request_of words))
-    may (Ok status) is = subst (λ (o : Option Request). MayEndWith o status) (sym asked) (listing_may form listing.section listing.more.err listing.ends status listing.more.how is)
+    may : (r : Result Status Stop) → IfOk r (λ status. listing.ends ≡ Some status) → IfOk r ((modelling_promise modelling).MayEnd)
+    may (Ok status) is = listing_may form listing.section listing.more.err listing.ends status listing.more.how is
     may (Err stop) is = tt
 
 -- ---- what is asked, as the program has it

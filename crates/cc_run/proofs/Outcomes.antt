@@ -13,7 +13,7 @@ use Rattle.cc_defs.specs.Limits.{limit_number}
 use Rattle.cc_defs.specs.Logs.{IsVerdict}
 use Rattle.cc_defs.specs.Runs.{Claim, Conditions, Failure, Histories, Horizon, IsFairRun, IsTrueOf, MayEnd, MayEndWithin, Run, first_horizon, horizon_at, last_horizon, optional, rows_of}
 use Rattle.cc_describe.specs.Describing.{AreFirstNames}
-use Rattle.cc_describe.specs.Places.{Files, HasPlaces}
+use Rattle.cc_describe.specs.Places.{Files}
 use Rattle.cc_judge.specs.Judging.{BlocksHistories, IsVerdictWithin}
 use Rattle.cc_ports.specs.Calls.{Call, names_begun, names_opened, with_calls}
 use Rattle.cc_ports.specs.Contents.{Contents, Rose, IsPrefix, kept_behind, with_rest}
@@ -21,19 +21,15 @@ use Rattle.cc_ports.specs.declared.desk.To.TheVariants as outputs
 use Rattle.cc_ports.specs.Moments.{Moment}
 use Rattle.cc_print.specs.Verdicts.{verdict_line}
 use Rattle.cc_query.specs.Accepted.{subject_of}
-use Rattle.cc_run.specs.Answers.{Answered, Answers, Counts, Ended, GaveSoFar, Gives, RefusesWords, RoseTwice, counts, left_in, promise_of}
-use Rattle.cc_run.specs.Modes.Checking.{Checks, MayEndChecking, NamesLog, verdict_status}
-use Rattle.cc_run.specs.Modes.CheckingSure.{MayEndCheckingSure}
-use Rattle.cc_run.specs.Modes.Explaining.{MayEndExplaining}
-use Rattle.cc_run.specs.Modes.Exporting.{MayEndExporting}
-use Rattle.cc_run.specs.Modes.Listing.{Lists, listed_as}
-use Rattle.cc_run.specs.Modes.Making.{Makes, MayEndMaking}
-use Rattle.cc_run.specs.Modes.Surely.{MayEndSurely}
-use Rattle.cc_run.specs.Names.{AreAsked, BeginsAsked, IsAnswer, MayEndWith, OpensAsked, log_asked}
-use Rattle.cc_run.specs.Promises.{IsEndStatus}
+use Rattle.cc_run.specs.Answers.{Answered, Answers, Counts, Ended, GaveSoFar, RoseTwice, counts, left_in}
+use Rattle.cc_run.specs.Modes.Checking.{Checks, MayEndChecking, NamesLog, checking_promise, verdict_status}
+use Rattle.cc_run.specs.Modes.Listing.{Lists, listed_as, listing_promise}
+use Rattle.cc_run.specs.Modes.Making.{Makes, MayEndMaking, making_promise}
+use Rattle.cc_run.specs.Names.{BeginsAsked, IsAnswer, OpensAsked}
+use Rattle.cc_run.specs.Promises.{IsEndStatus, Keeps, Promise, log_asked}
 use Rattle.cc_run.specs.Searching.{EndsSo, IsTold}
 use Rattle.cc_run.specs.Stops.{Asks, Leaves, Prints, PrintsAsked, Searches, outcome}
-use Rattle.cc_run.specs.Tasks.{IsTask, Task, made_files, made_named, named_by, request_of}
+use Rattle.cc_run.specs.Tasks.{IsTask, Task, made_files, made_named, named_by}
 use Rattle.cc_run.specs.Telling.{counts_of}
 use Rattle.cc_run.specs.Wholes.{Left, Whole}
 use Rattle.cc_tell.specs.declared.status.Status.{Status}
@@ -46,11 +42,11 @@ use Rattle.cc_tell.specs.Manners.{Manner, OneByOne, Summed}
 use Rattle.cc_tell.specs.Statuses.{status_of}
 use Rattle.cc_tell.specs.StopLines.{TellsStop, cut_status, stop_line, stop_status}
 use Rattle.cc_tell.specs.Givens.{adding, given_to, AreFronts, Given, nothing, only_err, only_out}
-use Rattle.cc_words.specs.Requests.{Checking, Listing, Request, ToBeSure, ToCheck, ToCheckGeneral, ToCheckModels, ToCheckSure, ToConvert, ToExplain, ToExport, ToList, ToListGenerally, ToMake, ToModel}
+use Rattle.cc_words.specs.Requests.{Checking, Listing}
 use Rattle.cc_words.specs.Words.{Text}
 use Rattle.cc_tell.proofs.Calls.{called_none, called_on}
 use Rattle.cc_tell.proofs.GivenSteps.{calm_both, kept-nothing}
-use Rattle.cc_run.proofs.Callings.{asks_behind, asks_nothing, first_none, may_be_refused, read_not_write, some_asked_of, stop_answers_nothing, told_answers_nothing}
+use Rattle.cc_run.proofs.Callings.{asks_behind, asks_nothing, first_none, read_not_write, stop_answers_nothing, told_answers_nothing}
 
 -- ---- counts
 
@@ -84,24 +80,24 @@ fresh_left c given begun fresh = λ i. record {
 }
 
 -- how a run comes to its end, or stops, with what it left
-abbrev pub Comes : Files → List Text → Left → Result Status Stop → Type 0
-Comes files words left r = MatchResult r (λ status. Ended files words status left) (λ _. GaveSoFar files words left)
+abbrev pub Comes : Files → Promise → Left → Result Status Stop → Type 0
+Comes files promise left r = MatchResult r (λ status. Ended files promise status left) (λ _. GaveSoFar files promise left)
 
-comes_over : (words : List Text) (c : Contents) (given : Given) (begun : Bool) (r : Result Status Stop) → IsFresh c → Comes c.files words (left given begun) r →
-    Leaves words c (adding given c) begun r
-comes_over words c given begun r fresh how = record {
+comes_over : (promise : Promise) (c : Contents) (given : Given) (begun : Bool) (r : Result Status Stop) → IsFresh c → Comes c.files promise (left given begun) r →
+    Leaves promise c (adding given c) begun r
+comes_over promise c given begun r fresh how = record {
   files = refl;
   log = given.log;
   logged = ap (λ (log : List ℕ). kept_behind c.keeps log given.log) fresh.log;
-  how = subst (λ l. Comes c.files words l r) (sym (fresh_left c given begun fresh)) how;
+  how = subst (λ l. Comes c.files promise l r) (sym (fresh_left c given begun fresh)) how;
 }
 
-told_given : (words : List Text) (given : Given) (old new : Option Contents) (was begun : Bool) (r : Result Status Stop) → new ≡ option_map (adding given) old →
-    IfSome old (λ before. was ≡ false → Comes before.files words (left given begun) r) →
-    IfSome old (λ before. IsFresh before → was ≡ false → IsSomeAnd new (λ after. Leaves words before after begun r))
-told_given words given None new was begun r told how = tt
-told_given words given (Some c) new was begun r told how = λ fresh none.
-    subst (λ (n : Option Contents). IsSomeAnd n (λ after. Leaves words c after begun r)) (sym told) (comes_over words c given begun r fresh (how none))
+told_given : (promise : Promise) (given : Given) (old new : Option Contents) (was begun : Bool) (r : Result Status Stop) → new ≡ option_map (adding given) old →
+    IfSome old (λ before. was ≡ false → Comes before.files promise (left given begun) r) →
+    IfSome old (λ before. IsFresh before → was ≡ false → IsSomeAnd new (λ after. Leaves promise before after begun r))
+told_given promise given None new was begun r told how = tt
+told_given promise given (Some c) new was begun r told how = λ fresh none.
+    subst (λ (n : Option Contents). IsSomeAnd n (λ after. Leaves promise c after begun r)) (sym told) (comes_over promise c given begun r fresh (how none))
 
 -- what is known of a moment holds of all that follows from it
 pub known : (o : Option Contents) (P Q : Contents → Type 0) → ((c : Contents) → P c → Q c) → IfSome o P → IfSome o Q
@@ -111,25 +107,25 @@ known (Some c) P Q f h = f c h
 -- ---- a whole that is given
 
 -- what a step gave, which gives a whole or a front of it
-pub whole_comes : (files : Files) (words : List Text) (whole : Whole) (given : Given) (begun : Bool) (r : Result Status Stop) → Gives files (request_of words) whole → begun ≡ whole.begun →
-    MatchResult r (λ _. given ≡ whole.given) (λ _. AreFronts given whole.given) → IfOk r (λ status. whole.ends ≡ Some status) → Comes files words (left given begun) r
-whole_comes files words whole given begun (Ok status) gives same how ends = record {
+pub whole_comes : (files : Files) (promise : Promise) (whole : Whole) (given : Given) (begun : Bool) (r : Result Status Stop) → Keeps promise files whole → begun ≡ whole.begun →
+    MatchResult r (λ _. given ≡ whole.given) (λ _. AreFronts given whole.given) → IfOk r (λ status. whole.ends ≡ Some status) → Comes files promise (left given begun) r
+whole_comes files promise whole given begun (Ok status) gives same how ends = record {
   whole = whole;
   gives = gives;
   ends = ends;
   left_is = λ i. record { given = how i; begun = same i };
 }
-whole_comes files words whole given begun (Err stop) gives same how ends =
+whole_comes files promise whole given begun (Err stop) gives same how ends =
     inr (record { whole = whole; gives = gives; front = record { fronts = how; begun = same } })
 
 -- a run that gives a whole, or a front of it where it stops
-pub prints_whole : (words : List Text) (begins : Bool) (opens : List Text) (whole : Whole) (x z : Moment) (r : Result Status Stop) →
-    IfSome x.told (λ c. Gives c.files (request_of words) whole) → whole.begun ≡ false → Step whole.given x z r → IfOk r (λ status. whole.ends ≡ Some status) →
-    IfOk r (MayEndWith (request_of words)) → Asks opens (log_asked (request_of words)) x z r → Prints words begins opens x z r
-prints_whole words begins opens whole x z r gives unbegun step ended may asks = record {
-  told = told_given words step.given x.told z.told x.begun z.begun r step.moves.told
-      (known x.told (λ c. Gives c.files (request_of words) whole) (λ c. x.begun ≡ false → Comes c.files words (left step.given z.begun) r)
-      (λ c gives none. whole_comes c.files words whole step.given z.begun r gives (step.moves.begun ∙ (none ∙ sym unbegun)) step.how ended) gives);
+pub prints_whole : (promise : Promise) (begins : Bool) (opens : List Text) (whole : Whole) (x z : Moment) (r : Result Status Stop) →
+    IfSome x.told (λ c. Keeps promise c.files whole) → whole.begun ≡ false → Step whole.given x z r → IfOk r (λ status. whole.ends ≡ Some status) →
+    IfOk r (promise.MayEnd) → Asks opens (log_asked promise) x z r → Prints promise begins opens x z r
+prints_whole promise begins opens whole x z r gives unbegun step ended may asks = record {
+  told = told_given promise step.given x.told z.told x.begun z.begun r step.moves.told
+      (known x.told (λ c. Keeps promise c.files whole) (λ c. x.begun ≡ false → Comes c.files promise (left step.given z.begun) r)
+      (λ c gives none. whole_comes c.files promise whole step.given z.begun r gives (step.moves.begun ∙ (none ∙ sym unbegun)) step.how ended) gives);
   ends = may;
   asks = asks;
   calm = step.moves.calm;
@@ -142,22 +138,16 @@ prints_whole words begins opens whole x z r gives unbegun step ended may asks = 
 
 -- ---- a refusal
 
--- what is refused of a request
-abbrev pub RefusesRequest : Files → Option Request → Refusal → Text → Type 0
-RefusesRequest files None refusal file = RefusesWords refusal file
-RefusesRequest files (Some request) refusal file = (promise_of request).Refuses files refusal file
-
 abbrev refusal_whole : Refusal → Text → Whole
 refusal_whole refusal file = record { given = only_err (refusal_text refusal file); begun = false; ends = Some statuses.Refused }
 
-refusal_given : (files : Files) (request : Option Request) (refusal : Refusal) (file : Text) → RefusesRequest files request refusal file → Gives files request (refusal_whole refusal file)
-refusal_given files None refusal file refused = record { refusal = refusal; file = file; refused = refused; given = refl; begun = refl; ends = refl }
-refusal_given files (Some request) refusal file refused =
+refusal_given : (promise : Promise) (files : Files) (refusal : Refusal) (file : Text) → promise.Refuses files refusal file → Keeps promise files (refusal_whole refusal file)
+refusal_given promise files refusal file refused =
     inl (record { refusal = refusal; file = file; refused = refused; given = refl; begun = refl; ends = refl })
 
-ends_refused : (request : Option Request) (r : Result Status Stop) → IfOk r (λ status. status ≡ statuses.Refused) → IfOk r (MayEndWith request)
-ends_refused request (Ok status) is = subst (λ (s : Status). MayEndWith request s) (sym is) (may_be_refused request)
-ends_refused request (Err stop) is = tt
+ends_refused : (promise : Promise) (r : Result Status Stop) → promise.MayEnd statuses.Refused → IfOk r (λ status. status ≡ statuses.Refused) → IfOk r promise.MayEnd
+ends_refused promise (Ok status) may is = subst (λ (s : Status). promise.MayEnd s) (sym is) may
+ends_refused promise (Err stop) may is = tt
 
 refused_ends : (r : Result Status Stop) → IfOk r (λ status. status ≡ statuses.Refused) → IfOk r (λ status. Some statuses.Refused ≡ Some status)
 refused_ends (Ok status) is = ap Some (sym is)
@@ -167,44 +157,36 @@ refused_answers_nothing : (r : Result Status Stop) → IfOk r (λ status. status
 refused_answers_nothing (Ok status) is answer = subst IsAnswer is answer
 refused_answers_nothing (Err stop) is answer = stop_answers_nothing stop answer
 
-pub prints_refusal : (words : List Text) (begins : Bool) (opens : List Text) (refusal : Refusal) (file : Text) (x z : Moment) (r : Result Status Stop) →
-    IfSome x.told (λ c. RefusesRequest c.files (request_of words) refusal file) → Step (only_err (refusal_text refusal file)) x z r →
-    IfOk r (λ status. status ≡ statuses.Refused) → Prints words begins opens x z r
-prints_refusal words begins opens refusal file x z r refused step is =
-    prints_whole words begins opens (refusal_whole refusal file) x z r
-    (known x.told (λ c. RefusesRequest c.files (request_of words) refusal file) (λ c. Gives c.files (request_of words) (refusal_whole refusal file))
-    (λ c is_refused. refusal_given c.files (request_of words) refusal file is_refused) refused)
-    refl step (refused_ends r is) (ends_refused (request_of words) r is)
-    (asks_nothing opens (log_asked (request_of words)) x z r step.moves.called (refused_answers_nothing r is))
-
--- what a run of the request begins, by its words
-pub log_asked_as : (words : List Text) (request : Request) (status : Status) → request_of words ≡ Some request → log_asked (request_of words) status ≡ log_asked (Some request) status
-log_asked_as words request status asked = ap (λ (o : Option Request). log_asked o status) asked
+pub prints_refusal : (promise : Promise) (begins : Bool) (opens : List Text) (refusal : Refusal) (file : Text) (x z : Moment) (r : Result Status Stop) →
+    promise.MayEnd statuses.Refused → IfSome x.told (λ c. promise.Refuses c.files refusal file) → Step (only_err (refusal_text refusal file)) x z r →
+    IfOk r (λ status. status ≡ statuses.Refused) → Prints promise begins opens x z r
+prints_refusal promise begins opens refusal file x z r may refused step is =
+    prints_whole promise begins opens (refusal_whole refusal file) x z r
+    (known x.told (λ c. promise.Refuses c.files refusal file) (λ c. Keeps promise c.files (refusal_whole refusal file))
+    (λ c is_refused. refusal_given promise c.files refusal file is_refused) refused)
+    refl step (refused_ends r is) (ends_refused promise r may is)
+    (asks_nothing opens (log_asked promise) x z r step.moves.called (refused_answers_nothing r is))
 
 -- a run of a request that begins no log, and has no further file to open
-pub asks_no_more : (words : List Text) (request : Request) (x z : Moment) (r : Result Status Stop) → request_of words ≡ Some request →
-    ((status : Status) → log_asked (Some request) status ≡ []) → Called [] [] x z → Asks [] (log_asked (request_of words)) x z r
-asks_no_more words request x z r asked none called = record {
+pub asks_no_more : (promise : Promise) (x z : Moment) (r : Result Status Stop) → ((status : Status) → log_asked promise status ≡ []) → Called [] [] x z → Asks [] (log_asked promise) x z r
+asks_no_more promise x z r none called = record {
   opened = [];
   begun = [];
   called = called;
   opened_first = first_none [];
-  begun_first = first_none (log_asked (request_of words) statuses.Right);
-  whole = λ _. (refl, sym (log_asked_as words request (outcome r) asked ∙ none (outcome r)));
+  begun_first = first_none (log_asked promise statuses.Right);
+  whole = λ _. (refl, sym (none (outcome r)));
 }
 
 -- ---- a verdict
 
-verdict_ends : (checking : Checking) (verdict : LogVerdict) → MayEndWith (Some (ToCheck checking)) (verdict_status verdict)
-verdict_ends checking (verdicts.Accepted first last blocked) = tt
-verdict_ends checking (verdicts.Refused line reason) = tt
+verdict_ends : (verdict : LogVerdict) → MayEndChecking (verdict_status verdict)
+verdict_ends (verdicts.Accepted first last blocked) = tt
+verdict_ends (verdicts.Refused line reason) = tt
 
-ends_verdict : (request : Option Request) (checking : Checking) (verdict : LogVerdict) (r : Result Status Stop) → request ≡ Some (ToCheck checking) →
-    IfOk r (λ status. status ≡ verdict_status verdict) → IfOk r (MayEndWith request)
-ends_verdict request checking verdict (Ok status) asked is =
-    subst (λ (o : Option Request). MayEndWith o status) (sym asked)
-    (subst (λ (s : Status). MayEndWith (Some (ToCheck checking)) s) (sym is) (verdict_ends checking verdict))
-ends_verdict request checking verdict (Err stop) asked is = tt
+ends_verdict : (verdict : LogVerdict) (r : Result Status Stop) → IfOk r (λ status. status ≡ verdict_status verdict) → IfOk r MayEndChecking
+ends_verdict verdict (Ok status) is = subst (λ (s : Status). MayEndChecking s) (sym is) (verdict_ends verdict)
+ends_verdict verdict (Err stop) is = tt
 
 -- what is said of a log
 pub record IsSaid (task : Task) (bytes : List ℕ) (verdict : LogVerdict) : Type 0 where
@@ -216,95 +198,82 @@ pub record IsSaid (task : Task) (bytes : List ℕ) (verdict : LogVerdict) : Type
 abbrev verdict_whole : LogVerdict → Whole
 verdict_whole verdict = record { given = only_out (verdict_line verdict); begun = false; ends = Some (verdict_status verdict) }
 
-verdict_given : (files : Files) (words : List Text) (checking : Checking) (task : Task) (bytes : List ℕ) (verdict : LogVerdict) →
-    request_of words ≡ Some (ToCheck checking) → NamesLog files checking task bytes → IsSaid task bytes verdict → Gives files (request_of words) (verdict_whole verdict)
-verdict_given files words checking task bytes verdict asked named said =
-    subst (λ (o : Option Request). Gives files o (verdict_whole verdict)) (sym asked) (inr checks)
-  where
-    checks : Checks checking files (verdict_whole verdict)
-    checks = record {
-      task = task;
-      bytes = bytes;
-      named = named;
-      few = said.few;
-      verdict = verdict;
-      judged = said.judged;
-      within = said.within;
-      blocks = said.blocks;
-      given = refl;
-      begun = refl;
-      ends = refl;
-    }
+verdict_given : (files : Files) (checking : Checking) (task : Task) (bytes : List ℕ) (verdict : LogVerdict) → NamesLog files checking task bytes → IsSaid task bytes verdict →
+    Checks checking files (verdict_whole verdict)
+verdict_given files checking task bytes verdict named said = record {
+  task = task;
+  bytes = bytes;
+  named = named;
+  few = said.few;
+  verdict = verdict;
+  judged = said.judged;
+  within = said.within;
+  blocks = said.blocks;
+  given = refl;
+  begun = refl;
+  ends = refl;
+}
 
 verdict_ended : (verdict : LogVerdict) (r : Result Status Stop) → IfOk r (λ status. status ≡ verdict_status verdict) → IfOk r (λ status. Some (verdict_status verdict) ≡ Some status)
 verdict_ended verdict (Ok status) is = ap Some (sym is)
 verdict_ended verdict (Err stop) is = tt
 
-pub prints_verdict : (words : List Text) (begins : Bool) (checking : Checking) (task : Task) (bytes : List ℕ) (verdict : LogVerdict) (x z : Moment) (r : Result Status Stop) →
-    request_of words ≡ Some (ToCheck checking) → IfSome x.told (λ c. NamesLog c.files checking task bytes) → IsSaid task bytes verdict →
-    Step (only_out (verdict_line verdict)) x z r → IfOk r (λ status. status ≡ verdict_status verdict) → Prints words begins [] x z r
-prints_verdict words begins checking task bytes verdict x z r asked named said step is =
-    prints_whole words begins [] (verdict_whole verdict) x z r
-    (known x.told (λ c. NamesLog c.files checking task bytes) (λ c. Gives c.files (request_of words) (verdict_whole verdict))
-    (λ c log. verdict_given c.files words checking task bytes verdict asked log said) named)
-    refl step (verdict_ended verdict r is) (ends_verdict (request_of words) checking verdict r asked is) (asks_no_more words (ToCheck checking) x z r asked (λ _. refl) step.moves.called)
+pub prints_verdict : (begins : Bool) (checking : Checking) (task : Task) (bytes : List ℕ) (verdict : LogVerdict) (x z : Moment) (r : Result Status Stop) →
+    IfSome x.told (λ c. NamesLog c.files checking task bytes) → IsSaid task bytes verdict →
+    Step (only_out (verdict_line verdict)) x z r → IfOk r (λ status. status ≡ verdict_status verdict) → Prints (checking_promise checking) begins [] x z r
+prints_verdict begins checking task bytes verdict x z r named said step is =
+    prints_whole (checking_promise checking) begins [] (verdict_whole verdict) x z r
+    (known x.told (λ c. NamesLog c.files checking task bytes) (λ c. Keeps (checking_promise checking) c.files (verdict_whole verdict))
+    (λ c log. inr (verdict_given c.files checking task bytes verdict log said)) named)
+    refl step (verdict_ended verdict r is) (ends_verdict verdict r is) (asks_no_more (checking_promise checking) x z r (λ _. refl) step.moves.called)
 
--- ---- other words
-
--- the same run, where whether it begins a log is spelled otherwise
-pub prints_as : (words : List Text) (a b : Bool) (x z : Moment) (r : Result Status Stop) → a ≡ b → PrintsAsked words a x z r → PrintsAsked words b x z r
-prints_as words a b x z r same prints = subst (λ begins. PrintsAsked words begins x z r) same prints
+-- ---- files that are opened
 
 -- a run that has no file to open
-pub prints_unopened : (words : List Text) (begins : Bool) (x z : Moment) (r : Result Status Stop) → ((files : Files) → AreAsked files (request_of words) []) →
-    Prints words begins [] x z r → PrintsAsked words begins x z r
-prints_unopened words begins x z r asked prints = record { opens = []; asked = of x.told; prints = prints }
+pub prints_unopened : (promise : Promise) (begins : Bool) (x z : Moment) (r : Result Status Stop) → ((files : Files) → promise.Opens files []) →
+    Prints promise begins [] x z r → PrintsAsked promise begins x z r
+prints_unopened promise begins x z r asked prints = record { opens = []; asked = of x.told; prints = prints }
   where
-    of : (o : Option Contents) → IfSome o (λ before. AreAsked before.files (request_of words) [])
+    of : (o : Option Contents) → IfSome o (λ before. promise.Opens before.files [])
     of None = tt
     of (Some c) = asked c.files
 
 -- a run that has these files to open
-pub prints_opened : (words : List Text) (begins : Bool) (request : Request) (opens : List Text) (x z : Moment) (r : Result Status Stop) → request_of words ≡ Some request →
-    IfSome x.told (λ before. (promise_of request).Opens before.files opens) → Prints words begins opens x z r → PrintsAsked words begins x z r
-prints_opened words begins request opens x z r asked are prints = record {
-  opens = opens;
-  asked = known x.told (λ before. (promise_of request).Opens before.files opens) (λ before. AreAsked before.files (request_of words) opens)
-      (λ before is. subst (λ (o : Option Request). AreAsked before.files o opens) (sym asked) is) are;
-  prints = prints;
-}
+pub prints_opened : (promise : Promise) (begins : Bool) (opens : List Text) (x z : Moment) (r : Result Status Stop) →
+    IfSome x.told (λ before. promise.Opens before.files opens) → Prints promise begins opens x z r → PrintsAsked promise begins x z r
+prints_opened promise begins opens x z r are prints = record { opens = opens; asked = are; prints = prints }
 
 -- what was refused of what was asked
-pub refused_known : (o : Option Contents) (request : Option Request) (refusal : Refusal) (file : Text) → ((files : Files) → RefusesRequest files request refusal file) →
-    IfSome o (λ c. RefusesRequest c.files request refusal file)
-refused_known None request refusal file refused = tt
-refused_known (Some c) request refusal file refused = refused c.files
+pub refused_known : (o : Option Contents) (promise : Promise) (refusal : Refusal) (file : Text) → ((files : Files) → promise.Refuses files refusal file) →
+    IfSome o (λ c. promise.Refuses c.files refusal file)
+refused_known None promise refusal file refused = tt
+refused_known (Some c) promise refusal file refused = refused c.files
 
 -- ---- a run over a description that was read
 
-leaves_read : (words : List Text) (rest : List ℕ) (c after : Contents) (begun : Bool) (r : Result Status Stop) → Leaves words (with_rest rest c) after begun r →
-    Leaves words c after begun r
-leaves_read words rest c after begun r over = record { files = over.files; log = over.log; logged = over.logged; how = over.how }
+leaves_read : (promise : Promise) (rest : List ℕ) (c after : Contents) (begun : Bool) (r : Result Status Stop) → Leaves promise (with_rest rest c) after begun r →
+    Leaves promise c after begun r
+leaves_read promise rest c after begun r over = record { files = over.files; log = over.log; logged = over.logged; how = over.how }
 
-told_read : (words : List Text) (rest : List ℕ) (old mid new : Option Contents) (was at begun : Bool) (r : Result Status Stop) → mid ≡ option_map (with_rest rest) old → at ≡ was →
-    IfSome mid (λ before. IsFresh before → at ≡ false → IsSomeAnd new (λ after. Leaves words before after begun r)) →
-    IfSome old (λ before. IsFresh before → was ≡ false → IsSomeAnd new (λ after. Leaves words before after begun r))
-told_read words rest None mid new was at begun r told same prints = tt
-told_read words rest (Some c) mid new was at begun r told same prints = λ fresh none.
-    let over = subst (λ (m : Option Contents). IfSome m (λ before. IsFresh before → at ≡ false → IsSomeAnd new (λ after. Leaves words before after begun r))) told prints in
+told_read : (promise : Promise) (rest : List ℕ) (old mid new : Option Contents) (was at begun : Bool) (r : Result Status Stop) → mid ≡ option_map (with_rest rest) old → at ≡ was →
+    IfSome mid (λ before. IsFresh before → at ≡ false → IsSomeAnd new (λ after. Leaves promise before after begun r)) →
+    IfSome old (λ before. IsFresh before → was ≡ false → IsSomeAnd new (λ after. Leaves promise before after begun r))
+told_read promise rest None mid new was at begun r told same prints = tt
+told_read promise rest (Some c) mid new was at begun r told same prints = λ fresh none.
+    let over = subst (λ (m : Option Contents). IfSome m (λ before. IsFresh before → at ≡ false → IsSomeAnd new (λ after. Leaves promise before after begun r))) told prints in
     some_over new (over (record { out = fresh.out; err = fresh.err; log = fresh.log }) (same ∙ none))
   where
-    some_over : (n : Option Contents) → IsSomeAnd n (λ after. Leaves words (with_rest rest c) after begun r) → IsSomeAnd n (λ after. Leaves words c after begun r)
+    some_over : (n : Option Contents) → IsSomeAnd n (λ after. Leaves promise (with_rest rest c) after begun r) → IsSomeAnd n (λ after. Leaves promise c after begun r)
     some_over None h = h
-    some_over (Some after) h = leaves_read words rest c after begun r h
+    some_over (Some after) h = leaves_read promise rest c after begun r h
 
-pub prints_after_read : (words : List Text) (begins : Bool) (opened opens : List Text) (rest : List ℕ) (x y z : Moment) (r : Result Status Stop) → y.told ≡ option_map (with_rest rest) x.told →
-    y.begun ≡ x.begun → x.reads ≤ y.reads → x.writes ≤ y.writes → Called opened [] x y → IsCalm x y → Prints words begins opens y z r →
-    Prints words begins (opened ++ opens) x z r
-prints_after_read words begins opened opens rest x y z r told begun reads writes called calm prints = record {
-  told = told_read words rest x.told y.told z.told x.begun y.begun z.begun r told begun prints.told;
+pub prints_after_read : (promise : Promise) (begins : Bool) (opened opens : List Text) (rest : List ℕ) (x y z : Moment) (r : Result Status Stop) → y.told ≡ option_map (with_rest rest) x.told →
+    y.begun ≡ x.begun → x.reads ≤ y.reads → x.writes ≤ y.writes → Called opened [] x y → IsCalm x y → Prints promise begins opens y z r →
+    Prints promise begins (opened ++ opens) x z r
+prints_after_read promise begins opened opens rest x y z r told begun reads writes called calm prints = record {
+  told = told_read promise rest x.told y.told z.told x.begun y.begun z.begun r told begun prints.told;
   ends = prints.ends;
-  asks = asks_behind opened opens (log_asked (request_of words)) x y z r called prints.asks;
+  asks = asks_behind opened opens (log_asked promise) x y z r called prints.asks;
   calm = λ ok. calm_both x y z calm (prints.calm ok);
   begun = λ none. prints.begun none ∙ begun;
   reads = omega (arith, prints.reads);
@@ -324,37 +293,37 @@ files_stay rest P (Some c) mid told h = subst (λ (m : Option Contents). IfSome 
 fresh_nothing : (c : Contents) → IsFresh c → (left_in c [] false).given ≡ nothing
 fresh_nothing c fresh = λ i. record { out = fresh.out i; err = fresh.err i; log = [] }
 
-leaves_nothing : (words : List Text) (before c : Contents) (begun : Bool) (stop : Stop) → c.files ≡ before.files → IsFresh c → begun ≡ false → Leaves words before c begun (Err stop)
-leaves_nothing words before c begun stop files fresh none = record {
+leaves_nothing : (promise : Promise) (before c : Contents) (begun : Bool) (stop : Stop) → c.files ≡ before.files → IsFresh c → begun ≡ false → Leaves promise before c begun (Err stop)
+leaves_nothing promise before c begun stop files fresh none = record {
   files = files;
   log = [];
   logged = fresh.log ∙ sym (kept-nothing before.keeps []);
   how = inl (fresh_nothing c fresh, none);
 }
 
-told_stopped : (words : List Text) (rest : List ℕ) (old new : Option Contents) (was begun : Bool) (stop : Stop) → new ≡ option_map (with_rest rest) old → begun ≡ was →
-    IfSome old (λ before. IsFresh before → was ≡ false → IsSomeAnd new (λ after. Leaves words before after begun (Err stop)))
-told_stopped words rest None new was begun stop told same = tt
-told_stopped words rest (Some c) new was begun stop told same = λ fresh none.
-    subst (λ (n : Option Contents). IsSomeAnd n (λ after. Leaves words c after begun (Err stop))) (sym told)
-    (leaves_nothing words c (with_rest rest c) begun stop refl (record { out = fresh.out; err = fresh.err; log = fresh.log }) (same ∙ none))
+told_stopped : (promise : Promise) (rest : List ℕ) (old new : Option Contents) (was begun : Bool) (stop : Stop) → new ≡ option_map (with_rest rest) old → begun ≡ was →
+    IfSome old (λ before. IsFresh before → was ≡ false → IsSomeAnd new (λ after. Leaves promise before after begun (Err stop)))
+told_stopped promise rest None new was begun stop told same = tt
+told_stopped promise rest (Some c) new was begun stop told same = λ fresh none.
+    subst (λ (n : Option Contents). IsSomeAnd n (λ after. Leaves promise c after begun (Err stop))) (sym told)
+    (leaves_nothing promise c (with_rest rest c) begun stop refl (record { out = fresh.out; err = fresh.err; log = fresh.log }) (same ∙ none))
 
 error_is : (d e : Stop) → IsErrOf {T = Status} (Err d) e → d ≡ e
 error_is d e is = cc
 
 -- it has read, and opened the first of the files that it has to open
-pub prints_stopped : (words : List Text) (begins : Bool) (opened opens : List Text) (rest : List ℕ) (stop : Stop) (x y : Moment) → y.told ≡ option_map (with_rest rest) x.told →
+pub prints_stopped : (promise : Promise) (begins : Bool) (opened opens : List Text) (rest : List ℕ) (stop : Stop) (x y : Moment) → y.told ≡ option_map (with_rest rest) x.told →
     y.begun ≡ x.begun → x.reads ≤ y.reads → x.writes ≤ y.writes → Called opened [] x y → AreFirstNames opened opens → (stop ≡ stops.ReadFault → Rose x.reads y.reads) →
-    (stop ≡ stops.WriteFault → ⊥) → Prints words begins opens x y (Err stop)
-prints_stopped words begins opened opens rest stop x y told begun reads writes called first read_fault write_fault = record {
-  told = told_stopped words rest x.told y.told x.begun y.begun stop told begun;
+    (stop ≡ stops.WriteFault → ⊥) → Prints promise begins opens x y (Err stop)
+prints_stopped promise begins opened opens rest stop x y told begun reads writes called first read_fault write_fault = record {
+  told = told_stopped promise rest x.told y.told x.begun y.begun stop told begun;
   ends = tt;
   asks = record {
     opened = opened;
     begun = [];
     called = called;
     opened_first = first;
-    begun_first = first_none (log_asked (request_of words) statuses.Right);
+    begun_first = first_none (log_asked promise statuses.Right);
     whole = λ is. absurd (stop_answers_nothing stop is);
   };
   calm = λ ok. absurd (false≢true ok);
@@ -366,23 +335,24 @@ prints_stopped words begins opened opens rest stop x y told begun reads writes c
 }
 
 -- nothing happened but that memory was wanting
-pub prints_lacking : (words : List Text) (begins : Bool) (opens : List Text) (x : Moment) (r : Result Status Stop) → IsErrAnd r (λ e. e ≡ stops.OutOfMemory) →
-    Prints words begins opens x x r
-prints_lacking words begins opens x (Ok status) lacks = absurd lacks
-prints_lacking words begins opens x (Err stop) lacks =
+pub prints_lacking : (promise : Promise) (begins : Bool) (opens : List Text) (x : Moment) (r : Result Status Stop) → IsErrAnd r (λ e. e ≡ stops.OutOfMemory) →
+    Prints promise begins opens x x r
+prints_lacking promise begins opens x (Ok status) lacks = absurd lacks
+prints_lacking promise begins opens x (Err stop) lacks =
     let same = same_told x.told in
-    prints_stopped words begins [] opens same.0 stop x x same.1 refl (omega arith) (omega arith) (called_none x) (first_none opens)
+    prints_stopped promise begins [] opens same.0 stop x x same.1 refl (omega arith) (omega arith) (called_none x) (first_none opens)
     (λ is. absurd cc) (λ is. absurd cc)
   where
     same_told : (o : Option Contents) → (rest : List ℕ) × (o ≡ option_map (with_rest rest) o)
     same_told None = ([], refl)
     same_told (Some c) = (c.rest, refl)
 
--- before it was known what the words ask for
-pub asked_lacking : (words : List Text) (begins : Bool) (x : Moment) (r : Result Status Stop) → HasPlaces → IsErrAnd r (λ e. e ≡ stops.OutOfMemory) → PrintsAsked words begins x x r
-asked_lacking words begins x r has lacks =
-    let some = some_asked_of has x.told (request_of words) in
-    record { opens = some.0; asked = some.1; prints = prints_lacking words begins some.0 x r lacks }
+-- before it was known what is asked for
+pub asked_lacking : (promise : Promise) (begins : Bool) (x : Moment) (r : Result Status Stop) → ((o : Option Contents) → (all : List Text) × IfSome o (λ c. promise.Opens c.files all)) →
+    IsErrAnd r (λ e. e ≡ stops.OutOfMemory) → PrintsAsked promise begins x x r
+asked_lacking promise begins x r opens lacks =
+    let some = opens x.told in
+    record { opens = some.0; asked = some.1; prints = prints_lacking promise begins some.0 x r lacks }
 
 -- ---- a log that is begun, and a search behind it
 
@@ -442,10 +412,10 @@ told_none manner task run whole told is all = ends whole.ends is told.ends
     ends (Some other) is (inr refused) = let same = sym refused.4 ∙ some_same other statuses.Asked is in absurd cc
 
 -- what a search is for: what it tells is what is asked, its log is the one that is named, and it may end so
-pub record IsForSearch (words : List Text) (begins : Bool) (names : List Text) (manner : Manner) (task : Task) (x : Moment) : Type 0 where
-  pub names_are : (status : Status) → names ≡ log_asked (request_of words) status
-  pub gives : (run : Run) (whole : Whole) → whole.begun ≡ begins → IsTold manner task run whole → IfSome x.told (λ c. Gives c.files (request_of words) whole)
-  pub may : (run : Run) (whole : Whole) (status : Status) → IsTold manner task run whole → whole.ends ≡ Some status → MayEndWith (request_of words) status
+pub record IsForSearch (promise : Promise) (begins : Bool) (names : List Text) (manner : Manner) (task : Task) (x : Moment) : Type 0 where
+  pub names_are : (status : Status) → names ≡ log_asked promise status
+  pub gives : (run : Run) (whole : Whole) → whole.begun ≡ begins → IsTold manner task run whole → IfSome x.told (λ c. Keeps promise c.files whole)
+  pub may : (run : Run) (whole : Whole) (status : Status) → IsTold manner task run whole → whole.ends ≡ Some status → promise.MayEnd status
 
 told_ends : (manner : Manner) (task : Task) (run : Run) (whole : Whole) (status : Status) → IsTold manner task run whole → whole.ends ≡ Some status → IsEndStatus status
 told_ends manner task run whole status told is = ends whole.ends is told.ends
@@ -455,38 +425,34 @@ told_ends manner task run whole status told is = ends whole.ends is told.ends
     ends (Some other) is (inl ended) = subst IsEndStatus (sym ended.3 ∙ some_same other status is) (ending_ends ended.0)
     ends (Some other) is (inr refused) = subst IsEndStatus (sym refused.4 ∙ some_same other status is) tt
 
-pub log_asked_by : (words : List Text) (listing : Listing) (names : List Text) → request_of words ≡ Some (ToList listing) → names ≡ optional listing.log → (status : Status) →
-    names ≡ log_asked (request_of words) status
-log_asked_by words listing names asked named = λ status. named ∙ sym (log_asked_as words (ToList listing) status asked)
-
-lists_as : (words : List Text) (listing : Listing) (names : List Text) (task : Task) (x : Moment) → request_of words ≡ Some (ToList listing) → names ≡ optional listing.log →
+lists_as : (listing : Listing) (names : List Text) (task : Task) (x : Moment) → names ≡ optional listing.log →
     task.ask.count ≡ listing.count → task.ask.budget ≡ listing.budget → IfSome x.told (λ before. IsTask before.files (named_by listing) task) →
-    IsForSearch words (is_some listing.log) names (listed_as listing task) task x
-lists_as words listing names task x asked named count budget is = record {
-  names_are = log_asked_by words listing names asked named;
-  gives = λ run whole begun told. known x.told (λ before. IsTask before.files (named_by listing) task) (λ before. Gives before.files (request_of words) whole)
-      (λ before is. subst (λ (o : Option Request). Gives before.files o whole) (sym asked) (inr (lists before.files is run whole begun told))) is;
-  may = λ run whole status told ends. subst (λ (o : Option Request). MayEndWith o status) (sym asked) (told_ends (listed_as listing task) task run whole status told ends);
+    IsForSearch (listing_promise listing) (is_some listing.log) names (listed_as listing task) task x
+lists_as listing names task x named count budget is = record {
+  names_are = λ _. named;
+  gives = λ run whole begun told. known x.told (λ before. IsTask before.files (named_by listing) task) (λ before. Keeps (listing_promise listing) before.files whole)
+      (λ before is. inr (lists before.files is run whole begun told)) is;
+  may = λ run whole status told ends. told_ends (listed_as listing task) task run whole status told ends;
 }
   where
     lists : (files : Files) → IsTask files (named_by listing) task → (run : Run) (whole : Whole) → whole.begun ≡ is_some listing.log → IsTold (listed_as listing task) task run whole → Lists listing files whole
     lists files is run whole begun told = record { task = task; is = is; count = count; budget = budget; begun = begun; run = run; told = told }
 
-pub lists_for : (words : List Text) (listing : Listing) (names : List Text) (version : Version) (task : Task) (x : Moment) → request_of words ≡ Some (ToList listing) →
+pub lists_for : (listing : Listing) (names : List Text) (version : Version) (task : Task) (x : Moment) →
     names ≡ optional listing.log → task.ask.count ≡ listing.count → task.ask.budget ≡ listing.budget → version ≡ listing.form →
     IfSome x.told (λ before. IsTask before.files (named_by listing) task) →
-    IsForSearch words (is_some listing.log) names (OneByOne version (counts_of task.description task.query task.ask.after)) task x
-lists_for words listing names version task x asked named count budget form is =
-    subst (λ (v : Version). IsForSearch words (is_some listing.log) names (OneByOne v (counts_of task.description task.query task.ask.after)) task x) (sym form)
-    (lists_as words listing names task x asked named count budget is)
+    IsForSearch (listing_promise listing) (is_some listing.log) names (OneByOne version (counts_of task.description task.query task.ask.after)) task x
+lists_for listing names version task x named count budget form is =
+    subst (λ (v : Version). IsForSearch (listing_promise listing) (is_some listing.log) names (OneByOne v (counts_of task.description task.query task.ask.after)) task x) (sym form)
+    (lists_as listing names task x named count budget is)
 
-pub makes_for : (words : List Text) (size budget : ℕ) (task : Task) (x : Moment) → request_of words ≡ Some (ToMake size budget) → IsNone task.ask.count → task.ask.budget ≡ budget →
-    IfSome x.told (λ _. IsTask (made_files size) made_named task) → IsForSearch words false [] (Summed size) task x
-makes_for words size budget task x asked all same is = record {
-  names_are = λ status. sym (log_asked_as words (ToMake size budget) status asked);
-  gives = λ run whole begun told. known x.told (λ _. IsTask (made_files size) made_named task) (λ before. Gives before.files (request_of words) whole)
-      (λ before is. subst (λ (o : Option Request). Gives before.files o whole) (sym asked) (inr (makes before.files is run whole begun told))) is;
-  may = λ run whole status told ends. subst (λ (o : Option Request). MayEndWith o status) (sym asked) (may_make task run whole status told ends all);
+pub makes_for : (size budget : ℕ) (task : Task) (x : Moment) → IsNone task.ask.count → task.ask.budget ≡ budget →
+    IfSome x.told (λ _. IsTask (made_files size) made_named task) → IsForSearch (making_promise size budget) false [] (Summed size) task x
+makes_for size budget task x all same is = record {
+  names_are = λ _. refl;
+  gives = λ run whole begun told. known x.told (λ _. IsTask (made_files size) made_named task) (λ before. Keeps (making_promise size budget) before.files whole)
+      (λ before is. inr (makes before.files is run whole begun told)) is;
+  may = λ run whole status told ends. may_make task run whole status told ends all;
 }
   where
     makes : (files : Files) → IsTask (made_files size) made_named task → (run : Run) (whole : Whole) → whole.begun ≡ false → IsTold (Summed size) task run whole → Makes size budget files whole
@@ -515,33 +481,33 @@ told_with manner task run given ends begun told = record {
   ends = told.ends;
 }
 
-pub told_search : (words : List Text) (given : Given) (old mid new : Option Contents) (was begun : Bool) (r : Result Status Stop) →
+pub told_search : (promise : Promise) (given : Given) (old mid new : Option Contents) (was begun : Bool) (r : Result Status Stop) →
     IfSome old (λ before. IsFresh before → mid ≡ Some before) → new ≡ option_map (adding given) mid →
-    IfSome old (λ before. was ≡ false → Comes before.files words (left given begun) r) →
-    IfSome old (λ before. IsFresh before → was ≡ false → IsSomeAnd new (λ after. Leaves words before after begun r))
-told_search words given None mid new was begun r told moves how = tt
-told_search words given (Some c) mid new was begun r told moves how = λ fresh none.
-    subst (λ (n : Option Contents). IsSomeAnd n (λ after. Leaves words c after begun r)) (sym (moves ∙ ap (option_map (adding given)) (told fresh)))
-    (comes_over words c given begun r fresh (how none))
+    IfSome old (λ before. was ≡ false → Comes before.files promise (left given begun) r) →
+    IfSome old (λ before. IsFresh before → was ≡ false → IsSomeAnd new (λ after. Leaves promise before after begun r))
+told_search promise given None mid new was begun r told moves how = tt
+told_search promise given (Some c) mid new was begun r told moves how = λ fresh none.
+    subst (λ (n : Option Contents). IsSomeAnd n (λ after. Leaves promise c after begun r)) (sym (moves ∙ ap (option_map (adding given)) (told fresh)))
+    (comes_over promise c given begun r fresh (how none))
 
-search_may : (words : List Text) (begins : Bool) (names : List Text) (manner : Manner) (task : Task) (x : Moment) (run : Run) (whole : Whole) (r : Result Status Stop) →
-    IsForSearch words begins names manner task x → IsTold manner task run whole → IfOk r (λ status. whole.ends ≡ Some status) → IfOk r (MayEndWith (request_of words))
-search_may words begins names manner task x run whole (Ok status) for told ended = for.may run whole status told ended
-search_may words begins names manner task x run whole (Err stop) for told ended = tt
+search_may : (promise : Promise) (begins : Bool) (names : List Text) (manner : Manner) (task : Task) (x : Moment) (run : Run) (whole : Whole) (r : Result Status Stop) →
+    IsForSearch promise begins names manner task x → IsTold manner task run whole → IfOk r (λ status. whole.ends ≡ Some status) → IfOk r (promise.MayEnd)
+search_may promise begins names manner task x run whole (Ok status) for told ended = for.may run whole status told ended
+search_may promise begins names manner task x run whole (Err stop) for told ended = tt
 
 -- a log was begun where one is named, and a whole was given behind, or a front of it where it stops
-pub prints_begun : {X : Type 0} (words : List Text) (begins : Bool) (names : List Text) (whole : Whole) (x y z : Moment) (b : Result X Stop) (v : X) (r : Result Status Stop) →
-    names ≡ log_asked (request_of words) statuses.Right → (IsAnswer (outcome r) → names ≡ log_asked (request_of words) (outcome r)) →
-    IfSome x.told (λ c. Gives c.files (request_of words) whole) → whole.begun ≡ begins → Begins begins names x y b → b ≡ Ok v → Step whole.given y z r →
-    IfOk r (λ status. whole.ends ≡ Some status) → IfOk r (MayEndWith (request_of words)) → Prints words begins [] x z r
-prints_begun {X = X} words begins names whole x y z b v r right answers gives same at is step ended may =
+pub prints_begun : {X : Type 0} (promise : Promise) (begins : Bool) (names : List Text) (whole : Whole) (x y z : Moment) (b : Result X Stop) (v : X) (r : Result Status Stop) →
+    names ≡ log_asked promise statuses.Right → (IsAnswer (outcome r) → names ≡ log_asked promise (outcome r)) →
+    IfSome x.told (λ c. Keeps promise c.files whole) → whole.begun ≡ begins → Begins begins names x y b → b ≡ Ok v → Step whole.given y z r →
+    IfOk r (λ status. whole.ends ≡ Some status) → IfOk r (promise.MayEnd) → Prints promise begins [] x z r
+prints_begun {X = X} promise begins names whole x y z b v r right answers gives same at is step ended may =
     let made : Result X Stop = Ok v in
     let done : Begins begins names x y made = subst (λ b. Begins begins names x y b) is at in
     let moves = step.moves in
     record {
-      told = told_search words step.given x.told y.told z.told x.begun z.begun r done.told moves.told
-          (known x.told (λ before. Gives before.files (request_of words) whole) (λ before. x.begun ≡ false → Comes before.files words (left step.given z.begun) r)
-          (λ before gives none. whole_comes before.files words whole step.given z.begun r gives (sym (same ∙ begun_as begins x.begun y.begun z.begun done.begun moves.begun none)) step.how ended)
+      told = told_search promise step.given x.told y.told z.told x.begun z.begun r done.told moves.told
+          (known x.told (λ before. Keeps promise before.files whole) (λ before. x.begun ≡ false → Comes before.files promise (left step.given z.begun) r)
+          (λ before gives none. whole_comes before.files promise whole step.given z.begun r gives (sym (same ∙ begun_as begins x.begun y.begun z.begun done.begun moves.begun none)) step.how ended)
           gives);
       ends = may;
       asks = record {
@@ -565,26 +531,26 @@ prints_begun {X = X} words begins names whole x y z b v r right answers gives sa
     begun_as false was at begun one two none = sym (two ∙ (one ∙ none))
 
 -- a log was begun where one is named, and a search behind it
-pub prints_search : {X : Type 0} (words : List Text) (begins : Bool) (names : List Text) (manner : Manner) (task : Task) (x y z : Moment) (b : Result X Stop) (v : X) (r : Result Status Stop) →
-    IsForSearch words begins names manner task x → Begins begins names x y b → b ≡ Ok v → Searches manner task nothing y z r → Prints words begins [] x z r
-prints_search words begins names manner task x y z b v r for at is searched =
+pub prints_search : {X : Type 0} (promise : Promise) (begins : Bool) (names : List Text) (manner : Manner) (task : Task) (x y z : Moment) (b : Result X Stop) (v : X) (r : Result Status Stop) →
+    IsForSearch promise begins names manner task x → Begins begins names x y b → b ≡ Ok v → Searches manner task nothing y z r → Prints promise begins [] x z r
+prints_search promise begins names manner task x y z b v r for at is searched =
     let whole : Whole = record { given = searched.given; begun = begins; ends = searched.ends } in
     let told : IsTold manner task searched.run whole = told_with manner task searched.run searched.given searched.ends begins searched.told in
-    prints_begun words begins names whole x y z b v r (for.names_are statuses.Right) (λ _. for.names_are (outcome r)) (for.gives searched.run whole refl told) refl at is searched.step
-    searched.ended (search_may words begins names manner task x searched.run whole r for told searched.ended)
+    prints_begun promise begins names whole x y z b v r (for.names_are statuses.Right) (λ _. for.names_are (outcome r)) (for.gives searched.run whole refl told) refl at is searched.step
+    searched.ended (search_may promise begins names manner task x searched.run whole r for told searched.ended)
 
 -- a log that was not begun
-pub prints_unbegun : {X : Type 0} (words : List Text) (named : Bool) (names : List Text) (x y : Moment) (b : Result X Stop) (e : Stop) (r : Result Status Stop) →
-    names ≡ log_asked (request_of words) statuses.Right → Begins named names x y b → b ≡ Err e → IsErrAnd r (λ d. d ≡ e) → Prints words named [] x y r
-prints_unbegun words named names x y b e (Ok status) for at is same = absurd same
-prints_unbegun {X = X} words named names x y b e (Err d) for at is same =
+pub prints_unbegun : {X : Type 0} (promise : Promise) (named : Bool) (names : List Text) (x y : Moment) (b : Result X Stop) (e : Stop) (r : Result Status Stop) →
+    names ≡ log_asked promise statuses.Right → Begins named names x y b → b ≡ Err e → IsErrAnd r (λ d. d ≡ e) → Prints promise named [] x y r
+prints_unbegun promise named names x y b e (Ok status) for at is same = absurd same
+prints_unbegun {X = X} promise named names x y b e (Err d) for at is same =
     let failed : Result X Stop = Err e in
     let left : Begins named names x y failed = subst (λ b. Begins named names x y b) is at in
     record {
       told = known x.told (λ before. IsFresh before → y.told ≡ Some before)
-          (λ before. IsFresh before → x.begun ≡ false → IsSomeAnd y.told (λ after. Leaves words before after y.begun (Err d)))
-          (λ before there fresh none. subst (λ (n : Option Contents). IsSomeAnd n (λ after. Leaves words before after y.begun (Err d))) (sym (there fresh))
-          (leaves_nothing words before before y.begun d refl fresh (left.begun ∙ none))) left.told;
+          (λ before. IsFresh before → x.begun ≡ false → IsSomeAnd y.told (λ after. Leaves promise before after y.begun (Err d)))
+          (λ before there fresh none. subst (λ (n : Option Contents). IsSomeAnd n (λ after. Leaves promise before after y.begun (Err d))) (sym (there fresh))
+          (leaves_nothing promise before before y.begun d refl fresh (left.begun ∙ none))) left.told;
       ends = tt;
       asks = record {
         opened = [];
@@ -614,119 +580,40 @@ begins_none x = record { told = same x.told; begun = refl; failed = tt; called =
     same (Some c) = λ fresh. refl
 
 -- a search that begins no log
-pub prints_made : (words : List Text) (manner : Manner) (task : Task) (x z : Moment) (r : Result Status Stop) → IsForSearch words false [] manner task x → Searches manner task nothing x z r →
-    Prints words false [] x z r
-prints_made words manner task x z r for searched = prints_search words false [] manner task x x z (Ok tt) tt r for (begins_none x) refl searched
+pub prints_made : (promise : Promise) (manner : Manner) (task : Task) (x z : Moment) (r : Result Status Stop) → IsForSearch promise false [] manner task x → Searches manner task nothing x z r →
+    Prints promise false [] x z r
+prints_made promise manner task x z r for searched = prints_search promise false [] manner task x x z (Ok tt) tt r for (begins_none x) refl searched
 
 -- ---- the end of a run
 
-may_end_checking : (status : Status) → MayEndChecking status → IsEndStatus status
-may_end_checking statuses.Right is = is
-may_end_checking statuses.Not is = is
-may_end_checking statuses.Refused is = is
-may_end_checking statuses.Spent is = absurd is
-may_end_checking statuses.Asked is = absurd is
-may_end_checking statuses.ReadFault is = is
-may_end_checking statuses.WriteFault is = is
-may_end_checking statuses.OutOfMemory is = is
+answers_ended : (files : Files) (promise : Promise) (status : Status) (c : Counts) (l : Left) → IsEndStatus status → Ended files promise status l → Answers files promise status c l
+answers_ended files promise statuses.Right c l ends ended = ended
+answers_ended files promise statuses.Not c l ends ended = ended
+answers_ended files promise statuses.Refused c l ends ended = ended
+answers_ended files promise statuses.Spent c l ends ended = ended
+answers_ended files promise statuses.Asked c l ends ended = ended
+answers_ended files promise statuses.ReadFault c l ends ended = absurd ends
+answers_ended files promise statuses.WriteFault c l ends ended = absurd ends
+answers_ended files promise statuses.OutOfMemory c l ends ended = absurd ends
 
-may_end_making : (status : Status) → MayEndMaking status → IsEndStatus status
-may_end_making statuses.Right is = is
-may_end_making statuses.Not is = is
-may_end_making statuses.Refused is = is
-may_end_making statuses.Spent is = is
-may_end_making statuses.Asked is = absurd is
-may_end_making statuses.ReadFault is = is
-may_end_making statuses.WriteFault is = is
-may_end_making statuses.OutOfMemory is = is
-
-may_end_explaining : (status : Status) → MayEndExplaining status → IsEndStatus status
-may_end_explaining statuses.Right is = is
-may_end_explaining statuses.Not is = is
-may_end_explaining statuses.Refused is = is
-may_end_explaining statuses.Spent is = absurd is
-may_end_explaining statuses.Asked is = absurd is
-may_end_explaining statuses.ReadFault is = is
-may_end_explaining statuses.WriteFault is = is
-may_end_explaining statuses.OutOfMemory is = is
-
-may_end_exporting : (status : Status) → MayEndExporting status → IsEndStatus status
-may_end_exporting statuses.Right is = is
-may_end_exporting statuses.Not is = absurd is
-may_end_exporting statuses.Refused is = is
-may_end_exporting statuses.Spent is = absurd is
-may_end_exporting statuses.Asked is = absurd is
-may_end_exporting statuses.ReadFault is = is
-may_end_exporting statuses.WriteFault is = is
-may_end_exporting statuses.OutOfMemory is = is
-
-may_end_surely : (status : Status) → MayEndSurely status → IsEndStatus status
-may_end_surely statuses.Right is = is
-may_end_surely statuses.Not is = is
-may_end_surely statuses.Refused is = is
-may_end_surely statuses.Spent is = is
-may_end_surely statuses.Asked is = absurd is
-may_end_surely statuses.ReadFault is = is
-may_end_surely statuses.WriteFault is = is
-may_end_surely statuses.OutOfMemory is = is
-
-may_end_checking_sure : (status : Status) → MayEndCheckingSure status → IsEndStatus status
-may_end_checking_sure statuses.Right is = is
-may_end_checking_sure statuses.Not is = is
-may_end_checking_sure statuses.Refused is = is
-may_end_checking_sure statuses.Spent is = absurd is
-may_end_checking_sure statuses.Asked is = absurd is
-may_end_checking_sure statuses.ReadFault is = is
-may_end_checking_sure statuses.WriteFault is = is
-may_end_checking_sure statuses.OutOfMemory is = is
-
-pub ends_as_it_may : (request : Option Request) (status : Status) → MayEndWith request status → IsEndStatus status
-ends_as_it_may None status is = subst IsEndStatus (sym is) tt
-ends_as_it_may (Some (ToList listing)) status is = is
-ends_as_it_may (Some (ToCheck checking)) status is = may_end_checking status is
-ends_as_it_may (Some (ToMake size budget)) status is = may_end_making status is
-ends_as_it_may (Some (ToExplain explaining)) status is = may_end_explaining status is
-ends_as_it_may (Some (ToConvert converting)) status is = may_end_checking status is
-ends_as_it_may (Some (ToExport exporting)) status is = may_end_exporting status is
-ends_as_it_may (Some (ToModel modelling)) status is = is
-ends_as_it_may (Some (ToCheckModels checking)) status is = may_end_checking status is
-ends_as_it_may (Some (ToBeSure surely)) status is = may_end_surely status is
-ends_as_it_may (Some (ToCheckSure checking)) status is = may_end_checking_sure status is
-ends_as_it_may (Some (ToListGenerally generally)) status is = is
-ends_as_it_may (Some (ToCheckGeneral checking)) status is = may_end_checking_sure status is
-
-answers_ended : (files : Files) (words : List Text) (status : Status) (c : Counts) (l : Left) → IsEndStatus status → Ended files words status l → Answers files words status c l
-answers_ended files words statuses.Right c l ends ended = ended
-answers_ended files words statuses.Not c l ends ended = ended
-answers_ended files words statuses.Refused c l ends ended = ended
-answers_ended files words statuses.Spent c l ends ended = ended
-answers_ended files words statuses.Asked c l ends ended = ended
-answers_ended files words statuses.ReadFault c l ends ended = absurd ends
-answers_ended files words statuses.WriteFault c l ends ended = absurd ends
-answers_ended files words statuses.OutOfMemory c l ends ended = absurd ends
-
-over_ended : (words : List Text) (status : Status) (c : Counts) (before : Contents) (new : Option Contents) (begun : Bool) → IsEndStatus status →
-    IsSomeAnd new (λ after. Leaves words before after begun (Ok status)) → IsSomeAnd new (λ after. Answered before after begun words status c)
-over_ended words status c before None begun ends over = over
-over_ended words status c before (Some after) begun ends over = record {
+over_ended : (promise : Promise) (status : Status) (c : Counts) (before : Contents) (new : Option Contents) (begun : Bool) → IsEndStatus status →
+    IsSomeAnd new (λ after. Leaves promise before after begun (Ok status)) → IsSomeAnd new (λ after. Answered before after begun promise status c)
+over_ended promise status c before None begun ends over = over
+over_ended promise status c before (Some after) begun ends over = record {
   files = over.files;
   log = over.log;
   logged = over.logged;
-  answer = answers_ended before.files words status c (left_in after over.log begun) ends over.how;
+  answer = answers_ended before.files promise status c (left_in after over.log begun) ends over.how;
 }
 
 -- a run that came to its end
-pub run_ended : (words : List Text) (begins : Bool) (opens : List Text) (status : Status) (c : Counts) (x z : Moment) → Prints words begins opens x z (Ok status) →
-    IfSome x.told (λ before. IsFresh before → x.begun ≡ false → IsSomeAnd z.told (λ after. Answered before after z.begun words status c))
-run_ended words begins opens status c x z prints =
-    known x.told (λ before. IsFresh before → x.begun ≡ false → IsSomeAnd z.told (λ after. Leaves words before after z.begun (Ok status)))
-    (λ before. IsFresh before → x.begun ≡ false → IsSomeAnd z.told (λ after. Answered before after z.begun words status c))
-    (λ before over fresh none. over_ended words status c before z.told z.begun
-    (ends_as_it_may (request_of words) status prints.ends) (over fresh none)) prints.told
-
--- a run that came to its end answers no fault
-pub ended_is : (words : List Text) (begins : Bool) (x z : Moment) (status : Status) → PrintsAsked words begins x z (Ok status) → IsEndStatus status
-ended_is words begins x z status asked = ends_as_it_may (request_of words) status asked.prints.ends
+pub run_ended : (promise : Promise) (begins : Bool) (opens : List Text) (status : Status) (c : Counts) (x z : Moment) → (promise.MayEnd status → IsEndStatus status) → Prints promise begins opens x z (Ok status) →
+    IfSome x.told (λ before. IsFresh before → x.begun ≡ false → IsSomeAnd z.told (λ after. Answered before after z.begun promise status c))
+run_ended promise begins opens status c x z ends prints =
+    known x.told (λ before. IsFresh before → x.begun ≡ false → IsSomeAnd z.told (λ after. Leaves promise before after z.begun (Ok status)))
+    (λ before. IsFresh before → x.begun ≡ false → IsSomeAnd z.told (λ after. Answered before after z.begun promise status c))
+    (λ before over fresh none. over_ended promise status c before z.told z.begun
+    (ends prints.ends) (over fresh none)) prints.told
 
 -- ---- a run that was cut short
 
@@ -737,78 +624,78 @@ left_behind m line log begun = λ i. record { out = append-nil m.out i; err = m.
 cut_short : (stop : Stop) (status : Status) (x y z : Moment) (line : List ℕ) → x.reads ≤ y.reads → x.writes ≤ y.writes → y.reads ≤ z.reads → y.writes ≤ z.writes →
     (stop ≡ stops.ReadFault → Rose x.reads y.reads) → (stop ≡ stops.WriteFault → Rose x.writes y.writes) →
     ((line ≡ stop_line stop) × (status ≡ stop_status stop)) ⊎ (IsPrefix line (stop_line stop) × (status ≡ cut_status stop) × Rose y.writes z.writes) →
-    (files : Files) (words : List Text) (l before : Left) → GaveSoFar files words before → l.given ≡ record before.given { err = before.given.err ++ line } →
-    l.begun ≡ before.begun → Answers files words status (counts x z) l
-cut_short stops.ReadFault status x y z line reads writes later_reads later_writes read_fault write_fault (inl whole) files words l before gave given begun =
-    subst (λ s. Answers files words s (counts x z) l) (sym whole.1)
+    (files : Files) (promise : Promise) (l before : Left) → GaveSoFar files promise before → l.given ≡ record before.given { err = before.given.err ++ line } →
+    l.begun ≡ before.begun → Answers files promise status (counts x z) l
+cut_short stops.ReadFault status x y z line reads writes later_reads later_writes read_fault write_fault (inl whole) files promise l before gave given begun =
+    subst (λ s. Answers files promise s (counts x z) l) (sym whole.1)
     (line, whole.0, record { before = before; gave = gave; given = given; begun = begun })
-cut_short stops.ReadFault status x y z line reads writes later_reads later_writes read_fault write_fault (inr cut) files words l before gave given begun =
-    subst (λ s. Answers files words s (counts x z) l) (sym cut.1) (
+cut_short stops.ReadFault status x y z line reads writes later_reads later_writes read_fault write_fault (inr cut) files promise l before gave given begun =
+    subst (λ s. Answers files promise s (counts x z) l) (sym cut.1) (
       line,
       inr (inr (cut.0, rose_earlier x.reads y.reads z.reads (read_fault refl) later_reads, rose_later x.writes y.writes z.writes writes cut.2)),
       record { before = before; gave = gave; given = given; begun = begun },
     )
-cut_short stops.WriteFault status x y z line reads writes later_reads later_writes read_fault write_fault (inl whole) files words l before gave given begun =
-    subst (λ s. Answers files words s (counts x z) l) (sym whole.1)
+cut_short stops.WriteFault status x y z line reads writes later_reads later_writes read_fault write_fault (inl whole) files promise l before gave given begun =
+    subst (λ s. Answers files promise s (counts x z) l) (sym whole.1)
     (line, inl whole.0, record { before = before; gave = gave; given = given; begun = begun })
-cut_short stops.WriteFault status x y z line reads writes later_reads later_writes read_fault write_fault (inr cut) files words l before gave given begun =
-    subst (λ s. Answers files words s (counts x z) l) (sym cut.1) (
+cut_short stops.WriteFault status x y z line reads writes later_reads later_writes read_fault write_fault (inr cut) files promise l before gave given begun =
+    subst (λ s. Answers files promise s (counts x z) l) (sym cut.1) (
       line,
       inr (inl (cut.0, rose_twice x.writes y.writes z.writes (write_fault refl) cut.2)),
       record { before = before; gave = gave; given = given; begun = begun },
     )
-cut_short stops.OutOfMemory status x y z line reads writes later_reads later_writes read_fault write_fault (inl whole) files words l before gave given begun =
-    subst (λ s. Answers files words s (counts x z) l) (sym whole.1)
+cut_short stops.OutOfMemory status x y z line reads writes later_reads later_writes read_fault write_fault (inl whole) files promise l before gave given begun =
+    subst (λ s. Answers files promise s (counts x z) l) (sym whole.1)
     (line, inl whole.0, record { before = before; gave = gave; given = given; begun = begun })
-cut_short stops.OutOfMemory status x y z line reads writes later_reads later_writes read_fault write_fault (inr cut) files words l before gave given begun =
-    subst (λ s. Answers files words s (counts x z) l) (sym cut.1)
+cut_short stops.OutOfMemory status x y z line reads writes later_reads later_writes read_fault write_fault (inr cut) files promise l before gave given begun =
+    subst (λ s. Answers files promise s (counts x z) l) (sym cut.1)
     (line, inr (cut.0, rose_later x.writes y.writes z.writes writes cut.2), record { before = before; gave = gave; given = given; begun = begun })
 
-over_stopped : (words : List Text) (begins : Bool) (opens : List Text) (stop : Stop) (status : Status) (x y z : Moment) (before : Contents) (mid : Option Contents) → y.told ≡ mid →
-    Prints words begins opens x y (Err stop) → TellsStop stop y z status → IsSomeAnd mid (λ after. Leaves words before after y.begun (Err stop)) →
-    IsSomeAnd z.told (λ after. Answered before after z.begun words status (counts x z))
-over_stopped words begins opens stop status x y z before None is prints tells over = absurd over
-over_stopped words begins opens stop status x y z before (Some m) is prints tells over =
-    let Done : Option Contents → Type 0 = λ n. IsSomeAnd n (λ after. Answered before after z.begun words status (counts x z)) in
+over_stopped : (promise : Promise) (begins : Bool) (opens : List Text) (stop : Stop) (status : Status) (x y z : Moment) (before : Contents) (mid : Option Contents) → y.told ≡ mid →
+    Prints promise begins opens x y (Err stop) → TellsStop stop y z status → IsSomeAnd mid (λ after. Leaves promise before after y.begun (Err stop)) →
+    IsSomeAnd z.told (λ after. Answered before after z.begun promise status (counts x z))
+over_stopped promise begins opens stop status x y z before None is prints tells over = absurd over
+over_stopped promise begins opens stop status x y z before (Some m) is prints tells over =
+    let Done : Option Contents → Type 0 = λ n. IsSomeAnd n (λ after. Answered before after z.begun promise status (counts x z)) in
     subst Done (sym (tells.told ∙ ap (option_map (adding (given_to outputs.Err tells.line))) is)) (record {
       files = over.files;
       log = over.log;
       logged = kept-nothing m.keeps m.log ∙ over.logged;
       answer = cut_short stop status x y z tells.line prints.reads prints.writes tells.reads tells.writes
           (λ same. prints.read_fault (ap Err same)) (λ same. prints.write_fault (ap Err same)) tells.how
-          before.files words (left_in (adding (given_to outputs.Err tells.line) m) over.log z.begun) (left_in m over.log y.begun) over.how
+          before.files promise (left_in (adding (given_to outputs.Err tells.line) m) over.log z.begun) (left_in m over.log y.begun) over.how
           (left_behind m tells.line over.log z.begun) tells.begun;
     })
 
 -- a run that stopped, and told why
-pub run_stopped : (words : List Text) (begins : Bool) (opens : List Text) (stop : Stop) (status : Status) (x y z : Moment) → Prints words begins opens x y (Err stop) → TellsStop stop y z status →
+pub run_stopped : (promise : Promise) (begins : Bool) (opens : List Text) (stop : Stop) (status : Status) (x y z : Moment) → Prints promise begins opens x y (Err stop) → TellsStop stop y z status →
     IfSome x.told (λ before. IsFresh before → x.begun ≡ false →
-    IsSomeAnd z.told (λ after. Answered before after z.begun words status (counts x z)))
-run_stopped words begins opens stop status x y z prints tells =
-    known x.told (λ before. IsFresh before → x.begun ≡ false → IsSomeAnd y.told (λ after. Leaves words before after y.begun (Err stop)))
-    (λ before. IsFresh before → x.begun ≡ false → IsSomeAnd z.told (λ after. Answered before after z.begun words status (counts x z)))
-    (λ before over fresh none. over_stopped words begins opens stop status x y z before y.told refl prints tells (over fresh none)) prints.told
+    IsSomeAnd z.told (λ after. Answered before after z.begun promise status (counts x z)))
+run_stopped promise begins opens stop status x y z prints tells =
+    known x.told (λ before. IsFresh before → x.begun ≡ false → IsSomeAnd y.told (λ after. Leaves promise before after y.begun (Err stop)))
+    (λ before. IsFresh before → x.begun ≡ false → IsSomeAnd z.told (λ after. Answered before after z.begun promise status (counts x z)))
+    (λ before over fresh none. over_stopped promise begins opens stop status x y z before y.told refl prints tells (over fresh none)) prints.told
 
 -- ---- the names of a run
 
 -- the names that a run opened and begun, as it says them
-abbrev pub NamesAsked : List Text → Moment → Moment → Status → Type 0
-NamesAsked words x z status =
-    (more : List Call) × (z.calls ≡ with_calls more x.calls) × BeginsAsked (request_of words) status (names_begun more)
-    × IfSome x.told (λ before. OpensAsked before.files (request_of words) status (names_opened more))
+abbrev pub NamesAsked : Promise → Moment → Moment → Status → Type 0
+NamesAsked promise x z status =
+    (more : List Call) × (z.calls ≡ with_calls more x.calls) × BeginsAsked promise status (names_begun more)
+    × IfSome x.told (λ before. OpensAsked before.files promise status (names_opened more))
 
-run_names : (words : List Text) (begins : Bool) (x y z : Moment) (r : Result Status Stop) (status : Status) → (asked : PrintsAsked words begins x y r) →
-    Called asked.prints.asks.opened asked.prints.asks.begun x z → (IsAnswer status → status ≡ outcome r) → NamesAsked words x z status
-run_names words begins x y z r status asked called answers =
+run_names : (promise : Promise) (begins : Bool) (x y z : Moment) (r : Result Status Stop) (status : Status) → (asked : PrintsAsked promise begins x y r) →
+    Called asked.prints.asks.opened asked.prints.asks.begun x z → (IsAnswer status → status ≡ outcome r) → NamesAsked promise x z status
+run_names promise begins x y z r status asked called answers =
     let asks = asked.prints.asks in (
       called.more,
       called.calls,
       record {
-        first = subst (λ (names : List Text). AreFirstNames names (log_asked (request_of words) statuses.Right)) (sym called.begun_are) asks.begun_first;
-        whole = λ is. called.begun_are ∙ (asks.whole (subst IsAnswer (answers is) is)).1 ∙ ap (log_asked (request_of words)) (sym (answers is));
+        first = subst (λ (names : List Text). AreFirstNames names (log_asked promise statuses.Right)) (sym called.begun_are) asks.begun_first;
+        whole = λ is. called.begun_are ∙ (asks.whole (subst IsAnswer (answers is) is)).1 ∙ ap (log_asked promise) (sym (answers is));
       },
-      known x.told (λ before. AreAsked before.files (request_of words) asked.opens)
-          (λ before. OpensAsked before.files (request_of words) status (names_opened called.more))
+      known x.told (λ before. promise.Opens before.files asked.opens)
+          (λ before. OpensAsked before.files promise status (names_opened called.more))
           (λ before are. record {
             all = asked.opens;
             asked = are;
@@ -817,12 +704,12 @@ run_names words begins x y z r status asked called answers =
           }) asked.asked,
     )
 
-pub names_ended : (words : List Text) (begins : Bool) (x z : Moment) (status : Status) → PrintsAsked words begins x z (Ok status) → NamesAsked words x z status
-names_ended words begins x z status asked = run_names words begins x z z (Ok status) status asked asked.prints.asks.called (λ _. refl)
+pub names_ended : (promise : Promise) (begins : Bool) (x z : Moment) (status : Status) → PrintsAsked promise begins x z (Ok status) → NamesAsked promise x z status
+names_ended promise begins x z status asked = run_names promise begins x z z (Ok status) status asked asked.prints.asks.called (λ _. refl)
 
-pub names_stopped : (words : List Text) (begins : Bool) (stop : Stop) (x y z : Moment) (status : Status) → PrintsAsked words begins x y (Err stop) → TellsStop stop y z status →
-    NamesAsked words x z status
-names_stopped words begins stop x y z status asked tells =
+pub names_stopped : (promise : Promise) (begins : Bool) (stop : Stop) (x y z : Moment) (status : Status) → PrintsAsked promise begins x y (Err stop) → TellsStop stop y z status →
+    NamesAsked promise x z status
+names_stopped promise begins stop x y z status asked tells =
     let asks = asked.prints.asks in
-    run_names words begins x y z (Err stop) status asked (called_on asks.opened asks.begun x y z asks.called tells.called)
+    run_names promise begins x y z (Err stop) status asked (called_on asks.opened asks.begun x y z asks.called tells.called)
     (λ is. absurd (told_answers_nothing stop y z status tells is))

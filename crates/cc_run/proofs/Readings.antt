@@ -1,5 +1,5 @@
 -- A description that was read, by its places, and what is listed or refused of it.
-use Rattle.std.proofs.Common.{◌≡◌, ◌∙◌, refl, sym, ap, subst, ℕ, List, [], ◌∷◌, ◌++◌, append-nil, map, Option, Some, None, IfSome, Result, Ok, Err, inl, inr, is_some, ◌≤◌, IfOk, arith, option_map}
+use Rattle.std.proofs.Common.{Bool, ◌≡◌, ◌∙◌, refl, sym, ap, subst, ℕ, List, [], ◌∷◌, ◌++◌, append-nil, map, Option, Some, None, IfSome, Result, Ok, Err, inl, inr, is_some, ◌≤◌, IfOk, arith, option_map}
 use Rattle.std.specs.Prelude.{IfErr, IsErrOf}
 use Rattle.cc_asked.specs.Descriptions.{IsDescriptionOf, IsWideDescriptionOf, description_of, wide_description_of}
 use Rattle.cc_defs.specs.declared.lists.Key.{Key}
@@ -19,11 +19,11 @@ use Rattle.cc_ports.specs.Contents.{Contents, Rose, with_rest}
 use Rattle.cc_ports.specs.Moments.{Moment}
 use Rattle.cc_run.specs.Asking.{AreNamed, IsRefusedNamed}
 use Rattle.cc_run.specs.Modes.Generally.{wide_in}
+use Rattle.cc_run.specs.Promised.{promise_asked, promise_of}
+use Rattle.cc_run.specs.Promises.{names_log}
 use Rattle.cc_run.specs.Requested.{AsksDescription, AsksQuery, IsFileOf, heads_of, named_of, opens_behind, source_of, OpensDescription, Reads}
-use Rattle.cc_run.specs.Answers.{promise_of}
-use Rattle.cc_run.specs.Names.{names_log}
-use Rattle.cc_run.specs.Stops.{Prints}
-use Rattle.cc_run.specs.Tasks.{AreRead, AreReadFor, IsTask, Named, RefusesDescriptionFor, RefusesNamed, Task, asked_refusal, description_in, made_files, made_named, query_named, request_of}
+use Rattle.cc_run.specs.Stops.{PrintsAsked, Prints}
+use Rattle.cc_run.specs.Tasks.{AreRead, AreReadFor, IsTask, Named, RefusesDescriptionFor, RefusesNamed, Task, asked_refusal, description_in, made_files, made_named, query_named}
 use Rattle.cc_tell.specs.Steps.{Begins, IsCalm}
 use Rattle.cc_tell.specs.declared.status.Status.{Status}
 use Rattle.cc_tell.specs.declared.status.Stop.{Stop}
@@ -44,7 +44,6 @@ use Rattle.cc_words.specs.Views.{plain_request, plain_text}
 use Rattle.cc_words.specs.Words.{Text}
 use Rattle.cc_tell.proofs.Calls.{called_none}
 use Rattle.cc_run.proofs.Callings.{called_reading, first_all, first_longer}
-use Rattle.cc_run.proofs.Outcomes.{RefusesRequest}
 
 -- what is asked for, in plain words
 abbrev pub listing_by : ListAsked → Listing
@@ -203,9 +202,21 @@ describes_for which o request described same is = subst (λ (h : Heads). IfSome 
 pub says_as : (a b : Asked) (described : Described) → a ≡ b → SaysAll (heads_of (plain_request a)) described → SaysAll (heads_of (plain_request b)) described
 says_as a b described same says = subst (λ (asked : Asked). SaysAll (heads_of (plain_request asked)) described) same says
 
-pub prints_request : (words : List Text) (a b : Request) (x z : Moment) (r : Result Status Stop) → a ≡ b → Prints words (names_log (Some a)) (opens_behind a) x z r →
-    Prints words (names_log (Some b)) (opens_behind b) x z r
-prints_request words a b x z r same prints = subst (λ (request : Request). Prints words (names_log (Some request)) (opens_behind request) x z r) same prints
+-- the same for what is asked for, by what the program has
+pub prints_for : (a b : Request) (begins : Bool) (opens : List Text) (x z : Moment) (r : Result Status Stop) → a ≡ b → Prints (promise_of a) begins opens x z r →
+    Prints (promise_of b) begins opens x z r
+prints_for a b begins opens x z r same prints = subst (λ (request : Request). Prints (promise_of request) begins opens x z r) same prints
+
+pub prints_request : (a b : Request) (x z : Moment) (r : Result Status Stop) → a ≡ b → Prints (promise_of a) (names_log (promise_of a)) (opens_behind a) x z r →
+    Prints (promise_of b) (names_log (promise_of b)) (opens_behind b) x z r
+prints_request a b x z r same prints = subst (λ (request : Request). Prints (promise_of request) (names_log (promise_of request)) (opens_behind request) x z r) same prints
+
+abbrev pub some_request : Asked → Option Request
+some_request asked = Some (plain_request asked)
+
+pub printed_as : (a b : Option Request) (x z : Moment) (r : Result Status Stop) → a ≡ b → PrintsAsked (promise_asked a) (names_log (promise_asked a)) x z r →
+    PrintsAsked (promise_asked b) (names_log (promise_asked b)) x z r
+printed_as a b x z r same prints = subst (λ (request : Option Request). PrintsAsked (promise_asked request) (names_log (promise_asked request)) x z r) same prints
 
 -- what is named, by the words of the request
 pub named_as : (d : Description) (queries : List Query) (request : Request) (label after : Option Text) {asked : Request} {q : Query} {key : Option Key} → label ≡ (named_of asked).query →
@@ -224,7 +235,7 @@ refused_as d queries request label after {refusal = refusal} query_is after_is s
 
 -- where a query or a key that is named is refused, the request is refused so
 refused_so : (files : Files) (request : Request) (refusal : Refusal) (file : Text) → AsksQuery request → RefusesNamed (source_of request files) (named_of request) refusal file →
-    RefusesRequest files (Some request) refusal file
+    (promise_of request).Refuses files refusal file
 refused_so files (ToList listing) refusal file asks refused = refused
 refused_so files (ToCheck checking) refusal file asks refused = inl refused
 refused_so files (ToMake size budget) refusal file asks refused = refused
@@ -241,7 +252,7 @@ refused_so files (ToCheckGeneral checking) refusal file asks refused = absurd as
 -- and so it is where the description is refused
 unread_so : (files : Files) (request : Request) (refusal : Refusal) (file : Text) → AsksDescription request →
     RefusesDescriptionFor (heads_of request) (source_of request files) (named_of request) refusal file →
-    RefusesRequest files (Some request) refusal file
+    (promise_of request).Refuses files refusal file
 unread_so files (ToList listing) refusal file asks refused = inl refused
 unread_so files (ToCheck checking) refusal file asks refused = inl (inl refused)
 unread_so files (ToMake size budget) refusal file asks refused = inl refused
@@ -260,18 +271,12 @@ stopped_refuses : (which : Heads) (files : Files) (by : Named) (refusal : Refusa
 stopped_refuses which files by refusal file stopped =
     record { places = stopped.0; all = stopped.1; refused = stopped.2; there = stopped.4; name = stopped.3 }
 
--- what is refused of a request, by the words that ask for it
-pub asked_refuses : (words : List Text) (request : Request) (files : Files) (refusal : Refusal) (file : Text) → request_of words ≡ Some request →
-    RefusesRequest files (Some request) refusal file → RefusesRequest files (request_of words) refusal file
-asked_refuses words request files refusal file asked refused = subst (λ (o : Option Request). RefusesRequest files o refusal file) (sym asked) refused
-
-pub refuses_description : (o : Option Contents) (words : List Text) (request : Request) (refusal : Refusal) (file : Text) → request_of words ≡ Some request → AsksDescription request →
+pub refuses_description : (o : Option Contents) (request : Request) (refusal : Refusal) (file : Text) → AsksDescription request →
     IfSome o (λ before. HasStopped (heads_of request) (source_of request before.files) (named_of request).file (describe_stops.Refused refusal file)) →
-    IfSome o (λ before. RefusesRequest before.files (request_of words) refusal file)
-refuses_description o words request refusal file asked asks =
-    known o (λ before. HasStopped (heads_of request) (source_of request before.files) (named_of request).file (describe_stops.Refused refusal file)) (λ before. RefusesRequest before.files (request_of words) refusal file)
-    (λ before stopped. asked_refuses words request before.files refusal file asked
-    (unread_so before.files request refusal file asks (stopped_refuses (heads_of request) (source_of request before.files) (named_of request) refusal file stopped)))
+    IfSome o (λ before. (promise_of request).Refuses before.files refusal file)
+refuses_description o request refusal file asks =
+    known o (λ before. HasStopped (heads_of request) (source_of request before.files) (named_of request).file (describe_stops.Refused refusal file)) (λ before. (promise_of request).Refuses before.files refusal file)
+    (λ before stopped. unread_so before.files request refusal file asks (stopped_refuses (heads_of request) (source_of request before.files) (named_of request) refusal file stopped))
 
 pub named_refused : (files : Files) (by : Named) (places : List Place) (described : Described) (refusal : Refusal) (file : Text) → IsDescribed heads.Definite places described →
     AreRead files by.file places → file ≡ file_named described.files refusal →
@@ -293,14 +298,14 @@ named_refused files by places described refusal file said read name (inr (q, nam
   name = name ∙ ap (file_named described.files) same;
 }))
 
-pub refuses_named : (o : Option Contents) (words : List Text) (request : Request) (described : Described) (of : IsRead heads.Definite o (source_of request) (named_of request).file described) (refusal : Refusal)
-    (file : Text) → request_of words ≡ Some request → AsksQuery request → file ≡ file_named described.files refusal →
+pub refuses_named : (o : Option Contents) (request : Request) (described : Described) (of : IsRead heads.Definite o (source_of request) (named_of request).file described) (refusal : Refusal)
+    (file : Text) → AsksQuery request → file ≡ file_named described.files refusal →
     IsRefusedNamed (description_in of.places) (map plain_query described.queries) (named_of request).query (named_of request).after refusal →
-    IfSome o (λ before. RefusesRequest before.files (request_of words) refusal file)
-refuses_named o words request described of refusal file asked asks name refused =
-    known o (λ before. AreRead (source_of request before.files) (named_of request).file of.places) (λ before. RefusesRequest before.files (request_of words) refusal file)
-    (λ before read. asked_refuses words request before.files refusal file asked (refused_so before.files request refusal file asks
-    (named_refused (source_of request before.files) (named_of request) of.places described refusal file of.said read name refused))) of.read
+    IfSome o (λ before. (promise_of request).Refuses before.files refusal file)
+refuses_named o request described of refusal file asks name refused =
+    known o (λ before. AreRead (source_of request before.files) (named_of request).file of.places) (λ before. (promise_of request).Refuses before.files refusal file)
+    (λ before read. refused_so before.files request refusal file asks
+    (named_refused (source_of request before.files) (named_of request) of.places described refusal file of.said read name refused)) of.read
 
 -- ---- what is opened
 

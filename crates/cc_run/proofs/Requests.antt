@@ -1,13 +1,11 @@
 -- What words ask for: its numbers are within their bounds.
-use Rattle.std.proofs.Common.{◌≡◌, ◌∙◌, refl, sym, ap, subst, ℕ, ◌≤◌, Bool, true, false, cond, List, [], Option, Some, None, IfSome, option_map, unwrap_or, nat_le, arith, length}
+use Rattle.std.proofs.Common.{◌≡◌, ◌∙◌, refl, sym, ap, subst, ℕ, ◌≤◌, Bool, true, false, cond, List, Option, Some, None, IfSome, option_map, unwrap_or, nat_le, arith, length}
 use Rattle.std.specs.Prelude.{◌&&◌, option_and_then}
 use Rattle.std.proofs.lemmas.Bool.{leb-true}
 use Rattle.cc_defs.specs.Grammar.{number_of}
 use Rattle.cc_defs.specs.Tokens.{is_number}
 use Rattle.cc_run.specs.Requested.{IsWithin}
-use Rattle.cc_run.specs.Names.{names_log}
-use Rattle.cc_run.specs.Tasks.{request_of, refusal_without_place}
-use Rattle.cc_describe.specs.Places.{Files}
+use Rattle.cc_run.specs.Tasks.{request_of}
 use Rattle.cc_words.specs.declared.asked.Asked.{Asked}
 use Rattle.cc_words.specs.Readings.{reading}
 use Rattle.cc_words.specs.declared.modes.Mode.{Mode}
@@ -15,7 +13,6 @@ use Rattle.cc_words.specs.declared.modes.Mode.TheVariants as modes
 use Rattle.cc_words.specs.Requests.{Request, asked_in, asked_of, budget_of, count_of, form_of, has_plain_name, mode_of, number_from_zero, number_up_to, optional, provided, suits, valued}
 use Rattle.cc_words.specs.Views.{plain_asked, plain_request}
 use Rattle.cc_words.specs.Words.{Given, Text}
-use Rattle.cc_run.proofs.Outcomes.{RefusesRequest}
 
 abbrev some : {X : Type 0} → X → Option X
 some x = Some x
@@ -149,12 +146,5 @@ request_within words request e = read_within (reading words) request e
 pub asked_is : (words : List Text) (o : Option Asked) (a : Asked) → plain_asked o ≡ request_of words → o ≡ Some a → request_of words ≡ Some (plain_request a)
 asked_is words o a taken is = sym taken ∙ ap plain_asked is
 
-pub named_log : (words : List Text) (request : Request) → request_of words ≡ Some request → names_log (Some request) ≡ names_log (request_of words)
-named_log words request asked = sym (ap names_log asked)
-
 pub asked_none : (words : List Text) (o : Option Asked) → plain_asked o ≡ request_of words → o ≡ None → request_of words ≡ None
 asked_none words o taken is = sym taken ∙ ap plain_asked is
-
--- words that ask for nothing are refused
-pub refuses_none : (files : Files) (request : Option Request) → request ≡ None → RefusesRequest files request (refusal_without_place 1) []
-refuses_none files request is = subst (λ (o : Option Request). RefusesRequest files o (refusal_without_place 1) []) (sym is) (refl, refl)

@@ -14,12 +14,10 @@ use Rattle.cc_defs.specs.Resolved.{Query}
 use Rattle.cc_describe.specs.Places.{Files}
 use Rattle.cc_ports.specs.Contents.{Contents}
 use Rattle.cc_ports.specs.Moments.{Moment}
-use Rattle.cc_run.specs.Answers.{Gives}
-use Rattle.cc_run.specs.Modes.CheckingSure.{ChecksSure, MayEndCheckingSure, NamesSureLog, RefusesCheckingSure, named_to_check}
+use Rattle.cc_run.specs.Modes.CheckingSure.{ChecksSure, MayEndCheckingSure, NamesSureLog, RefusesCheckingSure, named_to_check, sure_checking_promise}
 use Rattle.cc_run.specs.Modes.Surely.{NamesUnclaimed, RefusesClaimed}
-use Rattle.cc_run.specs.Names.{MayEndWith}
+use Rattle.cc_run.specs.Promises.{Keeps, Promise}
 use Rattle.cc_run.specs.Stops.{Prints}
-use Rattle.cc_run.specs.Tasks.{request_of}
 use Rattle.cc_run.specs.Wholes.{Whole}
 use Rattle.cc_sure.specs.SureLogs.{RefutesAtoms, sure_subject}
 use Rattle.cc_tell.specs.declared.status.Status.{Status}
@@ -28,9 +26,9 @@ use Rattle.cc_tell.specs.SilentVerdicts.{silent_verdict_line, silent_verdict_sta
 use Rattle.cc_tell.specs.Steps.{Step}
 use Rattle.cc_tell.specs.Givens.{only_out}
 use Rattle.cc_words.specs.declared.asked.CheckSureAsked.{CheckSureAsked}
-use Rattle.cc_words.specs.Requests.{Request, SureChecking, ToCheckSure}
+use Rattle.cc_words.specs.Requests.{SureChecking, ToCheckSure}
 use Rattle.cc_words.specs.Words.{Text}
-use Rattle.cc_run.proofs.Outcomes.{RefusesRequest, asks_no_more, known, prints_whole}
+use Rattle.cc_run.proofs.Outcomes.{asks_no_more, known, prints_whole}
 use Rattle.cc_run.proofs.Readings.{sure_checking_by}
 
 same_checking : (a b : SureChecking) → ToCheckSure a ≡ ToCheckSure b → a ≡ b
@@ -54,27 +52,27 @@ is_log (Some c) checking d q name read bytes same same_bytes is there = record {
 
 -- ---- what is refused
 
-abbrev Refuses : Option Contents → List Text → Refusal → Text → Type 0
-Refuses o words refusal file = IfSome o (λ c. RefusesRequest c.files (request_of words) refusal file)
+abbrev Refuses : Option Contents → Promise → Refusal → Text → Type 0
+Refuses o promise refusal file = IfSome o (λ c. promise.Refuses c.files refusal file)
 
-refuses_checking : (o : Option Contents) (words : List Text) (checking : SureChecking) (refusal : Refusal) (file : Text) → request_of words ≡ Some (ToCheckSure checking) →
-    IfSome o (λ c. RefusesCheckingSure c.files checking refusal file) → Refuses o words refusal file
-refuses_checking o words checking refusal file asked =
-    known o (λ c. RefusesCheckingSure c.files checking refusal file) (λ c. RefusesRequest c.files (request_of words) refusal file)
-    (λ c refused. subst (λ (r : Option Request). RefusesRequest c.files r refusal file) (sym asked) refused)
+refuses_checking : (o : Option Contents) (checking : SureChecking) (refusal : Refusal) (file : Text) →
+    IfSome o (λ c. RefusesCheckingSure c.files checking refusal file) → Refuses o (sure_checking_promise checking) refusal file
+refuses_checking o checking refusal file =
+    known o (λ c. RefusesCheckingSure c.files checking refusal file) (λ c. (sure_checking_promise checking).Refuses c.files refusal file)
+    (λ c refused. refused)
 
-pub refuses_named : (o : Option Contents) (words : List Text) (checking : SureChecking) (refusal : Refusal) (file : Text) → request_of words ≡ Some (ToCheckSure checking) →
-    IfSome o (λ c. RefusesClaimed c.files (named_to_check checking) refusal file) → Refuses o words refusal file
-refuses_named o words checking refusal file asked refused =
-    refuses_checking o words checking refusal file asked
+pub refuses_named : (o : Option Contents) (checking : SureChecking) (refusal : Refusal) (file : Text) →
+    IfSome o (λ c. RefusesClaimed c.files (named_to_check checking) refusal file) → Refuses o (sure_checking_promise checking) refusal file
+refuses_named o checking refusal file refused =
+    refuses_checking o checking refusal file
     (known o (λ c. RefusesClaimed c.files (named_to_check checking) refusal file) (λ c. RefusesCheckingSure c.files checking refusal file) (λ c is. inl is) refused)
 
 -- a log that passes its limit
-pub refuses_long : (o : Option Contents) (words : List Text) (checking : SureChecking) (d : Description) (q : Query) (name : Text) (most : ℕ) (refusal : Refusal) →
-    request_of words ≡ Some (ToCheckSure checking) → name ≡ checking.log → IfSome o (λ c. NamesUnclaimed c.files (named_to_check checking) d q) →
+pub refuses_long : (o : Option Contents) (checking : SureChecking) (d : Description) (q : Query) (name : Text) (most : ℕ) (refusal : Refusal) →
+    name ≡ checking.log → IfSome o (λ c. NamesUnclaimed c.files (named_to_check checking) d q) →
     IfSome o (λ c. (bytes : List ℕ) × (c.files name ≡ Some bytes) × (most < length bytes)) → most ≡ limit_number limits.LogBytes → refusal ≡ past limits.LogBytes →
-    Refuses o words refusal []
-refuses_long o words checking d q name most refusal asked same is long most_is past_is = refuses_checking o words checking refusal [] asked (by o is long)
+    Refuses o (sure_checking_promise checking) refusal []
+refuses_long o checking d q name most refusal same is long most_is past_is = refuses_checking o checking refusal [] (by o is long)
   where
     by : (o : Option Contents) → IfSome o (λ c. NamesUnclaimed c.files (named_to_check checking) d q) →
         IfSome o (λ c. (bytes : List ℕ) × (c.files name ≡ Some bytes) × (most < length bytes)) → IfSome o (λ c. RefusesCheckingSure c.files checking refusal [])
@@ -84,11 +82,11 @@ refuses_long o words checking d q name most refusal asked same is long most_is p
         inr (d, q, long.0, record { is = is; there = there }, inl (subst (λ (n : ℕ). n < length long.0) most_is long.2, past_is), refl)
 
 -- a section that passes a limit
-pub refuses_section : (o : Option Contents) (words : List Text) (checking : SureChecking) (d : Description) (q : Query) (bytes : List ℕ) (refusal : Refusal) →
-    request_of words ≡ Some (ToCheckSure checking) → IfSome o (λ c. NamesSureLog c.files checking d q bytes) → length bytes ≤ limit_number limits.LogBytes →
-    IsSilentFault (sure_subject d q) bytes (faults.Refused refusal) → Refuses o words refusal []
-refuses_section o words checking d q bytes refusal asked named few fault =
-    refuses_checking o words checking refusal [] asked
+pub refuses_section : (o : Option Contents) (checking : SureChecking) (d : Description) (q : Query) (bytes : List ℕ) (refusal : Refusal) →
+    IfSome o (λ c. NamesSureLog c.files checking d q bytes) → length bytes ≤ limit_number limits.LogBytes →
+    IsSilentFault (sure_subject d q) bytes (faults.Refused refusal) → Refuses o (sure_checking_promise checking) refusal []
+refuses_section o checking d q bytes refusal named few fault =
+    refuses_checking o checking refusal []
     (known o (λ c. NamesSureLog c.files checking d q bytes) (λ c. RefusesCheckingSure c.files checking refusal [])
     (λ c log. inr (d, q, bytes, log, inr (few, fault), refl)) named)
 
@@ -98,15 +96,15 @@ pub verdict_may : (verdict : SilentVerdict) → MayEndCheckingSure (silent_verdi
 verdict_may (verdicts.Accepted sections) = tt
 verdict_may (verdicts.Refused line reason) = tt
 
-pub prints_sure_verdict : (words : List Text) (checking : SureChecking) (d : Description) (q : Query) (bytes : List ℕ) (verdict : SilentVerdict) (x z : Moment) (r : Result Status Stop) →
-    request_of words ≡ Some (ToCheckSure checking) → IfSome x.told (λ c. NamesSureLog c.files checking d q bytes) → length bytes ≤ limit_number limits.LogBytes →
+pub prints_sure_verdict : (checking : SureChecking) (d : Description) (q : Query) (bytes : List ℕ) (verdict : SilentVerdict) (x z : Moment) (r : Result Status Stop) →
+    IfSome x.told (λ c. NamesSureLog c.files checking d q bytes) → length bytes ≤ limit_number limits.LogBytes →
     IsSilentVerdict (sure_subject d q) bytes verdict → IsSilentVerdictWithin (sure_subject d q) bytes verdict → RefutesAtoms d q bytes verdict →
-    Step (only_out (silent_verdict_line (codes "impossible") verdict)) x z r → IfOk r (λ status. status ≡ silent_verdict_status verdict) → Prints words false [] x z r
-prints_sure_verdict words checking d q bytes verdict x z r asked named few judged within refutes step status =
-    prints_whole words false [] whole x z r
-    (known x.told (λ c. NamesSureLog c.files checking d q bytes) (λ c. Gives c.files (request_of words) whole)
-    (λ c log. subst (λ (o : Option Request). Gives c.files o whole) (sym asked) (inr (checks c.files log))) named)
-    refl step (ended r status) (may r status) (asks_no_more words (ToCheckSure checking) x z r asked (λ _. refl) step.moves.called)
+    Step (only_out (silent_verdict_line (codes "impossible") verdict)) x z r → IfOk r (λ status. status ≡ silent_verdict_status verdict) → Prints (sure_checking_promise checking) false [] x z r
+prints_sure_verdict checking d q bytes verdict x z r named few judged within refutes step status =
+    prints_whole (sure_checking_promise checking) false [] whole x z r
+    (known x.told (λ c. NamesSureLog c.files checking d q bytes) (λ c. Keeps (sure_checking_promise checking) c.files whole)
+    (λ c log. inr (checks c.files log)) named)
+    refl step (ended r status) (may r status) (asks_no_more (sure_checking_promise checking) x z r (λ _. refl) step.moves.called)
   where
     whole : Whole
     whole = record { given = only_out (silent_verdict_line (codes "impossible") verdict); begun = false; ends = Some (silent_verdict_status verdict) }
@@ -131,6 +129,6 @@ prints_sure_verdict words checking d q bytes verdict x z r asked named few judge
     ended (Ok status) is = ap Some (sym is)
     ended (Err stop) is = tt
 
-    may : (r : Result Status Stop) → IfOk r (λ status. status ≡ silent_verdict_status verdict) → IfOk r (MayEndWith (request_of words))
-    may (Ok status) is = subst (λ (o : Option Request). MayEndWith o status) (sym asked) (subst MayEndCheckingSure (sym is) (verdict_may verdict))
+    may : (r : Result Status Stop) → IfOk r (λ status. status ≡ silent_verdict_status verdict) → IfOk r ((sure_checking_promise checking).MayEnd)
+    may (Ok status) is = subst MayEndCheckingSure (sym is) (verdict_may verdict)
     may (Err stop) is = tt

@@ -12,12 +12,10 @@ use Rattle.cc_defs.specs.Runs.{optional, range_of}
 use Rattle.cc_describe.specs.Places.{Files}
 use Rattle.cc_ports.specs.Contents.{Contents}
 use Rattle.cc_ports.specs.Moments.{Moment}
-use Rattle.cc_run.specs.Answers.{Gives}
-use Rattle.cc_run.specs.Modes.Surely.{EndsSurely, MayEndSurely, NamesUnclaimed, RefusesClaimed, TellsSurely, named_surely, sure_status}
-use Rattle.cc_run.specs.Names.{MayEndWith, log_asked}
+use Rattle.cc_run.specs.Modes.Surely.{EndsSurely, MayEndSurely, NamesUnclaimed, RefusesClaimed, TellsSurely, named_surely, sure_promise, sure_status}
+use Rattle.cc_run.specs.Promises.{Keeps, log_asked}
 use Rattle.cc_run.specs.Stops.{Prints, outcome}
 use Rattle.cc_run.specs.Sures.{TellsSure, surely_given}
-use Rattle.cc_run.specs.Tasks.{request_of}
 use Rattle.cc_run.specs.Wholes.{Whole}
 use Rattle.cc_sure.specs.Accepted.{SureLogsAreAccepted}
 use Rattle.cc_sure.specs.SureRuns.{SureEnding, Complete, NoneAtAll, Spent, SureRun, sure_horizon}
@@ -27,11 +25,11 @@ use Rattle.cc_tell.specs.declared.status.Stop.{Stop}
 use Rattle.cc_tell.specs.Steps.{Begins}
 use Rattle.cc_tell.specs.Givens.{nothing}
 use Rattle.cc_words.specs.declared.asked.SureAsked.{SureAsked}
-use Rattle.cc_words.specs.Requests.{Request, Surely, ToBeSure}
+use Rattle.cc_words.specs.Requests.{Surely, ToBeSure}
 use Rattle.cc_words.specs.Views.{plain_text}
 use Rattle.cc_words.specs.Words.{Text}
 use Rattle.cc_tell.proofs.GivenSteps.{step_as}
-use Rattle.cc_run.proofs.Outcomes.{RefusesRequest, known, prints_begun}
+use Rattle.cc_run.proofs.Outcomes.{known, prints_begun}
 use Rattle.cc_run.proofs.Passing.{range_is}
 use Rattle.cc_run.proofs.Readings.{surely_by}
 
@@ -53,16 +51,16 @@ pub begins_surely : {X : Type 0} (asked : SureAsked) (surely : Surely) → surel
 begins_surely asked surely is names x y r begins = subst (λ b. Begins b names x y r) (log_begins asked.log ∙ ap (λ (s : Surely). is_some s.log) is) begins
 
 -- what is refused of it
-pub refuses_surely : (o : Option Contents) (words : List Text) (surely : Surely) (refusal : Refusal) (file : Text) → request_of words ≡ Some (ToBeSure surely) →
-    IfSome o (λ before. RefusesClaimed before.files (named_surely surely) refusal file) → IfSome o (λ before. RefusesRequest before.files (request_of words) refusal file)
-refuses_surely o words surely refusal file asked =
-    known o (λ before. RefusesClaimed before.files (named_surely surely) refusal file) (λ before. RefusesRequest before.files (request_of words) refusal file)
-    (λ before refused. subst (λ (r : Option Request). RefusesRequest before.files r refusal file) (sym asked) refused)
+pub refuses_surely : (o : Option Contents) (surely : Surely) (refusal : Refusal) (file : Text) →
+    IfSome o (λ before. RefusesClaimed before.files (named_surely surely) refusal file) → IfSome o (λ before. (sure_promise surely).Refuses before.files refusal file)
+refuses_surely o surely refusal file =
+    known o (λ before. RefusesClaimed before.files (named_surely surely) refusal file) (λ before. (sure_promise surely).Refuses before.files refusal file)
+    (λ before refused. refused)
 
 -- the log that is named is the one that is asked for, however the run ends
-pub surely_log : (words : List Text) (surely : Surely) (names : List Text) → request_of words ≡ Some (ToBeSure surely) → names ≡ optional surely.log →
-    (status : Status) → names ≡ log_asked (request_of words) status
-surely_log words surely names asked named status = named ∙ sym (ap (λ (o : Option Request). log_asked o status) asked)
+pub surely_log : (surely : Surely) (names : List Text) → names ≡ optional surely.log →
+    (status : Status) → names ≡ log_asked (sure_promise surely) status
+surely_log surely names named status = named
 
 -- ---- a run
 
@@ -79,11 +77,11 @@ surely_may d q budget run err (Some other) status (inl ended) is =
 surely_may d q budget run err (Some other) status (inr refused) is =
     let same : other ≡ status = cc in subst MayEndSurely (sym refused.3 ∙ same) tt
 
-pub prints_surely : {X : Type 0} (words : List Text) (surely : Surely) (d : Description) (q : Query) (names : List Text) (x y z : Moment) (b : Result X Stop) (v : X) (r : Result Status Stop) →
-    SureLogsAreAccepted → (range_of q).1 ≤ most_steps → request_of words ≡ Some (ToBeSure surely) → names ≡ optional surely.log →
+pub prints_surely : {X : Type 0} (surely : Surely) (d : Description) (q : Query) (names : List Text) (x y z : Moment) (b : Result X Stop) (v : X) (r : Result Status Stop) →
+    SureLogsAreAccepted → (range_of q).1 ≤ most_steps → names ≡ optional surely.log →
     IfSome x.told (λ c. NamesUnclaimed c.files (named_surely surely) d q) →
-    Begins (is_some surely.log) names x y b → b ≡ Ok v → TellsSure d q surely.budget nothing y z r → Prints words (is_some surely.log) [] x z r
-prints_surely words surely d q names x y z b v r law low asked named is at was told =
+    Begins (is_some surely.log) names x y b → b ≡ Ok v → TellsSure d q surely.budget nothing y z r → Prints (sure_promise surely) (is_some surely.log) [] x z r
+prints_surely surely d q names x y z b v r law low named is at was told =
     let more = told.more in
     let within = more.fair.within in
     let short : IsShort (sure_horizon q told.run) = omega arith in
@@ -100,14 +98,14 @@ prints_surely words surely d q names x y z b v r law low asked named is at was t
       begun = refl;
       ends = more.how;
     } in
-    let names_are = surely_log words surely names asked named in
-    prints_begun words (is_some surely.log) names whole x y z b v r (names_are statuses.Right) (λ _. names_are (outcome r))
-    (known x.told (λ c. NamesUnclaimed c.files (named_surely surely) d q) (λ c. Gives c.files (request_of words) whole)
-    (λ c is. subst (λ (o : Option Request). Gives c.files o whole) (sym asked) (inr (tells c.files is))) is)
+    let names_are = surely_log surely names named in
+    prints_begun (sure_promise surely) (is_some surely.log) names whole x y z b v r (names_are statuses.Right) (λ _. names_are (outcome r))
+    (known x.told (λ c. NamesUnclaimed c.files (named_surely surely) d q) (λ c. Keeps (sure_promise surely) c.files whole)
+    (λ c is. inr (tells c.files is)) is)
     refl at was (step_as more.given whole.given y z r more.grows more.step) told.ended (may r told.ended)
   where
-    may : (r : Result Status Stop) → IfOk r (λ status. told.ends ≡ Some status) → IfOk r (MayEndWith (request_of words))
-    may (Ok status) is = subst (λ (o : Option Request). MayEndWith o status) (sym asked) (surely_may d q surely.budget told.run told.more.err told.ends status told.more.how is)
+    may : (r : Result Status Stop) → IfOk r (λ status. told.ends ≡ Some status) → IfOk r ((sure_promise surely).MayEnd)
+    may (Ok status) is = surely_may d q surely.budget told.run told.more.err told.ends status told.more.how is
     may (Err stop) is = tt
 
 -- the range of the query that is searched

@@ -10,6 +10,7 @@ pub mod ModelsTold
 pub mod Modes
 pub mod Names
 pub mod Preparing
+pub mod Promised
 pub mod Promises
 pub mod Refusing
 pub mod Requested

@@ -1,7 +1,10 @@
 -- What a mode promises: what each further mode has to hand in.
-use Rattle.std.specs.Prelude.{List, Option}
+use Rattle.std.specs.Prelude.{◌≡◌, ◌⊎◌, Bool, List, [], Option, None, is_some}
 use Rattle.cc_defs.specs.declared.refusal.Refusal.{Refusal}
+use Rattle.cc_defs.specs.Runs.{optional}
 use Rattle.cc_describe.specs.Places.{Files}
+use Rattle.cc_run.specs.Refusing.{IsRefusedWith}
+use Rattle.cc_run.specs.Tasks.{refusal_without_place}
 use Rattle.cc_run.specs.Wholes.{Whole}
 use Rattle.cc_tell.specs.declared.status.Status.{Status}
 use Rattle.cc_tell.specs.declared.status.Status.TheVariants as statuses
@@ -29,3 +32,28 @@ pub record Promise : Type 1 where
   pub begins : Status → Option Text
   -- the statuses with which it may end
   pub MayEnd : Status → Type 0
+
+-- A run that keeps a promise gives this: what is asked for is refused, or it is given.
+abbrev pub Keeps : Promise → Files → Whole → Type 0
+Keeps promise files whole = IsRefusedWith (promise.Refuses files) whole ⊎ promise.Gives files whole
+
+-- whether it may begin a log: where what is asked for is done
+abbrev pub names_log : Promise → Bool
+names_log promise = is_some (promise.begins statuses.Right)
+
+-- the name of the log that it begins where it ends so, and no other
+abbrev pub log_asked : Promise → Status → List Text
+log_asked promise status = optional (promise.begins status)
+
+-- words that ask for nothing are refused
+abbrev pub RefusesWords : Refusal → Text → Type 0
+RefusesWords refusal file = (refusal ≡ refusal_without_place 1) × (file ≡ [])
+
+abbrev pub refused_words : Promise
+refused_words = record {
+  Refuses = λ _. RefusesWords;
+  Gives = λ _ _. ⊥;
+  Opens = λ _ opened. opened ≡ [];
+  begins = λ _. None;
+  MayEnd = λ status. status ≡ statuses.Refused;
+}

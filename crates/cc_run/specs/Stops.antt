@@ -5,9 +5,10 @@ use Rattle.cc_describe.specs.Describing.{AreFirstNames}
 use Rattle.cc_ports.specs.Contents.{Contents, Rose}
 use Rattle.cc_ports.specs.Moments.{Moment}
 use Rattle.cc_run.specs.Answers.{Ended, GaveSoFar, LeavesLog, left_in}
-use Rattle.cc_run.specs.Names.{AreAsked, IsAnswer, MayEndWith, log_asked}
+use Rattle.cc_run.specs.Names.{IsAnswer}
+use Rattle.cc_run.specs.Promises.{Promise, log_asked}
 use Rattle.cc_run.specs.Searching.{IsTold}
-use Rattle.cc_run.specs.Tasks.{Task, request_of}
+use Rattle.cc_run.specs.Tasks.{Task}
 use Rattle.cc_tell.specs.declared.status.Status.{Status}
 use Rattle.cc_tell.specs.declared.status.Status.TheVariants as statuses
 use Rattle.cc_tell.specs.declared.status.Stop.{Stop}
@@ -32,11 +33,11 @@ pub record Searches (manner : Manner) (task : Task) (before : Given) (old new : 
 -- ---- a run up to its end, or to its stop
 
 -- what is on the desk where a run ended or stopped
-pub record Leaves (words : List (List ℕ)) (before after : Contents) (begun : Bool) (result : Result Status Stop) : Type 0 where
+pub record Leaves (promise : Promise) (before after : Contents) (begun : Bool) (result : Result Status Stop) : Type 0 where
   pub files : after.files ≡ before.files
   pub log : List ℕ
   pub logged : LeavesLog before after log
-  pub how : MatchResult result (λ status. Ended before.files words status (left_in after log begun)) (λ _. GaveSoFar before.files words (left_in after log begun))
+  pub how : MatchResult result (λ status. Ended before.files promise status (left_in after log begun)) (λ _. GaveSoFar before.files promise (left_in after log begun))
 
 -- the status of a run that ended or stopped
 abbrev pub outcome : Result Status Stop → Status
@@ -53,10 +54,10 @@ pub record Asks (opens : List Text) (begins : Status → List Text) (old new : M
   pub whole : IsAnswer (outcome result) → (opened ≡ opens) × (begun ≡ begins (outcome result))
 
 -- a run up to its end, or to its stop with its cause, which has these files to open
-pub record Prints (words : List Text) (begins : Bool) (opens : List Text) (old new : Moment) (result : Result Status Stop) : Type 0 where
-  pub told : IfSome old.told (λ before. IsFresh before → old.begun ≡ false → IsSomeAnd new.told (λ after. Leaves words before after new.begun result))
-  pub ends : IfOk result (MayEndWith (request_of words))
-  pub asks : Asks opens (log_asked (request_of words)) old new result
+pub record Prints (promise : Promise) (begins : Bool) (opens : List Text) (old new : Moment) (result : Result Status Stop) : Type 0 where
+  pub told : IfSome old.told (λ before. IsFresh before → old.begun ≡ false → IsSomeAnd new.told (λ after. Leaves promise before after new.begun result))
+  pub ends : IfOk result promise.MayEnd
+  pub asks : Asks opens (log_asked promise) old new result
   pub calm : is_ok result ≡ true → IsCalm old new
   pub begun : begins ≡ false → new.begun ≡ old.begun
   pub reads : old.reads ≤ new.reads
@@ -64,8 +65,8 @@ pub record Prints (words : List Text) (begins : Bool) (opens : List Text) (old n
   pub read_fault : IsErrOf result stops.ReadFault → Rose old.reads new.reads
   pub write_fault : IsErrOf result stops.WriteFault → Rose old.writes new.writes
 
--- a whole run: the files that it has to open are those that its words name
-pub record PrintsAsked (words : List Text) (begins : Bool) (old new : Moment) (result : Result Status Stop) : Type 0 where
+-- a whole run: the files that it has to open are those that it promises
+pub record PrintsAsked (promise : Promise) (begins : Bool) (old new : Moment) (result : Result Status Stop) : Type 0 where
   pub opens : List Text
-  pub asked : IfSome old.told (λ before. AreAsked before.files (request_of words) opens)
-  pub prints : Prints words begins opens old new result
+  pub asked : IfSome old.told (λ before. promise.Opens before.files opens)
+  pub prints : Prints promise begins opens old new result

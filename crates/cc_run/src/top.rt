@@ -1,6 +1,5 @@
 //! The top call, and the way of each run up to its mode.
 ghost use Rattle.std.specs.Prelude.{◌≡◌, ◌≢◌, ◌≤◌, ℕ, List, Option, false, map, Some, IfOk, IfSome, IsSomeAnd, string_bytes};
-ghost use Rattle.cc_arena.specs.GroundViews.{plain_ground_query};
 ghost use Rattle.cc_asked.specs.Descriptions.{IsDescriptionOf};
 ghost use Rattle.cc_defs.specs.Description.{Description};
 ghost use Rattle.cc_defs.specs.Resolved.{Query};
@@ -10,18 +9,18 @@ ghost use Rattle.cc_ports.specs.Calls.{Call, names_begun, names_opened, with_cal
 ghost use Rattle.cc_ports.specs.Contents.{Rose};
 ghost use Rattle.cc_ports.specs.Moments.{Moment};
 ghost use Rattle.cc_run.specs.Answers.{Answered, counts};
-ghost use Rattle.cc_run.specs.Names.{BeginsAsked, MayEndWith, OpensAsked, names_log};
+ghost use Rattle.cc_run.specs.Names.{BeginsAsked, OpensAsked};
 ghost use Rattle.cc_run.specs.Preparing.{IsSearchable, StandsFor};
-ghost use Rattle.cc_run.specs.Promises.{IsEndStatus};
+ghost use Rattle.cc_run.specs.Promised.{promise_of, promised};
+ghost use Rattle.cc_run.specs.Promises.{IsEndStatus, names_log};
 ghost use Rattle.cc_run.specs.Requested.{AsksDescription, AsksQuery, IsFileOf, IsWithin, Reads, named_of, opens_behind, source_of};
 ghost use Rattle.cc_run.specs.Requested as requested;
 ghost use Rattle.cc_run.specs.Stops.{Prints, PrintsAsked};
-ghost use Rattle.cc_run.specs.Tasks.{IsTask, request_of};
+ghost use Rattle.cc_run.specs.Tasks.{IsTask};
 ghost use Rattle.cc_sorts.specs.Tables.{IsSignatureFor};
 ghost use Rattle.cc_tell.specs.Steps.{IsFresh};
 ghost use Rattle.cc_words.specs.Requests.{Request, ToMake};
 ghost use Rattle.cc_words.specs.Views.{plain_request, plain_text};
-ghost use Rattle.cc_words.specs.Words.{Text};
 
 use crate::asking::{Prepared, prepare};
 use crate::modes::{
@@ -61,22 +60,22 @@ pub fn run<D: Desk>(alloc: Global, words: &[String], desk: &mut D) -> Status
     // what a checker says of the log that they name; or why the values of a history hold; or, after a fault, fronts of these.
     ensures answer { IfSome (D.seen desk.old).told (λ before. IsFresh before →
         (D.seen desk.old).begun ≡ false → IsSomeAnd (D.seen desk.new).told
-        (λ after. Answered before after (D.seen desk.new).begun (map string_bytes words.now) result
+        (λ after. Answered before after (D.seen desk.new).begun (promised (map string_bytes words.now)) result
         (counts (D.seen desk.old) (D.seen desk.new)))) }
     // The names that are opened are those of the words and of the description, in their order, and no others; the log that is begun
     // has the name that the words give it.
     ensures names { (more : List Call) × ((D.seen desk.new).calls
         ≡ with_calls more (D.seen desk.old).calls)
-        × BeginsAsked (request_of (map string_bytes words.now)) result (names_begun more)
+        × BeginsAsked (promised (map string_bytes words.now)) result (names_begun more)
         × IfSome (D.seen desk.old).told (λ before. OpensAsked before.files
-        (request_of (map string_bytes words.now)) result (names_opened more)) }
+        (promised (map string_bytes words.now)) result (names_opened more)) }
     // Where it comes to its end, it is with a status that its request may have, and the desk counted no fault.
     ensures ends { IsEndStatus result →
-        MayEndWith (request_of (map string_bytes words.now)) result }
+        (promised (map string_bytes words.now)).MayEnd result }
     ensures calm { IsEndStatus result → ((D.seen desk.new).reads ≡ (D.seen desk.old).reads)
         × ((D.seen desk.new).writes ≡ (D.seen desk.old).writes) }
     // A log is begun only where the words name one.
-    ensures no_log { names_log (request_of (map string_bytes words.now)) ≡ false →
+    ensures no_log { names_log (promised (map string_bytes words.now)) ≡ false →
         (D.seen desk.new).begun ≡ (D.seen desk.old).begun }
     // A fault is answered only where the desk counted one.
     ensures read_fault { result ≡ Status.ReadFault →
@@ -92,8 +91,8 @@ pub fn run<D: Desk>(alloc: Global, words: &[String], desk: &mut D) -> Status
 
 /// The answer up to its end, or to where it stops.
 fn answer<D: Desk>(alloc: Global, words: &[String], desk: &mut D) -> Result<Status, Stop>
-    ensures { PrintsAsked (map string_bytes words.now)
-        (names_log (request_of (map string_bytes words.now))) (D.seen desk.old) (D.seen desk.new)
+    ensures { PrintsAsked (promised (map string_bytes words.now))
+        (names_log (promised (map string_bytes words.now))) (D.seen desk.old) (D.seen desk.new)
         result }
 {
     has_places();
@@ -106,9 +105,9 @@ fn answer<D: Desk>(alloc: Global, words: &[String], desk: &mut D) -> Result<Stat
 /// The answer to words that ask for something.
 fn answer_asked<D: Desk>(alloc: Global, desk: &mut D, asked: &Asked<'_>) -> Result<Status, Stop>
     requires within { IsWithin (plain_request asked.now) }
-    ensures { (words : List Text) → request_of words ≡ Some (plain_request asked.now) →
-        PrintsAsked words (names_log (Some (plain_request asked.now))) (D.seen desk.old)
-        (D.seen desk.new) result }
+    ensures { PrintsAsked (promise_of (plain_request asked.now))
+        (names_log (promise_of (plain_request asked.now))) (D.seen desk.old) (D.seen desk.new)
+        result }
 {
     match asked {
         Asked::List(list) => answer_file(alloc, desk, asked, list.file),
@@ -154,10 +153,10 @@ fn answer_file<D: Desk>(
 ) -> Result<Status, Stop>
     requires within { IsWithin (plain_request asked.now) }
     requires description { AsksDescription (plain_request asked.now) }
-    ensures { (words : List Text) → request_of words ≡ Some (plain_request asked.now) →
-        IsFileOf (plain_request asked.now) file.now →
-        PrintsAsked words (names_log (Some (plain_request asked.now))) (D.seen desk.old)
-        (D.seen desk.new) result }
+    ensures { IsFileOf (plain_request asked.now) file.now →
+        PrintsAsked (promise_of (plain_request asked.now))
+        (names_log (promise_of (plain_request asked.now))) (D.seen desk.old) (D.seen desk.new)
+        result }
 {
     let described = describe(alloc, desk, file, heads_of(asked));
     answer_described(alloc, desk, asked, described)
@@ -173,10 +172,10 @@ fn answer_made<D: Desk>(
     requires within { IsWithin (plain_request asked.now) }
     requires description { AsksDescription (plain_request asked.now) }
     requires size { 1 ≤ size }
-    ensures { (words : List Text) (budget : ℕ) → request_of words ≡ Some (plain_request asked.now) →
-        plain_request asked.now ≡ ToMake size budget →
-        PrintsAsked words (names_log (Some (plain_request asked.now))) (D.seen desk.old)
-        (D.seen desk.new) result }
+    ensures { (budget : ℕ) → plain_request asked.now ≡ ToMake size budget →
+        PrintsAsked (promise_of (plain_request asked.now))
+        (names_log (promise_of (plain_request asked.now))) (D.seen desk.old) (D.seen desk.new)
+        result }
 {
     let text = make_text(alloc, size)?;
     let mut source = TextDesk::of(text.text().as_bytes());
@@ -197,10 +196,10 @@ fn answer_described<D: Desk>(
     requires forms { IfOk described HasForms }
     requires wide_forms { IfOk described HasWideForms }
     requires formulas { IfOk described AsksFormulas }
-    ensures { (words : List Text) (request : Request) (earlier : Moment) →
-        request_of words ≡ Some request → plain_request asked.now ≡ request →
+    ensures { (request : Request) (earlier : Moment) → plain_request asked.now ≡ request →
         Reads request described earlier (D.seen desk.old) →
-        PrintsAsked words (names_log (Some request)) earlier (D.seen desk.new) result }
+        PrintsAsked (promise_of request) (names_log (promise_of request)) earlier
+        (D.seen desk.new) result }
 {
     match described {
         Ok(described) => {
@@ -227,11 +226,11 @@ fn answer_read<D: Desk>(
     requires forms { HasForms described.now }
     requires wide_forms { HasWideForms described.now }
     requires formulas { AsksFormulas described.now }
-    ensures { (words : List Text) (request : Request) → request_of words ≡ Some request →
-        plain_request asked.now ≡ request → IfSome (D.seen desk.old).told
+    ensures { (request : Request) → plain_request asked.now ≡ request → IfSome (D.seen desk.old).told
         (λ before. Describes (requested.heads_of request) (source_of request before.files)
-        (named_of request).file described.now) → Prints words (names_log (Some request))
-        (opens_behind request) (D.seen desk.old) (D.seen desk.new) result }
+        (named_of request).file described.now) → Prints (promise_of request)
+        (names_log (promise_of request)) (opens_behind request) (D.seen desk.old)
+        (D.seen desk.new) result }
 {
     match asked {
         Asked::Explain(explain) => why::explain(alloc, desk, described, explain.key),
@@ -261,11 +260,11 @@ fn answer_query<D: Desk>(
     requires says { SaysAll heads.Definite described.now }
     requires forms { HasForms described.now }
     requires formulas { AsksFormulas described.now }
-    ensures { (words : List Text) (request : Request) → request_of words ≡ Some request →
-        plain_request asked.now ≡ request → IfSome (D.seen desk.old).told
+    ensures { (request : Request) → plain_request asked.now ≡ request → IfSome (D.seen desk.old).told
         (λ before. Describes heads.Definite (source_of request before.files)
-        (named_of request).file described.now) → Prints words (names_log (Some request))
-        (opens_behind request) (D.seen desk.old) (D.seen desk.new) result }
+        (named_of request).file described.now) → Prints (promise_of request)
+        (names_log (promise_of request)) (opens_behind request) (D.seen desk.old)
+        (D.seen desk.new) result }
 {
     let arena = Bump::new(alloc);
     let terms = Terms::new(&arena);
@@ -333,8 +332,8 @@ fn answer_prepared<D: Desk>(
     requires searchable { IsSearchable described.now prepared prepared.key }
     requires of { (d : Description) × (q : Query) × IsDescriptionOf described.now d
         × StandsFor described.now prepared d q }
-    ensures { (words : List Text) (request : Request) (d : Description) (q : Query) → request_of
-        words ≡ Some request → plain_request asked.now ≡ request → IsDescriptionOf described.now d →
+    ensures { (request : Request) (d : Description) (q : Query) →
+        plain_request asked.now ≡ request → IsDescriptionOf described.now d →
         StandsFor described.now prepared.entry d q →
         ((count : Option ℕ) (budget : ℕ) → IfSome (D.seen desk.old).told (λ before. IsTask
         (source_of request before.files) (named_of request) (record {
@@ -342,7 +341,7 @@ fn answer_prepared<D: Desk>(
           query = q;
           ask = record { count = count; budget = budget; after = prepared.entry.key };
         }))) →
-        Prints words (names_log (Some request))
+        Prints (promise_of request) (names_log (promise_of request))
         (opens_behind request) (D.seen desk.old)
         (D.seen desk.new) result }
 {
@@ -368,7 +367,7 @@ fn answer_prepared<D: Desk>(
 /// are refused.
 pub fn run_still(alloc: Global, words: &[String], files: Files) -> Status
     ensures ends { IsEndStatus result →
-        MayEndWith (request_of (map string_bytes words.now)) result }
+        (promised (map string_bytes words.now)).MayEnd result }
     ensures no_read_fault { result ≢ Status.ReadFault }
     ensures no_write_fault { result ≢ Status.WriteFault }
 {

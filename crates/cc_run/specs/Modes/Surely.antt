@@ -1,5 +1,5 @@
 -- Sure mode: what is certain, possible and impossible at the first horizon of a query that has a history.
-use Rattle.std.specs.Prelude.{◌≡◌, ◌⊎◌, ◌+◌, ℕ, List, [], ◌++◌, flat_map, length, codes, decimal, Option, Some, None, IsNone, IsSome, is_some}
+use Rattle.std.specs.Prelude.{◌≡◌, ◌⊎◌, ℕ, List, [], ◌++◌, flat_map, length, codes, decimal, Option, Some, None, IsNone, IsSome, is_some}
 use Rattle.cc_check.specs.declared.silent.SilentVerdict.TheVariants as verdicts
 use Rattle.cc_check.specs.Silent.{IsSilentVerdict}
 use Rattle.cc_defs.specs.declared.refusal.Refusal.{Refusal}

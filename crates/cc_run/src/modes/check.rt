@@ -1,23 +1,21 @@
 //! Check mode: a log that words name is judged.
-ghost use Rattle.std.specs.Prelude.{◌≡◌, ◌≤◌, List, [], ◌∷◌, false, IfOk, IfSome, Some, length};
-ghost use Rattle.cc_arena.specs.GroundViews.{plain_ground_query};
+ghost use Rattle.std.specs.Prelude.{◌≡◌, ◌≤◌, [], ◌∷◌, false, IfOk, IfSome, length};
 ghost use Rattle.cc_defs.specs.Description.{Description};
 ghost use Rattle.cc_defs.specs.Limits.{limit_number};
 ghost use Rattle.cc_defs.specs.declared.refusal.LimitAt.TheVariants as limits;
 ghost use Rattle.cc_defs.specs.Resolved.{Query};
 ghost use Rattle.cc_print.specs.Verdicts.{verdict_line};
 ghost use Rattle.cc_run.specs.Modes.Checking as checks;
-ghost use Rattle.cc_run.specs.Modes.Checking.{NamesLog};
+ghost use Rattle.cc_run.specs.Modes.Checking.{checking_promise, NamesLog};
 ghost use Rattle.cc_run.specs.Preparing.{IsSearchable, StandsFor};
 ghost use Rattle.cc_run.specs.Stops.{Prints};
-ghost use Rattle.cc_run.specs.Tasks.{IsTask, named_in, request_of};
+ghost use Rattle.cc_run.specs.Tasks.{IsTask, named_in};
 ghost use Rattle.cc_run.specs.Telling.{task_to_check};
 ghost use Rattle.cc_tell.specs.Steps.{Step};
 ghost use Rattle.cc_tell.specs.Givens.{only_out};
 ghost use Rattle.cc_words.specs.Requests.{Checking, ToCheck};
 ghost use Rattle.cc_words.specs.Views.{plain_request};
 ghost use Rattle.cc_words.specs.declared.asked.Asked.TheVariants as requests;
-ghost use Rattle.cc_words.specs.Words.{Text};
 
 use crate::asking::Prepared;
 use cc_defs::{Fault, LimitAt, LogVerdict, Refusal};
@@ -64,12 +62,11 @@ fn check_log<D: Desk>(
 ) -> Result<Status, Stop>
     requires searchable { IsSearchable described.now prepared.now prepared.now.key }
     requires few { length bytes.now ≤ limit_number limits.LogBytes }
-    ensures { (words : List Text) (checking : Checking) (d : Description) (q : Query) →
-        request_of words ≡ Some (ToCheck checking) →
+    ensures { (checking : Checking) (d : Description) (q : Query) →
         StandsFor described.now prepared.now d q →
         IfSome (D.seen desk.old).told (λ before. NamesLog before.files checking
         (task_to_check d q prepared.now.key) bytes.now) →
-        Prints words false [] (D.seen desk.old) (D.seen desk.new) result }
+        Prints (checking_promise checking) false [] (D.seen desk.old) (D.seen desk.new) result }
 {
     match judge(
         alloc,
@@ -94,12 +91,11 @@ pub(crate) fn check<D: Desk>(
     prepared: &Prepared<'_>,
 ) -> Result<Status, Stop>
     requires searchable { IsSearchable described.now prepared.now prepared.now.key }
-    ensures { (words : List Text) (checking : Checking) (d : Description) (q : Query) →
-        request_of words ≡ Some (ToCheck checking) →
+    ensures { (checking : Checking) (d : Description) (q : Query) →
         plain_request (requests.Check asked.now) ≡ ToCheck checking →
         StandsFor described.now prepared.now d q →
         IfSome (D.seen desk.old).told (λ before. IsTask before.files (named_in checking)
-        (task_to_check d q prepared.now.key)) → Prints words false (asked.now.log.now ∷ [])
+        (task_to_check d q prepared.now.key)) → Prints (checking_promise checking) false (asked.now.log.now ∷ [])
         (D.seen desk.old) (D.seen desk.new) result }
 {
     match read_all(alloc, desk, asked.log, LimitAt::LogBytes.number() as usize) {

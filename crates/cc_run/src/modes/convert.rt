@@ -17,9 +17,10 @@ ghost use Rattle.cc_ports.specs.declared.desk.To.TheVariants as outputs;
 ghost use Rattle.cc_run.specs.Converted.{AreLeft, HasLeft, HasOpened, IsJudged, converted_by, other_said};
 ghost use Rattle.cc_run.specs.Modes.Checking as checks;
 ghost use Rattle.cc_run.specs.Modes.Checking.{NamesLog};
+ghost use Rattle.cc_run.specs.Modes.Converting.{converting_promise};
 ghost use Rattle.cc_run.specs.Preparing.{IsSearchable, StandsFor};
 ghost use Rattle.cc_run.specs.Stops.{Prints};
-ghost use Rattle.cc_run.specs.Tasks.{IsTask, checked_by, named_in, request_of};
+ghost use Rattle.cc_run.specs.Tasks.{IsTask, checked_by, named_in};
 ghost use Rattle.cc_run.specs.Telling.{counts_of, task_to_check};
 ghost use Rattle.cc_tell.specs.Steps.{Step};
 ghost use Rattle.cc_tell.specs.Givens.{given_to};
@@ -27,7 +28,6 @@ ghost use Rattle.cc_tell.specs.Tellers.{IsCounted};
 ghost use Rattle.cc_words.specs.Requests.{Converting, ToConvert};
 ghost use Rattle.cc_words.specs.Views.{plain_request};
 ghost use Rattle.cc_words.specs.declared.asked.Asked.TheVariants as requests;
-ghost use Rattle.cc_words.specs.Words.{Text};
 
 use crate::asking::Prepared;
 use crate::modes::check::tell_verdict;
@@ -247,13 +247,13 @@ fn convert_judged<D: Desk>(
     requires within { (d : Description) × (q : Query)
         × StandsFor described.now prepared.now d q
         × IsVerdictWithin d q prepared.now.key bytes.now verdict.now }
-    ensures { (words : List Text) (converting : Converting) (d : Description) (q : Query) →
-        request_of words ≡ Some (ToConvert converting) → to.now ≡ converting.to →
+    ensures { (converting : Converting) (d : Description) (q : Query) →
+        to.now ≡ converting.to →
         StandsFor described.now prepared.now d q →
         IfSome (D.seen desk.old).told (λ before. NamesLog before.files (checked_by converting)
         (task_to_check d q prepared.now.key) bytes.now) →
         IsJudged d q prepared.now.key bytes.now verdict.now →
-        Prints words true [] (D.seen desk.old) (D.seen desk.new) result }
+        Prints (converting_promise converting) true [] (D.seen desk.old) (D.seen desk.new) result }
 {
     match verdict {
         LogVerdict::Refused { .. } => tell_verdict(alloc, desk, verdict),
@@ -279,12 +279,12 @@ fn convert_log<D: Desk>(
     requires few { length bytes.now ≤ limit_number limits.LogBytes }
     requires of { (d : Description) × (q : Query) × IsDescriptionOf described.now d
         × StandsFor described.now prepared.now d q }
-    ensures { (words : List Text) (converting : Converting) (d : Description) (q : Query) →
-        request_of words ≡ Some (ToConvert converting) → to.now ≡ converting.to →
+    ensures { (converting : Converting) (d : Description) (q : Query) →
+        to.now ≡ converting.to →
         StandsFor described.now prepared.now d q →
         IfSome (D.seen desk.old).told (λ before. NamesLog before.files (checked_by converting)
         (task_to_check d q prepared.now.key) bytes.now) →
-        Prints words true [] (D.seen desk.old) (D.seen desk.new) result }
+        Prints (converting_promise converting) true [] (D.seen desk.old) (D.seen desk.new) result }
 {
     match judge(
         alloc,
@@ -312,13 +312,12 @@ pub(crate) fn convert<D: Desk>(
     requires searchable { IsSearchable described.now prepared.now prepared.now.key }
     requires of { (d : Description) × (q : Query) × IsDescriptionOf described.now d
         × StandsFor described.now prepared.now d q }
-    ensures { (words : List Text) (converting : Converting) (d : Description) (q : Query) →
-        request_of words ≡ Some (ToConvert converting) →
+    ensures { (converting : Converting) (d : Description) (q : Query) →
         plain_request (requests.Convert asked.now) ≡ ToConvert converting →
         StandsFor described.now prepared.now d q →
         IfSome (D.seen desk.old).told (λ before. IsTask before.files
         (named_in (checked_by converting)) (task_to_check d q prepared.now.key)) →
-        Prints words true (asked.now.log.now ∷ []) (D.seen desk.old) (D.seen desk.new) result }
+        Prints (converting_promise converting) true (asked.now.log.now ∷ []) (D.seen desk.old) (D.seen desk.new) result }
 {
     match read_all(alloc, desk, asked.log, LimitAt::LogBytes.number() as usize) {
         Ok(bytes) => convert_log(alloc, desk, described, asked.to, prepared, bytes.items()),

@@ -1,5 +1,5 @@
 //! Export mode: the clause list of a query at a horizon, as a text of clauses.
-ghost use Rattle.std.specs.Prelude.{◌≡◌, ◌≤◌, List, [], false, flat_map, IfErr, IfOk, IfSome, map, None, OnOk, Some};
+ghost use Rattle.std.specs.Prelude.{◌≡◌, ◌≤◌, [], false, flat_map, IfErr, IfOk, IfSome, map, None, OnOk, Some};
 ghost use Rattle.cc_arena.specs.GroundViews.{plain_ground_query};
 ghost use Rattle.cc_asked.specs.Descriptions.{IsDescriptionOf};
 ghost use Rattle.cc_defs.specs.Description.{Description};
@@ -14,16 +14,14 @@ ghost use Rattle.cc_laws.specs.Questions.{steps_refusal};
 ghost use Rattle.cc_laws.specs.Vocabulary.{vocabulary_of};
 ghost use Rattle.cc_ports.specs.declared.desk.To.TheVariants as outputs;
 ghost use Rattle.cc_run.specs.Exported.{IsAskedAt, IsExported, IsExportFault, tried_refusal};
-ghost use Rattle.cc_run.specs.Modes.Exporting.{horizon_refusal, is_outside};
+ghost use Rattle.cc_run.specs.Modes.Exporting.{exporting_promise, horizon_refusal, is_outside};
 ghost use Rattle.cc_run.specs.Stops.{Prints};
 ghost use Rattle.cc_run.specs.Tasks as tasks;
-ghost use Rattle.cc_run.specs.Tasks.{request_of};
 ghost use Rattle.cc_sorts.specs.Tables.{IsSignatureFor};
 ghost use Rattle.cc_tell.specs.Steps.{Step};
 ghost use Rattle.cc_tell.specs.Givens.{given_to, only_out};
 ghost use Rattle.cc_words.specs.Requests.{Exporting, ToExport};
 ghost use Rattle.cc_words.specs.Views.{plain_request, plain_text};
-ghost use Rattle.cc_words.specs.Words.{Text};
 ghost use Rattle.cc_words.specs.declared.asked.Asked.TheVariants as requests;
 
 use crate::asking::query_named;
@@ -177,11 +175,10 @@ pub(crate) fn export<D: Desk>(
     requires says { SaysAll heads.Definite described.now }
     requires forms { HasForms described.now }
     requires formulas { AsksFormulas described.now }
-    ensures { (words : List Text) (exporting : Exporting) →
-        request_of words ≡ Some (ToExport exporting) →
+    ensures { (exporting : Exporting) →
         plain_request (requests.Export asked.now) ≡ ToExport exporting →
         IfSome (D.seen desk.old).told (λ before. Describes heads.Definite before.files
-        exporting.file described.now) → Prints words false [] (D.seen desk.old) (D.seen desk.new)
+        exporting.file described.now) → Prints (exporting_promise exporting) false [] (D.seen desk.old) (D.seen desk.new)
         result }
 {
     let arena = Bump::new(alloc);

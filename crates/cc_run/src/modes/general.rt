@@ -1,6 +1,5 @@
 //! General mode: the first histories of a query by the definition of a model itself, where heads may be of any form.
-ghost use Rattle.std.specs.Prelude.{◌≡◌, ◌<◌, ◌≤◌, ℕ, List, [], IfOk, IfSome, IsNone, Some, is_some};
-ghost use Rattle.cc_arena.specs.GroundViews.{plain_ground_query};
+ghost use Rattle.std.specs.Prelude.{◌≡◌, ◌<◌, ◌≤◌, [], IfOk, IfSome, IsNone, Some, is_some};
 ghost use Rattle.cc_asked.specs.Descriptions.{IsWideDescriptionOf};
 ghost use Rattle.cc_defs.specs.Resolved.{Query};
 ghost use Rattle.cc_describe.specs.declared.heads.Heads.TheVariants as heads;
@@ -8,16 +7,14 @@ ghost use Rattle.cc_describe.specs.Describing.{AsksFormulas, Describes, HasWideF
 ghost use Rattle.cc_general.specs.GeneralRuns.{GeneralRun};
 ghost use Rattle.cc_general.specs.Generals.{HasMore, IsGeneralOf, IsSame, Stands, left_of};
 ghost use Rattle.cc_run.specs.Generals.{IsGeneralOfSome, IsWritableGeneral, TellsGeneralEvent, TellsGenerally, generally_given};
-ghost use Rattle.cc_run.specs.Modes.Generally.{NamesWide, named_generally};
+ghost use Rattle.cc_run.specs.Modes.Generally.{general_promise, NamesWide, named_generally};
 ghost use Rattle.cc_run.specs.Preparing.{IsSearchableWide, StandsForWide};
 ghost use Rattle.cc_run.specs.Stops.{Prints};
-ghost use Rattle.cc_run.specs.Tasks.{request_of};
 ghost use Rattle.cc_sorts.specs.Tables.{IsSignatureFor};
 ghost use Rattle.cc_tell.specs.Givens.{nothing};
 ghost use Rattle.cc_wide.specs.WideLaws.{WideDescription};
 ghost use Rattle.cc_words.specs.Requests.{Generally, ToListGenerally};
 ghost use Rattle.cc_words.specs.Views.{plain_request};
-ghost use Rattle.cc_words.specs.Words.{Text};
 ghost use Rattle.cc_words.specs.declared.asked.Asked.TheVariants as requests;
 
 use crate::wide::{PreparedWide, prepare_wide};
@@ -144,12 +141,11 @@ fn list_generally<D: Desk>(
     requires budget { asked.now.budget ≤ 2000000 }
     requires of { (w : WideDescription) × (q : Query) × IsWideDescriptionOf described.now w
         × StandsForWide described.now prepared.now w q }
-    ensures { (words : List Text) (generally : Generally) (w : WideDescription) (q : Query) →
-        request_of words ≡ Some (ToListGenerally generally) →
+    ensures { (generally : Generally) (w : WideDescription) (q : Query) →
         plain_request (requests.General asked.now) ≡ ToListGenerally generally →
         IsWideDescriptionOf described.now w → StandsForWide described.now prepared.now w q →
         IfSome (D.seen desk.old).told (λ before. NamesWide before.files (named_generally generally)
-        w q) → Prints words (is_some generally.log) [] (D.seen desk.old) (D.seen desk.new) result }
+        w q) → Prints (general_promise generally) (is_some generally.log) [] (D.seen desk.old) (D.seen desk.new) result }
 {
     general_logs_are_accepted();
     begin_log(desk, asked.log)?;
@@ -168,11 +164,10 @@ pub(crate) fn general<D: Desk>(
     requires says { SaysAll heads.Any described.now }
     requires forms { HasWideForms described.now }
     requires formulas { AsksFormulas described.now }
-    ensures { (words : List Text) (generally : Generally) →
-        request_of words ≡ Some (ToListGenerally generally) →
+    ensures { (generally : Generally) →
         plain_request (requests.General asked.now) ≡ ToListGenerally generally →
         IfSome (D.seen desk.old).told (λ before. Describes heads.Any before.files generally.file
-        described.now) → Prints words (is_some generally.log) [] (D.seen desk.old) (D.seen desk.new)
+        described.now) → Prints (general_promise generally) (is_some generally.log) [] (D.seen desk.old) (D.seen desk.new)
         result }
 {
     let arena = Bump::new(alloc);

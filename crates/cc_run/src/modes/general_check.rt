@@ -1,20 +1,17 @@
 //! Generalcheck mode: a log of rivals is judged.
-ghost use Rattle.std.specs.Prelude.{◌≡◌, ◌≤◌, List, [], ◌∷◌, false, IfOk, IfSome, IsNone, None, Some, length};
-ghost use Rattle.cc_arena.specs.GroundViews.{plain_ground_query};
+ghost use Rattle.std.specs.Prelude.{◌≡◌, ◌≤◌, [], ◌∷◌, false, IfSome, length};
 ghost use Rattle.cc_defs.specs.Limits.{limit_number};
 ghost use Rattle.cc_defs.specs.declared.refusal.LimitAt.TheVariants as limits;
 ghost use Rattle.cc_defs.specs.Resolved.{Query};
 ghost use Rattle.cc_describe.specs.declared.heads.Heads.TheVariants as heads;
 ghost use Rattle.cc_describe.specs.Describing.{AsksFormulas, Describes, HasWideForms, SaysAll};
-ghost use Rattle.cc_run.specs.Modes.CheckingGeneral.{NamesGeneralLog, named_for_general};
+ghost use Rattle.cc_run.specs.Modes.CheckingGeneral.{general_checking_promise, NamesGeneralLog, named_for_general};
 ghost use Rattle.cc_run.specs.Modes.Generally.{NamesWide};
 ghost use Rattle.cc_run.specs.Preparing.{IsSearchableWide, StandsForWide};
 ghost use Rattle.cc_run.specs.Stops.{Prints};
-ghost use Rattle.cc_run.specs.Tasks.{request_of};
 ghost use Rattle.cc_wide.specs.WideLaws.{WideDescription};
 ghost use Rattle.cc_words.specs.Requests.{GeneralChecking, ToCheckGeneral};
 ghost use Rattle.cc_words.specs.Views.{plain_request};
-ghost use Rattle.cc_words.specs.Words.{Text};
 ghost use Rattle.cc_words.specs.declared.asked.Asked.TheVariants as requests;
 
 use crate::wide::{PreparedWide, prepare_wide};
@@ -38,11 +35,10 @@ fn check_log<D: Desk>(
 ) -> Result<Status, Stop>
     requires searchable { IsSearchableWide described.now prepared.now }
     requires few { length bytes.now ≤ limit_number limits.LogBytes }
-    ensures { (words : List Text) (checking : GeneralChecking) (w : WideDescription) (q : Query) →
-        request_of words ≡ Some (ToCheckGeneral checking) →
+    ensures { (checking : GeneralChecking) (w : WideDescription) (q : Query) →
         StandsForWide described.now prepared.now w q →
         IfSome (D.seen desk.old).told (λ before. NamesGeneralLog before.files checking w q
-        bytes.now) → Prints words false [] (D.seen desk.old) (D.seen desk.new) result }
+        bytes.now) → Prints (general_checking_promise checking) false [] (D.seen desk.old) (D.seen desk.new) result }
 {
     match check_general(
         alloc,
@@ -66,11 +62,11 @@ fn check_over<D: Desk>(
     log: &str,
 ) -> Result<Status, Stop>
     requires searchable { IsSearchableWide described.now prepared.now }
-    ensures { (words : List Text) (checking : GeneralChecking) (w : WideDescription) (q : Query) →
-        request_of words ≡ Some (ToCheckGeneral checking) → log.now ≡ checking.log →
+    ensures { (checking : GeneralChecking) (w : WideDescription) (q : Query) →
+        log.now ≡ checking.log →
         StandsForWide described.now prepared.now w q →
         IfSome (D.seen desk.old).told (λ before. NamesWide before.files (named_for_general checking)
-        w q) → Prints words false (log.now ∷ []) (D.seen desk.old) (D.seen desk.new) result }
+        w q) → Prints (general_checking_promise checking) false (log.now ∷ []) (D.seen desk.old) (D.seen desk.new) result }
 {
     match read_all(alloc, desk, log, LimitAt::LogBytes.number() as usize) {
         Ok(bytes) => check_log(alloc, desk, described, prepared, bytes.items()),
@@ -90,11 +86,10 @@ pub(crate) fn check<D: Desk>(
     requires says { SaysAll heads.Any described.now }
     requires forms { HasWideForms described.now }
     requires formulas { AsksFormulas described.now }
-    ensures { (words : List Text) (checking : GeneralChecking) →
-        request_of words ≡ Some (ToCheckGeneral checking) →
+    ensures { (checking : GeneralChecking) →
         plain_request (requests.CheckGeneral asked.now) ≡ ToCheckGeneral checking →
         IfSome (D.seen desk.old).told (λ before. Describes heads.Any before.files checking.file
-        described.now) → Prints words false (asked.now.log.now ∷ []) (D.seen desk.old)
+        described.now) → Prints (general_checking_promise checking) false (asked.now.log.now ∷ []) (D.seen desk.old)
         (D.seen desk.new) result }
 {
     let arena = Bump::new(alloc);

@@ -1,17 +1,16 @@
 //! List mode: the first histories of a query, each event as it comes.
-ghost use Rattle.std.specs.Prelude.{◌≡◌, ◌≤◌, List, [], Some, IfSome, is_some};
-ghost use Rattle.cc_arena.specs.GroundViews.{plain_ground_query};
+ghost use Rattle.std.specs.Prelude.{◌≡◌, ◌≤◌, List, [], IfSome, is_some};
 ghost use Rattle.cc_asked.specs.Descriptions.{IsDescriptionOf};
 ghost use Rattle.cc_defs.specs.Description.{Description};
 ghost use Rattle.cc_defs.specs.Resolved.{Query};
+ghost use Rattle.cc_run.specs.Modes.Listing.{listing_promise};
 ghost use Rattle.cc_run.specs.Preparing.{IsSearchable, StandsFor};
 ghost use Rattle.cc_run.specs.Stops.{Prints};
-ghost use Rattle.cc_run.specs.Tasks.{IsTask, named_by, request_of};
+ghost use Rattle.cc_run.specs.Tasks.{IsTask, named_by};
 ghost use Rattle.cc_sorts.specs.Tables.{IsSignatureFor};
 ghost use Rattle.cc_words.specs.Requests.{Listing, ToList};
 ghost use Rattle.cc_words.specs.Views.{plain_request};
 ghost use Rattle.cc_words.specs.declared.asked.Asked.TheVariants as requests;
-ghost use Rattle.cc_words.specs.Words.{Text};
 
 use crate::asking::Prepared;
 use crate::searching::search;
@@ -36,8 +35,7 @@ pub(crate) fn list<D: Desk>(
     requires searchable { IsSearchable described.now prepared prepared.key }
     requires of { (d : Description) × (q : Query) × IsDescriptionOf described.now d
         × StandsFor described.now prepared d q }
-    ensures { (words : List Text) (listing : Listing) (d : Description) (q : Query) →
-        request_of words ≡ Some (ToList listing) →
+    ensures { (listing : Listing) (d : Description) (q : Query) →
         plain_request (requests.List asked.now) ≡ ToList listing → IsDescriptionOf described.now d →
         StandsFor described.now prepared.entry d q →
         IfSome (D.seen desk.old).told (λ before. IsTask before.files (named_by listing)
@@ -49,7 +47,7 @@ pub(crate) fn list<D: Desk>(
             budget = asked.now.budget;
             after = prepared.entry.key;
           };
-        })) → Prints words
+        })) → Prints (listing_promise listing)
         (is_some listing.log) [] (D.seen desk.old) (D.seen desk.new) result }
 {
     match begin_log(desk, asked.log) {

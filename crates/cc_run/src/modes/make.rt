@@ -1,15 +1,13 @@
 //! Make mode: all histories of a made description, summed up.
-ghost use Rattle.std.specs.Prelude.{◌≡◌, ◌≤◌, List, [], None, Some, false, IfSome};
-ghost use Rattle.cc_arena.specs.GroundViews.{plain_ground_query};
+ghost use Rattle.std.specs.Prelude.{◌≡◌, ◌≤◌, [], None, false, IfSome};
 ghost use Rattle.cc_asked.specs.Descriptions.{IsDescriptionOf};
 ghost use Rattle.cc_defs.specs.Description.{Description};
 ghost use Rattle.cc_defs.specs.Resolved.{Query};
+ghost use Rattle.cc_run.specs.Modes.Making.{making_promise};
 ghost use Rattle.cc_run.specs.Preparing.{IsSearchable, StandsFor};
 ghost use Rattle.cc_run.specs.Stops.{Prints};
-ghost use Rattle.cc_run.specs.Tasks.{IsTask, made_files, made_named, request_of};
+ghost use Rattle.cc_run.specs.Tasks.{IsTask, made_files, made_named};
 ghost use Rattle.cc_sorts.specs.Tables.{IsSignatureFor};
-ghost use Rattle.cc_words.specs.Requests.{ToMake};
-ghost use Rattle.cc_words.specs.Words.{Text};
 
 use crate::asking::Prepared;
 use crate::searching::search;
@@ -33,15 +31,15 @@ pub(crate) fn make<D: Desk>(
     requires searchable { IsSearchable described.now prepared prepared.key }
     requires of { (d : Description) × (q : Query) × IsDescriptionOf described.now d
         × StandsFor described.now prepared d q }
-    ensures { (words : List Text) (d : Description) (q : Query) →
-        request_of words ≡ Some (ToMake size budget) → IsDescriptionOf described.now d →
+    ensures { (d : Description) (q : Query) →
+        IsDescriptionOf described.now d →
         StandsFor described.now prepared.entry d q →
         IfSome (D.seen desk.old).told (λ _. IsTask (made_files size) made_named (record {
           description = d;
           query = q;
           ask = record { count = None; budget = budget; after = prepared.entry.key };
         })) →
-        Prints words false [] (D.seen desk.old)
+        Prints (making_promise size budget) false [] (D.seen desk.old)
         (D.seen desk.new) result }
 {
     let Prepared { laws, query, key } = prepared;

@@ -1,19 +1,17 @@
 //! Models mode: the first models of a CNF.
-ghost use Rattle.std.specs.Prelude.{◌≡◌, ◌<◌, ◌≤◌, ℕ, [], List, IfOk, IfSome, IsNone, Option, Some, is_some};
+ghost use Rattle.std.specs.Prelude.{◌≡◌, ◌<◌, ◌≤◌, ℕ, [], IfOk, IfSome, IsNone, Option, Some, is_some};
 ghost use Rattle.cc_defs.specs.Runs.{Section};
 ghost use Rattle.cc_defs.specs.Sections.{Axioms};
 ghost use Rattle.cc_dimacs.specs.Cnfs.{PlainCnf};
 ghost use Rattle.cc_query.specs.Parts.{open_section};
 ghost use Rattle.cc_query.specs.Searches.{HasMore, Stands, left_of};
 ghost use Rattle.cc_run.specs.CnfForms.{IsFormOf};
-ghost use Rattle.cc_run.specs.Modes.Modelling.{IsCnfIn};
+ghost use Rattle.cc_run.specs.Modes.Modelling.{modelling_promise, IsCnfIn};
 ghost use Rattle.cc_run.specs.ModelsTold.{AreAt, AreWithin, IsAt, TellsFind, TellsListing, told_of};
 ghost use Rattle.cc_run.specs.Stops.{Prints, PrintsAsked};
-ghost use Rattle.cc_run.specs.Tasks.{request_of};
 ghost use Rattle.cc_tell.specs.Givens.{nothing};
 ghost use Rattle.cc_words.specs.Requests.{Modelling, ToModel};
 ghost use Rattle.cc_words.specs.Views.{plain_request};
-ghost use Rattle.cc_words.specs.Words.{Text};
 ghost use Rattle.cc_words.specs.declared.asked.Asked.TheVariants as requests;
 
 use crate::cnfs::{CnfStop, name_of, read_form};
@@ -125,11 +123,10 @@ fn list_models<D: Desk>(
     requires count { IfSome asked.now.count (λ count. 1 ≤ count) }
     requires budget { asked.now.budget ≤ 2000000 }
     requires form { (cnf : PlainCnf) × IsFormOf cnf form }
-    ensures { (words : List Text) (modelling : Modelling) (cnf : PlainCnf) →
-        request_of words ≡ Some (ToModel modelling) →
+    ensures { (modelling : Modelling) (cnf : PlainCnf) →
         plain_request (requests.Models asked.now) ≡ ToModel modelling → IsFormOf cnf form →
         IfSome (D.seen desk.old).told (λ c. IsCnfIn c.files modelling.file cnf) →
-        Prints words (is_some modelling.log) [] (D.seen desk.old) (D.seen desk.new) result }
+        Prints (modelling_promise modelling) (is_some modelling.log) [] (D.seen desk.old) (D.seen desk.new) result }
 {
     let search = Search::of(alloc, form, asked.count, asked.budget)?;
     match begin_log(desk, asked.log) {
@@ -149,10 +146,9 @@ pub(crate) fn models<D: Desk>(
 ) -> Result<Status, Stop>
     requires count { IfSome asked.now.count (λ count. 1 ≤ count) }
     requires budget { asked.now.budget ≤ 2000000 }
-    ensures { (words : List Text) (modelling : Modelling) →
-        request_of words ≡ Some (ToModel modelling) →
+    ensures { (modelling : Modelling) →
         plain_request (requests.Models asked.now) ≡ ToModel modelling →
-        PrintsAsked words (is_some modelling.log) (D.seen desk.old) (D.seen desk.new) result }
+        PrintsAsked (modelling_promise modelling) (is_some modelling.log) (D.seen desk.old) (D.seen desk.new) result }
 {
     match read_form(alloc, desk, asked.file) {
         Ok(form) => list_models(alloc, desk, asked, form),

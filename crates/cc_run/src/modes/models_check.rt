@@ -1,19 +1,18 @@
 //! Modelscheck mode: a log of the models of a CNF is judged.
-ghost use Rattle.std.specs.Prelude.{◌≡◌, ◌≤◌, List, [], ◌∷◌, false, IfOk, IfSome, Some, length};
+ghost use Rattle.std.specs.Prelude.{◌≡◌, ◌≤◌, [], ◌∷◌, false, IfOk, IfSome, Some, length};
 ghost use Rattle.cc_defs.specs.Limits.{limit_number};
 ghost use Rattle.cc_defs.specs.declared.refusal.LimitAt.TheVariants as limits;
 ghost use Rattle.cc_dimacs.specs.Cnfs.{PlainCnf};
 ghost use Rattle.cc_print.specs.Models.{models_verdict_line};
 ghost use Rattle.cc_run.specs.CnfForms.{IsFormOf};
 ghost use Rattle.cc_run.specs.Modes.Checking as checks;
+ghost use Rattle.cc_run.specs.Modes.CheckingModels.{models_checking_promise};
 ghost use Rattle.cc_run.specs.Modes.Modelling.{IsCnfIn};
 ghost use Rattle.cc_run.specs.Stops.{Prints, PrintsAsked};
-ghost use Rattle.cc_run.specs.Tasks.{request_of};
 ghost use Rattle.cc_tell.specs.Steps.{Step};
 ghost use Rattle.cc_tell.specs.Givens.{only_out};
 ghost use Rattle.cc_words.specs.Requests.{ModelChecking, ToCheckModels};
 ghost use Rattle.cc_words.specs.Views.{plain_request};
-ghost use Rattle.cc_words.specs.Words.{Text};
 ghost use Rattle.cc_words.specs.declared.asked.Asked.TheVariants as requests;
 
 use crate::cnfs::{CnfStop, name_of, read_form};
@@ -55,11 +54,11 @@ fn check_log<D: Desk>(
     bytes: &[u8],
 ) -> Result<Status, Stop>
     requires few { length bytes.now ≤ limit_number limits.LogBytes }
-    ensures { (words : List Text) (checking : ModelChecking) (cnf : PlainCnf) →
-        request_of words ≡ Some (ToCheckModels checking) → IsFormOf cnf form.now →
+    ensures { (checking : ModelChecking) (cnf : PlainCnf) →
+        IsFormOf cnf form.now →
         IfSome (D.seen desk.old).told (λ c. IsCnfIn c.files checking.file cnf) →
         IfSome (D.seen desk.old).told (λ c. c.files checking.log ≡ Some bytes.now) →
-        Prints words false [] (D.seen desk.old) (D.seen desk.new) result }
+        Prints (models_checking_promise checking) false [] (D.seen desk.old) (D.seen desk.new) result }
 {
     let verdict = judge_over(alloc, form, bytes)?;
     tell_verdict(alloc, desk, &verdict)
@@ -67,11 +66,11 @@ fn check_log<D: Desk>(
 
 /// Reads the log and judges it.
 fn check_over<D: Desk>(alloc: Global, desk: &mut D, form: &Form, log: &str) -> Result<Status, Stop>
-    ensures { (words : List Text) (checking : ModelChecking) (cnf : PlainCnf) →
-        request_of words ≡ Some (ToCheckModels checking) → log.now ≡ checking.log →
+    ensures { (checking : ModelChecking) (cnf : PlainCnf) →
+        log.now ≡ checking.log →
         IsFormOf cnf form.now → IfSome (D.seen desk.old).told
         (λ c. IsCnfIn c.files checking.file cnf) →
-        Prints words false (log.now ∷ []) (D.seen desk.old) (D.seen desk.new) result }
+        Prints (models_checking_promise checking) false (log.now ∷ []) (D.seen desk.old) (D.seen desk.new) result }
 {
     match read_all(alloc, desk, log, LimitAt::LogBytes.number() as usize) {
         Ok(bytes) => check_log(alloc, desk, form, bytes.items()),
@@ -87,10 +86,9 @@ pub(crate) fn check<D: Desk>(
     desk: &mut D,
     asked: &CheckModelsAsked<'_>,
 ) -> Result<Status, Stop>
-    ensures { (words : List Text) (checking : ModelChecking) →
-        request_of words ≡ Some (ToCheckModels checking) →
+    ensures { (checking : ModelChecking) →
         plain_request (requests.CheckModels asked.now) ≡ ToCheckModels checking →
-        PrintsAsked words false (D.seen desk.old) (D.seen desk.new) result }
+        PrintsAsked (models_checking_promise checking) false (D.seen desk.old) (D.seen desk.new) result }
 {
     match read_form(alloc, desk, asked.file) {
         Ok(form) => check_over(alloc, desk, &form, asked.log),

@@ -1,23 +1,20 @@
 //! Sure mode: what is certain, possible and impossible at the first horizon of a query that has a history.
-ghost use Rattle.std.specs.Prelude.{◌≡◌, ◌<◌, ◌≤◌, ℕ, List, [], IfOk, IfSome, IsNone, None, Some, is_some};
-ghost use Rattle.cc_arena.specs.GroundViews.{plain_ground_query};
+ghost use Rattle.std.specs.Prelude.{◌≡◌, ◌<◌, ◌≤◌, [], IfOk, IfSome, IsNone, None, Some, is_some};
 ghost use Rattle.cc_asked.specs.Descriptions.{IsDescriptionOf};
 ghost use Rattle.cc_defs.specs.Description.{Description};
 ghost use Rattle.cc_defs.specs.Resolved.{Query};
 ghost use Rattle.cc_describe.specs.declared.heads.Heads.TheVariants as heads;
 ghost use Rattle.cc_describe.specs.Describing.{AsksFormulas, Describes, HasForms, SaysAll};
-ghost use Rattle.cc_run.specs.Modes.Surely.{NamesUnclaimed, named_surely};
+ghost use Rattle.cc_run.specs.Modes.Surely.{sure_promise, NamesUnclaimed, named_surely};
 ghost use Rattle.cc_run.specs.Preparing.{IsSearchable, StandsFor};
 ghost use Rattle.cc_run.specs.Stops.{Prints};
 ghost use Rattle.cc_run.specs.Sures.{IsSureOfSome, IsWritableRun, TellsEvent, TellsSure, surely_given};
-ghost use Rattle.cc_run.specs.Tasks.{request_of};
 ghost use Rattle.cc_sorts.specs.Tables.{IsSignatureFor};
 ghost use Rattle.cc_sure.specs.SureRuns.{SureRun};
 ghost use Rattle.cc_sure.specs.Sures.{HasMore, IsSame, IsSureOf, Stands, left_of};
 ghost use Rattle.cc_tell.specs.Givens.{nothing};
 ghost use Rattle.cc_words.specs.Requests.{Surely, ToBeSure};
 ghost use Rattle.cc_words.specs.Views.{plain_request};
-ghost use Rattle.cc_words.specs.Words.{Text};
 ghost use Rattle.cc_words.specs.declared.asked.Asked.TheVariants as requests;
 
 use crate::asking::Prepared;
@@ -150,12 +147,11 @@ fn be_sure<D: Desk>(
     requires budget { asked.now.budget ≤ 2000000 }
     requires of { (d : Description) × (q : Query) × IsDescriptionOf described.now d
         × StandsFor described.now prepared.now d q }
-    ensures { (words : List Text) (surely : Surely) (d : Description) (q : Query) →
-        request_of words ≡ Some (ToBeSure surely) →
+    ensures { (surely : Surely) (d : Description) (q : Query) →
         plain_request (requests.Sure asked.now) ≡ ToBeSure surely →
         IsDescriptionOf described.now d → StandsFor described.now prepared.now d q →
         IfSome (D.seen desk.old).told (λ before. NamesUnclaimed before.files (named_surely surely)
-        d q) → Prints words (is_some surely.log) [] (D.seen desk.old) (D.seen desk.new) result }
+        d q) → Prints (sure_promise surely) (is_some surely.log) [] (D.seen desk.old) (D.seen desk.new) result }
 {
     sure_logs_are_accepted();
     begin_log(desk, asked.log)?;
@@ -173,10 +169,9 @@ pub(crate) fn sure<D: Desk>(
     requires says { SaysAll heads.Definite described.now }
     requires forms { HasForms described.now }
     requires formulas { AsksFormulas described.now }
-    ensures { (words : List Text) (surely : Surely) → request_of words ≡ Some (ToBeSure surely) →
-        plain_request (requests.Sure asked.now) ≡ ToBeSure surely →
+    ensures { (surely : Surely) → plain_request (requests.Sure asked.now) ≡ ToBeSure surely →
         IfSome (D.seen desk.old).told (λ before. Describes heads.Definite before.files surely.file
-        described.now) → Prints words (is_some surely.log) [] (D.seen desk.old) (D.seen desk.new)
+        described.now) → Prints (sure_promise surely) (is_some surely.log) [] (D.seen desk.old) (D.seen desk.new)
         result }
 {
     let arena = Bump::new(alloc);

@@ -1,20 +1,17 @@
 //! Surecheck mode: a log of impossible atoms is judged.
-ghost use Rattle.std.specs.Prelude.{◌≡◌, ◌≤◌, List, [], ◌∷◌, false, IfOk, IfSome, IsNone, None, Some, length};
-ghost use Rattle.cc_arena.specs.GroundViews.{plain_ground_query};
+ghost use Rattle.std.specs.Prelude.{◌≡◌, ◌≤◌, [], ◌∷◌, false, IfSome, IsNone, None, length};
 ghost use Rattle.cc_defs.specs.Description.{Description};
 ghost use Rattle.cc_defs.specs.Limits.{limit_number};
 ghost use Rattle.cc_defs.specs.declared.refusal.LimitAt.TheVariants as limits;
 ghost use Rattle.cc_defs.specs.Resolved.{Query};
 ghost use Rattle.cc_describe.specs.declared.heads.Heads.TheVariants as heads;
 ghost use Rattle.cc_describe.specs.Describing.{AsksFormulas, Describes, HasForms, SaysAll};
-ghost use Rattle.cc_run.specs.Modes.CheckingSure.{NamesSureLog, named_to_check};
+ghost use Rattle.cc_run.specs.Modes.CheckingSure.{sure_checking_promise, NamesSureLog, named_to_check};
 ghost use Rattle.cc_run.specs.Modes.Surely.{NamesUnclaimed};
 ghost use Rattle.cc_run.specs.Preparing.{IsSearchable, StandsFor};
 ghost use Rattle.cc_run.specs.Stops.{Prints};
-ghost use Rattle.cc_run.specs.Tasks.{request_of};
 ghost use Rattle.cc_words.specs.Requests.{SureChecking, ToCheckSure};
 ghost use Rattle.cc_words.specs.Views.{plain_request};
-ghost use Rattle.cc_words.specs.Words.{Text};
 ghost use Rattle.cc_words.specs.declared.asked.Asked.TheVariants as requests;
 
 use crate::asking::Prepared;
@@ -40,11 +37,10 @@ fn check_log<D: Desk>(
     requires searchable { IsSearchable described.now prepared.now None }
     requires claim { IsNone prepared.now.query.claim }
     requires few { length bytes.now ≤ limit_number limits.LogBytes }
-    ensures { (words : List Text) (checking : SureChecking) (d : Description) (q : Query) →
-        request_of words ≡ Some (ToCheckSure checking) →
+    ensures { (checking : SureChecking) (d : Description) (q : Query) →
         StandsFor described.now prepared.now d q →
         IfSome (D.seen desk.old).told (λ before. NamesSureLog before.files checking d q bytes.now) →
-        Prints words false [] (D.seen desk.old) (D.seen desk.new) result }
+        Prints (sure_checking_promise checking) false [] (D.seen desk.old) (D.seen desk.new) result }
 {
     match check_sure(
         alloc,
@@ -69,11 +65,11 @@ fn check_over<D: Desk>(
 ) -> Result<Status, Stop>
     requires searchable { IsSearchable described.now prepared.now None }
     requires claim { IsNone prepared.now.query.claim }
-    ensures { (words : List Text) (checking : SureChecking) (d : Description) (q : Query) →
-        request_of words ≡ Some (ToCheckSure checking) → log.now ≡ checking.log →
+    ensures { (checking : SureChecking) (d : Description) (q : Query) →
+        log.now ≡ checking.log →
         StandsFor described.now prepared.now d q →
         IfSome (D.seen desk.old).told (λ before. NamesUnclaimed before.files
-        (named_to_check checking) d q) → Prints words false (log.now ∷ []) (D.seen desk.old)
+        (named_to_check checking) d q) → Prints (sure_checking_promise checking) false (log.now ∷ []) (D.seen desk.old)
         (D.seen desk.new) result }
 {
     match read_all(alloc, desk, log, LimitAt::LogBytes.number() as usize) {
@@ -94,11 +90,10 @@ pub(crate) fn check<D: Desk>(
     requires says { SaysAll heads.Definite described.now }
     requires forms { HasForms described.now }
     requires formulas { AsksFormulas described.now }
-    ensures { (words : List Text) (checking : SureChecking) →
-        request_of words ≡ Some (ToCheckSure checking) →
+    ensures { (checking : SureChecking) →
         plain_request (requests.CheckSure asked.now) ≡ ToCheckSure checking →
         IfSome (D.seen desk.old).told (λ before. Describes heads.Definite before.files checking.file
-        described.now) → Prints words false (asked.now.log.now ∷ []) (D.seen desk.old)
+        described.now) → Prints (sure_checking_promise checking) false (asked.now.log.now ∷ []) (D.seen desk.old)
         (D.seen desk.new) result }
 {
     let arena = Bump::new(alloc);

@@ -1,5 +1,5 @@
 //! Why mode: a cause of each value of one history.
-ghost use Rattle.std.specs.Prelude.{◌≡◌, ◌≤◌, List, [], false, IfOk, IfSome, Some};
+ghost use Rattle.std.specs.Prelude.{◌≡◌, ◌≤◌, [], false, IfOk, IfSome};
 ghost use Rattle.cc_asked.specs.Descriptions.{IsDescriptionOf};
 ghost use Rattle.cc_defs.specs.Description.{Description, sizes_at};
 ghost use Rattle.cc_defs.specs.Limits.{most_steps};
@@ -8,14 +8,13 @@ ghost use Rattle.cc_defs.specs.Rows.{IsRow};
 ghost use Rattle.cc_describe.specs.declared.heads.Heads.TheVariants as heads;
 ghost use Rattle.cc_describe.specs.Describing.{Describes, HasForms, SaysAll};
 ghost use Rattle.cc_run.specs.Explained.{IsLookedAt, TellsRow};
-ghost use Rattle.cc_run.specs.Modes.Explaining.{no_history_line};
+ghost use Rattle.cc_run.specs.Modes.Explaining.{explaining_promise, no_history_line};
 ghost use Rattle.cc_run.specs.Stops.{Prints};
-ghost use Rattle.cc_run.specs.Tasks.{request_of};
 ghost use Rattle.cc_sorts.specs.Tables.{IsSignatureFor};
 ghost use Rattle.cc_tell.specs.Steps.{Step};
 ghost use Rattle.cc_tell.specs.Givens.{only_out};
 ghost use Rattle.cc_theory.specs.Theories.{AreLawsFor, AreLawsOf};
-ghost use Rattle.cc_words.specs.Requests.{Explaining, ToExplain};
+ghost use Rattle.cc_words.specs.Requests.{Explaining};
 ghost use Rattle.cc_words.specs.Words.{Text};
 
 use crate::rows::{LookedAt, look_at};
@@ -105,10 +104,10 @@ pub(crate) fn explain<D: Desk>(
 ) -> Result<Status, Stop>
     requires says { SaysAll heads.Definite described.now }
     requires forms { HasForms described.now }
-    ensures { (words : List Text) (explaining : Explaining) →
-        request_of words ≡ Some (ToExplain explaining) → explaining.key ≡ key.now →
+    ensures { (explaining : Explaining) →
+        explaining.key ≡ key.now →
         IfSome (D.seen desk.old).told (λ before. Describes heads.Definite before.files
-        explaining.file described.now) → Prints words false [] (D.seen desk.old) (D.seen desk.new)
+        explaining.file described.now) → Prints (explaining_promise explaining) false [] (D.seen desk.old) (D.seen desk.new)
         result }
 {
     let arena = Bump::new(alloc);

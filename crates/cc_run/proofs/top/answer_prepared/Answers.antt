@@ -1,4 +1,4 @@
-use Rattle.std.proofs.Common.{◌∙◌, None, Some, ap, refl, subst, sym}
+use Rattle.std.proofs.Common.{◌∙◌, None, ap, refl, subst, sym}
 use Rattle.cc_run.specs.Requested.{AsksQuery}
 use Rattle.cc_words.specs.declared.asked.Asked.{Asked}
 use Rattle.cc_words.specs.Requests.{ToCheck, ToConvert, ToList, ToMake}
@@ -7,34 +7,34 @@ use Rattle.cc_run.proofs.Readings.{checking_by, converting_by, listing_by, print
 use Rattle.cc_run.proofs.top.answer_prepared.Goals as goal
 
 pub returns-in-List : goal.returns-in-List
-returns-in-List g c = λ words request d q asked same is of task.
+returns-in-List g c = λ request d q same is of task.
     let list = c.in-List.list in
     let listing = listing_by list in
     let e = sym (ap plain_request c.in-List.is) ∙ same in
-    prints_request words (ToList listing) request _ _ c.list.result e
-    (c.list.ensures words listing d q (asked ∙ ap Some (sym e)) refl is of (task_as _ (ToList listing) request _ e (task list.count list.budget)))
+    prints_request (ToList listing) request _ _ c.list.result e
+    (c.list.ensures listing d q refl is of (task_as _ (ToList listing) request _ e (task list.count list.budget)))
 
 pub returns-in-Check : goal.returns-in-Check
-returns-in-Check g c = λ words request d q asked same is of task.
+returns-in-Check g c = λ request d q same is of task.
     let checking = checking_by c.in-Check.check in
     let e = sym (ap plain_request c.in-Check.is) ∙ same in
-    prints_request words (ToCheck checking) request _ _ c.check.result e
-    (c.check.ensures words checking d q (asked ∙ ap Some (sym e)) refl of (task_as _ (ToCheck checking) request _ e (task None 0)))
+    prints_request (ToCheck checking) request _ _ c.check.result e
+    (c.check.ensures checking d q refl of (task_as _ (ToCheck checking) request _ e (task None 0)))
 
 pub returns-in-Make : goal.returns-in-Make
-returns-in-Make g c = λ words request d q asked same is of task.
+returns-in-Make g c = λ request d q same is of task.
     let size = c.in-Make.size in
     let budget = c.in-Make.budget in
     let e = sym (ap plain_request c.in-Make.is) ∙ same in
-    prints_request words (ToMake size budget) request _ _ c.make.result e
-    (c.make.ensures words d q (asked ∙ ap Some (sym e)) is of (task_as _ (ToMake size budget) request _ e (task None budget)))
+    prints_request (ToMake size budget) request _ _ c.make.result e
+    (c.make.ensures d q is of (task_as _ (ToMake size budget) request _ e (task None budget)))
 
 pub unreachable-requires : goal.unreachable-requires
 unreachable-requires g c = subst (λ (asked : Asked). AsksQuery (plain_request asked)) c.in-Explain.is c.requires.query
 
 pub returns-in-Convert : goal.returns-in-Convert
-returns-in-Convert g c = λ words request d q asked same is of task.
+returns-in-Convert g c = λ request d q same is of task.
     let converting = converting_by c.in-Convert.asked in
     let e = sym (ap plain_request c.in-Convert.is) ∙ same in
-    prints_request words (ToConvert converting) request _ _ c.convert.result e
-    (c.convert.ensures words converting d q (asked ∙ ap Some (sym e)) refl of (task_as _ (ToConvert converting) request _ e (task None 0)))
+    prints_request (ToConvert converting) request _ _ c.convert.result e
+    (c.convert.ensures converting d q refl of (task_as _ (ToConvert converting) request _ e (task None 0)))

@@ -1,6 +1,8 @@
-use Rattle.std.proofs.Common.{◌∙◌, ap, refl, subst}
+use Rattle.std.proofs.Common.{Some, ◌∙◌, ap, refl, subst}
 use Rattle.cc_describe.specs.declared.heads.Heads.TheVariants as heads
 use Rattle.cc_describe.specs.FirstRefusal.{file_named}
+use Rattle.cc_run.proofs.Promised.{may_be_refused}
+use Rattle.cc_run.specs.Promised.{promise_of}
 use Rattle.cc_run.specs.Requested.{AsksQuery, named_of, opens_behind, source_of}
 use Rattle.cc_run.specs.Tasks.{description_in}
 use Rattle.cc_run.proofs.Outcomes.{prints_lacking, prints_refusal}
@@ -15,23 +17,23 @@ answer_prepared-requires-clause-of g c =
     (description_in says.0, named.0, of, named.1)
 
 pub returns-in-Ok : goal.returns-in-Ok
-returns-in-Ok g c = λ words request asked same describes.
+returns-in-Ok g c = λ request same describes.
     let of = is_read heads.Definite _ (source_of request) (named_of request).file c.args.described.now c.requires.says describes in
     let description = description_is of.places c.args.described.now of.said in
     let named = c.in-Ok.ensures.named (description_in of.places) description in
-    c.answer_prepared.ensures words request (description_in of.places) named.0 asked same description named.1
+    c.answer_prepared.ensures request (description_in of.places) named.0 same description named.1
     (task_read _ (source_of request) (named_of request) c.args.described.now of named.0 _
     (named_as (description_in of.places) _ request _ _ c.query_of.ensures c.key_of.ensures same named.2))
 
 pub returns-in-Err-Refused : goal.returns-in-Err-Refused
-returns-in-Err-Refused g c = λ words request asked same describes.
+returns-in-Err-Refused g c = λ request same describes.
     let of = is_read heads.Definite _ (source_of request) (named_of request).file c.args.described.now c.requires.says describes in
     let refused = rw c.in-Err-Refused.field-0-is at (c.in-Err-Refused.ensures.refused (description_in of.places) (description_is of.places c.args.described.now of.said)) in
     let name = c.file_named-file.ensures ∙ ap (λ names. file_named names c.in-Err-Refused.refusal) c.items.ensures in
-    prints_refusal words _ (opens_behind request) c.in-Err-Refused.refusal c.file_named-file.result.now _ _ c.refuse.result
-    (refuses_named _ words request c.args.described.now of c.in-Err-Refused.refusal c.file_named-file.result.now asked (subst AsksQuery same c.requires.query) name
+    prints_refusal (promise_of request) _ (opens_behind request) c.in-Err-Refused.refusal c.file_named-file.result.now _ _ c.refuse.result (may_be_refused (Some request))
+    (refuses_named _ request c.args.described.now of c.in-Err-Refused.refusal c.file_named-file.result.now (subst AsksQuery same c.requires.query) name
     (refused_as (description_in of.places) _ request _ _ c.query_of.ensures c.key_of.ensures same refused))
     c.refuse.ensures.told c.refuse.ensures.status
 
 pub returns : goal.returns
-returns g c = λ words request asked same describes. prints_lacking words _ (opens_behind request) _ _ refl
+returns g c = λ request same describes. prints_lacking (promise_of request) _ (opens_behind request) _ _ refl

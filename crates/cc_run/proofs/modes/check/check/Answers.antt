@@ -1,47 +1,46 @@
 use Rattle.std.proofs.Common.{[], ◌∷◌, ap, Err}
-use Rattle.cc_run.specs.Modes.Checking.{NamesLog}
-use Rattle.cc_run.specs.Tasks.{request_of}
+use Rattle.cc_run.specs.Modes.Checking.{NamesLog, checking_promise}
 use Rattle.cc_run.specs.Telling.{task_to_check}
 use Rattle.cc_tell.specs.declared.status.Stop.TheVariants as stops
 use Rattle.cc_run.proofs.Callings.{called_reads, first_all, limit_is_no_fault, memory_not_read, memory_not_write, ok_no_err, read_not_write}
 use Rattle.cc_run.proofs.Judged.{as_checking, is_log_of, log_is, refuses_long}
-use Rattle.cc_run.proofs.Outcomes.{RefusesRequest, files_stay, prints_after_read, prints_refusal, prints_stopped}
+use Rattle.cc_run.proofs.Outcomes.{files_stay, prints_after_read, prints_refusal, prints_stopped}
 use Rattle.cc_run.proofs.modes.check.check.Goals as goal
 
 pub returns-in-Ok : goal.returns-in-Ok
-returns-in-Ok g c = λ words checking d q asked same of is.
+returns-in-Ok g c = λ checking d q same of is.
     let read = c.read_all.ensures in
     let task = task_to_check d q c.args.prepared.now.key in
     let named = is_log_of _ checking task c.args.asked.now.log.now c.in-Ok.bytes c.items.result.now (log_is c.args.asked.now checking same) c.items.ensures is c.in-Ok.ensures.bytes in
     let there = files_stay read.after.0 (λ files. NamesLog files checking task c.items.result.now) _ _ read.after.1 named in
     let log = c.args.asked.now.log.now in
-    prints_after_read words _ (log ∷ []) [] read.after.0 _ _ _ c.check_log.result read.after.1 read.begun read.reads_count read.writes_count
+    prints_after_read (checking_promise checking) _ (log ∷ []) [] read.after.0 _ _ _ c.check_log.result read.after.1 read.begun read.reads_count read.writes_count
     (called_reads log _ _ _ read.calls) (c.in-Ok.ensures.calm (ok_no_err _ _))
-    (c.check_log.ensures words checking d q asked of there)
+    (c.check_log.ensures checking d q of there)
 
 pub returns-in-Err-Limit : goal.returns-in-Err-Limit
-returns-in-Err-Limit g c = λ words checking d q asked same of is.
+returns-in-Err-Limit g c = λ checking d q same of is.
     let read = c.read_all.ensures in
     let task = task_to_check d q c.args.prepared.now.key in
     let long = c.in-Err-Limit.ensures.limit (ap Err c.in-Err-Limit.field-0-is) in
-    let refused = refuses_long _ words checking task c.args.asked.now.log.now _ c.past.result (as_checking words checking asked) (log_is c.args.asked.now checking same) is long c.number.ensures c.past.ensures in
+    let refused = refuses_long _ (checking_promise checking) checking task c.args.asked.now.log.now _ c.past.result (as_checking checking) (log_is c.args.asked.now checking same) is long c.number.ensures c.past.ensures in
     let log = c.args.asked.now.log.now in
-    prints_after_read words _ (log ∷ []) [] read.after.0 _ _ _ c.refuse.result read.after.1 read.begun read.reads_count read.writes_count
+    prints_after_read (checking_promise checking) _ (log ∷ []) [] read.after.0 _ _ _ c.refuse.result read.after.1 read.begun read.reads_count read.writes_count
     (called_reads log _ _ _ read.calls) (c.in-Err-Limit.ensures.calm (limit_is_no_fault _ c.in-Err-Limit.field-0-is))
-    (prints_refusal words _ [] c.past.result [] _ _ c.refuse.result
-    (files_stay read.after.0 (λ files. RefusesRequest files (request_of words) c.past.result []) _ _ read.after.1 refused)
+    (prints_refusal (checking_promise checking) _ [] c.past.result [] _ _ c.refuse.result tt
+    (files_stay read.after.0 (λ files. (checking_promise checking).Refuses files c.past.result []) _ _ read.after.1 refused)
     c.refuse.ensures.told c.refuse.ensures.status)
 
 pub returns-in-Err-Failed : goal.returns-in-Err-Failed
-returns-in-Err-Failed g c = λ words checking d q asked same of is.
+returns-in-Err-Failed g c = λ checking d q same of is.
     let read = c.read_all.ensures in
     let log = c.args.asked.now.log.now in
-    prints_stopped words _ (log ∷ []) (log ∷ []) read.after.0 stops.ReadFault _ _ read.after.1 read.begun read.reads_count read.writes_count
+    prints_stopped (checking_promise checking) _ (log ∷ []) (log ∷ []) read.after.0 stops.ReadFault _ _ read.after.1 read.begun read.reads_count read.writes_count
     (called_reads log _ _ _ read.calls) (first_all (log ∷ [])) (λ _. c.in-Err-Failed.ensures.failed (ap Err c.in-Err-Failed.field-0-is)) read_not_write
 
 pub returns-in-Err-OutOfMemory : goal.returns-in-Err-OutOfMemory
-returns-in-Err-OutOfMemory g c = λ words checking d q asked same of is.
+returns-in-Err-OutOfMemory g c = λ checking d q same of is.
     let read = c.read_all.ensures in
     let log = c.args.asked.now.log.now in
-    prints_stopped words _ (log ∷ []) (log ∷ []) read.after.0 stops.OutOfMemory _ _ read.after.1 read.begun read.reads_count read.writes_count
+    prints_stopped (checking_promise checking) _ (log ∷ []) (log ∷ []) read.after.0 stops.OutOfMemory _ _ read.after.1 read.begun read.reads_count read.writes_count
     (called_reads log _ _ _ read.calls) (first_all (log ∷ [])) (λ is. absurd (memory_not_read is)) memory_not_write

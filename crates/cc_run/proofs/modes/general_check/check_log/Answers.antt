@@ -2,20 +2,21 @@ use Rattle.std.proofs.Common.{[], refl}
 use Rattle.cc_run.proofs.GenerallyChecked.{prints_general_verdict, refuses_section}
 use Rattle.cc_run.proofs.Outcomes.{prints_lacking, prints_refusal}
 use Rattle.cc_run.proofs.modes.general_check.check_log.Goals as goal
+use Rattle.cc_run.specs.Modes.CheckingGeneral.{general_checking_promise}
 
 pub returns-in-Ok : goal.returns-in-Ok
-returns-in-Ok g c = λ words checking w q asked of named.
+returns-in-Ok g c = λ checking w q of named.
     let said = c.in-Ok.ensures in
-    prints_general_verdict words checking w q c.args.bytes.now c.in-Ok.verdict _ _ c.tell_silent_verdict.result asked named c.requires.few
+    prints_general_verdict checking w q c.args.bytes.now c.in-Ok.verdict _ _ c.tell_silent_verdict.result named c.requires.few
     (said.verdict w q of.laws_are of.query_is) (said.within w q of.laws_are of.query_is) (said.proves w q of.laws_are of.query_is)
     c.tell_silent_verdict.ensures.told c.tell_silent_verdict.ensures.status
 
 pub returns-in-Err-Refused : goal.returns-in-Err-Refused
-returns-in-Err-Refused g c = λ words checking w q asked of named.
+returns-in-Err-Refused g c = λ checking w q of named.
     let fault = rw c.in-Err-Refused.field-0-is at (c.in-Err-Refused.ensures.refused w q of.laws_are of.query_is) in
-    prints_refusal words _ [] c.in-Err-Refused.refusal [] _ _ c.refuse.result
-    (refuses_section _ words checking w q c.args.bytes.now c.in-Err-Refused.refusal asked named c.requires.few fault)
+    prints_refusal (general_checking_promise checking) _ [] c.in-Err-Refused.refusal [] _ _ c.refuse.result tt
+    (refuses_section _ checking w q c.args.bytes.now c.in-Err-Refused.refusal named c.requires.few fault)
     c.refuse.ensures.told c.refuse.ensures.status
 
 pub returns-in-Err-OutOfMemory : goal.returns-in-Err-OutOfMemory
-returns-in-Err-OutOfMemory g c = λ words checking w q asked of named. prints_lacking words _ [] _ _ refl
+returns-in-Err-OutOfMemory g c = λ checking w q of named. prints_lacking (general_checking_promise checking) _ [] _ _ refl

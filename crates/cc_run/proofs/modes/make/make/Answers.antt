@@ -1,8 +1,9 @@
 use Rattle.std.proofs.Common.{refl}
+use Rattle.cc_run.specs.Modes.Making.{making_promise}
 use Rattle.cc_tell.specs.Manners.{Summed}
 use Rattle.cc_run.proofs.Outcomes.{makes_for, prints_made}
 use Rattle.cc_run.proofs.modes.make.make.Goals as goal
 
 pub returns : goal.returns
-returns g c = λ words d q asked of are task.
-    prints_made words (Summed c.args.size) _ _ _ c.search.result (makes_for words c.args.size c.args.budget _ _ asked refl refl task) (c.search.ensures d q of are)
+returns g c = λ d q of are task.
+    prints_made (making_promise c.args.size c.args.budget) (Summed c.args.size) _ _ _ c.search.result (makes_for c.args.size c.args.budget _ _ refl refl task) (c.search.ensures d q of are)

@@ -1,5 +1,6 @@
 use Rattle.std.proofs.Common.{Err, ap, refl}
 use Rattle.cc_defs.specs.Runs.{optional}
+use Rattle.cc_run.specs.Modes.Modelling.{modelling_promise}
 use Rattle.cc_tell.specs.declared.status.Status.TheVariants as statuses
 use Rattle.cc_words.specs.Requests.{Modelling}
 use Rattle.cc_words.specs.Views.{plain_text}
@@ -8,14 +9,14 @@ use Rattle.cc_run.proofs.Outcomes.{prints_lacking, prints_unbegun}
 use Rattle.cc_run.proofs.modes.models.list_models.Goals as goal
 
 pub returns-in_err-search : goal.returns-in_err-search
-returns-in_err-search g c = λ words modelling cnf asked same of is. prints_lacking words _ _ _ c.from_residual.result c.from_residual.ensures.1
+returns-in_err-search g c = λ modelling cnf same of is. prints_lacking (modelling_promise modelling) _ _ _ c.from_residual.result c.from_residual.ensures.1
 
 pub returns-in-Err : goal.returns-in-Err
-returns-in-Err g c = λ words modelling cnf asked same of is.
+returns-in-Err g c = λ modelling cnf same of is.
     let there = modelling_is c.args.asked.now modelling same in
     let names = optional (plain_text c.args.asked.now.log) in
-    prints_unbegun words _ names _ _ c.begin_log.result c.in-Err.stop (Err c.in-Err.stop)
-    (models_log words modelling names asked (ap (λ (m : Modelling). optional m.log) there) statuses.Right)
+    prints_unbegun (modelling_promise modelling) _ names _ _ c.begin_log.result c.in-Err.stop (Err c.in-Err.stop)
+    (models_log modelling names (ap (λ (m : Modelling). optional m.log) there) statuses.Right)
     (begins_models c.args.asked.now modelling there names _ _ c.begin_log.result c.begin_log.ensures) c.in-Err.is refl
 
 pub tell_section-requires-clause-at : goal.tell_section-requires-clause-at
@@ -25,11 +26,11 @@ tell_section-requires-clause-at g c =
     (c.args.form, c.args.asked.now.count, c.args.asked.now.budget, form_within of.0 c.args.form c.args.asked.now.budget of.1 made.good c.requires.budget, made.stands)
 
 pub returns-in-Ok : goal.returns-in-Ok
-returns-in-Ok g c = λ words modelling cnf asked same of is.
+returns-in-Ok g c = λ modelling cnf same of is.
     let there = modelling_is c.args.asked.now modelling same in
     let names = optional (plain_text c.args.asked.now.log) in
     let made = c.in_ok-search.ensures in
-    prints_listing words modelling cnf c.args.form names _ _ _ c.begin_log.result c.in-Ok.field-0 c.tell_section.result asked
+    prints_listing modelling cnf c.args.form names _ _ _ c.begin_log.result c.in-Ok.field-0 c.tell_section.result
     (ap (λ (m : Modelling). optional m.log) there) of is (begins_models c.args.asked.now modelling there names _ _ c.begin_log.result c.begin_log.ensures) c.in-Ok.is
     (listing_as c.args.asked.now modelling there c.args.form _ _ c.tell_section.result
     (c.tell_section.ensures c.args.form c.args.asked.now.count c.args.asked.now.budget (form_within cnf c.args.form c.args.asked.now.budget of made.good c.requires.budget) made.stands))

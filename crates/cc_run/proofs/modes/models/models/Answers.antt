@@ -1,56 +1,55 @@
 use Rattle.std.proofs.Common.{[], ◌∷◌, ap, Err, refl}
-use Rattle.cc_run.specs.Modes.Modelling.{IsCnfIn}
-use Rattle.cc_run.specs.Tasks.{request_of}
+use Rattle.cc_run.specs.Modes.Modelling.{IsCnfIn, modelling_promise}
 use Rattle.cc_tell.specs.declared.status.Stop.TheVariants as stops
-use Rattle.cc_words.specs.Requests.{Modelling, ToModel}
+use Rattle.cc_words.specs.Requests.{Modelling}
 use Rattle.cc_run.proofs.Callings.{memory_not_read, memory_not_write, ok_no_err, read_not_write}
 use Rattle.cc_run.proofs.CnfReadings.{refused_is_no_fault}
 use Rattle.cc_run.proofs.ModelRuns.{always, modelling_is, cnf_as, models_refuse}
-use Rattle.cc_run.proofs.Outcomes.{RefusesRequest, files_stay, prints_after_read, prints_opened, prints_refusal, prints_stopped}
+use Rattle.cc_run.proofs.Outcomes.{files_stay, prints_after_read, prints_opened, prints_refusal, prints_stopped}
 use Rattle.cc_run.proofs.modes.models.models.Goals as goal
 
 pub returns-in-Ok : goal.returns-in-Ok
-returns-in-Ok g c = λ words modelling asked same.
+returns-in-Ok g c = λ modelling same.
     let is = modelling_is c.args.asked.now modelling same in
     let file = c.args.asked.now.file.now in
     let rest = [] in
     let read = c.read_form.ensures in
     let form = c.in-Ok.ensures.form in
     let there = files_stay read.after.0 (λ files. IsCnfIn files modelling.file form.0) _ _ read.after.1 (cnf_as _ file modelling.file form.0 (ap (λ (k : Modelling). k.file) is) form.2) in
-    prints_opened words _ (ToModel modelling) (file ∷ rest) _ _ c.list_models.result asked (always _ (ap (λ (k : Modelling). k.file ∷ []) is))
-    (prints_after_read words _ (file ∷ []) rest read.after.0 _ _ _ c.list_models.result read.after.1 read.begun read.reads_count read.writes_count read.called (c.in-Ok.ensures.calm (ok_no_err _ _))
-    (c.list_models.ensures words modelling form.0 asked same form.1 there))
+    prints_opened (modelling_promise modelling) _ (file ∷ rest) _ _ c.list_models.result (always _ (ap (λ (k : Modelling). k.file ∷ []) is))
+    (prints_after_read (modelling_promise modelling) _ (file ∷ []) rest read.after.0 _ _ _ c.list_models.result read.after.1 read.begun read.reads_count read.writes_count read.called (c.in-Ok.ensures.calm (ok_no_err _ _))
+    (c.list_models.ensures modelling form.0 same form.1 there))
 
 pub returns-in-Err-Refused : goal.returns-in-Err-Refused
-returns-in-Err-Refused g c = λ words modelling asked same.
+returns-in-Err-Refused g c = λ modelling same.
     let is = modelling_is c.args.asked.now modelling same in
     let file = c.args.asked.now.file.now in
     let rest = [] in
     let read = c.read_form.ensures in
     let refusal = c.in-Err-Refused.refusal in
-    let refused = models_refuse _ words modelling refusal file _ c.name_of.result.now asked (ap (λ (k : Modelling). k.file) is) c.name_of.ensures
+    let refused = models_refuse _ modelling refusal file _ c.name_of.result.now (ap (λ (k : Modelling). k.file) is) c.name_of.ensures
     (c.in-Err-Refused.ensures.refused refusal c.in-Err-Refused.field-0-is) in
-    prints_opened words _ (ToModel modelling) (file ∷ rest) _ _ c.refuse.result asked (always _ (ap (λ (k : Modelling). k.file ∷ []) is))
-    (prints_after_read words _ (file ∷ []) rest read.after.0 _ _ _ c.refuse.result read.after.1 read.begun read.reads_count read.writes_count read.called
+    prints_opened (modelling_promise modelling) _ (file ∷ rest) _ _ c.refuse.result (always _ (ap (λ (k : Modelling). k.file ∷ []) is))
+    (prints_after_read (modelling_promise modelling) _ (file ∷ []) rest read.after.0 _ _ _ c.refuse.result read.after.1 read.begun read.reads_count read.writes_count read.called
     (c.in-Err-Refused.ensures.calm (refused_is_no_fault _ refusal c.in-Err-Refused.field-0-is))
-    (prints_refusal words _ rest refusal c.name_of.result.now _ _ c.refuse.result
-    (files_stay read.after.0 (λ files. RefusesRequest files (request_of words) refusal c.name_of.result.now) _ _ read.after.1 refused)
+    (prints_refusal (modelling_promise modelling) _ rest refusal c.name_of.result.now _ _ c.refuse.result tt
+    (files_stay read.after.0 (λ files. (modelling_promise modelling).Refuses files refusal c.name_of.result.now) _ _ read.after.1 refused)
     c.refuse.ensures.told c.refuse.ensures.status))
 
 pub returns-in-Err-ReadFault : goal.returns-in-Err-ReadFault
-returns-in-Err-ReadFault g c = λ words modelling asked same.
+returns-in-Err-ReadFault g c = λ modelling same.
     let is = modelling_is c.args.asked.now modelling same in
     let file = c.args.asked.now.file.now in
     let rest = [] in
     let read = c.read_form.ensures in
-    prints_opened words _ (ToModel modelling) (file ∷ rest) _ _ _ asked (always _ (ap (λ (k : Modelling). k.file ∷ []) is))
-    (prints_stopped words _ (file ∷ []) (file ∷ rest) read.after.0 stops.ReadFault _ _ read.after.1 read.begun read.reads_count read.writes_count read.called (rest, refl) (λ _. c.in-Err-ReadFault.ensures.failed (ap Err c.in-Err-ReadFault.field-0-is)) read_not_write)
+    prints_opened (modelling_promise modelling) _ (file ∷ rest) _ _ _ (always _ (ap (λ (k : Modelling). k.file ∷ []) is))
+    (prints_stopped (modelling_promise modelling) _ (file ∷ []) (file ∷ rest) read.after.0 stops.ReadFault _ _ read.after.1 read.begun read.reads_count read.writes_count read.called (rest, refl) (λ _. c.in-Err-ReadFault.ensures.failed (ap Err c.in-Err-ReadFault.field-0-is)) read_not_write)
 
 pub returns-in-Err-OutOfMemory : goal.returns-in-Err-OutOfMemory
-returns-in-Err-OutOfMemory g c = λ words modelling asked same.
+returns-in-Err-OutOfMemory g c = λ modelling same.
     let is = modelling_is c.args.asked.now modelling same in
     let file = c.args.asked.now.file.now in
     let rest = [] in
     let read = c.read_form.ensures in
-    prints_opened words _ (ToModel modelling) (file ∷ rest) _ _ _ asked (always _ (ap (λ (k : Modelling). k.file ∷ []) is))
-    (prints_stopped words _ (file ∷ []) (file ∷ rest) read.after.0 stops.OutOfMemory _ _ read.after.1 read.begun read.reads_count read.writes_count read.called (rest, refl) (λ is. absurd (memory_not_read is)) memory_not_write)
+    prints_opened (modelling_promise modelling) _ (file ∷ rest) _ _ _ (always _ (ap (λ (k : Modelling). k.file ∷ []) is))
+    (prints_stopped (modelling_promise modelling) _ (file ∷ []) (file ∷ rest) read.after.0 stops.OutOfMemory _ _ read.after.1 read.begun read.reads_count read.writes_count read.called (rest, refl) (λ is. absurd (memory_not_read is)) memory_not_write)
