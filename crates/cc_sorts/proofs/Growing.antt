@@ -10,7 +10,7 @@ use Rattle.cc_sorts.specs.declared.sorts.SortPair.{SortPair}
 use Rattle.cc_sorts.specs.Dictionaries.{number_of}
 use Rattle.cc_sorts.specs.Lists.{list_at, AllAscend, AreBelow}
 use Rattle.cc_sorts.specs.Numbers.{Ascends, has}
-use Rattle.cc_sorts.specs.SortParts.{named_pairs, IsWithin, AreDistinct, AreThose, AreKept}
+use Rattle.cc_sorts.specs.SortParts.{named_pairs, IsWithin, AreDistinct, AreKnown, AreThose, AreKept}
 use Rattle.cc_sorts.specs.SortViews.{SortsView, with_sort}
 use Rattle.cc_sorts.proofs.Among.{has_not}
 use Rattle.cc_sorts.proofs.Pairs.{AreOthers, is_other, are_others, below_new, new_below, below_itself, named_more}
@@ -170,8 +170,16 @@ seen_as names new pairs more_pairs members more_members view is e f g =
     ap (λ (w : List (List ℕ)). seen w more_pairs more_members) e ∙ ap (λ (w : List SortPair). seen names w more_members) f ∙ ap (λ (w : List (List ℕ)). seen names pairs w) g ∙ is
 
 pub kept_same : (names : List (List ℕ)) (pairs more_pairs known more_known : List SortPair) (above below members : List (List ℕ)) → AreKept names pairs known above below members →
-    more_pairs ≡ pairs → more_known ≡ known → AreKept names more_pairs more_known above below members
+    more_pairs ≡ pairs → AreKnown more_known known → AreKept names more_pairs more_known above below members
 kept_same names pairs more_pairs known more_known above below members kept e f =
-    let P : List SortPair → Type 0 = λ w. AreKept names w known above below members in
-    let Q : List SortPair → Type 0 = λ w. AreKept names more_pairs w above below members in
-    subst Q (sym f) (subst P (sym e) kept)
+    let P : List SortPair → Type 0 = λ w. AreKept names w more_known above below members in
+    subst P (sym e) (record {
+      few = kept.few;
+      distinct = kept.distinct;
+      pairs_within = kept.pairs_within;
+      known_are = λ pair. f pair ∙ kept.known_are pair;
+      above_are = kept.above_are;
+      below_are = kept.below_are;
+      members_count = kept.members_count;
+      members_ascend = kept.members_ascend;
+    })

@@ -21,7 +21,7 @@ use Rattle.cc_defs.specs.Grammar.{same_text}
 use Rattle.cc_sorts.specs.Dictionaries.{number_of}
 use Rattle.cc_sorts.specs.Lefts.{plain_pair, IsLeft, new_uppers, uppers_in, texts_of}
 use Rattle.cc_sorts.specs.Lists.{AreBelow}
-use Rattle.cc_sorts.specs.Searches.{is_in, Grows, AreClosed, table_uppers, all_uppers, IsSearched}
+use Rattle.cc_sorts.specs.Searches.{is_in, same_key, Grows, AreClosed, table_uppers, all_uppers, IsSearched}
 use Rattle.cc_sorts.specs.SortViews.{SortsView, name_at}
 use Rattle.cc_sorts.specs.declared.left.Left.{Left}
 use Rattle.cc_sorts.proofs.Below.{and_false, either, both, by_first, below_self, below_through, below_each, closed_above}
@@ -31,9 +31,6 @@ use denote.Bor.{Bor}
 
 abbrev pub Keys : Type 0
 Keys = List (Bor (List ℕ))
-
-abbrev pub same_key : Bor (List ℕ) → Bor (List ℕ) → Bool
-same_key key other = same_text key.now other.now
 
 or_assoc : (a b c : Bool) → ((a || b) || c) ≡ (a || (b || c))
 or_assoc true b c = refl

@@ -2,14 +2,13 @@
 use Rattle.std.proofs.Common.{◌≡◌, ◌∙◌, ℕ, ◌<◌, Bool, true, false, ◌||◌, ◌&&◌, cond, List, [], ◌∷◌, ◌++◌, length, refl, sym, subst, ap}
 use Rattle.std.specs.Prelude.{◌==◌}
 use Rattle.std.specs.List.{AllByRecursion, list_any}
-use Rattle.std.proofs.lemmas.Bool.{eqb-true}
+use Rattle.std.proofs.lemmas.Cmp.{nat_eq_equiv}
 use Rattle.std.proofs.lemmas.List.Folds.{list_any-append}
-use Rattle.indexmap.specs.IndexSet.{insert_key}
 use Rattle.cc_defs.specs.Declarations.{Pair, is_below}
 use Rattle.cc_sorts.specs.declared.sorts.SortPair.{SortPair}
 use Rattle.cc_sorts.specs.Lists.{list_at, at_each, AreBelow}
 use Rattle.cc_sorts.specs.Numbers.{Ascends, has, union}
-use Rattle.cc_sorts.specs.SortParts.{named_behind, named_pairs, same_numbers, IsWithin, AreThose, AreKept}
+use Rattle.cc_sorts.specs.SortParts.{named_behind, named_pairs, same_numbers, IsWithin, AreKnown, AreThose, AreKept}
 use Rattle.cc_sorts.specs.SortViews.{SortsView, changed_above, with_pair, with_implied}
 use Rattle.cc_sorts.proofs.Among.{has_union}
 use Rattle.cc_sorts.proofs.Below.{implied_same}
@@ -39,35 +38,27 @@ within_push : (count : ℕ) (pairs : List SortPair) (pair : SortPair) → AllByR
 within_push count [] pair all here = (here, tt)
 within_push count (first ∷ pairs) pair all here = (all.0, within_push count pairs pair all.1 here)
 
-and_parts : (a b : Bool) → (a && b) ≡ true → (a ≡ true) × (b ≡ true)
-and_parts true true h = (refl, refl)
-and_parts true false h = absurd cc
-and_parts false b h = absurd cc
+same_turned : (pair other : SortPair) → same_numbers pair other ≡ same_numbers other pair
+same_turned pair other =
+    ap (λ (b : Bool). b && (pair.lower == other.lower)) (nat_eq_equiv.symm pair.upper other.upper)
+    ∙ ap (λ (b : Bool). (other.upper == pair.upper) && b) (nat_eq_equiv.symm pair.lower other.lower)
 
-same_from : (q pair : SortPair) → same_numbers q pair ≡ true → q ≡ pair
-same_from q pair h =
-    let parts = and_parts (q.upper == pair.upper) (q.lower == pair.lower) h in
-    ap (λ (n : ℕ). (let made : SortPair = record { upper = n; lower = q.lower } in made)) (eqb-true q.upper pair.upper parts.0)
-    ∙ ap (λ (n : ℕ). (let made : SortPair = record { upper = pair.upper; lower = n } in made)) (eqb-true q.lower pair.lower parts.1)
-
-inserted : (known : List SortPair) (pair q : SortPair) →
-    list_any (same_numbers q) (insert_key same_numbers known pair) ≡ (list_any (same_numbers q) known || (same_numbers q pair || false))
-inserted known pair q = by (list_any (same_numbers pair) known) refl
+-- a pair is known beside the others once it was put
+pub known_put : (old new : List SortPair) (pair : SortPair) → ((q : SortPair) → list_any (same_numbers q) new ≡ cond (same_numbers pair q) true (list_any (same_numbers q) old)) →
+    AreKnown new (old ++ pair ∷ [])
+known_put old new pair put = λ q.
+    put q ∙ by (same_numbers pair q) (list_any (same_numbers q) old) ∙ ap (λ (b : Bool). list_any (same_numbers q) old || (b || false)) (same_turned pair q)
+    ∙ sym (list_any-append (same_numbers q) old (pair ∷ []))
   where
-    there : (c : Bool) → same_numbers q pair ≡ c → list_any (same_numbers pair) known ≡ true → list_any (same_numbers q) known ≡ (list_any (same_numbers q) known || (c || false))
-    there false e found = or_false (list_any (same_numbers q) known)
-    there true e found =
-        let mine : list_any (same_numbers q) known ≡ true = ap (λ (p : SortPair). list_any (same_numbers p) known) (same_from q pair e) ∙ found in
-        mine ∙ sym (ap (λ (b : Bool). b || true) mine)
+    by : (b old : Bool) → cond b true old ≡ (old || (b || false))
+    by true true = refl
+    by true false = refl
+    by false old = or_false old
 
-    by : (b : Bool) → list_any (same_numbers pair) known ≡ b →
-        list_any (same_numbers q) (insert_key same_numbers known pair) ≡ (list_any (same_numbers q) known || (same_numbers q pair || false))
-    by true e =
-        ap (λ (b : Bool). list_any (same_numbers q) (cond b known (known ++ pair ∷ []))) e
-        ∙ there (same_numbers q pair) refl e
-    by false e =
-        ap (λ (b : Bool). list_any (same_numbers q) (cond b known (known ++ pair ∷ []))) e
-        ∙ list_any-append (same_numbers q) known (pair ∷ [])
+pub known_more : (known room new pairs : List SortPair) (pair : SortPair) → AreKnown room known → AreKnown new (room ++ pair ∷ []) → AreKnown known pairs → AreKnown new (pairs ++ pair ∷ [])
+known_more known room new pairs pair same more are = λ q.
+    more q ∙ list_any-append (same_numbers q) room (pair ∷ []) ∙ ap (λ (b : Bool). b || (same_numbers q pair || false)) (same q ∙ are q)
+    ∙ sym (list_any-append (same_numbers q) pairs (pair ∷ []))
 
 -- ---- lists
 
@@ -130,19 +121,19 @@ module _ (names : List (List ℕ)) (pairs known : List SortPair) (above below me
       ∙ ap (λ (b : Bool). is_below (named_pairs names pairs) (list_at names i) (list_at names j) || (has i lowers && b)) (sym (has_upper j hj))
 
   pub kept_pair : (upper == lower) ≡ false → (more_pairs more_known : List SortPair) (more_above more_below more_members : List (List ℕ)) → more_pairs ≡ pairs ++ pair ∷ [] →
-      more_known ≡ insert_key same_numbers known pair → more_above ≡ at_each lowers (λ list. union list uppers) above →
+      AreKnown more_known (pairs ++ pair ∷ []) → more_above ≡ at_each lowers (λ list. union list uppers) above →
       more_below ≡ at_each uppers (λ list. union list lowers) below → more_members ≡ at_each uppers (λ list. union list objects) members →
       AreKept names more_pairs more_known more_above more_below more_members
   kept_pair apart more_pairs more_known more_above more_below more_members is_pairs is_known is_above is_below_lists is_members =
-      rw (is_pairs, is_known, is_above, is_below_lists, is_members) widened
+      rw (is_pairs, is_above, is_below_lists, is_members) widened
     where
-      widened : AreKept names (pairs ++ pair ∷ []) (insert_key same_numbers known pair) (at_each lowers (λ list. union list uppers) above)
+      widened : AreKept names (pairs ++ pair ∷ []) more_known (at_each lowers (λ list. union list uppers) above)
           (at_each uppers (λ list. union list lowers) below) (at_each uppers (λ list. union list objects) members)
       widened = record {
         few = kept.few;
         distinct = kept.distinct;
         pairs_within = within_push (length names) pairs pair kept.pairs_within (hu, hl, apart);
-        known_are = λ q. inserted known pair q ∙ ap (λ (b : Bool). b || (same_numbers q pair || false)) (kept.known_are q) ∙ sym (list_any-append (same_numbers q) pairs (pair ∷ []));
+        known_are = is_known;
         above_are = those_widened (length names) (λ i j. is_below (named_pairs names pairs) (list_at names i) (list_at names j))
             (λ i j. is_below (named_pairs names (pairs ++ pair ∷ [])) (list_at names i) (list_at names j)) above lowers uppers kept.above_are
             lowers_ascend lowers_within uppers_ascend uppers_within test_widened;
@@ -185,20 +176,20 @@ module _ (names : List (List ℕ)) (pairs known : List SortPair) (above below me
   implied = record { upper = upper; lower = lower }
 
   pub kept_implied : (upper == lower) ≡ false → is_below (named_pairs names pairs) (list_at names lower) (list_at names upper) ≡ true → (more_pairs more_known : List SortPair) →
-      more_pairs ≡ pairs ++ implied ∷ [] → more_known ≡ insert_key same_numbers known implied → AreKept names more_pairs more_known above below members
-  kept_implied apart follows more_pairs more_known is_pairs is_known = rw (is_pairs, is_known) more
+      more_pairs ≡ pairs ++ implied ∷ [] → AreKnown more_known (pairs ++ implied ∷ []) → AreKept names more_pairs more_known above below members
+  kept_implied apart follows more_pairs more_known is_pairs is_known = rw is_pairs more
     where
       same : (i j : ℕ) → is_below (named_pairs names (pairs ++ implied ∷ [])) (list_at names i) (list_at names j) ≡ is_below (named_pairs names pairs) (list_at names i) (list_at names j)
       same i j =
           ap (λ (ps : List Pair). is_below ps (list_at names i) (list_at names j)) (named_push names [] pairs implied)
           ∙ implied_same (named_pairs names pairs) (list_at names upper) (list_at names lower) (list_at names i) (list_at names j) follows
 
-      more : AreKept names (pairs ++ implied ∷ []) (insert_key same_numbers known implied) above below members
+      more : AreKept names (pairs ++ implied ∷ []) more_known above below members
       more = record {
         few = kept.few;
         distinct = kept.distinct;
         pairs_within = within_push (length names) pairs implied kept.pairs_within (hu, hl, apart);
-        known_are = λ q. inserted known implied q ∙ ap (λ (b : Bool). b || (same_numbers q implied || false)) (kept.known_are q) ∙ sym (list_any-append (same_numbers q) pairs (implied ∷ []));
+        known_are = is_known;
         above_are = those_same (length names) (λ i j. is_below (named_pairs names pairs) (list_at names i) (list_at names j))
             (λ i j. is_below (named_pairs names (pairs ++ implied ∷ [])) (list_at names i) (list_at names j)) above kept.above_are same;
         below_are = those_same (length names) (λ i j. is_below (named_pairs names pairs) (list_at names j) (list_at names i))

@@ -11,6 +11,9 @@ use denote.Bor.{Bor}
 abbrev pub is_in : List ℕ → List (Bor (List ℕ)) → Bool
 is_in name found = list_any (λ key. same_text name key.now) found
 
+abbrev pub same_key : Bor (List ℕ) → Bor (List ℕ) → Bool
+same_key key other = same_text key.now other.now
+
 -- these names were added behind those that were found
 pub record Grows (old new : List (Bor (List ℕ))) (names : List (List ℕ)) : Type 0 where
   pub more : List (Bor (List ℕ))

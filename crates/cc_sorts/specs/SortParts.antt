@@ -18,6 +18,10 @@ named_pairs names pairs = named_behind names [] pairs
 abbrev pub same_numbers : SortPair → SortPair → Bool
 same_numbers pair other = pair.upper == other.upper && pair.lower == other.lower
 
+-- the pairs that are known are those of a list
+abbrev pub AreKnown : List SortPair → List SortPair → Type 0
+AreKnown known pairs = (pair : SortPair) → list_any (same_numbers pair) known ≡ list_any (same_numbers pair) pairs
+
 -- it is of two sorts that are there
 abbrev pub IsWithin : ℕ → SortPair → Type 0
 IsWithin count pair = (pair.upper < count) × (pair.lower < count) × ((pair.upper == pair.lower) ≡ false)
@@ -36,7 +40,7 @@ pub record AreKept (names : List (List ℕ)) (pairs known : List SortPair) (abov
   pub few : length names ≤ 4000000000
   pub distinct : AreDistinct names
   pub pairs_within : AllByRecursion (IsWithin (length names)) pairs
-  pub known_are : (pair : SortPair) → list_any (same_numbers pair) known ≡ list_any (same_numbers pair) pairs
+  pub known_are : AreKnown known pairs
   pub above_are : AreThose (length names) (λ i j. is_below (named_pairs names pairs) (list_at names i) (list_at names j)) above
   pub below_are : AreThose (length names) (λ i j. is_below (named_pairs names pairs) (list_at names j) (list_at names i)) below
   pub members_count : length members ≡ length names

@@ -10,8 +10,9 @@ ghost use Rattle.cc_defs.specs.Trees.{plain_shape, plain_kind};
 ghost use Rattle.cc_sorts.specs.Declaring.{numbers_of, plain_head, plain_declaration};
 ghost use Rattle.cc_sorts.specs.Dictionaries.{number_of};
 ghost use Rattle.cc_sorts.specs.Lefts.{twice_by, left_has_from, meets as have_together, IsLeft, Adds, AddsUpper, new_uppers, has_sort as table_has_sort, has_name as table_has_name, left_has_sort, left_has_name, left_has_pair, left_has_upper, table_symbol, left_constant, arguments_of, plain_constant, action_fits, shaped_fits, numbers_fit, is_boolean_kind, is_boolean_action_symbol, is_numbered, are_numbered};
+ghost use Rattle.indexmap.specs.IndexSet.{insert_key};
 ghost use Rattle.cc_sorts.specs.Lists.{AreBelow};
-ghost use Rattle.cc_sorts.specs.Searches.{Grows, IsClosed, AreClosed, table_uppers, all_uppers};
+ghost use Rattle.cc_sorts.specs.Searches.{same_key, Grows, IsClosed, AreClosed, table_uppers, all_uppers};
 ghost use Rattle.cc_sorts.specs.SortViews.{name_at};
 ghost use Rattle.cc_sorts.specs.Entered.{IsEntered};
 
@@ -20,8 +21,9 @@ use crate::puts::{put_entry, put_key, put_last};
 use crate::register::Register;
 use crate::sorts::Sorts;
 use cc_defs::{Kind, KindTree, KindWord, List, OutOfMemory, Shape, Symbol};
-use indexmap::{IndexMap, IndexSet};
+use indexmap::IndexSet;
 use std::alloc::Global;
+use std::collections::{HashMap, HashSet};
 
 /// A sort and one below it.
 #[derive(Clone, Copy, PartialEq, Eq, Hash, Drop)]
@@ -49,17 +51,17 @@ pub(crate) struct Range<'s> {
 #[derive(Drop)]
 pub(crate) struct Left<'d, 't, 's> {
     table: &'d Register,
-    sorts: IndexSet<&'s str>,
+    sorts: HashSet<&'s str>,
     /// Of objects that are no numbers, variables and constants.
-    names: IndexSet<&'s str>,
+    names: HashSet<&'s str>,
     ranges: Vec<Range<'s>>,
     /// Each at its first declaration.
-    constants: IndexMap<&'s str, Constant<'t, 's>>,
-    pairs: IndexSet<SortPair<'s>>,
+    constants: HashMap<&'s str, Constant<'t, 's>>,
+    pairs: HashSet<SortPair<'s>>,
     /// The upper sorts of the pairs.
-    uppers: IndexSet<&'s str>,
+    uppers: HashSet<&'s str>,
     /// The upper sorts of the pairs of each lower sort.
-    uppers_of: IndexMap<&'s str, Vec<&'s str>>,
+    uppers_of: HashMap<&'s str, Vec<&'s str>>,
 }
 
 impl<'d, 't, 's> Left<'d, 't, 's> {
@@ -69,13 +71,13 @@ impl<'d, 't, 's> Left<'d, 't, 's> {
     {
         Left {
             table,
-            sorts: IndexSet::new(alloc),
-            names: IndexSet::new(alloc),
+            sorts: HashSet::new(alloc),
+            names: HashSet::new(alloc),
             ranges: Vec::new(alloc),
-            constants: IndexMap::new(alloc),
-            pairs: IndexSet::new(alloc),
-            uppers: IndexSet::new(alloc),
-            uppers_of: IndexMap::new(alloc),
+            constants: HashMap::new(alloc),
+            pairs: HashSet::new(alloc),
+            uppers: HashSet::new(alloc),
+            uppers_of: HashMap::new(alloc),
         }
     }
 
@@ -299,7 +301,7 @@ impl<'d, 't, 's> Left<'d, 't, 's> {
         requires closed { closed.old.keys ≡ [] }
         ensures { OnOk result (IsClosed self.now lower.now found.new.keys) }
     {
-        put_key(found, lower)?;
+        put_found(found, lower)?;
         let mut done = 0;
         'search: while done < found.len() {
             let sort: &'a str = found[done];
@@ -481,7 +483,7 @@ fn any_meets(ranges: &[Range<'_>], low: u32, high: u32, sort: &str) -> bool
 /// Adds a pair to the upper sorts by lower sort.
 fn add_upper<'s>(
     alloc: Global,
-    uppers_of: &mut IndexMap<&'s str, Vec<&'s str>>,
+    uppers_of: &mut HashMap<&'s str, Vec<&'s str>>,
     upper: &'s str,
     lower: &'s str,
 ) -> Result<(), OutOfMemory>
@@ -519,8 +521,16 @@ fn add_numbered<'a>(
         (Grows found.old.keys found.new.keys (map (name_at sorts.now) numbers.now)) }
 {
     for number in numbers {
-        put_key(found, sorts.name(*number as usize))?;
+        put_found(found, sorts.name(*number as usize))?;
     }
+    Ok(())
+}
+
+/// Adds a name, unless it was found.
+fn put_found<'a>(found: &mut IndexSet<&'a str>, name: &'a str) -> Result<(), OutOfMemory>
+    ensures { OnOk result (found.new.keys ≡ insert_key same_key found.old.keys name.entry) }
+{
+    found.insert(name)?;
     Ok(())
 }
 
@@ -528,7 +538,7 @@ fn add_names<'a>(names: &[&'a str], found: &mut IndexSet<&'a str>) -> Result<(),
     ensures { OnOk result (Grows found.old.keys found.new.keys (map (λ name. name.now) names.now)) }
 {
     for name in names {
-        put_key(found, *name)?;
+        put_found(found, *name)?;
     }
     Ok(())
 }

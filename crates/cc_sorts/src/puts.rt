@@ -1,16 +1,17 @@
 //! Adding to lists, sets and maps. Of a failure only the want of memory is told, and not what was to be added.
 ghost use Rattle.std.specs.Prelude.{◌≡◌, ◌<◌, ◌++◌, ◌∷◌, [], true, Some, Ok, IsOk, IfOk, OnOk, OnErr};
 ghost use Rattle.std.specs.Vec.{vec_len, vec_capacity};
-ghost use Rattle.indexmap.specs.IndexMap.{insert_entry, IsUnchanged, Updates as UpdatesEntry};
-ghost use Rattle.indexmap.specs.IndexSet.{insert_key, spare, Updates as UpdatesKey};
+ghost use Rattle.std.specs.HashMap.{IsUnchanged, Updates as UpdatesEntry};
+ghost use Rattle.std.specs.HashSet.{spare, Updates as UpdatesKey};
 
 use cc_defs::OutOfMemory;
-use indexmap::{IndexMap, IndexSet};
+use std::collections::{HashMap, HashSet};
 use std::hash::Hash;
 
 /// Puts an item behind the others of a list.
 pub(crate) fn put_last<X: Drop>(list: &mut Vec<X>, item: X) -> Result<(), OutOfMemory>
     ensures items { OnOk result (list.new.items ≡ list.old.items ++ item ∷ []) }
+    ensures unchanged { OnErr result (list.new.items ≡ list.old.items) }
     ensures succeeds { vec_len list.old < vec_capacity list.old → IsOk result }
 {
     list.push(item)?;
@@ -18,8 +19,7 @@ pub(crate) fn put_last<X: Drop>(list: &mut Vec<X>, item: X) -> Result<(), OutOfM
 }
 
 /// Puts a key into a set, unless it has it.
-pub(crate) fn put_key<K: Eq + Hash + Drop>(set: &mut IndexSet<K>, key: K) -> Result<(), OutOfMemory>
-    ensures keys { OnOk result (set.new.keys ≡ insert_key K.eq set.old.keys key) }
+pub(crate) fn put_key<K: Eq + Hash + Drop>(set: &mut HashSet<K>, key: K) -> Result<(), OutOfMemory>
     ensures updates { OnOk result (UpdatesKey K.eq set.old set.new key true) }
     ensures succeeds { 0 < spare set.old → IsOk result }
 {
@@ -29,11 +29,10 @@ pub(crate) fn put_key<K: Eq + Hash + Drop>(set: &mut IndexSet<K>, key: K) -> Res
 
 /// Puts a value into a map under a key.
 pub(crate) fn put_entry<K: Eq + Hash + Drop, V: Drop>(
-    map: &mut IndexMap<K, V>,
+    map: &mut HashMap<K, V>,
     key: K,
     value: V,
 ) -> Result<(), OutOfMemory>
-    ensures entries { OnOk result (map.new.entries ≡ insert_entry K.eq map.old.entries key value) }
     ensures updates { OnOk result (UpdatesEntry K.eq map.old map.new key (Some value)) }
     ensures unchanged { OnErr result (IsUnchanged map.old map.new) }
 {

@@ -6,8 +6,8 @@ ghost use Rattle.cc_defs.specs.DeclarationFaults.{same_pair};
 ghost use Rattle.cc_defs.specs.Declarations.{is_below, numbers_where};
 ghost use Rattle.cc_defs.specs.Grammar.{same_text};
 ghost use Rattle.cc_sorts.specs.Dictionaries.{number_of};
-ghost use Rattle.indexmap.specs.IndexSet.{insert_key, spare};
-ghost use Rattle.cc_sorts.specs.SortParts.{same_numbers};
+ghost use Rattle.std.specs.HashSet.{spare};
+ghost use Rattle.cc_sorts.specs.SortParts.{AreKnown};
 ghost use Rattle.cc_sorts.specs.SortViews.{SortsView, no_sorts, first_sorts, name_at, members_at, with_sort, with_pair, with_implied, with_object, IsPast};
 
 use crate::dictionary::Dictionary;
@@ -15,8 +15,8 @@ use crate::lists::{Moves, make_room, put_lists, unite_each};
 use crate::numbers::has;
 use crate::puts::{filled, put_key, put_last};
 use cc_defs::OutOfMemory;
-use indexmap::IndexSet;
 use std::alloc::Global;
+use std::collections::HashSet;
 use std::marker::Model;
 
 /// The numbers of two sorts, of which the lower was put below the upper.
@@ -33,7 +33,7 @@ pub(crate) struct Sorts {
     /// In the order in which they were put.
     pairs: Vec<SortPair>,
     /// The same pairs, which are found in it by a hash.
-    known: IndexSet<SortPair>,
+    known: HashSet<SortPair>,
     /// For each sort itself and the sorts that it is below, ascending.
     above: Vec<Vec<u32>>,
     /// For each sort itself and the sorts below it, ascending.
@@ -46,10 +46,10 @@ pub(crate) struct Sorts {
 
 fn make_room_for_pair(
     pairs: &mut Vec<SortPair>,
-    known: &mut IndexSet<SortPair>,
+    known: &mut HashSet<SortPair>,
 ) -> Result<(), OutOfMemory>
     ensures pairs { pairs.new.items ≡ pairs.old.items }
-    ensures known { known.new.keys ≡ known.old.keys }
+    ensures known { AreKnown known.new.keys known.old.keys }
     ensures room { OnOk result (vec_len pairs.new < vec_capacity pairs.new) }
     ensures room_to_know { OnOk result (0 < spare known.new) }
 {
@@ -61,14 +61,14 @@ fn make_room_for_pair(
 /// Adds a pair for which there is room.
 fn record_pair(
     pairs: &mut Vec<SortPair>,
-    known: &mut IndexSet<SortPair>,
+    known: &mut HashSet<SortPair>,
     pair: SortPair,
 ) -> Result<(), OutOfMemory>
     requires room { vec_len pairs.old < vec_capacity pairs.old }
     requires room_to_know { 0 < spare known.old }
     ensures done { IsOk result }
     ensures pairs { pairs.new.items ≡ pairs.old.items ++ pair ∷ [] }
-    ensures known { known.new.keys ≡ insert_key same_numbers known.old.keys pair }
+    ensures known { AreKnown known.new.keys (known.old.keys ++ pair ∷ []) }
 {
     put_last(pairs, pair)?;
     put_key(known, pair)
@@ -101,7 +101,7 @@ impl Sorts {
         Sorts {
             names: Dictionary::new(alloc),
             pairs: Vec::new(alloc),
-            known: IndexSet::new(alloc),
+            known: HashSet::new(alloc),
             above: Vec::new(alloc),
             below: Vec::new(alloc),
             members: Vec::new(alloc),

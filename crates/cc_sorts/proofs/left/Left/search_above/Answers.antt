@@ -1,15 +1,15 @@
 use Rattle.std.proofs.Common.{arith, subst, sym, ap, ◌∙◌}
 use Rattle.indexmap.specs.IndexSet.{insert_key}
-use Rattle.cc_sorts.specs.Searches.{IsSearched}
-use Rattle.cc_sorts.proofs.Upward.{searched_first, searched_step, searched_all, within_first, within_more, few_found, closed_none, is_within, same_key, Keys}
+use Rattle.cc_sorts.specs.Searches.{IsSearched, same_key}
+use Rattle.cc_sorts.proofs.Upward.{searched_first, searched_step, searched_all, within_first, within_more, few_found, closed_none, is_within, Keys}
 use Rattle.cc_sorts.proofs.left.Left.search_above.Goals as goal
 
 pub search-init : goal.search-init
 search-init c =
-    let first = sym (c.in_ok-put_key.ensures.keys ∙ ap (λ (keys : Keys). insert_key same_key keys c.args.lower) c.requires.found) in (
+    let first = sym (c.in_ok-put_found.ensures ∙ ap (λ (keys : Keys). insert_key same_key keys c.args.lower) c.requires.found) in (
       subst (λ (keys : Keys). IsSearched c.args.self.now c.args.lower.now keys 0) first (searched_first c.args.self.now c.args.lower),
       subst (λ (keys : Keys). is_within c.args.self.now c.args.lower.now keys) first (within_first c.args.self.now c.args.lower),
-      closed_none c.args.self.now c.args.closed.now.keys c.put_key.new.set.keys c.requires.closed,
+      closed_none c.args.self.now c.args.closed.now.keys c.put_found.new.found.keys c.requires.closed,
     )
 
 pub search-smaller : goal.search-smaller

@@ -1,14 +1,12 @@
 use Rattle.std.proofs.Common.{◌∙◌, ap, arith}
-use Rattle.indexmap.specs.IndexSet.{insert_key}
 use Rattle.cc_defs.specs.Declarations.{is_below}
 use Rattle.cc_sorts.specs.Dictionaries.{names_of}
 use Rattle.cc_sorts.specs.Lists.{lists_of}
-use Rattle.cc_sorts.specs.SortParts.{same_numbers}
 use Rattle.cc_sorts.specs.SortViews.{SortsView, with_implied, name_at}
 use Rattle.cc_sorts.proofs.Reading.{within}
 use Rattle.cc_sorts.proofs.Uppers.{apart_numbers}
 use Rattle.cc_sorts.proofs.Walks.{on_ok, on_done}
-use Rattle.cc_sorts.proofs.Widening.{kept_implied, seen_implied, pushed}
+use Rattle.cc_sorts.proofs.Widening.{kept_implied, seen_implied, pushed, known_more}
 use Rattle.cc_sorts.proofs.Growing.{kept_same}
 use Rattle.cc_sorts.proofs.sorts.Sorts.add_implied.Goals as goal
 
@@ -20,7 +18,7 @@ invariant_of-self-2 c =
     (ap (λ (view : SortsView). is_below view.pairs (name_at view c.args.lower) (name_at view c.args.upper)) c.self.view_is ∙ c.requires.implied)
     c.record_pair.new.pairs.items c.record_pair.new.known.keys
     (pushed c.self.inside.pairs.items c.make_room_for_pair.new.pairs.items c.record_pair.new.pairs.items (record { upper = c.args.upper; lower = c.args.lower }) c.record_pair.ensures.pairs c.make_room_for_pair.ensures.pairs)
-    (c.record_pair.ensures.known ∙ ap (λ keys. insert_key same_numbers keys (record { upper = c.args.upper; lower = c.args.lower })) c.make_room_for_pair.ensures.known)
+    (known_more c.self.inside.known.keys c.make_room_for_pair.new.known.keys c.record_pair.new.known.keys c.self.inside.pairs.items (record { upper = c.args.upper; lower = c.args.lower }) c.make_room_for_pair.ensures.known c.record_pair.ensures.known c.self.invariant.known_are)
 
 pub returns-clause-added : goal.returns-clause-added
 returns-clause-added c = on_ok c.record_pair.result _ (

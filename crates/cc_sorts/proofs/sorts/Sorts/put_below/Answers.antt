@@ -1,15 +1,13 @@
 use Rattle.std.proofs.Common.{◌∙◌, ap, length, sym, subst, arith, refl}
-use Rattle.indexmap.specs.IndexSet.{insert_key}
 use Rattle.cc_sorts.specs.Dictionaries.{names_of}
 use Rattle.cc_sorts.specs.Lists.{lists_of, list_at}
 use Rattle.cc_sorts.specs.Numbers.{Ascends}
-use Rattle.cc_sorts.specs.SortParts.{same_numbers}
 use Rattle.cc_sorts.specs.SortViews.{SortsView, with_pair}
 use Rattle.cc_sorts.proofs.Reading.{within}
 use Rattle.cc_sorts.proofs.Uppers.{apart_numbers}
 use Rattle.cc_sorts.proofs.Vectors.{numbers_within, ascends_at, count_within}
 use Rattle.cc_sorts.proofs.Walks.{on_err, on_ok, on_done}
-use Rattle.cc_sorts.proofs.Widening.{kept_pair, seen_pair, pushed}
+use Rattle.cc_sorts.proofs.Widening.{kept_pair, seen_pair, pushed, known_more}
 use Rattle.cc_sorts.proofs.Growing.{seen_as, kept_as, kept_same}
 use Rattle.cc_sorts.proofs.sorts.Sorts.put_below.Goals as goal
 
@@ -48,7 +46,7 @@ invariant_of-self-2 c =
     (apart_numbers c.args.self.now c.args.upper c.args.lower c.requires.apart)
     c.record_pair.new.pairs.items c.record_pair.new.known.keys (lists_of c.put.new.above.items) (lists_of c.put.new.below.items) (lists_of c.put.new.members.items)
     (pushed c.self.inside.pairs.items c.make_room_for_pair.new.pairs.items c.record_pair.new.pairs.items (record { upper = c.args.upper; lower = c.args.lower }) c.record_pair.ensures.pairs c.make_room_for_pair.ensures.pairs)
-    (c.record_pair.ensures.known ∙ ap (λ keys. insert_key same_numbers keys (record { upper = c.args.upper; lower = c.args.lower })) c.make_room_for_pair.ensures.known)
+    (known_more c.self.inside.known.keys c.make_room_for_pair.new.known.keys c.record_pair.new.known.keys c.self.inside.pairs.items (record { upper = c.args.upper; lower = c.args.lower }) c.make_room_for_pair.ensures.known c.record_pair.ensures.known c.self.invariant.known_are)
     c.in_ok-put.ensures.above c.in_ok-put.ensures.below c.in_ok-put.ensures.members
 
 pub returns-clause-added : goal.returns-clause-added
