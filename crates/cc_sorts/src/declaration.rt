@@ -39,22 +39,23 @@ pub(crate) fn add_declarations<'t, 's>(
         ++ declarations_of file (plain_statement statement.now)) }
 {
     match &*statement.part {
-        Part::Sorts(items) => add_sort_items(found, items.items()),
-        Part::Objects(items) => add_object_items(found, items.items()),
-        Part::Variables(items) => add_variable_items(found, items.items()),
-        Part::Constants(items) => add_const_items(found, items.items()),
+        Part::Sorts(items) => add_sort_items(found, items),
+        Part::Objects(items) => add_object_items(found, items),
+        Part::Variables(items) => add_variable_items(found, items),
+        Part::Constants(items) => add_const_items(found, items),
         _ => Ok(()),
     }
 }
 
 fn add_sort_items<'t, 's>(
     found: &mut Vec<Declaration<'t, 's>>,
-    items: &'t [SortItem<'s>],
+    list: &'t List<SortItem<'s>>,
 ) -> Result<(), OutOfMemory>
     ensures { (file line : ℕ) →
         OnOk result (plain_declarations file line found.new.items ≡ plain_declarations
-        file line found.old.items ++ flat_map sort_declarations (map plain_sort_item items.now)) }
+        file line found.old.items ++ flat_map sort_declarations (map plain_sort_item list.now)) }
 {
+    let items = list.items();
     for item in items {
         add_sort_item(found, item)?;
     }
@@ -63,12 +64,13 @@ fn add_sort_items<'t, 's>(
 
 fn add_object_items<'t, 's>(
     found: &mut Vec<Declaration<'t, 's>>,
-    items: &'t [ObjItem<'s>],
+    list: &'t List<ObjItem<'s>>,
 ) -> Result<(), OutOfMemory>
     ensures { (file line : ℕ) →
         OnOk result (plain_declarations file line found.new.items ≡ plain_declarations
-        file line found.old.items ++ flat_map object_declarations (map plain_obj_item items.now)) }
+        file line found.old.items ++ flat_map object_declarations (map plain_obj_item list.now)) }
 {
+    let items = list.items();
     for item in items {
         add_members(found, item.members.items(), item.sort)?;
     }
@@ -77,12 +79,13 @@ fn add_object_items<'t, 's>(
 
 fn add_variable_items<'t, 's>(
     found: &mut Vec<Declaration<'t, 's>>,
-    items: &'t [ListItem<'s>],
+    list: &'t List<ListItem<'s>>,
 ) -> Result<(), OutOfMemory>
     ensures { (file line : ℕ) →
         OnOk result (plain_declarations file line found.new.items ≡ plain_declarations file
-        line found.old.items ++ flat_map variable_declarations (map plain_list_item items.now)) }
+        line found.old.items ++ flat_map variable_declarations (map plain_list_item list.now)) }
 {
+    let items = list.items();
     for item in items {
         add_variables(found, item.names.items(), item.sort)?;
     }
@@ -91,12 +94,13 @@ fn add_variable_items<'t, 's>(
 
 fn add_const_items<'t, 's>(
     found: &mut Vec<Declaration<'t, 's>>,
-    items: &'t [ConstItem<'s>],
+    list: &'t List<ConstItem<'s>>,
 ) -> Result<(), OutOfMemory>
     ensures { (file line : ℕ) → OnOk result
         (plain_declarations file line found.new.items ≡ plain_declarations file line found.old.items
-        ++ flat_map (constant_declarations file line) (map plain_const_item items.now)) }
+        ++ flat_map (constant_declarations file line) (map plain_const_item list.now)) }
 {
+    let items = list.items();
     for item in items {
         add_const_item(found, item)?;
     }

@@ -114,13 +114,11 @@ impl<'d, 't, 's> Left<'d, 't, 's> {
     {
         match declaration {
             Declaration::Sort(name) => self.is_sort(name),
-            Declaration::Link(_) => false,
             Declaration::Subsort(upper, lower) => self.has_pair(upper, lower),
-            Declaration::Object(name, _) => self.is_taken(name),
+            Declaration::Object(name, _) | Declaration::Variable(name, _) => self.is_taken(name),
             Declaration::Numbers(low, high, sort) => self.has_from(*low, *high, sort),
-            Declaration::Variable(name, _) => self.is_taken(name),
             Declaration::Constant(shape, _) => self.is_taken(shape.name),
-            Declaration::Kinds(_, _) => false,
+            Declaration::Link(_) | Declaration::Kinds(_, _) => false,
         }
     }
 
@@ -168,9 +166,9 @@ impl<'d, 't, 's> Left<'d, 't, 's> {
             IsLeft self.now left → result ≡ is_unknown left (plain_head file line declaration.now) }
     {
         match declaration {
-            Declaration::Object(_, sort) => !self.is_sort(sort),
-            Declaration::Numbers(_, _, sort) => !self.is_sort(sort),
-            Declaration::Variable(_, sort) => !self.is_sort(sort),
+            Declaration::Object(_, sort)
+            | Declaration::Numbers(_, _, sort)
+            | Declaration::Variable(_, sort) => !self.is_sort(sort),
             Declaration::Constant(shape, _) => !self.are_sorts(&shape.sorts),
             Declaration::Kinds(_, kind) => self.has_unknown(kind),
             Declaration::Sort(_) | Declaration::Link(_) | Declaration::Subsort(_, _) => false,
@@ -240,9 +238,8 @@ impl<'d, 't, 's> Left<'d, 't, 's> {
             (λ wrong. wrong ≡ has_wrong_sort left (plain_head file line declaration.now)) }
     {
         match declaration {
-            Declaration::Link(name) => Ok(is_boolean(name)),
             Declaration::Subsort(upper, lower) => self.is_below(alloc, upper, lower),
-            Declaration::Object(_, sort) => Ok(is_boolean(sort)),
+            Declaration::Link(sort) | Declaration::Object(_, sort) => Ok(is_boolean(sort)),
             Declaration::Numbers(low, high, sort) => Ok(is_boolean(sort) || high < low),
             Declaration::Kinds(shapes, kind) => Ok(self.has_other_sorts(shapes, kind)),
             Declaration::Sort(_) | Declaration::Variable(_, _) | Declaration::Constant(_, _) => Ok(
@@ -404,12 +401,10 @@ impl<'d, 't, 's> Left<'d, 't, 's> {
             OnOk result (Adds self.old self.new (plain_declaration file line declaration.now)) }
     {
         match declaration {
-            Declaration::Sort(name) => self.add_sort(name),
-            Declaration::Link(name) => self.add_sort(name),
+            Declaration::Sort(name) | Declaration::Link(name) => self.add_sort(name),
             Declaration::Subsort(upper, lower) => self.add_pair(alloc, upper, lower),
-            Declaration::Object(name, _) => self.add_name(name),
+            Declaration::Object(name, _) | Declaration::Variable(name, _) => self.add_name(name),
             Declaration::Numbers(low, high, sort) => self.add_range(*low, *high, sort),
-            Declaration::Variable(name, _) => self.add_name(name),
             Declaration::Constant(shape, kind) => self.add_constant(shape, kind),
             Declaration::Kinds(_, _) => Ok(()),
         }

@@ -7,7 +7,7 @@ use Rattle.cc_sorts.proofs.declaration.add_object_items.Goals as goal
 
 pub loop-item-preserved : goal.loop-item-preserved
 loop-item-preserved c = λ file line.
-    parts-more object_declarations plain_obj_item (plain_declarations file line c.args.found.now.items) _ _ c.args.items.now c.loop-item.item-index c.item-item.result
+    parts-more object_declarations plain_obj_item (plain_declarations file line c.args.found.now.items) _ _ c.items-items.result.now c.loop-item.item-index c.item-item.result
     (omega (arith, c.loop-item-test.true)) c.item-item.is
     (c.in_ok-add_members.ensures file line
     ∙ ap (λ members. plain_declarations file line c.loop-item.found.items ++ flat_map (member_declarations c.item-item.result.sort.now) (map plain_member members)) c.items.ensures)
@@ -15,5 +15,6 @@ loop-item-preserved c = λ file line.
 
 pub returns : goal.returns
 returns c = λ file line.
-    parts-all object_declarations plain_obj_item (plain_declarations file line c.args.found.now.items) _ c.args.items.now c.loop-item.item-index
+    parts-all object_declarations plain_obj_item (plain_declarations file line c.args.found.now.items) _ c.items-items.result.now c.loop-item.item-index
     c.loop-item-test.false (c.loop-item.invariant file line)
+    ∙ ap (λ items. plain_declarations file line c.args.found.now.items ++ flat_map object_declarations (map plain_obj_item items)) c.items-items.ensures

@@ -4,20 +4,11 @@ use Rattle.cc_sorts.specs.Declaring.{plain_declaration}
 use Rattle.cc_sorts.specs.Lefts.{Adds}
 use Rattle.cc_sorts.proofs.left.Left.add.Goals as goal
 
-pub returns-in-Link : goal.returns-in-Link
-returns-in-Link c = λ file line. subst (λ (d : Declaration). OnOk c.add_sort-in-Link.result (Adds c.args.self.now c.add_sort-in-Link.new.self (plain_declaration file line d))) (sym c.in-Link.is) (c.add_sort-in-Link.ensures)
-
 pub returns-in-Subsort : goal.returns-in-Subsort
 returns-in-Subsort c = λ file line. subst (λ (d : Declaration). OnOk c.add_pair.result (Adds c.args.self.now c.add_pair.new.self (plain_declaration file line d))) (sym c.in-Subsort.is) (c.add_pair.ensures)
 
-pub returns-in-Object : goal.returns-in-Object
-returns-in-Object c = λ file line. subst (λ (d : Declaration). OnOk c.add_name.result (Adds c.args.self.now c.add_name.new.self (plain_declaration file line d))) (sym c.in-Object.is) (c.add_name.ensures.object c.in-Object.field-1.now)
-
 pub returns-in-Numbers : goal.returns-in-Numbers
 returns-in-Numbers c = λ file line. subst (λ (d : Declaration). OnOk c.add_range.result (Adds c.args.self.now c.add_range.new.self (plain_declaration file line d))) (sym c.in-Numbers.is) (c.add_range.ensures)
-
-pub returns-in-Variable : goal.returns-in-Variable
-returns-in-Variable c = λ file line. subst (λ (d : Declaration). OnOk c.add_name-in-Variable.result (Adds c.args.self.now c.add_name-in-Variable.new.self (plain_declaration file line d))) (sym c.in-Variable.is) (c.add_name-in-Variable.ensures.variable c.in-Variable.field-1.now)
 
 pub returns-in-Constant : goal.returns-in-Constant
 returns-in-Constant c = λ file line. subst (λ (d : Declaration). OnOk c.add_constant.result (Adds c.args.self.now c.add_constant.new.self (plain_declaration file line d))) (sym c.in-Constant.is) (c.add_constant.ensures file line)
