@@ -1,5 +1,5 @@
 -- Entries by number: the name and the value of a number, and the numbers of names as entries come and go.
-use Rattle.std.proofs.Common.{◌≡◌, ◌∙◌, ℕ, Bool, true, false, ◌||◌, cond, List, [], ◌∷◌, ◌++◌, length, map, Option, Some, None, is_some, slice_get, option_map, refl, sym, ap, subst, Bor}
+use Rattle.std.proofs.Common.{◌≡◌, ◌∙◌, ℕ, ◌-◌, Bool, true, false, ◌||◌, cond, List, [], ◌∷◌, ◌++◌, length, map, take, Option, Some, None, is_some, slice_get, option_map, refl, sym, ap, subst, arith, length-append, Bor}
 use Rattle.std.specs.HashMap.{HashMap, UpdatesBy}
 use Rattle.std.specs.List.{AllByRecursion, IsDistinct}
 use Rattle.std.specs.Map.{lookup}
@@ -7,7 +7,7 @@ use Rattle.std.specs.Slice.{IsItemAt}
 use Rattle.std.specs.String.{string_bytes, string_eq}
 use Rattle.std.specs.declared.string.String.{String}
 use Rattle.std.proofs.lemmas.Cmp.{nat_list_eq_equiv}
-use Rattle.std.proofs.lemmas.List.{map-append, length-map}
+use Rattle.std.proofs.lemmas.List.{map-append, length-map, take-map, take-append-le, take_all}
 use Rattle.std.proofs.lemmas.Map.Keys.{IsDistinct-push}
 use Rattle.std.proofs.lemmas.Map.Text.{hash_map_updates_text}
 use Rattle.std.proofs.lemmas.Option.{slice_get-map, slice_get_read, slice_get_past}
@@ -46,6 +46,22 @@ module _ {V Z : Type 0} where
       by : (found : Option (Bor (String Z × V))) → IsItemAt items number found → option_map (λ (e : Bor (String Z × V)). e.now) found ≡ slice_get items number
       by (Some entry) at = sym (slice_get_read items (length items) number entry.now refl at.3.0 at.1)
       by None at = sym (slice_get_past items number at.3)
+
+  -- the last entry was taken out
+  pub taken_last : (more less : List (String Z × V)) (view : List (List ℕ × V)) (count : ℕ) → seen more ≡ view → count ≡ length more → less ≡ take (count - 1) more →
+      seen less ≡ take (length view - 1) view
+  taken_last more less view count is many taken =
+      ap seen taken ∙ sym (take-map (λ (e : String Z × V). (string_bytes e.0, e.1)) (count - 1) more) ∙ ap (take (count - 1)) is
+      ∙ ap (λ (n : ℕ). take (n - 1) view) (many ∙ sym (length-map more (λ (e : String Z × V). (string_bytes e.0, e.1))) ∙ ap length is)
+
+  -- an entry was put behind the others, and taken out again
+  pub taken_back : (old more less : List (String Z × V)) (entry : List ℕ × V) (count : ℕ) → seen more ≡ seen old ++ entry ∷ [] → count ≡ length more → less ≡ take (count - 1) more →
+      seen less ≡ seen old
+  taken_back old more less entry count is many taken =
+      taken_last more less (seen old ++ entry ∷ []) count is many taken
+      ∙ ap (λ (n : ℕ). take n (seen old ++ entry ∷ [])) (omega (arith, length-append (seen old) (entry ∷ [])))
+      ∙ take-append-le (length (seen old)) (seen old) (entry ∷ []) (omega arith)
+      ∙ take_all (length (seen old)) (seen old) (omega arith)
 
 -- ---- names that differ
 
@@ -125,3 +141,8 @@ module _ {V Z S : Type 0} (entries others : List (String Z × V)) (old new : Has
       (ap (λ (w : List (String Z × V)). names_of (seen w)) is ∙ ap names_of (map-append (λ (e : String Z × V). (string_bytes e.0, e.1)) others ((name, value) ∷ []))
       ∙ map-append (λ (e : List ℕ × V). e.0) (seen others) ((string_bytes name, value) ∷ []))
       are)
+
+pub numbered_same : {V Z : Type 0} (entries others : List (String Z × V)) (old new : List (String Z × ℕ)) → seen others ≡ seen entries → new ≡ old → AreNumbered (names_of (seen entries)) old →
+    AreNumbered (names_of (seen others)) new
+numbered_same entries others old new is same are =
+    subst (λ names. AreNumbered names new) (ap names_of (sym is)) (subst (AreNumbered (names_of (seen entries))) (sym same) are)

@@ -114,11 +114,13 @@ impl<'d, 't, 's> Left<'d, 't, 's> {
     {
         match declaration {
             Declaration::Sort(name) => self.is_sort(name),
+            Declaration::Link(_) => false,
             Declaration::Subsort(upper, lower) => self.has_pair(upper, lower),
-            Declaration::Object(name, _) | Declaration::Variable(name, _) => self.is_taken(name),
+            Declaration::Object(name, _) => self.is_taken(name),
             Declaration::Numbers(low, high, sort) => self.has_from(*low, *high, sort),
+            Declaration::Variable(name, _) => self.is_taken(name),
             Declaration::Constant(shape, _) => self.is_taken(shape.name),
-            Declaration::Link(_) | Declaration::Kinds(_, _) => false,
+            Declaration::Kinds(_, _) => false,
         }
     }
 
