@@ -1,8 +1,7 @@
 -- The parts of the sorts behind a pair.
 use Rattle.std.proofs.Common.{◌≡◌, ◌∙◌, ℕ, ◌<◌, Bool, true, false, ◌||◌, ◌&&◌, cond, List, [], ◌∷◌, ◌++◌, length, refl, sym, subst, ap}
 use Rattle.std.specs.Prelude.{◌==◌}
-use Rattle.std.specs.List.{AllByRecursion, list_any}
-use Rattle.std.proofs.lemmas.Cmp.{nat_eq_equiv}
+use Rattle.std.specs.List.{AllByRecursion}
 use Rattle.std.proofs.lemmas.List.Folds.{list_any-append}
 use Rattle.cc_defs.specs.Declarations.{Pair, is_below}
 use Rattle.cc_sorts.specs.declared.sorts.SortPair.{SortPair}
@@ -38,23 +37,7 @@ within_push : (count : ℕ) (pairs : List SortPair) (pair : SortPair) → AllByR
 within_push count [] pair all here = (here, tt)
 within_push count (first ∷ pairs) pair all here = (all.0, within_push count pairs pair all.1 here)
 
-same_turned : (pair other : SortPair) → same_numbers pair other ≡ same_numbers other pair
-same_turned pair other =
-    ap (λ (b : Bool). b && (pair.lower == other.lower)) (nat_eq_equiv.symm pair.upper other.upper)
-    ∙ ap (λ (b : Bool). (other.upper == pair.upper) && b) (nat_eq_equiv.symm pair.lower other.lower)
-
--- a pair is known beside the others once it was put
-pub known_put : (old new : List SortPair) (pair : SortPair) → ((q : SortPair) → list_any (same_numbers q) new ≡ cond (same_numbers pair q) true (list_any (same_numbers q) old)) →
-    AreKnown new (old ++ pair ∷ [])
-known_put old new pair put = λ q.
-    put q ∙ by (same_numbers pair q) (list_any (same_numbers q) old) ∙ ap (λ (b : Bool). list_any (same_numbers q) old || (b || false)) (same_turned pair q)
-    ∙ sym (list_any-append (same_numbers q) old (pair ∷ []))
-  where
-    by : (b old : Bool) → cond b true old ≡ (old || (b || false))
-    by true true = refl
-    by true false = refl
-    by false old = or_false old
-
+-- a pair is known beside the others
 pub known_more : (known room new pairs : List SortPair) (pair : SortPair) → AreKnown room known → AreKnown new (room ++ pair ∷ []) → AreKnown known pairs → AreKnown new (pairs ++ pair ∷ [])
 known_more known room new pairs pair same more are = λ q.
     more q ∙ list_any-append (same_numbers q) room (pair ∷ []) ∙ ap (λ (b : Bool). b || (same_numbers q pair || false)) (same q ∙ are q)
