@@ -1,5 +1,5 @@
 -- Entries by number: the name and the value of a number, and the numbers of names as entries come and go.
-use Rattle.std.proofs.Common.{◌≡◌, ◌∙◌, ℕ, ◌-◌, Bool, true, false, ◌||◌, cond, List, [], ◌∷◌, ◌++◌, length, map, take, Option, Some, None, is_some, slice_get, option_map, refl, sym, ap, subst, arith, length-append, Bor}
+use Rattle.std.proofs.Common.{◌≡◌, ◌∙◌, ℕ, ◌-◌, ◌<◌, ◌≤◌, Bool, true, false, ◌||◌, cond, List, [], ◌∷◌, ◌++◌, length, map, take, Option, Some, None, is_some, slice_get, option_map, refl, sym, ap, subst, arith, length-append, Bor}
 use Rattle.std.specs.HashMap.{HashMap, UpdatesBy}
 use Rattle.std.specs.List.{AllByRecursion, IsDistinct}
 use Rattle.std.specs.Map.{lookup}
@@ -46,6 +46,12 @@ module _ {V Z : Type 0} where
       by : (found : Option (Bor (String Z × V))) → IsItemAt items number found → option_map (λ (e : Bor (String Z × V)). e.now) found ≡ slice_get items number
       by (Some entry) at = sym (slice_get_read items (length items) number entry.now refl at.3.0 at.1)
       by None at = sym (slice_get_past items number at.3)
+
+  pub not_past : (entries items : List (String Z × V)) (view : List (List ℕ × V)) (number : ℕ) → seen entries ≡ view → items ≡ entries → number < length view → length items ≤ number → ⊥
+  not_past entries items view number is same within past =
+      let as_many : length view ≡ length entries = sym (ap length is) ∙ length-map entries (λ (e : String Z × V). (string_bytes e.0, e.1)) in
+      let all : length items ≡ length entries = ap length same in
+      omega (arith, within, past, as_many, all)
 
   -- the last entry was taken out
   pub taken_last : (more less : List (String Z × V)) (view : List (List ℕ × V)) (count : ℕ) → seen more ≡ view → count ≡ length more → less ≡ take (count - 1) more →
