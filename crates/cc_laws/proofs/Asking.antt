@@ -1,8 +1,9 @@
 -- A query at a table, by the declarations that the table has.
-use Rattle.std.proofs.Common.{◌≡◌, ◌∙◌, ℕ, ◌+◌, List, Option, flat_map, arith, sym, ap}
-use Rattle.std.specs.Prelude.{option_map}
+use Rattle.std.proofs.Common.{◌≡◌, ◌∙◌, ℕ, ◌+◌, List, Option, None, Result, Ok, Err, IfOk, flat_map, arith, refl, sym, ap, subst}
+use Rattle.std.specs.Prelude.{IfErr, option_map}
+use Rattle.cc_defs.specs.declared.refusal.Fault.{Fault}
 use Rattle.cc_defs.specs.Declarations.{Declaration}
-use Rattle.cc_defs.specs.Refusals.{least, refused_if}
+use Rattle.cc_defs.specs.Refusals.{IsRefusedBy, least, refused_if}
 use Rattle.cc_defs.specs.Resolved.{Condition, Query}
 use Rattle.cc_defs.specs.Trees.{PlainQueryItem, PlainStatement}
 use Rattle.cc_sorts.specs.Tables.{TableView, IsTable}
@@ -25,6 +26,21 @@ answered file table left statement items query is p q =
     q
     ∙ ap (λ (l : List PlainQueryItem). query_of file (vocabulary_of table) statement.line l) p
     ∙ ap (λ (v : Vocabulary). query_of file v statement.line (items_of statement.part)) (same_vocabulary table left is)
+
+-- what was asked, where there is no fault
+pub asked_so : {X : Type 0} (plain : X → Query) (file : ℕ) (table : TableView) (left : List Declaration) (statement : PlainStatement) (items : List PlainQueryItem) (result : Result X Fault) →
+    IsTable table left → items ≡ items_of statement.part → IfOk result (λ query. least (query_faults (vocabulary_of table) items) ≡ None) →
+    IfOk result (λ query. plain query ≡ query_of file (vocabulary_of table) statement.line items) →
+    IfOk result (λ query. (query_refusal file (vocabulary left) statement ≡ None) × (plain query ≡ query_asked file (vocabulary left) statement))
+asked_so plain file table left statement items (Ok query) is p none so =
+    (judged file table left statement items _ is p refl ∙ ap (refused_if file statement.line) none, answered file table left statement items (plain query) is p so)
+asked_so plain file table left statement items (Err fault) is p none so = tt
+
+pub asked_refused : {X : Type 0} (file : ℕ) (table : TableView) (left : List Declaration) (statement : PlainStatement) (items : List PlainQueryItem) (result : Result X Fault) →
+    IsTable table left → items ≡ items_of statement.part → IfErr result (IsRefusedBy (refused_if file statement.line (least (query_faults (vocabulary_of table) items)))) →
+    IfErr result (IsRefusedBy (query_refusal file (vocabulary left) statement))
+asked_refused file table left statement items result is p by =
+    subst (λ o. IfErr result (IsRefusedBy o)) (sym (judged file table left statement items _ is p refl)) by
 
 -- what is asked, from its parts; the brackets of the claim have their numbers behind those of the conditions
 abbrev query : ℕ → ℕ → Option (List ℕ) → Option (ℕ × ℕ) → List Condition → Option Condition → Query

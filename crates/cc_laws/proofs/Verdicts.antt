@@ -1,10 +1,13 @@
--- What a check finds by a table is so by its declarations.
-use Rattle.std.proofs.Common.{◌≡◌, ◌∙◌, ℕ, List, Option, Some, sym, ap, subst}
+-- What a check finds by a table is so by its declarations, and what is made where it finds nothing.
+use Rattle.std.proofs.Common.{◌≡◌, ◌∙◌, ℕ, List, Option, Some, None, Result, Ok, Err, IfOk, map, sym, ap, subst}
+use Rattle.std.specs.Prelude.{IfErr}
+use Rattle.std.specs.Global.{Vec}
+use Rattle.std.specs.Result.{MatchResult}
 use Rattle.cc_defs.specs.declared.refusal.Fault.{Fault}
 use Rattle.cc_defs.specs.declared.refusal.Fault.TheVariants as faults
 use Rattle.cc_defs.specs.declared.refusal.Refusal.{Refusal}
 use Rattle.cc_defs.specs.Declarations.{Declaration}
-use Rattle.cc_defs.specs.Refusals.{IsRefusedBy, refused, refused_if}
+use Rattle.cc_defs.specs.Refusals.{IsRefusedBy, refused_if}
 use Rattle.cc_defs.specs.Trees.{PlainStatement}
 use Rattle.cc_sorts.specs.Tables.{TableView, IsTable}
 use Rattle.cc_laws.specs.LawFaults.{part_fault, law_refusal}
@@ -17,6 +20,36 @@ law_refused file table left statement fault is found =
     ap (λ (v : Vocabulary). law_refusal file v statement) (sym (same_vocabulary table left is))
     ∙ ap (refused_if file statement.line) (sym found)
 
--- by a refusal with this number
-pub refused_by : (refusal : Option Refusal) (file line number : ℕ) (fault : Fault) → fault ≡ faults.Refused (refused number file line) → refusal ≡ refused_if file line (Some number) → IsRefusedBy refusal fault
-refused_by refusal file line number fault e q = subst (IsRefusedBy refusal) (sym e) q
+-- what was made, where a fault may be told in its place
+pub given_so : {X E F : Type 0} (P : X → Type 0) (made : Result X E) (result : Result X F) → IfOk result (λ value. made ≡ Ok value) → IfOk made P → IfOk result P
+given_so P made (Ok x) is so = subst (λ r. IfOk r P) is so
+given_so P made (Err fault) is so = tt
+
+pub given_fault : {X : Type 0} (refusal : Option Refusal) (result : Result X Fault) → IfErr result (λ fault. fault ≡ faults.OutOfMemory) → IfErr result (IsRefusedBy refusal)
+given_fault refusal (Ok x) is = tt
+given_fault refusal (Err fault) is = subst (IsRefusedBy refusal) (sym is) tt
+
+-- behind a check that found nothing, and at one that found a fault
+pub held : {X Y E F : Type 0} (P : Type 0) (passed : Result Y E) (nothing : Y) (result : Result X F) → passed ≡ Ok nothing → IfOk passed (λ it. P) → IfOk result (λ made. P)
+held P passed nothing (Ok x) is so = subst (λ r. IfOk r (λ it. P)) is so
+held P passed nothing (Err fault) is so = tt
+
+pub stopped : {Y : Type 0} (refusal : Option Refusal) (passed : Result Y Fault) (fault : Fault) → passed ≡ Err fault → IfErr passed (IsRefusedBy refusal) → IsRefusedBy refusal fault
+stopped refusal passed fault is by = subst (λ r. IfErr r (IsRefusedBy refusal)) is by
+
+-- as a list, by the declarations
+pub listed_so : {X Z : Type 0} (plain : X → Z) (refusal : Option Refusal) (file line : ℕ) (fault : Option ℕ) (laws whole : List Z) (made : Result (Vec X) Fault) (result : Result (List X) Fault) →
+    MatchResult made (λ items. result ≡ Ok items.items) (λ fault. result ≡ Err fault) → refusal ≡ refused_if file line fault → laws ≡ whole →
+    IfOk made (λ items. fault ≡ None) → IfOk made (λ items. map plain items.items ≡ laws) →
+    IfOk result (λ list. (refusal ≡ None) × (map plain list ≡ whole))
+listed_so plain refusal file line fault laws whole (Ok items) result is r e none so =
+    subst (λ w. IfOk w (λ list. (refusal ≡ None) × (map plain list ≡ whole))) (sym is) (r ∙ ap (refused_if file line) none, so ∙ e)
+listed_so plain refusal file line fault laws whole (Err error) result is r e none so =
+    subst (λ w. IfOk w (λ list. (refusal ≡ None) × (map plain list ≡ whole))) (sym is) tt
+
+pub listed_refused : {X : Type 0} (refusal : Option Refusal) (file line : ℕ) (fault : Option ℕ) (made : Result (Vec X) Fault) (result : Result (List X) Fault) →
+    MatchResult made (λ items. result ≡ Ok items.items) (λ fault. result ≡ Err fault) → refusal ≡ refused_if file line fault →
+    IfErr made (IsRefusedBy (refused_if file line fault)) → IfErr result (IsRefusedBy refusal)
+listed_refused refusal file line fault (Ok items) result is r by = subst (λ w. IfErr w (IsRefusedBy refusal)) (sym is) tt
+listed_refused refusal file line fault (Err error) result is r by =
+    subst (λ w. IfErr w (IsRefusedBy refusal)) (sym is) (subst (λ o. IsRefusedBy o error) (sym r) by)

@@ -1,21 +1,16 @@
 //! The faults of laws.
-ghost use Rattle.std.specs.Prelude.{◌≡◌, ◌++◌, List as Items, None, flat_map, IfOk, IfErr, OnOk};
+ghost use Rattle.std.specs.Prelude.{◌≡◌, ◌++◌, ◌∷◌, ℕ, Option, None, flat_map, IfOk, IfErr, OnOk};
 ghost use Rattle.std.specs.List.{list_any};
 ghost use Rattle.std.specs.Option.{option_map};
-ghost use Rattle.cc_defs.specs.Declarations.{Declaration as Declared};
-ghost use Rattle.cc_defs.specs.Trees.{boxed_tree, plain_law, plain_part, plain_statement, plain_term};
-ghost use Rattle.cc_defs.specs.declared.refusal.Fault.TheVariants as faulty;
+ghost use Rattle.cc_defs.specs.Trees.{boxed_tree, plain_law, plain_term, plain_tree};
 ghost use Rattle.cc_defs.specs.Refusals as refusals;
 ghost use Rattle.cc_defs.specs.Refusals.{IsRefusedBy, least};
 ghost use Rattle.cc_laws.specs.LawFaults as faults;
 ghost use Rattle.cc_laws.specs.FormulaFaults.{term_has};
 ghost use Rattle.cc_laws.specs.FreeVariables.{free, optional, unbound};
-ghost use Rattle.cc_laws.specs.LawFaults.{law_refusal};
 ghost use Rattle.cc_laws.specs.Views.{asks, fails};
-ghost use Rattle.cc_laws.specs.Vocabulary.{vocabulary, vocabulary_of};
-ghost use Rattle.cc_laws.specs.Widening as widening;
-ghost use Rattle.cc_laws.specs.Widening.{wide_faults, wide_refusal};
-ghost use Rattle.cc_sorts.specs.Tables.{IsTable};
+ghost use Rattle.cc_laws.specs.Vocabulary.{vocabulary_of};
+ghost use Rattle.cc_laws.specs.Widening.{wide_faults};
 
 use crate::forms::{has_determined_head, has_indefinite_head, lacks_form};
 use crate::meaning::meaning_of_term;
@@ -23,7 +18,7 @@ use crate::mention::{Property, term_has as has};
 use crate::misfits::term_misfits;
 use crate::variables::{add_free, add_unbound, firsts, free as free_in, some_is_new};
 use crate::walk::{Check, formula_fails};
-use cc_defs::{Fault, LawTree, OutOfMemory, Part, Refusal, Statement, TermTree, Tree};
+use cc_defs::{Fault, LawTree, OutOfMemory, Refusal, TermTree, Tree};
 use cc_results::{both, filled};
 use cc_sorts::Table;
 use std::alloc::Global;
@@ -39,6 +34,44 @@ fn part_fails(table: &Table, check: Check, part: &Option<Box<Tree<'_>>>) -> bool
     }
 }
 
+/// Whether a formula, or a part that may be missing, fails the check.
+fn two_fail(table: &Table, check: Check, first: &Tree<'_>, part: &Option<Box<Tree<'_>>>) -> bool
+    ensures { result ≡ list_any (fails (vocabulary_of table.now) check)
+        (plain_tree first.now ∷ optional (option_map boxed_tree part.now)) }
+{
+    formula_fails(table, check, first) || part_fails(table, check, part)
+}
+
+/// Whether a formula, or one of two parts that may be missing, fails the check.
+fn three_fail(
+    table: &Table,
+    check: Check,
+    first: &Tree<'_>,
+    body: &Option<Box<Tree<'_>>>,
+    after: &Option<Box<Tree<'_>>>,
+) -> bool
+    ensures { result ≡ list_any (fails (vocabulary_of table.now) check)
+        (plain_tree first.now ∷ optional (option_map boxed_tree body.now)
+        ++ optional (option_map boxed_tree after.now)) }
+{
+    formula_fails(table, check, first)
+        || (part_fails(table, check, body) || part_fails(table, check, after))
+}
+
+/// Whether actions, their effect, or a part that may be missing, fails the check.
+fn effect_fails(
+    table: &Table,
+    check: Check,
+    actions: &Tree<'_>,
+    effect: &Tree<'_>,
+    part: &Option<Box<Tree<'_>>>,
+) -> bool
+    ensures { result ≡ list_any (fails (vocabulary_of table.now) check)
+        (plain_tree actions.now ∷ plain_tree effect.now ∷ optional (option_map boxed_tree part.now)) }
+{
+    formula_fails(table, check, actions) || two_fail(table, check, effect, part)
+}
+
 /// Whether a formula of a law before `where` fails the check.
 fn formulas_fail(table: &Table, check: Check, law: &LawTree<'_>) -> bool
     ensures { result
@@ -46,16 +79,12 @@ fn formulas_fail(table: &Table, check: Check, law: &LawTree<'_>) -> bool
 {
     match law {
         LawTree::Caused(first, body, after) | LawTree::Default(first, body, after) => {
-            formula_fails(table, check, first)
-                || (part_fails(table, check, body) || part_fails(table, check, after))
+            three_fail(table, check, first, body, after)
         }
         LawTree::Constraint(first) | LawTree::Always(first) => formula_fails(table, check, first),
-        LawTree::Nonexecutable(first, body) => {
-            formula_fails(table, check, first) || part_fails(table, check, body)
-        }
-        LawTree::Causes(first, second, body) | LawTree::MayCause(first, second, body) => {
-            formula_fails(table, check, first)
-                || (formula_fails(table, check, second) || part_fails(table, check, body))
+        LawTree::Nonexecutable(first, body) => two_fail(table, check, first, body),
+        LawTree::Causes(actions, effect, body) | LawTree::MayCause(actions, effect, body) => {
+            effect_fails(table, check, actions, effect, body)
         }
         _ => false,
     }
@@ -144,6 +173,58 @@ fn add_part(
     }
 }
 
+/// Adds the free occurrences of variables in a formula and a part that may be missing.
+fn add_two(
+    table: &Table,
+    bound: &mut Vec<u32>,
+    first: &Tree<'_>,
+    part: &Option<Box<Tree<'_>>>,
+    found: &mut Vec<u32>,
+) -> Result<(), OutOfMemory>
+    ensures added { OnOk result
+        (found.new.items ≡ found.old.items ++ flat_map (free (vocabulary_of table.now)
+        bound.old.items) (plain_tree first.now ∷ optional (option_map boxed_tree part.now))) }
+    ensures closed { OnOk result (bound.new.items ≡ bound.old.items) }
+{
+    add_free(table, bound, first, found)?;
+    add_part(table, bound, part, found)
+}
+
+/// Adds those in a formula and two parts that may be missing.
+fn add_three(
+    table: &Table,
+    bound: &mut Vec<u32>,
+    first: &Tree<'_>,
+    body: &Option<Box<Tree<'_>>>,
+    after: &Option<Box<Tree<'_>>>,
+    found: &mut Vec<u32>,
+) -> Result<(), OutOfMemory>
+    ensures { OnOk result (found.new.items ≡ found.old.items ++ flat_map
+        (free (vocabulary_of table.now) bound.old.items)
+        (plain_tree first.now ∷ optional (option_map boxed_tree body.now)
+        ++ optional (option_map boxed_tree after.now))) }
+{
+    add_two(table, bound, first, body, found)?;
+    add_part(table, bound, after, found)
+}
+
+/// Adds those in actions, their effect and a part that may be missing.
+fn add_effect(
+    table: &Table,
+    bound: &mut Vec<u32>,
+    actions: &Tree<'_>,
+    effect: &Tree<'_>,
+    part: &Option<Box<Tree<'_>>>,
+    found: &mut Vec<u32>,
+) -> Result<(), OutOfMemory>
+    ensures { OnOk result (found.new.items ≡ found.old.items ++ flat_map
+        (free (vocabulary_of table.now) bound.old.items)
+        (plain_tree actions.now ∷ plain_tree effect.now ∷ optional (option_map boxed_tree part.now))) }
+{
+    add_free(table, bound, actions, found)?;
+    add_two(table, bound, effect, part, found)
+}
+
 /// Adds the free occurrences of variables in a law before `where`.
 fn add_law(
     table: &Table,
@@ -158,21 +239,14 @@ fn add_law(
 {
     match law {
         LawTree::Caused(first, body, after) | LawTree::Default(first, body, after) => {
-            add_free(table, bound, first, found)?;
-            add_part(table, bound, body, found)?;
-            add_part(table, bound, after, found)
+            add_three(table, bound, first, body, after, found)
         }
         LawTree::Constraint(first) | LawTree::Always(first) => {
             add_free(table, bound, first, found)
         }
-        LawTree::Nonexecutable(first, body) => {
-            add_free(table, bound, first, found)?;
-            add_part(table, bound, body, found)
-        }
-        LawTree::Causes(first, second, body) | LawTree::MayCause(first, second, body) => {
-            add_free(table, bound, first, found)?;
-            add_free(table, bound, second, found)?;
-            add_part(table, bound, body, found)
+        LawTree::Nonexecutable(first, body) => add_two(table, bound, first, body, found),
+        LawTree::Causes(actions, effect, body) | LawTree::MayCause(actions, effect, body) => {
+            add_effect(table, bound, actions, effect, body, found)
         }
         LawTree::Exogenous(constant) | LawTree::Inertial(constant) => {
             add_unbound(table, bound, constant, found)
@@ -219,8 +293,11 @@ fn has_unbound(
     Ok(some_is_new(&used, &variables))
 }
 
-/// The least number of a fault of a law but that its head is not definite, if it has one.
-fn wide_fault(
+/// The least number of a fault of a law but that its head is not definite, if it has one: an unknown name (5), another number
+/// of arguments (6), a term where its sort or kind does not fit (7), a `where` test with a variable that is not free in the
+/// law before it (8), a law of none of the three forms or a part of the wrong kind (9), a statically determined fluent in the
+/// head of a fluent dynamic law (10).
+pub(crate) fn wide_fault(
     alloc: Global,
     table: &Table,
     law: &LawTree<'_>,
@@ -250,8 +327,8 @@ fn wide_fault(
     Ok(None)
 }
 
-/// The least number of a fault of a law, if it has one.
-fn law_fault(
+/// The least number of a fault of a law, if it has one; a head that is not definite has the greatest (11).
+pub(crate) fn law_fault(
     alloc: Global,
     table: &Table,
     law: &LawTree<'_>,
@@ -269,71 +346,19 @@ fn law_fault(
     Ok(None)
 }
 
-/// The least number of a fault of a statement's part: a law alone has one.
-fn part_fault(alloc: Global, table: &Table, part: &Part<'_>) -> Result<Option<u8>, OutOfMemory>
-    ensures { IfOk result (λ fault.
-        fault ≡ faults.part_fault (vocabulary_of table.now) (plain_part part.now)) }
-{
-    match part {
-        Part::Law(law, test) => law_fault(alloc, table, law, test),
-        _ => Ok(None),
-    }
-}
-
-/// The same but that a head is not definite.
-fn wide_part_fault(alloc: Global, table: &Table, part: &Part<'_>) -> Result<Option<u8>, OutOfMemory>
-    ensures { IfOk result (λ fault.
-        fault ≡ widening.wide_part_fault (vocabulary_of table.now) (plain_part part.now)) }
-{
-    match part {
-        Part::Law(law, test) => wide_fault(alloc, table, law, test),
-        _ => Ok(None),
-    }
-}
-
-/// The refusal of a number without a limit, at a line of a file.
-pub(crate) fn refused(number: u8, file: u32, line: u32) -> Fault
-    ensures { result ≡ faulty.Refused (refusals.refused number file line) }
-{
-    Fault::Refused(Refusal::at(number, file, line))
-}
-
-/// Checks a law, at the table as it stands. Refuses, at the statement's line, the least number of a fault: an unknown name
-/// (5), another number of arguments (6), a term where its sort or kind does not fit (7), a `where` test with a variable that
-/// is not free in the law before it (8), a law of none of the three forms or a part of the wrong kind (9), a statically
-/// determined fluent in the head of a fluent dynamic law (10), a head that is not definite (11). A statement that is no law
-/// has no such fault. `file` is the number of the file in refusals.
-pub(crate) fn check(
-    alloc: Global,
+/// Goes on where no fault was found; else refuses its number, at a line of a file.
+pub(crate) fn passed(
+    fault: Result<Option<u8>, OutOfMemory>,
     file: u32,
-    table: &Table,
-    statement: &Statement<'_>,
+    line: u32,
 ) -> Result<(), Fault>
-    ensures checked { (left : Items Declared) → IsTable table.now left → IfOk result (λ nothing.
-        law_refusal file (vocabulary left) (plain_statement statement.now) ≡ None) }
-    ensures refused { (left : Items Declared) → IsTable table.now left → IfErr result
-        (IsRefusedBy (law_refusal file (vocabulary left) (plain_statement statement.now))) }
+    ensures passed { (number : Option ℕ) → IfOk fault (λ found. found ≡ number) →
+        IfOk result (λ nothing. number ≡ None) }
+    ensures refused { (number : Option ℕ) → IfOk fault (λ found. found ≡ number) →
+        IfErr result (IsRefusedBy (refusals.refused_if file line number)) }
 {
-    match part_fault(alloc, table, &statement.part)? {
-        Some(number) => Err(refused(number, file, statement.line)),
-        None => Ok(()),
-    }
-}
-
-/// The same, where a head may be a formula of any form: refuses the least number from 5 to 10.
-pub(crate) fn check_wide(
-    alloc: Global,
-    file: u32,
-    table: &Table,
-    statement: &Statement<'_>,
-) -> Result<(), Fault>
-    ensures checked { (left : Items Declared) → IsTable table.now left → IfOk result (λ nothing.
-        wide_refusal file (vocabulary left) (plain_statement statement.now) ≡ None) }
-    ensures refused { (left : Items Declared) → IsTable table.now left → IfErr result
-        (IsRefusedBy (wide_refusal file (vocabulary left) (plain_statement statement.now))) }
-{
-    match wide_part_fault(alloc, table, &statement.part)? {
-        Some(number) => Err(refused(number, file, statement.line)),
+    match fault? {
+        Some(number) => Err(Fault::Refused(Refusal::at(number, file, line))),
         None => Ok(()),
     }
 }

@@ -1,15 +1,16 @@
 //! The base laws that a statement stands for.
-ghost use Rattle.std.specs.Prelude.{◌≡◌, ◌+◌, ◌++◌, ◌∷◌, ◌<◌, ◌&&◌, if◌then◌else◌, List as Items, [], length, map, flat_map, Some, is_none, IfOk, IfErr, OnOk};
+ghost use Rattle.std.specs.Prelude.{◌≡◌, ◌+◌, ◌++◌, ◌∷◌, ◌<◌, ◌&&◌, if◌then◌else◌, List as Items, [], length, map, flat_map, Some, None, is_none, IfOk, IfErr, OnOk};
 ghost use Rattle.std.specs.Option.{option_map};
 ghost use Rattle.cc_defs.specs.declared.law.Range.TheVariants as variants;
 ghost use Rattle.cc_defs.specs.Declarations.{Declaration as Declared};
-ghost use Rattle.cc_defs.specs.Refusals.{IsRefusedBy};
+ghost use Rattle.cc_defs.specs.Refusals.{IsRefusedBy, least, refused_if};
 ghost use Rattle.cc_defs.specs.Resolved.{plain_base_law, plain_formula, plain_head};
 ghost use Rattle.cc_defs.specs.Resolved as resolved;
 ghost use Rattle.cc_defs.specs.Trees.{boxed_tree, plain_const_item, plain_kind, plain_law, plain_part, plain_statement, plain_term};
 ghost use Rattle.cc_laws.specs.Expansion as words;
 ghost use Rattle.cc_laws.specs.Expansion.{Expands};
-ghost use Rattle.cc_laws.specs.LawFaults.{law_refusal};
+ghost use Rattle.cc_laws.specs.FreeVariables.{optional};
+ghost use Rattle.cc_laws.specs.LawFaults.{law_faults, law_refusal, part_fault};
 ghost use Rattle.cc_laws.specs.Resolving.{alone, numbered_from, resolve};
 ghost use Rattle.cc_laws.specs.Shortened.{other_laws as laws_of_others};
 ghost use Rattle.cc_laws.specs.Shortened as short;
@@ -18,10 +19,10 @@ ghost use Rattle.cc_laws.specs.Vocabulary as vocabulary_words;
 ghost use Rattle.cc_laws.specs.Vocabulary.{vocabulary, vocabulary_of};
 ghost use Rattle.cc_sorts.specs.Tables.{IsTable};
 
-use crate::checks::{check, law_variables};
+use crate::checks::{law_fault, law_variables, passed};
 use crate::forms::has;
 use crate::head_parts::heads_of;
-use crate::made::{only, some_or};
+use crate::made::{given, listed, only, some_or};
 use crate::meaning::{Meaning, meaning_of};
 use crate::mention::Property;
 use crate::names::{Names, names_of};
@@ -29,8 +30,8 @@ use crate::pieces::{is_later, is_short, lacks_after, resolve_after, resolve_body
 use crate::resolving::{negated, resolve_term};
 use crate::values::{Frame, Parts, Persistence, base_law, equation_of, value_law};
 use cc_defs::{
-    BaseLaw, BaseLaws, ConstItem, Fault, Formula, Head, KindTree, KindWord, LawTree, List,
-    OutOfMemory, Part, Range, Statement, Term, TermTree, Tree,
+    BaseLaw, BaseLaws, ConstItem, Fault, Formula, Head, KindTree, KindWord, LawTree, OutOfMemory,
+    Part, Range, Statement, Term, TermTree, Tree,
 };
 use cc_results::{both, boxed, put_made};
 use cc_sorts::Table;
@@ -325,7 +326,7 @@ fn laws_with(
 }
 
 /// The base laws of a law and its test.
-fn laws_in(
+pub(crate) fn laws_in(
     alloc: Global,
     file: u32,
     table: &Table,
@@ -578,7 +579,7 @@ fn add_item(
 }
 
 /// The base laws of a statement of constants.
-fn declared_laws(
+pub(crate) fn declared_laws(
     alloc: Global,
     file: u32,
     table: &Table,
@@ -595,20 +596,46 @@ fn declared_laws(
     Ok(made)
 }
 
-/// The base laws of a statement's part.
-pub(crate) fn base_laws(
+/// The base laws of a law and its test, where it has no fault.
+fn expand_law(
+    alloc: Global,
+    file: u32,
+    table: &Table,
+    line: u32,
+    law: &LawTree<'_>,
+    test: &Option<Box<Tree<'_>>>,
+) -> Result<Vec<BaseLaw>, Fault>
+    ensures checked { IfOk result (λ made. least (law_faults (vocabulary_of table.now)
+        (plain_law law.now) (optional (option_map boxed_tree test.now))) ≡ None) }
+    ensures expanded { IfOk result (λ made. map plain_base_law made.items ≡ words.laws_in file
+        (vocabulary_of table.now) line (plain_law law.now) (option_map boxed_tree test.now)) }
+    ensures refused { IfErr result (IsRefusedBy (refused_if file line (least (law_faults
+        (vocabulary_of table.now) (plain_law law.now) (optional (option_map boxed_tree test.now)))))) }
+{
+    match passed(law_fault(alloc, table, law, test), file, line) {
+        Ok(()) => given(laws_in(alloc, file, table, line, law, test)),
+        Err(fault) => Err(fault),
+    }
+}
+
+/// The base laws of a statement's part, where it has no fault: a law alone may have one.
+fn expand_part(
     alloc: Global,
     file: u32,
     table: &Table,
     line: u32,
     part: &Part<'_>,
-) -> Result<Vec<BaseLaw>, OutOfMemory>
-    ensures { IfOk result (λ made. map plain_base_law made.items
+) -> Result<Vec<BaseLaw>, Fault>
+    ensures checked { IfOk result (λ made.
+        part_fault (vocabulary_of table.now) (plain_part part.now) ≡ None) }
+    ensures expanded { IfOk result (λ made. map plain_base_law made.items
         ≡ words.base_laws file (vocabulary_of table.now) line (plain_part part.now)) }
+    ensures refused { IfErr result (IsRefusedBy (refused_if file line
+        (part_fault (vocabulary_of table.now) (plain_part part.now)))) }
 {
     match part {
-        Part::Law(law, test) => laws_in(alloc, file, table, line, law, test),
-        Part::Constants(items) => declared_laws(alloc, file, table, line, items.items()),
+        Part::Law(law, test) => expand_law(alloc, file, table, line, law, test),
+        Part::Constants(items) => given(declared_laws(alloc, file, table, line, items.items())),
         _ => Ok(Vec::new(alloc)),
     }
 }
@@ -630,7 +657,5 @@ pub fn expand(
     ensures refused { (left : Items Declared) → IsTable table.now left → IfErr result
         (IsRefusedBy (law_refusal file (vocabulary left) (plain_statement statement.now))) }
 {
-    check(alloc, file, table, statement)?;
-    let laws = base_laws(alloc, file, table, statement.line, &statement.part)?;
-    Ok(List::of(laws))
+    listed(expand_part(alloc, file, table, statement.line, &statement.part))
 }

@@ -1,5 +1,5 @@
 //! The forms of laws, and what their heads may have.
-ghost use Rattle.std.specs.Prelude.{◌≡◌};
+ghost use Rattle.std.specs.Prelude.{◌≡◌, ◌||◌, not};
 ghost use Rattle.std.specs.List.{list_all};
 ghost use Rattle.std.specs.Option.{option_map};
 ghost use Rattle.cc_defs.specs.Trees.{boxed_tree, plain_law, plain_term, plain_tree};
@@ -81,6 +81,24 @@ fn is_determined_term(table: &Table, term: &TermTree<'_>) -> bool
     meaning_of_term(table, term).is_determined_constant()
 }
 
+/// Whether the parts of `A causes F` are of the wrong kinds.
+fn lacks_effect(table: &Table, actions: &Tree<'_>, head: &Tree<'_>) -> bool
+    ensures { result ≡ not (formulas.is_action_formula (vocabulary_of table.now) (plain_tree actions.now))
+        || not (formulas.is_fluent_formula (vocabulary_of table.now) (plain_tree head.now)
+        || formulas.is_action_formula (vocabulary_of table.now) (plain_tree head.now)) }
+{
+    !is_action_formula(table, actions)
+        || !(is_fluent_formula(table, head) || is_action_formula(table, head))
+}
+
+/// Whether the parts of `A may cause F` are of the wrong kinds.
+fn lacks_choice(table: &Table, actions: &Tree<'_>, head: &Tree<'_>) -> bool
+    ensures { result ≡ not (formulas.is_action_formula (vocabulary_of table.now) (plain_tree actions.now))
+        || not (formulas.is_fluent_formula (vocabulary_of table.now) (plain_tree head.now)) }
+{
+    !is_action_formula(table, actions) || !is_fluent_formula(table, head)
+}
+
 /// Whether a law has none of the three forms, or a part of an abbreviation is of the wrong kind.
 pub(crate) fn lacks_form(table: &Table, law: &LawTree<'_>) -> bool
     ensures { result ≡ faults.lacks_form (vocabulary_of table.now) (plain_law law.now) }
@@ -92,13 +110,8 @@ pub(crate) fn lacks_form(table: &Table, law: &LawTree<'_>) -> bool
         LawTree::Constraint(formula) => has(table, Property::Action, formula),
         LawTree::Nonexecutable(actions, _) => !is_action_formula(table, actions),
         LawTree::Inertial(constant) => is_action_term(table, constant),
-        LawTree::Causes(actions, head, _) => {
-            !is_action_formula(table, actions)
-                || !(is_fluent_formula(table, head) || is_action_formula(table, head))
-        }
-        LawTree::MayCause(actions, head, _) => {
-            !is_action_formula(table, actions) || !is_fluent_formula(table, head)
-        }
+        LawTree::Causes(actions, head, _) => { lacks_effect(table, actions, head) }
+        LawTree::MayCause(actions, head, _) => lacks_choice(table, actions, head),
         _ => false,
     }
 }

@@ -1,8 +1,9 @@
 //! What is done with what was made, or with the want of memory. All is of any type, so that its drop is one call.
-ghost use Rattle.std.specs.Prelude.{◌≡◌, ◌∷◌, [], Ok, Some, unwrap_or, IfOk, IsErr, IsOk};
+ghost use Rattle.std.specs.Prelude.{◌≡◌, ◌∷◌, [], Ok, Err, Some, unwrap_or, IfOk, IfErr, IsErr, IsOk};
 ghost use Rattle.std.specs.Result.{MatchResult};
+ghost use Rattle.cc_defs.specs.declared.refusal.Fault.TheVariants as faults;
 
-use cc_defs::OutOfMemory;
+use cc_defs::{Fault, List, OutOfMemory};
 use cc_results::{filled, put_last};
 use std::alloc::Global;
 
@@ -42,4 +43,23 @@ pub(crate) fn only<T: Drop>(alloc: Global, item: T) -> Result<Vec<T>, OutOfMemor
     let mut list = Vec::new(alloc);
     let put = put_last(&mut list, item);
     filled(list, put)
+}
+
+/// What was made, where a fault may be told in its place.
+pub(crate) fn given<T: Drop>(made: Result<T, OutOfMemory>) -> Result<T, Fault>
+    ensures given { IfOk result (λ value. made ≡ Ok value) }
+    ensures fault { IfErr result (λ fault. fault ≡ faults.OutOfMemory) }
+{
+    let value = made?;
+    Ok(value)
+}
+
+/// What was made, as a list that stays as it is.
+pub(crate) fn listed<T: Drop>(made: Result<Vec<T>, Fault>) -> Result<List<T>, Fault>
+    ensures { MatchResult made (λ items. result ≡ Ok items.items) (λ fault. result ≡ Err fault) }
+{
+    match made {
+        Ok(items) => Ok(List::of(items)),
+        Err(fault) => Err(fault),
+    }
 }

@@ -1,9 +1,9 @@
 //! Queries: their faults, and what they ask.
-ghost use Rattle.std.specs.Prelude.{◌≡◌, ◌+◌, List as Items, [], length, map, flat_map, IfOk, IfErr, OnOk, string_bytes};
+ghost use Rattle.std.specs.Prelude.{◌≡◌, ◌+◌, List as Items, [], length, map, flat_map, None, IfOk, IfErr, OnOk, string_bytes};
 ghost use Rattle.std.specs.List.{list_any};
 ghost use Rattle.std.specs.Option.{option_map};
 ghost use Rattle.cc_defs.specs.Declarations.{Declaration as Declared};
-ghost use Rattle.cc_defs.specs.Refusals.{IsRefusedBy, least};
+ghost use Rattle.cc_defs.specs.Refusals.{IsRefusedBy, least, refused_if};
 ghost use Rattle.cc_defs.specs.Resolved.{Both as both, plain_condition, plain_formula, plain_query};
 ghost use Rattle.cc_defs.specs.Trees.{plain_tree, plain_part, plain_query_item, plain_statement};
 ghost use Rattle.cc_laws.specs.FormulaFaults.{has_unknown};
@@ -14,8 +14,8 @@ ghost use Rattle.cc_laws.specs.Views.{fails};
 ghost use Rattle.cc_laws.specs.Vocabulary.{vocabulary, vocabulary_of};
 ghost use Rattle.cc_sorts.specs.Tables.{IsTable};
 
-use crate::checks::refused;
-use crate::made::some;
+use crate::checks::passed;
+use crate::made::{given, some};
 use crate::mention::Property;
 use crate::names::Names;
 use crate::resolving::resolve;
@@ -365,6 +365,27 @@ fn query_of(
     })
 }
 
+/// What a query asks, where it has no fault.
+fn ask(
+    alloc: Global,
+    file: u32,
+    table: &Table,
+    line: u32,
+    items: &[QueryItem<'_>],
+) -> Result<Query, Fault>
+    ensures checked { IfOk result (λ query.
+        least (words.query_faults (vocabulary_of table.now) (map plain_query_item items.now)) ≡ None) }
+    ensures asked { IfOk result (λ query. plain_query query
+        ≡ words.query_of file (vocabulary_of table.now) line (map plain_query_item items.now)) }
+    ensures refused { IfErr result (IsRefusedBy (refused_if file line (least
+        (words.query_faults (vocabulary_of table.now) (map plain_query_item items.now))))) }
+{
+    match passed(query_fault(alloc, table, items), file, line) {
+        Ok(()) => given(query_of(alloc, file, table, line, items)),
+        Err(fault) => Err(fault),
+    }
+}
+
 /// What a query asks, at the table as it stands. Refuses, at the statement's line, the least number of a fault: a label, a
 /// range of horizons or a claim given twice (4), an unknown name (5), another number of arguments (6), a term where its sort
 /// or kind does not fit (7), a free variable (8). A statement that is no query asks nothing. `file` is the number of the
@@ -381,8 +402,5 @@ pub fn question(
         (IsRefusedBy (query_refusal file (vocabulary left) (plain_statement statement.now))) }
 {
     let items = items_of(&statement.part);
-    match query_fault(alloc, table, items)? {
-        Some(number) => Err(refused(number, file, statement.line)),
-        None => Ok(query_of(alloc, file, table, statement.line, items)?),
-    }
+    ask(alloc, file, table, statement.line, items)
 }

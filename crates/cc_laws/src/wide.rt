@@ -1,33 +1,36 @@
 //! The laws that a statement stands for where heads may be formulas of any form.
-ghost use Rattle.std.specs.Prelude.{◌≡◌, ◌+◌, ◌∷◌, List as Items, [], map, IfOk, IfErr};
+ghost use Rattle.std.specs.Prelude.{◌≡◌, ◌+◌, ◌∷◌, List as Items, [], map, flat_map, None, IfOk, IfErr};
 ghost use Rattle.std.specs.Option.{option_map};
 ghost use Rattle.cc_defs.specs.Declarations.{Declaration as Declared};
-ghost use Rattle.cc_defs.specs.Refusals.{IsRefusedBy};
+ghost use Rattle.cc_defs.specs.Refusals.{IsRefusedBy, least, refused_if};
 ghost use Rattle.cc_defs.specs.Resolved.{plain_base_law, plain_formula, plain_head};
-ghost use Rattle.cc_defs.specs.Trees.{boxed_tree, plain_law, plain_part, plain_statement, plain_tree};
+ghost use Rattle.cc_defs.specs.Trees.{boxed_tree, plain_const_item, plain_law, plain_part, plain_statement, plain_tree};
+ghost use Rattle.cc_defs.specs.Trees as tree_words;
 ghost use Rattle.cc_laws.specs.Expansion.{law_frame as law_frame_of};
 ghost use Rattle.cc_laws.specs.Expansion as words_of;
+ghost use Rattle.cc_laws.specs.FreeVariables.{optional};
 ghost use Rattle.cc_laws.specs.LawFaults.{law_variables as law_variables_of};
 ghost use Rattle.cc_laws.specs.Resolving.{resolve as resolve_of};
 ghost use Rattle.cc_laws.specs.Shortened.{law_short_for};
 ghost use Rattle.cc_laws.specs.Views.{frame_from, plain_caused, scope_of};
 ghost use Rattle.cc_laws.specs.Vocabulary.{vocabulary, vocabulary_of};
 ghost use Rattle.cc_laws.specs.Widening as words;
-ghost use Rattle.cc_laws.specs.Widening.{ExpandsWide, wide_refusal};
+ghost use Rattle.cc_laws.specs.Widening.{ExpandsWide, wide_faults, wide_part_fault, wide_refusal};
 ghost use Rattle.cc_sorts.specs.Tables.{IsTable};
 ghost use Rattle.cc_wide.specs.WideLaws.{plain_wide_base};
 
-use crate::checks::{check_wide, law_variables};
-use crate::expansion::{Source, base_laws, law_frame, written_body};
+use crate::checks::{law_variables, passed, wide_fault};
+use crate::expansion::{Source, declared_laws, law_frame, laws_in, written_body};
 use crate::forms::{has, has_indefinite_head};
-use crate::made::only;
+use crate::made::{given, listed, only};
 use crate::mention::Property;
 use crate::names::Names;
 use crate::pieces::{is_later, lacks_after, resolve_after};
 use crate::resolving::resolve;
 use crate::values::equation_of;
 use cc_defs::{
-    BaseLaw, Fault, Formula, Head, LawKind, LawTree, List, OutOfMemory, Part, Statement, Tree,
+    BaseLaw, ConstItem, Fault, Formula, Head, LawKind, LawTree, List, OutOfMemory, Part, Statement,
+    Tree,
 };
 use cc_results::{boxed, put_last};
 use cc_sorts::Table;
@@ -206,49 +209,85 @@ fn whole_in(
     whole_laws(alloc, table, &source, law)
 }
 
-/// Whether the head of a part is not definite.
-fn is_whole(table: &Table, part: &Part<'_>) -> bool
-    ensures { result ≡ words.is_whole (vocabulary_of table.now) (plain_part part.now) }
+/// The laws of a law and its test: of one with a definite head its base laws.
+fn wide_in(
+    alloc: Global,
+    file: u32,
+    table: &Table,
+    line: u32,
+    law: &LawTree<'_>,
+    test: &Option<Box<Tree<'_>>>,
+) -> Result<Vec<WideBase>, OutOfMemory>
+    ensures { IfOk result (λ made. map plain_wide_base made.items
+        ≡ words.wide_laws file (vocabulary_of table.now) line
+        (tree_words.Law (plain_law law.now) (option_map boxed_tree test.now))) }
 {
-    match part {
-        Part::Law(law, _) => has_indefinite_head(table, law),
-        _ => false,
+    if has_indefinite_head(table, law) {
+        return whole_in(alloc, file, table, line, law, test);
+    }
+    let laws = laws_in(alloc, file, table, line, law, test)?;
+    all_widened(alloc, laws)
+}
+
+/// The laws of a law and its test, where it has no fault but perhaps that its head is not definite.
+fn expand_wide_law(
+    alloc: Global,
+    file: u32,
+    table: &Table,
+    line: u32,
+    law: &LawTree<'_>,
+    test: &Option<Box<Tree<'_>>>,
+) -> Result<Vec<WideBase>, Fault>
+    ensures checked { IfOk result (λ made. least (wide_faults (vocabulary_of table.now)
+        (plain_law law.now) (optional (option_map boxed_tree test.now))) ≡ None) }
+    ensures expanded { IfOk result (λ made. map plain_wide_base made.items
+        ≡ words.wide_laws file (vocabulary_of table.now) line
+        (tree_words.Law (plain_law law.now) (option_map boxed_tree test.now))) }
+    ensures refused { IfErr result (IsRefusedBy (refused_if file line (least (wide_faults
+        (vocabulary_of table.now) (plain_law law.now) (optional (option_map boxed_tree test.now)))))) }
+{
+    match passed(wide_fault(alloc, table, law, test), file, line) {
+        Ok(()) => given(wide_in(alloc, file, table, line, law, test)),
+        Err(fault) => Err(fault),
     }
 }
 
-/// The law of a part, with its head whole.
-fn whole_part(
+/// The laws of a statement of constants.
+fn declared_wide(
+    alloc: Global,
+    file: u32,
+    table: &Table,
+    line: u32,
+    items: &[ConstItem<'_>],
+) -> Result<Vec<WideBase>, OutOfMemory>
+    ensures { IfOk result (λ made. map plain_wide_base made.items ≡ map words.widened (flat_map
+        (words_of.item_laws file (vocabulary_of table.now) line)
+        (map plain_const_item items.now))) }
+{
+    let laws = declared_laws(alloc, file, table, line, items)?;
+    all_widened(alloc, laws)
+}
+
+/// The laws of a statement's part, where it has no such fault.
+fn expand_wide_part(
     alloc: Global,
     file: u32,
     table: &Table,
     line: u32,
     part: &Part<'_>,
-) -> Result<Vec<WideBase>, OutOfMemory>
-    ensures { IfOk result (λ made. map plain_wide_base made.items
-        ≡ words.whole_laws file (vocabulary_of table.now) line (plain_part part.now)) }
+) -> Result<Vec<WideBase>, Fault>
+    ensures checked { IfOk result (λ made.
+        wide_part_fault (vocabulary_of table.now) (plain_part part.now) ≡ None) }
+    ensures expanded { IfOk result (λ made. map plain_wide_base made.items
+        ≡ words.wide_laws file (vocabulary_of table.now) line (plain_part part.now)) }
+    ensures refused { IfErr result (IsRefusedBy (refused_if file line
+        (wide_part_fault (vocabulary_of table.now) (plain_part part.now)))) }
 {
     match part {
-        Part::Law(law, test) => whole_in(alloc, file, table, line, law, test),
+        Part::Law(law, test) => expand_wide_law(alloc, file, table, line, law, test),
+        Part::Constants(items) => given(declared_wide(alloc, file, table, line, items.items())),
         _ => Ok(Vec::new(alloc)),
     }
-}
-
-/// The laws of a statement's part.
-fn wide_laws(
-    alloc: Global,
-    file: u32,
-    table: &Table,
-    line: u32,
-    part: &Part<'_>,
-) -> Result<Vec<WideBase>, OutOfMemory>
-    ensures { IfOk result (λ made. map plain_wide_base made.items
-        ≡ words.wide_laws file (vocabulary_of table.now) line (plain_part part.now)) }
-{
-    if is_whole(table, part) {
-        return whole_part(alloc, file, table, line, part);
-    }
-    let laws = base_laws(alloc, file, table, line, part)?;
-    all_widened(alloc, laws)
 }
 
 /// The laws that a law, or a statement of constants that was declared, stands for, in order, where heads may be formulas of
@@ -266,7 +305,5 @@ pub fn expand_wide(
     ensures refused { (left : Items Declared) → IsTable table.now left → IfErr result
         (IsRefusedBy (wide_refusal file (vocabulary left) (plain_statement statement.now))) }
 {
-    check_wide(alloc, file, table, statement)?;
-    let laws = wide_laws(alloc, file, table, statement.line, &statement.part)?;
-    Ok(List::of(laws))
+    listed(expand_wide_part(alloc, file, table, statement.line, &statement.part))
 }
