@@ -24,143 +24,109 @@ use cc_sorts::Table;
 use std::alloc::Global;
 
 /// Whether a part that may be missing fails the check.
-fn part_fails(table: &Table, check: Check, part: &Option<Box<Tree<'_>>>) -> bool
+fn part_fails(part: &Option<Box<Tree<'_>>>, table: &Table, check: Check) -> bool
     ensures { result ≡ list_any
         (fails (vocabulary_of table.now) check) (optional (option_map boxed_tree part.now)) }
 {
     match part {
-        Some(formula) => formula_fails(table, check, formula),
+        Some(formula) => formula_fails(formula, table, check),
         None => false,
     }
 }
 
-/// Whether a formula, or a part that may be missing, fails the check.
-fn two_fail(table: &Table, check: Check, first: &Tree<'_>, part: &Option<Box<Tree<'_>>>) -> bool
-    ensures { result ≡ list_any (fails (vocabulary_of table.now) check)
-        (plain_tree first.now ∷ optional (option_map boxed_tree part.now)) }
-{
-    formula_fails(table, check, first) || part_fails(table, check, part)
-}
-
-/// Whether a formula, or one of two parts that may be missing, fails the check.
-fn three_fail(
-    table: &Table,
-    check: Check,
-    first: &Tree<'_>,
-    body: &Option<Box<Tree<'_>>>,
-    after: &Option<Box<Tree<'_>>>,
-) -> bool
-    ensures { result ≡ list_any (fails (vocabulary_of table.now) check)
-        (plain_tree first.now ∷ optional (option_map boxed_tree body.now)
-        ++ optional (option_map boxed_tree after.now)) }
-{
-    formula_fails(table, check, first)
-        || (part_fails(table, check, body) || part_fails(table, check, after))
-}
-
-/// Whether actions, their effect, or a part that may be missing, fails the check.
-fn effect_fails(
-    table: &Table,
-    check: Check,
-    actions: &Tree<'_>,
-    effect: &Tree<'_>,
-    part: &Option<Box<Tree<'_>>>,
-) -> bool
-    ensures { result ≡ list_any (fails (vocabulary_of table.now) check)
-        (plain_tree actions.now ∷ plain_tree effect.now ∷ optional (option_map boxed_tree part.now)) }
-{
-    formula_fails(table, check, actions) || two_fail(table, check, effect, part)
-}
-
 /// Whether a formula of a law before `where` fails the check.
-fn formulas_fail(table: &Table, check: Check, law: &LawTree<'_>) -> bool
+fn formulas_fail(law: &LawTree<'_>, table: &Table, check: Check) -> bool
     ensures { result
         ≡ list_any (fails (vocabulary_of table.now) check) (faults.formulas (plain_law law.now)) }
 {
     match law {
         LawTree::Caused(first, body, after) | LawTree::Default(first, body, after) => {
-            three_fail(table, check, first, body, after)
+            formula_fails(first, table, check)
+                || (part_fails(body, table, check) || part_fails(after, table, check))
         }
-        LawTree::Constraint(first) | LawTree::Always(first) => formula_fails(table, check, first),
-        LawTree::Nonexecutable(first, body) => two_fail(table, check, first, body),
+        LawTree::Constraint(first) | LawTree::Always(first) => formula_fails(first, table, check),
+        LawTree::Nonexecutable(first, body) => {
+            formula_fails(first, table, check) || part_fails(body, table, check)
+        }
         LawTree::Causes(actions, effect, body) | LawTree::MayCause(actions, effect, body) => {
-            effect_fails(table, check, actions, effect, body)
+            formula_fails(actions, table, check)
+                || (formula_fails(effect, table, check) || part_fails(body, table, check))
         }
         _ => false,
     }
 }
 
 /// Whether a formula of a law or its test fails the check.
-fn law_fails(table: &Table, check: Check, law: &LawTree<'_>, test: &Option<Box<Tree<'_>>>) -> bool
+fn law_fails(law: &LawTree<'_>, test: &Option<Box<Tree<'_>>>, table: &Table, check: Check) -> bool
     ensures { result ≡ list_any (fails (vocabulary_of table.now) check)
         (faults.formulas (plain_law law.now) ++ optional (option_map boxed_tree test.now)) }
 {
-    formulas_fail(table, check, law) || part_fails(table, check, test)
+    formulas_fail(law, table, check) || part_fails(test, table, check)
 }
 
 /// Whether what is exogenous or inertial has a name with the property.
-fn subject_has(table: &Table, property: Property, law: &LawTree<'_>) -> bool
+fn subject_has(law: &LawTree<'_>, table: &Table, property: Property) -> bool
     ensures { result ≡ faults.subject_satisfies
         (term_has (vocabulary_of table.now) (asks property)) (faults.subject (plain_law law.now)) }
 {
     match law {
         LawTree::Exogenous(constant) | LawTree::Inertial(constant) => {
-            has(table, property, constant)
+            has(constant, table, property)
         }
         _ => false,
     }
 }
 
 #[tactic(auto, using(crate::proofs::Failing::some_unknown))]
-fn law_has_unknown(table: &Table, law: &LawTree<'_>, test: &Option<Box<Tree<'_>>>) -> bool
+fn law_has_unknown(law: &LawTree<'_>, test: &Option<Box<Tree<'_>>>, table: &Table) -> bool
     ensures { result ≡ faults.law_has_unknown
         (vocabulary_of table.now) (plain_law law.now) (optional (option_map boxed_tree test.now)) }
 {
-    law_fails(table, Check::Unknown, law, test) || subject_has(table, Property::Unknown, law)
+    law_fails(law, test, table, Check::Unknown) || subject_has(law, table, Property::Unknown)
 }
 
-fn law_has_miscounted(table: &Table, law: &LawTree<'_>, test: &Option<Box<Tree<'_>>>) -> bool
+fn law_has_miscounted(law: &LawTree<'_>, test: &Option<Box<Tree<'_>>>, table: &Table) -> bool
     ensures { result ≡ faults.law_has_miscounted
         (vocabulary_of table.now) (plain_law law.now) (optional (option_map boxed_tree test.now)) }
 {
-    law_fails(table, Check::Mentions(Property::Miscounted), law, test)
-        || subject_has(table, Property::Miscounted, law)
+    law_fails(law, test, table, Check::Mentions(Property::Miscounted))
+        || subject_has(law, table, Property::Miscounted)
 }
 
 /// Whether a term is no constant, or has an argument that does not fit.
-fn constant_misfits(table: &Table, constant: &TermTree<'_>) -> bool
+fn constant_misfits(constant: &TermTree<'_>, table: &Table) -> bool
     ensures { result ≡ faults.subject_misfits (vocabulary_of table.now) (plain_term constant.now) }
 {
-    !meaning_of_term(table, constant).is_constant() || term_misfits(table, constant)
+    !meaning_of_term(constant, table).is_constant() || term_misfits(constant, table)
 }
 
 /// Whether what is exogenous or inertial is no constant, or has an argument that does not fit.
-fn subject_misfits(table: &Table, law: &LawTree<'_>) -> bool
+fn subject_misfits(law: &LawTree<'_>, table: &Table) -> bool
     ensures { result ≡ faults.subject_satisfies
         (faults.subject_misfits (vocabulary_of table.now)) (faults.subject (plain_law law.now)) }
 {
     match law {
         LawTree::Exogenous(constant) | LawTree::Inertial(constant) => {
-            constant_misfits(table, constant)
+            constant_misfits(constant, table)
         }
         _ => false,
     }
 }
 
 /// Whether something in a law or its test does not fit.
-fn law_misfits(table: &Table, law: &LawTree<'_>, test: &Option<Box<Tree<'_>>>) -> bool
+fn law_misfits(law: &LawTree<'_>, test: &Option<Box<Tree<'_>>>, table: &Table) -> bool
     ensures { result ≡ faults.law_misfits
         (vocabulary_of table.now) (plain_law law.now) (optional (option_map boxed_tree test.now)) }
 {
-    (law_fails(table, Check::Misfits, law, test) || subject_misfits(table, law))
-        || part_fails(table, Check::Mentions(Property::Constant), test)
+    (law_fails(law, test, table, Check::Misfits) || subject_misfits(law, table))
+        || part_fails(test, table, Check::Mentions(Property::Constant))
 }
 
 /// Adds the free occurrences of variables in a part that may be missing.
 fn add_part(
+    part: &Option<Box<Tree<'_>>>,
     table: &Table,
     bound: &mut Vec<u32>,
-    part: &Option<Box<Tree<'_>>>,
     found: &mut Vec<u32>,
 ) -> Result<(), OutOfMemory>
     ensures added { OnOk result (found.new.items ≡ found.old.items ++ flat_map (free
@@ -168,17 +134,17 @@ fn add_part(
     ensures closed { OnOk result (bound.new.items ≡ bound.old.items) }
 {
     match part {
-        Some(formula) => add_free(table, bound, formula, found),
+        Some(formula) => add_free(formula, table, bound, found),
         None => Ok(()),
     }
 }
 
 /// Adds the free occurrences of variables in a formula and a part that may be missing.
 fn add_two(
-    table: &Table,
-    bound: &mut Vec<u32>,
     first: &Tree<'_>,
     part: &Option<Box<Tree<'_>>>,
+    table: &Table,
+    bound: &mut Vec<u32>,
     found: &mut Vec<u32>,
 ) -> Result<(), OutOfMemory>
     ensures added { OnOk result
@@ -186,17 +152,17 @@ fn add_two(
         bound.old.items) (plain_tree first.now ∷ optional (option_map boxed_tree part.now))) }
     ensures closed { OnOk result (bound.new.items ≡ bound.old.items) }
 {
-    add_free(table, bound, first, found)?;
-    add_part(table, bound, part, found)
+    add_free(first, table, bound, found)?;
+    add_part(part, table, bound, found)
 }
 
 /// Adds those in a formula and two parts that may be missing.
 fn add_three(
-    table: &Table,
-    bound: &mut Vec<u32>,
     first: &Tree<'_>,
     body: &Option<Box<Tree<'_>>>,
     after: &Option<Box<Tree<'_>>>,
+    table: &Table,
+    bound: &mut Vec<u32>,
     found: &mut Vec<u32>,
 ) -> Result<(), OutOfMemory>
     ensures { OnOk result (found.new.items ≡ found.old.items ++ flat_map
@@ -204,32 +170,32 @@ fn add_three(
         (plain_tree first.now ∷ optional (option_map boxed_tree body.now)
         ++ optional (option_map boxed_tree after.now))) }
 {
-    add_two(table, bound, first, body, found)?;
-    add_part(table, bound, after, found)
+    add_two(first, body, table, bound, found)?;
+    add_part(after, table, bound, found)
 }
 
 /// Adds those in actions, their effect and a part that may be missing.
 fn add_effect(
-    table: &Table,
-    bound: &mut Vec<u32>,
     actions: &Tree<'_>,
     effect: &Tree<'_>,
     part: &Option<Box<Tree<'_>>>,
+    table: &Table,
+    bound: &mut Vec<u32>,
     found: &mut Vec<u32>,
 ) -> Result<(), OutOfMemory>
     ensures { OnOk result (found.new.items ≡ found.old.items ++ flat_map
         (free (vocabulary_of table.now) bound.old.items)
         (plain_tree actions.now ∷ plain_tree effect.now ∷ optional (option_map boxed_tree part.now))) }
 {
-    add_free(table, bound, actions, found)?;
-    add_two(table, bound, effect, part, found)
+    add_free(actions, table, bound, found)?;
+    add_two(effect, part, table, bound, found)
 }
 
 /// Adds the free occurrences of variables in a law before `where`.
 fn add_law(
+    law: &LawTree<'_>,
     table: &Table,
     bound: &mut Vec<u32>,
-    law: &LawTree<'_>,
     found: &mut Vec<u32>,
 ) -> Result<(), OutOfMemory>
     ensures { OnOk result (found.new.items
@@ -239,17 +205,17 @@ fn add_law(
 {
     match law {
         LawTree::Caused(first, body, after) | LawTree::Default(first, body, after) => {
-            add_three(table, bound, first, body, after, found)
+            add_three(first, body, after, table, bound, found)
         }
         LawTree::Constraint(first) | LawTree::Always(first) => {
-            add_free(table, bound, first, found)
+            add_free(first, table, bound, found)
         }
-        LawTree::Nonexecutable(first, body) => add_two(table, bound, first, body, found),
+        LawTree::Nonexecutable(first, body) => add_two(first, body, table, bound, found),
         LawTree::Causes(actions, effect, body) | LawTree::MayCause(actions, effect, body) => {
-            add_effect(table, bound, actions, effect, body, found)
+            add_effect(actions, effect, body, table, bound, found)
         }
         LawTree::Exogenous(constant) | LawTree::Inertial(constant) => {
-            add_unbound(table, bound, constant, found)
+            add_unbound(constant, table, bound, found)
         }
         LawTree::NoConcurrency => Ok(()),
     }
@@ -260,15 +226,15 @@ fn add_law(
 /// occurrences before `where`.
 pub(crate) fn law_variables(
     alloc: Global,
-    table: &Table,
     law: &LawTree<'_>,
+    table: &Table,
 ) -> Result<Vec<u32>, OutOfMemory>
     ensures { IfOk result (λ variables.
         variables.items ≡ faults.law_variables (vocabulary_of table.now) (plain_law law.now)) }
 {
     let mut found = Vec::new(alloc);
     let mut bound = Vec::new(alloc);
-    let added = add_law(table, &mut bound, law, &mut found);
+    let added = add_law(law, table, &mut bound, &mut found);
     drop(bound);
     let found = filled(found, added)?;
     firsts(alloc, &found)
@@ -277,9 +243,9 @@ pub(crate) fn law_variables(
 /// Whether a `where` test, which may be missing, has a variable that is not free in the law before it.
 fn has_unbound(
     alloc: Global,
-    table: &Table,
     law: &LawTree<'_>,
     test: &Option<Box<Tree<'_>>>,
+    table: &Table,
 ) -> Result<bool, OutOfMemory>
     ensures { IfOk result (λ unbound. unbound ≡ list_any (faults.has_unbound
         (vocabulary_of table.now) (faults.law_variables (vocabulary_of table.now)
@@ -288,8 +254,8 @@ fn has_unbound(
     let Some(test) = test else {
         return Ok(false);
     };
-    let variables = law_variables(alloc, table, law);
-    let (variables, used) = both(variables, free_in(alloc, table, test))?;
+    let variables = law_variables(alloc, law, table);
+    let (variables, used) = both(variables, free_in(alloc, test, table))?;
     Ok(some_is_new(&used, &variables))
 }
 
@@ -299,29 +265,29 @@ fn has_unbound(
 /// head of a fluent dynamic law (10).
 pub(crate) fn wide_fault(
     alloc: Global,
-    table: &Table,
     law: &LawTree<'_>,
     test: &Option<Box<Tree<'_>>>,
+    table: &Table,
 ) -> Result<Option<u8>, OutOfMemory>
     ensures { IfOk result (λ fault. fault ≡ least (wide_faults (vocabulary_of table.now)
         (plain_law law.now) (optional (option_map boxed_tree test.now)))) }
 {
-    if law_has_unknown(table, law, test) {
+    if law_has_unknown(law, test, table) {
         return Ok(Some(5));
     }
-    if law_has_miscounted(table, law, test) {
+    if law_has_miscounted(law, test, table) {
         return Ok(Some(6));
     }
-    if law_misfits(table, law, test) {
+    if law_misfits(law, test, table) {
         return Ok(Some(7));
     }
-    if has_unbound(alloc, table, law, test)? {
+    if has_unbound(alloc, law, test, table)? {
         return Ok(Some(8));
     }
-    if lacks_form(table, law) {
+    if lacks_form(law, table) {
         return Ok(Some(9));
     }
-    if has_determined_head(table, law) {
+    if has_determined_head(law, table) {
         return Ok(Some(10));
     }
     Ok(None)
@@ -330,17 +296,17 @@ pub(crate) fn wide_fault(
 /// The least number of a fault of a law, if it has one; a head that is not definite has the greatest (11).
 pub(crate) fn law_fault(
     alloc: Global,
-    table: &Table,
     law: &LawTree<'_>,
     test: &Option<Box<Tree<'_>>>,
+    table: &Table,
 ) -> Result<Option<u8>, OutOfMemory>
     ensures { IfOk result (λ fault. fault ≡ least (faults.law_faults (vocabulary_of table.now)
         (plain_law law.now) (optional (option_map boxed_tree test.now)))) }
 {
-    if let Some(number) = wide_fault(alloc, table, law, test)? {
+    if let Some(number) = wide_fault(alloc, law, test, table)? {
         return Ok(Some(number));
     }
-    if has_indefinite_head(table, law) {
+    if has_indefinite_head(law, table) {
         return Ok(Some(11));
     }
     Ok(None)

@@ -12,7 +12,7 @@ use cc_defs::{BaseLaw, Formula, Head, Law, LawKind, Term};
 use cc_sorts::Table;
 
 /// The class of a law with this head and this `after` part.
-pub(crate) fn class(table: &Table, head: &Head, after: &Option<Formula>) -> LawKind
+pub(crate) fn class(after: &Option<Formula>, table: &Table, head: &Head) -> LawKind
     ensures { result ≡ class_of (vocabulary_of table.now).symbols
         (plain_head head.now) (option_map plain_formula after.now) }
 {
@@ -31,7 +31,7 @@ pub fn classify(table: &Table, law: &Law) -> LawKind
     ensures { (kind : Kind) →
         IsOfKind kind (vocabulary_of table.now).symbols (plain_law law.now) → result ≡ kind }
 {
-    class(table, &law.head, &law.after)
+    class(&law.after, table, &law.head)
 }
 
 /// Whether a term has no constant.

@@ -72,9 +72,9 @@ fn sort_ranges(alloc: Global, table: &Table, variables: &[u32]) -> Result<Vec<Ra
 /// The test of a law, true where it is missing.
 fn written_test(
     alloc: Global,
+    test: &Option<Box<Tree<'_>>>,
     table: &Table,
     names: &mut Names,
-    test: &Option<Box<Tree<'_>>>,
 ) -> Result<Formula, OutOfMemory>
     ensures made { IfOk result (λ made.
         plain_formula made ≡ words.part (vocabulary_of table.now)
@@ -83,15 +83,15 @@ fn written_test(
     ensures next { OnOk result (names.new.next
         ≡ names.old.next + words.part_brackets (option_map boxed_tree test.now)) }
 {
-    some_or(resolve_part(alloc, table, names, test), Formula::True)
+    some_or(resolve_part(alloc, test, table, names), Formula::True)
 }
 
 /// The `if` part of a law, true where it is missing.
 pub(crate) fn written_body(
     alloc: Global,
+    law: &LawTree<'_>,
     table: &Table,
     names: &mut Names,
-    law: &LawTree<'_>,
     later: bool,
 ) -> Result<Formula, OutOfMemory>
     ensures made { IfOk result (λ made. plain_formula made ≡ words.part (vocabulary_of table.now)
@@ -100,7 +100,7 @@ pub(crate) fn written_body(
     ensures next { OnOk result
         (names.new.next ≡ names.old.next + words.part_brackets (plain_caused law.now later).body) }
 {
-    some_or(resolve_body(alloc, table, names, law, later), Formula::True)
+    some_or(resolve_body(alloc, law, table, names, later), Formula::True)
 }
 
 /// What the base laws of a law have in common.
@@ -113,7 +113,7 @@ pub(crate) fn law_frame(
         frame_of made ≡ frame_from (vocabulary_of table.now) source.now) }
 {
     let mut names = names_of(alloc, source.variables)?;
-    let test = written_test(alloc, table, &mut names, source.test);
+    let test = written_test(alloc, source.test, table, &mut names);
     let ranges = sort_ranges(alloc, table, source.variables);
     let (ranges, test) = both(ranges, boxed(alloc, test))?;
     Ok(Frame {
@@ -126,7 +126,7 @@ pub(crate) fn law_frame(
 }
 
 /// Whether the head of a law has an action.
-fn head_acts(table: &Table, law: &LawTree<'_>) -> bool
+fn head_acts(law: &LawTree<'_>, table: &Table) -> bool
     ensures { result
         ≡ words.part_acts (vocabulary_of table.now) (short.head_of (plain_law law.now)) }
 {
@@ -134,17 +134,17 @@ fn head_acts(table: &Table, law: &LawTree<'_>) -> bool
         LawTree::Caused(head, _, _)
         | LawTree::Default(head, _, _)
         | LawTree::Causes(_, head, _)
-        | LawTree::MayCause(_, head, _) => has(table, Property::Action, head),
+        | LawTree::MayCause(_, head, _) => has(head, table, Property::Action),
         _ => false,
     }
 }
 
 /// Whether a law denies a step where a part of its head is `false`. It goes through the whole head: asked once for a law.
-fn denies(table: &Table, law: &LawTree<'_>, later: bool) -> bool
+fn denies(law: &LawTree<'_>, table: &Table, later: bool) -> bool
     ensures { result ≡ is_none (plain_caused law.now later).after
         && words.part_acts (vocabulary_of table.now) (plain_caused law.now later).head }
 {
-    lacks_after(law, later) && head_acts(table, law)
+    lacks_after(law, later) && head_acts(law, table)
 }
 
 /// Whether a part of a head denies a step, where the law denies steps.
@@ -160,9 +160,9 @@ fn denies_step(denying: bool, head: &Head) -> bool
 /// The parts of a base law that denies a step or not.
 fn law_parts(
     alloc: Global,
+    law: &LawTree<'_>,
     table: &Table,
     names: &mut Names,
-    law: &LawTree<'_>,
     later: bool,
     denied: bool,
 ) -> Result<Parts, OutOfMemory>
@@ -176,14 +176,14 @@ fn law_parts(
         (names.old.next + words.part_brackets (plain_caused law.now later).body))
         (plain_caused law.now later).after)) }
 {
-    let body = boxed(alloc, written_body(alloc, table, names, law, later))?;
+    let body = boxed(alloc, written_body(alloc, law, table, names, later))?;
     if denied {
         return Ok(Parts {
             body: Formula::True,
             after: Some(Box::into_inner(body)),
         });
     }
-    let after = boxed(alloc, resolve_after(alloc, table, names, law, later))?;
+    let after = boxed(alloc, resolve_after(alloc, law, table, names, later))?;
     Ok(Parts {
         body: Box::into_inner(body),
         after: Box::into_inner(after),
@@ -193,9 +193,9 @@ fn law_parts(
 /// The base law of a part of a head.
 fn law_for(
     alloc: Global,
+    law: &LawTree<'_>,
     table: &Table,
     source: &Source<'_, '_>,
-    law: &LawTree<'_>,
     later: bool,
     denying: bool,
     head: Head,
@@ -208,16 +208,16 @@ fn law_for(
 {
     let denied = denies_step(denying, &head);
     let mut frame = law_frame(alloc, table, source)?;
-    let parts = law_parts(alloc, table, &mut frame.names, law, later, denied)?;
+    let parts = law_parts(alloc, law, table, &mut frame.names, later, denied)?;
     Ok(base_law(table, frame, head, parts))
 }
 
 /// The parts of the head of a law with these variables.
 fn head_parts(
     alloc: Global,
+    law: &LawTree<'_>,
     table: &Table,
     variables: &[u32],
-    law: &LawTree<'_>,
 ) -> Result<Vec<Head>, OutOfMemory>
     ensures { IfOk result (λ found.
         map plain_head found.items ≡ words.head_parts (vocabulary_of table.now)
@@ -229,7 +229,7 @@ fn head_parts(
         | LawTree::Causes(_, head, _)
         | LawTree::MayCause(_, head, _) => {
             let names = names_of(alloc, variables)?;
-            heads_of(alloc, table, &names, head)
+            heads_of(alloc, head, table, &names)
         }
         _ => only(alloc, Head::Falsity),
     }
@@ -238,22 +238,22 @@ fn head_parts(
 /// The base laws of a law that is short for another one: one for each part of the head.
 fn split(
     alloc: Global,
+    law: &LawTree<'_>,
     table: &Table,
     source: &Source<'_, '_>,
-    law: &LawTree<'_>,
     later: bool,
 ) -> Result<Vec<BaseLaw>, OutOfMemory>
     ensures { IfOk result (λ made.
         map plain_base_law made.items ≡ words.split (vocabulary_of table.now)
         (frame_from (vocabulary_of table.now) source.now) (plain_caused law.now later)) }
 {
-    let heads = head_parts(alloc, table, source.variables, law)?;
-    let denying = denies(table, law, later);
+    let heads = head_parts(alloc, law, table, source.variables)?;
+    let denying = denies(law, table, later);
     let mut made = Vec::with_capacity(alloc, heads.len())?;
     for head in heads {
         put_made(
             &mut made,
-            law_for(alloc, table, source, law, later, denying, head),
+            law_for(alloc, law, table, source, later, denying, head),
         )?;
     }
     Ok(made)
@@ -262,17 +262,17 @@ fn split(
 /// The base law of what is exogenous or inertial.
 fn subject_laws(
     alloc: Global,
+    constant: &TermTree<'_>,
     table: &Table,
     source: &Source<'_, '_>,
     persistence: Persistence,
-    constant: &TermTree<'_>,
 ) -> Result<Vec<BaseLaw>, OutOfMemory>
     ensures { IfOk result (λ made. map plain_base_law made.items ≡ words.subject_laws
         (vocabulary_of table.now) (frame_from (vocabulary_of table.now) source.now)
         (persistence_of persistence) (plain_term constant.now)) }
 {
     let frame = law_frame(alloc, table, source)?;
-    match resolve_term(alloc, table, &frame.names, constant)? {
+    match resolve_term(alloc, constant, table, &frame.names)? {
         Term::Constant { symbol, args } => {
             let law = value_law(alloc, table, frame, persistence, symbol, args)?;
             only(alloc, law)
@@ -284,9 +284,9 @@ fn subject_laws(
 /// The base laws of a law that is short for none.
 fn other_laws(
     alloc: Global,
+    law: &LawTree<'_>,
     table: &Table,
     source: &Source<'_, '_>,
-    law: &LawTree<'_>,
 ) -> Result<Vec<BaseLaw>, OutOfMemory>
     ensures { IfOk result (λ made.
         map plain_base_law made.items ≡ laws_of_others (vocabulary_of table.now)
@@ -294,10 +294,10 @@ fn other_laws(
 {
     match law {
         LawTree::Exogenous(constant) => {
-            subject_laws(alloc, table, source, Persistence::Exogenous, constant)
+            subject_laws(alloc, constant, table, source, Persistence::Exogenous)
         }
         LawTree::Inertial(constant) => {
-            subject_laws(alloc, table, source, Persistence::Inertial, constant)
+            subject_laws(alloc, constant, table, source, Persistence::Inertial)
         }
         LawTree::NoConcurrency => {
             let (file, line) = (source.file, source.line);
@@ -310,41 +310,41 @@ fn other_laws(
 /// The base laws of a law.
 fn laws_with(
     alloc: Global,
+    law: &LawTree<'_>,
     table: &Table,
     source: &Source<'_, '_>,
-    law: &LawTree<'_>,
 ) -> Result<Vec<BaseLaw>, OutOfMemory>
     ensures { IfOk result (λ made.
         map plain_base_law made.items ≡ words.laws_with (vocabulary_of table.now)
         (frame_from (vocabulary_of table.now) source.now) (plain_law law.now)) }
 {
     if is_short(law) {
-        let later = is_later(table, law);
-        return split(alloc, table, source, law, later);
+        let later = is_later(law, table);
+        return split(alloc, law, table, source, later);
     }
-    other_laws(alloc, table, source, law)
+    other_laws(alloc, law, table, source)
 }
 
 /// The base laws of a law and its test.
 pub(crate) fn laws_in(
     alloc: Global,
+    law: &LawTree<'_>,
+    test: &Option<Box<Tree<'_>>>,
     file: u32,
     table: &Table,
     line: u32,
-    law: &LawTree<'_>,
-    test: &Option<Box<Tree<'_>>>,
 ) -> Result<Vec<BaseLaw>, OutOfMemory>
     ensures { IfOk result (λ made. map plain_base_law made.items ≡ words.laws_in file
         (vocabulary_of table.now) line (plain_law law.now) (option_map boxed_tree test.now)) }
 {
-    let variables = law_variables(alloc, table, law)?;
+    let variables = law_variables(alloc, law, table)?;
     let source = Source {
         file,
         line,
         variables: &variables,
         test,
     };
-    laws_with(alloc, table, &source, law)
+    laws_with(alloc, law, table, &source)
 }
 
 /// Variables by their places from 0 on, one for each sort.
@@ -530,10 +530,10 @@ fn add_attribute_laws(
 /// Adds the base laws of a constant of a kind, by its name.
 fn add_constant_laws(
     alloc: Global,
+    kind: &KindTree<'_>,
     file: u32,
     table: &Table,
     line: u32,
-    kind: &KindTree<'_>,
     name: &str,
     laws: &mut Vec<BaseLaw>,
 ) -> Result<(), OutOfMemory>
@@ -562,10 +562,10 @@ fn add_constant_laws(
 /// Adds the base laws of the constants of one kind.
 fn add_item(
     alloc: Global,
+    item: &ConstItem<'_>,
     file: u32,
     table: &Table,
     line: u32,
-    item: &ConstItem<'_>,
     laws: &mut Vec<BaseLaw>,
 ) -> Result<(), OutOfMemory>
     ensures { OnOk result (map plain_base_law laws.new.items ≡ map plain_base_law laws.old.items
@@ -573,7 +573,7 @@ fn add_item(
 {
     let shapes = item.shapes.items();
     for shape in shapes {
-        add_constant_laws(alloc, file, table, line, &item.kind, shape.name, laws)?;
+        add_constant_laws(alloc, &item.kind, file, table, line, shape.name, laws)?;
     }
     Ok(())
 }
@@ -581,17 +581,17 @@ fn add_item(
 /// The base laws of a statement of constants.
 pub(crate) fn declared_laws(
     alloc: Global,
+    items: &[ConstItem<'_>],
     file: u32,
     table: &Table,
     line: u32,
-    items: &[ConstItem<'_>],
 ) -> Result<Vec<BaseLaw>, OutOfMemory>
     ensures { IfOk result (λ made. map plain_base_law made.items ≡ flat_map
         (words.item_laws file (vocabulary_of table.now) line) (map plain_const_item items.now)) }
 {
     let mut made = Vec::new(alloc);
     for item in items {
-        add_item(alloc, file, table, line, item, &mut made)?;
+        add_item(alloc, item, file, table, line, &mut made)?;
     }
     Ok(made)
 }
@@ -599,11 +599,11 @@ pub(crate) fn declared_laws(
 /// The base laws of a law and its test, where it has no fault.
 fn expand_law(
     alloc: Global,
+    law: &LawTree<'_>,
+    test: &Option<Box<Tree<'_>>>,
     file: u32,
     table: &Table,
     line: u32,
-    law: &LawTree<'_>,
-    test: &Option<Box<Tree<'_>>>,
 ) -> Result<Vec<BaseLaw>, Fault>
     ensures checked { IfOk result (λ made. least (law_faults (vocabulary_of table.now)
         (plain_law law.now) (optional (option_map boxed_tree test.now))) ≡ None) }
@@ -612,8 +612,8 @@ fn expand_law(
     ensures refused { IfErr result (IsRefusedBy (refused_if file line (least (law_faults
         (vocabulary_of table.now) (plain_law law.now) (optional (option_map boxed_tree test.now)))))) }
 {
-    match passed(law_fault(alloc, table, law, test), file, line) {
-        Ok(()) => given(laws_in(alloc, file, table, line, law, test)),
+    match passed(law_fault(alloc, law, test, table), file, line) {
+        Ok(()) => given(laws_in(alloc, law, test, file, table, line)),
         Err(fault) => Err(fault),
     }
 }
@@ -621,10 +621,10 @@ fn expand_law(
 /// The base laws of a statement's part, where it has no fault: a law alone may have one.
 fn expand_part(
     alloc: Global,
+    part: &Part<'_>,
     file: u32,
     table: &Table,
     line: u32,
-    part: &Part<'_>,
 ) -> Result<Vec<BaseLaw>, Fault>
     ensures checked { IfOk result (λ made.
         part_fault (vocabulary_of table.now) (plain_part part.now) ≡ None) }
@@ -634,10 +634,25 @@ fn expand_part(
         (part_fault (vocabulary_of table.now) (plain_part part.now)))) }
 {
     match part {
-        Part::Law(law, test) => expand_law(alloc, file, table, line, law, test),
-        Part::Constants(items) => given(declared_laws(alloc, file, table, line, items.items())),
+        Part::Law(law, test) => expand_law(alloc, law, test, file, table, line),
+        Part::Constants(items) => given(declared_laws(alloc, items.items(), file, table, line)),
         _ => Ok(Vec::new(alloc)),
     }
+}
+
+/// The base laws of a statement, which is the first that is lent here and wherever it is taken apart.
+fn expand_statement(
+    alloc: Global,
+    statement: &Statement<'_>,
+    file: u32,
+    table: &Table,
+) -> Result<BaseLaws, Fault>
+    ensures expanded { (left : Items Declared) → IsTable table.now left → IfOk result (λ laws.
+        Expands file left (plain_statement statement.now) (map plain_base_law laws)) }
+    ensures refused { (left : Items Declared) → IsTable table.now left → IfErr result
+        (IsRefusedBy (law_refusal file (vocabulary left) (plain_statement statement.now))) }
+{
+    listed(expand_part(alloc, &statement.part, file, table, statement.line))
 }
 
 /// The base laws that a law, or a statement of constants that was declared, stands for, in order, at the table as it
@@ -657,5 +672,5 @@ pub fn expand(
     ensures refused { (left : Items Declared) → IsTable table.now left → IfErr result
         (IsRefusedBy (law_refusal file (vocabulary left) (plain_statement statement.now))) }
 {
-    listed(expand_part(alloc, file, table, statement.line, &statement.part))
+    expand_statement(alloc, statement, file, table)
 }

@@ -18,11 +18,11 @@ use cc_sorts::Table;
 use std::alloc::Global;
 
 /// The other one of `false` and `true`.
-fn opposite(table: &Table, value: &TermTree<'_>) -> Term
+fn opposite(value: &TermTree<'_>, table: &Table) -> Term
     ensures { resolved_term result
         ≡ words.opposite (vocabulary_of table.now) (plain_term value.now) }
 {
-    match meaning_of_term(table, value) {
+    match meaning_of_term(value, table) {
         Meaning::Object(0, _) => Term::Object(1),
         _ => Term::Object(0),
     }
@@ -31,9 +31,9 @@ fn opposite(table: &Table, value: &TermTree<'_>) -> Term
 /// Adds the head that a constant has a value; answers whether the term is a constant.
 fn add_atom(
     alloc: Global,
+    constant: &TermTree<'_>,
     table: &Table,
     names: &Names,
-    constant: &TermTree<'_>,
     value: Term,
     found: &mut Vec<Head>,
 ) -> Result<bool, OutOfMemory>
@@ -41,7 +41,7 @@ fn add_atom(
         ≡ both_heads (Some (map plain_head found.old.items)) (words.atom (vocabulary_of table.now)
         (scope_of names.now) (plain_term constant.now) (resolved_term value))) }
 {
-    match resolve_term(alloc, table, names, constant)? {
+    match resolve_term(alloc, constant, table, names)? {
         Term::Constant { symbol, args } => {
             let args = List::of(args);
             found.push(Head::Atom {
@@ -58,21 +58,21 @@ fn add_atom(
 /// Adds the head of a term alone: falsity, or that a Boolean constant is true.
 fn add_bare(
     alloc: Global,
+    term: &TermTree<'_>,
     table: &Table,
     names: &Names,
-    term: &TermTree<'_>,
     found: &mut Vec<Head>,
 ) -> Result<bool, OutOfMemory>
     ensures { IfOk result (λ definite. only_if definite (Some (map plain_head found.new.items))
         ≡ both_heads (Some (map plain_head found.old.items)) (words.definite_heads
         (vocabulary_of table.now) (scope_of names.now) (bare (plain_term term.now)))) }
 {
-    if is_falsity_term(table, term) {
+    if is_falsity_term(term, table) {
         put_last(found, Head::Falsity)?;
         return Ok(true);
     }
-    if is_boolean_term(table, term) {
-        return add_atom(alloc, table, names, term, Term::Object(1), found);
+    if is_boolean_term(term, table) {
+        return add_atom(alloc, term, table, names, Term::Object(1), found);
     }
     Ok(false)
 }
@@ -80,10 +80,10 @@ fn add_bare(
 /// Adds the head that a constant has the value of a sum.
 fn add_value(
     alloc: Global,
-    table: &Table,
-    names: &Names,
     constant: &TermTree<'_>,
     value: &SumTree<'_>,
+    table: &Table,
+    names: &Names,
     found: &mut Vec<Head>,
 ) -> Result<bool, OutOfMemory>
     ensures { IfOk result (λ definite. only_if definite (Some (map plain_head found.new.items))
@@ -91,18 +91,18 @@ fn add_value(
         (scope_of names.now) (plain_term constant.now) (resolving.resolve_sum
         (vocabulary_of table.now) (scope_of names.now) (plain_sum value.now)))) }
 {
-    let value = resolve_sum(alloc, table, names, value)?;
-    add_atom(alloc, table, names, constant, value, found)
+    let value = resolve_sum(alloc, value, table, names)?;
+    add_atom(alloc, constant, table, names, value, found)
 }
 
 #[tactic(auto, using(crate::proofs::HeadTests::valued_left, crate::proofs::HeadTests::valued_right))]
 /// Adds the head of an equation: the constant alone on one side has the value on the other, which has no constant.
 fn add_equation(
     alloc: Global,
-    table: &Table,
-    names: &Names,
     left: &SumTree<'_>,
     right: &SumTree<'_>,
+    table: &Table,
+    names: &Names,
     found: &mut Vec<Head>,
 ) -> Result<bool, OutOfMemory>
     ensures { IfOk result (λ definite.
@@ -110,10 +110,10 @@ fn add_equation(
         (Some (map plain_head found.old.items)) (words.definite_heads (vocabulary_of table.now)
         (scope_of names.now) (comparison equal (plain_sum left.now) (plain_sum right.now)))) }
 {
-    match constant_beside(table, left, right) {
-        Some(first) => add_value(alloc, table, names, first, right, found),
-        None => match constant_beside(table, right, left) {
-            Some(second) => add_value(alloc, table, names, second, left, found),
+    match constant_beside(left, right, table) {
+        Some(first) => add_value(alloc, first, right, table, names, found),
+        None => match constant_beside(right, left, table) {
+            Some(second) => add_value(alloc, second, left, table, names, found),
             None => Ok(false),
         },
     }
@@ -122,10 +122,10 @@ fn add_equation(
 /// Adds the head that a Boolean constant has the other one of `false` and `true` than the term beside it.
 fn add_opposite(
     alloc: Global,
-    table: &Table,
-    names: &Names,
     constant: &TermTree<'_>,
     truth: &TermTree<'_>,
+    table: &Table,
+    names: &Names,
     found: &mut Vec<Head>,
 ) -> Result<bool, OutOfMemory>
     ensures { IfOk result (λ definite. only_if definite (Some (map plain_head found.new.items))
@@ -133,16 +133,16 @@ fn add_opposite(
         (words.atom (vocabulary_of table.now) (scope_of names.now) (plain_term constant.now)
         (words.opposite (vocabulary_of table.now) (plain_term truth.now)))) }
 {
-    add_atom(alloc, table, names, constant, opposite(table, truth), found)
+    add_atom(alloc, constant, table, names, opposite(truth, table), found)
 }
 
 /// Adds the head of the denial of an equation of a Boolean constant with a truth value.
 fn add_denial<'t, 's>(
     alloc: Global,
-    table: &Table,
-    names: &Names,
     left: &'t SumTree<'s>,
     right: &'t SumTree<'s>,
+    table: &Table,
+    names: &Names,
     found: &mut Vec<Head>,
 ) -> Result<bool, OutOfMemory>
     ensures { IfOk result (λ definite.
@@ -150,8 +150,8 @@ fn add_denial<'t, 's>(
         (Some (map plain_head found.old.items)) (words.definite_heads (vocabulary_of table.now)
         (scope_of names.now) (comparison differs (plain_sum left.now) (plain_sum right.now)))) }
 {
-    match truth_beside(table, left, right) {
-        Some(pair) => add_opposite(alloc, table, names, pair.0, pair.1, found),
+    match truth_beside(left, right, table) {
+        Some(pair) => add_opposite(alloc, pair.0, pair.1, table, names, found),
         None => Ok(false),
     }
 }
@@ -159,17 +159,17 @@ fn add_denial<'t, 's>(
 /// Adds the head of `-c`, c a Boolean constant.
 fn add_denied_term(
     alloc: Global,
+    term: &TermTree<'_>,
     table: &Table,
     names: &Names,
-    term: &TermTree<'_>,
     found: &mut Vec<Head>,
 ) -> Result<bool, OutOfMemory>
     ensures { IfOk result (λ definite. only_if definite (Some (map plain_head found.new.items))
         ≡ both_heads (Some (map plain_head found.old.items)) (words.denied_heads
         (vocabulary_of table.now) (scope_of names.now) (bare (plain_term term.now)))) }
 {
-    if is_boolean_term(table, term) {
-        return add_atom(alloc, table, names, term, Term::Object(0), found);
+    if is_boolean_term(term, table) {
+        return add_atom(alloc, term, table, names, Term::Object(0), found);
     }
     Ok(false)
 }
@@ -177,10 +177,10 @@ fn add_denied_term(
 /// Adds the head of `-s=t`, one of s and t a Boolean constant and the other a truth value.
 fn add_denied_equation<'t, 's>(
     alloc: Global,
-    table: &Table,
-    names: &Names,
     left: &'t SumTree<'s>,
     right: &'t SumTree<'s>,
+    table: &Table,
+    names: &Names,
     found: &mut Vec<Head>,
 ) -> Result<bool, OutOfMemory>
     ensures { IfOk result (λ definite.
@@ -188,10 +188,10 @@ fn add_denied_equation<'t, 's>(
         (Some (map plain_head found.old.items)) (words.denied_heads (vocabulary_of table.now)
         (scope_of names.now) (comparison equal (plain_sum left.now) (plain_sum right.now)))) }
 {
-    match truth_beside(table, left, right) {
-        Some(pair) => add_opposite(alloc, table, names, pair.0, pair.1, found),
-        None => match truth_beside(table, right, left) {
-            Some(pair) => add_opposite(alloc, table, names, pair.0, pair.1, found),
+    match truth_beside(left, right, table) {
+        Some(pair) => add_opposite(alloc, pair.0, pair.1, table, names, found),
+        None => match truth_beside(right, left, table) {
+            Some(pair) => add_opposite(alloc, pair.0, pair.1, table, names, found),
             None => Ok(false),
         },
     }
@@ -200,9 +200,9 @@ fn add_denied_equation<'t, 's>(
 /// Adds the head of what a `-` stands before; answers whether it may stand there.
 fn add_denied(
     alloc: Global,
+    formula: &Tree<'_>,
     table: &Table,
     names: &Names,
-    formula: &Tree<'_>,
     found: &mut Vec<Head>,
 ) -> Result<bool, OutOfMemory>
     ensures { IfOk result (λ definite. only_if definite (Some (map plain_head found.new.items))
@@ -210,9 +210,9 @@ fn add_denied(
         (vocabulary_of table.now) (scope_of names.now) (plain_tree formula.now))) }
 {
     match formula {
-        Tree::Bare(term) => add_denied_term(alloc, table, names, term, found),
-        Tree::Equal(left, right) => add_denied_equation(alloc, table, names, left, right, found),
-        Tree::Paren(inner) => add_denied(alloc, table, names, inner, found),
+        Tree::Bare(term) => add_denied_term(alloc, term, table, names, found),
+        Tree::Equal(left, right) => add_denied_equation(alloc, left, right, table, names, found),
+        Tree::Paren(inner) => add_denied(alloc, inner, table, names, found),
         _ => Ok(false),
     }
 }
@@ -220,9 +220,9 @@ fn add_denied(
 /// Adds the heads of a definite formula, in order; answers whether it is definite.
 fn add_heads(
     alloc: Global,
+    formula: &Tree<'_>,
     table: &Table,
     names: &Names,
-    formula: &Tree<'_>,
     found: &mut Vec<Head>,
 ) -> Result<bool, OutOfMemory>
     ensures { IfOk result (λ definite. only_if definite (Some (map plain_head found.new.items))
@@ -230,14 +230,14 @@ fn add_heads(
         (vocabulary_of table.now) (scope_of names.now) (plain_tree formula.now))) }
 {
     match formula {
-        Tree::Bare(term) => add_bare(alloc, table, names, term, found),
-        Tree::Equal(left, right) => add_equation(alloc, table, names, left, right, found),
-        Tree::Differ(left, right) => add_denial(alloc, table, names, left, right, found),
-        Tree::Paren(inner) => add_heads(alloc, table, names, inner, found),
-        Tree::Not(inner) => add_denied(alloc, table, names, inner, found),
+        Tree::Bare(term) => add_bare(alloc, term, table, names, found),
+        Tree::Equal(left, right) => add_equation(alloc, left, right, table, names, found),
+        Tree::Differ(left, right) => add_denial(alloc, left, right, table, names, found),
+        Tree::Paren(inner) => add_heads(alloc, inner, table, names, found),
+        Tree::Not(inner) => add_denied(alloc, inner, table, names, found),
         Tree::Both(first, second) => {
-            if add_heads(alloc, table, names, first, found)? {
-                add_heads(alloc, table, names, second, found)
+            if add_heads(alloc, first, table, names, found)? {
+                add_heads(alloc, second, table, names, found)
             } else {
                 Ok(false)
             }
@@ -249,15 +249,15 @@ fn add_heads(
 /// The heads of a definite formula, in order; none of one that is not.
 pub(crate) fn heads_of(
     alloc: Global,
+    formula: &Tree<'_>,
     table: &Table,
     names: &Names,
-    formula: &Tree<'_>,
 ) -> Result<Vec<Head>, OutOfMemory>
     ensures { IfOk result (λ heads. map plain_head heads.items ≡ unwrap_or (words.definite_heads
         (vocabulary_of table.now) (scope_of names.now) (plain_tree formula.now)) []) }
 {
     let mut found = Vec::new(alloc);
-    if add_heads(alloc, table, names, formula, &mut found)? {
+    if add_heads(alloc, formula, table, names, &mut found)? {
         return Ok(found);
     }
     Ok(Vec::new(alloc))

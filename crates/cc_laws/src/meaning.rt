@@ -42,7 +42,7 @@ pub(crate) fn meaning_of<'t>(table: &'t Table, name: &str) -> Meaning<'t>
 }
 
 /// The meaning of a term's name by a table.
-pub(crate) fn meaning_of_term<'t>(table: &'t Table, term: &TermTree<'_>) -> Meaning<'t>
+pub(crate) fn meaning_of_term<'t>(term: &TermTree<'_>, table: &'t Table) -> Meaning<'t>
     ensures { plain_meaning result ≡ term_meaning (vocabulary_of table.now) (plain_term term.now) }
 {
     meaning_of(table, term.name)

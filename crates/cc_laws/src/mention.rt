@@ -28,7 +28,7 @@ pub(crate) enum Property {
 
 /// Whether a term has a name with the property, in its arguments too.
 #[cycle(has)]
-pub(crate) fn term_has(table: &Table, property: Property, term: &TermTree<'_>) -> bool
+pub(crate) fn term_has(term: &TermTree<'_>, table: &Table, property: Property) -> bool
     ensures { result
         ≡ faults.term_has (vocabulary_of table.now) (asks property) (plain_term term.now) }
 {
@@ -36,7 +36,7 @@ pub(crate) fn term_has(table: &Table, property: Property, term: &TermTree<'_>) -
         return true;
     }
     for argument in &term.args {
-        if sum_has(table, property, argument) {
+        if sum_has(argument, table, property) {
             return true;
         }
     }
@@ -45,15 +45,15 @@ pub(crate) fn term_has(table: &Table, property: Property, term: &TermTree<'_>) -
 
 /// Whether a sum has such a name.
 #[cycle(has)]
-pub(crate) fn sum_has(table: &Table, property: Property, sum: &SumTree<'_>) -> bool
+pub(crate) fn sum_has(sum: &SumTree<'_>, table: &Table, property: Property) -> bool
     ensures { result
         ≡ faults.sum_has (vocabulary_of table.now) (asks property) (plain_sum sum.now) }
 {
-    if piece_has(table, property, &sum.first) {
+    if piece_has(&sum.first, table, property) {
         return true;
     }
     for addend in &sum.rest {
-        if piece_has(table, property, &addend.piece) {
+        if piece_has(&addend.piece, table, property) {
             return true;
         }
     }
@@ -62,11 +62,11 @@ pub(crate) fn sum_has(table: &Table, property: Property, sum: &SumTree<'_>) -> b
 
 /// Whether a piece has such a name; a number has none.
 #[cycle(has)]
-fn piece_has(table: &Table, property: Property, piece: &Piece<'_>) -> bool
+fn piece_has(piece: &Piece<'_>, table: &Table, property: Property) -> bool
     ensures { result ≡ has_named (vocabulary_of table.now) (asks property) (plain_piece piece.now) }
 {
     match piece {
         Piece::Number(_) => false,
-        Piece::Name(term) => term_has(table, property, term),
+        Piece::Name(term) => term_has(term, table, property),
     }
 }

@@ -37,24 +37,24 @@ fn part_misfits(means: &Meaning<'_>) -> bool
     }
 }
 
-fn piece_misfits(table: &Table, piece: &Piece<'_>) -> bool
+fn piece_misfits(piece: &Piece<'_>, table: &Table) -> bool
     ensures { result ≡ faults.piece_misfits (vocabulary_of table.now) (plain_piece piece.now) }
 {
     match piece {
         Piece::Number(_) => false,
-        Piece::Name(term) => part_misfits(&meaning_of_term(table, term)),
+        Piece::Name(term) => part_misfits(&meaning_of_term(term, table)),
     }
 }
 
-fn some_piece_misfits(table: &Table, sum: &SumTree<'_>) -> bool
+fn some_piece_misfits(sum: &SumTree<'_>, table: &Table) -> bool
     ensures { result
         ≡ list_any (faults.piece_misfits (vocabulary_of table.now)) (pieces (plain_sum sum.now)) }
 {
-    if piece_misfits(table, &sum.first) {
+    if piece_misfits(&sum.first, table) {
         return true;
     }
     for addend in &sum.rest {
-        if piece_misfits(table, &addend.piece) {
+        if piece_misfits(&addend.piece, table) {
             return true;
         }
     }
@@ -62,13 +62,13 @@ fn some_piece_misfits(table: &Table, sum: &SumTree<'_>) -> bool
 }
 
 /// Whether a sum of two pieces or more has one that may be no part of it.
-fn sum_misfits(table: &Table, sum: &SumTree<'_>) -> bool
+fn sum_misfits(sum: &SumTree<'_>, table: &Table) -> bool
     ensures { result ≡ faults.sum_misfits (vocabulary_of table.now) (plain_sum sum.now) }
 {
     if is_single(sum) {
         return false;
     }
-    some_piece_misfits(table, sum)
+    some_piece_misfits(sum, table)
 }
 
 /// Whether a name alone with this meaning is no argument of the sort; what is no name alone has none.
@@ -86,17 +86,17 @@ fn name_misfits(table: &Table, sort: u32, name: &Option<Meaning<'_>>) -> bool
 }
 
 /// Whether a sum is no argument of the sort.
-fn argument_misfits(table: &Table, sort: u32, argument: &SumTree<'_>) -> bool
+fn argument_misfits(argument: &SumTree<'_>, table: &Table, sort: u32) -> bool
     ensures { result
         ≡ faults.argument_misfits (vocabulary_of table.now) sort (plain_sum argument.now) }
 {
-    sum_has(table, Property::Constant, argument)
-        || (sum_misfits(table, argument)
-            || name_misfits(table, sort, &lone_meaning(table, argument)))
+    sum_has(argument, table, Property::Constant)
+        || (sum_misfits(argument, table)
+            || name_misfits(table, sort, &lone_meaning(argument, table)))
 }
 
 /// Whether an argument does not fit its sort, as far as there are sorts.
-fn some_argument_misfits(table: &Table, sorts: &[u32], args: &[SumTree<'_>]) -> bool
+fn some_argument_misfits(args: &[SumTree<'_>], table: &Table, sorts: &[u32]) -> bool
     ensures { result
         ≡ faults.some_argument_misfits (vocabulary_of table.now) sorts.now (plain_sums args.now) }
 {
@@ -104,7 +104,7 @@ fn some_argument_misfits(table: &Table, sorts: &[u32], args: &[SumTree<'_>]) -> 
         let Some(argument) = args.get(place) else {
             return false;
         };
-        if argument_misfits(table, sorts[place], argument) {
+        if argument_misfits(argument, table, sorts[place]) {
             return true;
         }
     }
@@ -112,42 +112,42 @@ fn some_argument_misfits(table: &Table, sorts: &[u32], args: &[SumTree<'_>]) -> 
 }
 
 /// Whether an argument of a name with this meaning does not fit.
-fn arguments_misfit(table: &Table, means: &Meaning<'_>, args: &[SumTree<'_>]) -> bool
+fn arguments_misfit(args: &[SumTree<'_>], table: &Table, means: &Meaning<'_>) -> bool
     ensures { result ≡ faults.arguments_misfit
         (vocabulary_of table.now) (plain_meaning means.now) (plain_sums args.now) }
 {
     match means {
-        Meaning::Constant(_, symbol) => some_argument_misfits(table, symbol.sorts.items(), args),
+        Meaning::Constant(_, symbol) => some_argument_misfits(args, table, symbol.sorts.items()),
         _ => false,
     }
 }
 
 /// Whether an argument of a term does not fit.
-pub(crate) fn term_misfits(table: &Table, term: &TermTree<'_>) -> bool
+pub(crate) fn term_misfits(term: &TermTree<'_>, table: &Table) -> bool
     ensures { result ≡ faults.term_misfits (vocabulary_of table.now) (plain_term term.now) }
 {
-    arguments_misfit(table, &meaning_of_term(table, term), &term.args)
+    arguments_misfit(&term.args, table, &meaning_of_term(term, table))
 }
 
-fn piece_term_misfits(table: &Table, piece: &Piece<'_>) -> bool
+fn piece_term_misfits(piece: &Piece<'_>, table: &Table) -> bool
     ensures { result ≡ faults.piece_term_misfits (vocabulary_of table.now) (plain_piece piece.now) }
 {
     match piece {
         Piece::Number(_) => false,
-        Piece::Name(term) => term_misfits(table, term),
+        Piece::Name(term) => term_misfits(term, table),
     }
 }
 
 /// Whether an argument of a piece does not fit.
-fn some_term_misfits(table: &Table, sum: &SumTree<'_>) -> bool
+fn some_term_misfits(sum: &SumTree<'_>, table: &Table) -> bool
     ensures { result ≡ list_any
         (faults.piece_term_misfits (vocabulary_of table.now)) (pieces (plain_sum sum.now)) }
 {
-    if piece_term_misfits(table, &sum.first) {
+    if piece_term_misfits(&sum.first, table) {
         return true;
     }
     for addend in &sum.rest {
-        if piece_term_misfits(table, &addend.piece) {
+        if piece_term_misfits(&addend.piece, table) {
             return true;
         }
     }
@@ -155,10 +155,10 @@ fn some_term_misfits(table: &Table, sum: &SumTree<'_>) -> bool
 }
 
 /// Whether a piece of a sum does not fit, or an argument of one.
-fn side_misfits(table: &Table, sum: &SumTree<'_>) -> bool
+fn side_misfits(sum: &SumTree<'_>, table: &Table) -> bool
     ensures { result ≡ faults.side_misfits (vocabulary_of table.now) (plain_sum sum.now) }
 {
-    sum_misfits(table, sum) || some_term_misfits(table, sum)
+    sum_misfits(sum, table) || some_term_misfits(sum, table)
 }
 
 /// Whether a term with this meaning is no value of the symbol.
@@ -247,18 +247,18 @@ fn compared_misfit(
 }
 
 /// Whether a term does not fit as a formula.
-pub(crate) fn bare_misfits(table: &Table, term: &TermTree<'_>) -> bool
+pub(crate) fn bare_misfits(term: &TermTree<'_>, table: &Table) -> bool
     ensures { result ≡ faults.leaf_misfits (vocabulary_of table.now) (Bare (plain_term term.now)) }
 {
-    !meaning_of_term(table, term).stands_alone() || term_misfits(table, term)
+    !meaning_of_term(term, table).stands_alone() || term_misfits(term, table)
 }
 
 /// Whether two sums with a sign between them do not fit.
 pub(crate) fn comparison_misfits(
-    table: &Table,
-    comparison: Comparison,
     left: &SumTree<'_>,
     right: &SumTree<'_>,
+    table: &Table,
+    comparison: Comparison,
 ) -> bool
     ensures { result ≡ faults.leaf_misfits (vocabulary_of table.now)
         (Compared (comparison_of comparison) (plain_sum left.now) (plain_sum right.now)) }
@@ -266,9 +266,9 @@ pub(crate) fn comparison_misfits(
     compared_misfit(
         table,
         comparison,
-        &lone_meaning(table, left),
-        &lone_meaning(table, right),
-    ) || (side_misfits(table, left) || side_misfits(table, right))
+        &lone_meaning(left, table),
+        &lone_meaning(right, table),
+    ) || (side_misfits(left, table) || side_misfits(right, table))
 }
 
 /// Whether a bracket's name does not fit.

@@ -29,11 +29,11 @@ pub(crate) fn is_short(law: &LawTree<'_>) -> bool
 }
 
 /// Whether the effect of the actions of a law comes a step later.
-pub(crate) fn is_later(table: &Table, law: &LawTree<'_>) -> bool
+pub(crate) fn is_later(law: &LawTree<'_>, table: &Table) -> bool
     ensures { result ≡ short.is_later (vocabulary_of table.now) (plain_law law.now) }
 {
     match law {
-        LawTree::Causes(_, head, _) => is_fluent_formula(table, head),
+        LawTree::Causes(_, head, _) => is_fluent_formula(head, table),
         _ => false,
     }
 }
@@ -53,10 +53,10 @@ pub(crate) fn lacks_after(law: &LawTree<'_>, later: bool) -> bool
 /// `F & G`, where G may be missing, with numbers in place of names.
 fn resolve_both(
     alloc: Global,
-    table: &Table,
-    names: &mut Names,
     first: &Tree<'_>,
     second: &Option<Box<Tree<'_>>>,
+    table: &Table,
+    names: &mut Names,
 ) -> Result<Formula, OutOfMemory>
     ensures made { IfOk result (λ made.
         plain_formula made ≡ resolving.resolve (vocabulary_of table.now) (scope_of names.old)
@@ -66,17 +66,17 @@ fn resolve_both(
         (words.both (plain_tree first.now) (option_map boxed_tree second.now))) }
 {
     match second {
-        Some(second) => resolve_two(alloc, table, names, Joint::Both, first, second),
-        None => resolve(alloc, table, names, first),
+        Some(second) => resolve_two(alloc, first, second, table, names, Joint::Both),
+        None => resolve(alloc, first, table, names),
     }
 }
 
 /// A part with numbers in place of names; nothing where it is missing.
 pub(crate) fn resolve_part(
     alloc: Global,
+    part: &Option<Box<Tree<'_>>>,
     table: &Table,
     names: &mut Names,
-    part: &Option<Box<Tree<'_>>>,
 ) -> Result<Option<Formula>, OutOfMemory>
     ensures made { IfOk result (λ made. option_map plain_formula made
         ≡ option_map (resolving.resolve (vocabulary_of table.now) (scope_of names.old)
@@ -86,7 +86,7 @@ pub(crate) fn resolve_part(
         ≡ names.old.next + words.part_brackets (option_map boxed_tree part.now)) }
 {
     match part {
-        Some(formula) => some(resolve(alloc, table, names, formula)),
+        Some(formula) => some(resolve(alloc, formula, table, names)),
         None => Ok(None),
     }
 }
@@ -94,9 +94,9 @@ pub(crate) fn resolve_part(
 /// The `if` part of the law that a law is short for, with numbers in place of names; nothing where it is missing.
 pub(crate) fn resolve_body(
     alloc: Global,
+    law: &LawTree<'_>,
     table: &Table,
     names: &mut Names,
-    law: &LawTree<'_>,
     later: bool,
 ) -> Result<Option<Formula>, OutOfMemory>
     ensures made { IfOk result (λ made. option_map plain_formula made ≡ option_map
@@ -107,15 +107,15 @@ pub(crate) fn resolve_body(
         (names.new.next ≡ names.old.next + words.part_brackets (plain_caused law.now later).body) }
 {
     match law {
-        LawTree::Caused(_, body, _) => resolve_part(alloc, table, names, body),
-        LawTree::Constraint(formula) => some(resolve_not(alloc, table, names, formula)),
-        LawTree::Default(head, body, _) => some(resolve_both(alloc, table, names, head, body)),
-        LawTree::MayCause(_, head, _) => some(resolve(alloc, table, names, head)),
+        LawTree::Caused(_, body, _) => resolve_part(alloc, body, table, names),
+        LawTree::Constraint(formula) => some(resolve_not(alloc, formula, table, names)),
+        LawTree::Default(head, body, _) => some(resolve_both(alloc, head, body, table, names)),
+        LawTree::MayCause(_, head, _) => some(resolve(alloc, head, table, names)),
         LawTree::Causes(actions, _, body) => {
             if later {
                 return Ok(None);
             }
-            some(resolve_both(alloc, table, names, actions, body))
+            some(resolve_both(alloc, actions, body, table, names))
         }
         _ => Ok(None),
     }
@@ -124,9 +124,9 @@ pub(crate) fn resolve_body(
 /// Its `after` part.
 pub(crate) fn resolve_after(
     alloc: Global,
+    law: &LawTree<'_>,
     table: &Table,
     names: &mut Names,
-    law: &LawTree<'_>,
     later: bool,
 ) -> Result<Option<Formula>, OutOfMemory>
     ensures made { IfOk result (λ made. option_map plain_formula made ≡ option_map
@@ -138,17 +138,17 @@ pub(crate) fn resolve_after(
 {
     match law {
         LawTree::Caused(_, _, after) | LawTree::Default(_, _, after) => {
-            resolve_part(alloc, table, names, after)
+            resolve_part(alloc, after, table, names)
         }
-        LawTree::Always(formula) => some(resolve_not(alloc, table, names, formula)),
+        LawTree::Always(formula) => some(resolve_not(alloc, formula, table, names)),
         LawTree::Nonexecutable(actions, body) | LawTree::MayCause(actions, _, body) => {
-            some(resolve_both(alloc, table, names, actions, body))
+            some(resolve_both(alloc, actions, body, table, names))
         }
         LawTree::Causes(actions, _, body) => {
             if !later {
                 return Ok(None);
             }
-            some(resolve_both(alloc, table, names, actions, body))
+            some(resolve_both(alloc, actions, body, table, names))
         }
         _ => Ok(None),
     }

@@ -82,12 +82,12 @@ fn gives_twice(items: &[QueryItem<'_>]) -> bool
 }
 
 /// Whether a formula fails the check.
-fn some_fails(table: &Table, check: Check, formulas: &[Tree<'_>]) -> bool
+fn some_fails(formulas: &[Tree<'_>], table: &Table, check: Check) -> bool
     ensures { result
         ≡ list_any (fails (vocabulary_of table.now) check) (map plain_tree formulas.now) }
 {
     for formula in formulas {
-        if formula_fails(table, check, formula) {
+        if formula_fails(formula, table, check) {
             return true;
         }
     }
@@ -105,12 +105,12 @@ fn formulas_in<'t, 's>(item: &'t QueryItem<'s>) -> &'t [Tree<'s>]
 }
 
 /// Whether a formula of a query fails the check.
-fn query_fails(table: &Table, check: Check, items: &[QueryItem<'_>]) -> bool
+fn query_fails(items: &[QueryItem<'_>], table: &Table, check: Check) -> bool
     ensures { result ≡ list_any (fails (vocabulary_of table.now) check)
         (flat_map words.formulas_in (map plain_query_item items.now)) }
 {
     for item in items {
-        if some_fails(table, check, formulas_in(item)) {
+        if some_fails(formulas_in(item), table, check) {
             return true;
         }
     }
@@ -118,28 +118,28 @@ fn query_fails(table: &Table, check: Check, items: &[QueryItem<'_>]) -> bool
 }
 
 #[tactic(auto, using(crate::proofs::Failing::some_unknown))]
-fn query_has_unknown(table: &Table, items: &[QueryItem<'_>]) -> bool
+fn query_has_unknown(items: &[QueryItem<'_>], table: &Table) -> bool
     ensures { result ≡ list_any (has_unknown (vocabulary_of table.now))
         (flat_map words.formulas_in (map plain_query_item items.now)) }
 {
-    query_fails(table, Check::Unknown, items)
+    query_fails(items, table, Check::Unknown)
 }
 
 /// Whether a formula has a free variable.
-fn has_free(alloc: Global, table: &Table, formula: &Tree<'_>) -> Result<bool, OutOfMemory>
+fn has_free(alloc: Global, formula: &Tree<'_>, table: &Table) -> Result<bool, OutOfMemory>
     ensures { IfOk result (λ found.
         found ≡ words.has_free (vocabulary_of table.now) (plain_tree formula.now)) }
 {
-    Ok(!free(alloc, table, formula)?.is_empty())
+    Ok(!free(alloc, formula, table)?.is_empty())
 }
 
 /// Whether one of the formulas has a free variable.
-fn some_has_free(alloc: Global, table: &Table, formulas: &[Tree<'_>]) -> Result<bool, OutOfMemory>
+fn some_has_free(alloc: Global, formulas: &[Tree<'_>], table: &Table) -> Result<bool, OutOfMemory>
     ensures { IfOk result (λ found.
         found ≡ list_any (words.has_free (vocabulary_of table.now)) (map plain_tree formulas.now)) }
 {
     for formula in formulas {
-        if has_free(alloc, table, formula)? {
+        if has_free(alloc, formula, table)? {
             return Ok(true);
         }
     }
@@ -149,14 +149,14 @@ fn some_has_free(alloc: Global, table: &Table, formulas: &[Tree<'_>]) -> Result<
 /// Whether a query has a free variable.
 fn query_has_free(
     alloc: Global,
-    table: &Table,
     items: &[QueryItem<'_>],
+    table: &Table,
 ) -> Result<bool, OutOfMemory>
     ensures { IfOk result (λ found. found ≡ list_any (words.has_free (vocabulary_of table.now))
         (flat_map words.formulas_in (map plain_query_item items.now))) }
 {
     for item in items {
-        if some_has_free(alloc, table, formulas_in(item))? {
+        if some_has_free(alloc, formulas_in(item), table)? {
             return Ok(true);
         }
     }
@@ -166,8 +166,8 @@ fn query_has_free(
 /// The least number of a fault of a query, if it has one.
 fn query_fault(
     alloc: Global,
-    table: &Table,
     items: &[QueryItem<'_>],
+    table: &Table,
 ) -> Result<Option<u8>, OutOfMemory>
     ensures { IfOk result (λ fault. fault
         ≡ least (words.query_faults (vocabulary_of table.now) (map plain_query_item items.now))) }
@@ -175,16 +175,16 @@ fn query_fault(
     if gives_twice(items) {
         return Ok(Some(4));
     }
-    if query_has_unknown(table, items) {
+    if query_has_unknown(items, table) {
         return Ok(Some(5));
     }
-    if query_fails(table, Check::Mentions(Property::Miscounted), items) {
+    if query_fails(items, table, Check::Mentions(Property::Miscounted)) {
         return Ok(Some(6));
     }
-    if query_fails(table, Check::Misfits, items) {
+    if query_fails(items, table, Check::Misfits) {
         return Ok(Some(7));
     }
-    if query_has_free(alloc, table, items)? {
+    if query_has_free(alloc, items, table)? {
         return Ok(Some(8));
     }
     Ok(None)
@@ -218,10 +218,10 @@ fn range_of(items: &[QueryItem<'_>]) -> Option<(u32, u32)>
 /// A formula that was made and another one, joined by `&`.
 fn and_next(
     alloc: Global,
+    formula: &Tree<'_>,
     table: &Table,
     names: &mut Names,
     made: Formula,
-    formula: &Tree<'_>,
 ) -> Result<Formula, OutOfMemory>
     requires { names.old.bindings.items ≡ [] }
     ensures made { IfOk result (λ joined. plain_formula joined ≡ both (plain_formula made)
@@ -231,16 +231,16 @@ fn and_next(
         (names.new.next ≡ names.old.next + resolving.brackets (plain_tree formula.now)) }
 {
     let made = boxed(alloc, Ok(made))?;
-    let next = boxed(alloc, resolve(alloc, table, names, formula))?;
+    let next = boxed(alloc, resolve(alloc, formula, table, names))?;
     Ok(Formula::Both(made, next))
 }
 
 /// The formulas, joined by `&`, which groups to the left. Their brackets are numbered on.
 fn joined(
     alloc: Global,
+    formulas: &[Tree<'_>],
     table: &Table,
     names: &mut Names,
-    formulas: &[Tree<'_>],
 ) -> Result<Formula, OutOfMemory>
     requires { names.old.bindings.items ≡ [] }
     ensures made { IfOk result (λ made. plain_formula made ≡ words.joined (resolving.resolve_all
@@ -252,9 +252,9 @@ fn joined(
     let Some((first, others)) = formulas.split_first() else {
         return Ok(Formula::True);
     };
-    let mut made = resolve(alloc, table, names, first)?;
+    let mut made = resolve(alloc, first, table, names)?;
     for formula in others {
-        made = and_next(alloc, table, names, made, formula)?;
+        made = and_next(alloc, formula, table, names, made)?;
     }
     Ok(made)
 }
@@ -262,10 +262,10 @@ fn joined(
 /// A condition of a query or its claim.
 fn condition(
     alloc: Global,
+    formulas: &[Tree<'_>],
     table: &Table,
     names: &mut Names,
     at: At,
-    formulas: &[Tree<'_>],
 ) -> Result<Condition, OutOfMemory>
     requires { names.old.bindings.items ≡ [] }
     ensures made { IfOk result (λ made. plain_condition made ≡ words.condition_asked
@@ -276,16 +276,16 @@ fn condition(
 {
     Ok(Condition {
         at,
-        formula: joined(alloc, table, names, formulas)?,
+        formula: joined(alloc, formulas, table, names)?,
     })
 }
 
 /// The conditions of a query. Their brackets are numbered on.
 fn conditions_of(
     alloc: Global,
+    items: &[QueryItem<'_>],
     table: &Table,
     names: &mut Names,
-    items: &[QueryItem<'_>],
 ) -> Result<Vec<Condition>, OutOfMemory>
     requires { names.old.bindings.items ≡ [] }
     ensures made { IfOk result (λ made.
@@ -305,7 +305,7 @@ fn conditions_of(
         {
             put_made(
                 &mut made,
-                condition(alloc, table, names, *at, parts.items()),
+                condition(alloc, parts.items(), table, names, *at),
             )?;
         }
     }
@@ -315,9 +315,9 @@ fn conditions_of(
 /// The first claim of a query.
 fn claim_of(
     alloc: Global,
+    items: &[QueryItem<'_>],
     table: &Table,
     names: &mut Names,
-    items: &[QueryItem<'_>],
 ) -> Result<Option<Condition>, OutOfMemory>
     requires { names.old.bindings.items ≡ [] }
     ensures { IfOk result (λ made. option_map plain_condition made
@@ -331,7 +331,7 @@ fn claim_of(
             parts,
         } = item
         {
-            return some(condition(alloc, table, names, *at, parts.items()));
+            return some(condition(alloc, parts.items(), table, names, *at));
         }
     }
     Ok(None)
@@ -340,10 +340,10 @@ fn claim_of(
 /// What a query asks. Each of its brackets has a number of its own: those of the claim come behind those of the conditions.
 fn query_of(
     alloc: Global,
+    items: &[QueryItem<'_>],
     file: u32,
     table: &Table,
     line: u32,
-    items: &[QueryItem<'_>],
 ) -> Result<Query, OutOfMemory>
     ensures { IfOk result (λ query. plain_query query
         ≡ words.query_of file (vocabulary_of table.now) line (map plain_query_item items.now)) }
@@ -353,8 +353,8 @@ fn query_of(
         bindings: Vec::new(alloc),
         next: 0,
     };
-    let conditions = List::of(conditions_of(alloc, table, &mut names, items)?);
-    let claim = claim_of(alloc, table, &mut names, items)?;
+    let conditions = List::of(conditions_of(alloc, items, table, &mut names)?);
+    let claim = claim_of(alloc, items, table, &mut names)?;
     Ok(Query {
         label,
         range: range_of(items),
@@ -368,10 +368,10 @@ fn query_of(
 /// What a query asks, where it has no fault.
 fn ask(
     alloc: Global,
+    items: &[QueryItem<'_>],
     file: u32,
     table: &Table,
     line: u32,
-    items: &[QueryItem<'_>],
 ) -> Result<Query, Fault>
     ensures checked { IfOk result (λ query.
         least (words.query_faults (vocabulary_of table.now) (map plain_query_item items.now)) ≡ None) }
@@ -380,10 +380,26 @@ fn ask(
     ensures refused { IfErr result (IsRefusedBy (refused_if file line (least
         (words.query_faults (vocabulary_of table.now) (map plain_query_item items.now))))) }
 {
-    match passed(query_fault(alloc, table, items), file, line) {
-        Ok(()) => given(query_of(alloc, file, table, line, items)),
+    match passed(query_fault(alloc, items, table), file, line) {
+        Ok(()) => given(query_of(alloc, items, file, table, line)),
         Err(fault) => Err(fault),
     }
+}
+
+/// What a statement asks, which is the first that is lent here and wherever it is taken apart.
+fn ask_statement(
+    alloc: Global,
+    statement: &Statement<'_>,
+    file: u32,
+    table: &Table,
+) -> Result<Query, Fault>
+    ensures asked { (left : Items Declared) → IsTable table.now left →
+        IfOk result (λ query. Asks file left (plain_statement statement.now) (plain_query query)) }
+    ensures refused { (left : Items Declared) → IsTable table.now left → IfErr result
+        (IsRefusedBy (query_refusal file (vocabulary left) (plain_statement statement.now))) }
+{
+    let items = items_of(&statement.part);
+    ask(alloc, items, file, table, statement.line)
 }
 
 /// What a query asks, at the table as it stands. Refuses, at the statement's line, the least number of a fault: a label, a
@@ -401,6 +417,5 @@ pub fn question(
     ensures refused { (left : Items Declared) → IsTable table.now left → IfErr result
         (IsRefusedBy (query_refusal file (vocabulary left) (plain_statement statement.now))) }
 {
-    let items = items_of(&statement.part);
-    ask(alloc, file, table, statement.line, items)
+    ask_statement(alloc, statement, file, table)
 }

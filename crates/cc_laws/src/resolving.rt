@@ -50,16 +50,16 @@ fn joined(made: Box<Term>, minus: bool, piece: Box<Term>) -> Term
 #[cycle(terms)]
 pub(crate) fn resolve_term(
     alloc: Global,
+    term: &TermTree<'_>,
     table: &Table,
     names: &Names,
-    term: &TermTree<'_>,
 ) -> Result<Term, OutOfMemory>
     ensures { IfOk result (λ made. resolved_term made
         ≡ words.resolve_term (vocabulary_of table.now) (scope_of names.now) (plain_term term.now)) }
 {
     let mut args = Vec::with_capacity(alloc, term.args.len())?;
     for argument in &term.args {
-        put_made(&mut args, resolve_sum(alloc, table, names, argument))?;
+        put_made(&mut args, resolve_sum(alloc, argument, table, names))?;
     }
     Ok(term_meant(names, meaning_of(table, term.name), args))
 }
@@ -68,16 +68,16 @@ pub(crate) fn resolve_term(
 #[cycle(terms)]
 pub(crate) fn resolve_sum(
     alloc: Global,
+    sum: &SumTree<'_>,
     table: &Table,
     names: &Names,
-    sum: &SumTree<'_>,
 ) -> Result<Term, OutOfMemory>
     ensures { IfOk result (λ made. resolved_term made
         ≡ words.resolve_sum (vocabulary_of table.now) (scope_of names.now) (plain_sum sum.now)) }
 {
-    let mut made = resolve_piece(alloc, table, names, &sum.first)?;
+    let mut made = resolve_piece(alloc, &sum.first, table, names)?;
     for addend in &sum.rest {
-        let piece = resolve_piece(alloc, table, names, &addend.piece);
+        let piece = resolve_piece(alloc, &addend.piece, table, names);
         let (first, second) = both(boxed(alloc, Ok(made)), boxed(alloc, piece))?;
         made = joined(first, addend.minus, second);
     }
@@ -88,16 +88,16 @@ pub(crate) fn resolve_sum(
 #[cycle(terms)]
 fn resolve_piece(
     alloc: Global,
+    piece: &Piece<'_>,
     table: &Table,
     names: &Names,
-    piece: &Piece<'_>,
 ) -> Result<Term, OutOfMemory>
     ensures { IfOk result (λ made. resolved_term made ≡ words.resolve_piece
         (vocabulary_of table.now) (scope_of names.now) (plain_piece piece.now)) }
 {
     match piece {
         Piece::Number(number) => Ok(Term::Number(*number)),
-        Piece::Name(term) => resolve_term(alloc, table, names, term),
+        Piece::Name(term) => resolve_term(alloc, term, table, names),
     }
 }
 
@@ -189,41 +189,41 @@ fn compared(
 #[inline(never)]
 fn resolve_compared(
     alloc: Global,
+    left: &SumTree<'_>,
+    right: &SumTree<'_>,
     table: &Table,
     names: &Names,
     comparison: Comparison,
-    left: &SumTree<'_>,
-    right: &SumTree<'_>,
 ) -> Result<Formula, OutOfMemory>
     ensures { IfOk result (λ made. plain_formula made ≡ words.compared (comparison_of comparison)
         (words.resolve_sum (vocabulary_of table.now) (scope_of names.now) (plain_sum left.now))
         (words.resolve_sum (vocabulary_of table.now) (scope_of names.now) (plain_sum right.now))) }
 {
-    let left = resolve_sum(alloc, table, names, left);
-    let right = resolve_sum(alloc, table, names, right);
+    let left = resolve_sum(alloc, left, table, names);
+    let right = resolve_sum(alloc, right, table, names);
     let (left, right) = both(left, right)?;
     compared(alloc, comparison, left, right)
 }
 
 fn resolve_alone(
     alloc: Global,
+    term: &TermTree<'_>,
     table: &Table,
     names: &Names,
-    term: &TermTree<'_>,
 ) -> Result<Formula, OutOfMemory>
     ensures { IfOk result (λ made. plain_formula made ≡ words.alone
         (words.resolve_term (vocabulary_of table.now) (scope_of names.now) (plain_term term.now))) }
 {
-    Ok(alone(resolve_term(alloc, table, names, term)?))
+    Ok(alone(resolve_term(alloc, term, table, names)?))
 }
 
 #[cycle(resolve)]
 #[inline(never)]
 pub(crate) fn resolve_not(
     alloc: Global,
+    inner: &Tree<'_>,
     table: &Table,
     names: &mut Names,
-    inner: &Tree<'_>,
 ) -> Result<Formula, OutOfMemory>
     ensures made { IfOk result (λ made. plain_formula made ≡ resolved.Not (words.resolve
         (vocabulary_of table.now) (scope_of names.old) names.old.next (plain_tree inner.now))) }
@@ -231,7 +231,7 @@ pub(crate) fn resolve_not(
     ensures next { OnOk result
         (names.new.next ≡ names.old.next + words.brackets (plain_tree inner.now)) }
 {
-    let inner = boxed(alloc, resolve(alloc, table, names, inner))?;
+    let inner = boxed(alloc, resolve(alloc, inner, table, names))?;
     Ok(Formula::Not(inner))
 }
 
@@ -240,11 +240,11 @@ pub(crate) fn resolve_not(
 #[inline(never)]
 pub(crate) fn resolve_two(
     alloc: Global,
+    first: &Tree<'_>,
+    second: &Tree<'_>,
     table: &Table,
     names: &mut Names,
     joint: Joint,
-    first: &Tree<'_>,
-    second: &Tree<'_>,
 ) -> Result<Formula, OutOfMemory>
     ensures made { IfOk result (λ made. plain_formula made ≡ joined_by joint
         (words.resolve (vocabulary_of table.now) (scope_of names.old) names.old.next
@@ -254,8 +254,8 @@ pub(crate) fn resolve_two(
     ensures next { OnOk result (names.new.next ≡ names.old.next + (words.brackets
         (plain_tree first.now) + words.brackets (plain_tree second.now))) }
 {
-    let first = boxed(alloc, resolve(alloc, table, names, first))?;
-    let second = boxed(alloc, resolve(alloc, table, names, second))?;
+    let first = boxed(alloc, resolve(alloc, first, table, names))?;
+    let second = boxed(alloc, resolve(alloc, second, table, names))?;
     Ok(match joint {
         Joint::Both => Formula::Both(first, second),
         Joint::Either => Formula::Either(first, second),
@@ -268,10 +268,10 @@ pub(crate) fn resolve_two(
 #[cycle(resolve)]
 fn resolve_inside(
     alloc: Global,
+    inner: &Tree<'_>,
     table: &Table,
     names: &mut Names,
     binding: Binding,
-    inner: &Tree<'_>,
 ) -> Result<Box<Formula>, OutOfMemory>
     ensures made { IfOk result (λ made. plain_formula made.value
         ≡ words.resolve (vocabulary_of table.now)
@@ -281,7 +281,7 @@ fn resolve_inside(
         (names.new.next ≡ names.old.next + words.brackets (plain_tree inner.now)) }
 {
     names.bindings.push(binding)?;
-    let made = boxed(alloc, resolve(alloc, table, names, inner))?;
+    let made = boxed(alloc, resolve(alloc, inner, table, names))?;
     names.bindings.pop();
     Ok(made)
 }
@@ -292,11 +292,11 @@ fn resolve_inside(
 #[inline(never)]
 fn resolve_bracket(
     alloc: Global,
+    inner: &Tree<'_>,
     table: &Table,
     names: &mut Names,
     bracket: Bracket,
     name: &str,
-    inner: &Tree<'_>,
 ) -> Result<Formula, OutOfMemory>
     ensures made { IfOk result (λ made. plain_formula made
         ≡ words.resolve_bracket (bracket_over bracket) (scope_of names.old) names.old.next
@@ -309,11 +309,11 @@ fn resolve_bracket(
     let number = names.fresh()?;
     match meaning_of(table, name) {
         Meaning::Variable(variable, sort) => {
-            let inner = resolve_inside(alloc, table, names, Binding { variable, number }, inner)?;
+            let inner = resolve_inside(alloc, inner, table, names, Binding { variable, number })?;
             Ok(bracket_of(bracket, number, sort, inner))
         }
         _ => {
-            gone(resolve(alloc, table, names, inner))?;
+            gone(resolve(alloc, inner, table, names))?;
             Ok(Formula::False)
         }
     }
@@ -324,9 +324,9 @@ fn resolve_bracket(
 #[cycle(resolve)]
 pub(crate) fn resolve(
     alloc: Global,
+    formula: &Tree<'_>,
     table: &Table,
     names: &mut Names,
-    formula: &Tree<'_>,
 ) -> Result<Formula, OutOfMemory>
     ensures made { IfOk result (λ made. plain_formula made ≡ words.resolve
         (vocabulary_of table.now) (scope_of names.old) names.old.next (plain_tree formula.now)) }
@@ -335,25 +335,25 @@ pub(crate) fn resolve(
         (names.new.next ≡ names.old.next + words.brackets (plain_tree formula.now)) }
 {
     match formula {
-        Tree::Bare(term) => resolve_alone(alloc, table, names, term),
+        Tree::Bare(term) => resolve_alone(alloc, term, table, names),
         Tree::Equal(left, right)
         | Tree::Differ(left, right)
         | Tree::Less(left, right)
         | Tree::AtMost(left, right)
         | Tree::More(left, right)
         | Tree::AtLeast(left, right) => {
-            resolve_compared(alloc, table, names, comparison_in(formula), left, right)
+            resolve_compared(alloc, left, right, table, names, comparison_in(formula))
         }
-        Tree::Paren(inner) => resolve(alloc, table, names, inner),
-        Tree::Not(inner) => resolve_not(alloc, table, names, inner),
+        Tree::Paren(inner) => resolve(alloc, inner, table, names),
+        Tree::Not(inner) => resolve_not(alloc, inner, table, names),
         Tree::Both(first, second)
         | Tree::Either(first, second)
         | Tree::Implies(first, second)
         | Tree::Same(first, second) => {
-            resolve_two(alloc, table, names, joint_in(formula), first, second)
+            resolve_two(alloc, first, second, table, names, joint_in(formula))
         }
         Tree::ForAll(name, inner) | Tree::Exists(name, inner) => {
-            resolve_bracket(alloc, table, names, bracket_in(formula), name, inner)
+            resolve_bracket(alloc, inner, table, names, bracket_in(formula), name)
         }
     }
 }

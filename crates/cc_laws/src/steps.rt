@@ -23,7 +23,7 @@ pub(crate) fn is_action_symbol(table: &Table, symbol: u32) -> bool
 }
 
 /// Whether a term has an action.
-fn term_names_action(table: &Table, term: &Term) -> bool
+fn term_names_action(term: &Term, table: &Table) -> bool
     ensures { result ≡ list_any (forms.is_action_symbol (vocabulary_of table.now).symbols)
         (forms.term_symbols (plain_term term.now)) }
 {
@@ -33,70 +33,70 @@ fn term_names_action(table: &Table, term: &Term) -> bool
                 return true;
             }
             for argument in args {
-                if term_names_action(table, argument) {
+                if term_names_action(argument, table) {
                     return true;
                 }
             }
             false
         }
         Term::Plus(first, second) | Term::Minus(first, second) => {
-            term_names_action(table, first) || term_names_action(table, second)
+            term_names_action(first, table) || term_names_action(second, table)
         }
         _ => false,
     }
 }
 
 /// Whether a formula has an action.
-fn names_action(table: &Table, formula: &Formula) -> bool
+fn names_action(formula: &Formula, table: &Table) -> bool
     ensures { result
         ≡ forms.names_action (vocabulary_of table.now).symbols (plain_formula formula.now) }
 {
     match formula {
         Formula::True | Formula::False => false,
         Formula::Equal(left, right) | Formula::Less(left, right) | Formula::AtMost(left, right) => {
-            term_names_action(table, left) || term_names_action(table, right)
+            term_names_action(left, table) || term_names_action(right, table)
         }
-        Formula::Not(inner) => names_action(table, inner),
+        Formula::Not(inner) => names_action(inner, table),
         Formula::Both(first, second)
         | Formula::Either(first, second)
         | Formula::Implies(first, second)
         | Formula::Same(first, second) => {
-            names_action(table, first) || names_action(table, second)
+            names_action(first, table) || names_action(second, table)
         }
-        Formula::ForAll(_, _, inner) | Formula::Exists(_, _, inner) => names_action(table, inner),
+        Formula::ForAll(_, _, inner) | Formula::Exists(_, _, inner) => names_action(inner, table),
     }
 }
 
 /// Whether the formula of a condition may not stand at its step in a query with this least horizon.
-fn condition_fails(table: &Table, lo: u32, condition: &Condition) -> bool
+fn condition_fails(condition: &Condition, table: &Table, lo: u32) -> bool
     ensures { result ≡ words.condition_fails
         (vocabulary_of table.now).symbols lo (plain_condition condition.now) }
 {
     let formula = &condition.formula;
     match condition.at {
-        At::Number(step) => step > lo || (step == lo && names_action(table, formula)),
-        At::Last => names_action(table, formula),
+        At::Number(step) => step > lo || (step == lo && names_action(formula, table)),
+        At::Last => names_action(formula, table),
     }
 }
 
-fn some_condition_fails(table: &Table, lo: u32, conditions: &[Condition]) -> bool
+fn some_condition_fails(conditions: &[Condition], table: &Table, lo: u32) -> bool
     ensures { result ≡ list_any (words.condition_fails (vocabulary_of table.now).symbols lo)
         (map plain_condition conditions.now) }
 {
     for condition in conditions {
-        if condition_fails(table, lo, condition) {
+        if condition_fails(condition, table, lo) {
             return true;
         }
     }
     false
 }
 
-fn claim_fails(table: &Table, lo: u32, claim: &Option<Condition>) -> bool
+fn claim_fails(claim: &Option<Condition>, table: &Table, lo: u32) -> bool
     ensures { result ≡ words.claim_fails
         (vocabulary_of table.now).symbols lo (option_map plain_condition claim.now) }
 {
     match claim {
-        Some(claim) => condition_fails(table, lo, claim),
+        Some(claim) => condition_fails(claim, table, lo),
         None => false,
     }
 }
@@ -112,8 +112,8 @@ fn range_refusal(table: &Table, query: &Query, lo: u32, hi: u32) -> Option<Refus
         ≡ words.range_refusal (vocabulary_of table.now).symbols (plain_query query.now) lo hi }
 {
     if lo > hi
-        || (some_condition_fails(table, lo, query.conditions.items())
-            || claim_fails(table, lo, &query.claim))
+        || (some_condition_fails(query.conditions.items(), table, lo)
+            || claim_fails(&query.claim, table, lo))
     {
         return Some(step_refusal(query));
     }

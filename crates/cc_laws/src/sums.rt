@@ -71,12 +71,12 @@ pub(crate) fn lone<'t, 's>(sum: &'t SumTree<'s>) -> Option<&'t TermTree<'s>>
 }
 
 /// The meaning of the term that a sum is, where it is one alone.
-pub(crate) fn lone_meaning<'t>(table: &'t Table, sum: &SumTree<'_>) -> Option<Meaning<'t>>
+pub(crate) fn lone_meaning<'t>(sum: &SumTree<'_>, table: &'t Table) -> Option<Meaning<'t>>
     ensures { option_map plain_meaning result
         ≡ faults.lone_meaning (vocabulary_of table.now) (plain_sum sum.now) }
 {
     match lone(sum) {
-        Some(term) => Some(meaning_of_term(table, term)),
+        Some(term) => Some(meaning_of_term(term, table)),
         None => None,
     }
 }

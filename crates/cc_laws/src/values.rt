@@ -50,7 +50,7 @@ pub(crate) fn base_law(table: &Table, frame: Frame, head: Head, parts: Parts) ->
         (resolved.plain_head head) (plain_formula parts.body)
         (option_map plain_formula parts.after) }
 {
-    let kind = class(table, &head, &parts.after);
+    let kind = class(&parts.after, table, &head);
     BaseLaw::One(Law {
         ranges: List::of(frame.ranges),
         head,
@@ -119,9 +119,9 @@ pub(crate) fn equation_of(symbol: u32, args: Vec<Term>, value: Term) -> Formula
 /// The parts of a law about a value.
 fn value_parts(
     alloc: Global,
+    args: &[Term],
     persistence: Persistence,
     symbol: u32,
-    args: &[Term],
     variable: u32,
 ) -> Result<Parts, OutOfMemory>
     ensures body { IfOk result (λ made.
@@ -178,7 +178,7 @@ pub(crate) fn value_law(
         (frame_of frame) (persistence_of persistence) symbol (row_terms args.items)) }
 {
     let variable = add_domain(&mut frame.ranges, symbol)?;
-    let parts = value_parts(alloc, persistence, symbol, &args, variable)?;
+    let parts = value_parts(alloc, &args, persistence, symbol, variable)?;
     let head = Head::Atom {
         symbol,
         args: List::of(args),

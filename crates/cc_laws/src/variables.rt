@@ -57,9 +57,9 @@ fn add_name(
 /// Adds the variables of a term that no bracket binds.
 #[cycle(unbound)]
 pub(crate) fn add_unbound(
+    term: &TermTree<'_>,
     table: &Table,
     bound: &[u32],
-    term: &TermTree<'_>,
     found: &mut Vec<u32>,
 ) -> Result<(), OutOfMemory>
     ensures { OnOk result (found.new.items ≡ found.old.items ++ words.unbound bound.now
@@ -67,7 +67,7 @@ pub(crate) fn add_unbound(
 {
     add_name(table, bound, term.name, found)?;
     for argument in &term.args {
-        add_unbound_sum(table, bound, argument, found)?;
+        add_unbound_sum(argument, table, bound, found)?;
     }
     Ok(())
 }
@@ -75,17 +75,17 @@ pub(crate) fn add_unbound(
 /// Adds those of a sum.
 #[cycle(unbound)]
 fn add_unbound_sum(
+    sum: &SumTree<'_>,
     table: &Table,
     bound: &[u32],
-    sum: &SumTree<'_>,
     found: &mut Vec<u32>,
 ) -> Result<(), OutOfMemory>
     ensures { OnOk result (found.new.items ≡ found.old.items ++ words.unbound bound.now
         (words.sum_variables (vocabulary_of table.now) (plain_sum sum.now))) }
 {
-    add_unbound_piece(table, bound, &sum.first, found)?;
+    add_unbound_piece(&sum.first, table, bound, found)?;
     for addend in &sum.rest {
-        add_unbound_piece(table, bound, &addend.piece, found)?;
+        add_unbound_piece(&addend.piece, table, bound, found)?;
     }
     Ok(())
 }
@@ -93,9 +93,9 @@ fn add_unbound_sum(
 /// Adds those of a piece.
 #[cycle(unbound)]
 fn add_unbound_piece(
+    piece: &Piece<'_>,
     table: &Table,
     bound: &[u32],
-    piece: &Piece<'_>,
     found: &mut Vec<u32>,
 ) -> Result<(), OutOfMemory>
     ensures { OnOk result (found.new.items ≡ found.old.items ++ words.unbound bound.now
@@ -103,33 +103,33 @@ fn add_unbound_piece(
 {
     match piece {
         Piece::Number(_) => Ok(()),
-        Piece::Name(term) => add_unbound(table, bound, term, found),
+        Piece::Name(term) => add_unbound(term, table, bound, found),
     }
 }
 
 /// Adds those of two sums, one after the other.
 fn add_unbound_sides(
-    table: &Table,
-    bound: &[u32],
     left: &SumTree<'_>,
     right: &SumTree<'_>,
+    table: &Table,
+    bound: &[u32],
     found: &mut Vec<u32>,
 ) -> Result<(), OutOfMemory>
     ensures { OnOk result (found.new.items ≡ found.old.items ++ (words.unbound bound.now
         (words.sum_variables (vocabulary_of table.now) (plain_sum left.now)) ++ words.unbound
         bound.now (words.sum_variables (vocabulary_of table.now) (plain_sum right.now)))) }
 {
-    add_unbound_sum(table, bound, left, found)?;
-    add_unbound_sum(table, bound, right, found)
+    add_unbound_sum(left, table, bound, found)?;
+    add_unbound_sum(right, table, bound, found)
 }
 
 /// Adds the free occurrences of variables in a formula inside a bracket, which binds what its name is.
 #[cycle(brackets)]
 fn add_inside(
+    inner: &Tree<'_>,
     table: &Table,
     bound: &mut Vec<u32>,
     name: &str,
-    inner: &Tree<'_>,
     found: &mut Vec<u32>,
 ) -> Result<(), OutOfMemory>
     ensures added { OnOk result (found.new.items ≡ found.old.items
@@ -138,10 +138,10 @@ fn add_inside(
     ensures closed { OnOk result (bound.new.items ≡ bound.old.items) }
 {
     let Some(number) = variable(table, name) else {
-        return add_free(table, bound, inner, found);
+        return add_free(inner, table, bound, found);
     };
     bound.push(number)?;
-    add_free(table, bound, inner, found)?;
+    add_free(inner, table, bound, found)?;
     bound.pop();
     Ok(())
 }
@@ -149,9 +149,9 @@ fn add_inside(
 /// Adds the free occurrences of variables in a formula, in the order of its text, inside brackets with these variables.
 #[cycle(brackets)]
 pub(crate) fn add_free(
+    formula: &Tree<'_>,
     table: &Table,
     bound: &mut Vec<u32>,
-    formula: &Tree<'_>,
     found: &mut Vec<u32>,
 ) -> Result<(), OutOfMemory>
     ensures added { OnOk result (found.new.items ≡ found.old.items
@@ -159,23 +159,23 @@ pub(crate) fn add_free(
     ensures closed { OnOk result (bound.new.items ≡ bound.old.items) }
 {
     match formula {
-        Tree::Bare(term) => add_unbound(table, bound, term, found),
+        Tree::Bare(term) => add_unbound(term, table, bound, found),
         Tree::Equal(left, right)
         | Tree::Differ(left, right)
         | Tree::Less(left, right)
         | Tree::AtMost(left, right)
         | Tree::More(left, right)
-        | Tree::AtLeast(left, right) => add_unbound_sides(table, bound, left, right, found),
-        Tree::Paren(inner) | Tree::Not(inner) => add_free(table, bound, inner, found),
+        | Tree::AtLeast(left, right) => add_unbound_sides(left, right, table, bound, found),
+        Tree::Paren(inner) | Tree::Not(inner) => add_free(inner, table, bound, found),
         Tree::Both(first, second)
         | Tree::Either(first, second)
         | Tree::Implies(first, second)
         | Tree::Same(first, second) => {
-            add_free(table, bound, first, found)?;
-            add_free(table, bound, second, found)
+            add_free(first, table, bound, found)?;
+            add_free(second, table, bound, found)
         }
         Tree::ForAll(name, inner) | Tree::Exists(name, inner) => {
-            add_inside(table, bound, name, inner, found)
+            add_inside(inner, table, bound, name, found)
         }
     }
 }
@@ -183,15 +183,15 @@ pub(crate) fn add_free(
 /// The free occurrences of variables in a formula.
 pub(crate) fn free(
     alloc: Global,
-    table: &Table,
     formula: &Tree<'_>,
+    table: &Table,
 ) -> Result<Vec<u32>, OutOfMemory>
     ensures { IfOk result (λ found.
         found.items ≡ words.free (vocabulary_of table.now) [] (plain_tree formula.now)) }
 {
     let mut found = Vec::new(alloc);
     let mut bound = Vec::new(alloc);
-    let added = add_free(table, &mut bound, formula, &mut found);
+    let added = add_free(formula, table, &mut bound, &mut found);
     drop(bound);
     filled(found, added)
 }

@@ -24,38 +24,38 @@ pub(crate) enum Check {
     Misfits,
 }
 
-fn bare_fails(table: &Table, check: Check, term: &TermTree<'_>) -> bool
+fn bare_fails(term: &TermTree<'_>, table: &Table, check: Check) -> bool
     ensures { result ≡ leaf_test (vocabulary_of table.now) check (Bare (plain_term term.now)) }
 {
     match check {
-        Check::Mentions(property) => term_has(table, property, term),
-        Check::Unknown => term_has(table, Property::Unknown, term),
-        Check::Misfits => bare_misfits(table, term),
+        Check::Mentions(property) => term_has(term, table, property),
+        Check::Unknown => term_has(term, table, Property::Unknown),
+        Check::Misfits => bare_misfits(term, table),
     }
 }
 
 /// Whether one of two sums has a name with the property.
-fn sides_have(table: &Table, property: Property, left: &SumTree<'_>, right: &SumTree<'_>) -> bool
+fn sides_have(left: &SumTree<'_>, right: &SumTree<'_>, table: &Table, property: Property) -> bool
     ensures { result ≡ faults.sum_has (vocabulary_of table.now) (asks property) (plain_sum left.now)
         || faults.sum_has (vocabulary_of table.now) (asks property) (plain_sum right.now) }
 {
-    sum_has(table, property, left) || sum_has(table, property, right)
+    sum_has(left, table, property) || sum_has(right, table, property)
 }
 
 fn comparison_fails(
+    left: &SumTree<'_>,
+    right: &SumTree<'_>,
     table: &Table,
     check: Check,
     comparison: Comparison,
-    left: &SumTree<'_>,
-    right: &SumTree<'_>,
 ) -> bool
     ensures { result ≡ leaf_test (vocabulary_of table.now) check
         (Compared (comparison_of comparison) (plain_sum left.now) (plain_sum right.now)) }
 {
     match check {
-        Check::Mentions(property) => sides_have(table, property, left, right),
-        Check::Unknown => sides_have(table, Property::Unknown, left, right),
-        Check::Misfits => comparison_misfits(table, comparison, left, right),
+        Check::Mentions(property) => sides_have(left, right, table, property),
+        Check::Unknown => sides_have(left, right, table, Property::Unknown),
+        Check::Misfits => comparison_misfits(left, right, table, comparison),
     }
 }
 
@@ -70,28 +70,28 @@ fn bracket_fails(table: &Table, check: Check, name: &str) -> bool
 }
 
 /// Whether a term or a bracket of a formula fails the check.
-pub(crate) fn formula_fails(table: &Table, check: Check, formula: &Tree<'_>) -> bool
+pub(crate) fn formula_fails(formula: &Tree<'_>, table: &Table, check: Check) -> bool
     ensures { result ≡ fails (vocabulary_of table.now) check (plain_tree formula.now) }
 {
     match formula {
-        Tree::Bare(term) => bare_fails(table, check, term),
+        Tree::Bare(term) => bare_fails(term, table, check),
         Tree::Equal(left, right)
         | Tree::Differ(left, right)
         | Tree::Less(left, right)
         | Tree::AtMost(left, right)
         | Tree::More(left, right)
         | Tree::AtLeast(left, right) => {
-            comparison_fails(table, check, comparison_in(formula), left, right)
+            comparison_fails(left, right, table, check, comparison_in(formula))
         }
-        Tree::Paren(inner) | Tree::Not(inner) => formula_fails(table, check, inner),
+        Tree::Paren(inner) | Tree::Not(inner) => formula_fails(inner, table, check),
         Tree::Both(first, second)
         | Tree::Either(first, second)
         | Tree::Implies(first, second)
         | Tree::Same(first, second) => {
-            formula_fails(table, check, first) || formula_fails(table, check, second)
+            formula_fails(first, table, check) || formula_fails(second, table, check)
         }
         Tree::ForAll(name, inner) | Tree::Exists(name, inner) => {
-            bracket_fails(table, check, name) || formula_fails(table, check, inner)
+            bracket_fails(table, check, name) || formula_fails(inner, table, check)
         }
     }
 }

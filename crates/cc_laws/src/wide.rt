@@ -83,14 +83,14 @@ fn all_widened(alloc: Global, laws: Vec<BaseLaw>) -> Result<Vec<WideBase>, OutOf
 }
 
 /// The class of a law with the `after` part of this one and this head.
-fn class_of(table: &Table, law: &LawTree<'_>, later: bool, head: &Tree<'_>) -> LawKind
+fn class_of(law: &LawTree<'_>, head: &Tree<'_>, table: &Table, later: bool) -> LawKind
     ensures { result ≡ words.wide_class (vocabulary_of table.now)
         (plain_caused law.now later).after (plain_tree head.now) }
 {
     if !lacks_after(law, later) {
         return LawKind::FluentDynamic;
     }
-    if has(table, Property::Action, head) {
+    if has(head, table, Property::Action) {
         LawKind::ActionDynamic
     } else {
         LawKind::Static
@@ -108,11 +108,11 @@ struct WholeParts {
 /// The parts of a law whose head is kept whole. The brackets of the head have their numbers last.
 fn whole_parts(
     alloc: Global,
+    law: &LawTree<'_>,
+    head: &Tree<'_>,
     table: &Table,
     names: &mut Names,
-    law: &LawTree<'_>,
     later: bool,
-    head: &Tree<'_>,
 ) -> Result<WholeParts, OutOfMemory>
     ensures body { IfOk result (λ made.
         plain_formula made.body.value ≡ words_of.part (vocabulary_of table.now)
@@ -126,34 +126,34 @@ fn whole_parts(
         (names.old.next + words_of.part_brackets (plain_caused law.now later).body
         + words_of.part_brackets (plain_caused law.now later).after) (plain_tree head.now)) }
 {
-    let body = boxed(alloc, written_body(alloc, table, names, law, later))?;
-    let after = boxed(alloc, resolve_after(alloc, table, names, law, later))?;
-    let head = boxed(alloc, resolve(alloc, table, names, head))?;
+    let body = boxed(alloc, written_body(alloc, law, table, names, later))?;
+    let after = boxed(alloc, resolve_after(alloc, law, table, names, later))?;
+    let head = boxed(alloc, resolve(alloc, head, table, names))?;
     Ok(WholeParts { head, body, after })
 }
 
 /// The law whose head is kept whole.
 fn whole_law(
     alloc: Global,
+    law: &LawTree<'_>,
+    head: &Tree<'_>,
     table: &Table,
     source: &Source<'_, '_>,
-    law: &LawTree<'_>,
     later: bool,
-    head: &Tree<'_>,
 ) -> Result<WideBase, OutOfMemory>
     ensures { IfOk result (λ made. plain_wide_base made ≡ words.whole_law (vocabulary_of table.now)
         (frame_from (vocabulary_of table.now) source.now) (plain_caused law.now later)
         (plain_tree head.now)) }
 {
     let mut frame = law_frame(alloc, table, source)?;
-    let parts = whole_parts(alloc, table, &mut frame.names, law, later, head)?;
+    let parts = whole_parts(alloc, law, head, table, &mut frame.names, later)?;
     Ok(WideBase::One(WideLaw {
         ranges: List::of(frame.ranges),
         head: Box::into_inner(parts.head),
         body: Box::into_inner(parts.body),
         after: Box::into_inner(parts.after),
         test: Box::into_inner(frame.test),
-        kind: class_of(table, law, later, head),
+        kind: class_of(law, head, table, later),
         file: frame.file,
         line: frame.line,
     }))
@@ -162,22 +162,22 @@ fn whole_law(
 /// The law of a law that is short for another one, where its head is kept whole.
 fn whole_laws(
     alloc: Global,
+    law: &LawTree<'_>,
     table: &Table,
     source: &Source<'_, '_>,
-    law: &LawTree<'_>,
 ) -> Result<Vec<WideBase>, OutOfMemory>
     ensures { IfOk result (λ made.
         map plain_wide_base made.items ≡ words.whole_short (vocabulary_of table.now)
         (frame_from (vocabulary_of table.now) source.now)
         (law_short_for (vocabulary_of table.now) (plain_law law.now))) }
 {
-    let later = is_later(table, law);
+    let later = is_later(law, table);
     match law {
         LawTree::Caused(head, _, _)
         | LawTree::Default(head, _, _)
         | LawTree::Causes(_, head, _)
         | LawTree::MayCause(_, head, _) => {
-            let whole = whole_law(alloc, table, source, law, later, head)?;
+            let whole = whole_law(alloc, law, head, table, source, later)?;
             only(alloc, whole)
         }
         _ => Ok(Vec::new(alloc)),
@@ -187,11 +187,11 @@ fn whole_laws(
 /// The laws of a law whose head is not definite.
 fn whole_in(
     alloc: Global,
+    law: &LawTree<'_>,
+    test: &Option<Box<Tree<'_>>>,
     file: u32,
     table: &Table,
     line: u32,
-    law: &LawTree<'_>,
-    test: &Option<Box<Tree<'_>>>,
 ) -> Result<Vec<WideBase>, OutOfMemory>
     ensures { IfOk result (λ made. map plain_wide_base made.items
         ≡ words.whole_short (vocabulary_of table.now) (law_frame_of file (vocabulary_of table.now)
@@ -199,44 +199,44 @@ fn whole_in(
         (option_map boxed_tree test.now))
         (law_short_for (vocabulary_of table.now) (plain_law law.now))) }
 {
-    let variables = law_variables(alloc, table, law)?;
+    let variables = law_variables(alloc, law, table)?;
     let source = Source {
         file,
         line,
         variables: &variables,
         test,
     };
-    whole_laws(alloc, table, &source, law)
+    whole_laws(alloc, law, table, &source)
 }
 
 /// The laws of a law and its test: of one with a definite head its base laws.
 fn wide_in(
     alloc: Global,
+    law: &LawTree<'_>,
+    test: &Option<Box<Tree<'_>>>,
     file: u32,
     table: &Table,
     line: u32,
-    law: &LawTree<'_>,
-    test: &Option<Box<Tree<'_>>>,
 ) -> Result<Vec<WideBase>, OutOfMemory>
     ensures { IfOk result (λ made. map plain_wide_base made.items
         ≡ words.wide_laws file (vocabulary_of table.now) line
         (tree_words.Law (plain_law law.now) (option_map boxed_tree test.now))) }
 {
-    if has_indefinite_head(table, law) {
-        return whole_in(alloc, file, table, line, law, test);
+    if has_indefinite_head(law, table) {
+        return whole_in(alloc, law, test, file, table, line);
     }
-    let laws = laws_in(alloc, file, table, line, law, test)?;
+    let laws = laws_in(alloc, law, test, file, table, line)?;
     all_widened(alloc, laws)
 }
 
 /// The laws of a law and its test, where it has no fault but perhaps that its head is not definite.
 fn expand_wide_law(
     alloc: Global,
+    law: &LawTree<'_>,
+    test: &Option<Box<Tree<'_>>>,
     file: u32,
     table: &Table,
     line: u32,
-    law: &LawTree<'_>,
-    test: &Option<Box<Tree<'_>>>,
 ) -> Result<Vec<WideBase>, Fault>
     ensures checked { IfOk result (λ made. least (wide_faults (vocabulary_of table.now)
         (plain_law law.now) (optional (option_map boxed_tree test.now))) ≡ None) }
@@ -246,8 +246,8 @@ fn expand_wide_law(
     ensures refused { IfErr result (IsRefusedBy (refused_if file line (least (wide_faults
         (vocabulary_of table.now) (plain_law law.now) (optional (option_map boxed_tree test.now)))))) }
 {
-    match passed(wide_fault(alloc, table, law, test), file, line) {
-        Ok(()) => given(wide_in(alloc, file, table, line, law, test)),
+    match passed(wide_fault(alloc, law, test, table), file, line) {
+        Ok(()) => given(wide_in(alloc, law, test, file, table, line)),
         Err(fault) => Err(fault),
     }
 }
@@ -255,26 +255,26 @@ fn expand_wide_law(
 /// The laws of a statement of constants.
 fn declared_wide(
     alloc: Global,
+    items: &[ConstItem<'_>],
     file: u32,
     table: &Table,
     line: u32,
-    items: &[ConstItem<'_>],
 ) -> Result<Vec<WideBase>, OutOfMemory>
     ensures { IfOk result (λ made. map plain_wide_base made.items ≡ map words.widened (flat_map
         (words_of.item_laws file (vocabulary_of table.now) line)
         (map plain_const_item items.now))) }
 {
-    let laws = declared_laws(alloc, file, table, line, items)?;
+    let laws = declared_laws(alloc, items, file, table, line)?;
     all_widened(alloc, laws)
 }
 
 /// The laws of a statement's part, where it has no such fault.
 fn expand_wide_part(
     alloc: Global,
+    part: &Part<'_>,
     file: u32,
     table: &Table,
     line: u32,
-    part: &Part<'_>,
 ) -> Result<Vec<WideBase>, Fault>
     ensures checked { IfOk result (λ made.
         wide_part_fault (vocabulary_of table.now) (plain_part part.now) ≡ None) }
@@ -284,10 +284,25 @@ fn expand_wide_part(
         (wide_part_fault (vocabulary_of table.now) (plain_part part.now)))) }
 {
     match part {
-        Part::Law(law, test) => expand_wide_law(alloc, file, table, line, law, test),
-        Part::Constants(items) => given(declared_wide(alloc, file, table, line, items.items())),
+        Part::Law(law, test) => expand_wide_law(alloc, law, test, file, table, line),
+        Part::Constants(items) => given(declared_wide(alloc, items.items(), file, table, line)),
         _ => Ok(Vec::new(alloc)),
     }
+}
+
+/// The laws of a statement, which is the first that is lent here and wherever it is taken apart.
+fn expand_wide_statement(
+    alloc: Global,
+    statement: &Statement<'_>,
+    file: u32,
+    table: &Table,
+) -> Result<WideLaws, Fault>
+    ensures expanded { (left : Items Declared) → IsTable table.now left → IfOk result (λ laws.
+        ExpandsWide file left (plain_statement statement.now) (map plain_wide_base laws)) }
+    ensures refused { (left : Items Declared) → IsTable table.now left → IfErr result
+        (IsRefusedBy (wide_refusal file (vocabulary left) (plain_statement statement.now))) }
+{
+    listed(expand_wide_part(alloc, &statement.part, file, table, statement.line))
 }
 
 /// The laws that a law, or a statement of constants that was declared, stands for, in order, where heads may be formulas of
@@ -305,5 +320,5 @@ pub fn expand_wide(
     ensures refused { (left : Items Declared) → IsTable table.now left → IfErr result
         (IsRefusedBy (wide_refusal file (vocabulary left) (plain_statement statement.now))) }
 {
-    listed(expand_wide_part(alloc, file, table, statement.line, &statement.part))
+    expand_wide_statement(alloc, statement, file, table)
 }
