@@ -1,4 +1,4 @@
-use Rattle.std.proofs.Common.{refl, ap}
+use Rattle.std.proofs.Common.{ap}
 use Rattle.cc_defs.specs.declared.tree.Part.{Part}
 use Rattle.cc_defs.specs.Resolved.{plain_base_law}
 use Rattle.cc_defs.specs.Trees.{plain_part, plain_statement}
@@ -7,7 +7,7 @@ use Rattle.cc_laws.specs.LawFaults.{law_refusal, part_fault}
 use Rattle.cc_laws.specs.Vocabulary.{vocabulary, vocabulary_of}
 use Rattle.cc_laws.proofs.Expansions.{expanded_so}
 use Rattle.cc_laws.proofs.Verdicts.{law_refused, listed_so, listed_refused}
-use Rattle.cc_laws.proofs.expansion.expand_statement.Goals as goal
+use Rattle.cc_laws.proofs.expansion.expand.Goals as goal
 
 pub returns-clause-expanded : goal.returns-clause-expanded
 returns-clause-expanded c = λ left is.
