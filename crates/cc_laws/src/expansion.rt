@@ -326,12 +326,12 @@ fn laws_with(
 }
 
 /// The base laws of a law and its test.
-pub(crate) fn laws_in(
+pub(crate) fn laws_in<'t, 's, 'a>(
     alloc: Global,
-    law: &LawTree<'_>,
-    test: &Option<Box<Tree<'_>>>,
+    law: &'t LawTree<'s>,
+    test: &'t Option<Box<Tree<'s>>>,
     file: u32,
-    table: &Table,
+    table: &'a Table,
     line: u32,
 ) -> Result<Vec<BaseLaw>, OutOfMemory>
     ensures { IfOk result (λ made. map plain_base_law made.items ≡ words.laws_in file
@@ -597,12 +597,12 @@ pub(crate) fn declared_laws(
 }
 
 /// The base laws of a law and its test, where it has no fault.
-fn expand_law(
+fn expand_law<'t, 's, 'a>(
     alloc: Global,
-    law: &LawTree<'_>,
-    test: &Option<Box<Tree<'_>>>,
+    law: &'t LawTree<'s>,
+    test: &'t Option<Box<Tree<'s>>>,
     file: u32,
-    table: &Table,
+    table: &'a Table,
     line: u32,
 ) -> Result<Vec<BaseLaw>, Fault>
     ensures checked { IfOk result (λ made. least (law_faults (vocabulary_of table.now)

@@ -187,12 +187,12 @@ fn compared(
 }
 
 #[inline(never)]
-fn resolve_compared(
+fn resolve_compared<'t, 's, 'a, 'b>(
     alloc: Global,
-    left: &SumTree<'_>,
-    right: &SumTree<'_>,
-    table: &Table,
-    names: &Names,
+    left: &'t SumTree<'s>,
+    right: &'t SumTree<'s>,
+    table: &'a Table,
+    names: &'b Names,
     comparison: Comparison,
 ) -> Result<Formula, OutOfMemory>
     ensures { IfOk result (λ made. plain_formula made ≡ words.compared (comparison_of comparison)
@@ -238,12 +238,12 @@ pub(crate) fn resolve_not(
 /// Two formulas, joined. The first is put into its box before the second is made.
 #[cycle(resolve)]
 #[inline(never)]
-pub(crate) fn resolve_two(
+pub(crate) fn resolve_two<'t, 's, 'a, 'b>(
     alloc: Global,
-    first: &Tree<'_>,
-    second: &Tree<'_>,
-    table: &Table,
-    names: &mut Names,
+    first: &'t Tree<'s>,
+    second: &'t Tree<'s>,
+    table: &'a Table,
+    names: &'b mut Names,
     joint: Joint,
 ) -> Result<Formula, OutOfMemory>
     ensures made { IfOk result (λ made. plain_formula made ≡ joined_by joint

@@ -35,17 +35,22 @@ fn bare_fails(term: &TermTree<'_>, table: &Table, check: Check) -> bool
 }
 
 /// Whether one of two sums has a name with the property.
-fn sides_have(left: &SumTree<'_>, right: &SumTree<'_>, table: &Table, property: Property) -> bool
+fn sides_have<'t, 's, 'a>(
+    left: &'t SumTree<'s>,
+    right: &'t SumTree<'s>,
+    table: &'a Table,
+    property: Property,
+) -> bool
     ensures { result ≡ faults.sum_has (vocabulary_of table.now) (asks property) (plain_sum left.now)
         || faults.sum_has (vocabulary_of table.now) (asks property) (plain_sum right.now) }
 {
     sum_has(left, table, property) || sum_has(right, table, property)
 }
 
-fn comparison_fails(
-    left: &SumTree<'_>,
-    right: &SumTree<'_>,
-    table: &Table,
+fn comparison_fails<'t, 's, 'a>(
+    left: &'t SumTree<'s>,
+    right: &'t SumTree<'s>,
+    table: &'a Table,
     check: Check,
     comparison: Comparison,
 ) -> bool

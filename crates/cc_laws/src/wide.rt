@@ -83,7 +83,12 @@ fn all_widened(alloc: Global, laws: Vec<BaseLaw>) -> Result<Vec<WideBase>, OutOf
 }
 
 /// The class of a law with the `after` part of this one and this head.
-fn class_of(law: &LawTree<'_>, head: &Tree<'_>, table: &Table, later: bool) -> LawKind
+fn class_of<'t, 's, 'a>(
+    law: &'t LawTree<'s>,
+    head: &'t Tree<'s>,
+    table: &'a Table,
+    later: bool,
+) -> LawKind
     ensures { result ≡ words.wide_class (vocabulary_of table.now)
         (plain_caused law.now later).after (plain_tree head.now) }
 {
@@ -106,12 +111,12 @@ struct WholeParts {
 }
 
 /// The parts of a law whose head is kept whole. The brackets of the head have their numbers last.
-fn whole_parts(
+fn whole_parts<'t, 's, 'a, 'b>(
     alloc: Global,
-    law: &LawTree<'_>,
-    head: &Tree<'_>,
-    table: &Table,
-    names: &mut Names,
+    law: &'t LawTree<'s>,
+    head: &'t Tree<'s>,
+    table: &'a Table,
+    names: &'b mut Names,
     later: bool,
 ) -> Result<WholeParts, OutOfMemory>
     ensures body { IfOk result (λ made.
@@ -133,12 +138,12 @@ fn whole_parts(
 }
 
 /// The law whose head is kept whole.
-fn whole_law(
+fn whole_law<'t, 's, 'a, 'b, 'c, 'd>(
     alloc: Global,
-    law: &LawTree<'_>,
-    head: &Tree<'_>,
-    table: &Table,
-    source: &Source<'_, '_>,
+    law: &'t LawTree<'s>,
+    head: &'t Tree<'s>,
+    table: &'a Table,
+    source: &'b Source<'c, 'd>,
     later: bool,
 ) -> Result<WideBase, OutOfMemory>
     ensures { IfOk result (λ made. plain_wide_base made ≡ words.whole_law (vocabulary_of table.now)
@@ -185,12 +190,12 @@ fn whole_laws(
 }
 
 /// The laws of a law whose head is not definite.
-fn whole_in(
+fn whole_in<'t, 's, 'a>(
     alloc: Global,
-    law: &LawTree<'_>,
-    test: &Option<Box<Tree<'_>>>,
+    law: &'t LawTree<'s>,
+    test: &'t Option<Box<Tree<'s>>>,
     file: u32,
-    table: &Table,
+    table: &'a Table,
     line: u32,
 ) -> Result<Vec<WideBase>, OutOfMemory>
     ensures { IfOk result (λ made. map plain_wide_base made.items
@@ -210,12 +215,12 @@ fn whole_in(
 }
 
 /// The laws of a law and its test: of one with a definite head its base laws.
-fn wide_in(
+fn wide_in<'t, 's, 'a>(
     alloc: Global,
-    law: &LawTree<'_>,
-    test: &Option<Box<Tree<'_>>>,
+    law: &'t LawTree<'s>,
+    test: &'t Option<Box<Tree<'s>>>,
     file: u32,
-    table: &Table,
+    table: &'a Table,
     line: u32,
 ) -> Result<Vec<WideBase>, OutOfMemory>
     ensures { IfOk result (λ made. map plain_wide_base made.items
@@ -230,12 +235,12 @@ fn wide_in(
 }
 
 /// The laws of a law and its test, where it has no fault but perhaps that its head is not definite.
-fn expand_wide_law(
+fn expand_wide_law<'t, 's, 'a>(
     alloc: Global,
-    law: &LawTree<'_>,
-    test: &Option<Box<Tree<'_>>>,
+    law: &'t LawTree<'s>,
+    test: &'t Option<Box<Tree<'s>>>,
     file: u32,
-    table: &Table,
+    table: &'a Table,
     line: u32,
 ) -> Result<Vec<WideBase>, Fault>
     ensures checked { IfOk result (λ made. least (wide_faults (vocabulary_of table.now)
