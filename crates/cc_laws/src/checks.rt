@@ -57,10 +57,10 @@ fn formulas_fail(law: &LawTree<'_>, table: &Table, check: Check) -> bool
 }
 
 /// Whether a formula of a law or its test fails the check.
-fn law_fails<'t, 's, 'a>(
+fn law_fails<'t, 's>(
     law: &'t LawTree<'s>,
     test: &'t Option<Box<Tree<'s>>>,
-    table: &'a Table,
+    table: &Table,
     check: Check,
 ) -> bool
     ensures { result ≡ list_any (fails (vocabulary_of table.now) check)
@@ -83,10 +83,10 @@ fn subject_has(law: &LawTree<'_>, table: &Table, property: Property) -> bool
 }
 
 #[tactic(auto, using(crate::proofs::Failing::some_unknown))]
-fn law_has_unknown<'t, 's, 'a>(
+fn law_has_unknown<'t, 's>(
     law: &'t LawTree<'s>,
     test: &'t Option<Box<Tree<'s>>>,
-    table: &'a Table,
+    table: &Table,
 ) -> bool
     ensures { result ≡ faults.law_has_unknown
         (vocabulary_of table.now) (plain_law law.now) (optional (option_map boxed_tree test.now)) }
@@ -94,10 +94,10 @@ fn law_has_unknown<'t, 's, 'a>(
     law_fails(law, test, table, Check::Unknown) || subject_has(law, table, Property::Unknown)
 }
 
-fn law_has_miscounted<'t, 's, 'a>(
+fn law_has_miscounted<'t, 's>(
     law: &'t LawTree<'s>,
     test: &'t Option<Box<Tree<'s>>>,
-    table: &'a Table,
+    table: &Table,
 ) -> bool
     ensures { result ≡ faults.law_has_miscounted
         (vocabulary_of table.now) (plain_law law.now) (optional (option_map boxed_tree test.now)) }
@@ -127,11 +127,7 @@ fn subject_misfits(law: &LawTree<'_>, table: &Table) -> bool
 }
 
 /// Whether something in a law or its test does not fit.
-fn law_misfits<'t, 's, 'a>(
-    law: &'t LawTree<'s>,
-    test: &'t Option<Box<Tree<'s>>>,
-    table: &'a Table,
-) -> bool
+fn law_misfits<'t, 's>(law: &'t LawTree<'s>, test: &'t Option<Box<Tree<'s>>>, table: &Table) -> bool
     ensures { result ≡ faults.law_misfits
         (vocabulary_of table.now) (plain_law law.now) (optional (option_map boxed_tree test.now)) }
 {
@@ -157,12 +153,12 @@ fn add_part(
 }
 
 /// Adds the free occurrences of variables in a formula and a part that may be missing.
-fn add_two<'t, 's, 'a, 'b, 'c>(
+fn add_two<'t, 's>(
     first: &'t Tree<'s>,
     part: &'t Option<Box<Tree<'s>>>,
-    table: &'a Table,
-    bound: &'b mut Vec<u32>,
-    found: &'c mut Vec<u32>,
+    table: &Table,
+    bound: &mut Vec<u32>,
+    found: &mut Vec<u32>,
 ) -> Result<(), OutOfMemory>
     ensures added { OnOk result
         (found.new.items ≡ found.old.items ++ flat_map (free (vocabulary_of table.now)
@@ -174,13 +170,13 @@ fn add_two<'t, 's, 'a, 'b, 'c>(
 }
 
 /// Adds those in a formula and two parts that may be missing.
-fn add_three<'t, 's, 'a, 'b, 'c>(
+fn add_three<'t, 's>(
     first: &'t Tree<'s>,
     body: &'t Option<Box<Tree<'s>>>,
     after: &'t Option<Box<Tree<'s>>>,
-    table: &'a Table,
-    bound: &'b mut Vec<u32>,
-    found: &'c mut Vec<u32>,
+    table: &Table,
+    bound: &mut Vec<u32>,
+    found: &mut Vec<u32>,
 ) -> Result<(), OutOfMemory>
     ensures { OnOk result (found.new.items ≡ found.old.items ++ flat_map
         (free (vocabulary_of table.now) bound.old.items)
@@ -192,13 +188,13 @@ fn add_three<'t, 's, 'a, 'b, 'c>(
 }
 
 /// Adds those in actions, their effect and a part that may be missing.
-fn add_effect<'t, 's, 'a, 'b, 'c>(
+fn add_effect<'t, 's>(
     actions: &'t Tree<'s>,
     effect: &'t Tree<'s>,
     part: &'t Option<Box<Tree<'s>>>,
-    table: &'a Table,
-    bound: &'b mut Vec<u32>,
-    found: &'c mut Vec<u32>,
+    table: &Table,
+    bound: &mut Vec<u32>,
+    found: &mut Vec<u32>,
 ) -> Result<(), OutOfMemory>
     ensures { OnOk result (found.new.items ≡ found.old.items ++ flat_map
         (free (vocabulary_of table.now) bound.old.items)
@@ -258,11 +254,11 @@ pub(crate) fn law_variables(
 }
 
 /// Whether a `where` test, which may be missing, has a variable that is not free in the law before it.
-fn has_unbound<'t, 's, 'a>(
+fn has_unbound<'t, 's>(
     alloc: Global,
     law: &'t LawTree<'s>,
     test: &'t Option<Box<Tree<'s>>>,
-    table: &'a Table,
+    table: &Table,
 ) -> Result<bool, OutOfMemory>
     ensures { IfOk result (λ unbound. unbound ≡ list_any (faults.has_unbound
         (vocabulary_of table.now) (faults.law_variables (vocabulary_of table.now)
@@ -280,11 +276,11 @@ fn has_unbound<'t, 's, 'a>(
 /// of arguments (6), a term where its sort or kind does not fit (7), a `where` test with a variable that is not free in the
 /// law before it (8), a law of none of the three forms or a part of the wrong kind (9), a statically determined fluent in the
 /// head of a fluent dynamic law (10).
-pub(crate) fn wide_fault<'t, 's, 'a>(
+pub(crate) fn wide_fault<'t, 's>(
     alloc: Global,
     law: &'t LawTree<'s>,
     test: &'t Option<Box<Tree<'s>>>,
-    table: &'a Table,
+    table: &Table,
 ) -> Result<Option<u8>, OutOfMemory>
     ensures { IfOk result (λ fault. fault ≡ least (wide_faults (vocabulary_of table.now)
         (plain_law law.now) (optional (option_map boxed_tree test.now)))) }
@@ -311,11 +307,11 @@ pub(crate) fn wide_fault<'t, 's, 'a>(
 }
 
 /// The least number of a fault of a law, if it has one; a head that is not definite has the greatest (11).
-pub(crate) fn law_fault<'t, 's, 'a>(
+pub(crate) fn law_fault<'t, 's>(
     alloc: Global,
     law: &'t LawTree<'s>,
     test: &'t Option<Box<Tree<'s>>>,
-    table: &'a Table,
+    table: &Table,
 ) -> Result<Option<u8>, OutOfMemory>
     ensures { IfOk result (λ fault. fault ≡ least (faults.law_faults (vocabulary_of table.now)
         (plain_law law.now) (optional (option_map boxed_tree test.now)))) }

@@ -49,11 +49,11 @@ fn is_fluent_part(part: &Option<Box<Tree<'_>>>, table: &Table) -> bool
 }
 
 /// Whether `caused F if G after H` has one of the three forms.
-fn has_form<'t, 's, 'a>(
+fn has_form<'t, 's>(
     head: &'t Tree<'s>,
     body: &'t Option<Box<Tree<'s>>>,
     after: &'t Option<Box<Tree<'s>>>,
-    table: &'a Table,
+    table: &Table,
 ) -> bool
     ensures { result ≡ faults.has_form (vocabulary_of table.now) (plain_tree head.now)
         (optional (option_map boxed_tree body.now)) (option_map boxed_tree after.now) }
@@ -104,10 +104,10 @@ pub(crate) fn lacks_form(law: &LawTree<'_>, table: &Table) -> bool
 }
 
 /// Whether the head of a law with an `after` part has a statically determined fluent.
-fn has_determined_after<'t, 's, 'a>(
+fn has_determined_after<'t, 's>(
     head: &'t Tree<'s>,
     after: &'t Option<Box<Tree<'s>>>,
-    table: &'a Table,
+    table: &Table,
 ) -> bool
     ensures { result ≡ faults.has_determined_after
         (vocabulary_of table.now) (plain_tree head.now) (option_map boxed_tree after.now) }

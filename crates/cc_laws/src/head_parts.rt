@@ -78,13 +78,13 @@ fn add_bare(
 }
 
 /// Adds the head that a constant has the value of a sum.
-fn add_value<'t, 's, 'a, 'b, 'c>(
+fn add_value<'t, 's>(
     alloc: Global,
     constant: &'t TermTree<'s>,
     value: &'t SumTree<'s>,
-    table: &'a Table,
-    names: &'b Names,
-    found: &'c mut Vec<Head>,
+    table: &Table,
+    names: &Names,
+    found: &mut Vec<Head>,
 ) -> Result<bool, OutOfMemory>
     ensures { IfOk result (λ definite. only_if definite (Some (map plain_head found.new.items))
         ≡ both_heads (Some (map plain_head found.old.items)) (words.atom (vocabulary_of table.now)
@@ -97,13 +97,13 @@ fn add_value<'t, 's, 'a, 'b, 'c>(
 
 #[tactic(auto, using(crate::proofs::HeadTests::valued_left, crate::proofs::HeadTests::valued_right))]
 /// Adds the head of an equation: the constant alone on one side has the value on the other, which has no constant.
-fn add_equation<'t, 's, 'a, 'b, 'c>(
+fn add_equation<'t, 's>(
     alloc: Global,
     left: &'t SumTree<'s>,
     right: &'t SumTree<'s>,
-    table: &'a Table,
-    names: &'b Names,
-    found: &'c mut Vec<Head>,
+    table: &Table,
+    names: &Names,
+    found: &mut Vec<Head>,
 ) -> Result<bool, OutOfMemory>
     ensures { IfOk result (λ definite.
         only_if definite (Some (map plain_head found.new.items)) ≡ both_heads
@@ -120,13 +120,13 @@ fn add_equation<'t, 's, 'a, 'b, 'c>(
 }
 
 /// Adds the head that a Boolean constant has the other one of `false` and `true` than the term beside it.
-fn add_opposite<'t, 's, 'a, 'b, 'c>(
+fn add_opposite<'t, 's>(
     alloc: Global,
     constant: &'t TermTree<'s>,
     truth: &'t TermTree<'s>,
-    table: &'a Table,
-    names: &'b Names,
-    found: &'c mut Vec<Head>,
+    table: &Table,
+    names: &Names,
+    found: &mut Vec<Head>,
 ) -> Result<bool, OutOfMemory>
     ensures { IfOk result (λ definite. only_if definite (Some (map plain_head found.new.items))
         ≡ both_heads (Some (map plain_head found.old.items))
@@ -137,13 +137,13 @@ fn add_opposite<'t, 's, 'a, 'b, 'c>(
 }
 
 /// Adds the head of the denial of an equation of a Boolean constant with a truth value.
-fn add_denial<'t, 's, 'a, 'b, 'c>(
+fn add_denial<'t, 's>(
     alloc: Global,
     left: &'t SumTree<'s>,
     right: &'t SumTree<'s>,
-    table: &'a Table,
-    names: &'b Names,
-    found: &'c mut Vec<Head>,
+    table: &Table,
+    names: &Names,
+    found: &mut Vec<Head>,
 ) -> Result<bool, OutOfMemory>
     ensures { IfOk result (λ definite.
         only_if definite (Some (map plain_head found.new.items)) ≡ both_heads
@@ -175,13 +175,13 @@ fn add_denied_term(
 }
 
 /// Adds the head of `-s=t`, one of s and t a Boolean constant and the other a truth value.
-fn add_denied_equation<'t, 's, 'a, 'b, 'c>(
+fn add_denied_equation<'t, 's>(
     alloc: Global,
     left: &'t SumTree<'s>,
     right: &'t SumTree<'s>,
-    table: &'a Table,
-    names: &'b Names,
-    found: &'c mut Vec<Head>,
+    table: &Table,
+    names: &Names,
+    found: &mut Vec<Head>,
 ) -> Result<bool, OutOfMemory>
     ensures { IfOk result (λ definite.
         only_if definite (Some (map plain_head found.new.items)) ≡ both_heads

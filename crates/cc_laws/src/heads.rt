@@ -38,10 +38,10 @@ pub(crate) fn is_falsity_term(term: &TermTree<'_>, table: &Table) -> bool
 }
 
 /// The constant that a sum is alone, where the other sum has no constant.
-pub(crate) fn constant_beside<'t, 's, 'a>(
+pub(crate) fn constant_beside<'t, 's>(
     constant: &'t SumTree<'s>,
     value: &'t SumTree<'s>,
-    table: &'a Table,
+    table: &Table,
 ) -> Option<&'t TermTree<'s>>
     ensures { option_map (λ term. plain_term term.now) result ≡ is_beside
         (vocabulary_of table.now) (alone (plain_sum constant.now)) (plain_sum value.now) }
@@ -58,10 +58,10 @@ pub(crate) fn constant_beside<'t, 's, 'a>(
     }
 }
 
-fn has_constant_beside<'t, 's, 'a>(
+fn has_constant_beside<'t, 's>(
     constant: &'t SumTree<'s>,
     value: &'t SumTree<'s>,
-    table: &'a Table,
+    table: &Table,
 ) -> bool
     ensures { result ≡ is_some (is_beside
         (vocabulary_of table.now) (alone (plain_sum constant.now)) (plain_sum value.now)) }
@@ -73,10 +73,10 @@ fn has_constant_beside<'t, 's, 'a>(
 }
 
 /// Both terms, where a Boolean constant is compared with `false` or `true`.
-pub(crate) fn truth_beside<'t, 's, 'a>(
+pub(crate) fn truth_beside<'t, 's>(
     constant: &'t SumTree<'s>,
     value: &'t SumTree<'s>,
-    table: &'a Table,
+    table: &Table,
 ) -> Option<(&'t TermTree<'s>, &'t TermTree<'s>)>
     ensures { option_map (λ pair. (plain_term pair.0.now, plain_term pair.1.now)) result
         ≡ are_beside
@@ -95,10 +95,10 @@ pub(crate) fn truth_beside<'t, 's, 'a>(
     }
 }
 
-fn has_truth_beside<'t, 's, 'a>(
+fn has_truth_beside<'t, 's>(
     constant: &'t SumTree<'s>,
     value: &'t SumTree<'s>,
-    table: &'a Table,
+    table: &Table,
 ) -> bool
     ensures { result ≡ is_some (are_beside
         (vocabulary_of table.now) (alone (plain_sum constant.now)) (alone (plain_sum value.now))) }
@@ -119,7 +119,7 @@ fn is_definite_term(term: &TermTree<'_>, table: &Table) -> bool
 
 /// Whether an equation is an atom: one side is a constant alone and the other has none.
 #[tactic(auto, using(crate::proofs::HeadTests::equation_definite))]
-fn is_atom<'t, 's, 'a>(left: &'t SumTree<'s>, right: &'t SumTree<'s>, table: &'a Table) -> bool
+fn is_atom<'t, 's>(left: &'t SumTree<'s>, right: &'t SumTree<'s>, table: &Table) -> bool
     ensures { result ≡ faults.is_definite
         (vocabulary_of table.now) (comparison equal (plain_sum left.now) (plain_sum right.now)) }
 {
@@ -128,11 +128,7 @@ fn is_atom<'t, 's, 'a>(left: &'t SumTree<'s>, right: &'t SumTree<'s>, table: &'a
 
 /// Whether the denial of an equation is a head: a Boolean constant is compared with `false` or `true`.
 #[tactic(auto, using(crate::proofs::HeadTests::denial_definite))]
-fn is_definite_denial<'t, 's, 'a>(
-    left: &'t SumTree<'s>,
-    right: &'t SumTree<'s>,
-    table: &'a Table,
-) -> bool
+fn is_definite_denial<'t, 's>(left: &'t SumTree<'s>, right: &'t SumTree<'s>, table: &Table) -> bool
     ensures { result ≡ faults.is_definite
         (vocabulary_of table.now) (comparison differs (plain_sum left.now) (plain_sum right.now)) }
 {
@@ -148,10 +144,10 @@ fn is_deniable_term(term: &TermTree<'_>, table: &Table) -> bool
 }
 
 #[tactic(auto, using(crate::proofs::HeadTests::equation_deniable))]
-fn is_deniable_equation<'t, 's, 'a>(
+fn is_deniable_equation<'t, 's>(
     left: &'t SumTree<'s>,
     right: &'t SumTree<'s>,
-    table: &'a Table,
+    table: &Table,
 ) -> bool
     ensures { result ≡ is_some (words.denied_heads (vocabulary_of table.now) []
         (comparison equal (plain_sum left.now) (plain_sum right.now))) }

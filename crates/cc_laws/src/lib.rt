@@ -1,7 +1,7 @@
 //! Laws and queries: whether their statements have a fault, and what they say, with numbers in place of names.
 //!
-//! What a function takes apart (a statement, a law, a formula, a term) is lent to it first, or all its lifetimes are named, in
-//! this order: a call that leaves the places of such lifetimes as they are is proved in a tenth of the time.
+//! What a function takes apart (a statement, a law, a formula, a term) is lent to it first, and where there are two, both have
+//! the same lifetimes: a call that leaves such lifetimes at their places is proved in a fraction of the time.
 #![tactic(auto)]
 
 mod checks;

@@ -254,10 +254,10 @@ pub(crate) fn bare_misfits(term: &TermTree<'_>, table: &Table) -> bool
 }
 
 /// Whether two sums with a sign between them do not fit.
-pub(crate) fn comparison_misfits<'t, 's, 'a>(
+pub(crate) fn comparison_misfits<'t, 's>(
     left: &'t SumTree<'s>,
     right: &'t SumTree<'s>,
-    table: &'a Table,
+    table: &Table,
     comparison: Comparison,
 ) -> bool
     ensures { result ≡ faults.leaf_misfits (vocabulary_of table.now)

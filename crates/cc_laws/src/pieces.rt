@@ -51,12 +51,12 @@ pub(crate) fn lacks_after(law: &LawTree<'_>, later: bool) -> bool
 }
 
 /// `F & G`, where G may be missing, with numbers in place of names.
-fn resolve_both<'t, 's, 'a, 'b>(
+fn resolve_both<'t, 's>(
     alloc: Global,
     first: &'t Tree<'s>,
     second: &'t Option<Box<Tree<'s>>>,
-    table: &'a Table,
-    names: &'b mut Names,
+    table: &Table,
+    names: &mut Names,
 ) -> Result<Formula, OutOfMemory>
     ensures made { IfOk result (λ made.
         plain_formula made ≡ resolving.resolve (vocabulary_of table.now) (scope_of names.old)

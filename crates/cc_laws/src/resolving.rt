@@ -187,12 +187,12 @@ fn compared(
 }
 
 #[inline(never)]
-fn resolve_compared<'t, 's, 'a, 'b>(
+fn resolve_compared<'t, 's>(
     alloc: Global,
     left: &'t SumTree<'s>,
     right: &'t SumTree<'s>,
-    table: &'a Table,
-    names: &'b Names,
+    table: &Table,
+    names: &Names,
     comparison: Comparison,
 ) -> Result<Formula, OutOfMemory>
     ensures { IfOk result (λ made. plain_formula made ≡ words.compared (comparison_of comparison)
@@ -238,12 +238,12 @@ pub(crate) fn resolve_not(
 /// Two formulas, joined. The first is put into its box before the second is made.
 #[cycle(resolve)]
 #[inline(never)]
-pub(crate) fn resolve_two<'t, 's, 'a, 'b>(
+pub(crate) fn resolve_two<'t, 's>(
     alloc: Global,
     first: &'t Tree<'s>,
     second: &'t Tree<'s>,
-    table: &'a Table,
-    names: &'b mut Names,
+    table: &Table,
+    names: &mut Names,
     joint: Joint,
 ) -> Result<Formula, OutOfMemory>
     ensures made { IfOk result (λ made. plain_formula made ≡ joined_by joint

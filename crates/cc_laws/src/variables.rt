@@ -108,12 +108,12 @@ fn add_unbound_piece(
 }
 
 /// Adds those of two sums, one after the other.
-fn add_unbound_sides<'t, 's, 'a, 'b, 'c>(
+fn add_unbound_sides<'t, 's>(
     left: &'t SumTree<'s>,
     right: &'t SumTree<'s>,
-    table: &'a Table,
-    bound: &'b [u32],
-    found: &'c mut Vec<u32>,
+    table: &Table,
+    bound: &[u32],
+    found: &mut Vec<u32>,
 ) -> Result<(), OutOfMemory>
     ensures { OnOk result (found.new.items ≡ found.old.items ++ (words.unbound bound.now
         (words.sum_variables (vocabulary_of table.now) (plain_sum left.now)) ++ words.unbound

@@ -35,10 +35,10 @@ fn bare_fails(term: &TermTree<'_>, table: &Table, check: Check) -> bool
 }
 
 /// Whether one of two sums has a name with the property.
-fn sides_have<'t, 's, 'a>(
+fn sides_have<'t, 's>(
     left: &'t SumTree<'s>,
     right: &'t SumTree<'s>,
-    table: &'a Table,
+    table: &Table,
     property: Property,
 ) -> bool
     ensures { result ≡ faults.sum_has (vocabulary_of table.now) (asks property) (plain_sum left.now)
@@ -47,10 +47,10 @@ fn sides_have<'t, 's, 'a>(
     sum_has(left, table, property) || sum_has(right, table, property)
 }
 
-fn comparison_fails<'t, 's, 'a>(
+fn comparison_fails<'t, 's>(
     left: &'t SumTree<'s>,
     right: &'t SumTree<'s>,
-    table: &'a Table,
+    table: &Table,
     check: Check,
     comparison: Comparison,
 ) -> bool

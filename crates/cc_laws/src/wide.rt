@@ -83,12 +83,7 @@ fn all_widened(alloc: Global, laws: Vec<BaseLaw>) -> Result<Vec<WideBase>, OutOf
 }
 
 /// The class of a law with the `after` part of this one and this head.
-fn class_of<'t, 's, 'a>(
-    law: &'t LawTree<'s>,
-    head: &'t Tree<'s>,
-    table: &'a Table,
-    later: bool,
-) -> LawKind
+fn class_of<'t, 's>(law: &'t LawTree<'s>, head: &'t Tree<'s>, table: &Table, later: bool) -> LawKind
     ensures { result ≡ words.wide_class (vocabulary_of table.now)
         (plain_caused law.now later).after (plain_tree head.now) }
 {
@@ -111,12 +106,12 @@ struct WholeParts {
 }
 
 /// The parts of a law whose head is kept whole. The brackets of the head have their numbers last.
-fn whole_parts<'t, 's, 'a, 'b>(
+fn whole_parts<'t, 's>(
     alloc: Global,
     law: &'t LawTree<'s>,
     head: &'t Tree<'s>,
-    table: &'a Table,
-    names: &'b mut Names,
+    table: &Table,
+    names: &mut Names,
     later: bool,
 ) -> Result<WholeParts, OutOfMemory>
     ensures body { IfOk result (λ made.
@@ -138,12 +133,12 @@ fn whole_parts<'t, 's, 'a, 'b>(
 }
 
 /// The law whose head is kept whole.
-fn whole_law<'t, 's, 'a, 'b, 'c, 'd>(
+fn whole_law<'t, 's>(
     alloc: Global,
     law: &'t LawTree<'s>,
     head: &'t Tree<'s>,
-    table: &'a Table,
-    source: &'b Source<'c, 'd>,
+    table: &Table,
+    source: &Source<'_, '_>,
     later: bool,
 ) -> Result<WideBase, OutOfMemory>
     ensures { IfOk result (λ made. plain_wide_base made ≡ words.whole_law (vocabulary_of table.now)
@@ -190,12 +185,12 @@ fn whole_laws(
 }
 
 /// The laws of a law whose head is not definite.
-fn whole_in<'t, 's, 'a>(
+fn whole_in<'t, 's>(
     alloc: Global,
     law: &'t LawTree<'s>,
     test: &'t Option<Box<Tree<'s>>>,
     file: u32,
-    table: &'a Table,
+    table: &Table,
     line: u32,
 ) -> Result<Vec<WideBase>, OutOfMemory>
     ensures { IfOk result (λ made. map plain_wide_base made.items
@@ -215,12 +210,12 @@ fn whole_in<'t, 's, 'a>(
 }
 
 /// The laws of a law and its test: of one with a definite head its base laws.
-fn wide_in<'t, 's, 'a>(
+fn wide_in<'t, 's>(
     alloc: Global,
     law: &'t LawTree<'s>,
     test: &'t Option<Box<Tree<'s>>>,
     file: u32,
-    table: &'a Table,
+    table: &Table,
     line: u32,
 ) -> Result<Vec<WideBase>, OutOfMemory>
     ensures { IfOk result (λ made. map plain_wide_base made.items
@@ -235,12 +230,12 @@ fn wide_in<'t, 's, 'a>(
 }
 
 /// The laws of a law and its test, where it has no fault but perhaps that its head is not definite.
-fn expand_wide_law<'t, 's, 'a>(
+fn expand_wide_law<'t, 's>(
     alloc: Global,
     law: &'t LawTree<'s>,
     test: &'t Option<Box<Tree<'s>>>,
     file: u32,
-    table: &'a Table,
+    table: &Table,
     line: u32,
 ) -> Result<Vec<WideBase>, Fault>
     ensures checked { IfOk result (λ made. least (wide_faults (vocabulary_of table.now)
@@ -295,15 +290,12 @@ fn expand_wide_part(
     }
 }
 
-/// The laws that a law, or a statement of constants that was declared, stands for, in order, where heads may be formulas of
-/// any form: of a law with a definite head its base laws, with their atoms as equations; of another law one, whose head is
-/// kept whole. Refuses, at the statement's line, the least number from 5 to 10 of a fault of the law, as `expand` does; a head
-/// that is not definite is none. `file` is the number of the file in refusals.
-pub fn expand_wide<'t, 's, 'a>(
+/// The laws of a statement, as `expand_wide` says.
+fn expand_wide_statement(
     alloc: Global,
+    statement: &Statement<'_>,
     file: u32,
-    table: &'a Table,
-    statement: &'t Statement<'s>,
+    table: &Table,
 ) -> Result<WideLaws, Fault>
     ensures expanded { (left : Items Declared) → IsTable table.now left → IfOk result (λ laws.
         ExpandsWide file left (plain_statement statement.now) (map plain_wide_base laws)) }
@@ -311,4 +303,22 @@ pub fn expand_wide<'t, 's, 'a>(
         (IsRefusedBy (wide_refusal file (vocabulary left) (plain_statement statement.now))) }
 {
     listed(expand_wide_part(alloc, &statement.part, file, table, statement.line))
+}
+
+/// The laws that a law, or a statement of constants that was declared, stands for, in order, where heads may be formulas of
+/// any form: of a law with a definite head its base laws, with their atoms as equations; of another law one, whose head is
+/// kept whole. Refuses, at the statement's line, the least number from 5 to 10 of a fault of the law, as `expand` does; a head
+/// that is not definite is none. `file` is the number of the file in refusals.
+pub fn expand_wide(
+    alloc: Global,
+    file: u32,
+    table: &Table,
+    statement: &Statement<'_>,
+) -> Result<WideLaws, Fault>
+    ensures expanded { (left : Items Declared) → IsTable table.now left → IfOk result (λ laws.
+        ExpandsWide file left (plain_statement statement.now) (map plain_wide_base laws)) }
+    ensures refused { (left : Items Declared) → IsTable table.now left → IfErr result
+        (IsRefusedBy (wide_refusal file (vocabulary left) (plain_statement statement.now))) }
+{
+    expand_wide_statement(alloc, statement, file, table)
 }
