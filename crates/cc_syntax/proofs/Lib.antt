@@ -1,3 +1,4 @@
+pub mod Acting
 pub mod Addends
 pub mod Arguments
 pub mod Combined

@@ -4,7 +4,7 @@ use Rattle.std.proofs.Math.Dec.{eqb-suc-zero}
 use Rattle.std.proofs.lemmas.List.{map-append}
 use Rattle.cc_defs.specs.declared.tree.Piece.{Piece}
 use Rattle.cc_defs.specs.declared.tree.Addend.{Addend}
-use Rattle.cc_defs.specs.declared.tree.SumTree.{SumTree, SumTree-F, roll-SumTree, rolls-SumTree', Row_of-Addend, end_of-Addend, more_of-Addend, items-the_row-Addend, items_hidden-the_row-Addend-0}
+use Rattle.cc_defs.specs.declared.tree.SumTree.{SumTree, SumTree-F, roll-SumTree, out-SumTree, roll-out-SumTree, rolls-SumTree', Row_of-Addend, end_of-Addend, more_of-Addend, items-the_row-Addend, items_hidden-the_row-Addend-0}
 use Rattle.cc_defs.specs.declared.tree.TermTree.{TermTree, TermTree-F, roll-TermTree, rolls-TermTree', Row_of-SumTree, end_of-SumTree, more_of-SumTree, items-the_row-SumTree, items_hidden-the_row-SumTree-1}
 use Rattle.cc_defs.specs.Trees.{PlainSum, Summed, Applied, MoreSums, MoreAddends, plain_term, plain_args, plain_sum, plain_addends, plain_piece}
 use Rattle.cc_syntax.specs.Formulas.{has_more}
@@ -23,6 +23,10 @@ plain_made made = rw rolls-TermTree' (search (rules, row_sums, items_hidden-the_
 
 pub sum_made : (made : SumTree-F Piece Addend SumTree TermTree) → plain_sum (roll-SumTree made) ≡ Summed (plain_piece made.first) (addends_of (map plain_addend made.rest.items))
 sum_made made = rw rolls-SumTree' (search (rules, row_addends, items_hidden-the_row-Addend-0))
+
+-- a sum that is taken apart
+pub sum_parts : (sum : SumTree) → plain_sum sum ≡ Summed (plain_piece (out-SumTree sum).first) (addends_of (map plain_addend (out-SumTree sum).rest.items))
+sum_parts sum = sym (ap plain_sum (roll-out-SumTree sum)) ∙ sum_made (out-SumTree sum)
 
 pub more_seen : (items : List Addend) → has_more (addends_of (map plain_addend items)) ≡ not (length items == 0)
 more_seen [] = refl

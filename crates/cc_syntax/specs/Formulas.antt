@@ -9,6 +9,8 @@ use Rattle.cc_defs.specs.Grammar.{Terminal}
 use Rattle.cc_syntax.specs.declared.operators.Operator.{Operator}
 use Rattle.cc_syntax.specs.declared.frames.Frame.{Frame}
 use Rattle.cc_syntax.specs.declared.frames.Frame.TheVariants as frames
+use Rattle.cc_syntax.specs.declared.frames.Opening.{Opening}
+use Rattle.cc_syntax.specs.declared.frames.Opening.TheVariants as openings
 use Rattle.cc_syntax.specs.Readers.{Reader, given, ◌>>=◌, name_at, sign_at, ◌◁◌}
 use Rattle.cc_syntax.specs.Terms.{sum_at}
 use Rattle.cc_syntax.specs.Operators.{operator_at, strength, left_strength, joined, comparison_at}
@@ -20,11 +22,14 @@ pub data PlainFrame : Type 0 where
   Exists : (variable : List ℕ) → PlainFrame
   Left : Operator → PlainTree → PlainFrame
 
+abbrev pub plain_opening : Opening → PlainFrame
+plain_opening openings.Not = Not
+plain_opening openings.Paren = Paren
+plain_opening (openings.ForAll variable) = ForAll variable.now
+plain_opening (openings.Exists variable) = Exists variable.now
+
 abbrev pub plain_frame : Frame → PlainFrame
-plain_frame frames.Not = Not
-plain_frame frames.Paren = Paren
-plain_frame (frames.ForAll variable) = ForAll variable.now
-plain_frame (frames.Exists variable) = Exists variable.now
+plain_frame (frames.Opened opening) = plain_opening opening
 plain_frame (frames.Left operator tree) = Left operator (plain_tree tree.value)
 
 -- the frames, the innermost first; the code holds it last
@@ -115,6 +120,11 @@ unfoldable pub begun : List PlainFrame → List Terminal → Option Held
 begun frames tokens =
     given (frame_at tokens) (atom_at tokens >>= λ read. Some (frames, Has read.0 read.1))
     (λ read. Some (read.0 ∷ frames, Wants read.1))
+
+-- the greatest strength of an operand before the operator, or before no operator
+abbrev pub bound_of : Option Operator → ℕ
+bound_of None = 4
+bound_of (Some operator) = left_strength operator
 
 -- no operator is left before the place: it is behind the formula, or at the bracket that closes the innermost frame
 abbrev pub shut : List PlainFrame × PlainTree → List Terminal → Option Held

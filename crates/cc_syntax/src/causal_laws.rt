@@ -6,7 +6,7 @@ ghost use Rattle.cc_defs.specs.Tokens.{AreTokens};
 ghost use Rattle.cc_defs.specs.Trees.{PlainTree, PlainLaw, boxed_tree, plain_law, plain_part, plain_term};
 ghost use Rattle.cc_defs.specs.Trees as trees;
 ghost use Rattle.cc_syntax.specs.Formulas.{formula_at};
-ghost use Rattle.cc_syntax.specs.Laws.{caused_at, effect_at, worded_at, acting_at, opens_formula as opening, law_at, tested_law_at};
+ghost use Rattle.cc_syntax.specs.Laws.{caused_at, effect_at, worded_at, acted_law, acting_word_at, acted_at, acting_at, opens_formula as opening, law_at, tested_law_at};
 ghost use Rattle.cc_syntax.specs.Readers.{given, word_at, optional_at};
 ghost use Rattle.cc_syntax.specs.Terms.{term_at};
 ghost use Rattle.cc_syntax.specs.Views.{seen, Reads, Passes};
@@ -15,7 +15,7 @@ ghost use Rattle.cc_text.specs.Views.{token_views};
 
 use crate::formulas::formula;
 use crate::operators::boxed;
-use crate::reading::{made, made_boxed, placed};
+use crate::reading::{beside, both, made, made_boxed, placed};
 use crate::stop::Stop;
 use crate::terms::term;
 use crate::tokens::{token_at, word};
@@ -28,6 +28,9 @@ type Effect<'s> = (Box<Tree<'s>>, Option<Box<Tree<'s>>>);
 
 /// `F if G after H`
 type Caused<'s> = (Effect<'s>, Option<Box<Tree<'s>>>);
+
+/// A law, and its `where` test.
+type Tested<'s> = (Box<LawTree<'s>>, Option<Box<Tree<'s>>>);
 
 /// A formula that is there.
 fn some_formula<'s>(formula: Box<Tree<'s>>) -> Option<Box<Tree<'s>>>
@@ -167,48 +170,53 @@ fn worded<'s>(
     made_boxed(alloc, inertial(alloc, tokens, at), LawTree::Inertial)
 }
 
-/// `F if G`, while something else is kept.
-fn effect_behind<'s, K: Drop>(
+/// The words between an action and its effect.
+#[derive(Clone, Copy)]
+pub(crate) enum ActingWord {
+    /// `causes`
+    Causes,
+    /// `may cause`
+    MayCause,
+}
+
+/// The words between an action and its effect.
+fn acting_word(tokens: &[Token], at: usize) -> Result<(ActingWord, usize), Stop>
+    ensures { Reads (λ word. word) tokens.now result (acting_word_at (drop at (seen tokens.now))) }
+{
+    if let Ok(next) = word(tokens, at, "causes") {
+        return Ok((ActingWord::Causes, next));
+    }
+    let next = word(tokens, at, "may")?;
+    let next = word(tokens, next, "cause")?;
+    Ok((ActingWord::MayCause, next))
+}
+
+/// What an action does: the words behind it, and its effect.
+#[tactic(auto, using(crate::proofs::Acting::acted_by))]
+fn acted<'s>(
     alloc: Global,
     tokens: &[Token<'s>],
     at: usize,
-    kept: K,
-) -> Result<((K, Effect<'s>), usize), Stop>
+) -> Result<((ActingWord, Effect<'s>), usize), Stop>
     requires { AreTokens (token_views tokens.now) }
-    ensures kept { IfOk result (λ read. read.0.0 ≡ kept) }
-    ensures read { (make : PlainTree → Option PlainTree → PlainLaw) →
-        Reads (λ read. make (boxed_tree read.1.0) (option_map boxed_tree read.1.1))
-        tokens.now result (effect_at make (drop at (seen tokens.now))) }
+    ensures { (action : PlainTree) → Reads
+        (λ read. acted_law read.0 action (boxed_tree read.1.0) (option_map boxed_tree read.1.1))
+        tokens.now result (acted_at action (drop at (seen tokens.now))) }
 {
-    let (parts, next) = effect(alloc, tokens, at)?;
-    Ok(((kept, parts), next))
+    let (word, next) = acting_word(tokens, at)?;
+    beside(word, effect(alloc, tokens, next))
 }
 
-/// `causes`, between an action and its effect.
-fn causes_tree<'s>(read: (Box<Tree<'s>>, Effect<'s>)) -> LawTree<'s>
-    ensures { plain_law result ≡ trees.Causes (boxed_tree read.entry.0)
-        (boxed_tree read.entry.1.0) (option_map boxed_tree read.entry.1.1) }
+/// An action, and what it does.
+fn acted_tree<'s>(read: (Box<Tree<'s>>, (ActingWord, Effect<'s>))) -> LawTree<'s>
+    ensures { plain_law result ≡ acted_law read.entry.1.0 (boxed_tree read.entry.0)
+        (boxed_tree read.entry.1.1.0) (option_map boxed_tree read.entry.1.1.1) }
 {
-    let (action, (formula, condition)) = read;
-    LawTree::Causes(action, formula, condition)
-}
-
-/// `may cause`, between an action and its effect.
-fn may_cause_tree<'s>(read: (Box<Tree<'s>>, Effect<'s>)) -> LawTree<'s>
-    ensures { plain_law result ≡ trees.MayCause (boxed_tree read.entry.0)
-        (boxed_tree read.entry.1.0) (option_map boxed_tree read.entry.1.1) }
-{
-    let (action, (formula, condition)) = read;
-    LawTree::MayCause(action, formula, condition)
-}
-
-/// `may cause`
-fn may_cause_words(tokens: &[Token], at: usize) -> Result<usize, Stop>
-    ensures { Passes tokens.now result
-        (given (word_at (codes "may") (drop at (seen tokens.now))) None (word_at (codes "cause"))) }
-{
-    let next = word(tokens, at, "may")?;
-    word(tokens, next, "cause")
+    let (action, (word, (formula, condition))) = read;
+    match word {
+        ActingWord::Causes => LawTree::Causes(action, formula, condition),
+        ActingWord::MayCause => LawTree::MayCause(action, formula, condition),
+    }
 }
 
 /// A law that begins with a formula.
@@ -221,22 +229,13 @@ fn acting<'s>(
     requires { AreTokens (token_views tokens.now) }
     ensures { Reads (λ law. plain_law law.value) tokens.now result (acting_at (drop at (seen tokens.now))) }
 {
-    let (action, next) = formula(alloc, tokens, at)?;
-    if let Ok(next) = word(tokens, next, "causes") {
-        return made_boxed(
-            alloc,
-            effect_behind(alloc, tokens, next, action),
-            causes_tree,
-        );
+    match formula(alloc, tokens, at) {
+        Ok((action, next)) => {
+            let read = beside(action, acted(alloc, tokens, next));
+            made_boxed(alloc, read, acted_tree)
+        }
+        Err(stop) => Err(stop),
     }
-    if let Ok(next) = may_cause_words(tokens, next) {
-        return made_boxed(
-            alloc,
-            effect_behind(alloc, tokens, next, action),
-            may_cause_tree,
-        );
-    }
-    Err(Stop::NoTree)
 }
 
 /// Whether a formula may begin here: no law's own word is a name.
@@ -269,19 +268,22 @@ fn law<'s>(
     worded(alloc, tokens, at)
 }
 
-/// A law that may run beside no other, before the place.
-fn no_concurrency<'s>(alloc: Global, next: usize) -> Result<(Box<Part<'s>>, usize), Stop>
-    ensures { MatchResult result
-        (λ read. (plain_part read.0.value ≡ trees.Law trees.NoConcurrency None) × (read.1 ≡ next))
-        (λ stop. stop ≡ stops.OutOfMemory) }
+/// A law and its test; `noconcurrency` has none.
+#[tactic(auto, unfolding(crate::specs::Laws::tested_law_at))]
+fn tested<'s>(alloc: Global, tokens: &[Token<'s>], at: usize) -> Result<(Tested<'s>, usize), Stop>
+    requires { AreTokens (token_views tokens.now) }
+    ensures { Reads
+        (λ read. trees.Law (plain_law read.0.value) (option_map boxed_tree read.1))
+        tokens.now result (tested_law_at (drop at (seen tokens.now))) }
 {
-    let law = boxed(alloc, LawTree::NoConcurrency)?;
-    let part = boxed(alloc, Part::Law(law, None))?;
-    Ok((part, next))
+    if let Ok(next) = word(tokens, at, "noconcurrency") {
+        return both(boxed(alloc, LawTree::NoConcurrency), placed(None, next));
+    }
+    optional_behind(alloc, tokens, law(alloc, tokens, at), "where")
 }
 
-/// A law and its test.
-fn law_part<'s>(read: (Box<LawTree<'s>>, Option<Box<Tree<'s>>>)) -> Part<'s>
+/// A law with its test, as a part.
+fn law_part<'s>(read: Tested<'s>) -> Part<'s>
     ensures { plain_part result
         ≡ trees.Law (plain_law read.entry.0.value) (option_map boxed_tree read.entry.1) }
 {
@@ -290,7 +292,6 @@ fn law_part<'s>(read: (Box<LawTree<'s>>, Option<Box<Tree<'s>>>)) -> Part<'s>
 }
 
 /// A law with its test.
-#[tactic(auto, unfolding(crate::specs::Laws::tested_law_at))]
 pub(crate) fn tested_law<'s>(
     alloc: Global,
     tokens: &[Token<'s>],
@@ -300,10 +301,5 @@ pub(crate) fn tested_law<'s>(
     ensures { Reads (λ part. plain_part part.value) tokens.now result
         (tested_law_at (drop at (seen tokens.now))) }
 {
-    if let Ok(next) = word(tokens, at, "noconcurrency") {
-        return no_concurrency(alloc, next);
-    }
-    let law = law(alloc, tokens, at);
-    let tested = optional_behind(alloc, tokens, law, "where");
-    made_boxed(alloc, tested, law_part)
+    made_boxed(alloc, tested(alloc, tokens, at), law_part)
 }

@@ -1,17 +1,20 @@
 //! Readers of declarations.
-ghost use Rattle.std.specs.Prelude.{◌≡◌, ℕ, ⊤, List as Items, drop, map};
+ghost use Rattle.std.specs.Prelude.{◌≡◌, ℕ, ⊤, List as Items, ◌∷◌, Err, IfOk, drop, map};
+ghost use Rattle.std.specs.Result.{MatchResult};
+ghost use Rattle.cc_syntax.specs.declared.stop.Stop.TheVariants as stops;
 ghost use Rattle.std.specs.Option.{option_map};
 ghost use Rattle.cc_defs.specs.declared.token.Mark.TheVariants as marks;
 ghost use Rattle.cc_defs.specs.Tokens.{AreTokens};
 ghost use Rattle.cc_defs.specs.Trees.{PlainShape, PlainSortItem, PlainMember, PlainObjItem, PlainListItem, PlainConstItem, plain_shape, plain_sort_item, plain_member, plain_obj_item, plain_list_item, plain_kind, plain_const_item};
 ghost use Rattle.cc_syntax.specs.Declarations.{names_at, sort_item_at, numbers_at, member_at, obj_item_at, list_item_at, sorts_at, shape_at, kind_word_at, sort_at, attribute_at, kind_at, const_item_at};
-ghost use Rattle.cc_syntax.specs.Readers.{name_at, listed_at};
+ghost use Rattle.cc_syntax.specs.Readers.{name_at, sign_at, listed_at, parenthesized_at, ◌▷◌};
 ghost use Rattle.cc_syntax.specs.Views.{seen, Reads};
 ghost use Rattle.cc_text.specs.Views.{token_views};
 
 use crate::items::{Item, listed};
+use crate::reading::{beside, placed};
 use crate::stop::Stop;
-use crate::tokens::{name, numeral, sign, word};
+use crate::tokens::{name, numeral, sign, sign_after, word};
 use cc_defs::{
     ConstItem, KindTree, KindWord, List, ListItem, Mark, Member, ObjItem, Shape, SortItem, Token,
 };
@@ -45,6 +48,20 @@ pub(crate) fn names<'s>(
     listed(alloc, tokens, at, mark)
 }
 
+/// Items that were read, behind their first. They are of any type, so that the drop of the list is one call.
+fn with_first<X: Drop>(
+    first: X,
+    read: Result<(Vec<X>, usize), Stop>,
+) -> Result<(Vec<X>, usize), Stop>
+    ensures { MatchResult read (λ r. MatchResult result
+        (λ w. (w.0.items ≡ first ∷ r.0.items) × (w.1 ≡ r.1)) (λ stop. stop ≡ stops.OutOfMemory))
+        (λ stop. result ≡ Err stop) }
+{
+    let (mut items, next) = read?;
+    items.insert(0, first)?;
+    Ok((items, next))
+}
+
 /// Sorts beside each other, or each above the next.
 impl<'s> Item<'s> for SortItem<'s> {
     ghost Plain = { PlainSortItem };
@@ -59,12 +76,16 @@ impl<'s> Item<'s> for SortItem<'s> {
     fn read(alloc: Global, tokens: &[Token<'s>], at: usize) -> Result<(Self, usize), Stop> {
         let (first, next) = name(tokens, at)?;
         if let Ok(behind) = sign(tokens, next, Mark::Above) {
-            let (mut names, next) = names(alloc, tokens, behind, Mark::Above)?;
-            names.insert(0, first)?;
-            return Ok((SortItem::Chain(List::of(names)), next));
+            let lower = names(alloc, tokens, behind, Mark::Above);
+            return match with_first(first, lower) {
+                Ok((names, next)) => placed(SortItem::Chain(List::of(names)), next),
+                Err(stop) => Err(stop),
+            };
         }
-        let (names, next) = names(alloc, tokens, at, Mark::Comma)?;
-        Ok((SortItem::Names(List::of(names)), next))
+        match names(alloc, tokens, at, Mark::Comma) {
+            Ok((names, next)) => placed(SortItem::Names(List::of(names)), next),
+            Err(stop) => Err(stop),
+        }
     }
 }
 
@@ -116,6 +137,19 @@ fn members<'s>(
     listed(alloc, tokens, at, Mark::Comma)
 }
 
+/// What was read, and the sort that stands behind it and two colons.
+fn of_sort<'s, K: Drop>(
+    tokens: &[Token<'s>],
+    read: Result<(K, usize), Stop>,
+) -> Result<((K, &'s str), usize), Stop>
+    ensures { MatchResult read (λ r. IfOk result (λ both. both.0.0 ≡ r.0)
+        × Reads (λ both. both.1.now) tokens.now result
+        ((sign_at marks.DoubleColon ▷ name_at) (drop r.1 (seen tokens.now)))) (λ stop. result ≡ Err stop) }
+{
+    let (kept, next) = sign_after(tokens, read, Mark::DoubleColon)?;
+    beside(kept, name(tokens, next))
+}
+
 /// Objects of a sort.
 impl<'s> Item<'s> for ObjItem<'s> {
     ghost Plain = { PlainObjItem };
@@ -128,16 +162,13 @@ impl<'s> Item<'s> for ObjItem<'s> {
 
     #[tactic(auto, unfolding(crate::specs::Declarations::obj_item_at))]
     fn read(alloc: Global, tokens: &[Token<'s>], at: usize) -> Result<(Self, usize), Stop> {
-        let (members, next) = members(alloc, tokens, at)?;
-        let next = sign(tokens, next, Mark::DoubleColon)?;
-        let (sort, next) = name(tokens, next)?;
-        Ok((
-            ObjItem {
-                members: List::of(members),
-                sort,
-            },
-            next,
-        ))
+        match of_sort(tokens, members(alloc, tokens, at)) {
+            Ok(((members, sort), next)) => {
+                let members = List::of(members);
+                placed(ObjItem { members, sort }, next)
+            }
+            Err(stop) => Err(stop),
+        }
     }
 }
 
@@ -153,16 +184,13 @@ impl<'s> Item<'s> for ListItem<'s> {
 
     #[tactic(auto, unfolding(crate::specs::Declarations::list_item_at))]
     fn read(alloc: Global, tokens: &[Token<'s>], at: usize) -> Result<(Self, usize), Stop> {
-        let (names, next) = names(alloc, tokens, at, Mark::Comma)?;
-        let next = sign(tokens, next, Mark::DoubleColon)?;
-        let (sort, next) = name(tokens, next)?;
-        Ok((
-            ListItem {
-                names: List::of(names),
-                sort,
-            },
-            next,
-        ))
+        match of_sort(tokens, names(alloc, tokens, at, Mark::Comma)) {
+            Ok(((names, sort), next)) => {
+                let names = List::of(names);
+                placed(ListItem { names, sort }, next)
+            }
+            Err(stop) => Err(stop),
+        }
     }
 }
 
@@ -174,9 +202,8 @@ fn sorts<'s>(alloc: Global, tokens: &[Token<'s>], at: usize) -> Result<(Vec<&'s 
     let Ok(next) = sign(tokens, at, Mark::LeftParen) else {
         return Ok((Vec::new(alloc), at));
     };
-    let (sorts, next) = names(alloc, tokens, next, Mark::Comma)?;
-    let next = sign(tokens, next, Mark::RightParen)?;
-    Ok((sorts, next))
+    let sorts = names(alloc, tokens, next, Mark::Comma);
+    sign_after(tokens, sorts, Mark::RightParen)
 }
 
 /// A constant's name and the sorts of its arguments.
@@ -192,14 +219,13 @@ impl<'s> Item<'s> for Shape<'s> {
     #[tactic(auto, unfolding(crate::specs::Declarations::shape_at))]
     fn read(alloc: Global, tokens: &[Token<'s>], at: usize) -> Result<(Self, usize), Stop> {
         let (name, next) = name(tokens, at)?;
-        let (sorts, next) = sorts(alloc, tokens, next)?;
-        Ok((
-            Shape {
-                name,
-                sorts: List::of(sorts),
-            },
-            next,
-        ))
+        match sorts(alloc, tokens, next) {
+            Ok((sorts, next)) => {
+                let sorts = List::of(sorts);
+                placed(Shape { name, sorts }, next)
+            }
+            Err(stop) => Err(stop),
+        }
     }
 }
 
@@ -248,9 +274,17 @@ fn value_sort<'s>(tokens: &[Token<'s>], at: usize) -> Result<(Option<&'s str>, u
     let Ok(next) = sign(tokens, at, Mark::LeftParen) else {
         return Ok((None, at));
     };
-    let (sort, next) = name(tokens, next)?;
-    let next = sign(tokens, next, Mark::RightParen)?;
+    let (sort, next) = sign_after(tokens, name(tokens, next), Mark::RightParen)?;
     Ok((Some(sort), next))
+}
+
+/// A name in parentheses.
+fn parenthesized<'s>(tokens: &[Token<'s>], at: usize) -> Result<(&'s str, usize), Stop>
+    ensures { Reads (λ text. text.now) tokens.now result
+        (parenthesized_at name_at (drop at (seen tokens.now))) }
+{
+    let next = sign(tokens, at, Mark::LeftParen)?;
+    sign_after(tokens, name(tokens, next), Mark::RightParen)
 }
 
 /// The sort of an attribute's values, and the shape of its action.
@@ -262,12 +296,12 @@ fn attribute<'s>(
 ) -> Result<(KindTree<'s>, usize), Stop>
     ensures { Reads plain_kind tokens.now result (attribute_at (drop at (seen tokens.now))) }
 {
-    let next = sign(tokens, at, Mark::LeftParen)?;
-    let (sort, next) = name(tokens, next)?;
-    let next = sign(tokens, next, Mark::RightParen)?;
+    let (sort, next) = parenthesized(tokens, at)?;
     let next = word(tokens, next, "of")?;
-    let (action, next) = Shape::read(alloc, tokens, next)?;
-    Ok((KindTree::Attribute(sort, action), next))
+    match Shape::read(alloc, tokens, next) {
+        Ok((action, next)) => placed(KindTree::Attribute(sort, action), next),
+        Err(stop) => Err(stop),
+    }
 }
 
 /// The kind of constants.
@@ -295,16 +329,14 @@ impl<'s> Item<'s> for ConstItem<'s> {
 
     #[tactic(auto, unfolding(crate::specs::Declarations::const_item_at))]
     fn read(alloc: Global, tokens: &[Token<'s>], at: usize) -> Result<(Self, usize), Stop> {
-        let (shapes, next) = shapes(alloc, tokens, at)?;
-        let next = sign(tokens, next, Mark::DoubleColon)?;
-        let (kind, next) = kind(alloc, tokens, next)?;
-        Ok((
-            ConstItem {
-                shapes: List::of(shapes),
-                kind,
-            },
-            next,
-        ))
+        let (shapes, next) = sign_after(tokens, shapes(alloc, tokens, at), Mark::DoubleColon)?;
+        match beside(shapes, kind(alloc, tokens, next)) {
+            Ok(((shapes, kind), next)) => {
+                let shapes = List::of(shapes);
+                placed(ConstItem { shapes, kind }, next)
+            }
+            Err(stop) => Err(stop),
+        }
     }
 }
 

@@ -3,12 +3,13 @@ ghost use Rattle.std.specs.Prelude.{◌≡◌, suc, List, ◌∷◌, length, dro
 ghost use Rattle.std.specs.Result.{MatchResult};
 ghost use Rattle.cc_defs.specs.declared.token.Token as token;
 ghost use Rattle.cc_syntax.specs.declared.formulas.Turn.TheVariants as turns;
+ghost use Rattle.cc_syntax.specs.declared.stop.Stop.TheVariants as stops;
 ghost use Rattle.cc_syntax.specs.declared.frames.Frame.{Frame};
 ghost use Rattle.cc_defs.specs.Tokens.{AreTokens};
 ghost use Rattle.cc_defs.specs.Trees.{Summed, plain_piece, plain_sum, plain_term, plain_tree};
 ghost use Rattle.cc_defs.specs.declared.token.Mark.TheVariants as marks;
 ghost use Rattle.cc_defs.specs.Trees as trees;
-ghost use Rattle.cc_syntax.specs.Formulas.{plain_frame, stack, filled, closed, frame_at, has_more as HasMore, alone_of, side_at, bare_at, atom_at, begun, shut, gone_on, run_from, Wants, formula_at};
+ghost use Rattle.cc_syntax.specs.Formulas.{plain_frame, plain_opening, stack, filled, closed, frame_at, bound_of, has_more as HasMore, alone_of, side_at, bare_at, atom_at, begun, shut, gone_on, run_from, Wants, formula_at};
 ghost use Rattle.cc_syntax.specs.Operators.{compared_as};
 ghost use Rattle.cc_syntax.specs.Readers.{name_at, sign_at, ◌◁◌};
 ghost use Rattle.cc_syntax.specs.Terms.{plain_addend, addends_of, sum_at};
@@ -16,14 +17,13 @@ ghost use Rattle.cc_syntax.specs.Turns.{Turns, plain_turn, turn_of};
 ghost use Rattle.cc_syntax.specs.Views.{seen, Reads};
 ghost use Rattle.cc_text.specs.Views.{token_views};
 
-use crate::frames::{Frame, Frames, close};
-use crate::operators::{Comparing, next_comparison, next_operator};
-use crate::reading::{boxed_read, made, made_boxed, placed};
+use crate::frames::{Frame, Frames, Opening, close};
+use crate::operators::{Comparing, Operator, boxed, next_comparison, next_operator};
+use crate::reading::{both, boxed_read, made, placed, put_last};
 use crate::stop::Stop;
-use crate::terms::{Parts, parts, sum, sum_of};
-use crate::tokens::{name, sign, sign_behind};
+use crate::terms::sum;
+use crate::tokens::{name, sign, sign_after};
 use cc_defs::{Addend, Mark, Piece, SumTree, TermTree, Token, Tree};
-use smallvec::SmallVec;
 use std::alloc::{AllocError, Global};
 
 /// The strength of a whole formula: no operator's is greater.
@@ -45,27 +45,25 @@ fn variable<'s>(tokens: &[Token<'s>], at: usize) -> Result<(&'s str, usize), Sto
     ensures { Reads (λ text. text.now) tokens.now result
         ((name_at ◁ sign_at marks.Bar) (drop at (seen tokens.now))) }
 {
-    let (name, next) = name(tokens, at)?;
-    let next = sign(tokens, next, Mark::Bar)?;
-    Ok((name, next))
+    sign_after(tokens, name(tokens, at), Mark::Bar)
 }
 
-/// A sign or a bracket that waits for its operand.
-fn opening<'s>(tokens: &[Token<'s>], at: usize) -> Result<(Frame<'s>, usize), Stop>
-    ensures { Reads plain_frame tokens.now result (frame_at (drop at (seen tokens.now))) }
+/// A sign or a bracket before an operand.
+fn opening<'s>(tokens: &[Token<'s>], at: usize) -> Result<(Opening<'s>, usize), Stop>
+    ensures { Reads plain_opening tokens.now result (frame_at (drop at (seen tokens.now))) }
 {
     if let Ok(next) = sign(tokens, at, Mark::Minus) {
-        return placed(Frame::Not, next);
+        return Ok((Opening::Not, next));
     }
     if let Ok(next) = sign(tokens, at, Mark::LeftParen) {
-        return placed(Frame::Paren, next);
+        return Ok((Opening::Paren, next));
     }
     let next = sign(tokens, at, Mark::LeftBracket)?;
     if let Ok(next) = sign(tokens, next, Mark::AllSign) {
-        return made(variable(tokens, next), Frame::ForAll);
+        return made(variable(tokens, next), Opening::ForAll);
     }
     let next = sign(tokens, next, Mark::AnySign)?;
-    made(variable(tokens, next), Frame::Exists)
+    made(variable(tokens, next), Opening::Exists)
 }
 
 /// Whether a sum has pieces behind its first.
@@ -77,11 +75,11 @@ fn has_more(rest: &[Addend]) -> bool
 }
 
 /// The term that a sum is, where it has one piece and this is no number.
-fn alone<'s>(parts: Parts<'s>) -> Option<TermTree<'s>>
-    ensures { option_map plain_term result ≡ alone_of
-        (Summed (plain_piece parts.entry.0) (addends_of (map plain_addend parts.entry.1.items))) }
+#[tactic(auto, using(crate::proofs::Trees::sum_parts))]
+fn alone<'s>(sum: SumTree<'s>) -> Option<TermTree<'s>>
+    ensures { option_map plain_term result ≡ alone_of (plain_sum sum.entry) }
 {
-    let (first, rest) = parts;
+    let SumTree { first, rest } = sum;
     if has_more(&rest) {
         return None;
     }
@@ -92,52 +90,14 @@ fn alone<'s>(parts: Parts<'s>) -> Option<TermTree<'s>>
 }
 
 /// A term alone, that was read as a sum.
-fn bare<'s>(tokens: &[Token<'s>], parts: Parts<'s>, at: usize) -> Result<(Tree<'s>, usize), Stop>
-    ensures { Reads plain_tree tokens.now result (bare_at (Summed (plain_piece parts.entry.0)
-        (addends_of (map plain_addend parts.entry.1.items))) (drop at (seen tokens.now))) }
+fn bare<'s>(tokens: &[Token<'s>], sum: SumTree<'s>, at: usize) -> Result<(Tree<'s>, usize), Stop>
+    ensures { Reads plain_tree tokens.now result
+        (bare_at (plain_sum sum.entry) (drop at (seen tokens.now))) }
 {
-    match alone(parts) {
+    match alone(sum) {
         Some(term) => placed(Tree::Bare(term), at),
         None => Err(Stop::NoTree),
     }
-}
-
-/// A sum in a box, while something else is kept: of any type, so that its drop is one call.
-fn boxed_sum<'s, K: Drop>(
-    alloc: Global,
-    sum: SumTree<'s>,
-    kept: K,
-) -> Result<(K, Box<SumTree<'s>>), AllocError>
-    ensures { IfOk result (λ made. (made.0 ≡ kept) × (made.1.value ≡ sum.entry)) }
-{
-    let sum = Box::new(alloc, sum)?;
-    Ok((kept, sum))
-}
-
-/// A sum in a box behind the place, while something else is kept.
-fn sum_behind<'s, K: Drop>(
-    alloc: Global,
-    tokens: &[Token<'s>],
-    at: usize,
-    kept: K,
-) -> Result<((K, Box<SumTree<'s>>), usize), Stop>
-    requires { AreTokens (token_views tokens.now) }
-    ensures kept { IfOk result (λ read. read.0.0 ≡ kept) }
-    ensures read { Reads
-        (λ read. plain_sum read.1.value) tokens.now result (sum_at (drop at (seen tokens.now))) }
-{
-    let (right, next) = sum(alloc, tokens, at)?;
-    let both = boxed_sum(alloc, right, kept)?;
-    Ok((both, next))
-}
-
-/// A comparison of its sign and its sums.
-fn compared_tree<'s>(read: ((Comparing, Box<SumTree<'s>>), Box<SumTree<'s>>)) -> Tree<'s>
-    ensures { plain_tree result ≡ trees.Compared (compared_as read.entry.0.0)
-        (plain_sum read.entry.0.1.value) (plain_sum read.entry.1.value) }
-{
-    let ((comparing, left), right) = read;
-    comparing.compared(left, right)
 }
 
 /// A comparison, behind its sign.
@@ -152,8 +112,11 @@ fn compared<'s>(
     ensures { Reads plain_tree tokens.now result
         (side_at (compared_as comparing) (plain_sum left.entry) (drop at (seen tokens.now))) }
 {
-    let kept = boxed_sum(alloc, left, comparing)?;
-    made(sum_behind(alloc, tokens, at, kept), compared_tree)
+    let right = boxed_read(alloc, sum(alloc, tokens, at));
+    match both(boxed(alloc, left), right) {
+        Ok(((left, right), next)) => placed(comparing.compared(left, right), next),
+        Err(stop) => Err(stop),
+    }
 }
 
 /// Two sums with the sign of a comparison between them, or a term alone.
@@ -162,9 +125,9 @@ fn atom<'s>(alloc: Global, tokens: &[Token<'s>], at: usize) -> Result<(Tree<'s>,
     requires { AreTokens (token_views tokens.now) }
     ensures { Reads plain_tree tokens.now result (atom_at (drop at (seen tokens.now))) }
 {
-    let (left, next) = parts(alloc, tokens, at)?;
+    let (left, next) = sum(alloc, tokens, at)?;
     match next_comparison(tokens, next) {
-        Some((comparing, behind)) => compared(alloc, tokens, behind, comparing, sum_of(left)),
+        Some((comparing, behind)) => compared(alloc, tokens, behind, comparing, left),
         None => bare(tokens, left, next),
     }
 }
@@ -174,7 +137,7 @@ fn opened<'s>(frames: &mut Frames<'s>, frame: Frame<'s>, next: usize) -> Result<
     ensures { (all : List token.Token) → Turns all frames.new.items result
         (Some (plain_frame frame.entry ∷ stack frames.old.items, Wants (drop next (seen all)))) }
 {
-    frames.push(frame)?;
+    put_last(frames, frame)?;
     Ok(Turn::Wants(next))
 }
 
@@ -201,18 +164,21 @@ fn begin<'s>(
         (begun (stack frames.old.items) (drop at (seen tokens.now))) }
 {
     match opening(tokens, at) {
-        Ok((frame, next)) => opened(frames, frame, next),
+        Ok((opening, next)) => opened(frames, Frame::Opened(opening), next),
         Err(Stop::NoTree) => has(boxed_read(alloc, atom(alloc, tokens, at))),
         Err(Stop::OutOfMemory) => Err(Stop::OutOfMemory),
     }
 }
 
-/// A frame with its operand.
-fn whole<'s>(parts: (Frame<'s>, Box<Tree<'s>>)) -> Tree<'s>
-    ensures { plain_tree result ≡ filled (plain_frame parts.entry.0) (plain_tree parts.entry.1.value) }
+/// An operand that was made, up to the place.
+fn has_made<'s>(made: Result<Box<Tree<'s>>, AllocError>, next: usize) -> Result<Turn<'s>, Stop>
+    ensures { MatchResult made.entry (λ tree. result ≡ Ok (turns.Has tree next))
+        (λ _. result ≡ Err stops.OutOfMemory) }
 {
-    let (frame, tree) = parts;
-    frame.whole(tree)
+    match made {
+        Ok(tree) => Ok(Turn::Has(tree, next)),
+        Err(_) => Err(Stop::OutOfMemory),
+    }
 }
 
 /// The bracket that closes a frame, and the frame with its operand.
@@ -229,9 +195,10 @@ fn shut_frame<'s>(
       plain_tree tree.entry.value,
     ) (drop at (seen tokens.now))) }
 {
-    let mark = frame.closing();
-    let shut = sign_behind(tokens, at, mark, (frame, tree));
-    has(made_boxed(alloc, shut, whole))
+    match sign(tokens, at, frame.closing()) {
+        Ok(next) => has_made(frame.filled(alloc, tree), next),
+        Err(stop) => Err(stop),
+    }
 }
 
 /// No operator follows an operand: it is the formula, or its bracket closes the innermost frame.
@@ -251,6 +218,16 @@ fn shut_innermost<'s>(
     }
 }
 
+/// The greatest strength of an operand before the operator, or before no operator.
+fn bound(operator: Option<(Operator, usize)>) -> u8
+    ensures { result ≡ bound_of (option_map (λ read. read.0) operator) }
+{
+    match operator {
+        Some((operator, _)) => operator.left_strength(),
+        None => WHOLE,
+    }
+}
+
 /// An operand was read: it is the left operand of the operator that follows, or no operator follows.
 #[tactic(auto, unfolding(crate::specs::Formulas::gone_on))]
 fn go_on<'s>(
@@ -263,15 +240,11 @@ fn go_on<'s>(
     ensures { Turns tokens.now frames.new.items result
         (gone_on (stack frames.old.items) (plain_tree tree.entry.value) (drop at (seen tokens.now))) }
 {
-    match next_operator(tokens, at) {
-        Some((operator, next)) => {
-            let left = close(alloc, frames, tree, operator.left_strength())?;
-            opened(frames, Frame::Left(operator, left), next)
-        }
-        None => {
-            let whole = close(alloc, frames, tree, WHOLE)?;
-            shut_innermost(alloc, tokens, frames, whole, at)
-        }
+    let operator = next_operator(tokens, at);
+    let whole = close(alloc, frames, tree, bound(operator))?;
+    match operator {
+        Some((operator, next)) => opened(frames, Frame::Left(operator, whole), next),
+        None => shut_innermost(alloc, tokens, frames, whole, at),
     }
 }
 
@@ -331,6 +304,6 @@ pub(crate) fn formula<'s>(
     ensures { Reads (λ tree. plain_tree tree.value) tokens.now result
         (formula_at (drop at (seen tokens.now))) }
 {
-    let mut frames = SmallVec::new(alloc);
+    let mut frames = Vec::new(alloc);
     run(alloc, tokens, &mut frames, at)
 }

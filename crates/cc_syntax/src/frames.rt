@@ -6,15 +6,12 @@ ghost use Rattle.cc_syntax.specs.Turns.{Popped};
 
 use crate::operators::{Operator, boxed};
 use cc_defs::{Mark, Tree};
-use smallvec::SmallVec;
 use std::alloc::{AllocError, Global};
 
-/// A sign or a bracket that waits for its operand, or an operator with its left operand. The default stands in the free
-/// places of a list.
-#[derive(Default, Drop)]
-pub(crate) enum Frame<'s> {
+/// A sign or a bracket before an operand.
+#[derive(Clone, Copy)]
+pub(crate) enum Opening<'s> {
     /// `-`
-    #[default]
     Not,
     /// `(`
     Paren,
@@ -22,11 +19,17 @@ pub(crate) enum Frame<'s> {
     ForAll(&'s str),
     /// `[\/X |`
     Exists(&'s str),
+}
+
+/// A sign or a bracket that waits for its operand, or an operator with its left operand.
+#[derive(Drop)]
+pub(crate) enum Frame<'s> {
+    Opened(Opening<'s>),
     Left(Operator, Box<Tree<'s>>),
 }
 
-/// What is open, the innermost last. Few formulas are nested deeper than fits without an allocation.
-pub(crate) type Frames<'s> = SmallVec<Frame<'s>, 8>;
+/// What is open, the innermost last.
+pub(crate) type Frames<'s> = Vec<Frame<'s>>;
 
 impl<'s> Frame<'s> {
     /// The frame with its operand.
@@ -35,10 +38,10 @@ impl<'s> Frame<'s> {
             ≡ filled (plain_frame self.entry) (plain_tree tree.entry.value) }
     {
         match self {
-            Frame::Not => Tree::Not(tree),
-            Frame::Paren => Tree::Paren(tree),
-            Frame::ForAll(variable) => Tree::ForAll(variable, tree),
-            Frame::Exists(variable) => Tree::Exists(variable, tree),
+            Frame::Opened(Opening::Not) => Tree::Not(tree),
+            Frame::Opened(Opening::Paren) => Tree::Paren(tree),
+            Frame::Opened(Opening::ForAll(variable)) => Tree::ForAll(variable, tree),
+            Frame::Opened(Opening::Exists(variable)) => Tree::Exists(variable, tree),
             Frame::Left(operator, left) => operator.joined(left, tree),
         }
     }
@@ -60,8 +63,7 @@ impl<'s> Frame<'s> {
         ensures { result ≡ ends_before bound (plain_frame self.now) }
     {
         match self {
-            Frame::Not => true,
-            Frame::Paren | Frame::ForAll(_) | Frame::Exists(_) => false,
+            Frame::Opened(opening) => matches!(opening, Opening::Not),
             Frame::Left(operator, _) => operator.strength() <= bound,
         }
     }
@@ -71,7 +73,7 @@ impl<'s> Frame<'s> {
         ensures { result ≡ closing (plain_frame self.now) }
     {
         match self {
-            Frame::Paren => Mark::RightParen,
+            Frame::Opened(Opening::Paren) => Mark::RightParen,
             _ => Mark::RightBracket,
         }
     }

@@ -5,7 +5,7 @@ ghost use Rattle.cc_syntax.specs.declared.stop.Stop.TheVariants as stops;
 
 use crate::stop::Stop;
 use cc_defs::OutOfMemory;
-use std::alloc::Global;
+use std::alloc::{AllocError, Global};
 
 /// What is made of a value that was read, with the place behind it.
 pub(crate) fn made<T: Drop, U: Drop, F: FnOnce(T) -> U>(
@@ -52,6 +52,44 @@ pub(crate) fn made_boxed<T: Drop, U: Drop, F: FnOnce(T) -> U>(
     Ok((place, next))
 }
 
+/// What was read, out of its box.
+pub(crate) fn unboxed<T: Drop>(read: Result<(Box<T>, usize), Stop>) -> Result<(T, usize), Stop>
+    ensures { MatchResult read (λ r. result ≡ Ok (r.0.value, r.1)) (λ stop. result ≡ Err stop) }
+{
+    match read {
+        Ok((place, next)) => Ok((Box::into_inner(place), next)),
+        Err(stop) => Err(stop),
+    }
+}
+
+/// What is kept, beside what was read behind it. Both are of any type, so that their drops are calls.
+pub(crate) fn beside<K: Drop, T: Drop>(
+    kept: K,
+    read: Result<(T, usize), Stop>,
+) -> Result<((K, T), usize), Stop>
+    ensures { MatchResult read (λ r. result ≡ Ok ((kept, r.0), r.1)) (λ stop. result ≡ Err stop) }
+{
+    match read {
+        Ok((value, next)) => Ok(((kept, value), next)),
+        Err(stop) => Err(stop),
+    }
+}
+
+/// What was made, beside what was read behind it.
+pub(crate) fn both<K: Drop, T: Drop>(
+    first: Result<K, AllocError>,
+    read: Result<(T, usize), Stop>,
+) -> Result<((K, T), usize), Stop>
+    ensures { MatchResult first
+        (λ kept. MatchResult read (λ r. result ≡ Ok ((kept, r.0), r.1)) (λ stop. result ≡ Err stop))
+        (λ _. result ≡ Err stops.OutOfMemory) }
+{
+    match first {
+        Ok(kept) => beside(kept, read),
+        Err(_) => Err(Stop::OutOfMemory),
+    }
+}
+
 /// A value, and the place behind it.
 pub(crate) fn placed<T: Drop>(value: T, next: usize) -> Result<(T, usize), Stop>
     ensures { result ≡ Ok (value, next) }
@@ -65,11 +103,4 @@ pub(crate) fn put_last<X: Drop>(list: &mut Vec<X>, item: X) -> Result<(), OutOfM
 {
     list.push(item)?;
     Ok(())
-}
-
-/// The same of an item in a box.
-pub(crate) fn put_boxed<X: Drop>(list: &mut Vec<X>, item: Box<X>) -> Result<(), OutOfMemory>
-    ensures { OnOk result (list.new.items ≡ list.old.items ++ item.value ∷ []) }
-{
-    put_last(list, Box::into_inner(item))
 }

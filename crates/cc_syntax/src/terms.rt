@@ -8,21 +8,16 @@ ghost use Rattle.cc_text.specs.Views.{token_views};
 
 use crate::reading::put_last;
 use crate::stop::Stop;
-use crate::tokens::{name, numeral, sign, token_at};
+use crate::tokens::{name, numeral, sign, sign_after, token_at};
 use crate::words::{is_reserved_word, is_word_of_value};
 use cc_defs::{Addend, Mark, Piece, SumTree, TermTree, Token, TokenKind};
 use std::alloc::Global;
-
-/// The first piece of a sum, and those behind it.
-pub(crate) type Parts<'s> = (Piece<'s>, Vec<Addend<'s>>);
 
 /// A name and the bracket behind it.
 fn call<'s>(tokens: &[Token<'s>], at: usize) -> Result<(&'s str, usize), Stop>
     ensures { Reads (λ text. text.now) tokens.now result (call_at (drop at (seen tokens.now))) }
 {
-    let (name, next) = name(tokens, at)?;
-    let next = sign(tokens, next, Mark::LeftParen)?;
-    Ok((name, next))
+    sign_after(tokens, name(tokens, at), Mark::LeftParen)
 }
 
 /// A term without arguments.
@@ -168,47 +163,6 @@ pub(crate) fn term<'s>(
     ensures { Reads plain_term tokens.now result (term_at (drop at (seen tokens.now))) }
 {
     term_within(alloc, tokens, at, tokens.len().saturating_sub(at))
-}
-
-/// The parts of a sum, with terms in so many steps.
-fn parts_within<'s>(
-    alloc: Global,
-    tokens: &[Token<'s>],
-    at: usize,
-    steps: usize,
-) -> Result<(Parts<'s>, usize), Stop>
-    requires { AreTokens (token_views tokens.now) }
-    ensures { Reads (λ parts.
-        Summed (plain_piece parts.0) (addends_of (map plain_addend parts.1.items)))
-        tokens.now result (sum_by (term_from steps) (drop at (seen tokens.now))) }
-{
-    let (first, next) = piece_within(alloc, tokens, at, steps)?;
-    let (rest, next) = addends_within(alloc, tokens, next, steps)?;
-    Ok(((first, rest), next))
-}
-
-/// The parts of a sum.
-pub(crate) fn parts<'s>(
-    alloc: Global,
-    tokens: &[Token<'s>],
-    at: usize,
-) -> Result<(Parts<'s>, usize), Stop>
-    requires { AreTokens (token_views tokens.now) }
-    ensures { Reads (λ parts.
-        Summed (plain_piece parts.0) (addends_of (map plain_addend parts.1.items)))
-        tokens.now result (sum_at (drop at (seen tokens.now))) }
-{
-    parts_within(alloc, tokens, at, tokens.len().saturating_sub(at))
-}
-
-/// The sum that has the parts.
-#[tactic(auto, using(crate::proofs::Trees::sum_made))]
-pub(crate) fn sum_of<'s>(parts: Parts<'s>) -> SumTree<'s>
-    ensures { plain_sum result
-        ≡ Summed (plain_piece parts.entry.0) (addends_of (map plain_addend parts.entry.1.items)) }
-{
-    let (first, rest) = parts;
-    SumTree { first, rest }
 }
 
 /// A sum.

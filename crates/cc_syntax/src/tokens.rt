@@ -1,6 +1,7 @@
 //! Readers of single tokens. A reader is passed the tokens and the place where it begins, and answers the place behind
 //! what it read.
-ghost use Rattle.std.specs.Prelude.{◌≡◌, ◌<◌, IsTrue, drop, length, IfOk, IfSome};
+ghost use Rattle.std.specs.Prelude.{◌≡◌, ◌<◌, IsTrue, drop, length, Err, IfOk, IfSome};
+ghost use Rattle.std.specs.Result.{MatchResult};
 ghost use Rattle.cc_defs.specs.Tokens.{AreTokens, is_quoted};
 ghost use Rattle.cc_text.specs.Views.{token_views};
 ghost use Rattle.cc_syntax.specs.Marks.{same_mark};
@@ -55,6 +56,22 @@ pub(crate) fn sign_behind<K: Drop>(
 {
     let next = sign(tokens, at, mark)?;
     Ok((kept, next))
+}
+
+/// What was read, and the mark behind it.
+pub(crate) fn sign_after<K: Drop>(
+    tokens: &[Token],
+    read: Result<(K, usize), Stop>,
+    mark: Mark,
+) -> Result<(K, usize), Stop>
+    ensures { MatchResult read (λ r. IfOk result (λ passed. passed.0 ≡ r.0)
+        × PassesBehind tokens.now result (sign_at mark (drop r.1 (seen tokens.now))))
+        (λ stop. result ≡ Err stop) }
+{
+    match read {
+        Ok((kept, next)) => sign_behind(tokens, next, mark, kept),
+        Err(stop) => Err(stop),
+    }
 }
 
 /// The word.
