@@ -1,5 +1,5 @@
 -- What a reader answers, in terms of what the grammar sees.
-use Rattle.std.specs.Prelude.{◌≡◌, ℕ, ◌+◌, List, [], ◌∷◌, drop, Option, Some, None, Result, Ok, Err}
+use Rattle.std.specs.Prelude.{◌≡◌, ℕ, List, [], ◌∷◌, drop, Option, Some, None, Result, Ok, Err}
 use Rattle.cc_defs.specs.declared.token.Token.{Token}
 use Rattle.cc_defs.specs.Grammar.{Terminal, terminal, terminals}
 use Rattle.cc_text.specs.Views.{token_view, token_views}
@@ -10,10 +10,10 @@ use Rattle.cc_syntax.specs.declared.stop.Stop.TheVariants as stops
 abbrev pub seen : List Token → List Terminal
 seen tokens = terminals (token_views tokens)
 
--- the token at the place, if there is one
-abbrev pub Stands : List Token → ℕ → Option Token → Type 0
+-- the token at the place, if there is one, and the place behind it
+abbrev pub Stands : List Token → ℕ → Option (Token × ℕ) → Type 0
 Stands tokens at None = drop at (seen tokens) ≡ []
-Stands tokens at (Some token) = drop at (seen tokens) ≡ terminal (token_view token) ∷ drop (at + 1) (seen tokens)
+Stands tokens at (Some read) = drop at (seen tokens) ≡ terminal (token_view read.0) ∷ drop read.1 (seen tokens)
 
 -- a reader gives what is read and the place behind it, as the definition has it; nothing only where the definition has
 -- nothing, or where memory was wanting

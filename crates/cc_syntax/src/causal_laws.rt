@@ -6,7 +6,7 @@ ghost use Rattle.cc_defs.specs.Tokens.{AreTokens};
 ghost use Rattle.cc_defs.specs.Trees.{PlainTree, PlainLaw, boxed_tree, plain_law, plain_part, plain_term};
 ghost use Rattle.cc_defs.specs.Trees as trees;
 ghost use Rattle.cc_syntax.specs.Formulas.{formula_at};
-ghost use Rattle.cc_syntax.specs.Laws.{caused_at, effect_at, worded_at, acted_law, acting_word_at, acted_at, acting_at, opens_formula as opening, law_at, tested_law_at};
+ghost use Rattle.cc_syntax.specs.Laws.{caused_at, effect_at, worded_at, acting_word_at, acted_at, acting_at, opens_formula as opening, law_at, tested_law_at};
 ghost use Rattle.cc_syntax.specs.Readers.{given, word_at, optional_at};
 ghost use Rattle.cc_syntax.specs.Terms.{term_at};
 ghost use Rattle.cc_syntax.specs.Views.{seen, Reads, Passes};
@@ -18,7 +18,7 @@ use crate::operators::boxed;
 use crate::reading::{beside, both, made, made_boxed, placed};
 use crate::stop::Stop;
 use crate::terms::term;
-use crate::tokens::{token_at, word};
+use crate::tokens::{next_token, word};
 use crate::words::{is_reserved_word, is_word_of_value};
 use cc_defs::{LawTree, Mark, Part, TermTree, Token, TokenKind, Tree};
 use std::alloc::Global;
@@ -69,9 +69,10 @@ fn optional_behind<'s, K: Drop>(
         × Reads (λ both. option_map boxed_tree both.1) tokens.now result (optional_at
         formula_at text.now (drop r.1 (seen tokens.now)))) (λ stop. result ≡ Err stop) }
 {
-    let (kept, next) = read?;
-    let (formula, next) = optional(alloc, tokens, next, text)?;
-    Ok(((kept, formula), next))
+    match read {
+        Ok((kept, next)) => beside(kept, optional(alloc, tokens, next, text)),
+        Err(stop) => Err(stop),
+    }
 }
 
 /// `F if G`, for any law that has it behind its word.
@@ -191,31 +192,46 @@ fn acting_word(tokens: &[Token], at: usize) -> Result<(ActingWord, usize), Stop>
     Ok((ActingWord::MayCause, next))
 }
 
-/// What an action does: the words behind it, and its effect.
+/// `causes`, between an action and its effect.
+fn causes_tree<'s>(read: (Box<Tree<'s>>, Effect<'s>)) -> LawTree<'s>
+    ensures { plain_law result ≡ trees.Causes (boxed_tree read.entry.0)
+        (boxed_tree read.entry.1.0) (option_map boxed_tree read.entry.1.1) }
+{
+    let (action, (formula, condition)) = read;
+    LawTree::Causes(action, formula, condition)
+}
+
+/// `may cause`, between an action and its effect.
+fn may_cause_tree<'s>(read: (Box<Tree<'s>>, Effect<'s>)) -> LawTree<'s>
+    ensures { plain_law result ≡ trees.MayCause (boxed_tree read.entry.0)
+        (boxed_tree read.entry.1.0) (option_map boxed_tree read.entry.1.1) }
+{
+    let (action, (formula, condition)) = read;
+    LawTree::MayCause(action, formula, condition)
+}
+
+/// What an action does, behind it.
 #[tactic(auto, using(crate::proofs::Acting::acted_by))]
 fn acted<'s>(
     alloc: Global,
     tokens: &[Token<'s>],
     at: usize,
-) -> Result<((ActingWord, Effect<'s>), usize), Stop>
+    action: Box<Tree<'s>>,
+) -> Result<(Box<LawTree<'s>>, usize), Stop>
     requires { AreTokens (token_views tokens.now) }
-    ensures { (action : PlainTree) → Reads
-        (λ read. acted_law read.0 action (boxed_tree read.1.0) (option_map boxed_tree read.1.1))
-        tokens.now result (acted_at action (drop at (seen tokens.now))) }
+    ensures { Reads (λ law. plain_law law.value) tokens.now result
+        (acted_at (boxed_tree action.entry) (drop at (seen tokens.now))) }
 {
-    let (word, next) = acting_word(tokens, at)?;
-    beside(word, effect(alloc, tokens, next))
-}
-
-/// An action, and what it does.
-fn acted_tree<'s>(read: (Box<Tree<'s>>, (ActingWord, Effect<'s>))) -> LawTree<'s>
-    ensures { plain_law result ≡ acted_law read.entry.1.0 (boxed_tree read.entry.0)
-        (boxed_tree read.entry.1.1.0) (option_map boxed_tree read.entry.1.1.1) }
-{
-    let (action, (word, (formula, condition))) = read;
-    match word {
-        ActingWord::Causes => LawTree::Causes(action, formula, condition),
-        ActingWord::MayCause => LawTree::MayCause(action, formula, condition),
+    match acting_word(tokens, at) {
+        Ok((ActingWord::Causes, next)) => {
+            let read = beside(action, effect(alloc, tokens, next));
+            made_boxed(alloc, read, causes_tree)
+        }
+        Ok((ActingWord::MayCause, next)) => {
+            let read = beside(action, effect(alloc, tokens, next));
+            made_boxed(alloc, read, may_cause_tree)
+        }
+        Err(stop) => Err(stop),
     }
 }
 
@@ -230,10 +246,7 @@ fn acting<'s>(
     ensures { Reads (λ law. plain_law law.value) tokens.now result (acting_at (drop at (seen tokens.now))) }
 {
     match formula(alloc, tokens, at) {
-        Ok((action, next)) => {
-            let read = beside(action, acted(alloc, tokens, next));
-            made_boxed(alloc, read, acted_tree)
-        }
+        Ok((action, next)) => acted(alloc, tokens, next, action),
         Err(stop) => Err(stop),
     }
 }
@@ -242,7 +255,7 @@ fn acting<'s>(
 fn opens_formula(tokens: &[Token], at: usize) -> bool
     ensures { result ≡ opening (drop at (seen tokens.now)) }
 {
-    let Some(token) = token_at(tokens, at) else {
+    let Some((token, _)) = next_token(tokens, at) else {
         return false;
     };
     match token.kind {

@@ -5,7 +5,7 @@ ghost use Rattle.cc_defs.specs.Trees as trees;
 ghost use Rattle.cc_syntax.specs.Operators.{operator_at, strength, left_strength, joined, compared_as, comparison_at};
 ghost use Rattle.cc_syntax.specs.Views.{seen};
 
-use crate::tokens::token_at;
+use crate::tokens::next_token;
 use cc_defs::{Mark, SumTree, Token, TokenKind, Tree};
 use std::alloc::{AllocError, Global};
 
@@ -73,11 +73,12 @@ pub(crate) fn next_operator(tokens: &[Token], at: usize) -> Option<(Operator, us
     ensures { option_map (λ read. (read.0, drop read.1 (seen tokens.now))) result
         ≡ operator_at (drop at (seen tokens.now)) }
 {
-    match token_at(tokens, at)?.kind {
-        TokenKind::Mark(Mark::And) => Some((Operator::Both, at + 1)),
-        TokenKind::Mark(Mark::Or) => Some((Operator::Either, at + 1)),
-        TokenKind::Mark(Mark::Arrow) => Some((Operator::Implies, at + 1)),
-        TokenKind::Mark(Mark::DoubleArrow) => Some((Operator::Same, at + 1)),
+    let (token, next) = next_token(tokens, at)?;
+    match token.kind {
+        TokenKind::Mark(Mark::And) => Some((Operator::Both, next)),
+        TokenKind::Mark(Mark::Or) => Some((Operator::Either, next)),
+        TokenKind::Mark(Mark::Arrow) => Some((Operator::Implies, next)),
+        TokenKind::Mark(Mark::DoubleArrow) => Some((Operator::Same, next)),
         _ => None,
     }
 }
@@ -121,13 +122,14 @@ pub(crate) fn next_comparison(tokens: &[Token], at: usize) -> Option<(Comparing,
     ensures { option_map (λ read. (compared_as read.0, drop read.1 (seen tokens.now))) result
         ≡ comparison_at (drop at (seen tokens.now)) }
 {
-    match token_at(tokens, at)?.kind {
-        TokenKind::Mark(Mark::Equal) => Some((Comparing::Equal, at + 1)),
-        TokenKind::Mark(Mark::NotEqual) => Some((Comparing::Differ, at + 1)),
-        TokenKind::Mark(Mark::Less) => Some((Comparing::Less, at + 1)),
-        TokenKind::Mark(Mark::AtMost) => Some((Comparing::AtMost, at + 1)),
-        TokenKind::Mark(Mark::More) => Some((Comparing::More, at + 1)),
-        TokenKind::Mark(Mark::AtLeast) => Some((Comparing::AtLeast, at + 1)),
+    let (token, next) = next_token(tokens, at)?;
+    match token.kind {
+        TokenKind::Mark(Mark::Equal) => Some((Comparing::Equal, next)),
+        TokenKind::Mark(Mark::NotEqual) => Some((Comparing::Differ, next)),
+        TokenKind::Mark(Mark::Less) => Some((Comparing::Less, next)),
+        TokenKind::Mark(Mark::AtMost) => Some((Comparing::AtMost, next)),
+        TokenKind::Mark(Mark::More) => Some((Comparing::More, next)),
+        TokenKind::Mark(Mark::AtLeast) => Some((Comparing::AtLeast, next)),
         _ => None,
     }
 }

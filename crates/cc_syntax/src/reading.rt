@@ -3,6 +3,7 @@ ghost use Rattle.std.specs.Prelude.{◌≡◌, ◌++◌, ◌∷◌, [], Ok, Err,
 ghost use Rattle.std.specs.Result.{MatchResult};
 ghost use Rattle.cc_syntax.specs.declared.stop.Stop.TheVariants as stops;
 
+use crate::operators::boxed;
 use crate::stop::Stop;
 use cc_defs::OutOfMemory;
 use std::alloc::{AllocError, Global};
@@ -22,6 +23,16 @@ pub(crate) fn made<T: Drop, U: Drop, F: FnOnce(T) -> U>(
     }
 }
 
+/// A value in a box, and the place behind it.
+fn boxed_at<T: Drop>(alloc: Global, value: T, next: usize) -> Result<(Box<T>, usize), Stop>
+    ensures { MatchResult result (λ w. (w.0.value ≡ value) × (w.1 ≡ next)) (λ stop. stop ≡ stops.OutOfMemory) }
+{
+    match boxed(alloc, value) {
+        Ok(place) => Ok((place, next)),
+        Err(_) => Err(Stop::OutOfMemory),
+    }
+}
+
 /// What was read, in a box, with the place behind it. It is of any type, so that its drop is one call.
 pub(crate) fn boxed_read<T: Drop>(
     alloc: Global,
@@ -31,9 +42,10 @@ pub(crate) fn boxed_read<T: Drop>(
         (λ w. (w.0.value ≡ r.0) × (w.1 ≡ r.1)) (λ stop. stop ≡ stops.OutOfMemory))
         (λ stop. result ≡ Err stop) }
 {
-    let (value, next) = read?;
-    let place = Box::new(alloc, value)?;
-    Ok((place, next))
+    match read {
+        Ok((value, next)) => boxed_at(alloc, value, next),
+        Err(stop) => Err(stop),
+    }
 }
 
 /// What is made of a value that was read, in a box, with the place behind it.
@@ -47,9 +59,10 @@ pub(crate) fn made_boxed<T: Drop, U: Drop, F: FnOnce(T) -> U>(
         (λ w. F.post make r.0 w.0.value × (w.1 ≡ r.1)) (λ stop. stop ≡ stops.OutOfMemory))
         (λ stop. result ≡ Err stop) }
 {
-    let (value, next) = read?;
-    let place = Box::new(alloc, make(value))?;
-    Ok((place, next))
+    match read {
+        Ok((value, next)) => boxed_at(alloc, make(value), next),
+        Err(stop) => Err(stop),
+    }
 }
 
 /// What was read, out of its box.

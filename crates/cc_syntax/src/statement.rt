@@ -20,7 +20,7 @@ use crate::declarations::{const_items, list_items, obj_items, sort_items};
 use crate::queries::query_items;
 use crate::reading::made_boxed;
 use crate::stop::Stop;
-use crate::tokens::{quoted, sign, token_at, word};
+use crate::tokens::{next_token, quoted, sign, word};
 use cc_defs::{
     ConstItem, Fault, LimitAt, List, ListItem, Mark, ObjItem, Part, QueryItem, Refusal, SortItem,
     Statement, Token, TokenKind,
@@ -120,7 +120,7 @@ fn ends(tokens: &[Token], at: usize) -> bool
     let Ok(next) = sign(tokens, at, Mark::Dot) else {
         return false;
     };
-    token_at(tokens, next).is_none()
+    next_token(tokens, next).is_none()
 }
 
 /// What a whole statement says.
@@ -130,8 +130,10 @@ fn whole<'s>(alloc: Global, tokens: &[Token<'s>]) -> Result<Box<Part<'s>>, Stop>
         statement_at (seen tokens.now) ≡ Some (plain_part part.value)) }
     ensures none { result ≡ Err stops.NoTree → statement_at (seen tokens.now) ≡ None }
 {
-    let (part, next) = part(alloc, tokens, 0)?;
-    ends(tokens, next).then_some(part).ok_or(Stop::NoTree)
+    match part(alloc, tokens, 0) {
+        Ok((part, next)) => ends(tokens, next).then_some(part).ok_or(Stop::NoTree),
+        Err(stop) => Err(stop),
+    }
 }
 
 /// The word of a directive.
@@ -142,7 +144,7 @@ fn directive_word<'s>(tokens: &[Token<'s>]) -> Option<&'s str>
     let Ok(next) = sign(tokens, 0, Mark::Turn) else {
         return None;
     };
-    let Some(token) = token_at(tokens, next) else {
+    let Some((token, _)) = next_token(tokens, next) else {
         return None;
     };
     match token.kind {

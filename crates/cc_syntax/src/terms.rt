@@ -8,7 +8,7 @@ ghost use Rattle.cc_text.specs.Views.{token_views};
 
 use crate::reading::put_last;
 use crate::stop::Stop;
-use crate::tokens::{name, numeral, sign, sign_after, token_at};
+use crate::tokens::{name, next_token, numeral, sign, sign_after};
 use crate::words::{is_reserved_word, is_word_of_value};
 use cc_defs::{Addend, Mark, Piece, SumTree, TermTree, Token, TokenKind};
 use std::alloc::Global;
@@ -25,7 +25,7 @@ fn call<'s>(tokens: &[Token<'s>], at: usize) -> Result<(&'s str, usize), Stop>
 fn leaf<'s>(alloc: Global, tokens: &[Token<'s>], at: usize) -> Result<(TermTree<'s>, usize), Stop>
     ensures { Reads plain_term tokens.now result (leaf_at (drop at (seen tokens.now))) }
 {
-    let Some(token) = token_at(tokens, at) else {
+    let Some((token, next)) = next_token(tokens, at) else {
         return Err(Stop::NoTree);
     };
     match token.kind {
@@ -34,7 +34,7 @@ fn leaf<'s>(alloc: Global, tokens: &[Token<'s>], at: usize) -> Result<(TermTree<
                 name: token.text,
                 args: Vec::new(alloc),
             },
-            at + 1,
+            next,
         )),
         _ => Err(Stop::NoTree),
     }
@@ -45,9 +45,10 @@ fn additive(tokens: &[Token], at: usize) -> Option<(bool, usize)>
     ensures { option_map (λ read. (read.0, drop read.1 (seen tokens.now))) result
         ≡ additive_at (drop at (seen tokens.now)) }
 {
-    match token_at(tokens, at)?.kind {
-        TokenKind::Mark(Mark::Plus) => Some((false, at + 1)),
-        TokenKind::Mark(Mark::Minus) => Some((true, at + 1)),
+    let (token, next) = next_token(tokens, at)?;
+    match token.kind {
+        TokenKind::Mark(Mark::Plus) => Some((false, next)),
+        TokenKind::Mark(Mark::Minus) => Some((true, next)),
         _ => None,
     }
 }

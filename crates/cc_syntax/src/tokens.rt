@@ -1,6 +1,6 @@
 //! Readers of single tokens. A reader is passed the tokens and the place where it begins, and answers the place behind
 //! what it read.
-ghost use Rattle.std.specs.Prelude.{◌≡◌, ◌<◌, IsTrue, drop, length, Err, IfOk, IfSome};
+ghost use Rattle.std.specs.Prelude.{◌≡◌, IsTrue, drop, Err, IfOk};
 ghost use Rattle.std.specs.Result.{MatchResult};
 ghost use Rattle.cc_defs.specs.Tokens.{AreTokens, is_quoted};
 ghost use Rattle.cc_text.specs.Views.{token_views};
@@ -18,14 +18,13 @@ fn is_mark(mark: Mark, other: Mark) -> bool
     mark == other
 }
 
-/// The token at the place, if there is one.
+/// The token at the place, if there is one, and the place behind it.
 #[tactic(auto, using(crate::proofs::Places::token_seen, crate::proofs::Places::nothing_seen))]
-pub(crate) fn token_at<'s>(tokens: &[Token<'s>], at: usize) -> Option<Token<'s>>
-    ensures stands { Stands tokens.now at result }
-    ensures within { IfSome result (λ _. at < length tokens.now) }
+pub(crate) fn next_token<'s>(tokens: &[Token<'s>], at: usize) -> Option<(Token<'s>, usize)>
+    ensures { Stands tokens.now at result }
 {
     if at < tokens.len() {
-        Some(tokens[at])
+        Some((tokens[at], at + 1))
     } else {
         None
     }
@@ -35,11 +34,11 @@ pub(crate) fn token_at<'s>(tokens: &[Token<'s>], at: usize) -> Option<Token<'s>>
 pub(crate) fn sign(tokens: &[Token], at: usize, mark: Mark) -> Result<usize, Stop>
     ensures { Passes tokens.now result (sign_at mark (drop at (seen tokens.now))) }
 {
-    let Some(token) = token_at(tokens, at) else {
+    let Some((token, next)) = next_token(tokens, at) else {
         return Err(Stop::NoTree);
     };
     match token.kind {
-        TokenKind::Mark(other) if is_mark(mark, other) => Ok(at + 1),
+        TokenKind::Mark(other) if is_mark(mark, other) => Ok(next),
         _ => Err(Stop::NoTree),
     }
 }
@@ -78,11 +77,11 @@ pub(crate) fn sign_after<K: Drop>(
 pub(crate) fn word(tokens: &[Token], at: usize, text: &str) -> Result<usize, Stop>
     ensures { Passes tokens.now result (word_at text.now (drop at (seen tokens.now))) }
 {
-    let Some(token) = token_at(tokens, at) else {
+    let Some((token, next)) = next_token(tokens, at) else {
         return Err(Stop::NoTree);
     };
     match token.kind {
-        TokenKind::Word if token.text == text => Ok(at + 1),
+        TokenKind::Word if token.text == text => Ok(next),
         _ => Err(Stop::NoTree),
     }
 }
@@ -91,11 +90,11 @@ pub(crate) fn word(tokens: &[Token], at: usize, text: &str) -> Result<usize, Sto
 pub(crate) fn name<'s>(tokens: &[Token<'s>], at: usize) -> Result<(&'s str, usize), Stop>
     ensures { Reads (λ text. text.now) tokens.now result (name_at (drop at (seen tokens.now))) }
 {
-    let Some(token) = token_at(tokens, at) else {
+    let Some((token, next)) = next_token(tokens, at) else {
         return Err(Stop::NoTree);
     };
     match token.kind {
-        TokenKind::Word if !is_reserved_word(token.text) => Ok((token.text, at + 1)),
+        TokenKind::Word if !is_reserved_word(token.text) => Ok((token.text, next)),
         _ => Err(Stop::NoTree),
     }
 }
@@ -105,11 +104,11 @@ pub(crate) fn numeral(tokens: &[Token], at: usize) -> Result<(u32, usize), Stop>
     requires { AreTokens (token_views tokens.now) }
     ensures { Reads (λ n. n) tokens.now result (numeral_at (drop at (seen tokens.now))) }
 {
-    let Some(token) = token_at(tokens, at) else {
+    let Some((token, next)) = next_token(tokens, at) else {
         return Err(Stop::NoTree);
     };
     match token.kind {
-        TokenKind::Number => Ok((number_of_digits(token.text), at + 1)),
+        TokenKind::Number => Ok((number_of_digits(token.text), next)),
         _ => Err(Stop::NoTree),
     }
 }
@@ -118,12 +117,12 @@ pub(crate) fn numeral(tokens: &[Token], at: usize) -> Result<(u32, usize), Stop>
 pub(crate) fn label<'s>(tokens: &[Token<'s>], at: usize) -> Result<(&'s str, usize), Stop>
     ensures { Reads (λ text. text.now) tokens.now result (label_at (drop at (seen tokens.now))) }
 {
-    let Some(token) = token_at(tokens, at) else {
+    let Some((token, next)) = next_token(tokens, at) else {
         return Err(Stop::NoTree);
     };
     match token.kind {
-        TokenKind::Word if !is_reserved_word(token.text) => Ok((token.text, at + 1)),
-        TokenKind::Number => Ok((token.text, at + 1)),
+        TokenKind::Word if !is_reserved_word(token.text) => Ok((token.text, next)),
+        TokenKind::Number => Ok((token.text, next)),
         _ => Err(Stop::NoTree),
     }
 }
@@ -141,11 +140,11 @@ pub(crate) fn quoted<'s>(tokens: &[Token<'s>], at: usize) -> Result<(&'s str, us
     requires { AreTokens (token_views tokens.now) }
     ensures { Reads (λ text. text.now) tokens.now result (quoted_at (drop at (seen tokens.now))) }
 {
-    let Some(token) = token_at(tokens, at) else {
+    let Some((token, next)) = next_token(tokens, at) else {
         return Err(Stop::NoTree);
     };
     match token.kind {
-        TokenKind::Quoted => Ok((between_quotes(token.text), at + 1)),
+        TokenKind::Quoted => Ok((between_quotes(token.text), next)),
         _ => Err(Stop::NoTree),
     }
 }

@@ -51,5 +51,5 @@ pub(crate) fn is_reserved_word(text: &str) -> bool
 pub(crate) fn is_word_of_value(text: &str) -> bool
     ensures { result ≡ is_value_word text.now }
 {
-    text == "true" || text == "false" || text == "none"
+    matches!(text, "true" | "false" | "none")
 }
