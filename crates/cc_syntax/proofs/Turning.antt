@@ -1,17 +1,27 @@
 -- A turn of the reader of formulas is a step of what defines it.
-use Rattle.std.proofs.Common.{◌≡◌, ◌≢◌, ℕ, zero, suc, ◌-◌, ◌<◌, List, Some, None, refl, ap, sym, ◌∙◌, arith}
+use Rattle.std.proofs.Common.{◌≡◌, ◌≢◌, ℕ, zero, suc, ◌-◌, ◌<◌, List, Option, Some, None, drop, refl, ap, sym, ◌∙◌, arith}
 use Rattle.std.proofs.lemmas.Option.{same_Some}
+use Rattle.std.specs.Global.{Box}
 use Rattle.cc_defs.specs.declared.token.Token.{Token}
+use Rattle.cc_defs.specs.declared.tree.Tree.{Tree}
+use Rattle.cc_defs.specs.Grammar.{Terminal}
+use Rattle.cc_defs.specs.Trees.{PlainTree, plain_tree}
 use Rattle.cc_syntax.specs.declared.formulas.Turn.{Turn}
 use Rattle.cc_syntax.specs.declared.formulas.Turn.TheVariants as turns
 use Rattle.cc_syntax.specs.Formulas.{PlainFrame, Wants, Has, Ends, Held, run_from}
 use Rattle.cc_syntax.specs.Turns.{plain_turn, turn_of}
+use Rattle.cc_syntax.specs.Views.{seen}
 
 -- a formula that ended is read
 pub ended : (n : ℕ) (frames : List PlainFrame) (tree : _) (rest : _) → run_from n (frames, Ends tree rest) ≡ Some (tree, rest)
 unfolding run_from
 ended zero frames tree rest = refl
 ended (suc n) frames tree rest = refl
+
+-- a formula that is found to have ended
+pub ended-so : {whole : Option (PlainTree × List Terminal)} (tokens : List Token) (n : ℕ) (frames : List PlainFrame) (turn : Turn) (tree : Box Tree) (next : ℕ) →
+    whole ≡ run_from n (frames, plain_turn tokens turn) → turn ≡ turns.Ends tree next → whole ≡ Some (plain_tree tree.value, drop next (seen tokens))
+ended-so tokens n frames turn tree next so_far is = so_far ∙ ap (λ (t : Turn). run_from n (frames, plain_turn tokens t)) is ∙ ended n frames _ _
 
 -- a turn was made
 pub turned-on : (left less : ℕ) (held after : Held) → 0 < left → less ≡ left - 1 → turn_of held ≡ Some after → run_from left held ≡ run_from less after

@@ -1,8 +1,6 @@
 -- Readers of laws.
 use Rattle.std.specs.Prelude.{Bool, true, false, ◌||◌, if◌then◌else◌, List, ◌∷◌, Option, Some, None, codes}
 use Rattle.cc_defs.specs.declared.token.Mark.TheVariants as marks
-use Rattle.cc_syntax.specs.declared.causal_laws.ActingWord.{ActingWord}
-use Rattle.cc_syntax.specs.declared.causal_laws.ActingWord.TheVariants as words
 use Rattle.cc_defs.specs.Trees.{PlainTerm, PlainTree, PlainLaw, PlainPart, Caused, Constraint, Always, Nonexecutable, Default, Exogenous, Inertial, Causes, MayCause, NoConcurrency, Law}
 use Rattle.cc_defs.specs.Grammar.{Terminal, Word, Number, Sign, is_name, is_value_word}
 use Rattle.cc_syntax.specs.Readers.{Reader, given, ◌>>=◌, word_at, optional_at, paired}
@@ -39,17 +37,6 @@ worded_at tokens =
     given (word_at (codes "exogenous") tokens) (
     given (word_at (codes "inertial") tokens) None
     (of_term_at Inertial)) (of_term_at Exogenous)) (caused_at Default)) (effect_at Nonexecutable)) (alone_at Always)) (alone_at Constraint)) (caused_at Caused)
-
--- the words between an action and its effect
-abbrev pub acting_word_at : Reader ActingWord
-acting_word_at tokens =
-    given (word_at (codes "causes") tokens)
-    (word_at (codes "may") tokens >>= λ rest. word_at (codes "cause") rest >>= λ rest. Some (words.MayCause, rest))
-    (λ rest. Some (words.Causes, rest))
-
-abbrev pub acted_law : ActingWord → PlainTree → PlainTree → Option PlainTree → PlainLaw
-acted_law words.Causes = Causes
-acted_law words.MayCause = MayCause
 
 -- what an action does, behind it
 abbrev pub acted_at : PlainTree → Reader PlainLaw

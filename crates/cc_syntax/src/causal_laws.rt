@@ -6,7 +6,7 @@ ghost use Rattle.cc_defs.specs.Tokens.{AreTokens};
 ghost use Rattle.cc_defs.specs.Trees.{PlainTree, PlainLaw, boxed_tree, plain_law, plain_part, plain_term};
 ghost use Rattle.cc_defs.specs.Trees as trees;
 ghost use Rattle.cc_syntax.specs.Formulas.{formula_at};
-ghost use Rattle.cc_syntax.specs.Laws.{caused_at, effect_at, worded_at, acting_word_at, acted_at, acting_at, opens_formula as opening, law_at, tested_law_at};
+ghost use Rattle.cc_syntax.specs.Laws.{caused_at, effect_at, worded_at, acted_at, acting_at, opens_formula as opening, law_at, tested_law_at};
 ghost use Rattle.cc_syntax.specs.Readers.{given, word_at, optional_at};
 ghost use Rattle.cc_syntax.specs.Terms.{term_at};
 ghost use Rattle.cc_syntax.specs.Views.{seen, Reads, Passes};
@@ -171,27 +171,6 @@ fn worded<'s>(
     made_boxed(alloc, inertial(alloc, tokens, at), LawTree::Inertial)
 }
 
-/// The words between an action and its effect.
-#[derive(Clone, Copy)]
-pub(crate) enum ActingWord {
-    /// `causes`
-    Causes,
-    /// `may cause`
-    MayCause,
-}
-
-/// The words between an action and its effect.
-fn acting_word(tokens: &[Token], at: usize) -> Result<(ActingWord, usize), Stop>
-    ensures { Reads (λ word. word) tokens.now result (acting_word_at (drop at (seen tokens.now))) }
-{
-    if let Ok(next) = word(tokens, at, "causes") {
-        return Ok((ActingWord::Causes, next));
-    }
-    let next = word(tokens, at, "may")?;
-    let next = word(tokens, next, "cause")?;
-    Ok((ActingWord::MayCause, next))
-}
-
 /// `causes`, between an action and its effect.
 fn causes_tree<'s>(read: (Box<Tree<'s>>, Effect<'s>)) -> LawTree<'s>
     ensures { plain_law result ≡ trees.Causes (boxed_tree read.entry.0)
@@ -210,8 +189,17 @@ fn may_cause_tree<'s>(read: (Box<Tree<'s>>, Effect<'s>)) -> LawTree<'s>
     LawTree::MayCause(action, formula, condition)
 }
 
+/// `may cause`
+fn may_cause_words(tokens: &[Token], at: usize) -> Result<usize, Stop>
+    ensures { Passes tokens.now result
+        (given (word_at (codes "may") (drop at (seen tokens.now))) None (word_at (codes "cause"))) }
+{
+    let next = word(tokens, at, "may")?;
+    word(tokens, next, "cause")
+}
+
 /// What an action does, behind it.
-#[tactic(auto, using(crate::proofs::Acting::acted_by))]
+#[tactic(auto, using(crate::proofs::Acting::acts_not))]
 fn acted<'s>(
     alloc: Global,
     tokens: &[Token<'s>],
@@ -222,17 +210,15 @@ fn acted<'s>(
     ensures { Reads (λ law. plain_law law.value) tokens.now result
         (acted_at (boxed_tree action.entry) (drop at (seen tokens.now))) }
 {
-    match acting_word(tokens, at) {
-        Ok((ActingWord::Causes, next)) => {
-            let read = beside(action, effect(alloc, tokens, next));
-            made_boxed(alloc, read, causes_tree)
-        }
-        Ok((ActingWord::MayCause, next)) => {
-            let read = beside(action, effect(alloc, tokens, next));
-            made_boxed(alloc, read, may_cause_tree)
-        }
-        Err(stop) => Err(stop),
+    if let Ok(next) = word(tokens, at, "causes") {
+        let read = beside(action, effect(alloc, tokens, next));
+        return made_boxed(alloc, read, causes_tree);
     }
+    if let Ok(next) = may_cause_words(tokens, at) {
+        let read = beside(action, effect(alloc, tokens, next));
+        return made_boxed(alloc, read, may_cause_tree);
+    }
+    Err(Stop::NoTree)
 }
 
 /// A law that begins with a formula.

@@ -1,5 +1,5 @@
 use Rattle.std.proofs.Common.{◌∙◌, arith}
-use Rattle.cc_syntax.proofs.Turning.{turned-on, turns-spent}
+use Rattle.cc_syntax.proofs.Turning.{ended-so, turned-on, turns-spent}
 use Rattle.cc_syntax.proofs.formulas.run.Goals as goal
 
 pub loop-preserved : goal.loop-preserved
@@ -7,3 +7,9 @@ loop-preserved c = c.loop.invariant ∙ turned-on _ _ _ _ (omega arith) (omega a
 
 pub returns : goal.returns
 returns c = c.loop.invariant ∙ turns-spent c.args.tokens.now _ c.loop.turn _ (omega arith) c.in_default-turn.not-Ends
+
+pub returns-in-Ends : goal.returns-in-Ends
+returns-in-Ends c = ended-so c.args.tokens.now _ _ c.loop.turn _ _ c.loop.invariant c.in-Ends.is
+
+pub returns-in-Ends-turn : goal.returns-in-Ends-turn
+returns-in-Ends-turn c = ended-so c.args.tokens.now _ _ c.loop.turn _ _ c.loop.invariant c.in-Ends-turn.is
